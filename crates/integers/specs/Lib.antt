@@ -1,0 +1,2 @@
+-- Small words that the definitions are written with, and linear arithmetic over whole numbers for the proofs.
+pub mod Words
