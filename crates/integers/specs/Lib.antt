@@ -1,2 +1,4 @@
 -- Small words that the definitions are written with, and linear arithmetic over whole numbers for the proofs.
 pub mod Words
+pub mod Tests
+pub mod Linear

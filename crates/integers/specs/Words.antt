@@ -54,14 +54,20 @@ module _ {A : Type 0} where
   any f [] = false
   any f (x ∷ xs) = f x || any f xs
 
-  -- the elements at which the test passes, and the first of them
+  -- the elements at which the test passes
   abbrev pub those : (A → Bool) → List A → List A
   those f [] = []
   those f (x ∷ xs) = if f x then x ∷ those f xs else those f xs
 
+  -- the first and the last element of a list, which may have none
   abbrev pub first : List A → Option A
   first [] = none
   first (x ∷ xs) = some x
+
+  abbrev pub last : List A → Option A
+  last [] = none
+  last (x ∷ []) = some x
+  last (x ∷ y ∷ ys) = last (y ∷ ys)
 
   -- lists one after the other
   abbrev pub joined : List (List A) → List A
