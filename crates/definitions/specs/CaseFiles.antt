@@ -1,0 +1,212 @@
+-- Document 01, "Lines": case files, written and read into a lent table. Assumes nothing.
+use mathlib.Core.Bool.{Bool, true, false, not, _&&_, _||_}
+use mathlib.Core.Option.{Option, none, some}
+use mathlib.Core.List.{List, [], _∷_, _++_, map}
+use Prim.Native.Nat.{ℕ, _+_, _*_}
+use lib.IntN.{ℤ, pos, natAbs}
+use lib.Dec.{ltb, eqb}
+use lib.Signed.{leZ, ltZ}
+use lib.ListN.{length, take, drop, set, replicate}
+use Rattle.integers.specs.Words.{if_then_else_, below, any, joined, eqZ, withinZ}
+use Rattle.definitions.specs.declared.Case.{Case}
+use Rattle.definitions.specs.declared.Line.{Line}
+use Rattle.definitions.specs.declared.FileAnswer.{FileAnswer}
+use Rattle.definitions.specs.declared.CaseRead.{CaseRead}
+use Rattle.definitions.specs.declared.CaseSize.{CaseSize}
+use Rattle.definitions.specs.declared.Refusal.{Refusal}
+use Rattle.definitions.specs.declared.Refusal.the-variants.{
+  NotInColumns,
+  NotDue,
+  OutsideLimits,
+  WrongLength,
+  OutOfRange,
+  EndsNotAscending,
+  EdgeRepeated,
+  WeightOutOfRange,
+  CutShort,
+}
+use Rattle.definitions.specs.Rules.{Rules}
+use Rattle.definitions.specs.Refusals.{Test, _when_, firstOf}
+use Rattle.definitions.specs.Case.{values, lowerEnd, upperEnd, eachTuple, weight, place, lentLength}
+use Rattle.definitions.specs.Valid.{startingWeight}
+use Rattle.definitions.specs.Lines.{line, lineText, lineLength, readLine, notDue}
+
+-- ---- written: the head, all kind 11 lines, then each edge's kind 12 line and its kind 13 lines, all in table order
+
+abbrev pub headLine : Case → Line
+headLine c = line 10 (pos (c .n)) (pos (c .d)) (pos (c .m)) (pos 0)
+
+abbrev pub variableLines : Case → List ℤ → ℕ → List Line
+variableLines c w i = eachTuple c i (λ k l. line 11 (pos i) (pos k) (pos 0) (weight c w i k l))
+
+abbrev pub edgeLines : Case → List ℤ → ℕ → List Line
+edgeLines c w e =
+    line 12 (pos e) (pos (lowerEnd c e)) (pos (upperEnd c e)) (pos 0)
+    ∷ eachTuple c (c .n + e) (λ k l. line 13 (pos e) (pos k) (pos l) (weight c w (c .n + e) k l))
+
+abbrev pub caseLines : Case → List ℤ → List Line
+caseLines c w =
+    headLine c ∷ joined (map (variableLines c w) (below (c .n))) ++ joined (map (edgeLines c w) (below (c .m)))
+
+abbrev pub caseText : Rules → Case → List ℤ → List ℕ
+caseText r c w = joined (map (lineText (r .amountWidth)) (caseLines c w))
+
+-- ---- read
+
+-- what is due after the head: the weight of variable i's value k, the ends of edge e, the weight of its values k, l
+pub data CaseDue : Type 0 where
+  variable-weight : ℕ → ℕ → CaseDue
+  edge-ends : ℕ → CaseDue
+  edge-weight : ℕ → ℕ → ℕ → CaseDue
+
+abbrev pub dues : Case → List CaseDue
+dues c =
+    joined (map (λ i. map (variable-weight i) (values c)) (below (c .n)))
+    ++ joined (map (λ e. edge-ends e ∷ joined (map (λ k. map (edge-weight e k) (values c)) (values c))) (below (c .m)))
+
+-- a column names a place
+abbrev pub names : ℕ → ℤ → Bool
+names n z = eqZ z (pos n)
+
+-- z is none of the numbers below n
+abbrev pub outside : ℕ → ℤ → Bool
+outside n z = not (leZ (pos 0) z && ltZ z (pos n))
+
+abbrev pub headTests : Rules → Option Line → List Test
+headTests r none = NotInColumns when true ∷ []
+headTests r (some t) =
+    NotDue when (notDue r (10 ∷ []) t)
+    ∷ OutsideLimits when
+    (not (withinZ (pos 1) (pos (r .variables)) (t .a) && withinZ (pos 1) (pos (r .values)) (t .b) && withinZ (pos 0) (pos (r .edges)) (t .c)))
+    ∷ []
+
+-- the two variables of an edge line are those of an edge before e
+abbrev pub alreadyJoined : Case → ℕ → ℕ → ℕ → Bool
+alreadyJoined c e i j = any (λ f. eqb (lowerEnd c f) i && eqb (upperEnd c f) j) (below e)
+
+-- c holds the edges read so far
+abbrev pub dueTests : Rules → Case → CaseDue → Option Line → List Test
+dueTests r c due none = NotInColumns when true ∷ []
+dueTests r c (variable-weight i k) (some t) =
+    NotDue when (notDue r (11 ∷ []) t)
+    ∷ OutOfRange when (not (names i (t .a) && names k (t .b)))
+    ∷ WeightOutOfRange when (not (startingWeight r (t .amount)))
+    ∷ []
+dueTests r c (edge-ends e) (some t) =
+    NotDue when (notDue r (12 ∷ []) t)
+    ∷ OutOfRange when (not (names e (t .a)) || outside (c .n) (t .b) || outside (c .n) (t .c))
+    ∷ EndsNotAscending when (not (ltZ (t .b) (t .c)))
+    ∷ EdgeRepeated when (alreadyJoined c e (natAbs (t .b)) (natAbs (t .c)))
+    ∷ []
+dueTests r c (edge-weight e k l) (some t) =
+    NotDue when (notDue r (13 ∷ []) t)
+    ∷ OutOfRange when (not (names e (t .a) && names k (t .b) && names l (t .c)))
+    ∷ WeightOutOfRange when (not (startingWeight r (t .amount)))
+    ∷ []
+
+-- the case so far and the lent table
+pub record Reading : Type 0 where
+  pub case : Case
+  pub table : List ℤ
+
+abbrev pub caseOf : Rules → ℕ → ℕ → ℕ → Case
+caseOf r n d m = record { n = n; d = d; m = m; lower = replicate (r .edges) 0; upper = replicate (r .edges) 0 }
+
+abbrev pub headed : Rules → Option Line → Case
+headed r none = caseOf r 0 0 0
+headed r (some t) = caseOf r (natAbs (t .a)) (natAbs (t .b)) (natAbs (t .c))
+
+abbrev pub withWeight : Reading → ℕ → ℕ → ℕ → ℤ → Reading
+withWeight g x k l z = record { case = g .case; table = set (g .table) (place (g .case) x k l) z }
+
+abbrev pub withEnds : Case → ℕ → ℕ → ℕ → Case
+withEnds c e i j = record { n = c .n; d = c .d; m = c .m; lower = set (c .lower) e i; upper = set (c .upper) e j }
+
+abbrev pub took : Reading → CaseDue → Option Line → Reading
+took g due none = g
+took g (variable-weight i k) (some t) = withWeight g i k 0 (t .amount)
+took g (edge-ends e) (some t) = record { case = withEnds (g .case) e (natAbs (t .b)) (natAbs (t .c)); table = g .table }
+took g (edge-weight e k l) (some t) = withWeight g (g .case .n + e) k l (t .amount)
+
+-- what the reader answers, and the lent table after it: on a refusal the case is all zero, and the weights are as after the last good line,
+-- places not reached keeping what they held
+pub record CaseCall : Type 0 where
+  pub read : CaseRead
+  pub table : List ℤ
+
+module _ (r : Rules) where
+  abbrev pub caseRefused : Refusal → ℕ → List ℤ → CaseCall
+  caseRefused x at w = record { read = record { answer = FileAnswer.Refused x at; case = caseOf r 0 0 0 }; table = w }
+
+  abbrev pub caseTaken : Reading → ℕ → CaseCall
+  caseTaken g at = record { read = record { answer = FileAnswer.Read at; case = g .case }; table = g .table }
+
+  -- fewer bytes than a line are number 14 and not 1
+  abbrev pub isCut : List ℕ → Bool
+  isCut t = ltb (length t) (lineLength (r .amountWidth))
+
+  abbrev pub firstLine : List ℕ → Option Line
+  firstLine t = readLine (r .amountWidth) (take (lineLength (r .amountWidth)) t)
+
+  abbrev pub afterFirst : List ℕ → List ℕ
+  afterFirst t = drop (lineLength (r .amountWidth)) t
+
+  -- `at` is the line, counted from 0
+  abbrev pub readDues : Reading → ℕ → List CaseDue → List ℕ → CaseCall
+  readDues g at [] t = caseTaken g at
+  readDues g at (due ∷ dues) t =
+      elim (isCut t) [
+        | true ↦ caseRefused CutShort at (g .table)
+        | false ↦
+            elim (firstOf (dueTests r (g .case) due (firstLine t))) [
+              | none ↦ readDues (took g due (firstLine t)) (at + 1) dues (afterFirst t)
+              | some x ↦ caseRefused x at (g .table)
+            ]
+      ]
+
+  abbrev pub headRefusal : List ℕ → Option Refusal
+  headRefusal t = if isCut t then some CutShort else firstOf (headTests r (firstLine t))
+
+  -- a case as the front of a longer input; number 4 belongs to the head's line
+  abbrev pub readCase : List ℕ → List ℤ → CaseCall
+  readCase t w =
+      elim (headRefusal t) [
+        | none ↦
+            let c = headed r (firstLine t) in
+            if eqb (length w) (lentLength c)
+            then readDues (record { case = c; table = w }) 1 (dues c) (afterFirst t)
+            else caseRefused WrongLength 0 w
+        | some x ↦ caseRefused x 0 w
+      ]
+
+  -- nothing is due after the last line of a case that is read alone
+  abbrev pub endTests : Option Line → List Test
+  endTests none = NotInColumns when true ∷ []
+  endTests (some t) = NotDue when (notDue r [] t) ∷ []
+
+  abbrev pub restRefusal : List ℕ → Option Refusal
+  restRefusal t =
+      if eqb (length t) 0 then none
+      else if isCut t then some CutShort
+      else firstOf (endTests (firstLine t))
+
+  abbrev pub nothingAfter : List ℕ → CaseCall → FileAnswer → CaseCall
+  nothingAfter t call (FileAnswer.Refused x at) = call
+  nothingAfter t call (FileAnswer.Read lines) =
+      elim (restRefusal (drop (lines * lineLength (r .amountWidth)) t)) [
+        | none ↦ call
+        | some x ↦ caseRefused x lines (call .table)
+      ]
+
+  abbrev pub readCaseAlone : List ℕ → List ℤ → CaseCall
+  readCaseAlone t w = nothingAfter t (readCase t w) (readCase t w .read .answer)
+
+  -- what the head says, with the length of the table to lend
+  abbrev pub caseSize : List ℕ → CaseSize
+  caseSize t =
+      elim (headRefusal t) [
+        | none ↦
+            let c = headed r (firstLine t) in
+            CaseSize.Size (c .n) (c .d) (c .m) (lentLength c)
+        | some x ↦ CaseSize.Refused x
+      ]

@@ -1,0 +1,146 @@
+-- Document 01, "The engine's round", and its run. Assumes nothing.
+use mathlib.Core.Bool.{Bool, true, false, not, _&&_, _||_}
+use mathlib.Core.Option.{Option, none, some}
+use mathlib.Core.List.{List, [], _∷_, _++_, map}
+use Prim.Native.Nat.{ℕ, zero, suc, _+_, _*_}
+use lib.IntN.{ℤ, pos, _-ℤ_}
+use lib.Dec.{eqb}
+use lib.ListN.{length}
+use Rattle.integers.specs.Words.{if_then_else_, below, isIn, those, first, joined, greatestOf, leastOf}
+use Rattle.definitions.specs.declared.Case.{Case}
+use Rattle.definitions.specs.declared.Line.{Line}
+use Rattle.definitions.specs.declared.Refusal.{Refusal}
+use Rattle.definitions.specs.declared.Refusal.the-variants.{LeavesRange}
+use Rattle.definitions.specs.declared.RunAnswer.{RunAnswer}
+use Rattle.definitions.specs.Rules.{Rules}
+use Rattle.definitions.specs.Case.{scopes, scopeCount, eachTuple, weight, greatest, active, upperBound}
+use Rattle.definitions.specs.Consistency.{allRefuted}
+use Rattle.definitions.specs.Moves.{Move, shift, press, moved, activeValues, leavesRange}
+use Rattle.definitions.specs.Lines.{line, lineText, lineLength}
+
+-- ---- which press
+
+-- all other scopes
+abbrev pub others : Case → ℕ → List ℕ
+others c i = those (λ x. not (eqb x i)) (scopes c)
+
+-- the active values of variable i are all refuted with these scopes raised
+abbrev pub activeRefuted : Case → List ℤ → ℕ → List ℕ → Bool
+activeRefuted c w i raised = allRefuted c w (isIn raised) i (activeValues c w i)
+
+-- the lowest variable whose active values are all refuted with all other scopes raised
+abbrev pub chosen : Case → List ℤ → Option ℕ
+chosen c w = first (those (λ i. activeRefuted c w i (others c i)) (below (c .n)))
+
+-- upwards through the raised scopes, dropping each one without which the values stay refuted: `kept` were kept, `rest` are still to be tried
+abbrev pub trimmed : Case → List ℤ → ℕ → List ℕ → List ℕ → List ℕ
+trimmed c w i kept [] = kept
+trimmed c w i kept (x ∷ rest) = trimmed c w i (if activeRefuted c w i (kept ++ rest) then kept else kept ++ (x ∷ [])) rest
+
+abbrev pub keptScopes : Case → List ℤ → ℕ → List ℕ
+keptScopes c w i = trimmed c w i [] (others c i)
+
+-- the gap of a scope is its greatest weight minus its greatest inactive weight; a scope with all tuples active sets no limit
+abbrev pub inactiveWeights : Case → List ℤ → ℕ → List ℤ
+inactiveWeights c w x = joined (eachTuple c x (λ k l. if active c w x k l then [] else weight c w x k l ∷ []))
+
+abbrev pub gapAbove : ℤ → List ℤ → List ℤ
+gapAbove g [] = []
+gapAbove g (z ∷ zs) = (g -ℤ greatestOf (z ∷ zs)) ∷ []
+
+abbrev pub gap : Case → List ℤ → ℕ → List ℤ
+gap c w x = gapAbove (greatest c w x) (inactiveWeights c w x)
+
+-- the amount: the least gap among the kept scopes and variable i's own scope
+abbrev pub leastGap : Case → List ℤ → ℕ → Option ℤ
+leastGap c w i = leastOf (joined (map (gap c w) (i ∷ keptScopes c w i)))
+
+-- ---- what comes next: nothing (settled), or a round of moves
+
+pub data Next : Type 0 where
+  nothing : Next
+  round : List Move → Next
+
+abbrev pub pressRound : Case → List ℤ → ℕ → Option ℤ → Next
+pressRound c w i none = nothing
+pressRound c w i (some a) = round (press i (keptScopes c w i) a ∷ [])
+
+abbrev pub pressNext : Case → List ℤ → Option ℕ → Next
+pressNext c w none = nothing
+pressNext c w (some i) = pressRound c w i (leastGap c w i)
+
+abbrev pub engineNext : Case → List ℤ → Next
+engineNext c w = pressNext c w (chosen c w)
+
+-- ---- the lines of a round, and the weights after it
+
+abbrev pub raiseLine : ℕ → Line
+raiseLine x = line 3 (pos x) (pos 0) (pos 0) (pos 0)
+
+abbrev pub moveLines : Move → List Line
+moveLines (shift e end v a) = line 1 (pos e) (pos end) (pos v) a ∷ []
+moveLines (press i raised a) = line 2 (pos i) (pos (length raised)) (pos 0) a ∷ map raiseLine raised
+
+abbrev pub boundLine : ℤ → Line
+boundLine bound = line 4 (pos 0) (pos 0) (pos 0) bound
+
+-- the moves one after another; none where one would take a working weight outside its range
+abbrev pub afterMoves : Rules → Case → List Move → List ℤ → Option (List ℤ)
+afterMoves r c [] w = some w
+afterMoves r c (move ∷ moves) w = if leavesRange r c (moved c move w) then none else afterMoves r c moves (moved c move w)
+
+abbrev pub roundLines : Case → List Move → List ℤ → List Line
+roundLines c moves after = joined (map moveLines moves) ++ (boundLine (upperBound c after) ∷ [])
+
+abbrev pub roundText : Rules → Case → List Move → List ℤ → List (List ℕ)
+roundText r c moves after = map (lineText (r .amountWidth)) (roundLines c moves after)
+
+-- what an output must hold for one round: a line for each scope and one more
+abbrev pub roundBytes : Rules → Case → ℕ
+roundBytes r c = lineLength (r .amountWidth) * (scopeCount c + 1)
+
+-- ---- one round on weights: settled, refused, or the weights after it and its lines
+
+pub data Made : Type 0 where
+  settled : Made
+  refused : Refusal → Made
+  made : List ℤ → List (List ℕ) → Made
+
+abbrev pub madeOf : Rules → Case → List Move → Option (List ℤ) → Made
+madeOf r c moves none = refused LeavesRange
+madeOf r c moves (some w) = made w (roundText r c moves w)
+
+abbrev pub makeNext : Rules → Case → List ℤ → Next → Made
+makeNext r c w nothing = settled
+makeNext r c w (round moves) = madeOf r c moves (afterMoves r c moves w)
+
+-- ---- a run on weights: `next` says what comes next
+
+pub record RunOf : Type 0 where
+  pub answer : RunAnswer
+  pub rounds : ℕ
+  pub weights : List ℤ
+  pub log : List (List ℕ)
+
+abbrev pub stopped : RunAnswer → ℕ → List ℤ → List (List ℕ) → RunOf
+stopped answer done w log = record { answer = answer; rounds = done; weights = w; log = log }
+
+-- at its limit a run answers settled if settled
+abbrev pub atLimit : Next → RunAnswer
+atLimit nothing = RunAnswer.Settled
+atLimit (round moves) = RunAnswer.Limit
+
+-- after a round: stop, or go on with its weights and the log with its lines
+abbrev pub onward : Made → ℕ → List ℤ → List (List ℕ) → (List ℤ → List (List ℕ) → RunOf) → RunOf
+onward settled done w log go = stopped RunAnswer.Settled done w log
+onward (refused x) done w log go = stopped (RunAnswer.Refused x) done w log
+onward (made v lines) done w log go = go v (log ++ lines)
+
+module _ (r : Rules) (next : Case → List ℤ → Next) (c : Case) where
+  -- with `left` rounds allowed, after `done` rounds that left the weights w and the log
+  abbrev pub runFrom : ℕ → ℕ → List ℤ → List (List ℕ) → RunOf
+  runFrom zero done w log = stopped (atLimit (next c w)) done w log
+  runFrom (suc left) done w log = onward (makeNext r c w (next c w)) done w log (λ v lines. runFrom left (suc done) v lines)
+
+  abbrev pub run : ℕ → List ℤ → RunOf
+  run limit w = runFrom limit 0 w []

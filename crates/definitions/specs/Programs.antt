@@ -1,0 +1,87 @@
+-- Document 01: what the programs `press` and `replay` print. Assumes nothing.
+use mathlib.Core.Bool.{Bool, true, false, not, _&&_, _||_}
+use mathlib.Core.Option.{Option, none, some}
+use mathlib.Core.List.{List, [], _∷_, _++_, map}
+use Prim.Native.Nat.{ℕ, _+_, _*_}
+use Prim.Native.Char.{code}
+use Prim.Native.String.{String, [] as empty, _∷_ as char-and}
+use lib.IntN.{ℤ, pos}
+use lib.ListN.{length, drop, replicate}
+use Rattle.integers.specs.Words.{if_then_else_, joined}
+use Rattle.definitions.specs.declared.Case.{Case}
+use Rattle.definitions.specs.declared.FileAnswer.{FileAnswer}
+use Rattle.definitions.specs.declared.CaseRead.{CaseRead}
+use Rattle.definitions.specs.declared.CaseSize.{CaseSize}
+use Rattle.definitions.specs.declared.RunAnswer.{RunAnswer}
+use Rattle.definitions.specs.declared.Refusal.{Refusal}
+use Rattle.definitions.specs.declared.Refusal.the-variants.{CutShort}
+use Rattle.definitions.specs.Rules.{Rules}
+use Rattle.definitions.specs.Refusals.{number}
+use Rattle.definitions.specs.Case.{upperBound}
+use Rattle.definitions.specs.Lines.{numberText, lineLength, linesIn, hasPart}
+use Rattle.definitions.specs.CaseFiles.{CaseCall, caseSize, readCase, readCaseAlone}
+use Rattle.definitions.specs.Replay.{State, fresh, after, answers, atEnd}
+use Rattle.definitions.specs.Engine.{RunOf, engineNext, run}
+
+-- the bytes of a text
+abbrev pub bytesOf : String → List ℕ
+bytesOf empty = []
+bytesOf (char-and c s) = code c ∷ bytesOf s
+
+-- `refused`, the number and the line; `accepted`, the rounds and the upper bound
+abbrev pub refusedText : Refusal → ℕ → List ℕ
+refusedText x at = bytesOf "refused " ++ numberText (pos (number x)) ++ bytesOf " " ++ numberText (pos at) ++ bytesOf "\n"
+
+abbrev pub acceptedText : ℕ → ℤ → List ℕ
+acceptedText rounds bound = bytesOf "accepted " ++ numberText (pos rounds) ++ bytesOf " " ++ numberText bound ++ bytesOf "\n"
+
+-- the table that a program lends: as long as the head of the case asks
+abbrev pub tableFor : CaseSize → List ℤ
+tableFor (CaseSize.Size n d m long) = replicate long (pos 0)
+tableFor (CaseSize.Refused x) = []
+
+module _ (r : Rules) where
+  -- ---- `replay`: a case and its log, one after the other
+
+  -- the first line answered by a number, counted from `at`; at the end 14 also where a part line is left
+  abbrev pub verdict : ℕ → List (Option Refusal) → Option Refusal → Bool → List ℕ → List ℕ
+  verdict at [] none part accepted = if part then refusedText CutShort at else accepted
+  verdict at [] (some x) part accepted = refusedText x at
+  verdict at (none ∷ xs) end part accepted = verdict (at + 1) xs end part accepted
+  verdict at (some x ∷ xs) end part accepted = refusedText x at
+
+  abbrev pub replayLog : Case → List ℤ → ℕ → List ℕ → List ℕ
+  replayLog c w at log =
+      let lines = linesIn (r .amountWidth) log in
+      let s = after r (fresh c w) lines in
+      verdict at (answers r (fresh c w) lines) (atEnd s) (hasPart (r .amountWidth) log) (acceptedText (s .rounds) (upperBound c (s .weights)))
+
+  abbrev pub replayRead : List ℕ → CaseCall → FileAnswer → List ℕ
+  replayRead t call (FileAnswer.Refused x at) = refusedText x at
+  replayRead t call (FileAnswer.Read lines) =
+      replayLog (call .read .case) (call .table) lines (drop (lines * lineLength (r .amountWidth)) t)
+
+  abbrev pub replayPrints : List ℕ → List ℕ
+  replayPrints t =
+      let call = readCase r t (tableFor (caseSize r t)) in
+      replayRead t call (call .read .answer)
+
+  -- ---- `press`: a case alone, and up to 100,000 rounds
+
+  -- a refusal by the engine counts as met at the line after the input's last
+  abbrev pub pressEnd : ℕ → RunAnswer → List ℕ
+  pressEnd at RunAnswer.Settled = []
+  pressEnd at RunAnswer.Limit = []
+  pressEnd at (RunAnswer.Refused x) = refusedText x at
+
+  abbrev pub pressRun : ℕ → RunOf → List ℕ
+  pressRun at q = joined (q .log) ++ pressEnd at (q .answer)
+
+  abbrev pub pressRead : CaseCall → FileAnswer → List ℕ
+  pressRead call (FileAnswer.Refused x at) = refusedText x at
+  pressRead call (FileAnswer.Read lines) = pressRun lines (run r engineNext (call .read .case) 100_000 (call .table))
+
+  abbrev pub pressPrints : List ℕ → List ℕ
+  pressPrints t =
+      let call = readCaseAlone r t (tableFor (caseSize r t)) in
+      pressRead call (call .read .answer)

@@ -1,0 +1,59 @@
+-- Document 01, "Turned back, in checking order". Assumes nothing.
+use mathlib.Core.Bool.{Bool, true, false}
+use mathlib.Core.Option.{Option, none, some}
+use mathlib.Core.List.{List, [], _∷_}
+use Prim.Native.Nat.{ℕ}
+use Rattle.integers.specs.Words.{if_then_else_}
+use Rattle.definitions.specs.declared.Refusal.{Refusal}
+use Rattle.definitions.specs.declared.Refusal.the-variants.{
+  NotInColumns,
+  NotDue,
+  OutsideLimits,
+  WrongLength,
+  OutOfRange,
+  EndsNotAscending,
+  EdgeRepeated,
+  WeightOutOfRange,
+  RaiseNotAscending,
+  NotRefuted,
+  LeavesRange,
+  OtherBound,
+  BoundNotLower,
+  CutShort,
+}
+
+-- document 01's number
+abbrev pub number : Refusal → ℕ
+number NotInColumns = 1
+number NotDue = 2
+number OutsideLimits = 3
+number WrongLength = 4
+number OutOfRange = 5
+number EndsNotAscending = 6
+number EdgeRepeated = 7
+number WeightOutOfRange = 8
+number RaiseNotAscending = 9
+number NotRefuted = 10
+number LeavesRange = 11
+number OtherBound = 12
+number BoundNotLower = 13
+number CutShort = 14
+
+-- 0 where no number applies
+abbrev pub numberOf : Option Refusal → ℕ
+numberOf none = 0
+numberOf (some x) = number x
+
+-- a refusal, and whether it applies
+pub record Test : Type 0 where
+  pub refusal : Refusal
+  pub applies : Bool
+
+infix 70 _when_
+abbrev pub _when_ : Refusal → Bool → Test
+x when b = record { refusal = x; applies = b }
+
+-- refusals are asked in the order in which they stand, and the first that applies is the answer
+abbrev pub firstOf : List Test → Option Refusal
+firstOf [] = none
+firstOf (t ∷ ts) = if t .applies then some (t .refusal) else firstOf ts

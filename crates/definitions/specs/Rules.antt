@@ -1,0 +1,95 @@
+-- The numbers of document 01 as one record, so that other rules can stand beside them, and what they must have in common.
+-- Assumes nothing.
+use mathlib.Core.Bool.{Bool, true, false}
+use mathlib.Core.List.{List, [], _∷_}
+use Prim.Native.Nat.{ℕ, _+_, _*_, _-_, _^_, _≤_, _<_}
+use lib.Dec.{lit<, lit≤}
+
+-- a kind of line, and which of its columns it uses
+pub record Kind : Type 0 where
+  pub kind : ℕ
+  pub a : Bool
+  pub b : Bool
+  pub c : Bool
+  pub amount : Bool
+
+abbrev pub uses : ℕ → Bool → Bool → Bool → Bool → Kind
+uses k a b c amount = record { kind = k; a = a; b = b; c = c; amount = amount }
+
+pub record Rules : Type 0 where
+  -- a case has at most so many variables, values and edges
+  pub variables : ℕ
+  pub values : ℕ
+  pub edges : ℕ
+  -- the greatest starting weight, working weight and amount of a move, on either side of 0
+  pub starting : ℕ
+  pub working : ℕ
+  pub moving : ℕ
+  -- the greatest count of rounds in a record
+  pub rounds : ℕ
+  -- the width of the amount column, and the kinds of lines
+  pub amountWidth : ℕ
+  pub kinds : List Kind
+
+abbrev pub standard : Rules
+standard = record {
+  variables = 48;
+  values = 8;
+  edges = 96;
+  starting = 1_000_000;
+  working = 500_000_000;
+  moving = 1_000_000_000;
+  rounds = 999_999_999_999_999_999;
+  amountWidth = 12;
+  kinds =
+      -- shift: edge, end, value, amount
+      uses 1 true true true true
+      -- press: variable, count of raise lines, amount
+      ∷ uses 2 true true false true
+      -- raise: scope
+      ∷ uses 3 true false false false
+      -- bound: the upper bound
+      ∷ uses 4 false false false true
+      -- head of a case: n, D, m
+      ∷ uses 10 true true true false
+      -- variable's weight: variable, value, weight
+      ∷ uses 11 true true false true
+      -- edge: edge, lower variable, upper variable
+      ∷ uses 12 true true true false
+      -- edge's weight: edge, value k, value l, weight
+      ∷ uses 13 true true true true
+      ∷ [];
+}
+
+abbrev pub scopesAtMost : Rules → ℕ
+scopesAtMost r = r .variables + r .edges
+
+-- what proofs use in place of the numbers
+pub record Coherent (r : Rules) : Type 0 where
+  -- a value set fits a byte, and so does the number of a variable; the number of a scope fits its column
+  pub values-few : r .values ≤ 8
+  pub variables-few : r .variables ≤ 256
+  pub scopes-few : scopesAtMost r < 10 ^ 4
+  -- starting weights are working weights, with room for every press of the engine
+  pub room : (2 * scopesAtMost r + 1) * r .starting ≤ r .working
+  -- the difference of two working weights is the amount of a move
+  pub difference : 2 * r .working ≤ r .moving
+  -- amounts of moves, weights and upper bounds fit the amount column with a minus, and the column fits 18 digits
+  pub moving-fits : r .moving < 10 ^ (r .amountWidth - 1)
+  pub bound-fits : scopesAtMost r * r .working < 10 ^ (r .amountWidth - 1)
+  pub amount-fits : r .amountWidth ≤ 18
+  -- a count of rounds fits 64 bits
+  pub rounds-fit : r .rounds < 2 ^ 63
+
+pub standard-coherent : Coherent standard
+standard-coherent = record {
+  values-few = lit≤ tt;
+  variables-few = lit≤ tt;
+  scopes-few = lit< tt;
+  room = lit≤ tt;
+  difference = lit≤ tt;
+  moving-fits = lit< tt;
+  bound-fits = lit< tt;
+  amount-fits = lit≤ tt;
+  rounds-fit = lit< tt;
+}

@@ -1,0 +1,293 @@
+-- Document 01, "Sample cases": P1 to P12 as one table of questions with the answers that the document gives, and one theorem over it.
+-- Assumes nothing.
+use mathlib.Core.Path.{_≡_, refl}
+use mathlib.Core.Bool.{Bool, true, false}
+use mathlib.Core.Option.{Option, none, some}
+use mathlib.Core.List.{List, [], _∷_, _++_, map}
+use Prim.Native.Nat.{ℕ}
+use Prim.Native.String.{String}
+use lib.IntN.{ℤ, pos}
+use lib.Dec.{T}
+use lib.ListN.{replicate}
+use Rattle.integers.specs.Words.{below, all, joined, minus}
+use Rattle.definitions.specs.declared.Case.{Case}
+use Rattle.definitions.specs.declared.RunAnswer.{RunAnswer}
+use Rattle.definitions.specs.Rules.{standard}
+use Rattle.definitions.specs.Refusals.{numberOf}
+use Rattle.definitions.specs.Case.{scopes, eachTuple, active, upperBound}
+use Rattle.definitions.specs.Valid.{valid}
+use Rattle.definitions.specs.CaseFiles.{caseText}
+use Rattle.definitions.specs.Replay.{State, fresh, after, answers, atEnd}
+use Rattle.definitions.specs.Engine.{RunOf, engineNext, run}
+use Rattle.definitions.specs.Programs.{bytesOf, pressPrints, replayPrints}
+
+-- ---- the cases
+
+-- a case and its starting weights
+pub record Input : Type 0 where
+  pub case : Case
+  pub weights : List ℤ
+
+abbrev unequal : List ℤ
+unequal = minus 1 ∷ pos 0 ∷ pos 0 ∷ minus 1 ∷ []
+
+-- three links, D 2, pairs (0,1), (0,2), (1,2), weights 0 but −1 for equal values
+abbrev pub triangle : Input
+triangle = record {
+  case = record { n = 3; d = 2; m = 3; lower = 0 ∷ 0 ∷ 1 ∷ []; upper = 1 ∷ 2 ∷ 2 ∷ [] };
+  weights = pos 0 ∷ pos 0 ∷ pos 0 ∷ pos 0 ∷ pos 0 ∷ pos 0 ∷ unequal ++ unequal ++ unequal;
+}
+
+-- two links and their pair, D 2
+abbrev couple : List ℤ → Input
+couple w = record { case = record { n = 2; d = 2; m = 1; lower = 0 ∷ []; upper = 1 ∷ [] }; weights = w }
+
+-- link weights 2, 0 and 2, 0, pair weights 0 but −3 at (0,0)
+abbrev pub clash : Input
+clash = couple (pos 2 ∷ pos 0 ∷ pos 2 ∷ pos 0 ∷ minus 3 ∷ pos 0 ∷ pos 0 ∷ pos 0 ∷ [])
+
+-- Example 2 of the paper
+abbrev pub example2 : Input
+example2 = couple (pos 3 ∷ pos 4 ∷ pos 6 ∷ pos 2 ∷ minus 2 ∷ minus 4 ∷ pos 1 ∷ pos 1 ∷ [])
+
+-- one link, one value, −7
+abbrev pub single : Input
+single = record { case = record { n = 1; d = 1; m = 0; lower = []; upper = [] }; weights = minus 7 ∷ [] }
+
+-- ---- questions and answers
+
+pub data Question : Type 0 where
+  -- the upper bound; a run with a limit; a replay of lines; is all active after a run with a limit
+  bound-of : Input → Question
+  run-of : Input → ℕ → Question
+  replay-of : Input → List String → Question
+  all-active : Input → ℕ → Question
+  -- what the programs print on this text
+  press-on : List String → Question
+  replay-on : List String → Question
+
+pub data Result : Type 0 where
+  bound : ℤ → Result
+  -- a run's answer, rounds, upper bound, final weights and log
+  ran : RunAnswer → ℕ → ℤ → List ℤ → List (List ℕ) → Result
+  -- each line's number, the end's, rounds, upper bound and final weights
+  replayed : List ℕ → ℕ → ℕ → ℤ → List ℤ → Result
+  yes-no : Bool → Result
+  prints : List ℕ → Result
+
+abbrev texts : List String → List (List ℕ)
+texts ts = map bytesOf ts
+
+abbrev runOn : Input → ℕ → RunOf
+runOn i limit = run standard engineNext (i .case) limit (i .weights)
+
+abbrev ranTo : Input → RunOf → Result
+ranTo i q = ran (q .answer) (q .rounds) (upperBound (i .case) (q .weights)) (q .weights) (q .log)
+
+abbrev replayedTo : Input → List ℕ → State → Result
+replayedTo i numbers s = replayed numbers (numberOf (atEnd s)) (s .rounds) (upperBound (i .case) (s .weights)) (s .weights)
+
+abbrev allActive : Case → List ℤ → Bool
+allActive c w = all (λ x. all (λ b. b) (eachTuple c x (active c w x))) (scopes c)
+
+abbrev pub answer : Question → Result
+answer (bound-of i) = bound (upperBound (i .case) (i .weights))
+answer (run-of i limit) = ranTo i (runOn i limit)
+answer (replay-of i ts) =
+    let s = fresh (i .case) (i .weights) in
+    replayedTo i (map numberOf (answers standard s (texts ts))) (after standard s (texts ts))
+answer (all-active i limit) = yes-no (allActive (i .case) (runOn i limit .weights))
+answer (press-on ts) = prints (pressPrints standard (joined (texts ts)))
+answer (replay-on ts) = prints (replayPrints standard (joined (texts ts)))
+
+pub record Sample : Type 0 where
+  pub ask : Question
+  pub gives : Result
+
+infix 70 _gives_
+abbrev _gives_ : Question → Result → Sample
+q gives a = record { ask = q; gives = a }
+
+-- ---- texts
+
+abbrev caseFile : List String
+caseFile =
+    "10   3   2   3           0\n"
+    ∷ "11   0   0   0           0\n"
+    ∷ "11   0   1   0           0\n"
+    ∷ "11   1   0   0           0\n"
+    ∷ "11   1   1   0           0\n"
+    ∷ "11   2   0   0           0\n"
+    ∷ "11   2   1   0           0\n"
+    ∷ "12   0   0   1           0\n"
+    ∷ "13   0   0   0          -1\n"
+    ∷ "13   0   0   1           0\n"
+    ∷ "13   0   1   0           0\n"
+    ∷ "13   0   1   1          -1\n"
+    ∷ "12   1   0   2           0\n"
+    ∷ "13   1   0   0          -1\n"
+    ∷ "13   1   0   1           0\n"
+    ∷ "13   1   1   0           0\n"
+    ∷ "13   1   1   1          -1\n"
+    ∷ "12   2   1   2           0\n"
+    ∷ "13   2   0   0          -1\n"
+    ∷ "13   2   0   1           0\n"
+    ∷ "13   2   1   0           0\n"
+    ∷ "13   2   1   1          -1\n"
+    ∷ []
+
+abbrev log1 : List String
+log1 =
+    " 2   0   3   0           1\n"
+    ∷ " 3   3   0   0           0\n"
+    ∷ " 3   4   0   0           0\n"
+    ∷ " 3   5   0   0           0\n"
+    ∷ " 4   0   0   0          -1\n"
+    ∷ []
+
+abbrev log3 : List String
+log3 =
+    " 2   0   2   0           1\n"
+    ∷ " 3   3   0   0           0\n"
+    ∷ " 3   4   0   0           0\n"
+    ∷ []
+
+-- the press of P5 to P8: its first line, two raise lines, a bound line
+abbrev raising1and2 : String → String → List String
+raising1and2 begin stated =
+    begin
+    ∷ " 3   1   0   0           0\n"
+    ∷ " 3   2   0   0           0\n"
+    ∷ stated
+    ∷ []
+
+abbrev log5 : List String
+log5 = raising1and2 " 2   0   2   0           2\n" " 4   0   0   0           2\n"
+
+abbrev log6 : List String
+log6 = raising1and2 " 2   0   2   0           1\n" " 4   0   0   0           3\n"
+
+abbrev log7 : List String
+log7 = raising1and2 " 2   0   2   0           3\n" " 4   0   0   0           3\n"
+
+abbrev log8 : List String
+log8 = raising1and2 " 2   0   2   0           4\n" " 4   0   0   0           5\n"
+
+abbrev log9 : List String
+log9 =
+    " 1   0   0   0          -2\n"
+    ∷ " 4   0   0   0           4\n"
+    ∷ []
+
+-- ---- the table
+
+abbrev none4 : List ℕ
+none4 = 0 ∷ 0 ∷ 0 ∷ 0 ∷ []
+
+abbrev zeros : ℕ → List ℤ
+zeros n = replicate n (pos 0)
+
+abbrev pub samples : List Sample
+samples =
+    -- P1: ceiling 0; `press` prints exactly these lines; it is the run's log, which ends settled, with all active
+    bound-of triangle gives bound (pos 0)
+    ∷ press-on caseFile gives prints (joined (texts log1))
+    ∷ run-of triangle 100_000 gives ran RunAnswer.Settled 1 (minus 1) (minus 1 ∷ minus 1 ∷ zeros 16) (texts log1)
+    ∷ all-active triangle 1 gives yes-no true
+    -- P2: `replay` on the case and its log
+    ∷ replay-of triangle log1 gives replayed (0 ∷ none4) 0 1 (minus 1) (minus 1 ∷ minus 1 ∷ zeros 16)
+    ∷ replay-on (caseFile ++ log1) gives prints (bytesOf "accepted 1 -1\n")
+    -- P3: the same press without scope 5
+    ∷ replay-of triangle log3 gives replayed (0 ∷ 0 ∷ 10 ∷ []) 10 0 (pos 0) (triangle .weights)
+    ∷ replay-on (caseFile ++ log3) gives prints (bytesOf "refused 10 24\n")
+    -- P4, P5: ceiling 4; one round of amount 2, raising scopes 1 and 2, gives 2, settled
+    ∷ bound-of clash gives bound (pos 4)
+    ∷ run-of clash 100_000 gives ran RunAnswer.Settled 1 (pos 2) (pos 0 ∷ pos 0 ∷ pos 2 ∷ pos 2 ∷ minus 1 ∷ zeros 3) (texts log5)
+    ∷ replay-of clash log5 gives replayed none4 0 1 (pos 2) (pos 0 ∷ pos 0 ∷ pos 2 ∷ pos 2 ∷ minus 1 ∷ zeros 3)
+    -- P6, P7, P8: the same press by 1: ceiling 3; by 3: 3; by 4: 5, so number 13 at a bound line stating 5
+    ∷ replay-of clash log6 gives replayed none4 0 1 (pos 3) (pos 1 ∷ pos 0 ∷ pos 2 ∷ pos 1 ∷ minus 2 ∷ zeros 3)
+    ∷ replay-of clash log7 gives replayed none4 0 1 (pos 3) (minus 1 ∷ pos 0 ∷ pos 2 ∷ pos 3 ∷ zeros 4)
+    ∷ replay-of clash log8 gives replayed (0 ∷ 0 ∷ 0 ∷ 13 ∷ []) 13 0 (pos 5) (minus 2 ∷ pos 0 ∷ pos 2 ∷ pos 4 ∷ pos 1 ∷ zeros 3)
+    -- P9: shift of pair 0, end 0, value 0 by −2: ceiling 4, number 13
+    ∷ replay-of clash log9 gives replayed (0 ∷ 13 ∷ []) 13 0 (pos 4) (pos 0 ∷ pos 0 ∷ pos 2 ∷ pos 0 ∷ minus 1 ∷ pos 2 ∷ zeros 2)
+    -- P10: ceiling 11, settled
+    ∷ bound-of example2 gives bound (pos 11)
+    ∷ run-of example2 100_000 gives ran RunAnswer.Settled 0 (pos 11) (example2 .weights) []
+    -- P11, P12: ceiling −7, settled; limit 0 here answers settled; on P1, limit
+    ∷ bound-of single gives bound (minus 7)
+    ∷ run-of single 100_000 gives ran RunAnswer.Settled 0 (minus 7) (single .weights) []
+    ∷ run-of single 0 gives ran RunAnswer.Settled 0 (minus 7) (single .weights) []
+    ∷ run-of triangle 0 gives ran RunAnswer.Limit 0 (pos 0) (triangle .weights) []
+    ∷ []
+
+-- each question has the answer that the table gives
+pub samples-hold : map (λ s. answer (s .ask)) samples ≡ map (λ s. s .gives) samples
+samples-hold = refl
+
+-- the cases are valid, and the triangle's file is the one that is written for it
+pub samples-valid : T (all (λ i. valid standard (i .case) (i .weights)) (triangle ∷ clash ∷ example2 ∷ single ∷ []))
+samples-valid = tt
+
+pub triangle-written : caseText standard (triangle .case) (triangle .weights) ≡ joined (texts caseFile)
+triangle-written = refl
+
+-- ---- samples of ours: readings that P1 to P12 leave alive
+
+-- link weights 2, 1 and 2, 0, pair weights 0 but −3 at (0,0): the own scope's gap is strictly least
+abbrev nearTie : Input
+nearTie = couple (pos 2 ∷ pos 1 ∷ pos 2 ∷ pos 0 ∷ minus 3 ∷ zeros 3)
+
+-- link weights 0, 2 and 0, 2, pair weights 0 but −3 at (1,1)
+abbrev clashAbove : Input
+clashAbove = couple (pos 0 ∷ pos 2 ∷ pos 0 ∷ pos 2 ∷ pos 0 ∷ pos 0 ∷ pos 0 ∷ minus 3 ∷ [])
+
+-- two rounds; a second round whose bound is no lower than the first's
+abbrev twoRounds : List String
+twoRounds = log6 ++ raising1and2 " 2   0   2   0           1\n" " 4   0   0   0           2\n"
+
+abbrev staleStart : List String
+staleStart = log6 ++ (" 1   0   0   0          -1\n" ∷ " 4   0   0   0           3\n" ∷ [])
+
+-- a round whose first move raises the upper bound, to 5
+abbrev upFirst : List String
+upFirst = " 1   0   0   0           1\n" ∷ " 1   0   0   0          -1\n" ∷ log6
+
+abbrev pub ourSamples : List Sample
+ourSamples =
+    run-of nearTie 100_000 gives
+    ran RunAnswer.Settled 1 (pos 3) (pos 1 ∷ pos 1 ∷ pos 2 ∷ pos 1 ∷ minus 2 ∷ zeros 3)
+    (texts (raising1and2 " 2   0   2   0           1\n" " 4   0   0   0           3\n"))
+    ∷ replay-of clash twoRounds gives
+    replayed (none4 ++ none4) 0 2 (pos 2) (pos 0 ∷ pos 0 ∷ pos 2 ∷ pos 2 ∷ minus 1 ∷ zeros 3)
+    ∷ replay-of clash staleStart gives
+    replayed (none4 ++ (0 ∷ 13 ∷ [])) 13 1 (pos 3) (pos 0 ∷ pos 0 ∷ pos 2 ∷ pos 1 ∷ minus 1 ∷ pos 1 ∷ zeros 2)
+    ∷ replay-of clashAbove log7 gives
+    replayed none4 0 1 (pos 3) (pos 0 ∷ minus 1 ∷ pos 3 ∷ pos 2 ∷ zeros 4)
+    ∷ replay-of clash upFirst gives
+    replayed (0 ∷ 0 ∷ none4) 0 1 (pos 3) (pos 1 ∷ pos 0 ∷ pos 2 ∷ pos 1 ∷ minus 2 ∷ zeros 3)
+    -- the limits: weight 1,000,000 passes and 1,000,001 is number 8; 49 links are number 3
+    ∷ replay-on ("10   1   1   0           0\n" ∷ "11   0   0   0     1000000\n" ∷ []) gives prints (bytesOf "accepted 0 1000000\n")
+    ∷ replay-on ("10   1   1   0           0\n" ∷ "11   0   0   0     1000001\n" ∷ []) gives prints (bytesOf "refused 8 1\n")
+    ∷ replay-on ("10  49   1   0           0\n" ∷ []) gives prints (bytesOf "refused 3 0\n")
+    -- a log of no lines is accepted; a log cut inside a press, inside a round and inside a line is number 14
+    ∷ replay-of clash [] gives replayed [] 0 0 (pos 4) (clash .weights)
+    ∷ replay-of clash (" 2   0   2   0           1\n" ∷ []) gives replayed (0 ∷ []) 14 0 (pos 4) (clash .weights)
+    ∷ replay-on (caseFile ++ (" 1   0   0   0           1\n" ∷ [])) gives prints (bytesOf "refused 14 23\n")
+    ∷ replay-on (caseFile ++ (" 4" ∷ [])) gives prints (bytesOf "refused 14 22\n")
+    -- nothing is due after a case that is read alone
+    ∷ press-on (caseFile ++ (" 4" ∷ [])) gives prints (bytesOf "refused 14 22\n")
+    ∷ press-on (caseFile ++ log1) gives prints (bytesOf "refused 2 22\n")
+    ∷ []
+
+pub our-samples-hold : map (λ s. answer (s .ask)) ourSamples ≡ map (λ s. s .gives) ourSamples
+our-samples-hold = refl
+
+pub our-samples-valid : T (all (λ i. valid standard (i .case) (i .weights)) (nearTie ∷ clashAbove ∷ []))
+our-samples-valid = tt
+
+-- 48 links pass
+abbrev wide : Input
+wide = record { case = record { n = 48; d = 1; m = 0; lower = []; upper = [] }; weights = zeros 48 }
+
+pub wide-accepted : replayPrints standard (caseText standard (wide .case) (wide .weights)) ≡ bytesOf "accepted 0 0\n"
+wide-accepted = refl

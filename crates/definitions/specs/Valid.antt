@@ -1,0 +1,61 @@
+-- Document 01: the limits and ranges of a case and its table, numbers 3 to 8, and which cases are valid. Assumes nothing.
+use mathlib.Core.Bool.{Bool, true, false, not, _&&_, _||_}
+use mathlib.Core.List.{List, [], _∷_, _++_}
+use Prim.Native.Nat.{ℕ}
+use lib.IntN.{ℤ, pos}
+use lib.Dec.{ltb, eqb}
+use lib.ListN.{length, take}
+use Rattle.integers.specs.Words.{below, all, any, within, withinZ, minus, isSome}
+use Rattle.definitions.specs.declared.Case.{Case}
+use Rattle.definitions.specs.declared.Refusal.the-variants.{OutsideLimits, WrongLength, OutOfRange, EndsNotAscending, EdgeRepeated, WeightOutOfRange}
+use Rattle.definitions.specs.Rules.{Rules}
+use Rattle.definitions.specs.Refusals.{Test, _when_, firstOf}
+use Rattle.definitions.specs.Case.{lowerEnd, upperEnd, ownLength, lentLength}
+
+abbrev pub startingWeight : Rules → ℤ → Bool
+startingWeight r z = withinZ (minus (r .starting)) (pos (r .starting)) z
+
+abbrev pub workingWeight : Rules → ℤ → Bool
+workingWeight r z = withinZ (minus (r .working)) (pos (r .working)) z
+
+-- all weights of the case are in a range
+abbrev pub allWeights : (ℤ → Bool) → Case → List ℤ → Bool
+allWeights range c w = all range (take (ownLength c) w)
+
+-- a case has 1 to 48 variables, 1 to 8 values, 0 to 96 edges
+abbrev pub withinLimits : Rules → ℕ → ℕ → ℕ → Bool
+withinLimits r n d m = within 1 (r .variables) n && within 1 (r .values) d && within 0 (r .edges) m
+
+abbrev pub someEdge : Case → (ℕ → Bool) → Bool
+someEdge c f = any f (below (c .m))
+
+abbrev pub endOutside : Case → ℕ → Bool
+endOutside c e = not (ltb (lowerEnd c e) (c .n) && ltb (upperEnd c e) (c .n))
+
+abbrev pub sameEnds : Case → ℕ → ℕ → Bool
+sameEnds c e f = eqb (lowerEnd c e) (lowerEnd c f) && eqb (upperEnd c e) (upperEnd c f)
+
+-- The numbers asked of a case and a table, in checking order. A call that is lent more asks 4 and 5 of that too: `wrong` says that
+-- something else lent has a wrong length, `out` that an argument is outside its range.
+abbrev pub limitTest : Rules → Case → Test
+limitTest r c = OutsideLimits when (not (withinLimits r (c .n) (c .d) (c .m)))
+
+abbrev pub lengthTest : Case → List ℤ → Bool → Test
+lengthTest c w wrong = WrongLength when (not (eqb (length w) (lentLength c)) || wrong)
+
+abbrev pub edgeTests : Case → Bool → List Test
+edgeTests c out =
+    OutOfRange when (out || someEdge c (endOutside c))
+    ∷ EndsNotAscending when (someEdge c (λ e. not (ltb (lowerEnd c e) (upperEnd c e))))
+    ∷ EdgeRepeated when (someEdge c (λ e. any (sameEnds c e) (below e)))
+    ∷ []
+
+abbrev pub weightTest : (ℤ → Bool) → Case → List ℤ → Test
+weightTest range c w = WeightOutOfRange when (not (allWeights range c w))
+
+abbrev pub handedOver : Rules → (ℤ → Bool) → Case → List ℤ → Bool → Bool → List Test
+handedOver r range c w wrong out = limitTest r c ∷ lengthTest c w wrong ∷ edgeTests c out ++ (weightTest range c w ∷ [])
+
+-- a case and its starting weights are valid if no number applies
+abbrev pub valid : Rules → Case → List ℤ → Bool
+valid r c w = not (isSome (firstOf (handedOver r (startingWeight r) c w false false)))

@@ -1,0 +1,169 @@
+// The types that cross the library's border. What each function answers is defined in specs/.
+
+// A case (document 01): n variables (links), d values (channels) for each, m edges (pairs).
+// Edge e joins variables lower[e] and upper[e]; places from m on are never asked.
+pub struct Case {
+    pub n: usize,
+    pub d: usize,
+    pub m: usize,
+    pub lower: [u8; 96],
+    pub upper: [u8; 96],
+}
+
+// Why something is turned back, in document 01's order: its numbers 1 to 14.
+pub enum Refusal {
+    NotInColumns,
+    NotDue,
+    OutsideLimits,
+    WrongLength,
+    OutOfRange,
+    EndsNotAscending,
+    EdgeRepeated,
+    WeightOutOfRange,
+    RaiseNotAscending,
+    NotRefuted,
+    LeavesRange,
+    OtherBound,
+    BoundNotLower,
+    CutShort,
+}
+
+// The answer of a call that does something.
+pub enum Outcome {
+    Done,
+    Refused(Refusal),
+}
+
+// The answer of a call that asks for a number.
+pub enum Figure {
+    Value(i64),
+    Refused(Refusal),
+}
+
+// The answer of a call that asks a question.
+pub enum Verdict {
+    Yes,
+    No,
+    Refused(Refusal),
+}
+
+// The five numbers of a line.
+pub struct Line {
+    pub kind: i64,
+    pub a: i64,
+    pub b: i64,
+    pub c: i64,
+    pub amount: i64,
+}
+
+pub enum LineRead {
+    Read(Line),
+    Refused(Refusal),
+}
+
+// What the head of a case file says, with the length of the table to lend.
+pub enum CaseSize {
+    Size {
+        n: usize,
+        d: usize,
+        m: usize,
+        table: usize,
+    },
+    Refused(Refusal),
+}
+
+// How a file was read: the lines used, or the refusal and its line.
+pub enum FileAnswer {
+    Read { lines: usize },
+    Refused { refusal: Refusal, line: usize },
+}
+
+// A case that was read; all zero where it was refused.
+pub struct CaseRead {
+    pub answer: FileAnswer,
+    pub case: Case,
+}
+
+// The answer of a call that writes bytes.
+pub enum Written {
+    Bytes(usize),
+    Refused(Refusal),
+}
+
+// The last scope that a press has raised.
+pub enum LastRaised {
+    Nothing,
+    Scope(usize),
+}
+
+// What the replay's record says is due: a move or bound line, or a raise line of a press begun.
+pub enum Due {
+    MoveOrBound,
+    Raise {
+        variable: usize,
+        amount: i64,
+        left: usize,
+        last: LastRaised,
+    },
+}
+
+// Whether a number has been given to a line yet.
+pub enum Standing {
+    Good,
+    Refused(Refusal),
+}
+
+// The replay's record. `raised` has a byte for each scope, 0 where the press begun has not raised it.
+pub struct Replay {
+    pub rounds: u64,
+    pub start: i64,
+    pub moved: bool,
+    pub raised: [u8; 144],
+    pub due: Due,
+    pub standing: Standing,
+}
+
+// The next record with the answer to the line.
+pub struct Stepped {
+    pub replay: Replay,
+    pub answer: Outcome,
+}
+
+// The record after a block of lines, how many lines got no number, and the first refusal.
+pub struct Block {
+    pub replay: Replay,
+    pub lines: usize,
+    pub answer: Outcome,
+}
+
+// Where the lines of a round lie in a log.
+pub enum Span {
+    Part { from: usize, to: usize },
+    Refused { refusal: Refusal, line: usize },
+}
+
+// The answer of one round of the engine: the bytes written and the bound, if one was made.
+pub enum Round {
+    Settled,
+    Made { bytes: usize, bound: i64 },
+    Refused(Refusal),
+}
+
+pub enum RunAnswer {
+    Settled,
+    Limit,
+    Refused(Refusal),
+}
+
+pub struct Run {
+    pub answer: RunAnswer,
+    pub rounds: u64,
+    pub bound: i64,
+}
+
+// Which of two assignments (plans) has the greater objective.
+pub enum Choice {
+    First,
+    Second,
+    Refused(Refusal),
+}
