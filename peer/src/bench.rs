@@ -1,0 +1,118 @@
+//! Figures of speed: the engine's rounds on the largest cases, and the bytes a
+//! second of replay, case reading and case writing.
+
+use crate::generate::{self, Plan, Shape, Weights};
+use crate::options::Options;
+use crate::random::Random;
+use crate::refute::all_active_refuted;
+use crate::replay::replay_file;
+use crate::state::State;
+use crate::types::*;
+use crate::{case, engine, line};
+use std::hint::black_box;
+use std::process::ExitCode;
+use std::time::Instant;
+
+pub fn bench(options: &mut Options) -> Result<ExitCode, String> {
+    let seconds = options.number("seconds", 20)? as f64 / 10.0;
+    options.finish()?;
+    println!("largest cases: {MAX_VARIABLES} links, {MAX_VALUES} values, {MAX_EDGES} pairs");
+    let kinds = [
+        ("uniform, whole range", Shape::Random, Weights::Uniform, 0),
+        ("uniform, mesh", Shape::Mesh, Weights::Uniform, 0),
+        ("small, -9 to 9", Shape::Random, Weights::Small(9), 0),
+        ("small, -1 to 1", Shape::Random, Weights::Small(1), 0),
+        ("extreme", Shape::Random, Weights::Extreme, 0),
+        ("interference, mesh", Shape::Mesh, Weights::Interference, 0),
+        ("interference, unusable", Shape::Mesh, Weights::Interference, 25),
+    ];
+    for (name, shape, weights, unusable) in kinds {
+        rounds(name, shape, weights, unusable, seconds);
+    }
+    replays(seconds);
+    files(seconds);
+    Ok(ExitCode::SUCCESS)
+}
+
+fn largest(random: &mut Random, shape: Shape, weights: Weights, unusable: u64) -> Case {
+    let (variables, values, edges) = (MAX_VARIABLES, MAX_VALUES, MAX_EDGES);
+    generate::case(random, Plan { shape, weights, unusable, variables, values, edges })
+}
+
+fn rounds(name: &str, shape: Shape, weights: Weights, unusable: u64, seconds: f64) {
+    let (mut rounds, mut cases, mut raises, mut spent) = (0, 0u64, 0, 0.0);
+    while spent < seconds {
+        let case = largest(&mut Random::new(cases), shape, weights, unusable);
+        let began = Instant::now();
+        let run = black_box(engine::run_case(&case, PROGRAM_ROUNDS));
+        spent += began.elapsed().as_secs_f64();
+        cases += 1;
+        rounds += run.rounds;
+        raises += (run.log.len() / LINE_BYTES) as u64 - 2 * run.rounds;
+    }
+    println!(
+        "engine  {name:<24} {:>9.0} rounds/s  ({cases} cases, {rounds} rounds, {:.1} raise lines \
+         a round, {:.2} ms a case)",
+        rounds as f64 / spent,
+        raises as f64 / rounds.max(1) as f64,
+        1000.0 * spent / cases as f64
+    );
+}
+
+/// A log of untrimmed presses by 1: almost all raise lines.
+fn raise_log(case: &Case, rounds: usize) -> Vec<u8> {
+    let mut state = State::new(case);
+    let mut log = Vec::new();
+    for _ in 0..rounds {
+        let pressed = (0..state.variables)
+            .find(|&variable| all_active_refuted(&state, &state.others(variable), variable));
+        let Some(variable) = pressed else { break };
+        let raised = state.others(variable);
+        line::write(&mut log, 2, variable as i64, raised.count() as i64, 0, 1);
+        for scope in raised.list(state.variables) {
+            line::write(&mut log, 3, scope as i64, 0, 0, 0);
+        }
+        state.press_unchecked(variable, &raised, 1);
+        line::write(&mut log, 4, 0, 0, 0, state.upper_bound);
+    }
+    log
+}
+
+fn replays(seconds: f64) {
+    let case = largest(&mut Random::new(7), Shape::Random, Weights::Uniform, 0);
+    let untrimmed = raise_log(&case, 4000);
+    let own = engine::run_case(&case, PROGRAM_ROUNDS).log;
+    for (name, log) in [("untrimmed presses", &untrimmed), ("the engine's own log", &own)] {
+        let rate = rate(log.len(), seconds, || {
+            let replay = replay_file(&case, log, 0);
+            assert!(black_box(replay).is_ok());
+        });
+        let lines = log.len() / LINE_BYTES;
+        println!("replay  {name:<24} {rate:>9.0} MB/s  ({lines} lines)");
+    }
+}
+
+fn files(seconds: f64) {
+    let case = largest(&mut Random::new(7), Shape::Random, Weights::Uniform, 0);
+    let file = case::write(&case);
+    let lines = file.len() / LINE_BYTES;
+    let reading = rate(file.len(), seconds, || {
+        assert!(black_box(case::read_alone(&file)).is_ok());
+    });
+    println!("case    {:<24} {reading:>9.0} MB/s  ({lines} lines)", "reading");
+    let writing = rate(file.len(), seconds, || {
+        black_box(case::write(&case));
+    });
+    println!("case    {:<24} {writing:>9.0} MB/s  ({lines} lines)", "writing");
+}
+
+/// Megabytes a second of a task that handles so many bytes.
+fn rate(bytes: usize, seconds: f64, mut task: impl FnMut()) -> f64 {
+    let began = Instant::now();
+    let mut times = 0;
+    while began.elapsed().as_secs_f64() < seconds {
+        task();
+        times += 1;
+    }
+    times as f64 * bytes as f64 / began.elapsed().as_secs_f64() / 1e6
+}

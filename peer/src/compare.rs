@@ -1,0 +1,261 @@
+//! The comparison: samples, fast reading against slow one, and other programs
+//! against the fast reading, byte for byte.
+
+use crate::check::{Check, Difference};
+use crate::counts::Counts;
+use crate::inputs::{input_for, random_for, sized_case, Program};
+use crate::options::Options;
+use crate::outside::Outside;
+use crate::{programs, samples};
+use std::path::{Path, PathBuf};
+use std::process::ExitCode;
+use std::time::{Duration, Instant};
+
+const DEFAULT_SECONDS: u64 = 90;
+const DEFAULT_KEEP: &str = "peer/target/failed";
+
+/// When to stop: after some time, or after a number of cases.
+enum End {
+    At(Instant),
+    After(u64),
+}
+
+impl End {
+    fn reached(&self, done: u64) -> bool {
+        match self {
+            End::At(time) => Instant::now() >= *time,
+            End::After(count) => done >= *count,
+        }
+    }
+}
+
+fn in_seconds(seconds: f64) -> End {
+    End::At(Instant::now() + Duration::from_secs_f64(seconds))
+}
+
+/// `peer check`: no other programs.
+pub fn check(options: &mut Options) -> Result<ExitCode, String> {
+    let seed = options.number("seed", 1)?;
+    let keep = PathBuf::from(options.text("keep").unwrap_or(DEFAULT_KEEP.into()));
+    let seconds = options.number("seconds", DEFAULT_SECONDS)?;
+    let cases = options.number("cases", 0)?;
+    let counts = options.flag("counts");
+    options.finish()?;
+    println!("seed {seed}");
+    let end = if cases > 0 { End::After(cases) } else { in_seconds(seconds as f64) };
+    let began = Instant::now();
+    let mut check = Check::new();
+    let result = samples_first().and_then(|samples| {
+        against_slow(&mut check, seed, &end)?;
+        Ok(samples)
+    });
+    finish(result, &keep, "check", seed, |samples| {
+        if counts {
+            check.counts.print();
+        }
+        format!("samples {samples}, {}, {}", slow_figures(&check), missing(&[&check.counts]))
+    }, began)
+}
+
+/// `peer compare`: the same, then the programs that are there.
+pub fn compare(options: &mut Options) -> Result<ExitCode, String> {
+    let seed = options.number("seed", 1)?;
+    let keep = PathBuf::from(options.text("keep").unwrap_or(DEFAULT_KEEP.into()));
+    let seconds = options.number("seconds", DEFAULT_SECONDS)? as f64;
+    let paths = [options.text("press"), options.text("replay")];
+    let counts = options.flag("counts");
+    options.finish()?;
+    println!("seed {seed}");
+    let none = paths.iter().all(|path| path.is_none());
+    let slow_share = if none { 1.0 } else { 0.3 };
+    let began = Instant::now();
+    let mut check = Check::new();
+    let mut programs = Programs::new(paths, &keep)?;
+    let result = samples_first().and_then(|samples| {
+        against_slow(&mut check, seed, &in_seconds(seconds * slow_share))?;
+        programs.samples()?;
+        programs.generated(seed, &in_seconds(seconds * (1.0 - slow_share)))?;
+        Ok(samples)
+    });
+    finish(result, &keep, "compare", seed, |samples| {
+        if counts {
+            println!("fast against slow:");
+            check.counts.print();
+            println!("programs against fast:");
+            programs.counts.print();
+        }
+        let seen = missing(&[&check.counts, &programs.counts]);
+        format!("samples {samples}, {}, {}, {seen}", slow_figures(&check), programs.figures())
+    }, began)
+}
+
+fn samples_first() -> Result<usize, Difference> {
+    samples::check().map_err(|what| Difference { what, input: vec![] })
+}
+
+fn against_slow(check: &mut Check, seed: u64, end: &End) -> Result<(), Difference> {
+    let mut index = 0;
+    while !end.reached(index) {
+        check.one(seed, index).map_err(|difference| Difference {
+            what: format!("case {index}: {}", difference.what),
+            ..difference
+        })?;
+        index += 1;
+    }
+    Ok(())
+}
+
+fn slow_figures(check: &Check) -> String {
+    let figures = check.figures;
+    format!(
+        "slow mode: cases {}, comparisons {} (refutations {}, runs {}, lines {}, lists {}, \
+         programs {}, others {})",
+        figures.cases,
+        figures.comparisons(),
+        figures.refutations,
+        figures.runs,
+        figures.lines,
+        figures.lists,
+        figures.programs,
+        figures.others
+    )
+}
+
+/// Which numbers the programs can answer were not met.
+fn missing(counts: &[&Counts]) -> String {
+    let met = |part: &str, number: &u8| counts.iter().any(|c| c.numbers(part).contains(number));
+    let case = [1, 2, 3, 5, 6, 7, 8, 14].into_iter().filter(|number| !met("case", number));
+    let log = [1, 2, 5, 9, 10, 11, 12, 13, 14].into_iter().filter(|number| !met("log", number));
+    let (case, log): (Vec<u8>, Vec<u8>) = (case.collect(), log.collect());
+    if case.is_empty() && log.is_empty() {
+        return "every number met".into();
+    }
+    format!("numbers not met: case {case:?}, log {log:?}")
+}
+
+fn finish(
+    result: Result<usize, Difference>,
+    keep: &Path,
+    name: &str,
+    seed: u64,
+    figures: impl FnOnce(usize) -> String,
+    began: Instant,
+) -> Result<ExitCode, String> {
+    let seconds = began.elapsed().as_secs();
+    match result {
+        Ok(samples) => {
+            let figures = figures(samples);
+            println!("{name}: seed {seed}, {figures}, differences 0, {seconds} s");
+            Ok(ExitCode::SUCCESS)
+        }
+        Err(difference) => {
+            let kept = keep_input(keep, &difference, seed).map_err(|error| error.to_string())?;
+            println!("{}", difference.what);
+            println!("{name}: seed {seed}, differences 1, kept in {}, {seconds} s", kept.display());
+            Ok(ExitCode::from(1))
+        }
+    }
+}
+
+fn keep_input(keep: &Path, difference: &Difference, seed: u64) -> std::io::Result<PathBuf> {
+    std::fs::create_dir_all(keep)?;
+    let stamp = std::process::id();
+    let path = keep.join(format!("seed-{seed}-{stamp}.input"));
+    std::fs::write(&path, &difference.input)?;
+    std::fs::write(path.with_extension("txt"), &difference.what)?;
+    Ok(path)
+}
+
+/// The programs compared with the fast reading.
+struct Programs {
+    press: Option<Outside>,
+    replay: Option<Outside>,
+    counts: Counts,
+    compared: [u64; 2],
+    bytes: u64,
+}
+
+impl Programs {
+    fn new(paths: [Option<String>; 2], keep: &Path) -> Result<Programs, String> {
+        let [press, replay] = paths.map(|path| path.map(|path| Outside::new(&path, keep)));
+        Ok(Programs {
+            press: press.transpose()?,
+            replay: replay.transpose()?,
+            counts: Counts::default(),
+            compared: [0; 2],
+            bytes: 0,
+        })
+    }
+
+    fn samples(&mut self) -> Result<(), Difference> {
+        for (name, press, input, output) in samples::for_programs() {
+            let program = if press { Program::Press } else { Program::Replay };
+            self.ask(program, &input, &output, name)?;
+        }
+        Ok(())
+    }
+
+    fn generated(&mut self, seed: u64, end: &End) -> Result<(), Difference> {
+        if self.press.is_none() && self.replay.is_none() {
+            return Ok(());
+        }
+        let mut index = 1 << 40;
+        while !end.reached(index) {
+            let mut random = random_for(seed, index);
+            let case = sized_case(&mut random);
+            for _ in 0..4 {
+                let input = input_for(&mut random, &case);
+                let expected = match input.program {
+                    Program::Press => programs::press(&input.bytes),
+                    Program::Replay => programs::replay(&input.bytes),
+                };
+                self.ask(input.program, &input.bytes, &expected, &format!("input {index}"))?;
+            }
+            index += 1;
+        }
+        Ok(())
+    }
+
+    fn ask(
+        &mut self,
+        program: Program,
+        input: &[u8],
+        expected: &[u8],
+        name: &str,
+    ) -> Result<(), Difference> {
+        let outside = match program {
+            Program::Press => &mut self.press,
+            Program::Replay => &mut self.replay,
+        };
+        let Some(outside) = outside else { return Ok(()) };
+        let (found, note) = outside.answer(input);
+        if found != expected || !note.is_empty() {
+            let what = format!(
+                "{name}, program {program:?} {note}\nfound:\n{}\nexpected:\n{}",
+                shown(&found),
+                shown(expected)
+            );
+            return Err(Difference { what, input: input.to_vec() });
+        }
+        self.counts.note_output(input, expected);
+        self.compared[program as usize] += 1;
+        self.bytes += input.len() as u64;
+        Ok(())
+    }
+
+    fn figures(&self) -> String {
+        if self.press.is_none() && self.replay.is_none() {
+            return "no programs".into();
+        }
+        let [press, replay] = self.compared;
+        format!("press {press} inputs, replay {replay} inputs, {} MB in", self.bytes / 1_000_000)
+    }
+}
+
+fn shown(bytes: &[u8]) -> String {
+    let mut text = String::from_utf8_lossy(&bytes[..bytes.len().min(600)]).into_owned();
+    if bytes.len() > 600 {
+        text.push_str(&format!("... {} bytes in all", bytes.len()));
+    }
+    text
+}

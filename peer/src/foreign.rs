@@ -1,0 +1,244 @@
+//! Logs as other engines write them: shifts, untrimmed presses by odd amounts,
+//! several moves a round, rounds whose first move raises the ceiling. A careful
+//! writer's log is accepted; a careless one also writes what must be refused.
+
+use crate::engine::find_press;
+use crate::line;
+use crate::random::Random;
+use crate::refute::all_active_refuted;
+use crate::state::{Scopes, State};
+use crate::types::*;
+
+#[derive(Clone, Copy)]
+struct Shift {
+    edge: usize,
+    end: usize,
+    value: usize,
+    amount: i32,
+}
+
+struct Writer<'a> {
+    random: &'a mut Random,
+    state: State,
+    log: Vec<u8>,
+    careless: bool,
+}
+
+/// A foreign log for the case; `careless` ones may be refused at any number.
+pub fn log(random: &mut Random, case: &Case, careless: bool) -> Vec<u8> {
+    let mut writer = Writer { random, state: State::new(case), log: Vec::new(), careless };
+    let rounds = *writer.random.pick(&[0, 1, 1, 2, 3, 5, 8]);
+    for _ in 0..rounds {
+        if !writer.round() {
+            break;
+        }
+    }
+    writer.log
+}
+
+impl Writer<'_> {
+    /// One round. False if the log ends here.
+    fn round(&mut self) -> bool {
+        let start = self.state.upper_bound;
+        let before = (self.state.clone(), self.log.len());
+        if self.random.chance(1, 3) {
+            self.raise_and_return();
+        }
+        for _ in 0..*self.random.pick(&[0, 0, 1, 2, 4]) {
+            if self.random.chance(1, 2) {
+                self.any_shift();
+            } else {
+                self.any_press();
+            }
+        }
+        for _ in 0..4 {
+            if self.state.upper_bound < start {
+                break;
+            }
+            self.any_press();
+        }
+        if self.state.upper_bound >= start {
+            self.engine_press();
+        }
+        if self.state.upper_bound < start {
+            self.bound(0);
+            return true;
+        }
+        self.give_up(before)
+    }
+
+    /// No lower ceiling was reached: back to the round's start, or a bad ending.
+    fn give_up(&mut self, before: (State, usize)) -> bool {
+        if !self.careless {
+            self.state = before.0;
+            self.log.truncate(before.1);
+            return false;
+        }
+        match self.random.below(3) {
+            0 => self.bound(0),
+            1 => {
+                let error = *self.random.pick(&[-1, 1, 1000]);
+                self.bound(error);
+            }
+            _ => return false,
+        }
+        true
+    }
+
+    fn bound(&mut self, error: i64) {
+        let error = if self.careless && self.random.chance(1, 40) { 1 } else { error };
+        line::write(&mut self.log, 4, 0, 0, 0, self.state.upper_bound + error);
+    }
+
+    fn some_shift(&mut self) -> Option<Shift> {
+        if self.state.edges == 0 {
+            return None;
+        }
+        let most = *self.random.pick(&[1, 3, 10, 1000, 100_000, 1_000_000]);
+        let size = self.amount(most);
+        let amount = if self.random.chance(1, 2) { size } else { -size };
+        Some(Shift {
+            edge: self.random.below(self.state.edges),
+            end: self.random.below(2),
+            value: self.random.below(self.state.values),
+            amount,
+        })
+    }
+
+    /// 1 to `most`; from a careless writer sometimes far more.
+    fn amount(&mut self, most: i64) -> i32 {
+        let huge = self.careless && self.random.chance(1, 25);
+        let most = if huge { MOVE_LIMIT } else { most };
+        self.random.between(1, most) as i32
+    }
+
+    /// Makes and writes a shift. One out of range is written by careless writers only.
+    fn shift(&mut self, shift: Shift) -> bool {
+        let Shift { edge, end, value, amount } = shift;
+        let good = self.state.shift(edge, end, value, amount).is_ok();
+        if good || self.careless {
+            let (edge, end, value) = (edge as i64, end as i64, value as i64);
+            line::write(&mut self.log, 1, edge, end, value, amount.into());
+        }
+        good
+    }
+
+    fn any_shift(&mut self) {
+        if let Some(shift) = self.some_shift() {
+            self.shift(shift);
+        }
+    }
+
+    /// A first shift that raises the ceiling, taken back whole or in part.
+    fn raise_and_return(&mut self) {
+        for _ in 0..6 {
+            let Some(shift) = self.some_shift() else { return };
+            let mut trial = self.state.clone();
+            let made = trial.shift(shift.edge, shift.end, shift.value, shift.amount);
+            if made.is_err() || trial.upper_bound <= self.state.upper_bound {
+                continue;
+            }
+            self.shift(shift);
+            if self.random.chance(1, 2) {
+                self.any_press();
+            }
+            let part = if self.random.chance(3, 4) { 1 } else { 2 };
+            let amount = -(shift.amount / part);
+            if amount != 0 {
+                self.shift(Shift { amount, ..shift });
+            }
+            return;
+        }
+    }
+
+    /// A press of any variable that can be pressed, with more scopes than needed.
+    fn any_press(&mut self) {
+        if self.careless && self.random.chance(1, 12) {
+            return self.wild_press();
+        }
+        let offset = self.random.below(self.state.variables);
+        for step in 0..self.state.variables {
+            let variable = (offset + step) % self.state.variables;
+            let raised = self.state.others(variable);
+            if all_active_refuted(&self.state, &raised, variable) {
+                let raised = self.drop_some(variable, raised);
+                let amount = self.odd_amount(variable, &raised);
+                self.press(variable, raised, amount);
+                return;
+            }
+        }
+    }
+
+    fn engine_press(&mut self) {
+        if let Some(press) = find_press(&self.state, 0) {
+            self.press(press.variable, press.raised, press.amount);
+        }
+    }
+
+    fn drop_some(&mut self, variable: usize, mut raised: Scopes) -> Scopes {
+        let variables = self.state.variables;
+        let tries = *self.random.pick(&[0, 3, 20, 300]);
+        for _ in 0..tries {
+            let scope = self.random.below(self.state.scopes());
+            let mut fewer = raised;
+            fewer.remove(variables, scope);
+            if all_active_refuted(&self.state, &fewer, variable) {
+                raised = fewer;
+            }
+        }
+        raised
+    }
+
+    /// An amount below, at or above the least gap.
+    fn odd_amount(&mut self, variable: usize, raised: &Scopes) -> i32 {
+        let state = &self.state;
+        let mut scopes = raised.list(state.variables);
+        scopes.push(variable);
+        let gap = |&scope: &usize| {
+            state.runner_up(scope).map(|weight| state.greatest[scope] - weight)
+        };
+        let least = scopes.iter().filter_map(gap).min().unwrap_or(1).max(1);
+        let amount = match self.random.below(6) {
+            0 => 1,
+            1 | 2 => i64::from(least),
+            3 => i64::from(least) + self.random.between(1, 1 + i64::from(least)),
+            4 => i64::from(self.amount(i64::from(least))),
+            _ => (i64::from(least) / 2).max(1),
+        };
+        amount.min(MOVE_LIMIT) as i32
+    }
+
+    fn press(&mut self, variable: usize, raised: Scopes, amount: i32) {
+        let good = self.state.press(variable, &raised, amount).is_ok();
+        if good || self.careless {
+            self.write_press(variable, &raised, amount);
+        }
+    }
+
+    /// A press nobody has looked into; made only if it happens to be allowed.
+    fn wild_press(&mut self) {
+        let variable = self.random.below(self.state.variables);
+        let mut raised = Scopes::default();
+        for scope in 0..self.state.scopes() {
+            if scope != variable && self.random.chance(1, 2) {
+                raised.insert(self.state.variables, scope);
+            }
+        }
+        if raised.count() == 0 {
+            return;
+        }
+        let amount = self.amount(10);
+        if all_active_refuted(&self.state, &raised, variable) {
+            return self.press(variable, raised, amount);
+        }
+        self.write_press(variable, &raised, amount);
+    }
+
+    fn write_press(&mut self, variable: usize, raised: &Scopes, amount: i32) {
+        let count = raised.count() as i64;
+        line::write(&mut self.log, 2, variable as i64, count, 0, amount.into());
+        for scope in raised.list(self.state.variables) {
+            line::write(&mut self.log, 3, scope as i64, 0, 0, 0);
+        }
+    }
+}

@@ -1,0 +1,194 @@
+//! Cases of many kinds and sizes.
+
+use crate::random::Random;
+use crate::types::*;
+
+#[derive(Clone, Copy, PartialEq, Eq, Debug)]
+pub enum Shape {
+    Chain,
+    Ring,
+    Tree,
+    Mesh,
+    Random,
+}
+
+#[derive(Clone, Copy, PartialEq, Eq, Debug)]
+pub enum Weights {
+    /// The whole starting range.
+    Uniform,
+    /// From minus to plus this number.
+    Small(i64),
+    /// The ends of the range and numbers beside them.
+    Extreme,
+    /// Likes on links, losses for equal and neighbouring channels on pairs.
+    Interference,
+}
+
+/// What a generated case looks like.
+#[derive(Clone, Copy, Debug)]
+pub struct Plan {
+    pub shape: Shape,
+    pub weights: Weights,
+    /// Of a hundred link values, how many may not be used (−1,000,000).
+    pub unusable: u64,
+    pub variables: usize,
+    pub values: usize,
+    pub edges: usize,
+}
+
+pub const KINDS: [&str; 8] =
+    ["uniform", "small", "extreme", "chain", "ring", "tree", "mesh", "unusable"];
+
+/// Shape, weights and unusable share of a named kind.
+pub fn kind(name: &str) -> Option<(Shape, Weights, u64)> {
+    Some(match name {
+        "uniform" => (Shape::Random, Weights::Uniform, 0),
+        "small" => (Shape::Random, Weights::Small(9), 0),
+        "extreme" => (Shape::Random, Weights::Extreme, 0),
+        "chain" => (Shape::Chain, Weights::Interference, 0),
+        "ring" => (Shape::Ring, Weights::Interference, 0),
+        "tree" => (Shape::Tree, Weights::Interference, 0),
+        "mesh" => (Shape::Mesh, Weights::Interference, 0),
+        "unusable" => (Shape::Mesh, Weights::Interference, 25),
+        _ => return None,
+    })
+}
+
+pub fn case(random: &mut Random, plan: Plan) -> Case {
+    let edges = join(random, plan);
+    let mut weights = Vec::new();
+    let scale = *random.pick(&[1, 1, 3, 10, 100]);
+    for _ in 0..plan.variables {
+        for _ in 0..plan.values {
+            weights.push(variable_weight(random, plan, scale));
+        }
+    }
+    for _ in &edges {
+        edge_weights(random, plan, scale, &mut weights);
+    }
+    Case { variables: plan.variables, values: plan.values, edges, weights }
+}
+
+fn variable_weight(random: &mut Random, plan: Plan, scale: i64) -> i32 {
+    if random.chance(plan.unusable, 100) {
+        return -(START_LIMIT as i32);
+    }
+    match plan.weights {
+        Weights::Interference => (scale * random.between(0, 20)) as i32,
+        other => plain_weight(random, other),
+    }
+}
+
+fn plain_weight(random: &mut Random, weights: Weights) -> i32 {
+    let weight = match weights {
+        Weights::Small(most) => random.between(-most, most),
+        Weights::Extreme => {
+            let most = START_LIMIT;
+            *random.pick(&[-most, most, -most, most, 0, 1 - most, most - 1, 1, -1])
+        }
+        _ => random.between(-START_LIMIT, START_LIMIT),
+    };
+    weight as i32
+}
+
+fn edge_weights(random: &mut Random, plan: Plan, scale: i64, weights: &mut Vec<i32>) {
+    let same = -scale * random.between(20, 200);
+    let beside = same / random.between(2, 10);
+    let even = random.chance(1, 2);
+    for first in 0..plan.values {
+        for second in 0..plan.values {
+            if plan.weights != Weights::Interference {
+                weights.push(plain_weight(random, plan.weights));
+                continue;
+            }
+            let loss = match first.abs_diff(second) {
+                0 => same,
+                1 => beside,
+                _ => 0,
+            };
+            let extra = if even || loss == 0 { 0 } else { random.between(-scale, scale) };
+            let shut = plan.unusable > 0 && random.chance(1, 50);
+            weights.push(if shut { -(START_LIMIT as i32) } else { (loss + extra) as i32 });
+        }
+    }
+}
+
+/// The pairs, all different, at most as many as asked for and as there are.
+fn join(random: &mut Random, plan: Plan) -> Vec<(usize, usize)> {
+    let mut pairs = match plan.shape {
+        Shape::Chain => chain(plan.variables),
+        Shape::Ring => ring(plan.variables),
+        Shape::Tree => tree(random, plan.variables),
+        Shape::Mesh => mesh(random, plan.variables, plan.edges),
+        Shape::Random => all_pairs(plan.variables),
+    };
+    if plan.shape == Shape::Random || random.chance(1, 3) {
+        random.shuffle(&mut pairs);
+    }
+    pairs.truncate(plan.edges.min(MAX_EDGES));
+    pairs
+}
+
+fn chain(variables: usize) -> Vec<(usize, usize)> {
+    (1..variables).map(|higher| (higher - 1, higher)).collect()
+}
+
+fn ring(variables: usize) -> Vec<(usize, usize)> {
+    let mut pairs = chain(variables);
+    if variables > 2 {
+        pairs.push((0, variables - 1));
+    }
+    pairs
+}
+
+fn tree(random: &mut Random, variables: usize) -> Vec<(usize, usize)> {
+    (1..variables).map(|higher| (random.below(higher), higher)).collect()
+}
+
+fn all_pairs(variables: usize) -> Vec<(usize, usize)> {
+    let mut pairs = Vec::new();
+    for lower in 0..variables {
+        for higher in lower + 1..variables {
+            pairs.push((lower, higher));
+        }
+    }
+    pairs
+}
+
+/// A grid, then diagonals and other near pairs until there are enough.
+fn mesh(random: &mut Random, variables: usize, edges: usize) -> Vec<(usize, usize)> {
+    let width = (1..).find(|width| width * width >= variables).unwrap_or(1);
+    let place = |variable: usize| (variable / width, variable % width);
+    let (mut near, mut far) = (Vec::new(), Vec::new());
+    for (lower, higher) in all_pairs(variables) {
+        let (from, to) = (place(lower), place(higher));
+        let distance = (from.0.abs_diff(to.0), from.1.abs_diff(to.1));
+        match distance {
+            (0, 1) | (1, 0) => near.push((lower, higher)),
+            (0..=2, 0..=2) => far.push((lower, higher)),
+            _ => {}
+        }
+    }
+    random.shuffle(&mut far);
+    let missing = edges.saturating_sub(near.len());
+    near.extend(far.into_iter().take(missing));
+    near
+}
+
+/// Any kind of case with at most these sizes.
+pub fn any_case(random: &mut Random, variables: usize, values: usize, edges: usize) -> Case {
+    let shape =
+        *random.pick(&[Shape::Chain, Shape::Ring, Shape::Tree, Shape::Mesh, Shape::Random]);
+    let small = *random.pick(&[1, 2, 3, 9, 50]);
+    let weights = match random.below(8) {
+        0 => Weights::Uniform,
+        1 => Weights::Extreme,
+        2 | 3 => Weights::Interference,
+        _ => Weights::Small(small),
+    };
+    let unusable = if random.chance(1, 3) { 5 + random.below(40) as u64 } else { 0 };
+    let variables = 1 + random.below(variables);
+    let values = 1 + random.below(values);
+    let edges = if random.chance(2, 3) { edges } else { random.below(edges + 1) };
+    case(random, Plan { shape, weights, unusable, variables, values, edges })
+}

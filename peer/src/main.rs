@@ -1,0 +1,189 @@
+//! The peer: a second reading of document 01 in plain Rust, to hold programs,
+//! vectors and speed against. See ../README.md.
+
+mod bench;
+mod case;
+mod check;
+mod compare;
+mod counts;
+mod damage;
+mod engine;
+mod foreign;
+mod generate;
+mod inputs;
+mod line;
+mod options;
+mod outside;
+mod programs;
+mod random;
+mod refute;
+mod replay;
+mod samples;
+mod score;
+mod slow;
+mod state;
+mod types;
+mod view;
+
+use options::Options;
+use random::Random;
+use std::io::{Read, Write};
+use std::process::ExitCode;
+use types::*;
+
+const USAGE: &str = "usage: peer COMMAND [OPTIONS]
+  press [--limit ROUNDS]      case file in, log out
+  replay                      case file and log in, accepted or refused out
+  view ROUND                  log in, the round's lines out
+  score FIRST SECOND          case file in, first or second out (plans like 0,1,0)
+  total PLAN                  case file in, the plan's starting total out
+  ceiling                     case file in, its ceiling out
+  generate KIND [--seed S] [--links N] [--values D] [--pairs M] [--unusable PERCENT]
+  foreign [--seed S] [--careful]    case file in, case file and a foreign log out
+  damage [--seed S]           any input in, damaged input out
+  check [--seconds N | --cases N] [--seed S] [--keep DIR] [--counts]
+  compare [--seconds N] [--seed S] [--press PROGRAM] [--replay PROGRAM] [--keep DIR] [--counts]
+  bench [--seconds N]         figures of speed";
+
+fn main() -> ExitCode {
+    let arguments: Vec<String> = std::env::args().skip(1).collect();
+    let Some((command, rest)) = arguments.split_first() else {
+        return usage("no command");
+    };
+    match Options::new(rest).and_then(|mut options| {
+        let code = run(command, &mut options)?;
+        Ok(code)
+    }) {
+        Ok(code) => code,
+        Err(message) => usage(&message),
+    }
+}
+
+fn usage(message: &str) -> ExitCode {
+    eprintln!("peer: {message}\n{USAGE}");
+    ExitCode::from(2)
+}
+
+fn run(command: &str, options: &mut Options) -> Result<ExitCode, String> {
+    match command {
+        "press" => press(options),
+        "replay" => print_after(options, programs::replay),
+        "view" => view_round(options),
+        "score" => score_plans(options),
+        "total" => total(options),
+        "ceiling" => print_after(options, ceiling),
+        "generate" => generate_case(options),
+        "foreign" => foreign_log(options),
+        "damage" => {
+            let mut random = Random::new(options.number("seed", 1)?);
+            print_after(options, |input| damage::damage(&mut random, input))
+        }
+        "check" => compare::check(options),
+        "compare" => compare::compare(options),
+        "bench" => bench::bench(options),
+        _ => Err(format!("no command {command}")),
+    }
+}
+
+fn input() -> Vec<u8> {
+    let mut bytes = Vec::new();
+    std::io::stdin().lock().read_to_end(&mut bytes).expect("standard input");
+    bytes
+}
+
+fn output(bytes: &[u8]) -> Result<ExitCode, String> {
+    std::io::stdout().lock().write_all(bytes).map_err(|error| error.to_string())?;
+    Ok(ExitCode::SUCCESS)
+}
+
+/// Reads standard input and prints what the function makes of it.
+fn print_after(
+    options: &Options,
+    answer: impl FnOnce(&[u8]) -> Vec<u8>,
+) -> Result<ExitCode, String> {
+    options.finish()?;
+    output(&answer(&input()))
+}
+
+fn press(options: &mut Options) -> Result<ExitCode, String> {
+    let limit = options.number("limit", PROGRAM_ROUNDS)?;
+    print_after(options, |input| match programs::press_answer(input, limit) {
+        Ok(run) => run.log,
+        Err(refusal) => programs::refusal_text(refusal),
+    })
+}
+
+fn ceiling(input: &[u8]) -> Vec<u8> {
+    match case::read_alone(input) {
+        Ok((case, _)) => format!("{}\n", state::State::new(&case).upper_bound).into_bytes(),
+        Err(refusal) => programs::refusal_text(refusal),
+    }
+}
+
+fn view_round(options: &mut Options) -> Result<ExitCode, String> {
+    let round = options.word("ROUND")?.parse().map_err(|_| "ROUND is no number")?;
+    print_after(options, |log| match view::view(log, round) {
+        Ok(stretch) => stretch.to_vec(),
+        Err(refusal) => programs::refusal_text(refusal),
+    })
+}
+
+fn plan(text: &str) -> Result<Vec<u64>, String> {
+    if text.is_empty() {
+        return Ok(vec![]);
+    }
+    text.split(',').map(|value| value.parse().map_err(|_| format!("bad plan {text}"))).collect()
+}
+
+/// Reads the case alone; the answer is a word or a number refused.
+fn about_case(
+    options: &Options,
+    answer: impl FnOnce(&Case) -> Result<String, u8>,
+) -> Result<ExitCode, String> {
+    print_after(options, |input| match case::read_alone(input) {
+        Ok((case, _)) => match answer(&case) {
+            Ok(text) => format!("{text}\n").into_bytes(),
+            Err(number) => format!("refused {number}\n").into_bytes(),
+        },
+        Err(refusal) => programs::refusal_text(refusal),
+    })
+}
+
+fn score_plans(options: &mut Options) -> Result<ExitCode, String> {
+    let first = plan(&options.word("FIRST")?)?;
+    let second = plan(&options.word("SECOND")?)?;
+    about_case(options, |case| {
+        score::score(case, &first, &second).map(|better| match better {
+            Better::First => "first".into(),
+            Better::Second => "second".into(),
+        })
+    })
+}
+
+fn total(options: &mut Options) -> Result<ExitCode, String> {
+    let plan = plan(&options.word("PLAN")?)?;
+    about_case(options, |case| score::objective(case, &plan).map(|total| total.to_string()))
+}
+
+fn generate_case(options: &mut Options) -> Result<ExitCode, String> {
+    let name = options.word("KIND")?;
+    let mut random = Random::new(options.number("seed", 1)?);
+    let variables = options.size("links", 1, MAX_VARIABLES, 8)?;
+    let values = options.size("values", 1, MAX_VALUES, 4)?;
+    let edges = options.size("pairs", 0, MAX_EDGES, 2 * variables)?;
+    let (shape, weights, share) = generate::kind(&name)
+        .ok_or_else(|| format!("no kind {name}; there are {}", generate::KINDS.join(", ")))?;
+    let unusable = options.number("unusable", share)?;
+    options.finish()?;
+    let plan = generate::Plan { shape, weights, unusable, variables, values, edges };
+    output(&case::write(&generate::case(&mut random, plan)))
+}
+
+fn foreign_log(options: &mut Options) -> Result<ExitCode, String> {
+    let mut random = Random::new(options.number("seed", 1)?);
+    let careless = !options.flag("careful");
+    print_after(options, |input| match case::read_alone(input) {
+        Ok((case, _)) => [input.to_vec(), foreign::log(&mut random, &case, careless)].concat(),
+        Err(refusal) => programs::refusal_text(refusal),
+    })
+}

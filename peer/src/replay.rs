@@ -1,0 +1,161 @@
+//! The replay of log lines, fast. Answers are those of document 01's plain replay.
+
+use crate::line;
+use crate::refute::all_active_refuted;
+use crate::state::{Scopes, State};
+use crate::types::*;
+
+/// A press whose raise lines are not all there yet.
+#[derive(Clone, Copy)]
+struct Held {
+    variable: usize,
+    amount: i32,
+    left: usize,
+    last: Option<usize>,
+    raised: Scopes,
+}
+
+pub struct Replay {
+    pub state: State,
+    pub rounds: u64,
+    /// The number that stands, once a line was refused.
+    pub standing: Option<u8>,
+    round_start: i64,
+    open_moves: bool,
+    held: Option<Held>,
+}
+
+impl Replay {
+    pub fn new(case: &Case) -> Replay {
+        let state = State::new(case);
+        let round_start = state.upper_bound;
+        Replay { state, rounds: 0, standing: None, round_start, open_moves: false, held: None }
+    }
+
+    /// Takes one line, any bytes; the answer is a number or nothing.
+    #[inline]
+    pub fn step(&mut self, bytes: &[u8]) -> Option<u8> {
+        if self.standing.is_none() {
+            self.standing = self.take(bytes).err();
+        }
+        self.standing
+    }
+
+    /// The answer at the end of the list.
+    pub fn end(&self) -> Option<u8> {
+        let unfinished = self.held.is_some() || self.open_moves;
+        self.standing.or(unfinished.then_some(14))
+    }
+
+    #[inline]
+    fn take(&mut self, bytes: &[u8]) -> Result<(), u8> {
+        let line = line::parse(bytes).ok_or(1)?;
+        match (line.kind, self.held) {
+            (3, Some(held)) => self.raise(line, held),
+            (1, None) => self.shift(line),
+            (2, None) => self.press(line),
+            (4, None) => self.bound(line),
+            _ => Err(2),
+        }
+    }
+
+    fn shift(&mut self, line: Line) -> Result<(), u8> {
+        let edge = below(line.a, self.state.edges)?;
+        let end = below(line.b, 2)?;
+        let value = below(line.c, self.state.values)?;
+        if line.amount == 0 || line.amount.abs() > MOVE_LIMIT {
+            return Err(5);
+        }
+        self.state.shift(edge, end, value, line.amount as i32)?;
+        self.open_moves = true;
+        Ok(())
+    }
+
+    fn press(&mut self, line: Line) -> Result<(), u8> {
+        if line.c != 0 {
+            return Err(2);
+        }
+        let variable = below(line.a, self.state.variables)?;
+        let left = below(line.b, self.state.scopes())?;
+        if left == 0 || !(1..=MOVE_LIMIT).contains(&line.amount) {
+            return Err(5);
+        }
+        let amount = line.amount as i32;
+        self.held = Some(Held { variable, amount, left, last: None, raised: Scopes::default() });
+        Ok(())
+    }
+
+    #[inline]
+    fn raise(&mut self, line: Line, mut held: Held) -> Result<(), u8> {
+        if (line.b | line.c | line.amount) != 0 {
+            return Err(2);
+        }
+        let scope = below(line.a, self.state.scopes())?;
+        if held.last.is_some_and(|last| scope <= last) || scope == held.variable {
+            return Err(9);
+        }
+        held.raised.insert(self.state.variables, scope);
+        held.last = Some(scope);
+        held.left -= 1;
+        if held.left > 0 {
+            self.held = Some(held);
+            return Ok(());
+        }
+        self.finish_press(&held)
+    }
+
+    fn finish_press(&mut self, held: &Held) -> Result<(), u8> {
+        if !all_active_refuted(&self.state, &held.raised, held.variable) {
+            return Err(10);
+        }
+        self.state.press(held.variable, &held.raised, held.amount)?;
+        self.held = None;
+        self.open_moves = true;
+        Ok(())
+    }
+
+    fn bound(&mut self, line: Line) -> Result<(), u8> {
+        if (line.a | line.b | line.c) != 0 {
+            return Err(2);
+        }
+        if self.rounds >= ROUND_LIMIT {
+            return Err(5);
+        }
+        if line.amount != self.state.upper_bound {
+            return Err(12);
+        }
+        if line.amount >= self.round_start {
+            return Err(13);
+        }
+        self.rounds += 1;
+        self.round_start = line.amount;
+        self.open_moves = false;
+        Ok(())
+    }
+}
+
+#[inline]
+fn below(number: i64, end: usize) -> Result<usize, u8> {
+    match usize::try_from(number) {
+        Ok(number) if number < end => Ok(number),
+        _ => Err(5),
+    }
+}
+
+/// Replays a log as a file; the line of a refusal is counted from `first`.
+pub fn replay_file(case: &Case, log: &[u8], first: usize) -> Result<Replay, Refusal> {
+    let mut replay = Replay::new(case);
+    let mut line = first;
+    let chunks = log.chunks_exact(LINE_BYTES);
+    let tail = chunks.remainder();
+    for bytes in chunks {
+        if let Some(number) = replay.step(bytes) {
+            return Err(Refusal { number, line });
+        }
+        line += 1;
+    }
+    if !tail.is_empty() || replay.end().is_some() {
+        return Err(Refusal { number: 14, line });
+    }
+    Ok(replay)
+}

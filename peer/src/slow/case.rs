@@ -1,0 +1,137 @@
+//! Case files by the list of lines that are due.
+
+use super::line;
+use crate::types::{Case, Line, Refusal};
+
+#[derive(Clone, Copy)]
+enum Due {
+    Unary(usize, usize),
+    Edge(usize),
+    Pair(usize, usize, usize),
+}
+
+fn due_lines(variables: usize, values: usize, edges: usize) -> Vec<Due> {
+    let mut due = Vec::new();
+    for i in 0..variables {
+        for k in 0..values {
+            due.push(Due::Unary(i, k));
+        }
+    }
+    for e in 0..edges {
+        due.push(Due::Edge(e));
+        for k in 0..values {
+            for l in 0..values {
+                due.push(Due::Pair(e, k, l));
+            }
+        }
+    }
+    due
+}
+
+/// The file's line with that number, in columns.
+fn line_at(file: &[u8], number: usize) -> Result<Line, u8> {
+    match line::cut(file).get(number) {
+        None => Err(14),
+        Some(piece) if piece.len() < 27 => Err(14),
+        Some(piece) => line::parse(piece).ok_or(1),
+    }
+}
+
+fn head(line: Line) -> Result<(usize, usize, usize), u8> {
+    if line.kind != 10 || line.amount != 0 {
+        return Err(2);
+    }
+    let good = (1..=48).contains(&line.a) && (1..=8).contains(&line.b) && (0..=96).contains(&line.c);
+    if !good {
+        return Err(3);
+    }
+    Ok((line.a as usize, line.b as usize, line.c as usize))
+}
+
+fn take(case: &mut Case, due: Due, line: Line) -> Result<(), u8> {
+    let (kind, unused) = match due {
+        Due::Unary(..) => (11, line.c),
+        Due::Edge(..) => (12, line.amount),
+        Due::Pair(..) => (13, 0),
+    };
+    if line.kind != kind || unused != 0 {
+        return Err(2);
+    }
+    let named = match due {
+        Due::Unary(i, k) => line.a == i as i64 && line.b == k as i64,
+        Due::Edge(e) => {
+            let links = 0..case.variables as i64;
+            line.a == e as i64 && links.contains(&line.b) && links.contains(&line.c)
+        }
+        Due::Pair(e, k, l) => line.a == e as i64 && line.b == k as i64 && line.c == l as i64,
+    };
+    if !named {
+        return Err(5);
+    }
+    if let Due::Edge(_) = due {
+        return take_edge(case, line.b as usize, line.c as usize);
+    }
+    if line.amount < -1_000_000 || line.amount > 1_000_000 {
+        return Err(8);
+    }
+    case.weights.push(line.amount as i32);
+    Ok(())
+}
+
+fn take_edge(case: &mut Case, lower: usize, higher: usize) -> Result<(), u8> {
+    if lower >= higher {
+        return Err(6);
+    }
+    if case.edges.contains(&(lower, higher)) {
+        return Err(7);
+    }
+    case.edges.push((lower, higher));
+    Ok(())
+}
+
+pub fn read_front(file: &[u8]) -> Result<(Case, usize), Refusal> {
+    let refusal = |line: usize| move |number: u8| Refusal { number, line };
+    let first = line_at(file, 0).map_err(refusal(0))?;
+    let (variables, values, edges) = head(first).map_err(refusal(0))?;
+    let mut case = Case { variables, values, edges: vec![], weights: vec![] };
+    let due = due_lines(variables, values, edges);
+    for (before, &due) in due.iter().enumerate() {
+        let number = before + 1;
+        let line = line_at(file, number).map_err(refusal(number))?;
+        take(&mut case, due, line).map_err(refusal(number))?;
+    }
+    Ok((case, due.len() + 1))
+}
+
+pub fn read_alone(file: &[u8]) -> Result<(Case, usize), Refusal> {
+    let (case, used) = read_front(file)?;
+    if file.len() == used * 27 {
+        return Ok((case, used));
+    }
+    let number = line_at(file, used).err().unwrap_or(2);
+    Err(Refusal { number, line: used })
+}
+
+pub fn write(case: &Case) -> Vec<u8> {
+    let number = |number: usize| number as i64;
+    let mut weights = case.weights.iter();
+    let mut next = || i64::from(*weights.next().unwrap());
+    let (a, b, c) = (number(case.variables), number(case.values), number(case.edges.len()));
+    let mut file = line::write(Line { kind: 10, a, b, c, amount: 0 });
+    for due in due_lines(case.variables, case.values, case.edges.len()) {
+        let line = match due {
+            Due::Unary(i, k) => {
+                Line { kind: 11, a: number(i), b: number(k), c: 0, amount: next() }
+            }
+            Due::Edge(e) => {
+                let (lower, higher) = case.edges[e];
+                Line { kind: 12, a: number(e), b: number(lower), c: number(higher), amount: 0 }
+            }
+            Due::Pair(e, k, l) => {
+                Line { kind: 13, a: number(e), b: number(k), c: number(l), amount: next() }
+            }
+        };
+        file.extend(line::write(line));
+    }
+    file
+}

@@ -1,0 +1,14 @@
+//! A second, naive reading of document 01: every family tried, every assignment
+//! listed, maxima by scanning, trimming one scope after another. It shares only
+//! the data types with the fast reading.
+
+pub mod case;
+pub mod engine;
+pub mod figures;
+pub mod line;
+pub mod moves;
+pub mod programs;
+pub mod refute;
+pub mod replay;
+pub mod score;
+pub mod view;

@@ -1,0 +1,55 @@
+//! Shift and press by the definition: the whole next table, then the range rule.
+
+use super::figures::*;
+use crate::types::Case;
+
+/// The table after a shift, or number 11.
+pub fn shift(
+    case: &Case,
+    weights: &[i64],
+    edge: usize,
+    end: usize,
+    value: usize,
+    amount: i64,
+) -> Result<Vec<i64>, u8> {
+    let mut next = weights.to_vec();
+    let scope = case.variables + edge;
+    let variable = members(case, scope)[end];
+    next[place(case, variable, &[value])] += amount;
+    for tuple in tuples(case, scope) {
+        if tuple[end] == value {
+            next[place(case, scope, &tuple)] -= amount;
+        }
+    }
+    in_range(next)
+}
+
+/// The table after a press, or number 11.
+pub fn press(
+    case: &Case,
+    weights: &[i64],
+    variable: usize,
+    raised: &[usize],
+    amount: i64,
+) -> Result<Vec<i64>, u8> {
+    let mut next = weights.to_vec();
+    for value in active_values(case, weights, variable) {
+        next[place(case, variable, &[value])] -= amount;
+    }
+    for &scope in raised {
+        for tuple in tuples(case, scope) {
+            if !is_active(case, weights, scope, &tuple) {
+                next[place(case, scope, &tuple)] += amount;
+            }
+        }
+    }
+    in_range(next)
+}
+
+fn in_range(weights: Vec<i64>) -> Result<Vec<i64>, u8> {
+    if weights.iter().all(|weight| (-500_000_000..=500_000_000).contains(weight)) {
+        Ok(weights)
+    } else {
+        Err(11)
+    }
+}

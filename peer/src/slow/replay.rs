@@ -1,0 +1,162 @@
+//! Document 01's plain replay, word for word.
+
+use super::figures::*;
+use super::line;
+use super::moves;
+use super::refute::active_refuted;
+use crate::types::{Case, Line};
+
+struct HeldPress {
+    variable: usize,
+    amount: i64,
+    raised: Vec<usize>,
+    left: i64,
+}
+
+pub struct PlainReplay<'a> {
+    case: &'a Case,
+    pub weights: Vec<i64>,
+    pub rounds: u64,
+    pub number: Option<u8>,
+    round_start: i64,
+    press: Option<HeldPress>,
+    moves_without_bound: bool,
+}
+
+impl<'a> PlainReplay<'a> {
+    pub fn new(case: &'a Case) -> PlainReplay<'a> {
+        let weights = starting_weights(case);
+        let round_start = upper_bound(case, &weights);
+        PlainReplay {
+            case,
+            weights,
+            rounds: 0,
+            number: None,
+            round_start,
+            press: None,
+            moves_without_bound: false,
+        }
+    }
+
+    pub fn feed(&mut self, bytes: &[u8]) -> Option<u8> {
+        if self.number.is_none() {
+            self.number = self.ask(bytes).err();
+        }
+        self.number
+    }
+
+    pub fn end(&self) -> Option<u8> {
+        match self.number {
+            Some(number) => Some(number),
+            None if self.press.is_some() || self.moves_without_bound => Some(14),
+            None => None,
+        }
+    }
+
+    fn ask(&mut self, bytes: &[u8]) -> Result<(), u8> {
+        let Some(line) = line::parse(bytes) else {
+            return Err(1);
+        };
+        let due: &[i64] = if self.press.is_some() { &[3] } else { &[1, 2, 4] };
+        if !due.contains(&line.kind) || unused(&line).iter().any(|&column| column != 0) {
+            return Err(2);
+        }
+        if !self.ranges_good(&line) {
+            return Err(5);
+        }
+        match line.kind {
+            1 => self.make_shift(&line),
+            2 => self.hold_press(&line),
+            3 => self.raise(&line),
+            _ => self.bound(&line),
+        }
+    }
+
+    fn ranges_good(&self, line: &Line) -> bool {
+        let within = |number: i64, count: usize| number >= 0 && number < count as i64;
+        let scopes = scope_count(self.case);
+        let amount = line.amount;
+        match line.kind {
+            1 => {
+                within(line.a, self.case.edges.len())
+                    && within(line.b, 2)
+                    && within(line.c, self.case.values)
+                    && amount != 0
+                    && (-1_000_000_000..=1_000_000_000).contains(&amount)
+            }
+            2 => {
+                within(line.a, self.case.variables)
+                    && line.b >= 1
+                    && line.b <= scopes as i64 - 1
+                    && (1..=1_000_000_000).contains(&amount)
+            }
+            3 => within(line.a, scopes),
+            _ => self.rounds < 999_999_999_999_999_999,
+        }
+    }
+
+    fn make_shift(&mut self, line: &Line) -> Result<(), u8> {
+        let (edge, end, value) = (line.a as usize, line.b as usize, line.c as usize);
+        self.weights = moves::shift(self.case, &self.weights, edge, end, value, line.amount)?;
+        self.moves_without_bound = true;
+        Ok(())
+    }
+
+    fn hold_press(&mut self, line: &Line) -> Result<(), u8> {
+        self.press = Some(HeldPress {
+            variable: line.a as usize,
+            amount: line.amount,
+            raised: vec![],
+            left: line.b,
+        });
+        Ok(())
+    }
+
+    fn raise(&mut self, line: &Line) -> Result<(), u8> {
+        let press = self.press.as_ref().unwrap();
+        let scope = line.a as usize;
+        let above = press.raised.iter().all(|&earlier| earlier < scope);
+        if !above || scope == press.variable {
+            return Err(9);
+        }
+        let mut raised = press.raised.clone();
+        raised.push(scope);
+        if press.left == 1 {
+            if !active_refuted(self.case, &self.weights, &raised, press.variable) {
+                return Err(10);
+            }
+            let (variable, amount) = (press.variable, press.amount);
+            self.weights = moves::press(self.case, &self.weights, variable, &raised, amount)?;
+            self.press = None;
+            self.moves_without_bound = true;
+            return Ok(());
+        }
+        let press = self.press.as_mut().unwrap();
+        press.raised = raised;
+        press.left -= 1;
+        Ok(())
+    }
+
+    fn bound(&mut self, line: &Line) -> Result<(), u8> {
+        let ceiling = upper_bound(self.case, &self.weights);
+        if line.amount != ceiling {
+            return Err(12);
+        }
+        if ceiling >= self.round_start {
+            return Err(13);
+        }
+        self.rounds += 1;
+        self.round_start = line.amount;
+        self.moves_without_bound = false;
+        Ok(())
+    }
+}
+
+fn unused(line: &Line) -> Vec<i64> {
+    match line.kind {
+        2 => vec![line.c],
+        3 => vec![line.b, line.c, line.amount],
+        4 => vec![line.a, line.b, line.c],
+        _ => vec![],
+    }
+}

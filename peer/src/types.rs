@@ -1,0 +1,63 @@
+//! Data types and limits of document 01, shared by the fast and the slow reading.
+//! Nothing here computes anything.
+
+pub const LINE_BYTES: usize = 27;
+pub const MAX_VARIABLES: usize = 48;
+pub const MAX_VALUES: usize = 8;
+pub const MAX_EDGES: usize = 96;
+pub const MAX_SCOPES: usize = MAX_VARIABLES + MAX_EDGES;
+pub const START_LIMIT: i64 = 1_000_000;
+pub const WORK_LIMIT: i64 = 500_000_000;
+pub const MOVE_LIMIT: i64 = 1_000_000_000;
+pub const ROUND_LIMIT: u64 = 999_999_999_999_999_999;
+pub const PROGRAM_ROUNDS: u64 = 100_000;
+
+/// One case: `edges[e]` joins a lower and a higher variable; `weights` is the
+/// table of starting weights in document 01's order.
+#[derive(Clone, PartialEq, Eq, Debug)]
+pub struct Case {
+    pub variables: usize,
+    pub values: usize,
+    pub edges: Vec<(usize, usize)>,
+    pub weights: Vec<i32>,
+}
+
+/// The five numbers of a line.
+#[derive(Clone, Copy, PartialEq, Eq, Debug)]
+pub struct Line {
+    pub kind: i64,
+    pub a: i64,
+    pub b: i64,
+    pub c: i64,
+    pub amount: i64,
+}
+
+/// A refusal in a file: the number and the line counted from 0.
+#[derive(Clone, Copy, PartialEq, Eq, Debug)]
+pub struct Refusal {
+    pub number: u8,
+    pub line: usize,
+}
+
+#[derive(Clone, Copy, PartialEq, Eq, Debug)]
+pub enum Stop {
+    Settled,
+    Limit,
+    Refused(u8),
+}
+
+/// What a run hands back.
+#[derive(Clone, PartialEq, Eq, Debug)]
+pub struct Run {
+    pub stop: Stop,
+    pub rounds: u64,
+    pub upper_bound: i64,
+    pub log: Vec<u8>,
+    pub weights: Vec<i32>,
+}
+
+#[derive(Clone, Copy, PartialEq, Eq, Debug)]
+pub enum Better {
+    First,
+    Second,
+}
