@@ -2,3 +2,5 @@
 pub mod Words
 pub mod Tests
 pub mod Linear
+pub mod Lists
+pub mod Tables

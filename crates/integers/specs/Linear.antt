@@ -10,13 +10,13 @@ use mathlib.Core.Logic.{_≢_, _↔_}
 use Prim.Native.Nat.{ℕ, zero, suc, _+_, _-_, _≤_, _<_, _^_, max}
 use native.Mathlib.Omega.{arith}
 use lib.IntN.{ℤ, pos, negsuc, negℤ, _+ℤ_, _-ℤ_, subℕ}
-use lib.Dec.{T, T-not, not-T, ltb, leb, ltb→lt, lt→ltb, leb→le, le→leb, nltb→le}
+use lib.Dec.{T, T-not, not-T, ltb, ltb→lt, lt→ltb, leb→le, le→leb, nltb→le}
 use lib.Signed.{ltZ, leZ, _≤ℤ_, _<ℤ_}
 use mir.Syntax.{Width, w64}
 use mir.Val.{SFits, hbits, toZ, ofZ}
 use mir.Facts.{toZ-ofZ}
 use Rattle.integers.specs.Words.{eqZ, withinZ, minus}
-use Rattle.integers.specs.Tests.{tests, true-is, false-is, eqb-iff}
+use Rattle.integers.specs.Tests.{tests, eqb-iff}
 
 abbrev pub up : ℤ → ℕ
 up (pos n) = n

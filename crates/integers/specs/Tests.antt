@@ -2,10 +2,10 @@
 use mathlib.Core.Path.{_≡_, refl, sym, subst}
 use mathlib.Core.Bool.{Bool, true, false, not, _&&_, _||_}
 use mathlib.Core.Logic.{_≢_, _↔_, _⊎_, inl, inr}
-use Prim.Native.Nat.{ℕ, suc, _≤_, _<_}
-use lib.Dec.{T, leb, ltb, eqb, leb→le, le→leb, nleb→lt, eqb→eq, eqb-refl, T-not, not-T}
+use Prim.Native.Nat.{ℕ, _≤_, _<_}
+use lib.Dec.{T, leb, eqb, leb→le, le→leb, nleb→lt, eqb→eq, eqb-refl, T-not, not-T}
 use native.Mathlib.Omega.{arith}
-use Rattle.integers.specs.Words.{if_then_else_, _⇒_, within}
+use Rattle.integers.specs.Words.{if_then_else_, _⇒_}
 
 -- ---- true and false
 pub is-true : (b : Bool) → T b → b ≡ true
