@@ -1,6 +1,7 @@
 -- Document 01 as definitions, in its order; Samples has P1 to P12.
 pub mod Rules
 pub mod Refusals
+pub mod Answers
 pub mod Case
 pub mod Valid
 pub mod Consistency
@@ -13,3 +14,7 @@ pub mod Views
 pub mod Scoring
 pub mod Programs
 pub mod Samples
+pub mod Calls
+pub mod Checker
+pub mod EngineCalls
+pub mod CallSamples

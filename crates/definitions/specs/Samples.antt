@@ -39,7 +39,7 @@ triangle = record {
 }
 
 -- two links and their pair, D 2
-abbrev couple : List ℤ → Input
+abbrev pub couple : List ℤ → Input
 couple w = record { case = record { n = 2; d = 2; m = 1; lower = 0 ∷ []; upper = 1 ∷ [] }; weights = w }
 
 -- link weights 2, 0 and 2, 0, pair weights 0 but −3 at (0,0)
@@ -75,7 +75,7 @@ pub data Result : Type 0 where
   yes-no : Bool → Result
   prints : List ℕ → Result
 
-abbrev texts : List String → List (List ℕ)
+abbrev pub texts : List String → List (List ℕ)
 texts ts = map bytesOf ts
 
 abbrev runOn : Input → ℕ → RunOf
@@ -136,7 +136,7 @@ caseFile =
     ∷ "13   2   1   1          -1\n"
     ∷ []
 
-abbrev log1 : List String
+abbrev pub log1 : List String
 log1 =
     " 2   0   3   0           1\n"
     ∷ " 3   3   0   0           0\n"
@@ -145,7 +145,7 @@ log1 =
     ∷ " 4   0   0   0          -1\n"
     ∷ []
 
-abbrev log3 : List String
+abbrev pub log3 : List String
 log3 =
     " 2   0   2   0           1\n"
     ∷ " 3   3   0   0           0\n"
@@ -153,7 +153,7 @@ log3 =
     ∷ []
 
 -- the press of P5 to P8: its first line, two raise lines, a bound line
-abbrev raising1and2 : String → String → List String
+abbrev pub raising1and2 : String → String → List String
 raising1and2 begin stated =
     begin
     ∷ " 3   1   0   0           0\n"
@@ -161,19 +161,19 @@ raising1and2 begin stated =
     ∷ stated
     ∷ []
 
-abbrev log5 : List String
+abbrev pub log5 : List String
 log5 = raising1and2 " 2   0   2   0           2\n" " 4   0   0   0           2\n"
 
-abbrev log6 : List String
+abbrev pub log6 : List String
 log6 = raising1and2 " 2   0   2   0           1\n" " 4   0   0   0           3\n"
 
-abbrev log7 : List String
+abbrev pub log7 : List String
 log7 = raising1and2 " 2   0   2   0           3\n" " 4   0   0   0           3\n"
 
-abbrev log8 : List String
+abbrev pub log8 : List String
 log8 = raising1and2 " 2   0   2   0           4\n" " 4   0   0   0           5\n"
 
-abbrev log9 : List String
+abbrev pub log9 : List String
 log9 =
     " 1   0   0   0          -2\n"
     ∷ " 4   0   0   0           4\n"
@@ -184,7 +184,7 @@ log9 =
 abbrev none4 : List ℕ
 none4 = 0 ∷ 0 ∷ 0 ∷ 0 ∷ []
 
-abbrev zeros : ℕ → List ℤ
+abbrev pub zeros : ℕ → List ℤ
 zeros n = replicate n (pos 0)
 
 abbrev pub samples : List Sample
@@ -242,14 +242,14 @@ abbrev clashAbove : Input
 clashAbove = couple (pos 0 ∷ pos 2 ∷ pos 0 ∷ pos 2 ∷ pos 0 ∷ pos 0 ∷ pos 0 ∷ minus 3 ∷ [])
 
 -- two rounds; a second round whose bound is no lower than the first's
-abbrev twoRounds : List String
+abbrev pub twoRounds : List String
 twoRounds = log6 ++ raising1and2 " 2   0   2   0           1\n" " 4   0   0   0           2\n"
 
-abbrev staleStart : List String
+abbrev pub staleStart : List String
 staleStart = log6 ++ (" 1   0   0   0          -1\n" ∷ " 4   0   0   0           3\n" ∷ [])
 
 -- a round whose first move raises the upper bound, to 5
-abbrev upFirst : List String
+abbrev pub upFirst : List String
 upFirst = " 1   0   0   0           1\n" ∷ " 1   0   0   0          -1\n" ∷ log6
 
 abbrev pub ourSamples : List Sample

@@ -35,6 +35,13 @@ endOutside c e = not (ltb (lowerEnd c e) (c .n) && ltb (upperEnd c e) (c .n))
 abbrev pub sameEnds : Case → ℕ → ℕ → Bool
 sameEnds c e f = eqb (lowerEnd c e) (lowerEnd c f) && eqb (upperEnd c e) (upperEnd c f)
 
+-- a lent assignment has not the case's length; it holds a value outside its range
+abbrev pub wrongAssignment : Case → List ℕ → Bool
+wrongAssignment c p = not (eqb (length p) (c .n))
+
+abbrev pub valueOut : Case → List ℕ → Bool
+valueOut c p = any (λ k. not (ltb k (c .d))) p
+
 -- The numbers asked of a case and a table, in checking order. A call that is lent more asks 4 and 5 of that too: `wrong` says that
 -- something else lent has a wrong length, `out` that an argument is outside its range.
 abbrev pub limitTest : Rules → Case → Test

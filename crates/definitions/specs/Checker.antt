@@ -1,0 +1,308 @@
+-- The replay's calls on all input: a fresh record, a step on one line of any bytes, the end, and a block of lines. They go by the record that
+-- is handed over, whatever it holds, and take nothing from the plain replay. Assumes nothing.
+use mathlib.Core.Bool.{Bool, true, false, not, _&&_, _||_}
+use mathlib.Core.Option.{Option, none, some}
+use mathlib.Core.List.{List, [], _∷_, _++_}
+use Prim.Native.Nat.{ℕ, _+_, _-_}
+use lib.IntN.{ℤ, pos, natAbs}
+use lib.Dec.{leb, ltb, eqb}
+use lib.Signed.{ltZ}
+use lib.ListN.{getD, drop, set, replicate}
+use Rattle.integers.specs.Words.{if_then_else_, all, within, withinZ, eqZ, isSome}
+use Rattle.definitions.specs.declared.Case.{Case}
+use Rattle.definitions.specs.declared.Line.{Line}
+use Rattle.definitions.specs.declared.Refusal.{Refusal}
+use Rattle.definitions.specs.declared.Refusal.the-variants.{
+  NotInColumns,
+  NotDue,
+  RaiseNotAscending,
+  NotRefuted,
+  LeavesRange,
+  OtherBound,
+  BoundNotLower,
+  CutShort,
+}
+use Rattle.definitions.specs.declared.Outcome.{Outcome}
+use Rattle.definitions.specs.declared.LastRaised.{LastRaised}
+use Rattle.definitions.specs.declared.Due.{Due}
+use Rattle.definitions.specs.declared.Standing.{Standing}
+use Rattle.definitions.specs.declared.Replay.{Replay}
+use Rattle.definitions.specs.declared.Stepped.{Stepped}
+use Rattle.definitions.specs.declared.Block.{Block}
+use Rattle.definitions.specs.Rules.{Rules, scopesAtMost}
+use Rattle.definitions.specs.Refusals.{Test, _when_, firstOf}
+use Rattle.definitions.specs.Answers.{outcomeOf, standingOf}
+use Rattle.definitions.specs.Case.{scopeCount, upperBound}
+use Rattle.definitions.specs.Valid.{startingWeight, workingWeight, limitTest, edgeTests, handedOver}
+use Rattle.definitions.specs.Consistency.{allRefuted}
+use Rattle.definitions.specs.Moves.{plus, shiftBy, pressBy, activeValues, leavesRange}
+use Rattle.definitions.specs.Lines.{readLine, notDue, isKind, linesIn}
+use Rattle.definitions.specs.CaseFiles.{outside}
+use Rattle.definitions.specs.Replay.{shiftAmount, pressAmount}
+
+-- what stands between lines: the case, the lent table, the record
+pub record Between : Type 0 where
+  pub case : Case
+  pub table : List ℤ
+  pub replay : Replay
+
+-- a step and a block, with the lent table after them
+pub record StepCall : Type 0 where
+  pub stepped : Stepped
+  pub table : List ℤ
+
+pub record BlockCall : Type 0 where
+  pub block : Block
+  pub table : List ℤ
+
+-- what a kind of line asks, number 5 and then the numbers after 8, and what it leaves where none applies
+pub record Asked : Type 0 where
+  pub out : Bool
+  pub later : List Test
+  pub table : List ℤ
+  pub next : Replay
+
+module _ (r : Rules) where
+  -- ---- the record
+
+  abbrev pub noneRaised : List ℕ
+  noneRaised = replicate (scopesAtMost r) 0
+
+  -- a byte that is not 0 marks a raised scope
+  abbrev pub isRaised : List ℕ → ℕ → Bool
+  isRaised raised x = not (eqb (getD raised x 0) 0)
+
+  abbrev pub lastOut : Case → LastRaised → Bool
+  lastOut c LastRaised.Nothing = false
+  lastOut c (LastRaised.Scope x) = not (ltb x (scopeCount c))
+
+  -- number 5 of what is due: inside a press its variable, amount, lines left, last scope, and every scope raised
+  abbrev pub dueOut : Case → List ℕ → Due → Bool
+  dueOut c raised Due.MoveOrBound = false
+  dueOut c raised (Due.Raise i a left lastOne) =
+      not (ltb i (c .n)) || not (pressAmount r a) || not (within 1 (scopeCount c - 1) left) || lastOut c lastOne
+      || not (all (λ b. eqb b 0) (drop (scopeCount c) raised))
+
+  abbrev pub recordOut : Case → Replay → Bool
+  recordOut c p = ltb (r .rounds) (p .rounds) || dueOut c (p .raised) (p .due)
+
+  -- ---- fresh: refused, the record stands refused and is zero else
+
+  abbrev pub freshOf : Option Refusal → ℤ → Replay
+  freshOf none bound = record {
+    rounds = 0;
+    start = bound;
+    moved = false;
+    raised = noneRaised;
+    due = Due.MoveOrBound;
+    standing = Standing.Good;
+  }
+  freshOf (some x) bound = record {
+    rounds = 0;
+    start = pos 0;
+    moved = false;
+    raised = noneRaised;
+    due = Due.MoveOrBound;
+    standing = Standing.Refused x;
+  }
+
+  unfoldable pub freshReplay : Case → List ℤ → Replay
+  freshReplay c w = freshOf (firstOf (handedOver r (startingWeight r) c w false false)) (upperBound c w)
+
+  -- ---- the next record
+
+  abbrev pub refusedReplay : Replay → Refusal → Replay
+  refusedReplay p x = record {
+    rounds = p .rounds;
+    start = p .start;
+    moved = p .moved;
+    raised = p .raised;
+    due = p .due;
+    standing = Standing.Refused x;
+  }
+
+  abbrev pub afterShift : Replay → Replay
+  afterShift p = record {
+    rounds = p .rounds;
+    start = p .start;
+    moved = true;
+    raised = p .raised;
+    due = Due.MoveOrBound;
+    standing = Standing.Good;
+  }
+
+  abbrev pub inPress : Replay → List ℕ → Due → Replay
+  inPress p raised due = record {
+    rounds = p .rounds;
+    start = p .start;
+    moved = p .moved;
+    raised = raised;
+    due = due;
+    standing = Standing.Good;
+  }
+
+  abbrev pub afterPress : Replay → Replay
+  afterPress p = record {
+    rounds = p .rounds;
+    start = p .start;
+    moved = true;
+    raised = noneRaised;
+    due = Due.MoveOrBound;
+    standing = Standing.Good;
+  }
+
+  abbrev pub afterBound : Replay → ℤ → Replay
+  afterBound p bound = record {
+    rounds = p .rounds + 1;
+    start = bound;
+    moved = false;
+    raised = p .raised;
+    due = Due.MoveOrBound;
+    standing = Standing.Good;
+  }
+
+  -- ---- each kind of line
+
+  abbrev pub ofShift : Case → List ℤ → Replay → Line → Asked
+  ofShift c w p t =
+      let v = plus c (shiftBy c (natAbs (t .a)) (natAbs (t .b)) (natAbs (t .c)) (t .amount)) w in
+      record {
+        out = outside (c .m) (t .a) || outside 2 (t .b) || outside (c .d) (t .c) || not (shiftAmount r (t .amount));
+        later = LeavesRange when (leavesRange r c v) ∷ [];
+        table = v;
+        next = afterShift p;
+      }
+
+  abbrev pub ofPress : Case → List ℤ → Replay → Line → Asked
+  ofPress c w p t = record {
+    out = outside (c .n) (t .a) || not (withinZ (pos 1) (pos (scopeCount c - 1)) (t .b)) || not (pressAmount r (t .amount));
+    later = [];
+    table = w;
+    next = inPress p noneRaised (Due.Raise (natAbs (t .a)) (t .amount) (natAbs (t .b)) LastRaised.Nothing);
+  }
+
+  abbrev pub ofBound : Case → List ℤ → Replay → Line → Asked
+  ofBound c w p t = record {
+    out = not (ltb (p .rounds) (r .rounds));
+    later =
+        OtherBound when (not (eqZ (t .amount) (upperBound c w)))
+        ∷ BoundNotLower when (not (ltZ (upperBound c w) (p .start)))
+        ∷ [];
+    table = w;
+    next = afterBound p (t .amount);
+  }
+
+  abbrev pub notAboveLast : LastRaised → ℕ → Bool
+  notAboveLast LastRaised.Nothing x = false
+  notAboveLast (LastRaised.Scope y) x = leb x y
+
+  -- a raise line of a press of variable i by a, with `left` lines left
+  abbrev pub ofRaise : Case → List ℤ → Replay → ℕ → ℤ → ℕ → LastRaised → Line → Asked
+  ofRaise c w p i a left lastOne t =
+      let x = natAbs (t .a) in
+      let raised = set (p .raised) x 1 in
+      let isLast = eqb left 1 in
+      let v = plus c (pressBy c w i (activeValues c w i) (isRaised raised) a) w in
+      record {
+        out = outside (scopeCount c) (t .a);
+        later =
+            RaiseNotAscending when (notAboveLast lastOne x || eqb x i)
+            ∷ NotRefuted when (isLast && not (allRefuted c w (isRaised raised) i (activeValues c w i)))
+            ∷ LeavesRange when (isLast && leavesRange r c v)
+            ∷ [];
+        table = if isLast then v else w;
+        next = if isLast then afterPress p else inPress p raised (Due.Raise i a (left - 1) (LastRaised.Scope x));
+      }
+
+  abbrev pub dueKinds : Due → List ℕ
+  dueKinds Due.MoveOrBound = 1 ∷ 2 ∷ 4 ∷ []
+  dueKinds (Due.Raise i a left lastOne) = 3 ∷ []
+
+  abbrev pub ofKind : Case → List ℤ → Replay → Due → Line → Asked
+  ofKind c w p (Due.Raise i a left lastOne) t = ofRaise c w p i a left lastOne t
+  ofKind c w p Due.MoveOrBound t =
+      if isKind 1 t then ofShift c w p t
+      else if isKind 2 t then ofPress c w p t
+      else ofBound c w p t
+
+  -- ---- step: the answer is the next record's standing; a refused step changes the standing alone
+
+  abbrev pub stepRefused : Replay → List ℤ → Refusal → StepCall
+  stepRefused p w x = record { stepped = record { replay = refusedReplay p x; answer = Outcome.Refused x }; table = w }
+
+  abbrev pub stepTests : Case → List ℤ → Replay → Line → Asked → List Test
+  stepTests c w p t asked =
+      NotDue when (notDue r (dueKinds (p .due)) t)
+      ∷ handedOver r (workingWeight r) c w false (recordOut c p || asked .out)
+      ++ asked .later
+
+  abbrev pub stepBy : List ℤ → Replay → Asked → Option Refusal → StepCall
+  stepBy w p asked none = record { stepped = record { replay = asked .next; answer = Outcome.Done }; table = asked .table }
+  stepBy w p asked (some x) = stepRefused p w x
+
+  abbrev pub stepLine : Case → List ℤ → Replay → Option Line → StepCall
+  stepLine c w p none = stepRefused p w NotInColumns
+  stepLine c w p (some t) =
+      let asked = ofKind c w p (p .due) t in
+      stepBy w p asked (firstOf (stepTests c w p t asked))
+
+  abbrev pub stepStanding : Case → List ℤ → Replay → List ℕ → Standing → StepCall
+  stepStanding c w p bytes (Standing.Refused x) = stepRefused p w x
+  stepStanding c w p bytes Standing.Good = stepLine c w p (readLine (r .amountWidth) bytes)
+
+  unfoldable pub stepReplay : Case → List ℤ → Replay → List ℕ → StepCall
+  stepReplay c w p bytes = stepStanding c w p bytes (p .standing)
+
+  -- ---- end: the number that stands, else 3, 5, 6, 7, else 14 if a press is held or a move has no bound line after it
+
+  abbrev pub isHeld : Due → Bool
+  isHeld Due.MoveOrBound = false
+  isHeld (Due.Raise i a left lastOne) = true
+
+  abbrev pub endTests : Case → Replay → List Test
+  endTests c p = limitTest r c ∷ edgeTests c (recordOut c p) ++ (CutShort when (isHeld (p .due) || p .moved) ∷ [])
+
+  abbrev pub endStanding : Case → Replay → Standing → Outcome
+  endStanding c p (Standing.Refused x) = Outcome.Refused x
+  endStanding c p Standing.Good = outcomeOf (firstOf (endTests c p))
+
+  unfoldable pub endReplay : Case → Replay → Outcome
+  endReplay c p = endStanding c p (p .standing)
+
+  -- ---- many lines: the fold of step over what stands between lines
+
+  abbrev pub stepBetween : Between → List ℕ → Between
+  stepBetween b bytes =
+      let call = stepReplay (b .case) (b .table) (b .replay) bytes in
+      record { case = b .case; table = call .table; replay = call .stepped .replay }
+
+  abbrev pub afterLines : Between → List (List ℕ) → Between
+  afterLines b [] = b
+  afterLines b (t ∷ ts) = afterLines (stepBetween b t) ts
+
+  -- each line's answer
+  abbrev pub lineAnswers : Between → List (List ℕ) → List Outcome
+  lineAnswers b [] = []
+  lineAnswers b (t ∷ ts) =
+      stepReplay (b .case) (b .table) (b .replay) t .stepped .answer ∷ lineAnswers (stepBetween b t) ts
+
+  -- a block of whole lines: how many got no number, and the first refusal; a part line at its end is not looked at
+  abbrev pub takenLines : List Outcome → ℕ
+  takenLines [] = 0
+  takenLines (Outcome.Done ∷ os) = 1 + takenLines os
+  takenLines (Outcome.Refused x ∷ os) = 0
+
+  abbrev pub firstRefused : List Outcome → Outcome
+  firstRefused [] = Outcome.Done
+  firstRefused (Outcome.Done ∷ os) = firstRefused os
+  firstRefused (Outcome.Refused x ∷ os) = Outcome.Refused x
+
+  unfoldable pub blockReplay : Case → List ℤ → Replay → List ℕ → BlockCall
+  blockReplay c w p bytes =
+      let b : Between = record { case = c; table = w; replay = p } in
+      let lines = linesIn (r .amountWidth) bytes in
+      let os = lineAnswers b lines in
+      record {
+        block = record { replay = afterLines b lines .replay; lines = takenLines os; answer = firstRefused os };
+        table = afterLines b lines .table;
+      }
