@@ -72,7 +72,7 @@ fn raise_log(case: &Case, rounds: usize) -> Vec<u8> {
         for scope in raised.list(state.variables) {
             line::write(&mut log, 3, scope as i64, 0, 0, 0);
         }
-        state.press_unchecked(variable, &raised, 1);
+        assert!(state.press(variable, &raised, 1).is_ok());
         line::write(&mut log, 4, 0, 0, 0, state.upper_bound);
     }
     log

@@ -196,7 +196,7 @@ impl Check {
             replay.step(bytes);
         }
         let file = [case::write(case), run.log.clone()].concat();
-        let found = (replay.end(), replay.rounds, replay.state.upper_bound, replay.state.weights);
+        let found = (replay.end(), replay.rounds, replay.state.upper_bound, replay.state.weights());
         let expected = (None, run.rounds, run.upper_bound, run.weights.clone());
         self.figures.others += 1;
         same("own log replayed", &found, &expected, &file)
@@ -216,7 +216,7 @@ impl Check {
         let mut log = Vec::new();
         let (stop, rounds) = engine::run(&mut state, 12, &mut log);
         let fast =
-            Run { stop, rounds, upper_bound: state.upper_bound, log, weights: state.weights };
+            Run { stop, rounds, upper_bound: state.upper_bound, log, weights: state.weights() };
         if let Stop::Refused(number) = slow.stop {
             self.counts.note("run", number, "table".into());
         }
@@ -248,7 +248,7 @@ impl Check {
             let what = format!("line {at} of the log");
             let before = fast.standing;
             same(&what, &fast.step(bytes), &answer, &input)?;
-            same(&what, &fast.state.weights, &narrow(&slow.weights), &input)?;
+            same(&what, &fast.state.weights(), &narrow(&slow.weights), &input)?;
             same(&what, &fast.rounds, &slow.rounds, &input)?;
             if let (None, Some(number)) = (before, answer) {
                 self.counts.note_line(number, bytes);

@@ -11,7 +11,7 @@
 //! variable it pressed last.
 
 use crate::line;
-use crate::refute::{add, full_domains, none_supported, Domains};
+use crate::refute::{close, full_domains, none_supported, Joint};
 use crate::state::{Scopes, State};
 use crate::types::*;
 
@@ -21,72 +21,52 @@ pub struct Press {
     pub amount: i32,
 }
 
-/// The domains for each active value of the pressed variable still standing.
-#[derive(Clone, Copy)]
-struct Standing {
-    values: u8,
-    domains: [Domains; MAX_VALUES],
+/// Scopes that close something, without the pressed variable's own, rising.
+fn candidates(state: &State, variable: usize) -> ([u8; MAX_SCOPES], usize) {
+    let mut list = [0; MAX_SCOPES];
+    let mut count = 0;
+    for scope in 0..state.scopes() {
+        list[count] = scope as u8;
+        count += usize::from(scope != variable && state.closes_something(scope));
+    }
+    (list, count)
 }
 
-impl Standing {
-    fn new(state: &State, variable: usize) -> Standing {
-        let mut standing =
-            Standing { values: state.active[variable], domains: [full_domains(state); MAX_VALUES] };
-        for value in 0..MAX_VALUES {
-            standing.domains[value][variable] = 1 << value;
-        }
-        standing
-    }
-
-    /// What stands after `added` is raised too.
-    fn with(&self, state: &State, added: &Scopes, raised: &Scopes) -> Standing {
-        let mut next = Standing { values: self.values, domains: self.domains };
-        let mut left = self.values;
-        while left != 0 {
-            let value = left.trailing_zeros() as usize;
-            left &= left - 1;
-            if !add(state, added, raised, &mut next.domains[value]) {
-                next.values &= !(1 << value);
-            }
-        }
-        next
-    }
+fn set_of(state: &State, scopes: &[u8]) -> Scopes {
+    let mut set = Scopes::default();
+    scopes.iter().for_each(|&scope| set.insert(state.variables, scope as usize));
+    set
 }
 
-/// Drops scopes of [from, to) upwards; `raised` are the kept ones below and all above.
-fn trim(
-    state: &State,
-    variable: usize,
-    (from, to): (usize, usize),
-    raised: &Scopes,
-    standing: &Standing,
-) -> Scopes {
-    if standing.values == 0 || from == to {
+/// Drops the scopes of a block upwards; `raised` are the kept ones below it and all
+/// above it, and `joint` is what these leave standing.
+fn trim(state: &State, block: &[u8], raised: &Scopes, joint: &Joint) -> Scopes {
+    if joint.standing == 0 {
         return Scopes::default();
     }
-    let variables = state.variables;
-    let mut block = Scopes::range(variables, from, to);
-    block.remove(variables, variable);
-    if to - from == 1 {
-        return block;
+    if block.len() <= 1 {
+        return set_of(state, block);
     }
-    let middle = from + (to - from) / 2;
-    let mut upper = Scopes::range(variables, middle, to);
-    upper.remove(variables, variable);
-    let with_upper = raised.union(&upper);
-    let next = standing.with(state, &upper, &with_upper);
-    let kept_below = trim(state, variable, (from, middle), &with_upper, &next);
-    let with_below = raised.union(&kept_below);
-    let next = standing.with(state, &kept_below, &with_below);
-    let kept_above = trim(state, variable, (middle, to), &with_below, &next);
+    let (below, above) = block.split_at(block.len() / 2);
+    let (with_above, next) = raise(state, &set_of(state, above), raised, joint);
+    let kept_below = trim(state, below, &with_above, &next);
+    let (with_below, next) = raise(state, &kept_below, raised, joint);
+    let kept_above = trim(state, above, &with_below, &next);
     kept_below.union(&kept_above)
+}
+
+fn raise(state: &State, added: &Scopes, raised: &Scopes, joint: &Joint) -> (Scopes, Joint) {
+    let all = raised.union(added);
+    let mut next = *joint;
+    next.add(state, added, &all);
+    (all, next)
 }
 
 /// The lowest variable from `from` on that can be pressed with all others raised.
 fn lowest(state: &State, from: usize) -> Option<usize> {
     let all = Scopes::range(state.variables, 0, state.scopes());
     let mut base = full_domains(state);
-    if !add(state, &all, &all, &mut base) {
+    if !close(state, &all, &mut base) {
         return Some(from);
     }
     (from..state.variables).find(|&variable| none_supported(state, &all, variable, &base))
@@ -95,11 +75,7 @@ fn lowest(state: &State, from: usize) -> Option<usize> {
 /// The least gap among the kept scopes and the variable's own scope.
 fn amount(state: &State, variable: usize, raised: &Scopes) -> i32 {
     let mut least = i32::MAX;
-    let mut limit = |scope: usize| {
-        if let Some(weight) = state.runner_up(scope) {
-            least = least.min(state.greatest[scope] - weight);
-        }
-    };
+    let mut limit = |scope: usize| least = least.min(state.gap(scope).unwrap_or(i32::MAX));
     limit(variable);
     raised.each_variable(&mut limit);
     raised.each_edge(|edge| limit(state.variables + edge));
@@ -110,9 +86,9 @@ fn amount(state: &State, variable: usize, raised: &Scopes) -> i32 {
 /// which none can be pressed.
 pub fn find_press(state: &State, from: usize) -> Option<Press> {
     let variable = lowest(state, from)?;
-    let none = Scopes::default();
-    let standing = Standing::new(state, variable);
-    let raised = trim(state, variable, (0, state.scopes()), &none, &standing);
+    let joint = Joint::new(&full_domains(state), variable, state.active[variable]);
+    let (list, count) = candidates(state, variable);
+    let raised = trim(state, &list[..count], &Scopes::default(), &joint);
     Some(Press { variable, raised, amount: amount(state, variable, &raised) })
 }
 
@@ -148,5 +124,5 @@ pub fn run_case(case: &Case, limit: u64) -> Run {
     let mut state = State::new(case);
     let mut log = Vec::new();
     let (stop, rounds) = run(&mut state, limit, &mut log);
-    Run { stop, rounds, upper_bound: state.upper_bound, log, weights: state.weights }
+    Run { stop, rounds, upper_bound: state.upper_bound, log, weights: state.weights() }
 }

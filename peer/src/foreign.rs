@@ -194,10 +194,8 @@ impl Writer<'_> {
         let state = &self.state;
         let mut scopes = raised.list(state.variables);
         scopes.push(variable);
-        let gap = |&scope: &usize| {
-            state.runner_up(scope).map(|weight| state.greatest[scope] - weight)
-        };
-        let least = scopes.iter().filter_map(gap).min().unwrap_or(1).max(1);
+        let gaps = scopes.iter().filter_map(|&scope| state.gap(scope));
+        let least = gaps.min().unwrap_or(1).max(1);
         let amount = match self.random.below(6) {
             0 => 1,
             1 | 2 => i64::from(least),

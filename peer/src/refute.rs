@@ -1,32 +1,41 @@
 //! Refutation, fast: arc consistency on u8 masks after one value is fixed.
+//!
+//! `Joint` does it for all values of the fixed variable at once: byte k of a word
+//! belongs to the try in which the variable is fixed to its value k.
 
 use crate::state::{Scopes, State};
 use crate::types::MAX_VARIABLES;
 
-pub type Domains = [u8; MAX_VARIABLES];
-
+/// The bytes of a word that are 1, or 255.
 const ONES: u64 = 0x0101_0101_0101_0101;
 const LOW: u64 = 0x7f7f_7f7f_7f7f_7f7f;
 const GATHER: u64 = 0x0102_0408_1020_4080;
 
-/// Bit k is set where byte k is not zero.
+/// Byte k is 1 where byte k is not zero.
 #[inline]
-fn filled_bytes(bytes: u64) -> u8 {
-    let high = (((bytes & LOW) + LOW) | bytes) & !LOW;
-    ((high >> 7).wrapping_mul(GATHER) >> 56) as u8
+fn filled(bytes: u64) -> u64 {
+    (((((bytes & LOW) + LOW) | bytes) & !LOW) >> 7) & ONES
 }
 
 /// Values of the end `rows` belongs to that have a partner in `domain`.
 #[inline]
 fn supported(rows: u64, domain: u8) -> u8 {
-    filled_bytes(rows & (ONES * u64::from(domain)))
+    (filled(rows & (ONES * u64::from(domain))).wrapping_mul(GATHER) >> 56) as u8
 }
 
-/// Every value of every variable.
+/// The same for eight domains at once; `rows` belongs to the domains' own end.
 #[inline]
-pub fn full_domains(state: &State) -> Domains {
-    [state.full; MAX_VARIABLES]
+fn supported_jointly(rows: u64, domains: u64) -> u64 {
+    let mut all = 0;
+    for value in 0..8 {
+        let row = rows >> (8 * value) & 0xff;
+        all |= (domains >> value & ONES).wrapping_mul(row);
+    }
+    all
 }
+
+/// Domains for one try.
+pub type Domains = [u8; MAX_VARIABLES];
 
 /// Narrows the domains of `dirty` variables' neighbours until nothing changes.
 /// False if some domain runs empty.
@@ -56,68 +65,121 @@ fn propagate(state: &State, raised: &Scopes, domains: &mut Domains, mut dirty: u
     true
 }
 
-/// Closes what the scopes in `added` forbid; `raised` holds them already.
-/// False if some domain runs empty.
-pub fn add(state: &State, added: &Scopes, raised: &Scopes, domains: &mut Domains) -> bool {
-    let mut dirty = 0u64;
+/// Closes what the raised scopes forbid. False if some domain runs empty.
+pub fn close(state: &State, raised: &Scopes, domains: &mut Domains) -> bool {
     let mut alive = true;
-    added.each_variable(|variable| {
-        let old = domains[variable];
-        let new = old & state.active[variable];
-        domains[variable] = new;
-        alive &= new != 0;
-        dirty |= u64::from(new != old) << variable;
+    raised.each_variable(|variable| {
+        domains[variable] &= state.active[variable];
+        alive &= domains[variable] != 0;
     });
-    if !alive {
-        return false;
-    }
-    added.each_edge(|edge| {
-        for end in [1, 0] {
-            let (variable, other) = (state.ends[edge][end], state.ends[edge][1 - end]);
-            let old = domains[variable as usize];
-            let new = old & supported(state.rows[edge][end], domains[other as usize]);
-            domains[variable as usize] = new;
-            alive &= new != 0;
-            dirty |= u64::from(new != old) << variable;
-        }
-    });
-    alive && propagate(state, raised, domains, dirty)
+    let every = u64::MAX >> (64 - state.variables);
+    alive && propagate(state, raised, domains, every)
 }
 
-/// Fixes one variable to one value of its domain. False if a domain runs empty.
-#[inline]
-fn fix(state: &State, raised: &Scopes, domains: &mut Domains, variable: usize, value: u8) -> bool {
-    domains[variable] = value;
-    propagate(state, raised, domains, 1 << variable)
+/// Every value of every variable.
+pub fn full_domains(state: &State) -> Domains {
+    [state.full; MAX_VARIABLES]
 }
 
 /// Whether one value is refuted, for any set of raised scopes.
 pub fn refuted(state: &State, raised: &Scopes, variable: usize, value: usize) -> bool {
     let mut domains = full_domains(state);
     domains[variable] = 1 << value;
-    !add(state, raised, raised, &mut domains)
+    !close(state, raised, &mut domains)
 }
 
 /// Whether all active values of a variable are refuted; its own scope is not raised.
 pub fn all_active_refuted(state: &State, raised: &Scopes, variable: usize) -> bool {
     let mut base = full_domains(state);
     base[variable] = state.active[variable];
-    !add(state, raised, raised, &mut base) || none_supported(state, raised, variable, &base)
+    !close(state, raised, &mut base) || none_supported(state, raised, variable, &base)
 }
 
 /// The same with the consistent domains for all values of the variable at hand.
 pub fn none_supported(state: &State, raised: &Scopes, variable: usize, base: &Domains) -> bool {
-    let mut left = base[variable] & state.active[variable];
-    while left != 0 {
-        let value = left & left.wrapping_neg();
-        if base[variable] == value {
-            return false;
-        }
-        let mut domains = *base;
-        if fix(state, raised, &mut domains, variable, value) {
-            return false;
-        }
-        left ^= value;
+    let values = base[variable] & state.active[variable];
+    if values == 0 {
+        return true;
     }
-    true
+    if base[variable].count_ones() == 1 {
+        return false;
+    }
+    let mut joint = Joint::new(base, variable, values);
+    joint.propagate(state, raised, 1 << variable);
+    joint.standing == 0
+}
+
+/// Domains for a try with each value of one variable. Byte k of `standing` is 255
+/// while no domain of try k is empty, else 0; its other bytes no longer count.
+#[derive(Clone, Copy)]
+pub struct Joint {
+    pub standing: u64,
+    domains: [u64; MAX_VARIABLES],
+}
+
+impl Joint {
+    /// Tries with each of the given values, the other variables as in `base`.
+    pub fn new(base: &Domains, variable: usize, values: u8) -> Joint {
+        let mut joint = Joint { standing: 0, domains: base.map(|domain| ONES * u64::from(domain)) };
+        joint.domains[variable] = 0;
+        for value in 0..8 {
+            joint.domains[variable] |= 1 << (9 * value);
+            joint.standing |= u64::from(values >> value & 1) * 0xff << (8 * value);
+        }
+        joint
+    }
+
+    /// Narrows one variable in all tries. True if that changed a standing one.
+    #[inline]
+    fn narrow(&mut self, variable: usize, to: u64) -> bool {
+        let old = self.domains[variable];
+        let new = old & to;
+        if (new ^ old) & self.standing == 0 {
+            return false;
+        }
+        self.domains[variable] = new;
+        self.standing &= filled(new) * 0xff;
+        true
+    }
+
+    fn propagate(&mut self, state: &State, raised: &Scopes, mut dirty: u64) {
+        while dirty != 0 {
+            let variable = dirty.trailing_zeros() as usize;
+            dirty &= dirty - 1;
+            let domains = self.domains[variable];
+            for near in state.neighbours(variable) {
+                if !raised.has_edge(near.edge as usize) {
+                    continue;
+                }
+                let rows = state.rows[near.edge as usize][1 - near.end as usize];
+                if self.narrow(near.variable as usize, supported_jointly(rows, domains)) {
+                    if self.standing == 0 {
+                        return;
+                    }
+                    dirty |= 1 << near.variable;
+                }
+            }
+        }
+    }
+
+    /// Closes what the scopes in `added` forbid too; `raised` holds them already.
+    pub fn add(&mut self, state: &State, added: &Scopes, raised: &Scopes) {
+        let mut dirty = 0u64;
+        added.each_variable(|variable| {
+            let active = ONES * u64::from(state.active[variable]);
+            dirty |= u64::from(self.narrow(variable, active)) << variable;
+        });
+        added.each_edge(|edge| {
+            let [rows, columns] = state.rows[edge];
+            let [lower, higher] = state.ends[edge];
+            let (lower, higher) = (lower as usize, higher as usize);
+            let partners = supported_jointly(rows, self.domains[lower]);
+            dirty |= u64::from(self.narrow(higher, partners)) << higher;
+            let partners = supported_jointly(columns, self.domains[higher]);
+            dirty |= u64::from(self.narrow(lower, partners)) << lower;
+        });
+        if self.standing != 0 {
+            self.propagate(state, raised, dirty);
+        }
+    }
 }

@@ -5,13 +5,14 @@ use crate::refute::all_active_refuted;
 use crate::state::{Scopes, State};
 use crate::types::*;
 
-/// A press whose raise lines are not all there yet.
+/// A press whose raise lines are not all there yet; `next` is the lowest scope that
+/// is above the raised ones.
 #[derive(Clone, Copy)]
 struct Held {
     variable: usize,
     amount: i32,
     left: usize,
-    last: Option<usize>,
+    next: usize,
     raised: Scopes,
 }
 
@@ -50,11 +51,11 @@ impl Replay {
     #[inline]
     fn take(&mut self, bytes: &[u8]) -> Result<(), u8> {
         let line = line::parse(bytes).ok_or(1)?;
-        match (line.kind, self.held) {
-            (3, Some(held)) => self.raise(line, held),
-            (1, None) => self.shift(line),
-            (2, None) => self.press(line),
-            (4, None) => self.bound(line),
+        match (line.kind, self.held.is_some()) {
+            (3, true) => self.raise(line),
+            (1, false) => self.shift(line),
+            (2, false) => self.press(line),
+            (4, false) => self.bound(line),
             _ => Err(2),
         }
     }
@@ -81,26 +82,27 @@ impl Replay {
             return Err(5);
         }
         let amount = line.amount as i32;
-        self.held = Some(Held { variable, amount, left, last: None, raised: Scopes::default() });
+        self.held = Some(Held { variable, amount, left, next: 0, raised: Scopes::default() });
         Ok(())
     }
 
     #[inline]
-    fn raise(&mut self, line: Line, mut held: Held) -> Result<(), u8> {
+    fn raise(&mut self, line: Line) -> Result<(), u8> {
         if (line.b | line.c | line.amount) != 0 {
             return Err(2);
         }
         let scope = below(line.a, self.state.scopes())?;
-        if held.last.is_some_and(|last| scope <= last) || scope == held.variable {
+        let Some(held) = &mut self.held else { return Err(2) };
+        if scope < held.next || scope == held.variable {
             return Err(9);
         }
         held.raised.insert(self.state.variables, scope);
-        held.last = Some(scope);
+        held.next = scope + 1;
         held.left -= 1;
         if held.left > 0 {
-            self.held = Some(held);
             return Ok(());
         }
+        let held = *held;
         self.finish_press(&held)
     }
 

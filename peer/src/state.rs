@@ -103,17 +103,26 @@ pub struct Near {
     pub end: u8,
 }
 
+/// The working weights are kept in a way that a press by less than every gap costs
+/// nothing for each tuple: an active tuple's weight is its scope's `greatest`, an
+/// inactive one's is the stored weight plus the scope's `lift`. Stored weights equal
+/// to `mark` belong to active tuples.
 #[derive(Clone)]
 pub struct State {
     pub variables: usize,
     pub values: usize,
     pub edges: usize,
     pub full: u8,
+    full_rows: u64,
     pub ends: [[u8; 2]; MAX_EDGES],
-    pub first_near: [u16; MAX_VARIABLES + 1],
-    pub near: [Near; 2 * MAX_EDGES],
-    pub weights: Vec<i32>,
-    pub greatest: [i32; MAX_SCOPES],
+    first_near: [u16; MAX_VARIABLES + 1],
+    near: [Near; 2 * MAX_EDGES],
+    stored: Vec<i32>,
+    mark: [i32; MAX_SCOPES],
+    lift: [i32; MAX_SCOPES],
+    greatest: [i32; MAX_SCOPES],
+    /// The greatest inactive weight, `NONE` if all tuples are active.
+    runner_up: [i32; MAX_SCOPES],
     /// Active values of each variable.
     pub active: [u8; MAX_VARIABLES],
     /// Byte k of `rows[e][end]`: the other end's values that are active with k.
@@ -121,32 +130,37 @@ pub struct State {
     pub upper_bound: i64,
 }
 
+const NONE: i32 = i32::MIN;
+
 impl State {
     pub fn new(case: &Case) -> State {
         State::with_weights(case, case.weights.clone())
     }
 
     pub fn with_weights(case: &Case, weights: Vec<i32>) -> State {
+        let full = (0xffu16 >> (8 - case.values)) as u8;
+        let used_rows = u64::MAX >> (8 * (8 - case.values));
         let mut state = State {
             variables: case.variables,
             values: case.values,
             edges: case.edges.len(),
-            full: (0xffu16 >> (8 - case.values)) as u8,
+            full,
+            full_rows: used_rows & (0x0101_0101_0101_0101 * u64::from(full)),
             ends: [[0; 2]; MAX_EDGES],
             first_near: [0; MAX_VARIABLES + 1],
             near: [Near::default(); 2 * MAX_EDGES],
-            weights,
+            stored: weights,
+            mark: [0; MAX_SCOPES],
+            lift: [0; MAX_SCOPES],
             greatest: [0; MAX_SCOPES],
+            runner_up: [NONE; MAX_SCOPES],
             active: [0; MAX_VARIABLES],
             rows: [[0; 2]; MAX_EDGES],
             upper_bound: 0,
         };
         state.join(case);
-        for variable in 0..state.variables {
-            state.refresh_variable(variable);
-        }
-        for edge in 0..state.edges {
-            state.refresh_edge(edge);
+        for scope in 0..state.scopes() {
+            state.refresh(scope);
         }
         state
     }
@@ -186,134 +200,148 @@ impl State {
         &self.near[from..to]
     }
 
+    /// The scope's places in the table.
     #[inline]
-    fn variable_range(&self, variable: usize) -> std::ops::Range<usize> {
-        variable * self.values..(variable + 1) * self.values
-    }
-
-    #[inline]
-    fn edge_range(&self, edge: usize) -> std::ops::Range<usize> {
+    fn places(&self, scope: usize) -> std::ops::Range<usize> {
+        if scope < self.variables {
+            return scope * self.values..(scope + 1) * self.values;
+        }
         let square = self.values * self.values;
-        let from = self.variables * self.values + edge * square;
+        let from = self.variables * self.values + (scope - self.variables) * square;
         from..from + square
     }
 
+    /// The table of working weights.
+    pub fn weights(&self) -> Vec<i32> {
+        let mut state = self.clone();
+        for scope in 0..self.scopes() {
+            state.store(scope, state.greatest[scope]);
+        }
+        state.stored
+    }
+
+    /// Stores the scope's weights, those of active tuples being `top`.
+    #[inline]
+    fn store(&mut self, scope: usize, top: i32) {
+        let (places, mark, lift) = (self.places(scope), self.mark[scope], self.lift[scope]);
+        for weight in &mut self.stored[places] {
+            *weight = if *weight == mark { top } else { *weight + lift };
+        }
+        self.mark[scope] = top;
+        self.lift[scope] = 0;
+    }
+
+    /// Finds again what belongs to a scope whose weights were just stored.
+    fn refresh(&mut self, scope: usize) {
+        let weights = &self.stored[self.places(scope)];
+        let greatest = weights.iter().fold(NONE, |most, &weight| most.max(weight));
+        let inactive = |weight: i32| if weight == greatest { NONE } else { weight };
+        self.runner_up[scope] = weights.iter().fold(NONE, |most, &w| most.max(inactive(w)));
+        if scope < self.variables {
+            self.active[scope] = equal_mask(weights, greatest);
+        } else {
+            let rows = match self.values {
+                8 => equal_rows(weights, 8, greatest),
+                values => equal_rows(weights, values, greatest),
+            };
+            self.rows[scope - self.variables] = [rows, transpose(rows)];
+        }
+        self.set_greatest(scope, greatest);
+        self.mark[scope] = greatest;
+        self.lift[scope] = 0;
+    }
+
+    #[inline]
     fn set_greatest(&mut self, scope: usize, greatest: i32) {
         self.upper_bound += i64::from(greatest) - i64::from(self.greatest[scope]);
         self.greatest[scope] = greatest;
     }
 
-    fn refresh_variable(&mut self, variable: usize) {
-        let weights = &self.weights[self.variable_range(variable)];
-        let greatest = most(weights);
-        self.active[variable] = equal_mask(weights, greatest);
-        self.set_greatest(variable, greatest);
-    }
-
-    fn refresh_edge(&mut self, edge: usize) {
-        let weights = &self.weights[self.edge_range(edge)];
-        let greatest = most(weights);
-        let mut rows = 0u64;
-        if self.values == 8 {
-            for (value, row) in weights.chunks_exact(8).enumerate() {
-                rows |= u64::from(equal_mask(row, greatest)) << (8 * value);
-            }
-        } else {
-            for (value, row) in weights.chunks_exact(self.values).enumerate() {
-                rows |= u64::from(equal_mask(row, greatest)) << (8 * value);
-            }
-        }
-        self.rows[edge] = [rows, transpose(rows)];
-        self.set_greatest(self.variables + edge, greatest);
-    }
-
-    fn scope_weights(&self, scope: usize) -> &[i32] {
-        if scope < self.variables {
-            &self.weights[self.variable_range(scope)]
-        } else {
-            &self.weights[self.edge_range(scope - self.variables)]
-        }
-    }
-
-    /// Greatest inactive weight of a scope, if any tuple is inactive.
+    /// Whether the scope has an inactive tuple.
     #[inline]
-    pub fn runner_up(&self, scope: usize) -> Option<i32> {
-        let greatest = self.greatest[scope];
-        let mut best = i32::MIN;
-        for &weight in self.scope_weights(scope) {
-            let candidate = if weight == greatest { i32::MIN } else { weight };
-            best = best.max(candidate);
+    pub fn closes_something(&self, scope: usize) -> bool {
+        if scope < self.variables {
+            return self.active[scope] != self.full;
         }
-        (best != i32::MIN).then_some(best)
+        self.rows[scope - self.variables][0] != self.full_rows
+    }
+
+    /// Greatest weight minus greatest inactive weight; no limit if all are active.
+    #[inline]
+    pub fn gap(&self, scope: usize) -> Option<i32> {
+        let runner_up = self.runner_up[scope];
+        (runner_up != NONE).then(|| self.greatest[scope] - runner_up)
     }
 
     /// Shift, or number 11. Ranges of the arguments are the caller's.
     pub fn shift(&mut self, edge: usize, end: usize, value: usize, amount: i32) -> Result<(), u8> {
         let variable = self.ends[edge][end] as usize;
-        let place = self.variable_range(variable).start + value;
+        let scope = self.variables + edge;
+        self.store(variable, self.greatest[variable]);
+        self.store(scope, self.greatest[scope]);
+        let place = self.places(variable).start + value;
         let (first, step) = if end == 0 { (value * self.values, 1) } else { (value, self.values) };
-        let first = self.edge_range(edge).start + first;
-        let mut good = in_range(self.weights[place] + amount);
+        let first = self.places(scope).start + first;
+        let mut good = in_range(self.stored[place] + amount);
         for other in 0..self.values {
-            good &= in_range(self.weights[first + other * step] - amount);
+            good &= in_range(self.stored[first + other * step] - amount);
         }
         if !good {
             return Err(11);
         }
-        self.weights[place] += amount;
+        self.stored[place] += amount;
         for other in 0..self.values {
-            self.weights[first + other * step] -= amount;
+            self.stored[first + other * step] -= amount;
         }
-        self.refresh_variable(variable);
-        self.refresh_edge(edge);
+        self.refresh(variable);
+        self.refresh(scope);
         Ok(())
     }
 
     /// Press, or number 11. That it is allowed is the caller's to know.
     pub fn press(&mut self, variable: usize, raised: &Scopes, amount: i32) -> Result<(), u8> {
         let mut good = in_range(self.greatest[variable] - amount);
-        let mut rises = |scope: usize| {
-            good &= self.runner_up(scope).is_none_or(|weight| in_range(weight + amount));
+        let mut check = |scope: usize| {
+            let runner_up = self.runner_up[scope];
+            good &= runner_up == NONE || in_range(runner_up + amount);
         };
         let variables = self.variables;
-        raised.each_variable(&mut rises);
-        raised.each_edge(|edge| rises(variables + edge));
+        raised.each_variable(&mut check);
+        raised.each_edge(|edge| check(variables + edge));
         if !good {
             return Err(11);
         }
-        self.press_unchecked(variable, raised, amount);
+        raised.each_variable(|other| self.lift_inactive(other, amount));
+        raised.each_edge(|edge| self.lift_inactive(variables + edge, amount));
+        self.lower_active(variable, amount);
         Ok(())
     }
 
-    /// The press itself; no weight may leave its range.
-    pub fn press_unchecked(&mut self, variable: usize, raised: &Scopes, amount: i32) {
-        raised.each_variable(|other| {
-            let (range, greatest) = (self.variable_range(other), self.greatest[other]);
-            lift(&mut self.weights[range], greatest, amount);
-            self.refresh_variable(other);
-        });
-        raised.each_edge(|edge| {
-            let greatest = self.greatest[self.variables + edge];
-            let range = self.edge_range(edge);
-            lift(&mut self.weights[range], greatest, amount);
-            self.refresh_edge(edge);
-        });
-        let (range, greatest) = (self.variable_range(variable), self.greatest[variable]);
-        for weight in &mut self.weights[range] {
-            *weight -= if *weight == greatest { amount } else { 0 };
+    #[inline]
+    fn lift_inactive(&mut self, scope: usize, amount: i32) {
+        let Some(gap) = self.gap(scope) else { return };
+        self.lift[scope] += amount;
+        if amount < gap {
+            self.runner_up[scope] += amount;
+            return;
         }
-        self.refresh_variable(variable);
+        self.store(scope, self.greatest[scope]);
+        self.refresh(scope);
+    }
+
+    fn lower_active(&mut self, scope: usize, amount: i32) {
+        let lower = self.greatest[scope] - amount;
+        if self.gap(scope).is_none_or(|gap| amount < gap) {
+            return self.set_greatest(scope, lower);
+        }
+        self.store(scope, lower);
+        self.refresh(scope);
     }
 }
 
 #[inline]
 fn in_range(weight: i32) -> bool {
     i64::from(weight).abs() <= WORK_LIMIT
-}
-
-#[inline]
-fn most(weights: &[i32]) -> i32 {
-    weights.iter().fold(i32::MIN, |most, &weight| most.max(weight))
 }
 
 #[inline]
@@ -325,11 +353,13 @@ fn equal_mask(weights: &[i32], greatest: i32) -> u8 {
     mask
 }
 
-#[inline]
-fn lift(weights: &mut [i32], greatest: i32, amount: i32) {
-    for weight in weights {
-        *weight += if *weight == greatest { 0 } else { amount };
+#[inline(always)]
+fn equal_rows(weights: &[i32], values: usize, greatest: i32) -> u64 {
+    let mut rows = 0;
+    for (value, row) in weights.chunks_exact(values).enumerate() {
+        rows |= u64::from(equal_mask(row, greatest)) << (8 * value);
     }
+    rows
 }
 
 /// Transposes an 8 by 8 matrix of bits, byte k being row k.
