@@ -241,6 +241,13 @@ nearTie = couple (pos 2 ∷ pos 1 ∷ pos 2 ∷ pos 0 ∷ minus 3 ∷ zeros 3)
 abbrev clashAbove : Input
 clashAbove = couple (pos 0 ∷ pos 2 ∷ pos 0 ∷ pos 2 ∷ pos 0 ∷ pos 0 ∷ pos 0 ∷ minus 3 ∷ [])
 
+-- links 0 and 1, and 0 and 2, clash as above: the active value of link 0 is refuted through link 1 and through link 2
+abbrev twoReasons : Input
+twoReasons = record {
+  case = record { n = 3; d = 2; m = 2; lower = 0 ∷ 0 ∷ []; upper = 1 ∷ 2 ∷ [] };
+  weights = pos 2 ∷ pos 0 ∷ pos 2 ∷ pos 0 ∷ pos 2 ∷ pos 0 ∷ minus 3 ∷ zeros 3 ++ (minus 3 ∷ zeros 3);
+}
+
 -- two rounds; a second round whose bound is no lower than the first's
 abbrev pub twoRounds : List String
 twoRounds = log6 ++ raising1and2 " 2   0   2   0           1\n" " 4   0   0   0           2\n"
@@ -257,6 +264,16 @@ ourSamples =
     run-of nearTie 100_000 gives
     ran RunAnswer.Settled 1 (pos 3) (pos 1 ∷ pos 1 ∷ pos 2 ∷ pos 1 ∷ minus 2 ∷ zeros 3)
     (texts (raising1and2 " 2   0   2   0           1\n" " 4   0   0   0           3\n"))
+    -- trimmed upwards, scopes 1 and 3 are dropped
+    ∷ run-of twoReasons 100_000 gives
+    ran RunAnswer.Settled 1 (pos 4)
+    (pos 0 ∷ pos 0 ∷ pos 2 ∷ pos 0 ∷ pos 2 ∷ pos 2 ∷ minus 3 ∷ zeros 3 ++ (minus 1 ∷ zeros 3))
+    (texts
+    (" 2   0   2   0           2\n"
+    ∷ " 3   2   0   0           0\n"
+    ∷ " 3   4   0   0           0\n"
+    ∷ " 4   0   0   0           4\n"
+    ∷ []))
     ∷ replay-of clash twoRounds gives
     replayed (none4 ++ none4) 0 2 (pos 2) (pos 0 ∷ pos 0 ∷ pos 2 ∷ pos 2 ∷ minus 1 ∷ zeros 3)
     ∷ replay-of clash staleStart gives
@@ -282,7 +299,7 @@ ourSamples =
 pub our-samples-hold : map (λ s. answer (s .ask)) ourSamples ≡ map (λ s. s .gives) ourSamples
 our-samples-hold = refl
 
-pub our-samples-valid : T (all (λ i. valid standard (i .case) (i .weights)) (nearTie ∷ clashAbove ∷ []))
+pub our-samples-valid : T (all (λ i. valid standard (i .case) (i .weights)) (nearTie ∷ clashAbove ∷ twoReasons ∷ []))
 our-samples-valid = tt
 
 -- 48 links pass
