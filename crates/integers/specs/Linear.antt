@@ -274,6 +274,20 @@ module _ (w : Width) (a b : ℤ) where
 
 pub ruleset zb = (back-sub, back-add, back, zs)
 
+-- ---- laws to cite by name
+module _ {a b : ℤ} where
+  pub ≤ℤ-of-eq : a ≡ b → a ≤ℤ b
+  ≤ℤ-of-eq e = omega zs
+
+  pub ≤ℤ-of-lt : a <ℤ b → a ≤ℤ b
+  ≤ℤ-of-lt h = omega zs
+
+  pub ≤ℤ-antisym : a ≤ℤ b → b ≤ℤ a → a ≡ b
+  ≤ℤ-antisym h k = omega zs
+
+  pub ≤ℤ-trans : {c : ℤ} → a ≤ℤ b → b ≤ℤ c → a ≤ℤ c
+  ≤ℤ-trans h k = omega zs
+
 -- ---- examples
 nested : (a b c d e f : ℤ) → ((a +ℤ b) -ℤ (c +ℤ d)) ≤ℤ (e +ℤ f) → b ≡ pos 4 -ℤ c → (a +ℤ pos 4) ≤ℤ ((e +ℤ f +ℤ c +ℤ c) -ℤ negℤ d)
 nested a b c d e f h k = h ▸ simp flat (omega zs)
