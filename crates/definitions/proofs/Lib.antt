@@ -2,3 +2,5 @@
 pub mod Found
 pub mod ColumnLaws
 pub mod LineLaws
+pub mod CaseLaws
+pub mod Refutation
