@@ -20,20 +20,20 @@ use Rattle.definitions.specs.Lines.{tooWide, columnText, readColumn, fee
 use Rattle.definitions.proofs.Found.{no-some, found-then}
 use Rattle.definitions.proofs.ColumnLaws.{column-read, column-written, column-length}
 
--- the columns one by one
-record Fits (w : ℕ) (l : Line) : Type 0 where
-  kind : tooWide 2 (l .kind) ≡ false
-  a : tooWide 4 (l .a) ≡ false
-  b : tooWide 4 (l .b) ≡ false
-  c : tooWide 4 (l .c) ≡ false
-  amount : tooWide w (l .amount) ≡ false
+-- each column has room for its number
+pub record EachFits (w : ℕ) (l : Line) : Type 0 where
+  pub kind : tooWide 2 (l .kind) ≡ false
+  pub a : tooWide 4 (l .a) ≡ false
+  pub b : tooWide 4 (l .b) ≡ false
+  pub c : tooWide 4 (l .c) ≡ false
+  pub amount : tooWide w (l .amount) ≡ false
 
-fits-each : (w : ℕ) (l : Line) → lineTooWide w l ≡ false → Fits w l
+pub fits-each : (w : ℕ) (l : Line) → lineTooWide w l ≡ false → EachFits w l
 fits-each w l h =
     let p = simp (false-iff, not-or-iff) at h in
     record { kind = is-false _ (p .0 .0 .0 .0); a = is-false _ (p .0 .0 .0 .1); b = is-false _ (p .0 .0 .1); c = is-false _ (p .0 .1); amount = is-false _ (p .1) }
 
-each-fits : (w : ℕ) (l : Line) → Fits w l → lineTooWide w l ≡ false
+pub each-fits : (w : ℕ) (l : Line) → EachFits w l → lineTooWide w l ≡ false
 each-fits w l f = rw (f .kind, f .a, f .b, f .c, f .amount)
 
 -- five columns and a line feed
