@@ -1,6 +1,7 @@
 -- Small words that the definitions are written with, and their laws for the proofs.
 pub mod Words
 pub mod Tests
+pub mod Options
 pub mod Linear
 pub mod Lists
 pub mod Tables

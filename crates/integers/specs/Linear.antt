@@ -288,6 +288,10 @@ module _ {a b : ℤ} where
   pub ≤ℤ-trans : {c : ℤ} → a ≤ℤ b → b ≤ℤ c → a ≤ℤ c
   ≤ℤ-trans h k = omega zs
 
+pub pos-up : {z : ℤ} → pos 0 ≤ℤ z → pos (up z) ≡ z
+pos-up {z = pos n} h = refl
+pos-up {z = negsuc n} h = absurd (h .le)
+
 -- ---- examples
 nested : (a b c d e f : ℤ) → ((a +ℤ b) -ℤ (c +ℤ d)) ≤ℤ (e +ℤ f) → b ≡ pos 4 -ℤ c → (a +ℤ pos 4) ≤ℤ ((e +ℤ f +ℤ c +ℤ c) -ℤ negℤ d)
 nested a b c d e f h k = h ▸ simp flat (omega zs)

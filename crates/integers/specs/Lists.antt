@@ -10,7 +10,7 @@ use native.Mathlib.Nat.{add-zero, zero-add, add-suc, suc-add}
 use native.Mathlib.Numerals.{add-one}
 use native.Mathlib.Omega.{arith}
 use lib.Dec.{T, not-T, eqb, eqb→eq, eqb-refl}
-use lib.ListN.{length}
+use lib.ListN.{length, length-map}
 use Rattle.integers.specs.Words.{if_then_else_, from, below, all, any, those, first, joined, choices, isIn}
 use Rattle.integers.specs.Tests.{is-true, either, and-intro, and-left, and-right, or-left, or-right, or-cases, not-eqb-iff, same-test}
 
@@ -298,6 +298,11 @@ module _ {f g : ℕ → Bool} (n : ℕ) (h : (x : ℕ) → x < n → f x ≡ g x
 
 pub map-same : {A : Type 0} {f g : ℕ → A} (n : ℕ) → ((x : ℕ) → x < n → f x ≡ g x) → map f (below n) ≡ map g (below n)
 map-same n h = map-cong (below n) (λ x m. h x (in-below n m))
+
+pub choices-tab : {A : Type 0} (xs : List A) (g : ℕ → A) (n : ℕ) → ((i : ℕ) → i < n → g i ∈ xs) → map g (below n) ∈ choices n xs
+choices-tab {A} xs g n h =
+    subst (λ (k : ℕ). map g (below n) ∈ choices k xs) (length-map (below n) g ∙ length-from 0 n)
+    (choices-in xs (map g (below n)) (λ x m. let (i, k, e) = Memᴰ·of-map g (below n) m in Memᴰ·cast (sym e) (h i (in-below n k))))
 
 -- ---- numbers that a list holds
 pub isIn-in : (xs : List ℕ) (x : ℕ) → T (isIn xs x) ↔ x ∈ xs

@@ -129,6 +129,9 @@ module _ (f : ℕ → ℤ) where
   pub Σ-least : (u a n : ℕ) → ((x : ℕ) → a ≤ x → x < a + n → minus u ≤ℤ f x) → minus (n * u) ≤ℤ Σ f a n
   Σ-least u a n h = rw (length-from a n) at (sum-least f u (from a n) (λ x m. let (l, u) = in-from a n m in h x l u))
 
+pub Σ-joined : (f : ℕ → List ℤ) (a n : ℕ) → sum (joined (map f (from a n))) ≡ Σ (λ x. sum (f x)) a n
+Σ-joined f a n = sum-joined (map f (from a n)) ∙ ap sum (map-map sum f (from a n))
+
 -- ---- one entry
 abbrev pub only : ℕ → ℤ → ℕ → ℤ
 only i z x = if eqb x i then z else pos 0

@@ -1,6 +1,6 @@
 -- Lists read by index: the element at a place, tables of a function, and lists of equal parts, one after the other. Assumes nothing.
 use mathlib.Core.Path.{_≡_, refl, sym, ap, _∙_}
-use mathlib.Core.Bool.{Bool}
+use mathlib.Core.Bool.{Bool, true, false}
 use mathlib.Core.Logic.{_↔_}
 use mathlib.Core.List.{List, [], _∷_, _++_, map, List·Memᴰ·head, List·Memᴰ·tail, Memᴰ·of-map}
 use Prim.Native.Nat.{ℕ, zero, suc, _+_, _*_, _-_, _/_, _%_, _≤_, _<_}
@@ -9,8 +9,8 @@ use native.Mathlib.Omega.{arith}
 use lib.Dec.{T}
 use lib.ListN.{length, getD, take, drop, length-append, length-map, List·getD-append}
 use lib.Seq.{take-append-add, drop-append-add, getD-append-add, ext-getD, take-at}
-use Rattle.integers.specs.Words.{from, below, all, any, joined}
-use Rattle.integers.specs.Lists.{_∈_, all-in, any-in, length-from, in-below}
+use Rattle.integers.specs.Words.{if_then_else_, from, below, all, any, those, joined}
+use Rattle.integers.specs.Lists.{_∈_, in-from, in-those, all-in, any-in, length-from, in-below}
 
 -- ---- the element at a place
 module _ {A : Type 0} where
@@ -39,6 +39,19 @@ pub getD-map : {A B : Type 0} (f : A → B) (xs : List A) (i : ℕ) (d : A) (e :
 getD-map f [] i d e h = absurd (omega arith)
 getD-map f (x ∷ xs) zero d e h = refl
 getD-map f (x ∷ xs) (suc i) d e h = getD-map f xs i d e (omega arith)
+
+-- the numbers at which a test passes, in order
+pub those-rise : (f : ℕ → Bool) (a n i j : ℕ) → i < j → j < length (those f (from a n)) → getD (those f (from a n)) i 0 < getD (those f (from a n)) j 0
+those-rise f a zero i j h u = absurd (omega arith)
+those-rise f a (suc n) i j h u = go (f a) i j h u (λ i j h u. those-rise f (suc a) n i j h u)
+  where
+    go : (b : Bool) (i j : ℕ) → i < j → j < length (if b then a ∷ those f (from (suc a) n) else those f (from (suc a) n))
+        → ((i j : ℕ) → i < j → j < length (those f (from (suc a) n)) → getD (those f (from (suc a) n)) i 0 < getD (those f (from (suc a) n)) j 0)
+        → getD (if b then a ∷ those f (from (suc a) n) else those f (from (suc a) n)) i 0 < getD (if b then a ∷ those f (from (suc a) n) else those f (from (suc a) n)) j 0
+    go false i j h u r = r i j h u
+    go true i zero h u r = absurd (omega arith)
+    go true zero (suc j) h u r = in-from (suc a) n (in-those f (from (suc a) n) (getD-in (those f (from (suc a) n)) {i = j} 0 (omega arith)) .0) .0
+    go true (suc i) (suc j) h u r = r i j (omega arith) (omega arith)
 
 -- ---- tables
 pub getD-from : (a n i d : ℕ) → i < n → getD (from a n) i d ≡ a + i

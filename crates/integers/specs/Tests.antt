@@ -40,6 +40,11 @@ module _ {A : Type 0} (x y : A) where
   if-false true t = absurd t
   if-false false t = refl
 
+-- a property of both branches
+pub if-cases {ℓ} : {A : Type 0} (P : A → Type ℓ) (b : Bool) (x y : A) → (T b → P x) → (T (not b) → P y) → P (if b then x else y)
+if-cases P true x y f g = f tt
+if-cases P false x y f g = g tt
+
 -- ---- parts
 pub and-intro : (a b : Bool) → T a → T b → T (a && b)
 and-intro true b s t = t

@@ -1,0 +1,27 @@
+-- What may be missing: a value that is there, what follows it, and the first and the last of a list. Assumes nothing.
+use mathlib.Core.Path.{_≡_, refl, ap, _∙_}
+use mathlib.Core.Option.{Option, none, some, Option·none-ne-some, Option·some-injective}
+use mathlib.Core.Logic.{_↔_}
+use mathlib.Core.List.{List, [], _∷_, _++_}
+use lib.Dec.{T}
+use Rattle.integers.specs.Words.{_>>=_, isSome, last}
+
+module _ {A : Type 0} where
+  pub isSome-iff : (o : Option A) → T (isSome o) ↔ ((a : A) × (o ≡ some a))
+  isSome-iff none = (λ t. absurd t, λ p. absurd (Option·none-ne-some (p .0) (p .1)))
+  isSome-iff (some a) = (λ t. (a, refl), λ p. tt)
+
+  pub some-inj : {a b : A} → _≡_ {A = Option A} (some a) (some b) → a ≡ b
+  some-inj {a} {b} e = Option·some-injective a b e
+
+  pub none-some : {a : A} → _≡_ {A = Option A} none (some a) → ⊥
+  none-some {a} e = Option·none-ne-some a e
+
+  pub last-append : (xs ys : List A) (y : A) → last (xs ++ (y ∷ ys)) ≡ last (y ∷ ys)
+  last-append [] ys y = refl
+  last-append (x ∷ []) ys y = refl
+  last-append (x ∷ z ∷ xs) ys y = last-append (z ∷ xs) ys y
+
+pub bind-iff : {A B : Type 0} (o : Option A) (f : A → Option B) (b : B) → (o >>= f) ≡ some b ↔ ((a : A) × (o ≡ some a) × (f a ≡ some b))
+bind-iff none f b = (λ e. absurd (Option·none-ne-some b e), λ p. absurd (Option·none-ne-some (p .0) (p .1)))
+bind-iff (some a) f b = (λ e. (a, refl, e), λ p. ap f (some-inj (p .1)) ∙ p .2)
