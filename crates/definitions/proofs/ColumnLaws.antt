@@ -13,10 +13,10 @@ use lib.IntN.{ℤ, pos, negsuc, natAbs}
 use lib.Dec.{T, ltb, eqb}
 use lib.ListN.{length, replicate, length-append, length-replicate, drop-of-length-le}
 use borrow.Author.Tests.{lt-ltb, le-ltb, le-leb, ne-eqb, ltb-true, ltb-false}
-use Rattle.integers.specs.Words.{all}
+use Rattle.integers.specs.Words.{all, minus}
 use Rattle.integers.specs.Tests.{tests, is-true, if-false, either}
 use Rattle.integers.specs.Lists.{all-append}
-use Rattle.definitions.specs.Lines.{digitsIn, decimal, numberText, tooWide, columnText, isDigit, readDigits, readPositive, negative, readNumber, readColumn}
+use Rattle.definitions.specs.Lines.{digitsIn, decimal, numberText, tooWide, columnText, isDigit, readDigits, readPositive, readNumber, readColumn}
 use Rattle.definitions.proofs.Found.{no-some, found-then, found-else, found-if, found-after}
 
 -- ---- decimal, by its last digit
@@ -108,9 +108,9 @@ number-read (pos zero) = refl
 number-read (pos (suc n)) = number-positive (decimal (suc n)) (suc n) (reads-positive (suc n) (omega arith))
 number-read (negsuc n) = rw (reads-positive (suc n) (omega arith))
 
-negative-text : (v : ℕ) → 0 < v → numberText (negative v) ≡ 45 ∷ decimal v
-negative-text zero h = absurd (omega arith)
-negative-text (suc v) h = refl
+minus-text : (v : ℕ) → 0 < v → numberText (minus v) ≡ 45 ∷ decimal v
+minus-text zero h = absurd (omega arith)
+minus-text (suc v) h = refl
 
 pub number-written : (t : List ℕ) (z : ℤ) → readNumber t ≡ some z → numberText z ≡ t
 number-written [] z e = no-some e
@@ -120,7 +120,7 @@ number-written (b ∷ t) z e =
     let (v, r, s) = found-after (readPositive t) _ (c .1) in
     let (h, k) = positive-back t v r in
     let q : b ≡ 45 = simp tests at (c .0) in
-    cc (negative-text v h))
+    cc (minus-text v h))
     (λ c. ⊎-elim
     (λ d.
     let (l, s) = found-then (eqb (length t) 0) _ (d .1) in

@@ -7,7 +7,7 @@ use Prim.Native.Nat.{ℕ, zero, suc, _+_, _*_, _-_, _/_, _%_}
 use lib.IntN.{ℤ, pos, negsuc}
 use lib.Dec.{leb, ltb, eqb}
 use lib.ListN.{length, getD, take, drop, replicate}
-use Rattle.integers.specs.Words.{if_then_else_, within, any, isIn, eqZ, _⇒_, _>>=_}
+use Rattle.integers.specs.Words.{if_then_else_, within, any, isIn, minus, eqZ, _⇒_, _>>=_}
 use Rattle.definitions.specs.declared.Line.{Line}
 use Rattle.definitions.specs.Rules.{Rules, Kind}
 
@@ -53,15 +53,11 @@ abbrev pub readPositive : List ℕ → Option ℕ
 readPositive [] = none
 readPositive (b ∷ bs) = if eqb b 48 then none else readDigits 0 (b ∷ bs)
 
-abbrev pub negative : ℕ → ℤ
-negative zero = pos 0
-negative (suc v) = negsuc v
-
 -- 0 by itself, or a minus and then a positive number, or a positive number
 abbrev pub readNumber : List ℕ → Option ℤ
 readNumber [] = none
 readNumber (b ∷ bs) =
-    if eqb b 45 then (readPositive bs >>= λ v. some (negative v))
+    if eqb b 45 then (readPositive bs >>= λ v. some (minus v))
     else if eqb b 48 then (if eqb (length bs) 0 then some (pos 0) else none)
     else (readPositive (b ∷ bs) >>= λ v. some (pos v))
 

@@ -77,6 +77,7 @@ pub record Coherent (r : Rules) : Type 0 where
   -- amounts of moves, weights and upper bounds fit the amount column with a minus, and the column fits 18 digits
   pub moving-fits : r .moving < 10 ^ (r .amountWidth - 1)
   pub bound-fits : scopesAtMost r * r .working < 10 ^ (r .amountWidth - 1)
+  pub amount-some : 0 < r .amountWidth
   pub amount-fits : r .amountWidth ≤ 18
   -- a count of rounds fits 64 bits
   pub rounds-fit : r .rounds < 2 ^ 63
@@ -90,6 +91,7 @@ standard-coherent = record {
   difference = lit≤ tt;
   moving-fits = lit< tt;
   bound-fits = lit< tt;
+  amount-some = lit< tt;
   amount-fits = lit≤ tt;
   rounds-fit = lit< tt;
 }
