@@ -1,8 +1,10 @@
--- Linear arithmetic over ℤ, by omega, which reads only natural numbers. `up z` and `dn z` are z's part above 0 and its part below 0.
---     simp flat (omega zs)        a goal with sums, differences, negatives and tests, at any depth; also the hypotheses that it still takes by `→`
---     h ▸ k ▸ simp flat (omega zs)    the same from h and k, which may be hypotheses or proofs
---     omega zs                    a goal a ≤ℤ b, a <ℤ b or a ≡ b with no sum in it, or a goal of natural numbers
--- By itself omega reads each hypothesis with one sum or difference on a side; a deeper sum is named, `omega (zs, add a b)`.
+-- Linear arithmetic over ℤ by omega, which reads only natural numbers: `up z` and `dn z` are z's part above 0 and its part below 0.
+--     omega zs                        a goal a ≤ℤ b, a <ℤ b or a ≡ b without sums, or one of natural numbers
+--     simp flat (omega zs)            also with sums, differences, negatives and tests at any depth, in the goal and in what it takes by `→`
+--     h ▸ k ▸ simp flat (omega zs)    the same from h and k, hypotheses or proofs, which are taken apart too
+-- A hypothesis that is not handed over so is read if it is an order with at most one sum, difference or negative on each side, an equation with
+-- one on one side, or a test without sums; what stands deeper is named, `omega (zs, add a b)`. `zb` is `zs` for code.
+-- In a clause that calls itself use a lemma over plain variables instead: such a clause is read twice, and a long proof there is slow.
 -- Assumes nothing.
 use mathlib.Core.Path.{_≡_, refl, ap, subst}
 use mathlib.Core.Bool.{Bool, true, false, not, cond}
@@ -11,7 +13,7 @@ use Prim.Native.Nat.{ℕ, zero, suc, _+_, _-_, _≤_, _<_, _^_, max}
 use native.Mathlib.Omega.{arith}
 use lib.IntN.{ℤ, pos, negsuc, negℤ, _+ℤ_, _-ℤ_, subℕ}
 use lib.Dec.{T, T-not, not-T, ltb, ltb→lt, lt→ltb, leb→le, le→leb, nltb→le}
-use lib.Signed.{ltZ, leZ, _≤ℤ_, _<ℤ_}
+use lib.Signed.{mag, ltZ, leZ, _≤ℤ_, _<ℤ_}
 use mir.Syntax.{Width, w64}
 use mir.Val.{SFits, hbits, toZ, ofZ}
 use mir.Facts.{toZ-ofZ}
@@ -108,7 +110,7 @@ T-eq (negsuc a) (negsuc b) = (λ t. ap negsuc (eqb-iff a b .0 t), λ e. eqb-iff 
 
 -- ---- sums of any depth, as lists of terms with signs
 pub data Terms : Type 0 where
-  none : Terms
+  end : Terms
   term : Bool → ℤ → Terms → Terms
 
 abbrev pub part : Bool → ℤ → ℕ
@@ -116,11 +118,11 @@ part true z = up z
 part false z = dn z
 
 above : Terms → ℕ
-above none = 0
+above end = 0
 above (term s z ts) = part s z + above ts
 
 under : Terms → ℕ
-under none = 0
+under end = 0
 under (term s z ts) = part (not s) z + under ts
 
 -- the terms and p come to at most q
@@ -128,7 +130,7 @@ pub Most : Terms → ℕ → ℕ → Type 0
 Most ts p q = above ts + p ≤ under ts + q
 
 abbrev pub minus-of : ℤ → ℤ → Terms
-minus-of a b = term true a (term false b none)
+minus-of a b = term true a (term false b end)
 
 module _ (ts : Terms) (p q : ℕ) where
   pub f-add : (s : Bool) (a b : ℤ) → Most (term s (a +ℤ b) ts) p q ↔ Most (term s a (term s b ts)) p q
@@ -145,9 +147,9 @@ module _ (ts : Terms) (p q : ℕ) where
   unfolding Most above under
   f-atom s a = omega arith
 
-pub f-none : (p q : ℕ) → Most none p q ↔ p ≤ q
+pub f-end : (p q : ℕ) → Most end p q ↔ p ≤ q
 unfolding Most above under
-f-none p q = omega arith
+f-end p q = omega arith
 
 module _ (a b : ℤ) where
   pub f-T-le : T (leZ a b) ↔ Most (minus-of a b) 0 0
@@ -181,12 +183,12 @@ module _ (a b : ℤ) where
 pub f-not-eq : (a b : ℤ) → T (not (eqZ a b)) ↔ up a + dn b ≢ up b + dn a
 f-not-eq a b = (λ t e. T-not (eqZ a b) t (T-eq a b .1 (→eq e)), λ n. not-T (eqZ a b) (λ t. n (eq→ (T-eq a b .0 t))))
 
-pub f-fits : (w : Width) (z : ℤ) → SFits w z ↔ Most (term true z none) 1 (2 ^ hbits w) × Most (term false z none) 0 (2 ^ hbits w)
+pub f-fits : (w : Width) (z : ℤ) → SFits w z ↔ Most (term true z end) 1 (2 ^ hbits w) × Most (term false z end) 0 (2 ^ hbits w)
 unfolding Most above under
 f-fits w (pos n) = (λ h. omega (arith, h .sfits), λ m. record { sfits = omega arith })
 f-fits w (negsuc n) = (λ h. omega (arith, h .sfits), λ m. record { sfits = omega arith })
 
-pub ruleset flat = (f-le, f-lt, f-eq, f-T-le, f-T-lt, f-not-le, f-not-lt, T-eq, f-not-eq, f-fits, f-add, f-neg, f-atom, f-none, tests)
+pub ruleset flat = (f-le, f-lt, f-eq, f-T-le, f-T-lt, f-not-le, f-not-lt, T-eq, f-not-eq, f-fits, f-add, f-neg, f-atom, f-end, tests)
 
 -- ---- hypotheses as omega reads them: the order with its left side taken apart, and then a sum on the right, from the field
 pub le→ : {a b : ℤ} → a ≤ℤ b → up a + dn b ≤ up b + dn a
@@ -232,6 +234,22 @@ module _ (a b c : ℤ) where
   pub T-lt-sub : T (ltZ c (a -ℤ b)) → up (a -ℤ b) + (dn a + up b) ≡ dn (a -ℤ b) + (up a + dn b)
   T-lt-sub t = sub a b
 
+module _ (a c : ℤ) where
+  pub le-neg : negℤ a ≤ℤ c → dn a + dn c ≤ up c + up a
+  le-neg = simp flat (omega arith)
+
+  pub lt-neg : negℤ a <ℤ c → dn a + dn c < up c + up a
+  lt-neg = simp flat (omega arith)
+
+  pub neg-eq : c ≡ negℤ a → up a + up c ≡ dn a + dn c
+  neg-eq = simp flat (omega arith)
+
+  pub T-le-neg : T (leZ c (negℤ a)) → up (negℤ a) + up a ≡ dn (negℤ a) + dn a
+  T-le-neg t = neg a
+
+  pub T-lt-neg : T (ltZ c (negℤ a)) → up (negℤ a) + up a ≡ dn (negℤ a) + dn a
+  T-lt-neg t = neg a
+
 -- the tests, and the range of a code's signed number
 module _ (a b : ℤ) where
   pub le-true : leZ a b ≡ true → up a + dn b ≤ up b + dn a
@@ -259,7 +277,7 @@ pub fits→ : {w : Width} {z : ℤ} → SFits w z → up z + dn z ≤ 2 ^ hbits 
 fits→ {w} {z = pos n} h = omega (arith, h .sfits)
 fits→ {w} {z = negsuc n} h = omega (arith, h .sfits)
 
-pub ruleset zs = (arith, le-sub, le-add, le→, lt-sub, lt-add, lt→, eq-sub, eq-add, sub-eq, add-eq, eq→, T-within, T-le-sub, T-le-add, T-le, T-lt-sub, T-lt-add, T-lt, T-not-le, T-not-lt, le-true, le-false, lt-true, lt-false, eq-true, eq-false, fits→, le-T, lt-T, →eq)
+pub ruleset zs = (arith, le-sub, le-add, le-neg, le→, lt-sub, lt-add, lt-neg, lt→, eq-sub, eq-add, sub-eq, add-eq, neg-eq, eq→, T-within, T-le-sub, T-le-add, T-le-neg, T-le, T-lt-sub, T-lt-add, T-lt-neg, T-lt, T-not-le, T-not-lt, le-true, le-false, lt-true, lt-false, eq-true, eq-false, fits→, le-T, lt-T, →eq)
 
 -- ---- over code: a number that fits is what its bits read back as; `zb` reads that in place of its range
 pub back : {w : Width} {z : ℤ} → SFits w z → up (toZ w (ofZ w z)) + dn z ≡ up z + dn (toZ w (ofZ w z))
@@ -271,6 +289,10 @@ module _ (w : Width) (a b : ℤ) where
 
   pub back-sub : SFits w (a -ℤ b) → up (toZ w (ofZ w (a -ℤ b))) + (dn a + up b) ≡ up a + dn b + dn (toZ w (ofZ w (a -ℤ b)))
   back-sub h = omega (arith, back h, sub a b)
+
+-- the same from the range as a struct's field has it
+pub read-back : (w : Width) (z : ℤ) → mag z < 2 ^ hbits w → toZ w (ofZ w z) ≡ z
+read-back w z h = toZ-ofZ (record { sfits = h })
 
 pub ruleset zb = (back-sub, back-add, back, zs)
 
