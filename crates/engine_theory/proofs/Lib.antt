@@ -1,0 +1,1 @@
+-- Laws of the engine's definitions, and demand 3 over them.

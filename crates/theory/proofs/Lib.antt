@@ -1,0 +1,2 @@
+-- Laws of the definitions, and demand 3 over them as far as it needs no engine.
+pub mod Shape

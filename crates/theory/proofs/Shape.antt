@@ -1,0 +1,10 @@
+-- What proofs need of a case: it has values, and the ends of its edges are variables, the lower first. Assumes nothing.
+use Prim.Native.Nat.{ℕ, _<_}
+use Rattle.definitions.specs.declared.Case.{Case}
+use Rattle.definitions.specs.Case.{lowerEnd, upperEnd}
+
+pub record Shape (c : Case) : Type 0 where
+  pub some-variable : 0 < c .n
+  pub some-value : 0 < c .d
+  pub ascending : (e : ℕ) → e < c .m → lowerEnd c e < upperEnd c e
+  pub below-n : (e : ℕ) → e < c .m → upperEnd c e < c .n
