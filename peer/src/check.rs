@@ -3,7 +3,7 @@
 
 use crate::counts::Counts;
 use crate::damage::damage;
-use crate::inputs::{input_for, random_for, small_case, some_log, Program};
+use crate::inputs::{input_for, random_for, sized_case, small_case, some_log, Program};
 use crate::random::Random;
 use crate::refute;
 use crate::replay::Replay;
@@ -12,6 +12,12 @@ use crate::slow::replay::PlainReplay;
 use crate::state::{Scopes, State};
 use crate::types::*;
 use crate::{case, engine, foreign, line, programs, score, slow, view};
+
+/// One of so many cases is of any size, the others small.
+const LARGE_EVERY: u64 = 150;
+
+/// Statements about every plan are checked where there are no more plans than this.
+const MOST_PLANS: usize = 5000;
 
 /// A difference: what was compared, and the input to keep.
 pub struct Difference {
@@ -23,6 +29,7 @@ pub struct Difference {
 #[derive(Default, Clone, Copy)]
 pub struct Figures {
     pub cases: u64,
+    pub large: u64,
     pub refutations: u64,
     pub runs: u64,
     pub lines: u64,
@@ -75,6 +82,9 @@ impl Check {
     /// Everything about case number `index` of a seed.
     pub fn one(&mut self, seed: u64, index: u64) -> Result<(), Difference> {
         let mut random = random_for(seed, index);
+        if index % LARGE_EVERY == LARGE_EVERY - 1 {
+            return self.large(&mut random);
+        }
         let case = small_case(&mut random);
         self.files(&case)?;
         self.totals(&case)?;
@@ -91,6 +101,26 @@ impl Check {
         self.scores(&mut random, &case)?;
         self.columns(&mut random)?;
         self.figures.cases += 1;
+        Ok(())
+    }
+
+    /// A case of any size, where plans cannot be listed nor families tried: some
+    /// rounds from the start and from later tables, and logs of the first few rounds.
+    fn large(&mut self, random: &mut Random) -> Result<(), Difference> {
+        let case = sized_case(random);
+        self.files(&case)?;
+        let limit = 1 + random.below(2) as u64;
+        let slow = slow::engine::run(&case, limit);
+        same("run", &engine::run_case(&case, limit), &slow, &case::write(&case))?;
+        let most = engine::run_case(&case, PROGRAM_ROUNDS).rounds as usize;
+        let later = engine::run_case(&case, random.below(most + 1) as u64).weights;
+        self.run_from(&case, later, 1)?;
+        let careless = random.chance(1, 2);
+        let log = foreign::log(random, &case, careless);
+        self.list(&case, &cut(&log))?;
+        self.programs(random, &case)?;
+        self.figures.runs += 1;
+        self.figures.large += 1;
         Ok(())
     }
 
@@ -152,9 +182,10 @@ impl Check {
         for variable in 0..case.variables {
             for value in 0..case.values {
                 let fast = refute::refuted(state, &set, variable, value);
-                let slow = slow::refute::refuted(case, weights, raised, variable, value);
+                let slow =
+                    slow::refute::refuted_both_ways(case, weights, raised, variable, value);
                 let what = format!("refuted, raised {raised:?}, link {variable}, value {value}");
-                same(&what, &fast, &slow, &case::write(case))?;
+                same(&what, &[fast; 2], &slow, &case::write(case))?;
                 self.figures.refutations += 1;
             }
             if !raised.contains(&variable) {
@@ -210,11 +241,15 @@ impl Check {
             if low { (weight.abs() / 1000 - WORK_LIMIT) as i32 } else { weight as i32 }
         };
         let weights: Vec<i32> = case.weights.iter().map(|_| any()).collect();
+        self.run_from(case, weights, 12)
+    }
+
+    fn run_from(&mut self, case: &Case, weights: Vec<i32>, limit: u64) -> Result<(), Difference> {
         let wide = weights.iter().map(|&weight| i64::from(weight)).collect();
-        let slow = slow::engine::run_from(case, wide, 12);
+        let slow = slow::engine::run_from(case, wide, limit);
         let mut state = State::with_weights(case, weights);
         let mut log = Vec::new();
-        let (stop, rounds) = engine::run(&mut state, 12, &mut log);
+        let (stop, rounds) = engine::run(&mut state, limit, &mut log);
         let fast =
             Run { stop, rounds, upper_bound: state.upper_bound, log, weights: state.weights() };
         if let Stop::Refused(number) = slow.stop {
@@ -262,6 +297,9 @@ impl Check {
         let bound = figures::upper_bound(case, &slow.weights);
         same("ceiling of the log", &fast.state.upper_bound, &bound, &input)?;
         self.figures.lists += 1;
+        if case.values.saturating_pow(case.variables as u32) > MOST_PLANS {
+            return Ok(());
+        }
         self.trusted(case, &slow.weights, slow.rounds, &input)
     }
 
@@ -299,8 +337,7 @@ impl Check {
     fn programs(&mut self, random: &mut Random, case: &Case) -> Result<(), Difference> {
         let input = input_for(random, case);
         let (fast, slow) = match input.program {
-            Program::Press if too_large(&input.bytes) => return Ok(()),
-            Program::Replay if too_large(&input.bytes) => return Ok(()),
+            Program::Press if slow_press_takes_long(&input.bytes) => return Ok(()),
             Program::Press => (programs::press(&input.bytes), slow::programs::press(&input.bytes)),
             Program::Replay => {
                 (programs::replay(&input.bytes), slow::programs::replay(&input.bytes))
@@ -387,8 +424,6 @@ fn text(bytes: &[u8]) -> String {
     String::from_utf8_lossy(bytes).into_owned()
 }
 
-/// A damaged head may make a case too large for the slow mode.
-fn too_large(input: &[u8]) -> bool {
-    let Ok((case, _)) = case::read_front(input) else { return false };
-    slow::refute::families(case.variables, case.values) > 3000
+fn slow_press_takes_long(input: &[u8]) -> bool {
+    case::read_alone(input).is_ok_and(|(case, _)| case.weights.len() > 120)
 }

@@ -108,9 +108,10 @@ fn against_slow(check: &mut Check, seed: u64, end: &End) -> Result<(), Differenc
 fn slow_figures(check: &Check) -> String {
     let figures = check.figures;
     format!(
-        "slow mode: cases {}, comparisons {} (refutations {}, runs {}, lines {}, lists {}, \
+        "slow mode: cases {} and {} large, comparisons {} (refutations {}, runs {}, lines {}, lists {}, \
          programs {}, others {})",
         figures.cases,
+        figures.large,
         figures.comparisons(),
         figures.refutations,
         figures.runs,

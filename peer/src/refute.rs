@@ -104,8 +104,16 @@ pub fn none_supported(state: &State, raised: &Scopes, variable: usize, base: &Do
     if base[variable].count_ones() == 1 {
         return false;
     }
-    let mut joint = Joint::new(base, variable, values);
-    joint.propagate(state, raised, 1 << variable);
+    let lowest = values & values.wrapping_neg();
+    let mut domains = *base;
+    domains[variable] = lowest;
+    if propagate(state, raised, &mut domains, 1 << variable) {
+        return false;
+    }
+    let mut joint = Joint::new(base, variable, values ^ lowest);
+    let mut changed = Changed::none();
+    changed.note(variable, MANY);
+    joint.propagate(state, raised, changed);
     joint.standing == 0
 }
 
@@ -142,13 +150,12 @@ impl Joint {
         true
     }
 
-    fn propagate(&mut self, state: &State, raised: &Scopes, mut dirty: u64) {
-        while dirty != 0 {
-            let variable = dirty.trailing_zeros() as usize;
-            dirty &= dirty - 1;
+    /// Narrows the neighbours of changed variables until nothing changes.
+    fn propagate(&mut self, state: &State, raised: &Scopes, mut changed: Changed) {
+        while let Some((variable, only)) = changed.next() {
             let domains = self.domains[variable];
             for near in state.neighbours(variable) {
-                if !raised.has_edge(near.edge as usize) {
+                if near.edge == only || !raised.has_edge(near.edge as usize) {
                     continue;
                 }
                 let rows = state.rows[near.edge as usize][1 - near.end as usize];
@@ -156,7 +163,7 @@ impl Joint {
                     if self.standing == 0 {
                         return;
                     }
-                    dirty |= 1 << near.variable;
+                    changed.note(near.variable as usize, near.edge);
                 }
             }
         }
@@ -164,22 +171,59 @@ impl Joint {
 
     /// Closes what the scopes in `added` forbid too; `raised` holds them already.
     pub fn add(&mut self, state: &State, added: &Scopes, raised: &Scopes) {
-        let mut dirty = 0u64;
+        let mut changed = Changed::none();
         added.each_variable(|variable| {
             let active = ONES * u64::from(state.active[variable]);
-            dirty |= u64::from(self.narrow(variable, active)) << variable;
+            if self.narrow(variable, active) {
+                changed.note(variable, MANY);
+            }
         });
         added.each_edge(|edge| {
             let [rows, columns] = state.rows[edge];
             let [lower, higher] = state.ends[edge];
             let (lower, higher) = (lower as usize, higher as usize);
-            let partners = supported_jointly(rows, self.domains[lower]);
-            dirty |= u64::from(self.narrow(higher, partners)) << higher;
-            let partners = supported_jointly(columns, self.domains[higher]);
-            dirty |= u64::from(self.narrow(lower, partners)) << lower;
+            if self.narrow(higher, supported_jointly(rows, self.domains[lower])) {
+                changed.note(higher, edge as u8);
+            }
+            if self.narrow(lower, supported_jointly(columns, self.domains[higher])) {
+                changed.note(lower, edge as u8);
+            }
         });
         if self.standing != 0 {
-            self.propagate(state, raised, dirty);
+            self.propagate(state, raised, changed);
         }
+    }
+}
+
+/// Stands for more than one edge, or none.
+const MANY: u8 = u8::MAX;
+
+/// Variables narrowed since their neighbours were looked at, and the edge over which
+/// each was narrowed if it was one only: what it lost supported nothing over that edge.
+struct Changed {
+    variables: u64,
+    over: [u8; MAX_VARIABLES],
+}
+
+impl Changed {
+    fn none() -> Changed {
+        Changed { variables: 0, over: [MANY; MAX_VARIABLES] }
+    }
+
+    #[inline]
+    fn note(&mut self, variable: usize, edge: u8) {
+        let again = self.variables >> variable & 1 == 1;
+        self.over[variable] = if again && self.over[variable] != edge { MANY } else { edge };
+        self.variables |= 1 << variable;
+    }
+
+    #[inline]
+    fn next(&mut self) -> Option<(usize, u8)> {
+        if self.variables == 0 {
+            return None;
+        }
+        let variable = self.variables.trailing_zeros() as usize;
+        self.variables &= self.variables - 1;
+        Some((variable, self.over[variable]))
     }
 }

@@ -2,11 +2,27 @@
 
 use crate::types::Case;
 
-/// A tuple of a scope: one value, or two.
-pub type Tuple = Vec<usize>;
 
 pub fn scope_count(case: &Case) -> usize {
     case.variables + case.edges.len()
+}
+
+/// A tuple of a scope: one value, or two.
+#[derive(Clone, Copy)]
+pub enum Tuple {
+    One([usize; 1]),
+    Two([usize; 2]),
+}
+
+impl std::ops::Deref for Tuple {
+    type Target = [usize];
+
+    fn deref(&self) -> &[usize] {
+        match self {
+            Tuple::One(values) => values,
+            Tuple::Two(values) => values,
+        }
+    }
 }
 
 /// All tuples of a scope in table order.
@@ -14,11 +30,11 @@ pub fn tuples(case: &Case, scope: usize) -> Vec<Tuple> {
     let mut all = Vec::new();
     for first in 0..case.values {
         if scope < case.variables {
-            all.push(vec![first]);
+            all.push(Tuple::One([first]));
             continue;
         }
         for second in 0..case.values {
-            all.push(vec![first, second]);
+            all.push(Tuple::Two([first, second]));
         }
     }
     all
@@ -37,9 +53,14 @@ pub fn weight(case: &Case, weights: &[i64], scope: usize, tuple: &[usize]) -> i6
     weights[place(case, scope, tuple)]
 }
 
-pub fn greatest(case: &Case, weights: &[i64], scope: usize) -> i64 {
+/// The places of all tuples of a scope; they lie side by side.
+pub fn places(case: &Case, scope: usize) -> std::ops::RangeInclusive<usize> {
     let all = tuples(case, scope);
-    all.iter().map(|tuple| weight(case, weights, scope, tuple)).max().unwrap()
+    place(case, scope, &all[0])..=place(case, scope, &all[all.len() - 1])
+}
+
+pub fn greatest(case: &Case, weights: &[i64], scope: usize) -> i64 {
+    *weights[places(case, scope)].iter().max().unwrap()
 }
 
 pub fn is_active(case: &Case, weights: &[i64], scope: usize, tuple: &[usize]) -> bool {
@@ -67,7 +88,7 @@ pub fn members(case: &Case, scope: usize) -> Vec<usize> {
 pub fn objective(case: &Case, weights: &[i64], assignment: &[usize]) -> i64 {
     let mut total = 0;
     for scope in 0..scope_count(case) {
-        let used: Tuple = members(case, scope).iter().map(|&member| assignment[member]).collect();
+        let used: Vec<usize> = members(case, scope).iter().map(|&member| assignment[member]).collect();
         total += weight(case, weights, scope, &used);
     }
     total

@@ -1,4 +1,5 @@
-//! Refutation by trying every family.
+//! Refutation by trying every family. Where there are too many of them, by deleting
+//! values without a partner until none is left to delete; small cases ask both.
 
 use super::figures::*;
 use crate::types::Case;
@@ -14,8 +15,7 @@ impl<'a> Open<'a> {
         let mut allowed = vec![true; case.weights.len()];
         for &scope in raised {
             let greatest = greatest(case, weights, scope);
-            for tuple in tuples(case, scope) {
-                let here = place(case, scope, &tuple);
+            for here in places(case, scope) {
                 allowed[here] = weights[here] == greatest;
             }
         }
@@ -51,7 +51,7 @@ impl<'a> Open<'a> {
 }
 
 fn values_of(set: u32) -> impl Iterator<Item = usize> {
-    (0..32).filter(move |value| set >> value & 1 == 1)
+    (0..8).filter(move |value| set >> value & 1 == 1)
 }
 
 /// The next family in counting order, `fixed` staying as it is.
@@ -70,17 +70,30 @@ fn advance(family: &mut [u32], fixed: usize, last_set: u32) -> bool {
 }
 
 /// No family of non-empty sets, {value} at `variable`, is supported.
-pub fn refuted(
+fn refuted(open: &Open, variable: usize, value: usize) -> bool {
+    if families(open.case.variables, open.case.values) <= MOST_FAMILIES {
+        no_family(open, variable, value)
+    } else {
+        nothing_left(open, variable, value)
+    }
+}
+
+/// Both ways of finding out; for small cases only.
+pub fn refuted_both_ways(
     case: &Case,
     weights: &[i64],
     raised: &[usize],
     variable: usize,
     value: usize,
-) -> bool {
+) -> [bool; 2] {
     let open = Open::new(case, weights, raised);
-    let mut family = vec![1; case.variables];
+    [no_family(&open, variable, value), nothing_left(&open, variable, value)]
+}
+
+fn no_family(open: &Open, variable: usize, value: usize) -> bool {
+    let mut family = vec![1; open.case.variables];
     family[variable] = 1 << value;
-    let last_set = (1 << case.values) - 1;
+    let last_set = (1 << open.case.values) - 1;
     loop {
         if open.holds_open_values(&family) && open.has_partners(&family) {
             return false;
@@ -91,14 +104,48 @@ pub fn refuted(
     }
 }
 
-/// Every active value of the variable is refuted.
-pub fn active_refuted(case: &Case, weights: &[i64], raised: &[usize], variable: usize) -> bool {
-    active_values(case, weights, variable)
-        .into_iter()
-        .all(|value| refuted(case, weights, raised, variable, value))
+/// Starts with all open values and deletes those without a partner.
+fn nothing_left(open: &Open, variable: usize, value: usize) -> bool {
+    let case = open.case;
+    let mut left = vec![vec![false; case.values]; case.variables];
+    for other in 0..case.variables {
+        for k in 0..case.values {
+            left[other][k] = (other != variable || k == value) && open.is_open(other, &[k]);
+        }
+    }
+    while delete_one_pass(open, &mut left) {}
+    left.iter().any(|values| !values.contains(&true))
 }
 
+fn delete_one_pass(open: &Open, left: &mut [Vec<bool>]) -> bool {
+    let mut deleted = false;
+    for (edge, &(lower, higher)) in open.case.edges.iter().enumerate() {
+        let scope = open.case.variables + edge;
+        let values = 0..open.case.values;
+        for k in values.clone() {
+            let partner = values.clone().any(|l| left[higher][l] && open.is_open(scope, &[k, l]));
+            deleted |= left[lower][k] && !partner;
+            left[lower][k] &= partner;
+        }
+        for l in values.clone() {
+            let partner = values.clone().any(|k| left[lower][k] && open.is_open(scope, &[k, l]));
+            deleted |= left[higher][l] && !partner;
+            left[higher][l] &= partner;
+        }
+    }
+    deleted
+}
+
+/// Every active value of the variable is refuted.
+pub fn active_refuted(case: &Case, weights: &[i64], raised: &[usize], variable: usize) -> bool {
+    let open = Open::new(case, weights, raised);
+    let active = active_values(case, weights, variable);
+    active.into_iter().all(|value| refuted(&open, variable, value))
+}
+
+const MOST_FAMILIES: u64 = 5000;
+
 /// How many families one refutation tries at most.
-pub fn families(variables: usize, values: usize) -> u64 {
+fn families(variables: usize, values: usize) -> u64 {
     ((1u64 << values) - 1).saturating_pow(variables as u32 - 1)
 }
