@@ -1,1 +1,2 @@
 -- Laws of the engine's definitions, and demand 3 over them.
+pub mod Trim
