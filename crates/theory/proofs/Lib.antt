@@ -1,2 +1,3 @@
 -- Laws of the definitions, and demand 3 over them as far as it needs no engine.
 pub mod Shape
+pub mod Places
