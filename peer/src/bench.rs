@@ -27,7 +27,12 @@ pub fn bench(options: &mut Options) -> Result<ExitCode, String> {
         ("small, -1 to 1", Shape::Random, Weights::Small(1), 0),
         ("extreme", Shape::Random, Weights::Extreme, 0),
         ("interference, mesh", Shape::Mesh, Weights::Interference, 0),
-        ("interference, unusable", Shape::Mesh, Weights::Interference, 25),
+        (
+            "interference, unusable",
+            Shape::Mesh,
+            Weights::Interference,
+            25,
+        ),
     ];
     for (name, shape, weights, unusable) in kinds {
         rounds(name, shape, weights, unusable, seconds);
@@ -39,7 +44,17 @@ pub fn bench(options: &mut Options) -> Result<ExitCode, String> {
 
 fn largest(random: &mut Random, shape: Shape, weights: Weights, unusable: u64) -> Case {
     let (variables, values, edges) = (MAX_VARIABLES, MAX_VALUES, MAX_EDGES);
-    generate::case(random, Plan { shape, weights, unusable, variables, values, edges })
+    generate::case(
+        random,
+        Plan {
+            shape,
+            weights,
+            unusable,
+            variables,
+            values,
+            edges,
+        },
+    )
 }
 
 fn rounds(name: &str, shape: Shape, weights: Weights, unusable: u64, seconds: f64) {
@@ -85,7 +100,10 @@ fn replays(seconds: f64) {
     let case = largest(&mut Random::new(7), Shape::Random, Weights::Uniform, 0);
     let untrimmed = raise_log(&case, 4000);
     let own = engine::run_case(&case, PROGRAM_ROUNDS).log;
-    for (name, log) in [("untrimmed presses", &untrimmed), ("the engine's own log", &own)] {
+    for (name, log) in [
+        ("untrimmed presses", &untrimmed),
+        ("the engine's own log", &own),
+    ] {
         let rate = rate(log.len(), seconds, || {
             let replay = replay_file(&case, log, 0);
             assert!(black_box(replay).is_ok());
@@ -102,11 +120,17 @@ fn files(seconds: f64) {
     let reading = rate(file.len(), seconds, || {
         assert!(black_box(case::read_alone(&file)).is_ok());
     });
-    println!("case    {:<24} {reading:>9.0} MB/s  ({lines} lines)", "reading");
+    println!(
+        "case    {:<24} {reading:>9.0} MB/s  ({lines} lines)",
+        "reading"
+    );
     let writing = rate(file.len(), seconds, || {
         black_box(case::write(&case));
     });
-    println!("case    {:<24} {writing:>9.0} MB/s  ({lines} lines)", "writing");
+    println!(
+        "case    {:<24} {writing:>9.0} MB/s  ({lines} lines)",
+        "writing"
+    );
 }
 
 /// Megabytes a second of a task that handles so many bytes.

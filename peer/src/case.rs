@@ -67,7 +67,10 @@ struct Reader<'a> {
 
 impl Reader<'_> {
     fn refuse<T>(&self, number: u8) -> Result<T, Refusal> {
-        Err(Refusal { number, line: self.at })
+        Err(Refusal {
+            number,
+            line: self.at,
+        })
     }
 
     #[inline]
@@ -97,7 +100,12 @@ impl Reader<'_> {
         };
         self.at += 1;
         let weights = vec![0; table_length(variables, values, edges)];
-        let case = Case { variables, values, edges: Vec::with_capacity(edges), weights };
+        let case = Case {
+            variables,
+            values,
+            edges: Vec::with_capacity(edges),
+            weights,
+        };
         Ok((case, edges))
     }
 

@@ -42,19 +42,34 @@ pub fn check(options: &mut Options) -> Result<ExitCode, String> {
     let counts = options.flag("counts");
     options.finish()?;
     println!("seed {seed}");
-    let end = if cases > 0 { End::After(cases) } else { in_seconds(seconds as f64) };
+    let end = if cases > 0 {
+        End::After(cases)
+    } else {
+        in_seconds(seconds as f64)
+    };
     let began = Instant::now();
     let mut check = Check::new();
     let result = samples_first().and_then(|samples| {
         against_slow(&mut check, seed, &end)?;
         Ok(samples)
     });
-    finish(result, &keep, "check", seed, |samples| {
-        if counts {
-            check.counts.print();
-        }
-        format!("samples {samples}, {}, {}", slow_figures(&check), missing(&[&check.counts]))
-    }, began)
+    finish(
+        result,
+        &keep,
+        "check",
+        seed,
+        |samples| {
+            if counts {
+                check.counts.print();
+            }
+            format!(
+                "samples {samples}, {}, {}",
+                slow_figures(&check),
+                missing(&[&check.counts])
+            )
+        },
+        began,
+    )
 }
 
 /// `peer compare`: the same, then the programs that are there.
@@ -77,20 +92,34 @@ pub fn compare(options: &mut Options) -> Result<ExitCode, String> {
         programs.generated(seed, &in_seconds(seconds * (1.0 - slow_share)))?;
         Ok(samples)
     });
-    finish(result, &keep, "compare", seed, |samples| {
-        if counts {
-            println!("fast against slow:");
-            check.counts.print();
-            println!("programs against fast:");
-            programs.counts.print();
-        }
-        let seen = missing(&[&check.counts, &programs.counts]);
-        format!("samples {samples}, {}, {}, {seen}", slow_figures(&check), programs.figures())
-    }, began)
+    finish(
+        result,
+        &keep,
+        "compare",
+        seed,
+        |samples| {
+            if counts {
+                println!("fast against slow:");
+                check.counts.print();
+                println!("programs against fast:");
+                programs.counts.print();
+            }
+            let seen = missing(&[&check.counts, &programs.counts]);
+            format!(
+                "samples {samples}, {}, {}, {seen}",
+                slow_figures(&check),
+                programs.figures()
+            )
+        },
+        began,
+    )
 }
 
 fn samples_first() -> Result<usize, Difference> {
-    samples::check().map_err(|what| Difference { what, input: vec![] })
+    samples::check().map_err(|what| Difference {
+        what,
+        input: vec![],
+    })
 }
 
 fn against_slow(check: &mut Check, seed: u64, end: &End) -> Result<(), Difference> {
@@ -108,8 +137,8 @@ fn against_slow(check: &mut Check, seed: u64, end: &End) -> Result<(), Differenc
 fn slow_figures(check: &Check) -> String {
     let figures = check.figures;
     format!(
-        "slow mode: cases {} and {} large, comparisons {} (refutations {}, runs {}, lines {}, lists {}, \
-         programs {}, others {})",
+        "slow mode: cases {} and {} large, comparisons {} (refutations {}, runs {}, lines {}, \
+         lists {}, programs {}, others {}; rounds with a climb {})",
         figures.cases,
         figures.large,
         figures.comparisons(),
@@ -118,15 +147,20 @@ fn slow_figures(check: &Check) -> String {
         figures.lines,
         figures.lists,
         figures.programs,
-        figures.others
+        figures.others,
+        figures.climbs
     )
 }
 
 /// Which numbers the programs can answer were not met.
 fn missing(counts: &[&Counts]) -> String {
     let met = |part: &str, number: &u8| counts.iter().any(|c| c.numbers(part).contains(number));
-    let case = [1, 2, 3, 5, 6, 7, 8, 14].into_iter().filter(|number| !met("case", number));
-    let log = [1, 2, 5, 9, 10, 11, 12, 13, 14].into_iter().filter(|number| !met("log", number));
+    let case = [1, 2, 3, 5, 6, 7, 8, 14]
+        .into_iter()
+        .filter(|number| !met("case", number));
+    let log = [1, 2, 5, 9, 10, 11, 12, 13, 14]
+        .into_iter()
+        .filter(|number| !met("log", number));
     let (case, log): (Vec<u8>, Vec<u8>) = (case.collect(), log.collect());
     if case.is_empty() && log.is_empty() {
         return "every number met".into();
@@ -152,7 +186,10 @@ fn finish(
         Err(difference) => {
             let kept = keep_input(keep, &difference, seed).map_err(|error| error.to_string())?;
             println!("{}", difference.what);
-            println!("{name}: seed {seed}, differences 1, kept in {}, {seconds} s", kept.display());
+            println!(
+                "{name}: seed {seed}, differences 1, kept in {}, {seconds} s",
+                kept.display()
+            );
             Ok(ExitCode::from(1))
         }
     }
@@ -190,7 +227,11 @@ impl Programs {
 
     fn samples(&mut self) -> Result<(), Difference> {
         for (name, press, input, output) in samples::for_programs() {
-            let program = if press { Program::Press } else { Program::Replay };
+            let program = if press {
+                Program::Press
+            } else {
+                Program::Replay
+            };
             self.ask(program, &input, &output, name)?;
         }
         Ok(())
@@ -210,7 +251,12 @@ impl Programs {
                     Program::Press => programs::press(&input.bytes),
                     Program::Replay => programs::replay(&input.bytes),
                 };
-                self.ask(input.program, &input.bytes, &expected, &format!("input {index}"))?;
+                self.ask(
+                    input.program,
+                    &input.bytes,
+                    &expected,
+                    &format!("input {index}"),
+                )?;
             }
             index += 1;
         }
@@ -228,7 +274,9 @@ impl Programs {
             Program::Press => &mut self.press,
             Program::Replay => &mut self.replay,
         };
-        let Some(outside) = outside else { return Ok(()) };
+        let Some(outside) = outside else {
+            return Ok(());
+        };
         let (found, note) = outside.answer(input);
         if found != expected || !note.is_empty() {
             let what = format!(
@@ -236,7 +284,10 @@ impl Programs {
                 shown(&found),
                 shown(expected)
             );
-            return Err(Difference { what, input: input.to_vec() });
+            return Err(Difference {
+                what,
+                input: input.to_vec(),
+            });
         }
         self.counts.note_output(input, expected);
         self.compared[program as usize] += 1;
@@ -249,7 +300,10 @@ impl Programs {
             return "no programs".into();
         }
         let [press, replay] = self.compared;
-        format!("press {press} inputs, replay {replay} inputs, {} MB in", self.bytes / 1_000_000)
+        format!(
+            "press {press} inputs, replay {replay} inputs, {} MB in",
+            self.bytes / 1_000_000
+        )
     }
 }
 

@@ -35,8 +35,12 @@ impl Counts {
 
     /// The numbers seen in one part, lowest first.
     pub fn numbers(&self, part: &str) -> Vec<u8> {
-        let mut numbers: Vec<u8> =
-            self.seen.keys().filter(|key| key.0 == part).map(|key| key.1).collect();
+        let mut numbers: Vec<u8> = self
+            .seen
+            .keys()
+            .filter(|key| key.0 == part)
+            .map(|key| key.1)
+            .collect();
         numbers.dedup();
         numbers
     }
@@ -68,7 +72,10 @@ fn flush(text: &mut String) {
 pub fn parse_refusal(output: &[u8]) -> Option<Refusal> {
     let text = std::str::from_utf8(output).ok()?.strip_prefix("refused ")?;
     let (number, line) = text.trim_end().split_once(' ')?;
-    Some(Refusal { number: number.parse().ok()?, line: line.parse().ok()? })
+    Some(Refusal {
+        number: number.parse().ok()?,
+        line: line.parse().ok()?,
+    })
 }
 
 fn label(input: &[u8], line: usize) -> String {

@@ -12,7 +12,8 @@
 
 use crate::line;
 use crate::refute::{close, full_domains, none_supported, Joint};
-use crate::state::{Scopes, State};
+use crate::scopes::Scopes;
+use crate::state::State;
 use crate::types::*;
 
 pub struct Press {
@@ -34,7 +35,9 @@ fn candidates(state: &State, variable: usize) -> ([u8; MAX_SCOPES], usize) {
 
 fn set_of(state: &State, scopes: &[u8]) -> Scopes {
     let mut set = Scopes::default();
-    scopes.iter().for_each(|&scope| set.insert(state.variables, scope as usize));
+    scopes
+        .iter()
+        .for_each(|&scope| set.insert(state.variables, scope as usize));
     set
 }
 
@@ -89,7 +92,11 @@ pub fn find_press(state: &State, from: usize) -> Option<Press> {
     let joint = Joint::new(&full_domains(state), variable, state.active[variable]);
     let (list, count) = candidates(state, variable);
     let raised = trim(state, &list[..count], &Scopes::default(), &joint);
-    Some(Press { variable, raised, amount: amount(state, variable, &raised) })
+    Some(Press {
+        variable,
+        raised,
+        amount: amount(state, variable, &raised),
+    })
 }
 
 fn write_press(out: &mut Vec<u8>, state: &State, press: &Press) {
@@ -124,5 +131,11 @@ pub fn run_case(case: &Case, limit: u64) -> Run {
     let mut state = State::new(case);
     let mut log = Vec::new();
     let (stop, rounds) = run(&mut state, limit, &mut log);
-    Run { stop, rounds, upper_bound: state.upper_bound, log, weights: state.weights() }
+    Run {
+        stop,
+        rounds,
+        upper_bound: state.upper_bound,
+        log,
+        weights: state.weights(),
+    }
 }

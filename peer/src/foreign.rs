@@ -6,7 +6,8 @@ use crate::engine::find_press;
 use crate::line;
 use crate::random::Random;
 use crate::refute::all_active_refuted;
-use crate::state::{Scopes, State};
+use crate::scopes::Scopes;
+use crate::state::State;
 use crate::types::*;
 
 #[derive(Clone, Copy)]
@@ -26,8 +27,13 @@ struct Writer<'a> {
 
 /// A foreign log for the case; `careless` ones may be refused at any number.
 pub fn log(random: &mut Random, case: &Case, careless: bool) -> Vec<u8> {
-    let mut writer = Writer { random, state: State::new(case), log: Vec::new(), careless };
-    let rounds = *writer.random.pick(&[0, 1, 1, 2, 3, 5, 8]);
+    let mut writer = Writer {
+        random,
+        state: State::new(case),
+        log: Vec::new(),
+        careless,
+    };
+    let rounds = *writer.random.pick(&[0, 1, 1, 2, 2, 3, 5, 8, 8, 20]);
     for _ in 0..rounds {
         if !writer.round() {
             break;
@@ -86,7 +92,11 @@ impl Writer<'_> {
     }
 
     fn bound(&mut self, error: i64) {
-        let error = if self.careless && self.random.chance(1, 40) { 1 } else { error };
+        let error = if self.careless && self.random.chance(1, 40) {
+            1
+        } else {
+            error
+        };
         line::write(&mut self.log, 4, 0, 0, 0, self.state.upper_bound + error);
     }
 
@@ -96,7 +106,11 @@ impl Writer<'_> {
         }
         let most = *self.random.pick(&[1, 3, 10, 1000, 100_000, 1_000_000]);
         let size = self.amount(most);
-        let amount = if self.random.chance(1, 2) { size } else { -size };
+        let amount = if self.random.chance(1, 2) {
+            size
+        } else {
+            -size
+        };
         Some(Shift {
             edge: self.random.below(self.state.edges),
             end: self.random.below(2),
@@ -114,7 +128,12 @@ impl Writer<'_> {
 
     /// Makes and writes a shift. One out of range is written by careless writers only.
     fn shift(&mut self, shift: Shift) -> bool {
-        let Shift { edge, end, value, amount } = shift;
+        let Shift {
+            edge,
+            end,
+            value,
+            amount,
+        } = shift;
         let good = self.state.shift(edge, end, value, amount).is_ok();
         if good || self.careless {
             let (edge, end, value) = (edge as i64, end as i64, value as i64);
@@ -132,7 +151,9 @@ impl Writer<'_> {
     /// A first shift that raises the ceiling, taken back whole or in part.
     fn raise_and_return(&mut self) {
         for _ in 0..6 {
-            let Some(shift) = self.some_shift() else { return };
+            let Some(shift) = self.some_shift() else {
+                return;
+            };
             let mut trial = self.state.clone();
             let made = trial.shift(shift.edge, shift.end, shift.value, shift.amount);
             if made.is_err() || trial.upper_bound <= self.state.upper_bound {

@@ -36,8 +36,9 @@ pub struct Plan {
     pub edges: usize,
 }
 
-pub const KINDS: [&str; 8] =
-    ["uniform", "small", "extreme", "chain", "ring", "tree", "mesh", "unusable"];
+pub const KINDS: [&str; 8] = [
+    "uniform", "small", "extreme", "chain", "ring", "tree", "mesh", "unusable",
+];
 
 /// Shape, weights and unusable share of a named kind.
 pub fn kind(name: &str) -> Option<(Shape, Weights, u64)> {
@@ -66,7 +67,12 @@ pub fn case(random: &mut Random, plan: Plan) -> Case {
     for _ in &edges {
         edge_weights(random, plan, scale, &mut weights);
     }
-    Case { variables: plan.variables, values: plan.values, edges, weights }
+    Case {
+        variables: plan.variables,
+        values: plan.values,
+        edges,
+        weights,
+    }
 }
 
 fn variable_weight(random: &mut Random, plan: Plan, scale: i64) -> i32 {
@@ -106,9 +112,17 @@ fn edge_weights(random: &mut Random, plan: Plan, scale: i64, weights: &mut Vec<i
                 1 => beside,
                 _ => 0,
             };
-            let extra = if even || loss == 0 { 0 } else { random.between(-scale, scale) };
+            let extra = if even || loss == 0 {
+                0
+            } else {
+                random.between(-scale, scale)
+            };
             let shut = plan.unusable > 0 && random.chance(1, 50);
-            weights.push(if shut { -(START_LIMIT as i32) } else { (loss + extra) as i32 });
+            weights.push(if shut {
+                -(START_LIMIT as i32)
+            } else {
+                (loss + extra) as i32
+            });
         }
     }
 }
@@ -142,7 +156,9 @@ fn ring(variables: usize) -> Vec<(usize, usize)> {
 }
 
 fn tree(random: &mut Random, variables: usize) -> Vec<(usize, usize)> {
-    (1..variables).map(|higher| (random.below(higher), higher)).collect()
+    (1..variables)
+        .map(|higher| (random.below(higher), higher))
+        .collect()
 }
 
 fn all_pairs(variables: usize) -> Vec<(usize, usize)> {
@@ -177,8 +193,13 @@ fn mesh(random: &mut Random, variables: usize, edges: usize) -> Vec<(usize, usiz
 
 /// Any kind of case with at most these sizes.
 pub fn any_case(random: &mut Random, variables: usize, values: usize, edges: usize) -> Case {
-    let shape =
-        *random.pick(&[Shape::Chain, Shape::Ring, Shape::Tree, Shape::Mesh, Shape::Random]);
+    let shape = *random.pick(&[
+        Shape::Chain,
+        Shape::Ring,
+        Shape::Tree,
+        Shape::Mesh,
+        Shape::Random,
+    ]);
     let small = *random.pick(&[1, 2, 3, 9, 50]);
     let weights = match random.below(8) {
         0 => Weights::Uniform,
@@ -186,9 +207,27 @@ pub fn any_case(random: &mut Random, variables: usize, values: usize, edges: usi
         2 | 3 => Weights::Interference,
         _ => Weights::Small(small),
     };
-    let unusable = if random.chance(1, 3) { 5 + random.below(40) as u64 } else { 0 };
+    let unusable = if random.chance(1, 3) {
+        5 + random.below(40) as u64
+    } else {
+        0
+    };
     let variables = 1 + random.below(variables);
     let values = 1 + random.below(values);
-    let edges = if random.chance(2, 3) { edges } else { random.below(edges + 1) };
-    case(random, Plan { shape, weights, unusable, variables, values, edges })
+    let edges = if random.chance(2, 3) {
+        edges
+    } else {
+        random.below(edges + 1)
+    };
+    case(
+        random,
+        Plan {
+            shape,
+            weights,
+            unusable,
+            variables,
+            values,
+            edges,
+        },
+    )
 }

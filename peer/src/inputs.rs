@@ -26,7 +26,16 @@ pub fn random_for(seed: u64, index: u64) -> Random {
 
 /// A case that the slow mode can still do.
 pub fn small_case(random: &mut Random) -> Case {
-    let sizes = [(3, 2, 3), (3, 3, 3), (4, 2, 6), (4, 3, 5), (5, 2, 8), (3, 4, 3), (2, 8, 1), (2, 5, 1)];
+    let sizes = [
+        (3, 2, 3),
+        (3, 3, 3),
+        (4, 2, 6),
+        (4, 3, 5),
+        (5, 2, 8),
+        (3, 4, 3),
+        (2, 8, 1),
+        (2, 5, 1),
+    ];
     let (variables, values, edges) = *random.pick(&sizes);
     any_case(random, variables, values, edges)
 }
@@ -43,12 +52,26 @@ pub fn sized_case(random: &mut Random) -> Case {
 }
 
 fn largest_case(random: &mut Random) -> Case {
-    let weights =
-        *random.pick(&[Weights::Uniform, Weights::Small(9), Weights::Interference, Weights::Extreme]);
+    let weights = *random.pick(&[
+        Weights::Uniform,
+        Weights::Small(9),
+        Weights::Interference,
+        Weights::Extreme,
+    ]);
     let shape = *random.pick(&[Shape::Mesh, Shape::Random]);
     let unusable = *random.pick(&[0, 0, 20]);
     let (variables, values, edges) = (MAX_VARIABLES, MAX_VALUES, MAX_EDGES);
-    crate::generate::case(random, Plan { shape, weights, unusable, variables, values, edges })
+    crate::generate::case(
+        random,
+        Plan {
+            shape,
+            weights,
+            unusable,
+            variables,
+            values,
+            edges,
+        },
+    )
 }
 
 /// The engine's own log, or a foreign one.
@@ -67,7 +90,10 @@ pub fn input_for(random: &mut Random, case: &Case) -> Input {
         if random.chance(1, 2) {
             bytes = damage(random, &bytes);
         }
-        return Input { program: Program::Press, bytes };
+        return Input {
+            program: Program::Press,
+            bytes,
+        };
     }
     let mut log = some_log(random, case);
     if random.chance(1, 3) {
@@ -77,5 +103,8 @@ pub fn input_for(random: &mut Random, case: &Case) -> Input {
     if random.chance(1, 3) {
         bytes = damage(random, &bytes);
     }
-    Input { program: Program::Replay, bytes }
+    Input {
+        program: Program::Replay,
+        bytes,
+    }
 }

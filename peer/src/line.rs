@@ -22,7 +22,13 @@ pub fn parse(bytes: &[u8]) -> Option<Line> {
     let b = narrow(&bytes[6..10])?;
     let c = narrow(&bytes[10..14])?;
     let amount = wide(&bytes[14..26])?;
-    Some(Line { kind, a, b, c, amount })
+    Some(Line {
+        kind,
+        a,
+        b,
+        c,
+        amount,
+    })
 }
 
 #[inline]

@@ -19,6 +19,7 @@ mod random;
 mod refute;
 mod replay;
 mod samples;
+mod scopes;
 mod score;
 mod slow;
 mod state;
@@ -87,12 +88,18 @@ fn run(command: &str, options: &mut Options) -> Result<ExitCode, String> {
 
 fn input() -> Vec<u8> {
     let mut bytes = Vec::new();
-    std::io::stdin().lock().read_to_end(&mut bytes).expect("standard input");
+    std::io::stdin()
+        .lock()
+        .read_to_end(&mut bytes)
+        .expect("standard input");
     bytes
 }
 
 fn output(bytes: &[u8]) -> Result<ExitCode, String> {
-    std::io::stdout().lock().write_all(bytes).map_err(|error| error.to_string())?;
+    std::io::stdout()
+        .lock()
+        .write_all(bytes)
+        .map_err(|error| error.to_string())?;
     Ok(ExitCode::SUCCESS)
 }
 
@@ -107,9 +114,11 @@ fn print_after(
 
 fn press(options: &mut Options) -> Result<ExitCode, String> {
     let limit = options.number("limit", PROGRAM_ROUNDS)?;
-    print_after(options, |input| match programs::press_answer(input, limit) {
-        Ok(run) => run.log,
-        Err(refusal) => programs::refusal_text(refusal),
+    print_after(options, |input| {
+        match programs::press_answer(input, limit) {
+            Ok(run) => run.log,
+            Err(refusal) => programs::refusal_text(refusal),
+        }
     })
 }
 
@@ -121,7 +130,10 @@ fn ceiling(input: &[u8]) -> Vec<u8> {
 }
 
 fn view_round(options: &mut Options) -> Result<ExitCode, String> {
-    let round = options.word("ROUND")?.parse().map_err(|_| "ROUND is no number")?;
+    let round = options
+        .word("ROUND")?
+        .parse()
+        .map_err(|_| "ROUND is no number")?;
     print_after(options, |log| match view::view(log, round) {
         Ok(stretch) => stretch.to_vec(),
         Err(refusal) => programs::refusal_text(refusal),
@@ -132,7 +144,9 @@ fn plan(text: &str) -> Result<Vec<u64>, String> {
     if text.is_empty() {
         return Ok(vec![]);
     }
-    text.split(',').map(|value| value.parse().map_err(|_| format!("bad plan {text}"))).collect()
+    text.split(',')
+        .map(|value| value.parse().map_err(|_| format!("bad plan {text}")))
+        .collect()
 }
 
 /// Reads the case alone; the answer is a word or a number refused.
@@ -162,7 +176,9 @@ fn score_plans(options: &mut Options) -> Result<ExitCode, String> {
 
 fn total(options: &mut Options) -> Result<ExitCode, String> {
     let plan = plan(&options.word("PLAN")?)?;
-    about_case(options, |case| score::objective(case, &plan).map(|total| total.to_string()))
+    about_case(options, |case| {
+        score::objective(case, &plan).map(|total| total.to_string())
+    })
 }
 
 fn generate_case(options: &mut Options) -> Result<ExitCode, String> {
@@ -175,7 +191,14 @@ fn generate_case(options: &mut Options) -> Result<ExitCode, String> {
         .ok_or_else(|| format!("no kind {name}; there are {}", generate::KINDS.join(", ")))?;
     let unusable = options.number("unusable", share)?;
     options.finish()?;
-    let plan = generate::Plan { shape, weights, unusable, variables, values, edges };
+    let plan = generate::Plan {
+        shape,
+        weights,
+        unusable,
+        variables,
+        values,
+        edges,
+    };
     output(&case::write(&generate::case(&mut random, plan)))
 }
 

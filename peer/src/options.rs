@@ -10,7 +10,11 @@ const FLAGS: [&str; 2] = ["counts", "careful"];
 
 impl Options {
     pub fn new(arguments: &[String]) -> Result<Options, String> {
-        let mut options = Options { words: vec![], named: vec![], flags: vec![] };
+        let mut options = Options {
+            words: vec![],
+            named: vec![],
+            flags: vec![],
+        };
         let mut left = arguments.iter();
         while let Some(argument) = left.next() {
             match argument.strip_prefix("--") {
@@ -41,7 +45,9 @@ impl Options {
     pub fn number(&mut self, name: &str, default: u64) -> Result<u64, String> {
         match self.text(name) {
             None => Ok(default),
-            Some(text) => text.parse().map_err(|_| format!("--{name}: {text} is no number")),
+            Some(text) => text
+                .parse()
+                .map_err(|_| format!("--{name}: {text} is no number")),
         }
     }
 

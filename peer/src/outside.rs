@@ -23,7 +23,11 @@ impl Outside {
     pub fn new(path: &str, directory: &Path) -> Result<Outside, String> {
         let path = std::fs::canonicalize(path).map_err(|error| format!("{path}: {error}"))?;
         std::fs::create_dir_all(directory).map_err(|error| error.to_string())?;
-        let name = path.file_name().unwrap_or_default().to_string_lossy().into_owned();
+        let name = path
+            .file_name()
+            .unwrap_or_default()
+            .to_string_lossy()
+            .into_owned();
         let input = directory.join(format!("now-{}-{name}", std::process::id()));
         let (watch, watched) = channel::<(Instant, Running)>();
         std::thread::spawn(move || {
@@ -51,7 +55,9 @@ impl Outside {
             .spawn()?;
         let stdout = child.stdout.take();
         let running = Arc::new(Mutex::new(Some(child)));
-        let _ = self.watch.send((Instant::now() + PATIENCE, running.clone()));
+        let _ = self
+            .watch
+            .send((Instant::now() + PATIENCE, running.clone()));
         let mut found = Vec::new();
         if let Some(mut stdout) = stdout {
             stdout.read_to_end(&mut found)?;
@@ -60,7 +66,11 @@ impl Outside {
         let status = slot.as_mut().map(|child| child.wait()).transpose()?;
         *slot = None;
         let crashed = status.is_none_or(|status| matches!(status.code(), None | Some(101)));
-        let note = if crashed { format!("ended with {status:?}") } else { String::new() };
+        let note = if crashed {
+            format!("ended with {status:?}")
+        } else {
+            String::new()
+        };
         Ok((found, note))
     }
 }

@@ -4,7 +4,7 @@ pub struct Random(u64);
 
 impl Random {
     pub fn new(seed: u64) -> Random {
-        let mut random = Random(seed ^ 0x5eed_0f_7e57_c0de);
+        let mut random = Random(seed ^ 0x005e_ed0f_7e57_c0de);
         random.next();
         random
     }

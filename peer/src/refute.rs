@@ -3,7 +3,8 @@
 //! `Joint` does it for all values of the fixed variable at once: byte k of a word
 //! belongs to the try in which the variable is fixed to its value k.
 
-use crate::state::{Scopes, State};
+use crate::scopes::Scopes;
+use crate::state::State;
 use crate::types::MAX_VARIABLES;
 
 /// The bytes of a word that are 1, or 255.
@@ -128,11 +129,14 @@ pub struct Joint {
 impl Joint {
     /// Tries with each of the given values, the other variables as in `base`.
     pub fn new(base: &Domains, variable: usize, values: u8) -> Joint {
-        let mut joint = Joint { standing: 0, domains: base.map(|domain| ONES * u64::from(domain)) };
+        let mut joint = Joint {
+            standing: 0,
+            domains: base.map(|domain| ONES * u64::from(domain)),
+        };
         joint.domains[variable] = 0;
         for value in 0..8 {
             joint.domains[variable] |= 1 << (9 * value);
-            joint.standing |= u64::from(values >> value & 1) * 0xff << (8 * value);
+            joint.standing |= (u64::from(values >> value & 1) * 0xff) << (8 * value);
         }
         joint
     }
@@ -207,13 +211,20 @@ struct Changed {
 
 impl Changed {
     fn none() -> Changed {
-        Changed { variables: 0, over: [MANY; MAX_VARIABLES] }
+        Changed {
+            variables: 0,
+            over: [MANY; MAX_VARIABLES],
+        }
     }
 
     #[inline]
     fn note(&mut self, variable: usize, edge: u8) {
         let again = self.variables >> variable & 1 == 1;
-        self.over[variable] = if again && self.over[variable] != edge { MANY } else { edge };
+        self.over[variable] = if again && self.over[variable] != edge {
+            MANY
+        } else {
+            edge
+        };
         self.variables |= 1 << variable;
     }
 

@@ -2,7 +2,8 @@
 
 use crate::line;
 use crate::refute::all_active_refuted;
-use crate::state::{Scopes, State};
+use crate::scopes::Scopes;
+use crate::state::State;
 use crate::types::*;
 
 /// A press whose raise lines are not all there yet; `next` is the lowest scope that
@@ -30,7 +31,14 @@ impl Replay {
     pub fn new(case: &Case) -> Replay {
         let state = State::new(case);
         let round_start = state.upper_bound;
-        Replay { state, rounds: 0, standing: None, round_start, open_moves: false, held: None }
+        Replay {
+            state,
+            rounds: 0,
+            standing: None,
+            round_start,
+            open_moves: false,
+            held: None,
+        }
     }
 
     /// Takes one line, any bytes; the answer is a number or nothing.
@@ -82,7 +90,13 @@ impl Replay {
             return Err(5);
         }
         let amount = line.amount as i32;
-        self.held = Some(Held { variable, amount, left, next: 0, raised: Scopes::default() });
+        self.held = Some(Held {
+            variable,
+            amount,
+            left,
+            next: 0,
+            raised: Scopes::default(),
+        });
         Ok(())
     }
 
@@ -92,7 +106,9 @@ impl Replay {
             return Err(2);
         }
         let scope = below(line.a, self.state.scopes())?;
-        let Some(held) = &mut self.held else { return Err(2) };
+        let Some(held) = &mut self.held else {
+            return Err(2);
+        };
         if scope < held.next || scope == held.variable {
             return Err(9);
         }

@@ -22,7 +22,12 @@ const P1_LOG: &str = " 2   0   3   0           1
 fn case_of(values: usize, edges: &[(usize, usize)], weights: &[i32]) -> Case {
     let pairs = edges.len() * values * values;
     let variables = (weights.len() - pairs) / values;
-    Case { variables, values, edges: edges.to_vec(), weights: weights.to_vec() }
+    Case {
+        variables,
+        values,
+        edges: edges.to_vec(),
+        weights: weights.to_vec(),
+    }
 }
 
 fn triangle() -> Case {
@@ -50,7 +55,13 @@ fn single() -> Case {
 fn lines(numbers: &[[i64; 5]]) -> Vec<u8> {
     let mut text = Vec::new();
     for &[kind, a, b, c, amount] in numbers {
-        text.extend(slow::line::write(Line { kind, a, b, c, amount }));
+        text.extend(slow::line::write(Line {
+            kind,
+            a,
+            b,
+            c,
+            amount,
+        }));
     }
     text
 }
@@ -63,20 +74,40 @@ fn press_by(amount: i64, bound: i64) -> Vec<u8> {
 
 fn replayed(name: &'static str, case: &Case, log: &[u8], output: &str) -> Sample {
     let input = [slow::case::write(case), log.to_vec()].concat();
-    Sample { name, input, press: false, output: format!("{output}\n") }
+    Sample {
+        name,
+        input,
+        press: false,
+        output: format!("{output}\n"),
+    }
 }
 
 fn pressed(name: &'static str, case: &Case, output: &[u8]) -> Sample {
     let output = String::from_utf8_lossy(output).into_owned();
-    Sample { name, input: slow::case::write(case), press: true, output }
+    Sample {
+        name,
+        input: slow::case::write(case),
+        press: true,
+        output,
+    }
 }
 
 fn program_samples() -> Vec<Sample> {
-    let without_5 = lines(&[[2, 0, 2, 0, 1], [3, 3, 0, 0, 0], [3, 4, 0, 0, 0], [4, 0, 0, 0, -1]]);
+    let without_5 = lines(&[
+        [2, 0, 2, 0, 1],
+        [3, 3, 0, 0, 0],
+        [3, 4, 0, 0, 0],
+        [4, 0, 0, 0, -1],
+    ]);
     let shift = lines(&[[1, 0, 0, 0, -2], [4, 0, 0, 0, 4]]);
     vec![
         pressed("P1 P2 press", &triangle(), P1_LOG.as_bytes()),
-        replayed("P1 P2 replay", &triangle(), P1_LOG.as_bytes(), "accepted 1 -1"),
+        replayed(
+            "P1 P2 replay",
+            &triangle(),
+            P1_LOG.as_bytes(),
+            "accepted 1 -1",
+        ),
         replayed("P1 no lines", &triangle(), b"", "accepted 0 0"),
         replayed("P3", &triangle(), &without_5, "refused 10 24"),
         pressed("P4 P5 press", &p4(), &press_by(2, 2)),
@@ -103,8 +134,11 @@ fn limit_samples() -> Vec<Sample> {
         file
     };
     let weight = |weight: i64| lines(&[[10, 1, 1, 0, 0], [11, 0, 0, 0, weight]]);
-    let sample = |name, input, output: &str| {
-        Sample { name, input, press: true, output: output.to_string() }
+    let sample = |name, input, output: &str| Sample {
+        name,
+        input,
+        press: true,
+        output: output.to_string(),
     };
     vec![
         sample("48 links", links(48), ""),
@@ -113,17 +147,33 @@ fn limit_samples() -> Vec<Sample> {
         sample("weight 1000001", weight(1_000_001), "refused 8 1\n"),
         sample("weight -1000001", weight(-1_000_001), "refused 8 1\n"),
         sample("nothing", vec![], "refused 14 0\n"),
-        sample("after the case", [weight(0), weight(0)].concat(), "refused 2 2\n"),
-        sample("bad after the case", [weight(0), vec![b'x'; 27]].concat(), "refused 1 2\n"),
-        sample("part after the case", [weight(0), vec![b'\n']].concat(), "refused 14 2\n"),
+        sample(
+            "after the case",
+            [weight(0), weight(0)].concat(),
+            "refused 2 2\n",
+        ),
+        sample(
+            "bad after the case",
+            [weight(0), vec![b'x'; 27]].concat(),
+            "refused 1 2\n",
+        ),
+        sample(
+            "part after the case",
+            [weight(0), vec![b'\n']].concat(),
+            "refused 14 2\n",
+        ),
     ]
 }
 
 /// The register's P13: what P1 to P12 leave alive.
 fn p13_samples() -> Vec<Sample> {
     let own_gap = two([2, 1], [2, 0], [-3, 0, 0, 0]);
-    let own_first =
-        lines(&[[2, 0, 2, 0, 1], [3, 1, 0, 0, 0], [3, 2, 0, 0, 0], [4, 0, 0, 0, 3]]);
+    let own_first = lines(&[
+        [2, 0, 2, 0, 1],
+        [3, 1, 0, 0, 0],
+        [3, 2, 0, 0, 0],
+        [4, 0, 0, 0, 3],
+    ]);
     let half = two([0, 2], [0, 2], [0, 0, 0, -3]);
     let up_first = lines(&[
         [1, 0, 0, 1, 3],
@@ -136,7 +186,12 @@ fn p13_samples() -> Vec<Sample> {
     let two_rounds = [press_by(1, 3), press_by(1, 2)].concat();
     vec![
         pressed("P13 own gap", &own_gap, &own_first),
-        replayed("P13 own gap by 2", &own_gap, &press_by(2, 3), "accepted 1 3"),
+        replayed(
+            "P13 own gap by 2",
+            &own_gap,
+            &press_by(2, 3),
+            "accepted 1 3",
+        ),
         replayed("P13 two rounds", &p4(), &two_rounds, "accepted 2 2"),
         replayed("P13 half press", &half, &press_by(3, 3), "accepted 1 3"),
         replayed("P13 first move up", &p4(), &up_first, "accepted 1 2"),
@@ -145,14 +200,23 @@ fn p13_samples() -> Vec<Sample> {
 
 fn ask(sample: &Sample) -> Result<(), String> {
     let answers = if sample.press {
-        [programs::press(&sample.input), slow::programs::press(&sample.input)]
+        [
+            programs::press(&sample.input),
+            slow::programs::press(&sample.input),
+        ]
     } else {
-        [programs::replay(&sample.input), slow::programs::replay(&sample.input)]
+        [
+            programs::replay(&sample.input),
+            slow::programs::replay(&sample.input),
+        ]
     };
     for (answer, reading) in answers.iter().zip(["fast", "slow"]) {
         if answer != sample.output.as_bytes() {
             let answer = String::from_utf8_lossy(answer);
-            return Err(format!("{} ({reading}): {answer}instead of {}", sample.name, sample.output));
+            return Err(format!(
+                "{} ({reading}): {answer}instead of {}",
+                sample.name, sample.output
+            ));
         }
     }
     Ok(())
@@ -169,7 +233,10 @@ fn ask_runs() -> Result<usize, String> {
     ];
     let count = 2 * table.len();
     for (name, case, limit, stop, rounds, bound) in table {
-        for run in [engine::run_case(&case, limit), slow::engine::run(&case, limit)] {
+        for run in [
+            engine::run_case(&case, limit),
+            slow::engine::run(&case, limit),
+        ] {
             if (run.stop, run.rounds, run.upper_bound) != (stop, rounds, bound) {
                 return Err(format!("{name}: {run:?}"));
             }
@@ -185,7 +252,11 @@ fn ask_runs() -> Result<usize, String> {
 /// Every sample of both readings; the number of answers compared.
 pub fn check() -> Result<usize, String> {
     let mut count = ask_runs()?;
-    for sample in program_samples().iter().chain(&limit_samples()).chain(&p13_samples()) {
+    for sample in program_samples()
+        .iter()
+        .chain(&limit_samples())
+        .chain(&p13_samples())
+    {
         ask(sample)?;
         count += 2;
     }
@@ -201,5 +272,7 @@ pub fn for_programs() -> Vec<(&'static str, bool, Vec<u8>, Vec<u8>)> {
     let mut all = program_samples();
     all.extend(limit_samples());
     all.extend(p13_samples());
-    all.into_iter().map(|s| (s.name, s.press, s.input, s.output.into_bytes())).collect()
+    all.into_iter()
+        .map(|s| (s.name, s.press, s.input, s.output.into_bytes()))
+        .collect()
 }

@@ -13,7 +13,10 @@ pub fn view(log: &[u8], round: u64) -> Result<&[u8], Refusal> {
     let mut at = 0;
     for bytes in chunks {
         let Some(line) = line::parse(bytes) else {
-            return Err(Refusal { number: 1, line: at });
+            return Err(Refusal {
+                number: 1,
+                line: at,
+            });
         };
         at += 1;
         if line.kind != 4 {

@@ -41,7 +41,8 @@ fn head(line: Line) -> Result<(usize, usize, usize), u8> {
     if line.kind != 10 || line.amount != 0 {
         return Err(2);
     }
-    let good = (1..=48).contains(&line.a) && (1..=8).contains(&line.b) && (0..=96).contains(&line.c);
+    let good =
+        (1..=48).contains(&line.a) && (1..=8).contains(&line.b) && (0..=96).contains(&line.c);
     if !good {
         return Err(3);
     }
@@ -93,7 +94,12 @@ pub fn read_front(file: &[u8]) -> Result<(Case, usize), Refusal> {
     let refusal = |line: usize| move |number: u8| Refusal { number, line };
     let first = line_at(file, 0).map_err(refusal(0))?;
     let (variables, values, edges) = head(first).map_err(refusal(0))?;
-    let mut case = Case { variables, values, edges: vec![], weights: vec![] };
+    let mut case = Case {
+        variables,
+        values,
+        edges: vec![],
+        weights: vec![],
+    };
     let due = due_lines(variables, values, edges);
     for (before, &due) in due.iter().enumerate() {
         let number = before + 1;
@@ -116,20 +122,44 @@ pub fn write(case: &Case) -> Vec<u8> {
     let number = |number: usize| number as i64;
     let mut weights = case.weights.iter();
     let mut next = || i64::from(*weights.next().unwrap());
-    let (a, b, c) = (number(case.variables), number(case.values), number(case.edges.len()));
-    let mut file = line::write(Line { kind: 10, a, b, c, amount: 0 });
+    let (a, b, c) = (
+        number(case.variables),
+        number(case.values),
+        number(case.edges.len()),
+    );
+    let mut file = line::write(Line {
+        kind: 10,
+        a,
+        b,
+        c,
+        amount: 0,
+    });
     for due in due_lines(case.variables, case.values, case.edges.len()) {
         let line = match due {
-            Due::Unary(i, k) => {
-                Line { kind: 11, a: number(i), b: number(k), c: 0, amount: next() }
-            }
+            Due::Unary(i, k) => Line {
+                kind: 11,
+                a: number(i),
+                b: number(k),
+                c: 0,
+                amount: next(),
+            },
             Due::Edge(e) => {
                 let (lower, higher) = case.edges[e];
-                Line { kind: 12, a: number(e), b: number(lower), c: number(higher), amount: 0 }
+                Line {
+                    kind: 12,
+                    a: number(e),
+                    b: number(lower),
+                    c: number(higher),
+                    amount: 0,
+                }
             }
-            Due::Pair(e, k, l) => {
-                Line { kind: 13, a: number(e), b: number(k), c: number(l), amount: next() }
-            }
+            Due::Pair(e, k, l) => Line {
+                kind: 13,
+                a: number(e),
+                b: number(k),
+                c: number(l),
+                amount: next(),
+            },
         };
         file.extend(line::write(line));
     }

@@ -7,7 +7,9 @@ use super::refute::active_refuted;
 use crate::types::{Case, Line, Run, Stop};
 
 fn all_but(case: &Case, variable: usize) -> Vec<usize> {
-    (0..scope_count(case)).filter(|&scope| scope != variable).collect()
+    (0..scope_count(case))
+        .filter(|&scope| scope != variable)
+        .collect()
 }
 
 fn lowest(case: &Case, weights: &[i64]) -> Option<usize> {
@@ -18,7 +20,11 @@ fn lowest(case: &Case, weights: &[i64]) -> Option<usize> {
 fn trim(case: &Case, weights: &[i64], variable: usize) -> Vec<usize> {
     let mut kept = all_but(case, variable);
     for scope in all_but(case, variable) {
-        let without: Vec<usize> = kept.iter().copied().filter(|&other| other != scope).collect();
+        let without: Vec<usize> = kept
+            .iter()
+            .copied()
+            .filter(|&other| other != scope)
+            .collect();
         if active_refuted(case, weights, &without, variable) {
             kept = without;
         }
@@ -47,12 +53,30 @@ fn round(case: &Case, weights: &[i64]) -> Option<Result<(Vec<u8>, Vec<i64>), u8>
         Err(number) => return Some(Err(number)),
     };
     let count = kept.len() as i64;
-    let mut log = line::write(Line { kind: 2, a: variable as i64, b: count, c: 0, amount });
+    let mut log = line::write(Line {
+        kind: 2,
+        a: variable as i64,
+        b: count,
+        c: 0,
+        amount,
+    });
     for &scope in &kept {
-        log.extend(line::write(Line { kind: 3, a: scope as i64, b: 0, c: 0, amount: 0 }));
+        log.extend(line::write(Line {
+            kind: 3,
+            a: scope as i64,
+            b: 0,
+            c: 0,
+            amount: 0,
+        }));
     }
     let amount = upper_bound(case, &next);
-    log.extend(line::write(Line { kind: 4, a: 0, b: 0, c: 0, amount }));
+    log.extend(line::write(Line {
+        kind: 4,
+        a: 0,
+        b: 0,
+        c: 0,
+        amount,
+    }));
     Some(Ok((log, next)))
 }
 
@@ -73,7 +97,13 @@ pub fn run_from(case: &Case, mut weights: Vec<i64>, limit: u64) -> Run {
     };
     let upper_bound = upper_bound(case, &weights);
     let weights = weights.into_iter().map(|weight| weight as i32).collect();
-    Run { stop, rounds, upper_bound, log, weights }
+    Run {
+        stop,
+        rounds,
+        upper_bound,
+        log,
+        weights,
+    }
 }
 
 pub fn run(case: &Case, limit: u64) -> Run {

@@ -2,7 +2,6 @@
 
 use crate::types::Case;
 
-
 pub fn scope_count(case: &Case) -> usize {
     case.variables + case.edges.len()
 }
@@ -68,11 +67,15 @@ pub fn is_active(case: &Case, weights: &[i64], scope: usize, tuple: &[usize]) ->
 }
 
 pub fn active_values(case: &Case, weights: &[i64], variable: usize) -> Vec<usize> {
-    (0..case.values).filter(|&value| is_active(case, weights, variable, &[value])).collect()
+    (0..case.values)
+        .filter(|&value| is_active(case, weights, variable, &[value]))
+        .collect()
 }
 
 pub fn upper_bound(case: &Case, weights: &[i64]) -> i64 {
-    (0..scope_count(case)).map(|scope| greatest(case, weights, scope)).sum()
+    (0..scope_count(case))
+        .map(|scope| greatest(case, weights, scope))
+        .sum()
 }
 
 /// The variables of a scope, in order.
@@ -88,7 +91,10 @@ pub fn members(case: &Case, scope: usize) -> Vec<usize> {
 pub fn objective(case: &Case, weights: &[i64], assignment: &[usize]) -> i64 {
     let mut total = 0;
     for scope in 0..scope_count(case) {
-        let used: Vec<usize> = members(case, scope).iter().map(|&member| assignment[member]).collect();
+        let used: Vec<usize> = members(case, scope)
+            .iter()
+            .map(|&member| assignment[member])
+            .collect();
         total += weight(case, weights, scope, &used);
     }
     total
@@ -112,5 +118,8 @@ pub fn assignments(case: &Case) -> Vec<Vec<usize>> {
 }
 
 pub fn starting_weights(case: &Case) -> Vec<i64> {
-    case.weights.iter().map(|&weight| i64::from(weight)).collect()
+    case.weights
+        .iter()
+        .map(|&weight| i64::from(weight))
+        .collect()
 }

@@ -20,11 +20,23 @@ pub fn parse(bytes: &[u8]) -> Option<Line> {
         from += width;
     }
     let [kind, a, b, c, amount] = numbers;
-    Some(Line { kind, a, b, c, amount })
+    Some(Line {
+        kind,
+        a,
+        b,
+        c,
+        amount,
+    })
 }
 
 pub fn write(line: Line) -> Vec<u8> {
-    let Line { kind, a, b, c, amount } = line;
+    let Line {
+        kind,
+        a,
+        b,
+        c,
+        amount,
+    } = line;
     format!("{kind:>2}{a:>4}{b:>4}{c:>4}{amount:>12}\n").into_bytes()
 }
 

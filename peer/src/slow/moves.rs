@@ -47,7 +47,10 @@ pub fn press(
 }
 
 fn in_range(weights: Vec<i64>) -> Result<Vec<i64>, u8> {
-    if weights.iter().all(|weight| (-500_000_000..=500_000_000).contains(weight)) {
+    if weights
+        .iter()
+        .all(|weight| (-500_000_000..=500_000_000).contains(weight))
+    {
         Ok(weights)
     } else {
         Err(11)

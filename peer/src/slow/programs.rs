@@ -32,13 +32,24 @@ fn replay_text(input: &[u8]) -> Result<String, Refusal> {
     let mut replay = PlainReplay::new(&case);
     let pieces = line::cut(input);
     for (line, piece) in pieces.iter().enumerate().skip(used) {
-        let answer = if piece.len() < 27 { Some(14) } else { replay.feed(piece) };
+        let answer = if piece.len() < 27 {
+            Some(14)
+        } else {
+            replay.feed(piece)
+        };
         if let Some(number) = answer {
             return Err(Refusal { number, line });
         }
     }
     if let Some(number) = replay.end() {
-        return Err(Refusal { number, line: pieces.len() });
+        return Err(Refusal {
+            number,
+            line: pieces.len(),
+        });
     }
-    Ok(format!("accepted {} {}\n", replay.rounds, upper_bound(&case, &replay.weights)))
+    Ok(format!(
+        "accepted {} {}\n",
+        replay.rounds,
+        upper_bound(&case, &replay.weights)
+    ))
 }

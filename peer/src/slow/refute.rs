@@ -87,7 +87,10 @@ pub fn refuted_both_ways(
     value: usize,
 ) -> [bool; 2] {
     let open = Open::new(case, weights, raised);
-    [no_family(&open, variable, value), nothing_left(&open, variable, value)]
+    [
+        no_family(&open, variable, value),
+        nothing_left(&open, variable, value),
+    ]
 }
 
 fn no_family(open: &Open, variable: usize, value: usize) -> bool {
@@ -123,12 +126,16 @@ fn delete_one_pass(open: &Open, left: &mut [Vec<bool>]) -> bool {
         let scope = open.case.variables + edge;
         let values = 0..open.case.values;
         for k in values.clone() {
-            let partner = values.clone().any(|l| left[higher][l] && open.is_open(scope, &[k, l]));
+            let partner = values
+                .clone()
+                .any(|l| left[higher][l] && open.is_open(scope, &[k, l]));
             deleted |= left[lower][k] && !partner;
             left[lower][k] &= partner;
         }
         for l in values.clone() {
-            let partner = values.clone().any(|k| left[lower][k] && open.is_open(scope, &[k, l]));
+            let partner = values
+                .clone()
+                .any(|k| left[lower][k] && open.is_open(scope, &[k, l]));
             deleted |= left[higher][l] && !partner;
             left[higher][l] &= partner;
         }
@@ -140,7 +147,9 @@ fn delete_one_pass(open: &Open, left: &mut [Vec<bool>]) -> bool {
 pub fn active_refuted(case: &Case, weights: &[i64], raised: &[usize], variable: usize) -> bool {
     let open = Open::new(case, weights, raised);
     let active = active_values(case, weights, variable);
-    active.into_iter().all(|value| refuted(&open, variable, value))
+    active
+        .into_iter()
+        .all(|value| refuted(&open, variable, value))
 }
 
 const MOST_FAMILIES: u64 = 5000;

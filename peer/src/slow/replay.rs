@@ -57,7 +57,11 @@ impl<'a> PlainReplay<'a> {
         let Some(line) = line::parse(bytes) else {
             return Err(1);
         };
-        let due: &[i64] = if self.press.is_some() { &[3] } else { &[1, 2, 4] };
+        let due: &[i64] = if self.press.is_some() {
+            &[3]
+        } else {
+            &[1, 2, 4]
+        };
         if !due.contains(&line.kind) || unused(&line).iter().any(|&column| column != 0) {
             return Err(2);
         }

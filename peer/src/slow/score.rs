@@ -5,10 +5,16 @@ use crate::types::{Better, Case};
 
 pub fn score(case: &Case, first: &[u64], second: &[u64]) -> Result<Better, u8> {
     let both = [first, second];
-    if both.iter().any(|assignment| assignment.len() != case.variables) {
+    if both
+        .iter()
+        .any(|assignment| assignment.len() != case.variables)
+    {
         return Err(4);
     }
-    if both.iter().any(|assignment| assignment.iter().any(|&v| v >= case.values as u64)) {
+    if both
+        .iter()
+        .any(|assignment| assignment.iter().any(|&v| v >= case.values as u64))
+    {
         return Err(5);
     }
     let weights = starting_weights(case);
@@ -16,5 +22,9 @@ pub fn score(case: &Case, first: &[u64], second: &[u64]) -> Result<Better, u8> {
         let assignment: Vec<usize> = assignment.iter().map(|&value| value as usize).collect();
         objective(case, &weights, &assignment)
     });
-    Ok(if totals[0] >= totals[1] { Better::First } else { Better::Second })
+    Ok(if totals[0] >= totals[1] {
+        Better::First
+    } else {
+        Better::Second
+    })
 }

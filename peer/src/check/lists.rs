@@ -1,0 +1,117 @@
+//! Logs as lists of lines, and what holds after every list.
+
+use super::*;
+
+impl Check {
+    /// One log as a list of lines, whole and damaged, and its views.
+    pub fn logs(&mut self, random: &mut Random, case: &Case, log: &[u8]) -> Result<(), Difference> {
+        self.list(case, &cut(log))?;
+        self.views(log)?;
+        let bad = damage(random, log);
+        self.views(&bad)?;
+        let mut lines = cut(&bad);
+        if random.chance(1, 3) {
+            let at = random.below(lines.len() + 1);
+            let length = *random.pick(&[0, 1, 26, 28, 54]);
+            lines.insert(at, vec![b' '; length]);
+        }
+        self.list(case, &lines)
+    }
+
+    pub fn list(&mut self, case: &Case, lines: &[Vec<u8>]) -> Result<(), Difference> {
+        let input = [case::write(case), lines.concat()].concat();
+        let mut fast = Replay::new(case);
+        let mut slow = PlainReplay::new(case);
+        let mut climb = Climb::new(fast.state.upper_bound);
+        for (at, bytes) in lines.iter().enumerate() {
+            let answer = slow.feed(bytes);
+            let what = format!("line {at} of the log");
+            let before = fast.standing;
+            same(&what, &fast.step(bytes), &answer, &input)?;
+            same(&what, &fast.state.weights(), &narrow(&slow.weights), &input)?;
+            same(&what, &fast.rounds, &slow.rounds, &input)?;
+            if let (None, Some(number)) = (before, answer) {
+                self.counts.note_line(number, bytes);
+            }
+            self.figures.climbs += climb.note(fast.state.upper_bound, fast.rounds);
+            self.figures.lines += 1;
+        }
+        same("end of the log", &fast.end(), &slow.end(), &input)?;
+        if fast.end() == Some(14) {
+            self.counts.note("list", 14, "end".into());
+        }
+        let bound = figures::upper_bound(case, &slow.weights);
+        same(
+            "ceiling of the log",
+            &fast.state.upper_bound,
+            &bound,
+            &input,
+        )?;
+        self.figures.lists += 1;
+        if case.values.saturating_pow(case.variables as u32) > MOST_PLANS {
+            return Ok(());
+        }
+        self.trusted(case, &slow.weights, slow.rounds, &input)
+    }
+
+    /// What a planner trusts, after any list of lines.
+    pub fn trusted(
+        &mut self,
+        case: &Case,
+        weights: &[i64],
+        rounds: u64,
+        input: &[u8],
+    ) -> Result<(), Difference> {
+        let starting = figures::starting_weights(case);
+        let start = figures::upper_bound(case, &starting);
+        let bound = figures::upper_bound(case, weights);
+        for assignment in figures::assignments(case) {
+            let total = figures::objective(case, &starting, &assignment);
+            let working = figures::objective(case, weights, &assignment);
+            holds(
+                "working total not below starting total",
+                working >= total,
+                input,
+            )?;
+            holds("ceiling not below starting total", bound >= total, input)?;
+            holds(
+                "rounds within the difference",
+                rounds as i64 <= start - total,
+                input,
+            )?;
+        }
+        Ok(())
+    }
+}
+
+/// Counts the rounds made in which the ceiling rose before it fell.
+struct Climb {
+    start: i64,
+    rose: bool,
+    rounds: u64,
+}
+
+impl Climb {
+    fn new(start: i64) -> Climb {
+        Climb {
+            start,
+            rose: false,
+            rounds: 0,
+        }
+    }
+
+    /// 1 where such a round ends with this line.
+    fn note(&mut self, bound: i64, rounds: u64) -> u64 {
+        self.rose |= bound > self.start;
+        if rounds == self.rounds {
+            return 0;
+        }
+        let rose = self.rose;
+        *self = Climb {
+            start: bound,
+            rose: false,
+            rounds,
+        };
+        u64::from(rose)
+    }
+}
