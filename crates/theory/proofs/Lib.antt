@@ -1,3 +1,5 @@
 -- Laws of the definitions, and demand 3 over them as far as it needs no engine.
 pub mod Shape
+pub mod Words
 pub mod Places
+pub mod Totals

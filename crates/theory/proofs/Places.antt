@@ -54,6 +54,9 @@ module _ (c : Case) where
   pub edge-tuple : (e k l : ℕ) → e < c .m → k < c .d → l < c .d → IsTuple c (c .n + e) k l
   edge-tuple e k l h p q = record { scope = omega arith; one = p; two = q; alone = λ u. absurd (omega arith) }
 
+  pub first-tuple : 0 < c .d → (x : ℕ) → x < scopeCount c → IsTuple c x 0 0
+  first-tuple some x h = record { scope = h; one = some; two = some; alone = λ u. refl }
+
   pub by-tuple : (P : ℕ → ℕ → ℕ → Type 0) → ((i k : ℕ) → i < c .n → k < c .d → P i k 0)
       → ((e k l : ℕ) → e < c .m → k < c .d → l < c .d → P (c .n + e) k l) → {x k l : ℕ} → IsTuple c x k l → P x k l
   by-tuple P f g {x} {k} {l} t =
@@ -62,10 +65,10 @@ module _ (c : Case) where
       (λ e h a. g e k l h (t .one) (t .two)) x (t .scope) (t .alone)
 
   -- ---- the definitions at a variable and at an edge
-  variable-is : {i : ℕ} → i < c .n → T (isVariable c i)
+  pub variable-is : {i : ℕ} → i < c .n → T (isVariable c i)
   variable-is {i} h = lt→ltb i (c .n) h
 
-  edge-is : (e : ℕ) → T (not (isVariable c (c .n + e)))
+  pub edge-is : (e : ℕ) → T (not (isVariable c (c .n + e)))
   edge-is e = not-T (isVariable c (c .n + e)) (λ t. let h : c .n + e < c .n = ltb→lt (c .n + e) (c .n) t in omega arith)
 
   pub edge-of : (e : ℕ) → edgeOf c (c .n + e) ≡ e
@@ -271,3 +274,8 @@ module _ (c : Case) where
 
       pub greatest-there : ((k l : ℕ) → IsTuple c x k l → weight c w x k l ≤ℤ weight c w x a b) → greatest c w x ≡ weight c w x a b
       greatest-there h = ≤ℤ-antisym (greatest-within h) (weight-most t)
+
+    pub some-active-value : 0 < c .d → (i : ℕ) → i < c .n → (k : ℕ) × (k < c .d) × T (active c w i k 0)
+    some-active-value some i h =
+        let (k, l, t, u) = some-active (first-tuple some i (omega arith)) in
+        (k, t .one, subst (λ (l : ℕ). T (active c w i k l)) (t .alone h) u)
