@@ -1,2 +1,3 @@
 -- Laws of the engine's definitions, and demand 3 over them.
 pub mod Trim
+pub mod Gaps

@@ -1,7 +1,7 @@
 -- Which variable the engine presses and which scopes it raises: the variable is the lowest whose active values are refuted with all other
 -- scopes raised, and where there is none, every variable has an active value with a supported family; the kept scopes refute too, they rise,
 -- leave out the variable's own scope, and are never none. Assumes nothing.
-use mathlib.Core.Path.{_≡_, refl, sym, ap, _∙_}
+use mathlib.Core.Path.{_≡_, refl, ap}
 use mathlib.Core.Bool.{Bool, true, false, not}
 use mathlib.Core.Option.{none, some}
 use mathlib.Core.Logic.{_≢_, _↔_, ⊎-elim}
@@ -11,18 +11,17 @@ use native.Mathlib.Omega.{arith}
 use lib.IntN.{ℤ}
 use lib.Dec.{T, T-not, not-T, ltb, eqb}
 use lib.ListN.{length, length-append}
-use Rattle.integers.specs.Words.{from, below, all, any, those, first, isIn, greatestOf, _⇒_}
-use Rattle.integers.specs.Tests.{tests, either, and-intro, and-left, and-right, if-true, if-false, if-cases}
-use Rattle.integers.specs.Linear.{T-eq}
+use Rattle.integers.specs.Words.{from, below, all, any, those, first, isIn, _⇒_}
+use Rattle.integers.specs.Tests.{tests, either, and-intro, and-left, and-right, if-false, if-cases}
 use Rattle.integers.specs.Lists.{_∈_, any-in, all-at, all-of, any-at, any-of, in-those, those-none, first-none, first-least, in-below, below-in, length-from}
-use Rattle.integers.specs.Maxima.{tab-attained}
 use Rattle.definitions.specs.declared.Case.{Case}
-use Rattle.definitions.specs.Case.{scopes, scopeCount, isVariable, lowerEnd, upperEnd, weight, greatest, active}
+use Rattle.definitions.specs.Case.{scopes, scopeCount, lowerEnd, upperEnd, active}
 use Rattle.definitions.specs.Calls.{isRising}
 use Rattle.definitions.specs.Consistency.{Family, Supported, allowed, supported, families, marks, refuted}
 use Rattle.definitions.specs.Engine.{others, activeRefuted, chosen, trimmed, keptScopes}
 use Rattle.definitions.proofs.Refutation.{supported-holds, refuted-sound}
 use Rattle.theory.proofs.Shape.{Shape}
+use Rattle.theory.proofs.Places.{IsTuple, variable-tuple, edge-tuple, some-active}
 
 -- ---- tests that fail somewhere
 not-all : (f : ℕ → Bool) (n : ℕ) → T (not (all f (below n))) → (x : ℕ) × (x < n) × T (not (f x))
@@ -35,12 +34,6 @@ not-imp : (a b : Bool) → T (not (a ⇒ b)) → T a × T (not b)
 not-imp true b t = (tt, t)
 not-imp false b t = absurd t
 
--- ---- a variable has an active value
-active-value : (c : Case) (w : List ℤ) (i : ℕ) → Shape c → i < c .n → (k : ℕ) × (k < c .d) × T (active c w i k 0)
-active-value c w i shape h =
-    let (k, g, e) = tab-attained (λ k. weight c w i k 0) (c .d) {x = 0} (shape .some-value) in
-    (k, g, T-eq (weight c w i k 0) (greatest c w i) .1 (sym e ∙ ap greatestOf (sym (if-true _ _ (isVariable c i) (simp tests h)))))
-
 -- ---- values that are not refuted
 
 module _ (c : Case) (w : List ℤ) (R : ℕ → Bool) (i k : ℕ) where
@@ -50,15 +43,15 @@ module _ (c : Case) (w : List ℤ) (R : ℕ → Bool) (i k : ℕ) where
       (marks F, supported-holds c w R i k (marks F) s)
 
   -- where nothing is forbidden, {k} for i and all values for the others
-  pub all-open : k < c .d → ((x a b : ℕ) → x < scopeCount c → a < c .d → b < c .d → T (allowed c w R x a b)) → (S : Family) × Supported c w R i k S
+  pub all-open : k < c .d → ((x a b : ℕ) → IsTuple c x a b → T (allowed c w R x a b)) → (S : Family) × Supported c w R i k S
   all-open h free = (
     S,
     record {
       fixed = λ v g s. (simp tests at s) refl;
       non-empty = λ j g. (k, h, mine j);
-      allowed-only = λ j v g l s. free j v 0 (omega arith) l (omega arith);
-      partner-above = λ e v g l s. (k, h, mine (upperEnd c e), free (c .n + e) v k (omega arith) l h);
-      partner-below = λ e u g l s. (k, h, mine (lowerEnd c e), free (c .n + e) k u (omega arith) h l);
+      allowed-only = λ j v g l s. free j v 0 (variable-tuple c j v g l);
+      partner-above = λ e v g l s. (k, h, mine (upperEnd c e), free (c .n + e) v k (edge-tuple c e v k g l h));
+      partner-below = λ e u g l s. (k, h, mine (lowerEnd c e), free (c .n + e) k u (edge-tuple c e k u g h l));
     },
   )
     where
@@ -169,15 +162,15 @@ module _ (c : Case) (w : List ℤ) (i : ℕ) where
 
   -- where the active values are refuted, something is forbidden
   module _ (shape : Shape c) (own : i < c .n) where
-    pub not-all-open : (raised : List ℕ) → T (activeRefuted c w i raised) → ((x a b : ℕ) → x < scopeCount c → a < c .d → b < c .d → T (allowed c w (isIn raised) x a b)) → ⊥
+    pub not-all-open : (raised : List ℕ) → T (activeRefuted c w i raised) → ((x a b : ℕ) → IsTuple c x a b → T (allowed c w (isIn raised) x a b)) → ⊥
     not-all-open raised t free =
-        let (k, h, a) = active-value c w i shape own in
-        let (S, s) = all-open c w (isIn raised) i k h free in
-        no-support c w i raised shape t k h a S s
+        let (k, l, u, a) = some-active c w (variable-tuple c i 0 own (shape .some-value)) in
+        let (S, s) = all-open c w (isIn raised) i k (u .one) free in
+        no-support c w i raised shape t k (u .one) (rw (u .alone own) at a) S s
 
     pub kept-some : T (activeRefuted c w i (others c i)) → 0 < length (keptScopes c w i)
     kept-some t = go (keptScopes c w i) (kept-refuted t)
       where
         go : (l : List ℕ) → T (activeRefuted c w i l) → 0 < length l
-        go [] t = absurd (not-all-open [] t (λ x a b h p q. tt))
+        go [] t = absurd (not-all-open [] t (λ x a b u. tt))
         go (x ∷ l) t = omega arith
