@@ -35,6 +35,7 @@ use types::*;
 const USAGE: &str = "usage: peer COMMAND [OPTIONS]
   press [--limit ROUNDS]      case file in, log out
   replay                      case file and log in, accepted or refused out
+  slow-press, slow-replay     the same by the slow reading
   view ROUND                  log in, the round's lines out
   score FIRST SECOND          case file in, first or second out (plans like 0,1,0)
   total PLAN                  case file in, the plan's starting total out
@@ -69,6 +70,8 @@ fn run(command: &str, options: &mut Options) -> Result<ExitCode, String> {
     match command {
         "press" => press(options),
         "replay" => print_after(options, programs::replay),
+        "slow-press" => print_after(options, slow::programs::press),
+        "slow-replay" => print_after(options, slow::programs::replay),
         "view" => view_round(options),
         "score" => score_plans(options),
         "total" => total(options),

@@ -22,6 +22,9 @@ use crate::{case, engine, foreign, line, programs, score, slow, view};
 /// One of so many cases is of any size, the others small.
 const LARGE_EVERY: u64 = 40;
 
+/// Tables up to this length are run to the end by the slow mode too.
+const WHOLE_RUN: usize = 250;
+
 /// Statements about every plan are checked where there are no more plans than this.
 const MOST_PLANS: usize = 5000;
 
@@ -126,7 +129,12 @@ impl Check {
     fn large(&mut self, random: &mut Random) -> Result<(), Difference> {
         let case = sized_case(random);
         self.files(&case)?;
-        let limit = 1 + random.below(2) as u64;
+        let middling = case.weights.len() <= WHOLE_RUN;
+        let limit = if middling {
+            PROGRAM_ROUNDS
+        } else {
+            1 + random.below(2) as u64
+        };
         let slow = slow::engine::run(&case, limit);
         same(
             "run",
