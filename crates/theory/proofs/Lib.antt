@@ -3,3 +3,5 @@ pub mod Shape
 pub mod Words
 pub mod Places
 pub mod Totals
+pub mod Shifts
+pub mod Presses

@@ -1,7 +1,7 @@
 -- What an assignment uses and what it comes to: adding a difference to the table adds what the difference comes to; no objective passes the
 -- upper bound (Theorem 1), and one meets it just where every tuple that the assignment uses is active. Assumes nothing.
 use mathlib.Core.Path.{_≡_, refl, sym, ap, ap₂, subst, _∙_}
-use mathlib.Core.Bool.{Bool, true, false, not}
+use mathlib.Core.Bool.{Bool, true, false, not, _&&_}
 use mathlib.Core.Logic.{_↔_, ⊎-elim}
 use mathlib.Core.List.{List, map}
 use Prim.Native.Nat.{ℕ, _+_, _<_}
@@ -11,15 +11,16 @@ use lib.Dec.{T, eqb, ltb, eqb→eq, ltb→lt}
 use lib.Signed.{_≤ℤ_, _<ℤ_}
 use lib.ListN.{length}
 use Rattle.integers.specs.Words.{if_then_else_, all, sum}
-use Rattle.integers.specs.Tests.{either, if-true, if-false, and-left, and-right}
+use Rattle.integers.specs.Tests.{is-true, is-false, eqb-iff, not-eqb-iff, either, if-true, if-false, and-left, and-right}
 use Rattle.integers.specs.Linear.{zs}
 use Rattle.integers.specs.Lists.{below-in, in-below}
 use Rattle.integers.specs.Tables.{all-getD}
 use Rattle.integers.specs.Sums.{sum-cong, sum-mono, sum-strict, sum-add}
 use Rattle.definitions.specs.declared.Case.{Case}
 use Rattle.definitions.specs.Case.{lowerEnd, upperEnd, scopeCount, scopes, isVariable, edgeOf, weight, isAssignment, valueOf, atUsed, objective, greatest, upperBound, active}
-use Rattle.definitions.specs.Moves.{Difference, plus}
+use Rattle.definitions.specs.Moves.{Difference, plus, onlyWhere}
 use Rattle.theory.proofs.Shape.{Shape}
+use Rattle.theory.proofs.Words.{sum-one}
 use Rattle.theory.proofs.Places.{IsTuple, by-scope, variable-is, edge-is, edge-of, variable-tuple, edge-tuple, weight-plus, weight-most, active-weight, inactive-less}
 
 -- what a number for each tuple comes to under assignment p
@@ -53,6 +54,13 @@ module _ (c : Case) (p : List ℕ) where
       sum-cong _ (λ x. atUsed c p x (δ x) +ℤ atUsed c p x (γ x)) (scopes c)
       (λ x m. at-used (λ k l. δ x k l +ℤ γ x k l) x ∙ sym (ap₂ _+ℤ_ (at-used (δ x) x) (at-used (γ x) x)))
       ∙ sum-add (λ x. atUsed c p x (δ x)) (λ x. atUsed c p x (γ x)) (scopes c)
+
+  -- a difference in one scope
+  pub objectiveOf-one : (test : ℕ → ℕ → Bool) (a : ℤ) {y : ℕ} → y < scopeCount c → objectiveOf c (λ x k l. onlyWhere (eqb x y && test k l) a) p ≡ onlyWhere (atUsed c p y test) a
+  objectiveOf-one test a {y} h =
+      sum-one (λ x. atUsed c p x (λ k l. onlyWhere (eqb x y && test k l) a)) (scopeCount c) h
+      (λ x u n. at-used (λ k l. onlyWhere (eqb x y && test k l) a) x ∙ rw (is-false (eqb x y) (not-eqb-iff x y .1 n)))
+      ∙ at-used (λ k l. onlyWhere (eqb y y && test k l) a) y ∙ rw (is-true (eqb y y) (eqb-iff y y .1 refl), at-used test y)
 
 module _ {c : Case} (s : Shape c) (p : List ℕ) (a : T (isAssignment c p)) where
   pub value-used : (j : ℕ) → j < c .n → valueOf p j < c .d
