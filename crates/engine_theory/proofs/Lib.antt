@@ -1,3 +1,4 @@
 -- Laws of the engine's definitions, and demand 3 over them.
 pub mod Trim
 pub mod Gaps
+pub mod Fall

@@ -21,7 +21,7 @@ use Rattle.definitions.specs.Consistency.{Family, Supported, allowed, supported
 use Rattle.definitions.specs.Engine.{others, activeRefuted, chosen, trimmed, keptScopes}
 use Rattle.definitions.proofs.Refutation.{supported-holds, refuted-sound}
 use Rattle.theory.proofs.Shape.{Shape}
-use Rattle.theory.proofs.Places.{IsTuple, variable-tuple, edge-tuple, some-active}
+use Rattle.theory.proofs.Places.{IsTuple, variable-tuple, edge-tuple, some-active-value}
 
 -- ---- tests that fail somewhere
 not-all : (f : ℕ → Bool) (n : ℕ) → T (not (all f (below n))) → (x : ℕ) × (x < n) × T (not (f x))
@@ -164,9 +164,9 @@ module _ (c : Case) (w : List ℤ) (i : ℕ) where
   module _ (shape : Shape c) (own : i < c .n) where
     pub not-all-open : (raised : List ℕ) → T (activeRefuted c w i raised) → ((x a b : ℕ) → IsTuple c x a b → T (allowed c w (isIn raised) x a b)) → ⊥
     not-all-open raised t free =
-        let (k, l, u, a) = some-active c w (variable-tuple c i 0 own (shape .some-value)) in
-        let (S, s) = all-open c w (isIn raised) i k (u .one) free in
-        no-support c w i raised shape t k (u .one) (rw (u .alone own) at a) S s
+        let (k, h, a) = some-active-value c w (shape .some-value) i own in
+        let (S, s) = all-open c w (isIn raised) i k h free in
+        no-support c w i raised shape t k h a S s
 
     pub kept-some : T (activeRefuted c w i (others c i)) → 0 < length (keptScopes c w i)
     kept-some t = go (keptScopes c w i) (kept-refuted t)
