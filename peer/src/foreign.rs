@@ -104,7 +104,9 @@ impl Writer<'_> {
         if self.state.edges == 0 {
             return None;
         }
-        let most = *self.random.pick(&[1, 3, 10, 1000, 100_000, 1_000_000]);
+        let most = *self
+            .random
+            .pick(&[1, 3, 10, 10, 1000, 100_000, 1_000_000, 400_000_000]);
         let size = self.amount(most);
         let amount = if self.random.chance(1, 2) {
             size

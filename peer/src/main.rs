@@ -16,6 +16,7 @@ mod options;
 mod outside;
 mod programs;
 mod random;
+mod refusals;
 mod refute;
 mod replay;
 mod samples;

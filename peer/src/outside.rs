@@ -9,6 +9,8 @@ use std::sync::{Arc, Mutex};
 use std::time::{Duration, Instant};
 
 const PATIENCE: Duration = Duration::from_secs(120);
+/// More than any log: 6,384 rounds of 145 lines.
+const MOST_OUTPUT: u64 = 32_000_000;
 
 /// A child that is still ours to end; nothing once it was waited for.
 type Running = Arc<Mutex<Option<Child>>>;
@@ -59,8 +61,8 @@ impl Outside {
             .watch
             .send((Instant::now() + PATIENCE, running.clone()));
         let mut found = Vec::new();
-        if let Some(mut stdout) = stdout {
-            stdout.read_to_end(&mut found)?;
+        if let Some(stdout) = stdout {
+            stdout.take(MOST_OUTPUT).read_to_end(&mut found)?;
         }
         let mut slot = running.lock().unwrap();
         let status = slot.as_mut().map(|child| child.wait()).transpose()?;

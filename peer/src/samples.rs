@@ -1,15 +1,16 @@
 //! The samples P1 to P12 of document 01 and P13 of the register, asked of both
 //! readings.
 
+use crate::refusals::by_hand;
 use crate::types::*;
 use crate::{case, engine, programs, slow};
 
-struct Sample {
-    name: &'static str,
-    input: Vec<u8>,
+pub struct Sample {
+    pub name: &'static str,
+    pub input: Vec<u8>,
     /// True for `press`, false for `replay`.
-    press: bool,
-    output: String,
+    pub press: bool,
+    pub output: String,
 }
 
 const P1_LOG: &str = " 2   0   3   0           1
@@ -40,7 +41,7 @@ fn two(first: [i32; 2], second: [i32; 2], pair: [i32; 4]) -> Case {
     case_of(2, &[(0, 1)], &[&first[..], &second[..], &pair[..]].concat())
 }
 
-fn p4() -> Case {
+pub fn p4() -> Case {
     two([2, 0], [2, 0], [-3, 0, 0, 0])
 }
 
@@ -52,7 +53,7 @@ fn single() -> Case {
     case_of(1, &[], &[-7])
 }
 
-fn lines(numbers: &[[i64; 5]]) -> Vec<u8> {
+pub fn lines(numbers: &[[i64; 5]]) -> Vec<u8> {
     let mut text = Vec::new();
     for &[kind, a, b, c, amount] in numbers {
         text.extend(slow::line::write(Line {
@@ -72,7 +73,7 @@ fn press_by(amount: i64, bound: i64) -> Vec<u8> {
     lines(&[press, [3, 1, 0, 0, 0], [3, 2, 0, 0, 0], [4, 0, 0, 0, bound]])
 }
 
-fn replayed(name: &'static str, case: &Case, log: &[u8], output: &str) -> Sample {
+pub fn replayed(name: &'static str, case: &Case, log: &[u8], output: &str) -> Sample {
     let input = [slow::case::write(case), log.to_vec()].concat();
     Sample {
         name,
@@ -249,15 +250,19 @@ fn ask_runs() -> Result<usize, String> {
     Ok(count + 1)
 }
 
+fn all() -> Vec<Sample> {
+    let mut samples = program_samples();
+    samples.extend(limit_samples());
+    samples.extend(p13_samples());
+    samples.extend(by_hand());
+    samples
+}
+
 /// Every sample of both readings; the number of answers compared.
 pub fn check() -> Result<usize, String> {
     let mut count = ask_runs()?;
-    for sample in program_samples()
-        .iter()
-        .chain(&limit_samples())
-        .chain(&p13_samples())
-    {
-        ask(sample)?;
+    for sample in all() {
+        ask(&sample)?;
         count += 2;
     }
     let read = case::read_front(&case::write(&p4()));
@@ -269,10 +274,9 @@ pub fn check() -> Result<usize, String> {
 
 /// The samples as inputs for other programs: name, press or replay, input, output.
 pub fn for_programs() -> Vec<(&'static str, bool, Vec<u8>, Vec<u8>)> {
-    let mut all = program_samples();
-    all.extend(limit_samples());
-    all.extend(p13_samples());
-    all.into_iter()
-        .map(|s| (s.name, s.press, s.input, s.output.into_bytes()))
-        .collect()
+    let of = |sample: Sample| {
+        let output = sample.output.into_bytes();
+        (sample.name, sample.press, sample.input, output)
+    };
+    all().into_iter().map(of).collect()
 }
