@@ -5,3 +5,4 @@ pub mod Places
 pub mod Totals
 pub mod Shifts
 pub mod Presses
+pub mod Validity
