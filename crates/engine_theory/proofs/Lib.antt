@@ -2,3 +2,4 @@
 pub mod Trim
 pub mod Gaps
 pub mod Fall
+pub mod InRange
