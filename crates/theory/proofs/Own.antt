@@ -1,0 +1,58 @@
+-- Everything rests on the case's own places alone: two tables that agree there have the same objectives and upper bound, refute the same
+-- values, and are changed in the same way by a move. Assumes nothing.
+use mathlib.Core.Path.{_≡_, refl, ap, ap₂, subst}
+use mathlib.Core.Bool.{Bool, not, _&&_}
+use mathlib.Core.Logic.{_↔_, _⊎_, inl, inr}
+use mathlib.Core.List.{List}
+use Prim.Native.Nat.{ℕ, _<_}
+use native.Mathlib.Omega.{arith}
+use lib.IntN.{ℤ, pos, negℤ, _+ℤ_}
+use lib.Dec.{T, eqb, eqb→eq}
+use lib.ListN.{getD}
+use Rattle.integers.specs.Words.{isIn, _⇒_}
+use Rattle.integers.specs.Tests.{either, is-false}
+use Rattle.integers.specs.Lists.{in-below, all-same}
+use Rattle.integers.specs.Sums.{sum-cong}
+use Rattle.definitions.specs.declared.Case.{Case}
+use Rattle.definitions.specs.Case.{scopeCount, scopes, ownLength, weight, isAssignment, objective, greatest, upperBound}
+use Rattle.definitions.specs.Moves.{Move, shift, press, onlyWhere, activeValues, difference, moved}
+use Rattle.definitions.specs.Engine.{activeRefuted}
+use Rattle.definitions.proofs.CaseLaws.{weight-same, greatest-same, active-same}
+use Rattle.definitions.proofs.Refutation.{refuted-same}
+use Rattle.theory.proofs.Shape.{Shape}
+use Rattle.theory.proofs.Places.{IsTuple, tuple-at, weight-plus}
+use Rattle.theory.proofs.Totals.{objectiveOf-cong}
+
+-- the own places are those of the tuples
+pub own-places : (c : Case) (w u : List ℤ)
+    → ((x k l : ℕ) → IsTuple c x k l → weight c w x k l ≡ weight c u x k l) ↔ ((p : ℕ) → p < ownLength c → getD w p (pos 0) ≡ getD u p (pos 0))
+own-places c w u = (
+  λ same p h. let (x, k, l, t, e) = tuple-at c p h in subst (λ (p : ℕ). getD w p (pos 0) ≡ getD u p (pos 0)) e (same x k l t),
+  λ own x k l t. weight-same c w u own x (t .scope) k l (t .one) (t .two),
+)
+
+module _ (c : Case) (w u : List ℤ) (own : (p : ℕ) → p < ownLength c → getD w p (pos 0) ≡ getD u p (pos 0)) where
+  pub objective-same : Shape c → (p : List ℕ) → T (isAssignment c p) → objective c w p ≡ objective c u p
+  objective-same s p a = objectiveOf-cong s p a (weight c w) (weight c u) (own-places c w u .1 own)
+
+  pub upperBound-same : upperBound c w ≡ upperBound c u
+  upperBound-same = sum-cong (greatest c w) (greatest c u) (scopes c) (λ x m. greatest-same c w u own x (in-below (scopeCount c) m))
+
+  pub activeRefuted-same : (i : ℕ) → i < c .n → (raised : List ℕ) → activeRefuted c w i raised ≡ activeRefuted c u i raised
+  activeRefuted-same i h raised = all-same (c .d) (λ k g.
+      ap₂ _⇒_ (active-same c w u own i (omega arith) k 0 g (omega arith)) (refuted-same c w u (isIn raised) (isIn raised) i k own (λ x h. refl)))
+
+  pub difference-same : (move : Move) (x k l : ℕ) → IsTuple c x k l → difference c w move x k l ≡ difference c u move x k l
+  difference-same (shift e end v a) x k l t = refl
+  difference-same (press i raised a) x k l t = ap₂ (λ (b d : Bool). onlyWhere b (negℤ a) +ℤ onlyWhere d a) (go (either (eqb x i)))
+      (ap (λ (b : Bool). isIn raised x && not b) (active-same c w u own x (t .scope) k l (t .one) (t .two)))
+    where
+      go : T (eqb x i) ⊎ T (not (eqb x i)) → (eqb x i && activeValues c w i k) ≡ (eqb x i && activeValues c u i k)
+      go (inl s) =
+          let e : x ≡ i = eqb→eq x i s in
+          let h : i < scopeCount c = omega (arith, t .scope) in
+          ap (λ (b : Bool). eqb x i && b) (active-same c w u own i h k 0 (t .one) (omega (arith, t .one)))
+      go (inr s) = rw (is-false (eqb x i) s)
+
+  pub moved-same : (move : Move) (x k l : ℕ) → IsTuple c x k l → weight c (moved c move w) x k l ≡ weight c (moved c move u) x k l
+  moved-same move x k l t = cc (weight-plus c (difference c w move) w t, weight-plus c (difference c u move) u t, own-places c w u .1 own x k l t, difference-same move x k l t)
