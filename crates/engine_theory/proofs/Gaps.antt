@@ -6,12 +6,11 @@ use mathlib.Core.Bool.{Bool, true, false, not, _&&_}
 use mathlib.Core.Option.{Option, none, some}
 use mathlib.Core.Logic.{_↔_}
 use mathlib.Core.List.{List, [], _∷_, map, List·Memᴰ·head, List·Memᴰ·tail, List·Memᴰ·not-nil, List·Memᴰ·eq-of-singleton, Memᴰ·map, Memᴰ·of-map}
-use Prim.Native.Nat.{ℕ, _*_, _≤_, _<_}
+use Prim.Native.Nat.{ℕ, _*_, _<_}
 use native.Mathlib.Omega.{arith}
 use lib.IntN.{ℤ, pos, _+ℤ_, _-ℤ_}
 use lib.Dec.{T}
 use lib.Signed.{_≤ℤ_}
-use lib.ListN.{length}
 use Rattle.integers.specs.Words.{if_then_else_, isIn, joined, greatestOf}
 use Rattle.integers.specs.Tests.{if-false}
 use Rattle.integers.specs.Linear.{flat, zs, _▸_}
@@ -19,12 +18,12 @@ use Rattle.integers.specs.Lists.{_∈_, joined-in, in-joined, isIn-in}
 use Rattle.integers.specs.Maxima.{greatest-above, greatest-attained, least-below, least-attained, least-none}
 use Rattle.definitions.specs.declared.Case.{Case}
 use Rattle.definitions.specs.Rules.{Rules}
-use Rattle.definitions.specs.Case.{scopeCount, ownLength, weight, greatest, active}
-use Rattle.definitions.specs.Valid.{workingWeight, allWeights}
+use Rattle.definitions.specs.Case.{scopeCount, weight, greatest, active}
+use Rattle.definitions.specs.Valid.{workingWeight}
 use Rattle.definitions.specs.Moves.{Move, press}
 use Rattle.definitions.specs.Engine.{chosen, keptScopes, inactiveWeights, gapAbove, gap, leastGap, nothing, round, engineNext, pressNext, pressRound}
 use Rattle.theory.proofs.Shape.{Shape}
-use Rattle.theory.proofs.Places.{IsTuple, tuple-in, in-tuples, all-weights, inactive-less, greatest-at}
+use Rattle.theory.proofs.Places.{IsTuple, tuple-in, in-tuples, inactive-less, greatest-at}
 use Rattle.engine_theory.proofs.Trim.{chosen-some, kept-refuted, kept-scopes, not-all-open}
 
 -- ---- the gap of a scope
@@ -106,11 +105,11 @@ module _ (c : Case) (w : List ℤ) {i : ℕ} (shape : Shape c) (which : chosen c
     unfolding gaps
     amount-room m u t = let (y, n, h) = gap-in c w u t in least-below gaps e (gaps-in m n) ▸ h ▸ simp flat (omega zs)
 
-    pub amount-most : (r : Rules) → ownLength c ≤ length w → T (allWeights (workingWeight r) c w) → a ≤ℤ pos (2 * r .working)
-    amount-most r long t =
+    pub amount-most : (r : Rules) → ((x k l : ℕ) → IsTuple c x k l → T (workingWeight r (weight c w x k l))) → a ≤ℤ pos (2 * r .working)
+    amount-most r within =
         let (x, k, l, m, u, q, d) = amount-reached in
         let (k', l', v, g) = greatest-at c w u in
-        all-weights c (workingWeight r) w long .0 t x k l u ▸ all-weights c (workingWeight r) w long .0 t x k' l' v ▸ d ▸ g ▸ simp flat (omega zs)
+        within x k l u ▸ within x k' l' v ▸ d ▸ g ▸ simp flat (omega zs)
 
 -- ---- the engine's next round
 

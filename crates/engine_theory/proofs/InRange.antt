@@ -22,13 +22,14 @@ use Rattle.integers.specs.Sums.{only, Σ-most, Σ-least}
 use Rattle.definitions.specs.declared.Case.{Case}
 use Rattle.definitions.specs.Rules.{Rules, Coherent, scopesAtMost}
 use Rattle.definitions.specs.Case.{scopeCount, ownLength, weight, isAssignment, atUsed, objective, greatest, upperBound}
-use Rattle.definitions.specs.Valid.{startingWeight, workingWeight, allWeights}
+use Rattle.definitions.specs.Valid.{workingWeight, allWeights}
 use Rattle.definitions.specs.Moves.{Move, leavesRange, difference, press}
 use Rattle.definitions.specs.Engine.{chosen, keptScopes, leastGap, round, engineNext, afterMoves}
 use Rattle.theory.proofs.Shape.{Shape}
 use Rattle.theory.proofs.Places.{IsTuple, first-tuple, all-weights, plus-length, weight-most, greatest-within}
 use Rattle.theory.proofs.Totals.{at-used-holds, bound-above}
 use Rattle.theory.proofs.Presses.{press-moves}
+use Rattle.theory.proofs.Validity.{Valid, starting-working}
 use Rattle.engine_theory.proofs.Trim.{chosen-some, kept-refuted}
 use Rattle.engine_theory.proofs.Gaps.{amount-some, next-round}
 use Rattle.engine_theory.proofs.Fall.{enginePressed, only-within, pressed-weight, no-rise, fall}
@@ -91,10 +92,12 @@ zeros-assigned c shape = and-intro (eqb (length (zeros c)) (c .n)) (all (λ k. l
     (simp tests (length-tab (λ j. 0) 0 (c .n)))
     (rw (all-map (λ k. ltb k (c .d)) (λ (j : ℕ). 0) (below (c .n))) (all-of (λ j. ltb 0 (c .d)) (c .n) (λ j h. simp tests (shape .some-value))))
 
-module _ (r : Rules) (c : Case) (w₀ : List ℤ) (coherent : Coherent r) (shape : Shape c) (few : scopeCount c ≤ scopesAtMost r)
-    (long : ownLength c ≤ length w₀) (starts : T (allWeights (startingWeight r) c w₀)) where
+module _ {r : Rules} {c : Case} {w₀ : List ℤ} (coherent : Coherent r) (valid : Valid r c w₀) where
+  shape : Shape c
+  shape = valid .shape
+
   start-weight : {x k l : ℕ} → IsTuple c x k l → (minus (r .starting) ≤ℤ weight c w₀ x k l) × (weight c w₀ x k l ≤ℤ pos (r .starting))
-  start-weight {x} {k} {l} t = all-weights c (startingWeight r) w₀ long .0 starts x k l t ▸ simp flat (omega zs)
+  start-weight {x} {k} {l} t = valid .in-range x k l t ▸ simp flat (omega zs)
 
   start-greatest : (x : ℕ) → x < scopeCount c → greatest c w₀ x ≤ℤ pos (r .starting)
   start-greatest x h = greatest-within c w₀ (first-tuple c (shape .some-value) x h) (λ k l t. start-weight t .1)
@@ -116,9 +119,9 @@ module _ (r : Rules) (c : Case) (w₀ : List ℤ) (coherent : Coherent r) (shape
   pub reached-working : {w : List ℤ} → Reached c w₀ w → T (allWeights (workingWeight r) c w)
   reached-working {w} h =
       let m : (2 * scopeCount c + 1) * r .starting ≤ (2 * scopesAtMost r + 1) * r .starting = mul-le-mul-right (r .starting) (omega arith) in
-      let e : (2 * scopesAtMost r + 1) * r .starting ≡ 2 * (scopesAtMost r * r .starting) + r .starting = spread (scopesAtMost r) (r .starting) in
       let o : (2 * scopesAtMost r + 1) * r .starting ≤ r .working = coherent .room in
-      all-weights c (workingWeight r) w (omega (arith, reached-length shape long h)) .1 (λ x k l t. reached-weight h t ▸ simp flat (omega zs))
+      let q : r .starting ≤ r .working = starting-working coherent in
+      all-weights c (workingWeight r) w (omega (arith, reached-length shape (omega arith) h)) .1 (λ x k l t. reached-weight h t ▸ simp flat (omega zs))
 
   -- number 11 never meets the next engine press
   pub never-leaves : {w : List ℤ} {i : ℕ} {a : ℤ} → Reached c w₀ w → chosen c w ≡ some i → leastGap c w i ≡ some a → leavesRange r c (enginePressed c w i a) ≡ false
