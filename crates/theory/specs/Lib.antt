@@ -1,0 +1,2 @@
+-- Definitions of the theory that the code's contracts cite.
+pub mod Network
