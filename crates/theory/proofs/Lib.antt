@@ -7,3 +7,4 @@ pub mod Own
 pub mod Shifts
 pub mod Presses
 pub mod Validity
+pub mod Replays
