@@ -1,0 +1,2 @@
+-- Laws of marks, for the proofs of this crate and of those that use it.
+pub mod Laws

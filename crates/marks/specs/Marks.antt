@@ -1,0 +1,48 @@
+-- Sets of at most eight values, as marks in a byte. Assumes nothing.
+use mathlib.Core.Bool.{Bool, not, _&&_}
+use mathlib.Core.Option.{none, some}
+use mathlib.Core.List.{List}
+use Prim.Native.Nat.{ℕ, zero, suc, _+_, _*_, _/_, _%_, _^_}
+use lib.Dec.{ltb, eqb}
+use lib.ListN.{length}
+use Rattle.integers.specs.Words.{if_then_else_, below, those, first}
+
+-- value k is in the set s
+unfoldable pub mark : ℕ → ℕ → Bool
+mark s k = eqb (s / 2 ^ k % 2) 1
+
+-- the number whose n lowest bits say where f passes
+unfoldable pub bitsOf : ℕ → (ℕ → Bool) → ℕ
+bitsOf zero f = 0
+bitsOf (suc n) f = (if f 0 then 1 else 0) + 2 * bitsOf n (λ k. f (suc k))
+
+-- the set of the values below 8 at which f passes
+unfoldable pub byteOf : (ℕ → Bool) → ℕ
+byteOf f = bitsOf 8 f
+
+-- the values of a set, rising
+unfoldable pub members : ℕ → List ℕ
+members s = those (mark s) (below 8)
+
+-- the lowest value of a set, 8 if it has none
+unfoldable pub lowestOf : ℕ → ℕ
+lowestOf s = elim (first (members s)) [
+  | none ↦ 8
+  | some k ↦ k
+]
+
+unfoldable pub isSingle : ℕ → Bool
+isSingle s = eqb (length (members s)) 1
+
+-- a set without a value; a value alone; the values below d; the values of both sets
+abbrev pub without : ℕ → ℕ → ℕ
+without s v = byteOf (λ j. mark s j && not (eqb j v))
+
+abbrev pub onlyOf : ℕ → ℕ
+onlyOf v = byteOf (λ j. eqb j v)
+
+abbrev pub fullOf : ℕ → ℕ
+fullOf d = byteOf (λ j. ltb j d)
+
+abbrev pub inBoth : ℕ → ℕ → ℕ
+inBoth a b = byteOf (λ j. mark a j && mark b j)
