@@ -8,3 +8,4 @@ pub mod Shifts
 pub mod Presses
 pub mod Validity
 pub mod Replays
+pub mod Networks
