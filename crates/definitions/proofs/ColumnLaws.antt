@@ -17,7 +17,7 @@ use Rattle.integers.specs.Words.{all, minus}
 use Rattle.integers.specs.Tests.{tests, is-true, if-false, either}
 use Rattle.integers.specs.Lists.{all-append}
 use Rattle.definitions.specs.Lines.{digitsIn, decimal, numberText, tooWide, columnText, isDigit, readDigits, readPositive, readNumber, readColumn}
-use Rattle.definitions.proofs.Found.{no-some, found-then, found-else, found-if, found-after}
+use Rattle.integers.specs.Options.{none-some, found-then, found-else, found-if, bind-iff}
 
 -- ---- decimal, by its last digit
 
@@ -82,7 +82,7 @@ digits-back (b ∷ t) v m p e =
     (back .0, back .1 ∙ rw (decimal-last n (omega arith), front, last, append-assoc))
 
 positive-back : (t : List ℕ) (m : ℕ) → readPositive t ≡ some m → (0 < m) × (decimal m ≡ t)
-positive-back [] m e = no-some e
+positive-back [] m e = absurd (none-some e)
 positive-back (b ∷ t) m e =
     let (z, r) = found-else (eqb b 48) _ e in
     let (d, r) = found-then (isDigit b) _ r in
@@ -96,7 +96,7 @@ positive-back (b ∷ t) m e =
 -- ---- numbers
 
 number-positive : (t : List ℕ) (m : ℕ) → readPositive t ≡ some m → readNumber t ≡ some (pos m)
-number-positive [] m e = no-some e
+number-positive [] m e = absurd (none-some e)
 number-positive (b ∷ t) m e =
     let (z, r) = found-else (eqb b 48) _ e in
     let h : (48 ≤ b) × (b ≤ 57) = simp tests at (found-then (isDigit b) _ r .0) in
@@ -113,11 +113,11 @@ minus-text zero h = absurd (omega arith)
 minus-text (suc v) h = refl
 
 pub number-written : (t : List ℕ) (z : ℤ) → readNumber t ≡ some z → numberText z ≡ t
-number-written [] z e = no-some e
+number-written [] z e = absurd (none-some e)
 number-written (b ∷ t) z e =
     ⊎-elim
     (λ c.
-    let (v, r, s) = found-after (readPositive t) _ (c .1) in
+    let (v, r, s) = bind-iff (readPositive t) _ _ .0 (c .1) in
     let (h, k) = positive-back t v r in
     let q : b ≡ 45 = simp tests at (c .0) in
     cc (minus-text v h))
@@ -128,7 +128,7 @@ number-written (b ∷ t) z e =
     let q : b ≡ 48 = simp tests at (d .0) in
     cc (drop-of-length-le t {i = 0} (omega arith)))
     (λ d.
-    let (v, r, s) = found-after (readPositive (b ∷ t)) _ (d .1) in
+    let (v, r, s) = bind-iff (readPositive (b ∷ t)) _ _ .0 (d .1) in
     let q : z ≡ pos v = cc in
     rw q (positive-back (b ∷ t) v r .1))
     (found-if (eqb b 48) _ _ (c .1)))
@@ -145,7 +145,7 @@ number-column : (t : List ℕ) (z : ℤ) → readNumber t ≡ some z → readCol
 number-column [] z e = e
 number-column (b ∷ t) z e =
     ⊎-elim
-    (λ y. let q : b ≡ 32 = simp tests at y in no-some (rw q at e))
+    (λ y. let q : b ≡ 32 = simp tests at y in absurd (none-some (rw q at e)))
     (λ n. if-false _ _ (eqb b 32) n ∙ e)
     (either (eqb b 32))
 
@@ -156,7 +156,7 @@ pub fits-iff : (w : ℕ) (z : ℤ) → (tooWide w z ≡ false) ↔ (length (numb
 fits-iff w z = (ltb-false w (length (numberText z)), le-ltb w (length (numberText z)))
 
 pub column-written : (t : List ℕ) (z : ℤ) → readColumn t ≡ some z → (tooWide (length t) z ≡ false) × (columnText (length t) z ≡ t)
-column-written [] z e = no-some e
+column-written [] z e = absurd (none-some e)
 column-written (b ∷ t) z e =
     ⊎-elim
     (λ c.

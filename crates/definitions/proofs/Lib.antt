@@ -1,5 +1,4 @@
 -- Laws of the definitions.
-pub mod Found
 pub mod ColumnLaws
 pub mod LineLaws
 pub mod CaseLaws

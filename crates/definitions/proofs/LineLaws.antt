@@ -17,7 +17,7 @@ use Rattle.integers.specs.Tests.{tests, is-false, false-iff, not-or-iff}
 use Rattle.integers.specs.Tables.{Parts, length-joined}
 use Rattle.definitions.specs.declared.Line.{Line}
 use Rattle.definitions.specs.Lines.{tooWide, columnText, readColumn, feedAt, lineLength, lineText, lineTooWide, columnAt, readLine, cutLines, wholeLines, linesIn, hasPart}
-use Rattle.definitions.proofs.Found.{no-some, found-then}
+use Rattle.integers.specs.Options.{none-some, found-then}
 use Rattle.definitions.proofs.ColumnLaws.{column-read, column-written, column-length}
 
 -- each column has room for its number
@@ -90,11 +90,11 @@ column-back w z s p h e =
 
 columns-read : (k a b c m : Option ℤ) (l : Line) → (k >>= λ k. a >>= λ a. b >>= λ b. c >>= λ c. m >>= λ m. some (record { kind = k; a = a; b = b; c = c; amount = m })) ≡ some l
     → (k ≡ some (l .kind)) × (a ≡ some (l .a)) × (b ≡ some (l .b)) × (c ≡ some (l .c)) × (m ≡ some (l .amount))
-columns-read none a b c m l e = no-some e
-columns-read (some k) none b c m l e = no-some e
-columns-read (some k) (some a) none c m l e = no-some e
-columns-read (some k) (some a) (some b) none m l e = no-some e
-columns-read (some k) (some a) (some b) (some c) none l e = no-some e
+columns-read none a b c m l e = absurd (none-some e)
+columns-read (some k) none b c m l e = absurd (none-some e)
+columns-read (some k) (some a) none c m l e = absurd (none-some e)
+columns-read (some k) (some a) (some b) none m l e = absurd (none-some e)
+columns-read (some k) (some a) (some b) (some c) none l e = absurd (none-some e)
 columns-read (some k) (some a) (some b) (some c) (some m) l e = ((cc), (cc), (cc), (cc), (cc))
 
 pub line-written : (w : ℕ) (t : List ℕ) (l : Line) → readLine w t ≡ some l → (lineTooWide w l ≡ false) × (lineText w l ≡ t)

@@ -3,7 +3,7 @@
 use mathlib.Core.Path.{_≡_, refl, sym, ap, ap₂, _∙_}
 use mathlib.Core.Bool.{Bool, true, false, not, _&&_}
 use mathlib.Core.Logic.{_↔_, ⊎-elim}
-use mathlib.Core.List.{List, [], _∷_, map, List·Memᴰ·head, List·Memᴰ·tail, Memᴰ·of-map, Memᴰ·cast}
+use mathlib.Core.List.{List, [], _∷_, map, List·Memᴰ·head, List·Memᴰ·tail}
 use Prim.Native.Nat.{ℕ, _+_, _<_}
 use native.Mathlib.Omega.{arith}
 use lib.IntN.{ℤ, pos}
@@ -11,18 +11,12 @@ use lib.Dec.{T, T-not, not-T, ltb, nltb→le}
 use lib.ListN.{getD, List·getD-eq-default}
 use Rattle.integers.specs.Words.{below, all, any, choices}
 use Rattle.integers.specs.Tests.{tests, same-test, either}
-use Rattle.integers.specs.Lists.{_∈_, any-in, all-at, all-of, any-at, any-of, choices-in}
+use Rattle.integers.specs.Lists.{_∈_, any-in, all-below, any-below, choices-tab}
 use Rattle.integers.specs.Tables.{length-tab, getD-tab}
 use Rattle.definitions.specs.declared.Case.{Case}
 use Rattle.definitions.specs.Case.{lowerEnd, upperEnd, scopeCount, ownLength, active}
 use Rattle.definitions.specs.Consistency.{Family, Supported, Refuted, allowed, supported, families, marks, refuted}
 use Rattle.definitions.proofs.CaseLaws.{active-same}
-
-all-below : (f : ℕ → Bool) (n : ℕ) → T (all f (below n)) ↔ ((x : ℕ) → x < n → T (f x))
-all-below f n = (all-at f n, all-of f n)
-
-any-below : (f : ℕ → Bool) (n : ℕ) → T (any f (below n)) ↔ ((x : ℕ) × (x < n) × T (f x))
-any-below f n = (any-at f n, λ p. any-of f n (p .1) (p .2))
 
 -- ---- `supported` says what `Supported` says
 
@@ -49,9 +43,6 @@ module _ (c : Case) (w : List ℤ) (R : ℕ → Bool) (i k : ℕ) (S : Family) w
 
 -- ---- every family is among those that are tried
 
-tab-in : {A : Type 0} (f : ℕ → A) (n : ℕ) (xs : List A) → ((j : ℕ) → f j ∈ xs) → map f (below n) ∈ choices n xs
-tab-in f n xs h = rw (length-tab f 0 n) at (choices-in xs (map f (below n)) (λ x m. let (j, o, e) = Memᴰ·of-map f (below n) m in Memᴰ·cast (sym e) (h j)))
-
 mark-in : (b : Bool) → b ∈ (true ∷ false ∷ [])
 mark-in true = List·Memᴰ·head refl
 mark-in false = List·Memᴰ·tail (List·Memᴰ·head refl)
@@ -61,7 +52,9 @@ abbrev listed : Case → Family → List (List Bool)
 listed c S = map (λ j. map (S j) (below (c .d))) (below (c .n))
 
 listed-in : (c : Case) (S : Family) → listed c S ∈ families c
-listed-in c S = tab-in (λ j. map (S j) (below (c .d))) (c .n) (choices (c .d) (true ∷ false ∷ [])) (λ j. tab-in (S j) (c .d) (true ∷ false ∷ []) (λ v. mark-in (S j v)))
+listed-in c S =
+    choices-tab (choices (c .d) (true ∷ false ∷ [])) (λ j. map (S j) (below (c .d))) (c .n)
+    (λ j h. choices-tab (true ∷ false ∷ []) (S j) (c .d) (λ v g. mark-in (S j v)))
 
 marks-listed : (c : Case) (S : Family) (j v : ℕ) → j < c .n → v < c .d → marks (listed c S) j v ≡ S j v
 marks-listed c S j v h g =

@@ -270,17 +270,26 @@ least f a (suc n) {x} e y l u = go (f a) refl e (either (eqb y a)) (λ d. least 
     go false p d (inr t) r = r d (omega (arith, not-eqb-iff y a .0 t)) u
 
 module _ (f : ℕ → Bool) (n : ℕ) where
+  pub all-below : T (all f (below n)) ↔ ((x : ℕ) → x < n → T (f x))
+  all-below = (λ t x h. all-in f (below n) .0 t x (below-in h), λ h. all-in f (below n) .1 (λ x m. h x (in-below n m)))
+
+  pub any-below : T (any f (below n)) ↔ ((x : ℕ) × (x < n) × T (f x))
+  any-below = (
+    λ t. let (x, m, s) = any-in f (below n) .0 t in (x, in-below n m, s),
+    λ p. any-in f (below n) .1 (p .0, below-in (p .1), p .2),
+  )
+
   pub all-at : T (all f (below n)) → (x : ℕ) → x < n → T (f x)
-  all-at t x h = all-in f (below n) .0 t x (below-in h)
+  all-at = all-below .0
 
   pub all-of : ((x : ℕ) → x < n → T (f x)) → T (all f (below n))
-  all-of h = all-in f (below n) .1 (λ x m. h x (in-below n m))
+  all-of = all-below .1
 
   pub any-at : T (any f (below n)) → (x : ℕ) × (x < n) × T (f x)
-  any-at t = let (x, m, s) = any-in f (below n) .0 t in (x, in-below n m, s)
+  any-at = any-below .0
 
   pub any-of : {x : ℕ} → x < n → T (f x) → T (any f (below n))
-  any-of {x} h t = any-in f (below n) .1 (x, below-in h, t)
+  any-of {x} h t = any-below .1 (x, h, t)
 
   -- the first of them is the least
   pub first-least : {x : ℕ} → first (those f (below n)) ≡ some x → (x < n) × T (f x) × ((y : ℕ) → y < x → T (not (f y)))

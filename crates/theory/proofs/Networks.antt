@@ -11,7 +11,7 @@ use lib.Dec.{T, T-not, not-T, ltb, eqb, eqb-refl, eqb→eq, ltb→lt, lt→ltb}
 use lib.ListN.{getD}
 use Rattle.integers.specs.Words.{below, all, any, choices, _⇒_}
 use Rattle.integers.specs.Tests.{tests, is-true, is-false, true-is, same-test, and-intro, and-left, and-right, imp-intro, imp-elim}
-use Rattle.integers.specs.Lists.{_∈_, any-in, all-at, all-of, any-at, any-of, choices-tab}
+use Rattle.integers.specs.Lists.{_∈_, any-in, all-at, all-of, any-at, any-of, all-below, any-below, choices-tab}
 use Rattle.integers.specs.Tables.{getD-tab}
 use Rattle.definitions.specs.declared.Case.{Case}
 use Rattle.definitions.specs.Case.{values}
@@ -19,12 +19,6 @@ use Rattle.definitions.specs.Consistency.{Family, Supported, marks, allowed, re
 use Rattle.definitions.proofs.Refutation.{refuted-sound, refuted-complete}
 use Rattle.theory.specs.Network.{Network, SupportedIn, supportedIn, familiesOf, largest, networkOf, fixedSets}
 use Rattle.theory.proofs.Shape.{Shape}
-
-all-below : (f : ℕ → Bool) (n : ℕ) → T (all f (below n)) ↔ ((x : ℕ) → x < n → T (f x))
-all-below f n = (all-at f n, all-of f n)
-
-any-below : (f : ℕ → Bool) (n : ℕ) → T (any f (below n)) ↔ ((x : ℕ) × (x < n) × T (f x))
-any-below f n = (any-at f n, λ p. any-of f n (p .1) (p .2))
 
 -- the ends of edges are variables
 abbrev pub Ends : Network → Type 0
