@@ -8,4 +8,5 @@ pub mod Shifts
 pub mod Presses
 pub mod Validity
 pub mod Replays
+pub mod Rounds
 pub mod Networks

@@ -30,11 +30,11 @@ use Rattle.definitions.specs.CaseFiles.{outside}
 use Rattle.definitions.specs.Replay.{pressAmount, Held, State, fresh, afterMove, holding, afterBound, refused, kindsDue, shiftOf, shiftTests, pressTests, heldOf, raising, isLast, pressOf, raiseTests, boundTests, testsOfKind, lineTests, taken, answered, stepUnrefused, step, after, answers, atEnd, keepsRules}
 use Rattle.definitions.specs.Engine.{activeRefuted}
 use Rattle.theory.proofs.Shape.{Shape}
-use Rattle.theory.proofs.Places.{plus-length}
+use Rattle.theory.proofs.Places.{all-weights, plus-length}
 use Rattle.theory.proofs.Totals.{bound-above}
 use Rattle.theory.proofs.Shifts.{shift-moves}
 use Rattle.theory.proofs.Presses.{press-moves}
-use Rattle.theory.proofs.Validity.{none-applies, valid-facts, all-working}
+use Rattle.theory.proofs.Validity.{none-applies, Handed, valid-facts, all-working}
 
 -- ---- what one line, of any bytes, can do to a state
 
@@ -280,10 +280,27 @@ module _ (r : Rules) (c : Case) (w : List ℤ) (t : T (valid r c w)) where
     pub rounds-few : (p : List ℕ) → T (isAssignment c p) → (pos (after r (fresh c w) ts .rounds) +ℤ objective c w p) ≤ℤ upperBound c w
     rounds-few p a = rounds-from r (fresh c w) ts sound-fresh p a ▸ simp flat (omega zs)
 
-    pub working-after : Coherent r → T (allWeights (workingWeight r) c (after r (fresh c w) ts .weights))
-    working-after coherent = rw (case-after r (fresh c w) ts) at (in-range-after r (fresh c w) ts (all-working coherent (valid-facts r c w t)))
+    -- the working table is one that every call takes
+    pub handed-after : Coherent r → Handed r (workingWeight r) c (after r (fresh c w) ts .weights)
+    handed-after coherent =
+        let h = valid-facts r c w t in
+        let e = (rw (starting-after r (fresh c w) ts) at (sound-after r (fresh c w) ts sound-fresh .long)) ∙ h .long in
+        record {
+          variables-most = h .variables-most;
+          values-most = h .values-most;
+          edges-most = h .edges-most;
+          long = e;
+          shape = h .shape;
+          apart = h .apart;
+          in-range = all-weights c (workingWeight r) (after r (fresh c w) ts .weights) (omega arith) .0
+              (rw (case-after r (fresh c w) ts) at (in-range-after r (fresh c w) ts (all-working coherent h)));
+        }
 
 -- ---- numbers
+
+pub none-iff : {A : Type 0} (o : Option A) → T (not (isSome o)) ↔ o ≡ none
+none-iff none = (λ t. refl, λ e. tt)
+none-iff (some a) = (λ t. absurd t, λ e. absurd (none-some (sym e)))
 
 -- a number stands: nothing changes any more, and it is every later answer and the end's
 module _ (r : Rules) (s : State) {x : Refusal} (e : s .refusal ≡ some x) where
@@ -330,8 +347,4 @@ module _ (r : Rules) (c : Case) (w : List ℤ) (ts : List (List ℕ)) where
   )
 
   pub keeps-iff : T (keepsRules r c w ts) ↔ atEnd (after r (fresh c w) ts) ≡ none
-  keeps-iff = go (atEnd (after r (fresh c w) ts))
-    where
-      go : (o : Option Refusal) → T (not (isSome o)) ↔ o ≡ none
-      go none = (λ t. refl, λ e. tt)
-      go (some x) = (λ t. absurd t, λ e. absurd (none-some (sym e)))
+  keeps-iff = none-iff (atEnd (after r (fresh c w) ts))
