@@ -1,0 +1,7 @@
+-- Laws that the functions' proofs cite.
+pub mod Search
+pub mod Maxima
+pub mod Order
+pub mod Bounds
+pub mod Parts
+pub mod Answered

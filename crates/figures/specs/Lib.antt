@@ -1,0 +1,3 @@
+-- What the inner functions answer, and what they may take as known.
+pub mod Edges
+pub mod Scopes
