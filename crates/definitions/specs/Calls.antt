@@ -23,10 +23,10 @@ use Rattle.definitions.specs.Answers.{outcomeOf, unlessRefused}
 use Rattle.definitions.specs.Case.{scopeCount, isVariable, objective, upperBound, active}
 use Rattle.definitions.specs.Valid.{startingWeight, workingWeight, wrongAssignment, valueOut, handedOver}
 use Rattle.definitions.specs.Consistency.{refuted}
-use Rattle.definitions.specs.Moves.{Move, shift, press, moved, leavesRange}
+use Rattle.definitions.specs.Moves.{Move, shift, press, moved, activeRefuted, leavesRange}
 use Rattle.definitions.specs.Lines.{readLine, lineText, lineLength, lineTooWide, overwritten}
 use Rattle.definitions.specs.CaseFiles.{caseText}
-use Rattle.definitions.specs.Replay.{shiftAmount, pressAmount, someNotRefuted}
+use Rattle.definitions.specs.Replay.{shiftAmount, pressAmount}
 
 -- ---- answers by whether a refusal applies
 
@@ -119,7 +119,7 @@ module _ (r : Rules) where
       moveCall c w (press i raised a)
       (handedOver r (workingWeight r) c w false (pressOut c i raised a)
       ++ (RaiseNotAscending when (not (isRising raised) || isIn raised i)
-      ∷ NotRefuted when (someNotRefuted c w i raised)
+      ∷ NotRefuted when (not (activeRefuted c w i raised))
       ∷ LeavesRange when (leavesRange r c (moved c (press i raised a) w)) ∷ []))
 
   -- ---- lines

@@ -5,7 +5,7 @@ use mathlib.Core.List.{List, [], _∷_, _++_, map}
 use Prim.Native.Nat.{ℕ, _+_, _*_}
 use lib.IntN.{ℤ, pos, natAbs}
 use lib.Dec.{ltb, eqb}
-use lib.Signed.{leZ, ltZ}
+use lib.Signed.{ltZ}
 use lib.ListN.{length, take, drop, set, replicate}
 use Rattle.integers.specs.Words.{if_then_else_, below, any, joined, eqZ, withinZ}
 use Rattle.definitions.specs.declared.Case.{Case}
@@ -29,7 +29,7 @@ use Rattle.definitions.specs.Rules.{Rules}
 use Rattle.definitions.specs.Refusals.{Test, _when_, firstOf}
 use Rattle.definitions.specs.Case.{values, lowerEnd, upperEnd, eachTuple, weight, place, lentLength}
 use Rattle.definitions.specs.Valid.{startingWeight}
-use Rattle.definitions.specs.Lines.{line, lineText, lineLength, readLine, notDue}
+use Rattle.definitions.specs.Lines.{line, lineText, lineLength, readLine, notDue, outside}
 
 -- ---- written: the head, all kind 11 lines, then each edge's kind 12 line and its kind 13 lines, all in table order
 
@@ -67,10 +67,6 @@ dues c =
 -- a column names a place
 abbrev pub names : ℕ → ℤ → Bool
 names n z = eqZ z (pos n)
-
--- z is none of the numbers below n
-abbrev pub outside : ℕ → ℤ → Bool
-outside n z = not (leZ (pos 0) z && ltZ z (pos n))
 
 abbrev pub headTests : Rules → Option Line → List Test
 headTests r none = NotInColumns when true ∷ []

@@ -36,8 +36,7 @@ use Rattle.definitions.specs.Case.{scopeCount, upperBound}
 use Rattle.definitions.specs.Valid.{startingWeight, workingWeight, limitTest, edgeTests, handedOver}
 use Rattle.definitions.specs.Consistency.{allRefuted}
 use Rattle.definitions.specs.Moves.{plus, shiftBy, pressBy, activeValues, leavesRange}
-use Rattle.definitions.specs.Lines.{readLine, notDue, isKind, linesIn}
-use Rattle.definitions.specs.CaseFiles.{outside}
+use Rattle.definitions.specs.Lines.{readLine, notDue, isKind, outside, linesIn}
 use Rattle.definitions.specs.Replay.{shiftAmount, pressAmount}
 
 -- what stands between lines: the case, the lent table, the record
@@ -62,19 +61,94 @@ pub record Asked : Type 0 where
   pub table : List ℤ
   pub next : Replay
 
-module _ (r : Rules) where
-  -- ---- the record
+-- ---- the record
 
+-- a byte that is not 0 marks a raised scope
+abbrev pub isRaised : List ℕ → ℕ → Bool
+isRaised raised x = not (eqb (getD raised x 0) 0)
+
+abbrev pub lastOut : Case → LastRaised → Bool
+lastOut c LastRaised.Nothing = false
+lastOut c (LastRaised.Scope x) = not (ltb x (scopeCount c))
+
+abbrev pub notAboveLast : LastRaised → ℕ → Bool
+notAboveLast LastRaised.Nothing x = false
+notAboveLast (LastRaised.Scope y) x = leb x y
+
+abbrev pub dueKinds : Due → List ℕ
+dueKinds Due.MoveOrBound = 1 ∷ 2 ∷ 4 ∷ []
+dueKinds (Due.Raise i a left lastOne) = 3 ∷ []
+
+abbrev pub isHeld : Due → Bool
+isHeld Due.MoveOrBound = false
+isHeld (Due.Raise i a left lastOne) = true
+
+-- ---- the next record: after a shift, inside a press, after a bound line, refused
+
+abbrev pub refusedReplay : Replay → Refusal → Replay
+refusedReplay p x = record {
+  rounds = p .rounds;
+  start = p .start;
+  moved = p .moved;
+  raised = p .raised;
+  due = p .due;
+  standing = Standing.Refused x;
+}
+
+abbrev pub afterShift : Replay → Replay
+afterShift p = record {
+  rounds = p .rounds;
+  start = p .start;
+  moved = true;
+  raised = p .raised;
+  due = Due.MoveOrBound;
+  standing = Standing.Good;
+}
+
+abbrev pub inPress : Replay → List ℕ → Due → Replay
+inPress p raised due = record {
+  rounds = p .rounds;
+  start = p .start;
+  moved = p .moved;
+  raised = raised;
+  due = due;
+  standing = Standing.Good;
+}
+
+abbrev pub afterBound : Replay → ℤ → Replay
+afterBound p bound = record {
+  rounds = p .rounds + 1;
+  start = bound;
+  moved = false;
+  raised = p .raised;
+  due = Due.MoveOrBound;
+  standing = Standing.Good;
+}
+
+-- ---- a step by whether a number applies
+
+abbrev pub stepRefused : Replay → List ℤ → Refusal → StepCall
+stepRefused p w x = record { stepped = record { replay = refusedReplay p x; answer = Outcome.Refused x }; table = w }
+
+abbrev pub stepBy : List ℤ → Replay → Asked → Option Refusal → StepCall
+stepBy w p asked none = record { stepped = record { replay = asked .next; answer = Outcome.Done }; table = asked .table }
+stepBy w p asked (some x) = stepRefused p w x
+
+-- ---- the answers to many lines: how many got no number, and the first refusal
+
+abbrev pub takenLines : List Outcome → ℕ
+takenLines [] = 0
+takenLines (Outcome.Done ∷ os) = 1 + takenLines os
+takenLines (Outcome.Refused x ∷ os) = 0
+
+abbrev pub firstRefused : List Outcome → Outcome
+firstRefused [] = Outcome.Done
+firstRefused (Outcome.Done ∷ os) = firstRefused os
+firstRefused (Outcome.Refused x ∷ os) = Outcome.Refused x
+
+module _ (r : Rules) where
   abbrev pub noneRaised : List ℕ
   noneRaised = replicate (scopesAtMost r) 0
-
-  -- a byte that is not 0 marks a raised scope
-  abbrev pub isRaised : List ℕ → ℕ → Bool
-  isRaised raised x = not (eqb (getD raised x 0) 0)
-
-  abbrev pub lastOut : Case → LastRaised → Bool
-  lastOut c LastRaised.Nothing = false
-  lastOut c (LastRaised.Scope x) = not (ltb x (scopeCount c))
 
   -- number 5 of what is due: inside a press its variable, amount, lines left, last scope, and every scope raised
   abbrev pub dueOut : Case → List ℕ → Due → Bool
@@ -109,54 +183,13 @@ module _ (r : Rules) where
   unfoldable pub freshReplay : Case → List ℤ → Replay
   freshReplay c w = freshOf (firstOf (handedOver r (startingWeight r) c w false false)) (upperBound c w)
 
-  -- ---- the next record
-
-  abbrev pub refusedReplay : Replay → Refusal → Replay
-  refusedReplay p x = record {
-    rounds = p .rounds;
-    start = p .start;
-    moved = p .moved;
-    raised = p .raised;
-    due = p .due;
-    standing = Standing.Refused x;
-  }
-
-  abbrev pub afterShift : Replay → Replay
-  afterShift p = record {
-    rounds = p .rounds;
-    start = p .start;
-    moved = true;
-    raised = p .raised;
-    due = Due.MoveOrBound;
-    standing = Standing.Good;
-  }
-
-  abbrev pub inPress : Replay → List ℕ → Due → Replay
-  inPress p raised due = record {
-    rounds = p .rounds;
-    start = p .start;
-    moved = p .moved;
-    raised = raised;
-    due = due;
-    standing = Standing.Good;
-  }
-
+  -- no press, nothing raised
   abbrev pub afterPress : Replay → Replay
   afterPress p = record {
     rounds = p .rounds;
     start = p .start;
     moved = true;
     raised = noneRaised;
-    due = Due.MoveOrBound;
-    standing = Standing.Good;
-  }
-
-  abbrev pub afterBound : Replay → ℤ → Replay
-  afterBound p bound = record {
-    rounds = p .rounds + 1;
-    start = bound;
-    moved = false;
-    raised = p .raised;
     due = Due.MoveOrBound;
     standing = Standing.Good;
   }
@@ -192,10 +225,6 @@ module _ (r : Rules) where
     next = afterBound p (t .amount);
   }
 
-  abbrev pub notAboveLast : LastRaised → ℕ → Bool
-  notAboveLast LastRaised.Nothing x = false
-  notAboveLast (LastRaised.Scope y) x = leb x y
-
   -- a raise line of a press of variable i by a, with `left` lines left
   abbrev pub ofRaise : Case → List ℤ → Replay → ℕ → ℤ → ℕ → LastRaised → Line → Asked
   ofRaise c w p i a left lastOne t =
@@ -214,10 +243,6 @@ module _ (r : Rules) where
         next = if isLast then afterPress p else inPress p raised (Due.Raise i a (left - 1) (LastRaised.Scope x));
       }
 
-  abbrev pub dueKinds : Due → List ℕ
-  dueKinds Due.MoveOrBound = 1 ∷ 2 ∷ 4 ∷ []
-  dueKinds (Due.Raise i a left lastOne) = 3 ∷ []
-
   abbrev pub ofKind : Case → List ℤ → Replay → Due → Line → Asked
   ofKind c w p (Due.Raise i a left lastOne) t = ofRaise c w p i a left lastOne t
   ofKind c w p Due.MoveOrBound t =
@@ -227,18 +252,11 @@ module _ (r : Rules) where
 
   -- ---- step: the answer is the next record's standing; a refused step changes the standing alone
 
-  abbrev pub stepRefused : Replay → List ℤ → Refusal → StepCall
-  stepRefused p w x = record { stepped = record { replay = refusedReplay p x; answer = Outcome.Refused x }; table = w }
-
   abbrev pub stepTests : Case → List ℤ → Replay → Line → Asked → List Test
   stepTests c w p t asked =
       NotDue when (notDue r (dueKinds (p .due)) t)
       ∷ handedOver r (workingWeight r) c w false (recordOut c p || asked .out)
       ++ asked .later
-
-  abbrev pub stepBy : List ℤ → Replay → Asked → Option Refusal → StepCall
-  stepBy w p asked none = record { stepped = record { replay = asked .next; answer = Outcome.Done }; table = asked .table }
-  stepBy w p asked (some x) = stepRefused p w x
 
   abbrev pub stepLine : Case → List ℤ → Replay → Option Line → StepCall
   stepLine c w p none = stepRefused p w NotInColumns
@@ -254,10 +272,6 @@ module _ (r : Rules) where
   stepReplay c w p bytes = stepStanding c w p bytes (p .standing)
 
   -- ---- end: the number that stands, else 3, 5, 6, 7, else 14 if a press is held or a move has no bound line after it
-
-  abbrev pub isHeld : Due → Bool
-  isHeld Due.MoveOrBound = false
-  isHeld (Due.Raise i a left lastOne) = true
 
   abbrev pub endTests : Case → Replay → List Test
   endTests c p = limitTest r c ∷ edgeTests c (recordOut c p) ++ (CutShort when (isHeld (p .due) || p .moved) ∷ [])
@@ -286,17 +300,7 @@ module _ (r : Rules) where
   lineAnswers b (t ∷ ts) =
       stepReplay (b .case) (b .table) (b .replay) t .stepped .answer ∷ lineAnswers (stepBetween b t) ts
 
-  -- a block of whole lines: how many got no number, and the first refusal; a part line at its end is not looked at
-  abbrev pub takenLines : List Outcome → ℕ
-  takenLines [] = 0
-  takenLines (Outcome.Done ∷ os) = 1 + takenLines os
-  takenLines (Outcome.Refused x ∷ os) = 0
-
-  abbrev pub firstRefused : List Outcome → Outcome
-  firstRefused [] = Outcome.Done
-  firstRefused (Outcome.Done ∷ os) = firstRefused os
-  firstRefused (Outcome.Refused x ∷ os) = Outcome.Refused x
-
+  -- a block of whole lines; a part line at its end is not looked at
   unfoldable pub blockReplay : Case → List ℤ → Replay → List ℕ → BlockCall
   blockReplay c w p bytes =
       let b : Between = record { case = c; table = w; replay = p } in

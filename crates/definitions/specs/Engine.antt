@@ -6,7 +6,7 @@ use Prim.Native.Nat.{ℕ, zero, suc, _+_, _*_}
 use lib.IntN.{ℤ, pos, _-ℤ_}
 use lib.Dec.{eqb}
 use lib.ListN.{length}
-use Rattle.integers.specs.Words.{if_then_else_, below, isIn, those, first, joined, greatestOf, leastOf}
+use Rattle.integers.specs.Words.{if_then_else_, below, those, first, joined, greatestOf, leastOf}
 use Rattle.definitions.specs.declared.Case.{Case}
 use Rattle.definitions.specs.declared.Line.{Line}
 use Rattle.definitions.specs.declared.Refusal.{Refusal}
@@ -14,8 +14,7 @@ use Rattle.definitions.specs.declared.Refusal.the-variants.{LeavesRange}
 use Rattle.definitions.specs.declared.RunAnswer.{RunAnswer}
 use Rattle.definitions.specs.Rules.{Rules}
 use Rattle.definitions.specs.Case.{scopes, scopeCount, eachTuple, weight, greatest, active, upperBound}
-use Rattle.definitions.specs.Consistency.{allRefuted}
-use Rattle.definitions.specs.Moves.{Move, shift, press, moved, activeValues, leavesRange}
+use Rattle.definitions.specs.Moves.{Move, shift, press, moved, activeRefuted, leavesRange}
 use Rattle.definitions.specs.Lines.{line, lineText, lineLength}
 
 -- ---- which press
@@ -23,10 +22,6 @@ use Rattle.definitions.specs.Lines.{line, lineText, lineLength}
 -- all other scopes
 abbrev pub others : Case → ℕ → List ℕ
 others c i = those (λ x. not (eqb x i)) (scopes c)
-
--- the active values of variable i are all refuted with these scopes raised
-abbrev pub activeRefuted : Case → List ℤ → ℕ → List ℕ → Bool
-activeRefuted c w i raised = allRefuted c w (isIn raised) i (activeValues c w i)
 
 -- the lowest variable whose active values are all refuted with all other scopes raised
 abbrev pub chosen : Case → List ℤ → Option ℕ

@@ -31,6 +31,16 @@ pub record RunCall : Type 0 where
   pub out : List ℕ
   pub log : List ℕ
 
+-- by numbers 3 to 8 a run is refused before its first round, and has no bound; by 11 it stands as after its last round
+abbrev pub isLeaving : Refusal → Bool
+isLeaving x = eqb (number x) 11
+
+-- at its limit a run answers settled if settled, and limit otherwise, also where the next round would be refused by 11
+abbrev pub answerAtLimit : Round → RunAnswer
+answerAtLimit Round.Settled = RunAnswer.Settled
+answerAtLimit (Round.Made bytes bound) = RunAnswer.Limit
+answerAtLimit (Round.Refused x) = if isLeaving x then RunAnswer.Limit else RunAnswer.Refused x
+
 module _ (r : Rules) (next : Case → List ℤ → Next) (c : Case) where
   -- ---- one round: its lines from the output's first byte; settled or refused, table and output keep what they held
 
@@ -54,10 +64,6 @@ module _ (r : Rules) (next : Case → List ℤ → Next) (c : Case) where
 
   -- ---- the run
 
-  -- by numbers 3 to 8 a run is refused before its first round, and has no bound
-  abbrev pub isLeaving : Refusal → Bool
-  isLeaving x = eqb (number x) 11
-
   abbrev pub boundAt : RunAnswer → List ℤ → ℤ
   boundAt RunAnswer.Settled w = upperBound c w
   boundAt RunAnswer.Limit w = upperBound c w
@@ -70,12 +76,6 @@ module _ (r : Rules) (next : Case → List ℤ → Next) (c : Case) where
     out = out;
     log = log;
   }
-
-  -- at its limit a run answers settled if settled, and limit otherwise, also where the next round would be refused by 11
-  abbrev pub answerAtLimit : Round → RunAnswer
-  answerAtLimit Round.Settled = RunAnswer.Settled
-  answerAtLimit (Round.Made bytes bound) = RunAnswer.Limit
-  answerAtLimit (Round.Refused x) = if isLeaving x then RunAnswer.Limit else RunAnswer.Refused x
 
   abbrev pub goOn : Round → RoundCall → ℕ → List ℤ → List ℕ → List ℕ → (List ℤ → List ℕ → List ℕ → RunCall) → RunCall
   goOn Round.Settled call done w out log go = stopRun RunAnswer.Settled done w out log

@@ -5,7 +5,8 @@ use mathlib.Core.Option.{Option, none, some}
 use mathlib.Core.List.{List, [], _∷_, _++_}
 use Prim.Native.Nat.{ℕ, zero, suc, _+_, _*_, _-_, _/_, _%_}
 use lib.IntN.{ℤ, pos, negsuc}
-use lib.Dec.{leb, ltb, eqb}
+use lib.Dec.{ltb, eqb}
+use lib.Signed.{leZ, ltZ}
 use lib.ListN.{length, getD, take, drop, replicate}
 use Rattle.integers.specs.Words.{if_then_else_, within, any, isIn, minus, eqZ, _⇒_, _>>=_}
 use Rattle.definitions.specs.declared.Line.{Line}
@@ -118,6 +119,10 @@ unusedZero k l = zeroUnless (k .a) (l .a) && zeroUnless (k .b) (l .b) && zeroUnl
 -- number 2: the kind is not due here, or an unused column is not 0
 abbrev pub notDue : Rules → List ℕ → Line → Bool
 notDue r due l = not (any (λ k. isKind (k .kind) l && isIn due (k .kind) && unusedZero k l) (r .kinds))
+
+-- the number in a column is none of those below n
+abbrev pub outside : ℕ → ℤ → Bool
+outside n z = not (leZ (pos 0) z && ltZ z (pos n))
 
 -- ---- bytes cut into lines
 

@@ -10,7 +10,7 @@ use Rattle.definitions.specs.declared.Case.{Case}
 use Rattle.definitions.specs.Rules.{Rules}
 use Rattle.definitions.specs.Case.{scopes, eachTuple, ownLength, lowerEnd, upperEnd, weight, active}
 use Rattle.definitions.specs.Valid.{workingWeight, allWeights}
-use Rattle.definitions.specs.Consistency.{forbidden}
+use Rattle.definitions.specs.Consistency.{forbidden, allRefuted}
 
 -- a number for each tuple k, l of each scope
 abbrev pub Difference : Type 0
@@ -50,6 +50,10 @@ pressBy c w i lowered R a x k l = onlyWhere (eqb x i && lowered k) (negℤ a) +�
 -- the values that a press lowers: the active ones
 abbrev pub activeValues : Case → List ℤ → ℕ → ℕ → Bool
 activeValues c w i k = active c w i k 0
+
+-- the active values of variable i are all refuted with these scopes raised
+abbrev pub activeRefuted : Case → List ℤ → ℕ → List ℕ → Bool
+activeRefuted c w i raised = allRefuted c w (isIn raised) i (activeValues c w i)
 
 pub data Move : Type 0 where
   -- edge, end, value, amount

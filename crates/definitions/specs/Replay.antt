@@ -6,7 +6,7 @@ use Prim.Native.Nat.{ℕ, _+_, _-_}
 use lib.IntN.{ℤ, pos, natAbs}
 use lib.Dec.{leb, ltb, eqb}
 use lib.Signed.{ltZ}
-use Rattle.integers.specs.Words.{if_then_else_, isIn, last, withinZ, minus, eqZ, isSome}
+use Rattle.integers.specs.Words.{if_then_else_, last, withinZ, minus, eqZ, isSome}
 use Rattle.definitions.specs.declared.Case.{Case}
 use Rattle.definitions.specs.declared.Line.{Line}
 use Rattle.definitions.specs.declared.Refusal.{Refusal}
@@ -24,10 +24,8 @@ use Rattle.definitions.specs.declared.Refusal.the-variants.{
 use Rattle.definitions.specs.Rules.{Rules}
 use Rattle.definitions.specs.Refusals.{Test, _when_, firstOf, numberOf}
 use Rattle.definitions.specs.Case.{scopeCount, upperBound}
-use Rattle.definitions.specs.Consistency.{allRefuted}
-use Rattle.definitions.specs.Moves.{Move, shift, press, moved, activeValues, leavesRange}
-use Rattle.definitions.specs.Lines.{readLine, notDue, isKind}
-use Rattle.definitions.specs.CaseFiles.{outside}
+use Rattle.definitions.specs.Moves.{Move, shift, press, moved, activeRefuted, leavesRange}
+use Rattle.definitions.specs.Lines.{readLine, notDue, isKind, outside}
 
 -- ---- what moves ask, whoever makes them
 
@@ -37,10 +35,6 @@ shiftAmount r a = withinZ (minus (r .moving)) (pos (r .moving)) a && not (eqZ a 
 
 abbrev pub pressAmount : Rules → ℤ → Bool
 pressAmount r a = withinZ (pos 1) (pos (r .moving)) a
-
--- number 10: some active value of the pressed variable is not refuted
-abbrev pub someNotRefuted : Case → List ℤ → ℕ → List ℕ → Bool
-someNotRefuted c w i raised = not (allRefuted c w (isIn raised) i (activeValues c w i))
 
 -- ---- the state
 
@@ -124,86 +118,92 @@ refused s x = record {
   refusal = some x;
 }
 
+-- with a press held only kind 3 is due, otherwise kinds 1, 2 and 4
+abbrev pub kindsDue : Option Held → List ℕ
+kindsDue none = 1 ∷ 2 ∷ 4 ∷ []
+kindsDue (some h) = 3 ∷ []
+
+-- ---- kind 1: the shift is made
+
+abbrev pub shiftOf : Line → Move
+shiftOf t = shift (natAbs (t .a)) (natAbs (t .b)) (natAbs (t .c)) (t .amount)
+
+abbrev pub shiftTests : Rules → State → Line → List Test
+shiftTests r s t =
+    OutOfRange when (outside (s .case .m) (t .a) || outside 2 (t .b) || outside (s .case .d) (t .c) || not (shiftAmount r (t .amount)))
+    ∷ LeavesRange when (leavesRange r (s .case) (moved (s .case) (shiftOf t) (s .weights)))
+    ∷ []
+
+-- ---- kind 2: the press is held, no scope raised
+
+abbrev pub pressTests : Rules → State → Line → List Test
+pressTests r s t =
+    OutOfRange when
+    (outside (s .case .n) (t .a) || not (withinZ (pos 1) (pos (scopeCount (s .case) - 1)) (t .b)) || not (pressAmount r (t .amount)))
+    ∷ []
+
+abbrev pub heldOf : Line → Held
+heldOf t = record { variable = natAbs (t .a); amount = t .amount; raised = []; left = natAbs (t .b) }
+
+-- ---- kind 3: the scope is raised; with the last one the press is made and let go
+
+abbrev pub raising : Held → Line → Held
+raising h t = record { variable = h .variable; amount = h .amount; raised = h .raised ++ (natAbs (t .a) ∷ []); left = h .left - 1 }
+
+abbrev pub isLast : Held → Bool
+isLast h = eqb (h .left) 1
+
+abbrev pub pressOf : Held → Move
+pressOf h = press (h .variable) (h .raised) (h .amount)
+
+-- not above the press's previous raise line
+abbrev pub notAbove : Option ℕ → ℕ → Bool
+notAbove none x = false
+notAbove (some y) x = leb x y
+
+abbrev pub raiseTests : Rules → State → Held → Line → List Test
+raiseTests r s h t =
+    OutOfRange when (outside (scopeCount (s .case)) (t .a))
+    ∷ RaiseNotAscending when (notAbove (last (h .raised)) (natAbs (t .a)) || eqb (natAbs (t .a)) (h .variable))
+    ∷ NotRefuted when (isLast h && not (activeRefuted (s .case) (s .weights) (h .variable) (raising h t .raised)))
+    ∷ LeavesRange when (isLast h && leavesRange r (s .case) (moved (s .case) (pressOf (raising h t)) (s .weights)))
+    ∷ []
+
+-- ---- kind 4: rounds grow by one; its amount is the upper bound at the next round's start
+
+abbrev pub boundTests : Rules → State → Line → List Test
+boundTests r s t =
+    OutOfRange when (not (ltb (s .rounds) (r .rounds)))
+    ∷ OtherBound when (not (eqZ (t .amount) (upperBound (s .case) (s .weights))))
+    ∷ BoundNotLower when (not (ltZ (upperBound (s .case) (s .weights)) (s .start)))
+    ∷ []
+
+-- ---- what a line to which no number applies leaves
+
+abbrev pub taken : State → Option Held → Option Line → State
+taken s held none = s
+taken s (some h) (some t) = if isLast h then afterMove s (pressOf (raising h t)) else holding s (raising h t)
+taken s none (some t) =
+    if isKind 1 t then afterMove s (shiftOf t)
+    else if isKind 2 t then holding s (heldOf t)
+    else afterBound s (t .amount)
+
+abbrev pub answered : State → Option Line → Option Refusal → State
+answered s t none = taken s (s .held) t
+answered s t (some x) = refused s x
+
 module _ (r : Rules) where
-  -- with a press held only kind 3 is due, otherwise kinds 1, 2 and 4
-  abbrev pub kindsDue : Option Held → List ℕ
-  kindsDue none = 1 ∷ 2 ∷ 4 ∷ []
-  kindsDue (some h) = 3 ∷ []
-
-  -- ---- kind 1: the shift is made
-  abbrev pub shiftOf : Line → Move
-  shiftOf t = shift (natAbs (t .a)) (natAbs (t .b)) (natAbs (t .c)) (t .amount)
-
-  abbrev pub shiftTests : State → Line → List Test
-  shiftTests s t =
-      OutOfRange when (outside (s .case .m) (t .a) || outside 2 (t .b) || outside (s .case .d) (t .c) || not (shiftAmount r (t .amount)))
-      ∷ LeavesRange when (leavesRange r (s .case) (moved (s .case) (shiftOf t) (s .weights)))
-      ∷ []
-
-  -- ---- kind 2: the press is held, no scope raised
-  abbrev pub pressTests : State → Line → List Test
-  pressTests s t =
-      OutOfRange when
-      (outside (s .case .n) (t .a) || not (withinZ (pos 1) (pos (scopeCount (s .case) - 1)) (t .b)) || not (pressAmount r (t .amount)))
-      ∷ []
-
-  abbrev pub heldOf : Line → Held
-  heldOf t = record { variable = natAbs (t .a); amount = t .amount; raised = []; left = natAbs (t .b) }
-
-  -- ---- kind 3: the scope is raised; with the last one the press is made and let go
-  abbrev pub raising : Held → Line → Held
-  raising h t = record { variable = h .variable; amount = h .amount; raised = h .raised ++ (natAbs (t .a) ∷ []); left = h .left - 1 }
-
-  abbrev pub isLast : Held → Bool
-  isLast h = eqb (h .left) 1
-
-  abbrev pub pressOf : Held → Move
-  pressOf h = press (h .variable) (h .raised) (h .amount)
-
-  -- not above the press's previous raise line
-  abbrev pub notAbove : Option ℕ → ℕ → Bool
-  notAbove none x = false
-  notAbove (some y) x = leb x y
-
-  abbrev pub raiseTests : State → Held → Line → List Test
-  raiseTests s h t =
-      OutOfRange when (outside (scopeCount (s .case)) (t .a))
-      ∷ RaiseNotAscending when (notAbove (last (h .raised)) (natAbs (t .a)) || eqb (natAbs (t .a)) (h .variable))
-      ∷ NotRefuted when (isLast h && someNotRefuted (s .case) (s .weights) (h .variable) (raising h t .raised))
-      ∷ LeavesRange when (isLast h && leavesRange r (s .case) (moved (s .case) (pressOf (raising h t)) (s .weights)))
-      ∷ []
-
-  -- ---- kind 4: rounds grow by one; its amount is the upper bound at the next round's start
-  abbrev pub boundTests : State → Line → List Test
-  boundTests s t =
-      OutOfRange when (not (ltb (s .rounds) (r .rounds)))
-      ∷ OtherBound when (not (eqZ (t .amount) (upperBound (s .case) (s .weights))))
-      ∷ BoundNotLower when (not (ltZ (upperBound (s .case) (s .weights)) (s .start)))
-      ∷ []
-
   -- ---- one line, any bytes
   abbrev pub testsOfKind : State → Option Held → Line → List Test
-  testsOfKind s (some h) t = raiseTests s h t
+  testsOfKind s (some h) t = raiseTests r s h t
   testsOfKind s none t =
-      if isKind 1 t then shiftTests s t
-      else if isKind 2 t then pressTests s t
-      else boundTests s t
+      if isKind 1 t then shiftTests r s t
+      else if isKind 2 t then pressTests r s t
+      else boundTests r s t
 
   abbrev pub lineTests : State → Option Line → List Test
   lineTests s none = NotInColumns when true ∷ []
   lineTests s (some t) = NotDue when (notDue r (kindsDue (s .held)) t) ∷ testsOfKind s (s .held) t
-
-  abbrev pub taken : State → Option Held → Option Line → State
-  taken s held none = s
-  taken s (some h) (some t) = if isLast h then afterMove s (pressOf (raising h t)) else holding s (raising h t)
-  taken s none (some t) =
-      if isKind 1 t then afterMove s (shiftOf t)
-      else if isKind 2 t then holding s (heldOf t)
-      else afterBound s (t .amount)
-
-  abbrev pub answered : State → Option Line → Option Refusal → State
-  answered s t none = taken s (s .held) t
-  answered s t (some x) = refused s x
 
   abbrev pub stepUnrefused : State → Option Line → State
   stepUnrefused s t = answered s t (firstOf (lineTests s t))

@@ -286,6 +286,13 @@ ourSamples =
     ∷ replay-on ("10   1   1   0           0\n" ∷ "11   0   0   0     1000000\n" ∷ []) gives prints (bytesOf "accepted 0 1000000\n")
     ∷ replay-on ("10   1   1   0           0\n" ∷ "11   0   0   0     1000001\n" ∷ []) gives prints (bytesOf "refused 8 1\n")
     ∷ replay-on ("10  49   1   0           0\n" ∷ []) gives prints (bytesOf "refused 3 0\n")
+    -- number 9: the scope just raised, and the own scope; number 11: a press of 1,000,000,000 and a shift out of the range
+    ∷ replay-of clash (" 2   0   2   0           1\n" ∷ " 3   2   0   0           0\n" ∷ " 3   2   0   0           0\n" ∷ []) gives
+    replayed (0 ∷ 0 ∷ 9 ∷ []) 9 0 (pos 4) (clash .weights)
+    ∷ replay-of clash (" 2   0   2   0           1\n" ∷ " 3   0   0   0           0\n" ∷ []) gives replayed (0 ∷ 9 ∷ []) 9 0 (pos 4) (clash .weights)
+    ∷ replay-of clash (raising1and2 " 2   0   2   0  1000000000\n" " 4   0   0   0           3\n") gives
+    replayed (0 ∷ 0 ∷ 11 ∷ 11 ∷ []) 11 0 (pos 4) (clash .weights)
+    ∷ replay-of clash (" 1   0   1   1   500000001\n" ∷ []) gives replayed (11 ∷ []) 11 0 (pos 4) (clash .weights)
     -- a log of no lines is accepted; a log cut inside a press, inside a round and inside a line is number 14
     ∷ replay-of clash [] gives replayed [] 0 0 (pos 4) (clash .weights)
     ∷ replay-of clash (" 2   0   2   0           1\n" ∷ []) gives replayed (0 ∷ []) 14 0 (pos 4) (clash .weights)

@@ -18,7 +18,8 @@ use Rattle.definitions.specs.declared.Case.{Case}
 use Rattle.definitions.specs.Case.{scopes, scopeCount, lowerEnd, upperEnd, active}
 use Rattle.definitions.specs.Calls.{isRising}
 use Rattle.definitions.specs.Consistency.{Family, Supported, allowed, supported, families, marks, refuted}
-use Rattle.definitions.specs.Engine.{others, activeRefuted, chosen, trimmed, keptScopes}
+use Rattle.definitions.specs.Engine.{others, chosen, trimmed, keptScopes}
+use Rattle.definitions.specs.Moves.{activeRefuted}
 use Rattle.definitions.proofs.Refutation.{supported-holds, refuted-sound}
 use Rattle.theory.proofs.Shape.{Shape}
 use Rattle.theory.proofs.Places.{IsTuple, variable-tuple, edge-tuple, some-active-value}

@@ -15,8 +15,7 @@ use Rattle.integers.specs.Lists.{in-below, all-same}
 use Rattle.integers.specs.Sums.{sum-cong}
 use Rattle.definitions.specs.declared.Case.{Case}
 use Rattle.definitions.specs.Case.{scopeCount, scopes, ownLength, weight, isAssignment, objective, greatest, upperBound}
-use Rattle.definitions.specs.Moves.{Move, shift, press, onlyWhere, activeValues, difference, moved}
-use Rattle.definitions.specs.Engine.{activeRefuted}
+use Rattle.definitions.specs.Moves.{Move, shift, press, onlyWhere, activeValues, activeRefuted, difference, moved}
 use Rattle.definitions.proofs.CaseLaws.{weight-same, greatest-same, active-same}
 use Rattle.definitions.proofs.Refutation.{refuted-same}
 use Rattle.theory.proofs.Shape.{Shape}

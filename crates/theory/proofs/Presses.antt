@@ -16,8 +16,7 @@ use Rattle.integers.specs.Lists.{any-at, any-of, all-at}
 use Rattle.definitions.specs.declared.Case.{Case}
 use Rattle.definitions.specs.Case.{scopeCount, valueOf, atUsed, lowerEnd, upperEnd, isAssignment, objective, active}
 use Rattle.definitions.specs.Consistency.{Family, Supported, Refuted, forbidden, allowed, refuted}
-use Rattle.definitions.specs.Moves.{Difference, onlyWhere, pressBy, press, moved, activeValues}
-use Rattle.definitions.specs.Engine.{activeRefuted}
+use Rattle.definitions.specs.Moves.{Difference, onlyWhere, pressBy, press, moved, activeValues, activeRefuted}
 use Rattle.definitions.proofs.Refutation.{refuted-sound}
 use Rattle.theory.proofs.Shape.{Shape}
 use Rattle.theory.proofs.Words.{sum-above}

@@ -24,11 +24,9 @@ use Rattle.definitions.specs.Rules.{Rules, Coherent}
 use Rattle.definitions.specs.Refusals.{Test, firstOf}
 use Rattle.definitions.specs.Case.{ownLength, isAssignment, objective, upperBound}
 use Rattle.definitions.specs.Valid.{workingWeight, allWeights, valid}
-use Rattle.definitions.specs.Moves.{Move, shift, press, difference, moved, leavesRange}
-use Rattle.definitions.specs.Lines.{readLine, notDue, isKind}
-use Rattle.definitions.specs.CaseFiles.{outside}
+use Rattle.definitions.specs.Moves.{Move, shift, press, activeRefuted, difference, moved, leavesRange}
+use Rattle.definitions.specs.Lines.{readLine, notDue, isKind, outside}
 use Rattle.definitions.specs.Replay.{pressAmount, Held, State, fresh, afterMove, holding, afterBound, refused, kindsDue, shiftOf, shiftTests, pressTests, heldOf, raising, isLast, pressOf, raiseTests, boundTests, testsOfKind, lineTests, taken, answered, stepUnrefused, step, after, answers, atEnd, keepsRules}
-use Rattle.definitions.specs.Engine.{activeRefuted}
 use Rattle.theory.proofs.Shape.{Shape}
 use Rattle.theory.proofs.Places.{all-weights, plus-length}
 use Rattle.theory.proofs.Totals.{bound-above}
@@ -64,15 +62,15 @@ inside n (pos x) t = t ▸ simp flat (omega zs)
 inside n (negsuc x) t = absurd t
 
 module _ (r : Rules) (s : State) (t : Line) where
-  shift-step : Quiet (shiftTests r s t) → Stepped r s (afterMove s (shiftOf r t))
+  shift-step : Quiet (shiftTests r s t) → Stepped r s (afterMove s (shiftOf t))
   shift-step q =
       let p = simp (and-iff, not-or-iff) at q in
-      shifts (natAbs (t .a)) (natAbs (t .b)) (natAbs (t .c)) (t .amount) (inside (s .case .m) (t .a) (p .0 .0 .0 .0)) (not-not-iff (allWeights (workingWeight r) (s .case) (moved (s .case) (shiftOf r t) (s .weights))) .0 (p .1 .0))
+      shifts (natAbs (t .a)) (natAbs (t .b)) (natAbs (t .c)) (t .amount) (inside (s .case .m) (t .a) (p .0 .0 .0 .0)) (not-not-iff (allWeights (workingWeight r) (s .case) (moved (s .case) (shiftOf t) (s .weights))) .0 (p .1 .0))
 
-  press-step : Quiet (pressTests r s t) → Stepped r s (holding s (heldOf r t))
+  press-step : Quiet (pressTests r s t) → Stepped r s (holding s (heldOf t))
   press-step q =
       let p = simp (and-iff, not-or-iff) at q in
-      holds (heldOf r t) (record { variable = inside (s .case .n) (t .a) (p .0 .0 .0); amount = not-not-iff (pressAmount r (t .amount)) .0 (p .0 .1) })
+      holds (heldOf t) (record { variable = inside (s .case .n) (t .a) (p .0 .0 .0); amount = not-not-iff (pressAmount r (t .amount)) .0 (p .0 .1) })
 
   bound-step : Quiet (boundTests r s t) → Stepped r s (afterBound s (t .amount))
   bound-step q =
@@ -81,25 +79,25 @@ module _ (r : Rules) (s : State) (t : Line) where
       bounds (t .amount) (ltb→lt (s .rounds) (r .rounds) (p .0)) e (p .1 .1 .0 ▸ e ▸ simp flat (omega zs))
 
   raise-step : (h : Held) → s .held ≡ some h → Quiet (raiseTests r s h t)
-      → Stepped r s (if isLast r h then afterMove s (pressOf r (raising r h t)) else holding s (raising r h t))
-  raise-step h e q = let p = simp and-iff at q in go (isLast r h) (p .1 .1 .0) (p .1 .1 .1 .0)
+      → Stepped r s (if isLast h then afterMove s (pressOf (raising h t)) else holding s (raising h t))
+  raise-step h e q = let p = simp and-iff at q in go (isLast h) (p .1 .1 .0) (p .1 .1 .1 .0)
     where
       raised : List ℕ
-      raised = raising r h t .raised
+      raised = raising h t .raised
 
       go : (b : Bool) → T (not (b && not (activeRefuted (s .case) (s .weights) (h .variable) raised)))
           → T (not (b && leavesRange r (s .case) (moved (s .case) (press (h .variable) raised (h .amount)) (s .weights))))
-          → Stepped r s (if b then afterMove s (press (h .variable) raised (h .amount)) else holding s (raising r h t))
+          → Stepped r s (if b then afterMove s (press (h .variable) raised (h .amount)) else holding s (raising h t))
       go true x y = presses h raised e (not-not-iff (activeRefuted (s .case) (s .weights) (h .variable) raised) .0 x)
           (not-not-iff (allWeights (workingWeight r) (s .case) (moved (s .case) (press (h .variable) raised (h .amount)) (s .weights))) .0 y)
-      go false x y = raises h (raising r h t) e refl refl
+      go false x y = raises h (raising h t) e refl refl
 
-  kind-step : (h : Option Held) → s .held ≡ h → Quiet (testsOfKind r s h t) → Stepped r s (taken r s h (some t))
+  kind-step : (h : Option Held) → s .held ≡ h → Quiet (testsOfKind r s h t) → Stepped r s (taken s h (some t))
   kind-step (some h) e q = raise-step h e q
   kind-step none e q = go (isKind 1 t) (isKind 2 t) q
     where
       go : (a b : Bool) → Quiet (if a then shiftTests r s t else if b then pressTests r s t else boundTests r s t)
-          → Stepped r s (if a then afterMove s (shiftOf r t) else if b then holding s (heldOf r t) else afterBound s (t .amount))
+          → Stepped r s (if a then afterMove s (shiftOf t) else if b then holding s (heldOf t) else afterBound s (t .amount))
       go true b q = shift-step q
       go false true q = press-step q
       go false false q = bound-step q
@@ -109,8 +107,8 @@ module _ (r : Rules) (s : State) where
   answered-step none = refuses NotInColumns
   answered-step (some t) = go (firstOf (lineTests r s (some t))) refl
     where
-      go : (o : Option Refusal) → firstOf (lineTests r s (some t)) ≡ o → Stepped r s (answered r s (some t) o)
-      go none e = kind-step r s t (s .held) refl (and-right (not (notDue r (kindsDue r (s .held)) t)) _
+      go : (o : Option Refusal) → firstOf (lineTests r s (some t)) ≡ o → Stepped r s (answered s (some t) o)
+      go none e = kind-step r s t (s .held) refl (and-right (not (notDue r (kindsDue (s .held)) t)) _
           (none-applies (lineTests r s (some t)) .0 (rw e tt)))
       go (some x) e = refuses x
 

@@ -24,12 +24,11 @@ use Rattle.definitions.specs.Rules.{Rules, Coherent, standard, scopesAtMost}
 use Rattle.definitions.specs.Refusals.{firstOf}
 use Rattle.definitions.specs.Case.{scopeCount, greatest, upperBound}
 use Rattle.definitions.specs.Valid.{workingWeight, allWeights}
-use Rattle.definitions.specs.Moves.{Move, shift, press, difference, moved, leavesRange}
-use Rattle.definitions.specs.Lines.{line, lineText, lineTooWide, readLine, notDue}
-use Rattle.definitions.specs.CaseFiles.{outside}
+use Rattle.definitions.specs.Moves.{Move, shift, press, activeRefuted, difference, moved, leavesRange}
+use Rattle.definitions.specs.Lines.{line, lineText, lineTooWide, readLine, notDue, outside}
 use Rattle.definitions.specs.Calls.{isRising}
-use Rattle.definitions.specs.Engine.{activeRefuted, raiseLine, moveLines, boundLine, afterMoves, roundLines, roundText}
-use Rattle.definitions.specs.Replay.{shiftAmount, pressAmount, someNotRefuted, Held, State, holding, afterBound, kindsDue, notAbove, testsOfKind, lineTests, taken, answered, stepUnrefused, step, after, answers, atEnd}
+use Rattle.definitions.specs.Engine.{raiseLine, moveLines, boundLine, afterMoves, roundLines, roundText}
+use Rattle.definitions.specs.Replay.{shiftAmount, pressAmount, Held, State, holding, afterBound, kindsDue, notAbove, testsOfKind, lineTests, taken, answered, stepUnrefused, step, after, answers, atEnd}
 use Rattle.definitions.proofs.ColumnLaws.{fits-digits, fits}
 use Rattle.definitions.proofs.LineLaws.{each-fits, line-read}
 use Rattle.theory.proofs.Places.{first-tuple, greatest-at, all-weights, plus-length}
@@ -114,7 +113,7 @@ raised-few {c} {i} {raised} k = go raised (k .some-raised) (k .rising) (k .scope
     go (x ∷ xs) o t h = omega (arith, rising-short 0 x xs (scopeCount c) i (omega arith) (omega arith) (omega (arith, k .variable)) t h)
 
 -- each is above the last before it
-above-last : (r : Rules) (ys : List ℕ) (x : ℕ) (xs : List ℕ) → T (isRising (ys ++ (x ∷ xs))) → T (not (notAbove r (last ys) x))
+above-last : (r : Rules) (ys : List ℕ) (x : ℕ) (xs : List ℕ) → T (isRising (ys ++ (x ∷ xs))) → T (not (notAbove (last ys) x))
 above-last r [] x xs t = tt
 above-last r (y ∷ []) x xs t = let l = ltb→lt y x (and-left (ltb y x) (isRising (x ∷ xs)) t) in not-leb-iff x y .1 l
 above-last r (y ∷ z ∷ ys) x xs t = above-last r (z ∷ ys) x xs (and-right (ltb y z) (isRising (z ∷ ys ++ (x ∷ xs))) t)
@@ -123,10 +122,10 @@ above-last r (y ∷ z ∷ ys) x xs t = above-last r (z ∷ ys) x xs (and-right (
 
 -- they are due where moves are written
 pub record MoveKinds (r : Rules) : Type 0 where
-  pub shift-due : (e end v : ℕ) (a : ℤ) → T (not (notDue r (kindsDue r none) (line 1 (pos e) (pos end) (pos v) a)))
-  pub press-due : (i k : ℕ) (a : ℤ) → T (not (notDue r (kindsDue r none) (line 2 (pos i) (pos k) (pos 0) a)))
-  pub raise-due : (h : Held) (x : ℕ) → T (not (notDue r (kindsDue r (some h)) (raiseLine x)))
-  pub bound-due : (z : ℤ) → T (not (notDue r (kindsDue r none) (boundLine z)))
+  pub shift-due : (e end v : ℕ) (a : ℤ) → T (not (notDue r (kindsDue none) (line 1 (pos e) (pos end) (pos v) a)))
+  pub press-due : (i k : ℕ) (a : ℤ) → T (not (notDue r (kindsDue none) (line 2 (pos i) (pos k) (pos 0) a)))
+  pub raise-due : (h : Held) (x : ℕ) → T (not (notDue r (kindsDue (some h)) (raiseLine x)))
+  pub bound-due : (z : ℤ) → T (not (notDue r (kindsDue none) (boundLine z)))
 
 pub standard-kinds : (r : Rules) → r .kinds ≡ standard .kinds → MoveKinds r
 standard-kinds r same = record {
@@ -248,13 +247,13 @@ module _ {r : Rules} (coherent : Coherent r) (kinds : MoveKinds r) (s : State) w
   abbrev text : Line → List ℕ
   text l = lineText (r .amountWidth) l
 
-  line-taken : (u : State) (l : Line) → u .refusal ≡ none → lineTooWide (r .amountWidth) l ≡ false → T (not (notDue r (kindsDue r (u .held)) l)) → Quiet (testsOfKind r u (u .held) l)
-      → step r u (text l) ≡ taken r u (u .held) (some l)
+  line-taken : (u : State) (l : Line) → u .refusal ≡ none → lineTooWide (r .amountWidth) l ≡ false → T (not (notDue r (kindsDue (u .held)) l)) → Quiet (testsOfKind r u (u .held) l)
+      → step r u (text l) ≡ taken u (u .held) (some l)
   line-taken u l e f due q =
       if-false u (stepUnrefused r u (readLine (r .amountWidth) (text l))) (isSome (u .refusal)) (rw e tt)
       ∙ ap (stepUnrefused r u) (line-read (r .amountWidth) l f)
-      ∙ ap (answered r u (some l)) (none-iff (firstOf (lineTests r u (some l))) .0 (none-applies (lineTests r u (some l)) .1
-      (and-intro (not (notDue r (kindsDue r (u .held)) l)) _ due q)))
+      ∙ ap (answered u (some l)) (none-iff (firstOf (lineTests r u (some l))) .0 (none-applies (lineTests r u (some l)) .1
+      (and-intro (not (notDue r (kindsDue (u .held)) l)) _ due q)))
 
   module _ {w : List ℤ} (h : Handed r (workingWeight r) (s .case) w) where
     shift-taken : (b : Bool) (e end v : ℕ) (a : ℤ) → AllowedShift r (s .case) w e end v a
@@ -275,7 +274,7 @@ module _ {r : Rules} (coherent : Coherent r) (kinds : MoveKinds r) (s : State) w
           (press-fits coherent h k) (kinds .press-due i (length raised) a)
           (simp (and-iff, not-or-iff) (((within-n (s .case .n) i (k .variable), not-not-iff (withinZ (pos 1) (pos (scopeCount (s .case) - 1)) (pos (length raised))) .1 (k .some-raised ▸ raised-few k ▸ simp flat (omega zs))), not-not-iff (pressAmount r a) .1 (k .amount)), tt))
 
-      raise-taken : (b : Bool) (ys : List ℕ) (x left : ℕ) → x ∈ raised → T (not (notAbove r (last ys) x)) → (left ≡ 1 → ys ++ (x ∷ []) ≡ raised)
+      raise-taken : (b : Bool) (ys : List ℕ) (x left : ℕ) → x ∈ raised → T (not (notAbove (last ys) x)) → (left ≡ 1 → ys ++ (x ∷ []) ≡ raised)
           → step r (holding (standing s w b) (held ys left)) (text (raiseLine x))
           ≡ (if eqb left 1 then standing s (moved (s .case) (press i (ys ++ (x ∷ [])) a) w) true else holding (standing s w b) (held (ys ++ (x ∷ [])) (left - 1)))
       raise-taken b ys x left m up whole =
@@ -286,7 +285,7 @@ module _ {r : Rules} (coherent : Coherent r) (kinds : MoveKinds r) (s : State) w
             (
               (up, not-eqb-iff x i .1 (k .scopes x m .1)),
               (
-                not-and (eqb left 1) (someNotRefuted (s .case) w i (ys ++ (x ∷ []))) (λ t. not-not-iff (activeRefuted (s .case) w i (ys ++ (x ∷ []))) .1 (rw (whole (eqb→eq left 1 t)) (k .refutes))),
+                not-and (eqb left 1) (not (activeRefuted (s .case) w i (ys ++ (x ∷ [])))) (λ t. not-not-iff (activeRefuted (s .case) w i (ys ++ (x ∷ []))) .1 (rw (whole (eqb→eq left 1 t)) (k .refutes))),
                 (not-and (eqb left 1) (leavesRange r (s .case) (moved (s .case) (press i (ys ++ (x ∷ [])) a) w)) (λ t. rw (whole (eqb→eq left 1 t)) (k .in-range)), tt),
               ),
             ),
