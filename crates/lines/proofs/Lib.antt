@@ -1,0 +1,5 @@
+-- What several proofs cite.
+pub mod Steps
+pub mod Signs
+pub mod Stores
+pub mod Answers

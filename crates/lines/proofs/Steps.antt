@@ -1,0 +1,76 @@
+-- Reading at a place of a list, one byte a step. Assumes nothing.
+use mathlib.Core.Path.{_≡_}
+use mathlib.Core.Logic.{_≢_}
+use mathlib.Core.Option.{none, some}
+use mathlib.Core.List.{List, _∷_}
+use Prim.Native.Nat.{ℕ, _+_, _*_, _-_, _^_, _≤_, _<_}
+use native.Mathlib.Nat.{pow-suc, pow-le-pow-right}
+use native.Mathlib.Numerals.{add-one}
+use native.Mathlib.Omega.{arith}
+use lib.IntN.{pos}
+use lib.ListN.{length, getD, drop, length-drop, drop-of-length-le}
+use lib.Seq.{drop-cons}
+use borrow.Author.Tests.{le-leb, lt-leb, eq-eqb, ne-eqb}
+use Rattle.definitions.specs.Lines.{readDigits, readPositive, readNumber, readColumn}
+use Rattle.lines.specs.Found.{plainFound, negativeFound}
+
+module _ (t : List ℕ) (i : ℕ) where
+  pub at-drop : i < length t → drop i t ≡ getD t i 0 ∷ drop (i + 1) t
+  at-drop h = rw add-one (drop-cons t i 0 h)
+
+  pub column-space : i < length t → getD t i 0 ≡ 32 → readColumn (drop i t) ≡ readColumn (drop (i + 1) t)
+  column-space h e = rw at-drop (simp (eq-eqb _ _ e))
+
+  pub column-other : i < length t → getD t i 0 ≢ 32 → readColumn (drop i t) ≡ readNumber (drop i t)
+  column-other h n = rw at-drop (simp (ne-eqb _ _ n))
+
+  pub column-end : length t ≤ i → readColumn (drop i t) ≡ readNumber (drop i t)
+  column-end h = rw (drop-of-length-le t h)
+
+  pub number-end : length t ≤ i → readNumber (drop i t) ≡ none
+  number-end h = rw (drop-of-length-le t h)
+
+  pub number-minus : i < length t → getD t i 0 ≡ 45 → readNumber (drop i t) ≡ negativeFound (readPositive (drop (i + 1) t))
+  number-minus h e = rw (at-drop, e)
+
+  pub number-zero : i < length t → getD t i 0 ≡ 48 → i + 1 ≡ length t → readNumber (drop i t) ≡ some (pos 0)
+  number-zero h e l = rw (at-drop, e, length-drop) (simp (eq-eqb (length t - (i + 1)) 0 (omega arith)))
+
+  pub number-leading : i < length t → getD t i 0 ≡ 48 → i + 1 ≢ length t → readNumber (drop i t) ≡ none
+  number-leading h e l = rw (at-drop, e, length-drop) (simp (ne-eqb (length t - (i + 1)) 0 (λ z. l (omega arith))))
+
+  pub number-plain : i < length t → getD t i 0 ≢ 45 → getD t i 0 ≢ 48 → readNumber (drop i t) ≡ plainFound (readPositive (drop i t))
+  number-plain h m z = rw at-drop (simp (ne-eqb _ _ m, ne-eqb _ _ z))
+
+  pub positive-end : length t ≤ i → readPositive (drop i t) ≡ none
+  positive-end h = rw (drop-of-length-le t h)
+
+  pub positive-leading : i < length t → getD t i 0 ≡ 48 → readPositive (drop i t) ≡ none
+  positive-leading h e = rw at-drop (simp (eq-eqb _ _ e))
+
+  pub positive-first : i < length t → getD t i 0 ≢ 48 → readPositive (drop i t) ≡ readDigits 0 (drop i t)
+  positive-first h n = rw at-drop (simp (ne-eqb _ _ n))
+
+  module _ (v : ℕ) where
+    pub digits-end : length t ≤ i → readDigits v (drop i t) ≡ some v
+    digits-end h = rw (drop-of-length-le t h)
+
+    pub digits-low : i < length t → getD t i 0 < 48 → readDigits v (drop i t) ≡ none
+    digits-low h l = rw at-drop (simp (lt-leb _ _ l))
+
+    pub digits-high : i < length t → 57 < getD t i 0 → readDigits v (drop i t) ≡ none
+    digits-high h l = rw at-drop (simp (le-leb 48 (getD t i 0) (omega arith), lt-leb _ _ l))
+
+    pub digits-next : i < length t → 48 ≤ getD t i 0 → getD t i 0 ≤ 57 → readDigits v (drop i t) ≡ readDigits (v * 10 + (getD t i 0 - 48)) (drop (i + 1) t)
+    digits-next h l u = rw at-drop (simp (le-leb _ _ l, le-leb _ _ u))
+
+-- ---- i digits make a number below 10 ^ i
+
+pub next-below : (v d i : ℕ) → d < 10 → v < 10 ^ i → v * 10 + d < 10 ^ (i + 1)
+next-below v d i h l = rw (add-one, pow-suc) (omega arith)
+
+pub below-most : (v i n : ℕ) → i ≤ n → v < 10 ^ i → v < 10 ^ n
+below-most v i n h l = omega (arith, pow-le-pow-right {n = 10} (omega arith) {i = i} {j = n} h)
+
+pub pow-pos : (i : ℕ) → 0 < 10 ^ i
+pow-pos i = omega (arith, pow-le-pow-right {n = 10} (omega arith) {i = 0} {j = i} (omega arith))

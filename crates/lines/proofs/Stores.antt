@@ -1,0 +1,73 @@
+-- Text stored from its last byte to its first, and a column stored after those before it. Assumes nothing.
+use mathlib.Core.Path.{_≡_, refl, sym, ap, _∙_}
+use mathlib.Core.List.{List, [], _∷_, _++_, append-assoc}
+use Prim.Native.Nat.{ℕ, suc, _+_, _-_, _/_, _%_, _≤_, _<_}
+use native.Mathlib.Numerals.{add-one}
+use native.Mathlib.Omega.{arith}
+use lib.ListN.{length, take, drop, set, getD, length-append, length-drop}
+use lib.Seq.{append-snoc, set-split, drop-at, take-at, drop-drop, set-at, drop-cons, length-take-le}
+use Rattle.definitions.specs.Lines.{decimal, overwritten}
+use Rattle.definitions.proofs.ColumnLaws.{by-digit, decimal-digit, decimal-last}
+
+-- a byte stored before the text
+pub before : (l : List ℕ) (i v : ℕ) → 0 < i → i ≤ length l → drop (i - 1) (set l (i - 1) v) ≡ v ∷ drop i l
+before l i v p h =
+    let e : suc (i - 1) ≡ i = omega arith in
+    ap (drop (i - 1)) (set-split l (i - 1) v (omega arith)) ∙ drop-at (take (i - 1) l) (v ∷ drop (suc (i - 1)) l) (i - 1) (length-take-le (i - 1) l (omega arith)) ∙ ap (λ k. v ∷ drop k l) e
+
+-- the text's first byte has so many bytes before it
+pub bytes-before : (l t : List ℕ) (i : ℕ) → drop i l ≡ t → i ≤ length l → i + length t ≡ length l
+bytes-before l t i e h = omega (arith, length-drop i l, ap length e)
+
+-- ---- digits
+
+pub one-digit : (n : ℕ) → n < 10 → length (decimal n) ≡ 1
+one-digit n h = ap length (decimal-digit n h)
+
+some-digit : (n : ℕ) → 0 < length (decimal n)
+some-digit = by-digit (λ n t. 0 < length t) (λ n h. omega arith) (λ n t h r. simp length-append (omega arith))
+
+pub more-digits : (n : ℕ) → 10 ≤ n → length (decimal n) ≡ length (decimal (n / 10)) + 1
+more-digits n h = ap length (decimal-last n h) ∙ length-append (decimal (n / 10)) ((48 + n % 10) ∷ [])
+
+-- the digits of `rest` are still to be stored before i
+module _ (rest n i : ℕ) (l : List ℕ) (h : i ≤ length l) (most : length (decimal n) ≤ length l) (e : decimal rest ++ drop i l ≡ decimal n) where
+  pub digits-room : 0 < i
+  digits-room = omega (arith, simp (length-append, length-drop) at (ap length e), some-digit rest)
+
+  pub digits-next : 10 ≤ rest → decimal (rest / 10) ++ drop (i - 1) (set l (i - 1) (48 + rest % 10)) ≡ decimal n
+  digits-next g = rw (before l i (48 + rest % 10) digits-room h) (sym (append-snoc (decimal (rest / 10)) (48 + rest % 10) (drop i l)) ∙ ap (λ t. t ++ drop i l) (sym (decimal-last rest g)) ∙ e)
+
+  pub digits-last : rest < 10 → drop (i - 1) (set l (i - 1) (48 + rest)) ≡ decimal n
+  digits-last g = before l i (48 + rest) digits-room h ∙ ap (λ t. t ++ drop i l) (sym (decimal-digit rest g)) ∙ e
+
+-- ---- columns one after the other
+
+module _ (p out l : List ℕ) (n : ℕ) (front : length p ≡ n) (e : l ≡ overwritten p out) where
+  pub column-next : (y : List ℕ) (k : ℕ) → length y ≡ k → take n l ++ (y ++ drop (n + k) l) ≡ overwritten (p ++ y) out
+  column-next y k h =
+      rw (e, take-at p (drop (length p) out) n front, ← (drop-drop k n (overwritten p out)), drop-at p (drop (length p) out) n front, drop-drop k (length p) out)
+      (simp (append-assoc, length-append, h))
+
+  pub byte-next : (v : ℕ) → n < length out → set l n v ≡ overwritten (p ++ (v ∷ [])) out
+  byte-next v h =
+      rw (e, front, drop-cons out n 0 h, set-at p (getD out n 0) (drop (suc n) out) v n front)
+      (simp (append-assoc, length-append, front, add-one))
+
+-- five columns, and a line feed
+pub columns-stored : (out y1 y2 y3 y4 y5 o1 o2 o3 o4 o5 : List ℕ) (w : ℕ) → 14 + w < length out
+    → length y1 ≡ 2 → length y2 ≡ 4 → length y3 ≡ 4 → length y4 ≡ 4 → length y5 ≡ w
+    → o1 ≡ take 0 out ++ (y1 ++ drop 2 out) → o2 ≡ take 2 o1 ++ (y2 ++ drop 6 o1) → o3 ≡ take 6 o2 ++ (y3 ++ drop 10 o2)
+    → o4 ≡ take 10 o3 ++ (y4 ++ drop 14 o3) → o5 ≡ take 14 o4 ++ (y5 ++ drop (14 + w) o4)
+    → set o5 (14 + w) 10 ≡ overwritten (y1 ++ y2 ++ y3 ++ y4 ++ y5 ++ (10 ∷ [])) out
+columns-stored out y1 y2 y3 y4 y5 o1 o2 o3 o4 o5 w h n1 n2 n3 n4 n5 e1 e2 e3 e4 e5 =
+    let m2 : length (y1 ++ y2) ≡ 6 = simp length-append (omega arith) in
+    let m3 : length (y1 ++ y2 ++ y3) ≡ 10 = simp length-append (omega arith) in
+    let m4 : length (y1 ++ y2 ++ y3 ++ y4) ≡ 14 = simp length-append (omega arith) in
+    let m5 : length (y1 ++ y2 ++ y3 ++ y4 ++ y5) ≡ 14 + w = simp length-append (omega arith) in
+    let q1 = e1 ∙ column-next [] out out 0 refl refl y1 2 n1 in
+    let q2 = e2 ∙ column-next y1 out o1 2 n1 q1 y2 4 n2 in
+    let q3 = e3 ∙ column-next (y1 ++ y2) out o2 6 m2 q2 y3 4 n3 in
+    let q4 = e4 ∙ column-next (y1 ++ y2 ++ y3) out o3 10 m3 q3 y4 4 n4 in
+    let q5 = e5 ∙ column-next (y1 ++ y2 ++ y3 ++ y4) out o4 14 m4 q4 y5 w n5 in
+    byte-next (y1 ++ y2 ++ y3 ++ y4 ++ y5) out o5 (14 + w) m5 q5 10 h

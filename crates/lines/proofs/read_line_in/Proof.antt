@@ -1,0 +1,72 @@
+-- The length, the line feed, and then the five columns. Assumes nothing.
+use borrow.Author.Needs.{needs}
+use denote.Ref.{now}
+use Rattle.lines.proofs.Answers.{read-length, read-feed, read-columns}
+use Rattle.lines.proofs.read_line_in.Statement.{statement}
+use Rattle.lines.proofs.read_line_in.Tie as tie
+
+add-end : tie.Need-add-end
+add-end c = search needs
+
+add-if1 : tie.Need-add-if1
+add-if1 c = search needs
+
+returns : tie.Need-returns
+returns c s e =
+    let a = c .before .before .args in
+    read-length (a .width) s e (now (a .bytes)) (c .if1 .taken)
+
+shared-slice-read-if2 : tie.Need-shared-slice-read-if2
+shared-slice-read-if2 c = search needs
+
+returns-2 : tie.Need-returns-2
+returns-2 c s e =
+    let a = c .before .before .before .before .args in
+    read-feed (a .width) s e (now (a .bytes)) (c .before .before .if1 .left) (c .if2 .taken)
+
+read-column-at-requires : tie.Need-read-column-at-requires
+read-column-at-requires c κs = search needs
+
+read-column-at-requires-2 : tie.Need-read-column-at-requires-2
+read-column-at-requires-2 c κs = search needs
+
+read-column-at-requires-3 : tie.Need-read-column-at-requires-3
+read-column-at-requires-3 c κs = search needs
+
+read-column-at-requires-4 : tie.Need-read-column-at-requires-4
+read-column-at-requires-4 c κs = search needs
+
+read-column-at-requires-5 : tie.Need-read-column-at-requires-5
+read-column-at-requires-5 c κs = search needs
+
+line-of-requires : tie.Need-line-of-requires
+line-of-requires c κs = search needs
+
+returns-3 : tie.Need-returns-3
+returns-3 c s e =
+    let k5 = c .before in
+    let k4 = k5 .before in
+    let k3 = k4 .before in
+    let k2 = k3 .before in
+    let k1 = k2 .before in
+    let f = k1 .before in
+    let a = f .before .before .before .before .args in
+    read-columns (a .width) s e (now (a .bytes)) (f .before .before .if1 .left) (f .if2 .left)
+    (k1 .read-column-at .ensures) (k2 .read-column-at2 .ensures) (k3 .read-column-at3 .ensures) (k4 .read-column-at4 .ensures) (k5 .read-column-at5 .ensures) (c .line-of .ensures)
+
+pub read-line-in-spec : {M : Type 1} → statement M
+read-line-in-spec =
+    tie.close
+    (tie.spec
+    add-end
+    add-if1
+    returns
+    shared-slice-read-if2
+    returns-2
+    read-column-at-requires
+    read-column-at-requires-2
+    read-column-at-requires-3
+    read-column-at-requires-4
+    read-column-at-requires-5
+    line-of-requires
+    returns-3)

@@ -1,0 +1,3 @@
+-- The definitions that the contracts of `lines` cite beside those of `definitions`.
+pub mod Found
+pub mod WriteNumber

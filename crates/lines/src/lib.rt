@@ -1,0 +1,338 @@
+// Lines: five numbers in columns and a line feed, read and written (document 01, "Lines"). The width of the amount column is an argument;
+// the calls at the end are the instance at today's width.
+use definitions::Line;
+use definitions::LineRead;
+use definitions::Outcome;
+use definitions::Refusal;
+use definitions::Written;
+ghost use mathlib.Core.Path.{_≡_};
+ghost use mathlib.Core.Bool.{false};
+ghost use mathlib.Core.List.{_++_};
+ghost use Prim.Native.Nat.{_+_, _≤_, _<_, _^_};
+ghost use lib.IntN.{natAbs};
+ghost use lib.ListN.{length, take, drop};
+ghost use Rattle.definitions.specs.Rules.{Rules, standard};
+ghost use Rattle.definitions.specs.Lines.{decimal, numberText, tooWide, columnText, readPositive, readNumber, readColumn, columnAt, lineLength, lineText, lineTooWide, overwritten};
+ghost use Rattle.definitions.specs.Calls.{readLineAnswer, writeLineCall};
+ghost use Rattle.lines.specs.Found.{digitsFound, digitsValue, plainFound, negativeFound, columnFound, lineFound, lineAnswer};
+ghost use Rattle.lines.specs.WriteNumber.{writeNumberCall};
+
+// The width of the amount column today.
+const AMOUNT: usize = 12;
+
+// Digits, or something else.
+enum Digits {
+    Are(u64),
+    Not,
+}
+
+// The number in a column, or something else.
+enum Column {
+    Number(i64),
+    Bad,
+}
+
+// ---- reading
+
+fn wide(x: u8) -> u64
+    ensures { λ r. ⌜ r ≡ x ⌝ }
+{
+    x as u64
+}
+
+// How many spaces t begins with.
+fn blanks(t: &[u8]) -> usize
+    ensures { λ r. ⌜ (r ≤ length (now (t .entry))) × (readColumn (now (t .entry)) ≡ readNumber (drop r (now (t .entry)))) ⌝ }
+{
+    let mut i: usize = 0;
+    while i < t.len() {
+        if t[i] != 32 {
+            return i;
+        }
+        i += 1;
+    }
+    i
+}
+
+// The positive number from byte `from` to the end.
+fn positive(t: &[u8], from: usize) -> Digits
+    requires { ⌜ (from ≤ length (now t)) × (length (now t) ≤ 18) ⌝ }
+    ensures { λ r. ⌜ (digitsFound r ≡ readPositive (drop from (now (t .entry)))) × (digitsValue r < 10 ^ 18) ⌝ }
+{
+    if from == t.len() {
+        return Digits::Not;
+    }
+    if t[from] == 48 {
+        return Digits::Not;
+    }
+    let mut v: u64 = 0;
+    let mut i = from;
+    while i < t.len() {
+        let b = t[i];
+        if b < 48 {
+            return Digits::Not;
+        }
+        if 57 < b {
+            return Digits::Not;
+        }
+        v = v * 10 + (wide(b) - 48);
+        i += 1;
+    }
+    Digits::Are(v)
+}
+
+fn plain(d: Digits) -> Column
+    requires { ⌜ digitsValue d < 10 ^ 18 ⌝ }
+    ensures { λ r. ⌜ columnFound r ≡ plainFound (digitsFound d) ⌝ }
+{
+    match d {
+        Digits::Are(v) => Column::Number(v as i64),
+        Digits::Not => Column::Bad,
+    }
+}
+
+fn negative(d: Digits) -> Column
+    requires { ⌜ digitsValue d < 10 ^ 18 ⌝ }
+    ensures { λ r. ⌜ columnFound r ≡ negativeFound (digitsFound d) ⌝ }
+{
+    match d {
+        Digits::Are(v) => {
+            let z = v as i64;
+            Column::Number(0 - z)
+        }
+        Digits::Not => Column::Bad,
+    }
+}
+
+fn read_column(t: &[u8]) -> Column
+    requires { ⌜ length (now t) ≤ 18 ⌝ }
+    ensures { λ r. ⌜ columnFound r ≡ readColumn (now (t .entry)) ⌝ }
+{
+    let i = blanks(t);
+    if i == t.len() {
+        return Column::Bad;
+    }
+    let b = t[i];
+    if b == 45 {
+        return negative(positive(t, i + 1));
+    }
+    if b == 48 {
+        if i + 1 == t.len() {
+            return Column::Number(0);
+        }
+        return Column::Bad;
+    }
+    plain(positive(t, i))
+}
+
+fn read_column_at(bytes: &[u8], from: usize, width: usize) -> Column
+    requires { ⌜ (from + width ≤ length (now bytes)) × (width ≤ 18) ⌝ }
+    ensures { λ r. ⌜ columnFound r ≡ columnAt from width (now (bytes .entry)) ⌝ }
+{
+    let to = from + width;
+    read_column(&bytes[from..to])
+}
+
+// The line of five columns, if each is a number.
+fn line_of(kind: Column, a: Column, b: Column, c: Column, amount: Column) -> LineRead
+    ensures { λ r. ⌜ r ≡ lineAnswer (lineFound (columnFound kind) (columnFound a) (columnFound b) (columnFound c) (columnFound amount)) ⌝ }
+{
+    let Column::Number(kind) = kind else {
+        return LineRead::Refused(Refusal::NotInColumns);
+    };
+    let Column::Number(a) = a else {
+        return LineRead::Refused(Refusal::NotInColumns);
+    };
+    let Column::Number(b) = b else {
+        return LineRead::Refused(Refusal::NotInColumns);
+    };
+    let Column::Number(c) = c else {
+        return LineRead::Refused(Refusal::NotInColumns);
+    };
+    let Column::Number(amount) = amount else {
+        return LineRead::Refused(Refusal::NotInColumns);
+    };
+    LineRead::Read(Line {
+        kind,
+        a,
+        b,
+        c,
+        amount,
+    })
+}
+
+// A line under any rules whose amount column has this width.
+fn read_line_in(bytes: &[u8], width: usize) -> LineRead
+    requires { ⌜ width ≤ 18 ⌝ }
+    ensures { λ r. ⌜ ((s : Rules) → s .amountWidth ≡ width → r ≡ readLineAnswer s (now (bytes .entry))) ⌝ }
+{
+    let end = 14 + width;
+    if bytes.len() != end + 1 {
+        return LineRead::Refused(Refusal::NotInColumns);
+    }
+    if bytes[end] != 10 {
+        return LineRead::Refused(Refusal::NotInColumns);
+    }
+    let kind = read_column_at(bytes, 0, 2);
+    let a = read_column_at(bytes, 2, 4);
+    let b = read_column_at(bytes, 6, 4);
+    let c = read_column_at(bytes, 10, 4);
+    let amount = read_column_at(bytes, 14, width);
+    line_of(kind, a, b, c, amount)
+}
+
+// ---- writing
+
+// z without its sign.
+fn magnitude(z: i64) -> u64
+    ensures { λ r. ⌜ r ≡ natAbs z ⌝ }
+{
+    if z < 0 {
+        let y = z + 1;
+        let m = 0 - y;
+        (m as u64) + 1
+    } else {
+        z as u64
+    }
+}
+
+fn digit_count(n: u64) -> usize
+    ensures { λ r. ⌜ r ≡ length (decimal n) ⌝ }
+{
+    let mut k: usize = 1;
+    let mut rest = n;
+    while 10 <= rest {
+        rest /= 10;
+        k += 1;
+    }
+    k
+}
+
+fn text_length(z: i64) -> usize
+    ensures { λ r. ⌜ r ≡ length (numberText z) ⌝ }
+{
+    let k = digit_count(magnitude(z));
+    if z < 0 { k + 1 } else { k }
+}
+
+fn too_wide(width: usize, z: i64) -> bool
+    ensures { λ r. ⌜ r ≡ tooWide width z ⌝ }
+{
+    width < text_length(z)
+}
+
+fn line_too_wide(line: Line, width: usize) -> bool
+    ensures { λ r. ⌜ r ≡ lineTooWide width line ⌝ }
+{
+    too_wide(2, line.kind)
+        | too_wide(4, line.a)
+        | too_wide(4, line.b)
+        | too_wide(4, line.c)
+        | too_wide(width, line.amount)
+}
+
+// Puts n's digits at the end of out, and answers where they begin.
+fn put_digits(out: &mut [u8], n: u64) -> usize
+    requires { ⌜ length (decimal n) ≤ length (now out) ⌝ }
+    ensures { λ r. ⌜ (r ≤ length (now (out .entry))) × (drop r (now (out .exit)) ≡ decimal n) ⌝ }
+{
+    let mut i = out.len();
+    let mut rest = n;
+    while 10 <= rest {
+        i -= 1;
+        out[i] = 48 + (rest % 10) as u8;
+        rest /= 10;
+    }
+    i -= 1;
+    out[i] = 48 + rest as u8;
+    i
+}
+
+// Puts z at the end of out, and answers where it begins.
+fn put_number(out: &mut [u8], z: i64) -> usize
+    requires { ⌜ length (numberText z) ≤ length (now out) ⌝ }
+    ensures { λ r. ⌜ (r ≤ length (now (out .entry))) × (drop r (now (out .exit)) ≡ numberText z) ⌝ }
+{
+    let i = put_digits(out, magnitude(z));
+    if z < 0 {
+        let m = i - 1;
+        out[m] = 45;
+        return m;
+    }
+    i
+}
+
+// Fills out with z, right-justified.
+fn put_column(out: &mut [u8], z: i64)
+    requires { ⌜ length (numberText z) ≤ length (now out) ⌝ }
+    ensures { λ _. ⌜ now (out .exit) ≡ columnText (length (now (out .entry))) z ⌝ }
+{
+    let mut i = put_number(out, z);
+    while 0 < i {
+        i -= 1;
+        out[i] = 32;
+    }
+}
+
+// Puts z into the column at byte `from`.
+fn put_column_at(out: &mut [u8], from: usize, width: usize, z: i64)
+    requires { ⌜ (from + width ≤ length (now out)) × (tooWide width z ≡ false) ⌝ }
+    ensures { λ _. ⌜ now (out .exit) ≡ take from (now (out .entry)) ++ (columnText width z ++ drop (from + width) (now (out .entry))) ⌝ }
+{
+    let to = from + width;
+    put_column(&mut out[from..to], z);
+}
+
+fn put_line(out: &mut [u8], line: Line, width: usize)
+    requires { ⌜ (lineLength width ≤ length (now out)) × (lineTooWide width line ≡ false) ⌝ }
+    ensures { λ _. ⌜ now (out .exit) ≡ overwritten (lineText width line) (now (out .entry)) ⌝ }
+{
+    put_column_at(out, 0, 2, line.kind);
+    put_column_at(out, 2, 4, line.a);
+    put_column_at(out, 6, 4, line.b);
+    put_column_at(out, 10, 4, line.c);
+    put_column_at(out, 14, width, line.amount);
+    out[14 + width] = 10;
+}
+
+// A line under any rules whose amount column has this width.
+fn write_line_in(out: &mut [u8], line: Line, width: usize) -> Outcome
+    requires { ⌜ width ≤ 18 ⌝ }
+    ensures { λ r. ⌜ ((s : Rules) → s .amountWidth ≡ width → (r ≡ writeLineCall s (now (out .entry)) line .answer) × (now (out .exit) ≡ writeLineCall s (now (out .entry)) line .out)) ⌝ }
+{
+    if out.len() < 15 + width {
+        return Outcome::Refused(Refusal::WrongLength);
+    }
+    if line_too_wide(line, width) {
+        return Outcome::Refused(Refusal::OutOfRange);
+    }
+    put_line(out, line, width);
+    Outcome::Done
+}
+
+// ---- the calls
+
+pub fn read_line(bytes: &[u8]) -> LineRead
+    ensures { λ r. ⌜ r ≡ readLineAnswer standard (now (bytes .entry)) ⌝ }
+{
+    read_line_in(bytes, AMOUNT)
+}
+
+// Writes the line at out's first bytes.
+pub fn write_line(out: &mut [u8], line: Line) -> Outcome
+    ensures { λ r. ⌜ (r ≡ writeLineCall standard (now (out .entry)) line .answer) × (now (out .exit) ≡ writeLineCall standard (now (out .entry)) line .out) ⌝ }
+{
+    write_line_in(out, line, AMOUNT)
+}
+
+// Writes z without padding at out's first bytes, and answers how many they are.
+pub fn write_number(out: &mut [u8], z: i64) -> Written
+    ensures { λ r. ⌜ (r ≡ writeNumberCall (now (out .entry)) z .answer) × (now (out .exit) ≡ writeNumberCall (now (out .entry)) z .out) ⌝ }
+{
+    let n = text_length(z);
+    if out.len() < n {
+        return Written::Refused(Refusal::WrongLength);
+    }
+    put_column(&mut out[..n], z);
+    Written::Bytes(n)
+}
