@@ -9,7 +9,7 @@ use mathlib.Core.List.{List, map}
 use Prim.Native.Nat.{ℕ, _+_, _*_, _≤_, _<_}
 use native.Mathlib.Nat.{mul-le-mul-right, add-mul, mul-assoc, one-mul}
 use native.Mathlib.Omega.{arith}
-use lib.IntN.{ℤ, pos, _-ℤ_}
+use lib.IntN.{ℤ, pos, _+ℤ_, _-ℤ_}
 use lib.Dec.{T, ltb, eqb}
 use lib.Signed.{_≤ℤ_, _<ℤ_}
 use lib.ListN.{length}
@@ -102,13 +102,17 @@ module _ {r : Rules} {c : Case} {w₀ : List ℤ} (coherent : Coherent r) (valid
   start-greatest : (x : ℕ) → x < scopeCount c → greatest c w₀ x ≤ℤ pos (r .starting)
   start-greatest x h = greatest-within c w₀ (first-tuple c (shape .some-value) x h) (λ k l t. start-weight t .1)
 
-  -- the upper bound falls by 2·s·U at most
-  pub reached-fall : {w : List ℤ} → Reached c w₀ w → (upperBound c w₀ -ℤ upperBound c w) ≤ℤ pos (2 * (scopeCount c * r .starting))
-  reached-fall {w} h =
+  -- what lies above every objective lies at most 2·s·U below the upper bound
+  pub bound-spread : (z : ℤ) → ((p : List ℕ) → T (isAssignment c p) → objective c w₀ p ≤ℤ z) → upperBound c w₀ ≤ℤ (pos (2 * (scopeCount c * r .starting)) +ℤ z)
+  bound-spread z above =
       Σ-most (greatest c w₀) (r .starting) 0 (scopeCount c) (λ x l u. start-greatest x (omega arith))
       ▸ Σ-least (λ x. atUsed c (zeros c) x (weight c w₀ x)) (r .starting) 0 (scopeCount c)
       (λ x l u. at-used-holds shape (zeros c) (zeros-assigned c shape) (λ z. minus (r .starting) ≤ℤ z) x (omega arith) (weight c w₀ x) (λ k l t. start-weight t .0))
-      ▸ reached-bound shape (zeros c) (zeros-assigned c shape) h ▸ simp flat (omega zs)
+      ▸ above (zeros c) (zeros-assigned c shape) ▸ simp flat (omega zs)
+
+  -- so it falls by 2·s·U at most
+  pub reached-fall : {w : List ℤ} → Reached c w₀ w → (upperBound c w₀ -ℤ upperBound c w) ≤ℤ pos (2 * (scopeCount c * r .starting))
+  reached-fall {w} h = bound-spread (upperBound c w) (λ p a. reached-bound shape p a h) ▸ simp flat (omega zs)
 
   pub reached-weight : {w : List ℤ} → Reached c w₀ w → {x k l : ℕ} → IsTuple c x k l
       → (minus ((2 * scopeCount c + 1) * r .starting) ≤ℤ weight c w x k l) × (weight c w x k l ≤ℤ pos (r .starting))

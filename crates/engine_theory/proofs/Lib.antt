@@ -3,3 +3,4 @@ pub mod Trim
 pub mod Gaps
 pub mod Fall
 pub mod InRange
+pub mod Runs

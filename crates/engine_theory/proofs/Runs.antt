@@ -1,0 +1,333 @@
+-- Runs, over any `next` whose rounds are lawful: each is a list of moves that are allowed one after another, lowers the upper bound, and is
+-- short enough for an output. From starting weights the plain replay takes a run's log and is left with the run's rounds and weights; the log
+-- has a bound line for each round; a run answers settled just where nothing comes next, and limit just after so many rounds with more to come;
+-- and where no move leaves the working range, a limit of the upper bound less any objective is enough to settle. The engine's rounds are such.
+-- Assumes nothing.
+use mathlib.Core.Path.{_≡_, refl, sym, ap, subst, _∙_}
+use mathlib.Core.Bool.{Bool, true, false, not}
+use mathlib.Core.Logic.{_↔_, _⊎_, inl, inr, ⊎-elim}
+use mathlib.Core.Option.{Option, none, some}
+use mathlib.Core.List.{List, [], _∷_, _++_, map, List·Memᴰ·append-cases, List·Memᴰ·not-nil, Memᴰ·of-map}
+use Prim.Native.Nat.{ℕ, zero, suc, _+_, _*_, _≤_, _<_}
+use native.Mathlib.Nat.{mul-le-mul-right}
+use native.Mathlib.Omega.{arith}
+use lib.IntN.{ℤ, pos, _+ℤ_}
+use lib.Dec.{T}
+use lib.Signed.{_≤ℤ_, _<ℤ_}
+use lib.ListN.{length, length-append, length-map}
+use Rattle.integers.specs.Words.{those, any, joined}
+use Rattle.integers.specs.Tests.{false-is}
+use Rattle.integers.specs.Options.{some-inj, none-some, found-else}
+use Rattle.integers.specs.Linear.{flat, zs, _▸_}
+use Rattle.integers.specs.Lists.{_∈_, any-append, those-append, those-none, those-cong, those-map}
+use Rattle.integers.specs.Tables.{Parts}
+use Rattle.definitions.specs.declared.Case.{Case}
+use Rattle.definitions.specs.declared.Line.{Line}
+use Rattle.definitions.specs.declared.Refusal.the-variants.{LeavesRange}
+use Rattle.definitions.specs.declared.RunAnswer.{RunAnswer}
+use Rattle.definitions.specs.Rules.{Rules, Coherent, scopesAtMost}
+use Rattle.definitions.specs.Case.{scopeCount, isAssignment, objective, upperBound}
+use Rattle.definitions.specs.Valid.{workingWeight, valid}
+use Rattle.definitions.specs.Moves.{Move, shift, press, leavesRange}
+use Rattle.definitions.specs.Lines.{lineText, lineLength, lineTooWide, readLine, isKind}
+use Rattle.definitions.specs.Replay.{State, fresh, after, answers, atEnd}
+use Rattle.definitions.specs.Engine.{chosen, leastGap, Next, nothing, round, keptScopes, engineNext, raiseLine, moveLines, boundLine, afterMoves, roundLines, roundText, madeOf, makeNext, RunOf, stopped, atLimit, onward, runFrom, run}
+use Rattle.definitions.proofs.LineLaws.{line-read, line-length}
+use Rattle.theory.proofs.Shape.{Shape}
+use Rattle.theory.proofs.Validity.{Handed, valid-facts}
+use Rattle.theory.proofs.Replays.{no-number, bound-sound, rounds-few, handed-after}
+use Rattle.theory.proofs.Rounds.{AllAllowed, no-move, one-more, all-handed, MoveKinds, round-fits, after-append, moves-taken, round-taken}
+use Rattle.engine_theory.proofs.Trim.{Settled, chosen-some, settled-iff, kept-refuted, kept-rising, kept-scopes, kept-fewer, kept-some}
+use Rattle.engine_theory.proofs.Gaps.{amount-some, amount-most, next-nothing, next-round}
+use Rattle.engine_theory.proofs.Fall.{enginePressed, fall}
+use Rattle.engine_theory.proofs.InRange.{Reached, start, bound-spread, next-made}
+
+differ : {A : Type 0} → _≡_ {A = ℕ} 0 1 → A
+differ e = absurd (omega arith)
+
+-- ---- how a run ends, from any table
+
+module _ (r : Rules) (next : Case → List ℤ → Next) (c : Case) where
+  -- with weights w after so many rounds, of which it was allowed `limit`
+  pub data Ends (w : List ℤ) (rounds limit : ℕ) : RunAnswer → Type 0 where
+    settles : rounds ≤ limit → next c w ≡ nothing → Ends w rounds limit RunAnswer.Settled
+    limits : {moves : List Move} → rounds ≡ limit → next c w ≡ round moves → Ends w rounds limit RunAnswer.Limit
+    refuses : {moves : List Move} → rounds < limit → next c w ≡ round moves → afterMoves r c moves w ≡ none → Ends w rounds limit (RunAnswer.Refused LeavesRange)
+
+  pub record Ran (P : ℕ → List ℤ → List (List ℕ) → Type 0) (limit : ℕ) (q : RunOf) : Type 0 where
+    pub kept : P (q .rounds) (q .weights) (q .log)
+    pub ends : Ends (q .weights) (q .rounds) limit (q .answer)
+
+  -- what every round keeps, the run keeps
+  module _ (P : ℕ → List ℤ → List (List ℕ) → Type 0)
+      (on : (done : ℕ) (w v : List ℤ) (log : List (List ℕ)) (moves : List Move) → P done w log → next c w ≡ round moves → afterMoves r c moves w ≡ some v
+      → P (suc done) v (log ++ roundText r c moves v)) where
+    pub run-keeps : (left : ℕ) {done limit : ℕ} {w : List ℤ} {log : List (List ℕ)} → done + left ≡ limit → P done w log → Ran P limit (runFrom r next c left done w log)
+    run-keeps zero {done} {limit} {w} {log} h p = go (next c w) refl
+      where
+        go : (n : Next) → next c w ≡ n → Ran P limit (stopped (atLimit n) done w log)
+        go nothing e = record { kept = p; ends = settles (omega arith) e }
+        go (round moves) e = record { kept = p; ends = limits (omega arith) e }
+    run-keeps (suc left) {done} {limit} {w} {log} h p = go (next c w) refl (λ v lines q. run-keeps left {done = suc done} {limit = limit} {w = v} {log = lines} (omega arith) q)
+      where
+        go : (n : Next) → next c w ≡ n → ((v : List ℤ) (lines : List (List ℕ)) → P (suc done) v lines → Ran P limit (runFrom r next c left (suc done) v lines))
+            → Ran P limit (onward (makeNext r c w n) done w log (λ v lines. runFrom r next c left (suc done) v lines))
+        go nothing e rest = record { kept = p; ends = settles (omega arith) e }
+        go (round moves) e rest = leads (afterMoves r c moves w) refl
+          where
+            leads : (o : Option (List ℤ)) → afterMoves r c moves w ≡ o → Ran P limit (onward (madeOf r c moves o) done w log (λ v lines. runFrom r next c left (suc done) v lines))
+            leads none f = record { kept = p; ends = refuses (omega arith) e f }
+            leads (some v) f = rest v (log ++ roundText r c moves v) (on done w v log moves p e f)
+
+    pub run-has : (limit : ℕ) (w : List ℤ) → P 0 w [] → Ran P limit (run r next c limit w)
+    run-has limit w p = run-keeps limit {done = 0} {limit = limit} {w = w} {log = []} (omega arith) p
+
+  module _ {w : List ℤ} {rounds limit : ℕ} where
+    -- settled just where nothing comes next
+    pub ends-settled : {answer : RunAnswer} → Ends w rounds limit answer → answer ≡ RunAnswer.Settled ↔ next c w ≡ nothing
+    ends-settled (settles h e) = (λ a. e, λ a. refl)
+    ends-settled (limits {moves} h e) = (λ a. differ (cc), λ a. differ (cc))
+    ends-settled (refuses {moves} h e f) = (λ a. differ (cc), λ a. differ (cc))
+
+    -- limit just after so many rounds with more to come
+    pub ends-limit : {answer : RunAnswer} → Ends w rounds limit answer → answer ≡ RunAnswer.Limit ↔ (rounds ≡ limit) × (moves : List Move) × (next c w ≡ round moves)
+    ends-limit (settles h e) = (λ a. differ (cc), λ (g, moves, f). differ (cc))
+    ends-limit (limits {moves} h e) = (λ a. (h, moves, e), λ a. refl)
+    ends-limit (refuses {moves} h e f) = (λ a. differ (cc), λ (g, u, d). absurd (omega arith))
+
+    pub ends-within : {answer : RunAnswer} → Ends w rounds limit answer → rounds ≤ limit
+    ends-within (settles h e) = h
+    ends-within (limits h e) = omega arith
+    ends-within (refuses h e f) = omega arith
+
+  -- the run's answer, for every table and every limit
+  pub run-ends : (limit : ℕ) (w : List ℤ) → Ends (run r next c limit w .weights) (run r next c limit w .rounds) limit (run r next c limit w .answer)
+  run-ends limit w = run-has (λ done w log. T true) (λ done w v log moves p e f. tt) limit w tt .ends
+
+-- ---- lawful rounds
+
+-- from w, a table that every call takes, these moves come next and lead to v
+pub record RoundFrom (r : Rules) (next : Case → List ℤ → Next) (c : Case) (w : List ℤ) (moves : List Move) (v : List ℤ) : Type 0 where
+  pub handed : Handed r (workingWeight r) c w
+  pub comes : next c w ≡ round moves
+  pub leads : afterMoves r c moves w ≡ some v
+
+pub record Lawful (r : Rules) (next : Case → List ℤ → Next) (c : Case) : Type 0 where
+  pub allowed : {w v : List ℤ} {moves : List Move} → RoundFrom r next c w moves v → AllAllowed r c w moves v
+  pub lower : {w v : List ℤ} {moves : List Move} → RoundFrom r next c w moves v → upperBound c v <ℤ upperBound c w
+  pub short : {w v : List ℤ} {moves : List Move} → RoundFrom r next c w moves v → length (roundLines c moves v) ≤ scopeCount c + 1
+
+-- the engine's are
+pub data EngineRound (r : Rules) (c : Case) (w : List ℤ) : List Move → List ℤ → Type 0 where
+  presses : {i : ℕ} {a : ℤ} → chosen c w ≡ some i → leastGap c w i ≡ some a → T (not (leavesRange r c (enginePressed c w i a)))
+      → EngineRound r c w (press i (keptScopes c w i) a ∷ []) (enginePressed c w i a)
+
+module _ {r : Rules} {c : Case} {w : List ℤ} where
+  pub engine-round : {moves : List Move} {v : List ℤ} → engineNext c w ≡ round moves → afterMoves r c moves w ≡ some v → EngineRound r c w moves v
+  engine-round {moves} {v} d l =
+      let (i, a, e, g, q) = next-round c w d in
+      let (t, z) = found-else (leavesRange r c (enginePressed c w i a)) (some (enginePressed c w i a)) (ap (λ m. afterMoves r c m w) (sym q) ∙ l) in
+      rw (q, ← (some-inj z)) (presses e g t)
+
+  module _ (h : Handed r (workingWeight r) c w) where
+    pub engine-allowed : Coherent r → {moves : List Move} {v : List ℤ} → EngineRound r c w moves v → AllAllowed r c w moves v
+    engine-allowed coherent (presses {i} {a} e g t) =
+        let (own, refutes, _) = chosen-some c w e in
+        one-more {move = press i (keptScopes c w i) a} (record {
+          variable = own;
+          some-raised = kept-some c w i (h .shape) own refutes;
+          rising = kept-rising c w i;
+          scopes = λ x m. kept-scopes c w i m;
+          amount = coherent .difference ▸ amount-some c w (h .shape) e g ▸ amount-most c w (h .shape) e g r (h .in-range) ▸ simp flat (omega zs);
+          refutes = kept-refuted c w i refutes;
+          in-range = t;
+        }) no-move
+
+    engine-lower : {moves : List Move} {v : List ℤ} → EngineRound r c w moves v → upperBound c v <ℤ upperBound c w
+    engine-lower (presses e g t) = fall c w (h .shape) e g ▸ amount-some c w (h .shape) e g ▸ simp flat (omega zs)
+
+  engine-short : {moves : List Move} {v : List ℤ} → EngineRound r c w moves v → length (roundLines c moves v) ≤ scopeCount c + 1
+  engine-short (presses {i} {a} e g t) =
+      simp length-append (omega (arith, kept-fewer c w i (chosen-some c w e .0), length-map (keptScopes c w i) raiseLine))
+
+pub engine-lawful : {r : Rules} → Coherent r → (c : Case) → Lawful r engineNext c
+engine-lawful coherent c = record {
+  allowed = λ m. engine-allowed (m .handed) coherent (engine-round (m .comes) (m .leads));
+  lower = λ m. engine-lower (m .handed) (engine-round (m .comes) (m .leads));
+  short = λ m. engine-short (engine-round (m .comes) (m .leads));
+}
+
+-- ---- bound lines
+
+abbrev isBound : Option Line → Bool
+isBound none = false
+isBound (some l) = isKind 4 l
+
+-- the bound lines among these lines
+abbrev pub boundLines : Rules → List (List ℕ) → List (List ℕ)
+boundLines r ts = those (λ t. isBound (readLine (r .amountWidth) t)) ts
+
+no-raise : (xs : List ℕ) → any (isKind 4) (map raiseLine xs) ≡ false
+no-raise [] = refl
+no-raise (x ∷ xs) = no-raise xs
+
+no-bound : (moves : List Move) → any (isKind 4) (joined (map moveLines moves)) ≡ false
+no-bound [] = refl
+no-bound (shift e end v a ∷ moves) = no-bound moves
+no-bound (press i raised a ∷ moves) = any-append (isKind 4) (map raiseLine raised) (joined (map moveLines moves)) ∙ rw (no-raise raised, no-bound moves)
+
+-- after so many rounds: a table that every call takes, and a log of whole lines with a bound line for each
+pub record Tallied (r : Rules) (c : Case) (rounds : ℕ) (w : List ℤ) (log : List (List ℕ)) : Type 0 where
+  pub handed : Handed r (workingWeight r) c w
+  pub whole : Parts (lineLength (r .amountWidth)) log
+  pub counted : length (boundLines r log) ≡ rounds
+
+module _ {r : Rules} {next : Case → List ℤ → Next} {c : Case} (coherent : Coherent r) (lawful : Lawful r next c) where
+  module _ {w v : List ℤ} {moves : List Move} (m : RoundFrom r next c w moves v) where
+    round-width : {l : Line} → l ∈ roundLines c moves v → lineTooWide (r .amountWidth) l ≡ false
+    round-width = round-fits coherent (m .handed) (lawful .allowed m)
+
+    -- a round's lines are whole, and its last is its one bound line
+    pub round-whole : Parts (lineLength (r .amountWidth)) (roundText r c moves v)
+    round-whole t n = let (l, o, e) = Memᴰ·of-map (lineText (r .amountWidth)) (roundLines c moves v) n in rw (← e) (line-length (r .amountWidth) l (round-width o))
+
+    pub round-bound : boundLines r (roundText r c moves v) ≡ lineText (r .amountWidth) (boundLine (upperBound c v)) ∷ []
+    round-bound =
+        those-map (λ t. isBound (readLine (r .amountWidth) t)) (lineText (r .amountWidth)) (roundLines c moves v)
+        ∙ ap (map (lineText (r .amountWidth)))
+        (those-cong (roundLines c moves v) (λ l o. ap isBound (line-read (r .amountWidth) l (round-width o)))
+        ∙ those-append (isKind 4) (joined (map moveLines moves)) (boundLine (upperBound c v) ∷ [])
+        ∙ ap (λ ls. ls ++ (boundLine (upperBound c v) ∷ [])) (those-none (isKind 4) (joined (map moveLines moves)) (false-is _ (no-bound moves))))
+
+    pub handed-on : Handed r (workingWeight r) c v
+    handed-on = all-handed (lawful .allowed m) (m .handed)
+
+  tallied-on : (done : ℕ) (w v : List ℤ) (log : List (List ℕ)) (moves : List Move) → Tallied r c done w log → next c w ≡ round moves → afterMoves r c moves w ≡ some v
+      → Tallied r c (suc done) v (log ++ roundText r c moves v)
+  tallied-on done w v log moves p e f =
+      let m : RoundFrom r next c w moves v = record { handed = p .handed; comes = e; leads = f } in
+      record {
+        handed = handed-on m;
+        whole = λ l n. ⊎-elim (p .whole l) (round-whole m l) (List·Memᴰ·append-cases log n);
+        counted =
+            ap length (those-append _ log (roundText r c moves v) ∙ ap (λ ls. boundLines r log ++ ls) (round-bound m))
+            ∙ omega (arith, p .counted, length-append (boundLines r log) (lineText (r .amountWidth) (boundLine (upperBound c v)) ∷ []));
+      }
+
+  -- for every table that calls take and every limit
+  pub run-tallied : (limit : ℕ) (w : List ℤ) → Handed r (workingWeight r) c w → Ran r next c (Tallied r c) limit (run r next c limit w)
+  run-tallied limit w h = run-has r next c (Tallied r c) tallied-on limit w (record { handed = h; whole = λ l m. absurd (List·Memᴰ·not-nil m); counted = refl })
+
+-- ---- the log, replayed from starting weights
+
+-- the replay's state between rounds
+abbrev pub between : Case → List ℤ → ℕ → List ℤ → State
+between c w₀ rounds w = record {
+  case = c;
+  starting = w₀;
+  weights = w;
+  rounds = rounds;
+  start = upperBound c w;
+  held = none;
+  moving = false;
+  refusal = none;
+}
+
+-- the log leads there, and each of its rounds has lowered the upper bound
+pub record Replayed (r : Rules) (c : Case) (w₀ : List ℤ) (rounds : ℕ) (w : List ℤ) (log : List (List ℕ)) : Type 0 where
+  pub leads : after r (fresh c w₀) log ≡ between c w₀ rounds w
+  pub fallen : (pos rounds +ℤ upperBound c w) ≤ℤ upperBound c w₀
+
+few-rounds : (done s most : ℕ) (b₀ b d : ℤ) → (pos done +ℤ b) ≤ℤ b₀ → d <ℤ b → b₀ ≤ℤ (pos s +ℤ d) → s ≤ most → (done < most) × ((pos (suc done) +ℤ d) ≤ℤ b₀)
+few-rounds done s most b₀ b d h l k m = (h ▸ l ▸ k ▸ simp flat (omega zs), h ▸ l ▸ simp flat (omega zs))
+
+too-many : (rounds limit : ℕ) (b z : ℤ) → rounds ≡ limit → b ≤ℤ (pos limit +ℤ z) → (pos (suc rounds) +ℤ z) ≤ℤ b → ⊥
+too-many rounds limit b z e h k = e ▸ h ▸ k ▸ simp flat (omega zs)
+
+-- the replay's count has room for as many rounds as starting weights allow
+abbrev pub RoundsEnough : Rules → Type 0
+RoundsEnough r = 2 * (scopesAtMost r * r .starting) ≤ r .rounds
+
+-- tables from which no round leaves the working range, the first among them
+pub record Free (r : Rules) (next : Case → List ℤ → Next) (c : Case) (w₀ : List ℤ) (Reach : List ℤ → Type 0) : Type 0 where
+  pub first : Reach w₀
+  pub goes : {w : List ℤ} {moves : List Move} → Reach w → next c w ≡ round moves → (v : List ℤ) × (afterMoves r c moves w ≡ some v) × Reach v
+
+module _ {r : Rules} {next : Case → List ℤ → Next} {c : Case} (coherent : Coherent r) (kinds : MoveKinds r) (enough : RoundsEnough r)
+    (lawful : Lawful r next c) (w₀ : List ℤ) (t : T (valid r c w₀)) where
+  replayed-on : (done : ℕ) (w v : List ℤ) (log : List (List ℕ)) (moves : List Move) → Replayed r c w₀ done w log → next c w ≡ round moves → afterMoves r c moves w ≡ some v
+      → Replayed r c w₀ (suc done) v (log ++ roundText r c moves v)
+  replayed-on done w v log moves p e f =
+      let s : State = between c w₀ done w in
+      let h : Handed r (workingWeight r) c w = subst (λ (u : State). Handed r (workingWeight r) c (u .weights)) (p .leads) (handed-after r c w₀ t log coherent) in
+      let m : RoundFrom r next c w moves v = record { handed = h; comes = e; leads = f } in
+      let a : AllAllowed r c w moves v = lawful .allowed m in
+      let lines : List (List ℕ) = map (lineText (r .amountWidth)) (joined (map moveLines moves)) in
+      let q = after-append r (fresh c w₀) log lines ∙ ap (λ (u : State). after r u lines) (p .leads) ∙ moves-taken coherent kinds s refl refl h a in
+      let above : (x : List ℕ) → T (isAssignment c x) → objective c w₀ x ≤ℤ upperBound c v
+      = λ x g. subst (λ (u : State). objective c w₀ x ≤ℤ upperBound c (u .weights)) q (bound-sound r c w₀ t (log ++ lines) x g) in
+      let o : scopeCount c ≤ scopesAtMost r = omega (arith, h .variables-most, h .edges-most) in
+      let (few, fallen) = few-rounds done (2 * (scopeCount c * r .starting)) (r .rounds) (upperBound c w₀) (upperBound c w) (upperBound c v) (p .fallen) (lawful .lower m)
+      (bound-spread coherent (valid-facts r c w₀ t) (upperBound c v) above) (omega (arith, mul-le-mul-right (r .starting) o)) in
+      record {
+        leads =
+            after-append r (fresh c w₀) log (roundText r c moves v) ∙ ap (λ (u : State). after r u (roundText r c moves v)) (p .leads)
+            ∙ round-taken coherent kinds s refl refl h a few (lawful .lower m) ∙ ap (λ (n : ℕ). between c w₀ n v) (omega arith);
+        fallen = fallen;
+      }
+
+  pub run-replayed : (limit : ℕ) → Ran r next c (Replayed r c w₀) limit (run r next c limit w₀)
+  run-replayed limit = run-has r next c (Replayed r c w₀) replayed-on limit w₀ (record { leads = refl; fallen = simp flat (omega zs) })
+
+  module _ (limit : ℕ) where
+    -- rounds and weights are the run's, nothing is held, no move lacks its bound line, and no line was refused
+    pub run-log-taken : after r (fresh c w₀) (run r next c limit w₀ .log) ≡ between c w₀ (run r next c limit w₀ .rounds) (run r next c limit w₀ .weights)
+    run-log-taken = run-replayed limit .kept .leads
+
+    pub run-log-answers : answers r (fresh c w₀) (run r next c limit w₀ .log) ≡ map (λ t. none) (run r next c limit w₀ .log)
+    run-log-answers = no-number r (fresh c w₀) (run r next c limit w₀ .log) .0 (ap (λ (u : State). u .refusal) run-log-taken) .1
+
+    pub run-log-ends : atEnd (after r (fresh c w₀) (run r next c limit w₀ .log)) ≡ none
+    run-log-ends = ap atEnd run-log-taken
+
+  module _ {Reach : List ℤ → Type 0} (free : Free r next c w₀ Reach) where
+    run-reaches : (limit : ℕ) → Ran r next c (λ done w log. Reach w) limit (run r next c limit w₀)
+    run-reaches limit = run-has r next c (λ done w log. Reach w) (λ done w v log moves p e f.
+        let (u, g, q) = free .goes p e in subst Reach (some-inj (sym g ∙ f)) q) limit w₀ (free .first)
+
+    ends-free : {w : List ℤ} {rounds limit : ℕ} {answer : RunAnswer} → Ends r next c w rounds limit answer → Reach w → (answer ≡ RunAnswer.Settled) ⊎ (answer ≡ RunAnswer.Limit)
+    ends-free (settles h e) p = inl refl
+    ends-free (limits h e) p = inr refl
+    ends-free (refuses h e f) p = let (v, g, q) = free .goes p e in absurd (none-some (sym f ∙ g))
+
+    pub run-never-refused : (limit : ℕ) → (run r next c limit w₀ .answer ≡ RunAnswer.Settled) ⊎ (run r next c limit w₀ .answer ≡ RunAnswer.Limit)
+    run-never-refused limit = ends-free (run-ends r next c limit w₀) (run-reaches limit .kept)
+
+    pub run-settles : (limit : ℕ) (p : List ℕ) → T (isAssignment c p) → upperBound c w₀ ≤ℤ (pos limit +ℤ objective c w₀ p) → run r next c limit w₀ .answer ≡ RunAnswer.Settled
+    run-settles limit p a h =
+        let q : RunOf = run r next c limit w₀ in
+        ⊎-elim (λ e. e) (λ e.
+        let (n, moves, d) = ends-limit r next c (run-ends r next c limit w₀) .0 e in
+        let (v, g, _) = free .goes (run-reaches limit .kept) d in
+        let more = replayed-on (q .rounds) (q .weights) v (q .log) moves (run-replayed limit .kept) d g in
+        let few = subst (λ (u : State). (pos (u .rounds) +ℤ objective c w₀ p) ≤ℤ upperBound c w₀) (more .leads) (rounds-few r c w₀ t (q .log ++ roundText r c moves v) p a) in
+        absurd (too-many (q .rounds) limit (upperBound c w₀) (objective c w₀ p) n h few)) (run-never-refused limit)
+
+-- ---- the engine's run
+
+module _ (c : Case) (shape : Shape c) (w : List ℤ) where
+  pub engine-settled : engineNext c w ≡ nothing ↔ Settled c w
+  engine-settled = (λ e. settled-iff c w shape .0 (next-nothing c w shape .0 e), λ f. next-nothing c w shape .1 (settled-iff c w shape .1 f))
+
+  pub engine-unsettled : ((moves : List Move) × (engineNext c w ≡ round moves)) ↔ (Settled c w → ⊥)
+  engine-unsettled = (λ (moves, e) f. let g = engine-settled .1 f in differ (cc), go (engineNext c w) refl)
+    where
+      go : (n : Next) → engineNext c w ≡ n → (Settled c w → ⊥) → (moves : List Move) × (engineNext c w ≡ round moves)
+      go nothing e f = absurd (f (engine-settled .0 e))
+      go (round moves) e f = (moves, e)
+
+pub engine-free : {r : Rules} {c : Case} {w₀ : List ℤ} → Coherent r → T (valid r c w₀) → Free r engineNext c w₀ (Reached c w₀)
+engine-free {r} {c} {w₀} coherent t = record {
+  first = start;
+  goes = λ h e. let (v, g, q, l) = next-made coherent (valid-facts r c w₀ t) h e in (v, g, q);
+}
