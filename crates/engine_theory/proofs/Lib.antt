@@ -4,3 +4,4 @@ pub mod Gaps
 pub mod Fall
 pub mod InRange
 pub mod Runs
+pub mod Calls

@@ -1,0 +1,180 @@
+-- The engine's calls on a lent table and output are the plain round and run. A call that is not made keeps table and output. A run that is
+-- lent what number 4 asks has the plain run's answer, rounds, weights and log, the upper bound of these weights, and an output of the same
+-- length; otherwise it is refused before its first round. For every table, the bound lines in its log are as many as its rounds.
+-- Assumes nothing.
+use mathlib.Core.Path.{_≡_, refl, sym, ap, subst, _∙_}
+use mathlib.Core.Bool.{Bool, true, false, not}
+use mathlib.Core.Logic.{_↔_}
+use mathlib.Core.Option.{Option, none, some}
+use mathlib.Core.List.{List, [], _∷_, _++_, List·Memᴰ·not-nil}
+use Prim.Native.Nat.{ℕ, zero, suc, _+_, _≤_}
+use native.Mathlib.Nat.{mul-le-mul-right, mul-comm}
+use native.Mathlib.Omega.{arith}
+use lib.IntN.{ℤ}
+use lib.Dec.{T, ltb}
+use lib.ListN.{length, take, drop, length-append, length-drop, length-map}
+use lib.Seq.{take-append-seam}
+use Rattle.integers.specs.Words.{if_then_else_, all, joined}
+use Rattle.integers.specs.Tests.{tests, if-false, and-left, and-right}
+use Rattle.integers.specs.Options.{none-some, some-inj}
+use Rattle.integers.specs.Lists.{joined-append}
+use Rattle.integers.specs.Tables.{length-joined}
+use Rattle.definitions.specs.declared.Case.{Case}
+use Rattle.definitions.specs.declared.Refusal.{Refusal}
+use Rattle.definitions.specs.declared.Refusal.the-variants.{LeavesRange}
+use Rattle.definitions.specs.declared.Round.{Round}
+use Rattle.definitions.specs.declared.RunAnswer.{RunAnswer}
+use Rattle.definitions.specs.Rules.{Rules, Coherent}
+use Rattle.definitions.specs.Refusals.{Test, firstOf}
+use Rattle.definitions.specs.Case.{scopeCount, upperBound}
+use Rattle.definitions.specs.Valid.{workingWeight, handedOver}
+use Rattle.definitions.specs.Moves.{Move}
+use Rattle.definitions.specs.Lines.{lineText, lineLength, linesIn, overwritten}
+use Rattle.definitions.specs.Engine.{Next, nothing, round, Made, settled, refused, made, afterMoves, roundLines, roundText, roundBytes, madeOf, makeNext, RunOf, stopped, atLimit, onward, runFrom, run}
+use Rattle.definitions.specs.EngineCalls.{RoundCall, RunCall, isLeaving, answerAtLimit, roundMade, engineRefusal, roundCall, boundAt, stopRun, goOn, runCallFrom, runCall}
+use Rattle.definitions.proofs.LineLaws.{lines-joined}
+use Rattle.theory.proofs.Validity.{Handed, handed}
+use Rattle.theory.proofs.Replays.{none-iff}
+use Rattle.engine_theory.proofs.Runs.{RoundFrom, Lawful, boundLines, round-whole, handed-on, run-tallied}
+
+-- no number that is asked before a round is 11
+not-leaving : (ts : List Test) → T (all (λ t. not (isLeaving (t .refusal))) ts) → {x : Refusal} → firstOf ts ≡ some x → T (not (isLeaving x))
+not-leaving [] h e = absurd (none-some e)
+not-leaving (t ∷ ts) h {x} e = go (t .applies) (and-left (not (isLeaving (t .refusal))) _ h) (not-leaving ts (and-right (not (isLeaving (t .refusal))) _ h)) e
+  where
+    go : (b : Bool) → T (not (isLeaving (t .refusal))) → (firstOf ts ≡ some x → T (not (isLeaving x))) → (if b then some (t .refusal) else firstOf ts) ≡ some x → T (not (isLeaving x))
+    go true h rest e = subst (λ (y : Refusal). T (not (isLeaving y))) (some-inj e) h
+    go false h rest e = rest e
+
+module _ (r : Rules) (next : Case → List ℤ → Next) (c : Case) (w : List ℤ) (out : List ℕ) where
+  -- what a call asks before its first round
+  pub taken-iff : engineRefusal r next c w out ≡ none ↔ Handed r (workingWeight r) c w × (roundBytes r c ≤ length out)
+  taken-iff =
+      let h = handed r (workingWeight r) c w (ltb (length out) (roundBytes r c)) false in
+      let n = none-iff (engineRefusal r next c w out) in (
+        λ e. let (p, q, _) = h .0 (n .1 e) in (p, let l = simp tests at q in omega arith),
+        λ (p, q). n .0 (h .1 (p, simp tests (omega arith), tt)),
+      )
+
+  pub round-taken : engineRefusal r next c w out ≡ none → roundCall r next c w out ≡ roundMade r next c w out (makeNext r c w (next c w))
+  unfolding roundCall
+  round-taken e = rw (e, roundCall)
+
+  pub round-refused : {x : Refusal} → engineRefusal r next c w out ≡ some x → roundCall r next c w out ≡ roundMade r next c w out (refused x)
+  unfolding roundCall
+  round-refused e = rw (e, roundCall)
+
+  -- settled or refused, table and output keep what they held
+  pub unmade-keeps : ((bytes : ℕ) (bound : ℤ) → roundCall r next c w out .answer ≡ Round.Made bytes bound → ⊥) → (roundCall r next c w out .table ≡ w) × (roundCall r next c w out .out ≡ out)
+  unmade-keeps unmade = asked (engineRefusal r next c w out) refl
+    where
+      keeps : (m : Made) → roundCall r next c w out ≡ roundMade r next c w out m → (roundCall r next c w out .table ≡ w) × (roundCall r next c w out .out ≡ out)
+      keeps settled e = (ap (λ (u : RoundCall). u .table) e, ap (λ (u : RoundCall). u .out) e)
+      keeps (refused x) e = (ap (λ (u : RoundCall). u .table) e, ap (λ (u : RoundCall). u .out) e)
+      keeps (made v lines) e = absurd (unmade _ _ (ap (λ (u : RoundCall). u .answer) e))
+
+      asked : (o : Option Refusal) → engineRefusal r next c w out ≡ o → (roundCall r next c w out .table ≡ w) × (roundCall r next c w out .out ≡ out)
+      asked none e = keeps (makeNext r c w (next c w)) (round-taken e)
+      asked (some x) e = keeps (refused x) (round-refused e)
+
+  -- refused before its first round, a run is refused so, with no rounds
+  pub run-refused : (limit : ℕ) {x : Refusal} → engineRefusal r next c w out ≡ some x → runCall r next c limit w out ≡ stopRun r next c (RunAnswer.Refused x) 0 w out []
+  unfolding runCall
+  run-refused zero {x} e =
+      ap (λ (u : RoundCall). stopRun r next c (answerAtLimit (u .answer)) 0 w out []) (round-refused e)
+      ∙ ap (λ (a : RunAnswer). stopRun r next c a 0 w out []) (if-false RunAnswer.Limit (RunAnswer.Refused x) (isLeaving x) (not-leaving (handedOver r (workingWeight r) c w (ltb (length out) (roundBytes r c)) false) tt e))
+  run-refused (suc limit) e = ap (λ (u : RoundCall). goOn r next c (u .answer) u 0 w out [] (λ v bytes log. runCallFrom r next c limit 1 v bytes log)) (round-refused e)
+
+-- ---- a run's call is the plain run
+
+pub record SameRun (c : Case) (q : RunOf) (room : ℕ) (u : RunCall) : Type 0 where
+  pub answer : u .run .answer ≡ q .answer
+  pub rounds : u .run .rounds ≡ q .rounds
+  pub bound : u .run .bound ≡ upperBound c (q .weights)
+  pub table : u .table ≡ q .weights
+  pub log : u .log ≡ joined (q .log)
+  pub out-length : length (u .out) ≡ room
+
+module _ {r : Rules} {next : Case → List ℤ → Next} {c : Case} (coherent : Coherent r) (lawful : Lawful r next c) where
+  module _ {w v : List ℤ} {moves : List Move} (m : RoundFrom r next c w moves v) where
+    -- a round's lines fit an output that number 4 lets through
+    pub round-short : length (joined (roundText r c moves v)) ≤ roundBytes r c
+    round-short =
+        rw (
+          length-joined (lineLength (r .amountWidth)) (roundText r c moves v) (round-whole coherent lawful m),
+          length-map (roundLines c moves v) (lineText (r .amountWidth)),
+          mul-comm (lineLength (r .amountWidth)) (scopeCount c + 1),
+        )
+        (mul-le-mul-right (lineLength (r .amountWidth)) (lawful .short m))
+
+    kept-length : (out : List ℕ) → roundBytes r c ≤ length out → length (overwritten (joined (roundText r c moves v)) out) ≡ length out
+    kept-length out h = simp (length-append, length-drop) (omega (arith, round-short))
+
+  stops : (a : RunAnswer) (done : ℕ) (w : List ℤ) (out : List ℕ) (log : List (List ℕ)) → boundAt r next c a w ≡ upperBound c w
+      → SameRun c (stopped a done w log) (length out) (stopRun r next c a done w out (joined log))
+  stops a done w out log e = record { answer = refl; rounds = refl; bound = e; table = refl; log = refl; out-length = refl }
+
+  calls-from : (left done : ℕ) (w : List ℤ) (out : List ℕ) (log : List (List ℕ)) → Handed r (workingWeight r) c w → roundBytes r c ≤ length out
+      → SameRun c (runFrom r next c left done w log) (length out) (runCallFrom r next c left done w out (joined log))
+  calls-from zero done w out log h long =
+      subst (λ (u : RoundCall). SameRun c (stopped (atLimit (next c w)) done w log) (length out) (stopRun r next c (answerAtLimit (u .answer)) done w out (joined log)))
+      (sym (round-taken r next c w out (taken-iff r next c w out .1 (h, long)))) (go (next c w))
+    where
+      go : (n : Next) → SameRun c (stopped (atLimit n) done w log) (length out) (stopRun r next c (answerAtLimit (roundMade r next c w out (makeNext r c w n) .answer)) done w out (joined log))
+      go nothing = stops RunAnswer.Settled done w out log refl
+      go (round moves) = leads (afterMoves r c moves w)
+        where
+          leads : (o : Option (List ℤ)) → SameRun c (stopped RunAnswer.Limit done w log) (length out) (stopRun r next c (answerAtLimit (roundMade r next c w out (madeOf r c moves o) .answer)) done w out (joined log))
+          leads none = stops RunAnswer.Limit done w out log refl
+          leads (some v) = stops RunAnswer.Limit done w out log refl
+  calls-from (suc left) done w out log h long =
+      subst (λ (u : RoundCall). SameRun c (runFrom r next c (suc left) done w log) (length out) (goOn r next c (u .answer) u done w out (joined log) rest))
+      (sym (round-taken r next c w out (taken-iff r next c w out .1 (h, long)))) (go (next c w) refl (λ v out log. calls-from left (suc done) v out log))
+    where
+      rest : List ℤ → List ℕ → List ℕ → RunCall
+      rest v bytes log = runCallFrom r next c left (suc done) v bytes log
+
+      go : (n : Next) → next c w ≡ n → ((v : List ℤ) (out : List ℕ) (log : List (List ℕ)) → Handed r (workingWeight r) c v → roundBytes r c ≤ length out
+          → SameRun c (runFrom r next c left (suc done) v log) (length out) (runCallFrom r next c left (suc done) v out (joined log)))
+          → SameRun c (onward (makeNext r c w n) done w log (λ v lines. runFrom r next c left (suc done) v lines)) (length out)
+          (goOn r next c (roundMade r next c w out (makeNext r c w n) .answer) (roundMade r next c w out (makeNext r c w n)) done w out (joined log) rest)
+      go nothing e on = stops RunAnswer.Settled done w out log refl
+      go (round moves) e on = leads (afterMoves r c moves w) refl
+        where
+          leads : (o : Option (List ℤ)) → afterMoves r c moves w ≡ o → SameRun c (onward (madeOf r c moves o) done w log (λ v lines. runFrom r next c left (suc done) v lines)) (length out)
+              (goOn r next c (roundMade r next c w out (madeOf r c moves o) .answer) (roundMade r next c w out (madeOf r c moves o)) done w out (joined log) rest)
+          leads none f = stops (RunAnswer.Refused LeavesRange) done w out log refl
+          leads (some v) f =
+              let m : RoundFrom r next c w moves v = record { handed = h; comes = e; leads = f } in
+              let lines : List (List ℕ) = roundText r c moves v in
+              let n : length (overwritten (joined lines) out) ≡ length out = kept-length m out long in
+              let wrote = joined-append log lines ∙ ap (λ (l : List ℕ). joined log ++ l) (sym (take-append-seam (joined lines) (drop (length (joined lines)) out))) in
+              subst (λ (k : ℕ). SameRun c (runFrom r next c left (suc done) v (log ++ lines)) k (rest v (overwritten (joined lines) out) (joined log ++ take (length (joined lines)) (overwritten (joined lines) out)))) n
+              (subst (λ (l : List ℕ). SameRun c (runFrom r next c left (suc done) v (log ++ lines)) (length (overwritten (joined lines) out)) (rest v (overwritten (joined lines) out) l)) wrote
+              (on v (overwritten (joined lines) out) (log ++ lines) (handed-on coherent lawful m) (omega arith)))
+
+  module _ (limit : ℕ) (w : List ℤ) (out : List ℕ) where
+    -- lent what number 4 asks
+    module _ (taken : engineRefusal r next c w out ≡ none) where
+      pub same-run : SameRun c (run r next c limit w) (length out) (runCall r next c limit w out)
+      unfolding runCall
+      same-run = let (h, long) = taken-iff r next c w out .0 taken in calls-from limit 0 w out [] h long
+
+      -- the bytes of its log are cut into the plain run's lines
+      pub call-lines : linesIn (r .amountWidth) (runCall r next c limit w out .log) ≡ run r next c limit w .log
+      call-lines = ap (linesIn (r .amountWidth)) (same-run .log)
+          ∙ lines-joined (r .amountWidth) (run r next c limit w .log) (run-tallied coherent lawful limit w (taken-iff r next c w out .0 taken .0) .kept .whole)
+
+    -- for every table and every output
+    pub call-bound-lines : length (boundLines r (linesIn (r .amountWidth) (runCall r next c limit w out .log))) ≡ runCall r next c limit w out .run .rounds
+    call-bound-lines = go (engineRefusal r next c w out) refl
+      where
+        go : (o : Option Refusal) → engineRefusal r next c w out ≡ o → length (boundLines r (linesIn (r .amountWidth) (runCall r next c limit w out .log))) ≡ runCall r next c limit w out .run .rounds
+        go none e =
+            ap (λ (ls : List (List ℕ)). length (boundLines r ls)) (call-lines e)
+            ∙ run-tallied coherent lawful limit w (taken-iff r next c w out .0 e .0) .kept .counted ∙ sym (same-run e .rounds)
+        go (some x) e =
+            let q = run-refused r next c w out limit e in
+            ap (λ (u : RunCall). length (boundLines r (linesIn (r .amountWidth) (u .log)))) q
+            ∙ ap (λ (ls : List (List ℕ)). length (boundLines r ls)) (lines-joined (r .amountWidth) [] (λ l m. absurd (List·Memᴰ·not-nil m)))
+            ∙ sym (ap (λ (u : RunCall). u .run .rounds) q)
