@@ -5,3 +5,4 @@ pub mod Fall
 pub mod InRange
 pub mod Runs
 pub mod Calls
+pub mod Demand3

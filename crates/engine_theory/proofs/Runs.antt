@@ -5,7 +5,7 @@
 -- Assumes nothing.
 use mathlib.Core.Path.{_≡_, refl, sym, ap, subst, _∙_}
 use mathlib.Core.Bool.{Bool, true, false, not}
-use mathlib.Core.Logic.{_↔_, _⊎_, inl, inr, ⊎-elim}
+use mathlib.Core.Logic.{_↔_, Iff·trans, _⊎_, inl, inr, ⊎-elim}
 use mathlib.Core.Option.{Option, none, some}
 use mathlib.Core.List.{List, [], _∷_, _++_, map, List·Memᴰ·append-cases, List·Memᴰ·not-nil, Memᴰ·of-map}
 use Prim.Native.Nat.{ℕ, zero, suc, _+_, _*_, _≤_, _<_}
@@ -325,6 +325,17 @@ module _ (c : Case) (shape : Shape c) (w : List ℤ) where
       go : (n : Next) → engineNext c w ≡ n → (Settled c w → ⊥) → (moves : List Move) × (engineNext c w ≡ round moves)
       go nothing e f = absurd (f (engine-settled .0 e))
       go (round moves) e f = (moves, e)
+
+-- the engine's run from any table: settled just where it ends settled, limit just after so many rounds where it does not
+module _ (r : Rules) (c : Case) (shape : Shape c) (limit : ℕ) (w : List ℤ) where
+  pub run-settled : run r engineNext c limit w .answer ≡ RunAnswer.Settled ↔ Settled c (run r engineNext c limit w .weights)
+  run-settled = Iff·trans (ends-settled r engineNext c (run-ends r engineNext c limit w)) (engine-settled c shape (run r engineNext c limit w .weights))
+
+  pub run-limit : run r engineNext c limit w .answer ≡ RunAnswer.Limit ↔ (run r engineNext c limit w .rounds ≡ limit) × (Settled c (run r engineNext c limit w .weights) → ⊥)
+  run-limit =
+      let e = ends-limit r engineNext c (run-ends r engineNext c limit w) in
+      let f = engine-unsettled c shape (run r engineNext c limit w .weights) in
+      (λ a. let (n, moves, d) = e .0 a in (n, f .0 (moves, d)), λ (n, u). let (moves, d) = f .1 u in e .1 (n, moves, d))
 
 pub engine-free : {r : Rules} {c : Case} {w₀ : List ℤ} → Coherent r → T (valid r c w₀) → Free r engineNext c w₀ (Reached c w₀)
 engine-free {r} {c} {w₀} coherent t = record {
