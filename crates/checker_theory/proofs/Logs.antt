@@ -1,0 +1,98 @@
+-- A log as one block from a fresh record, beside the plain replay of its lines: the table, the rounds, the first refusal and its line, the end's
+-- answer, and so what the program `replay` prints. With Blocks the same holds of a log cut into blocks. Assumes nothing.
+use mathlib.Core.Path.{_≡_, refl, sym, ap, ap₂, _∙_}
+use mathlib.Core.Bool.{Bool}
+use mathlib.Core.Option.{Option, none, some}
+use mathlib.Core.List.{List, [], _∷_, map}
+use Prim.Native.Nat.{ℕ, _+_}
+use native.Mathlib.Nat.{add-zero}
+use native.Mathlib.Omega.{arith}
+use lib.IntN.{ℤ}
+use lib.Dec.{T}
+use Rattle.integers.specs.Words.{if_then_else_}
+use Rattle.definitions.specs.declared.Case.{Case}
+use Rattle.definitions.specs.declared.Refusal.{Refusal}
+use Rattle.definitions.specs.declared.Refusal.the-variants.{CutShort}
+use Rattle.definitions.specs.declared.Outcome.{Outcome}
+use Rattle.definitions.specs.Rules.{Rules, Coherent}
+use Rattle.definitions.specs.Answers.{outcomeOf}
+use Rattle.definitions.specs.Case.{upperBound}
+use Rattle.definitions.specs.Valid.{valid}
+use Rattle.definitions.specs.Lines.{linesIn, hasPart}
+use Rattle.definitions.specs.Replay.{State, fresh, step, after, answers, atEnd}
+use Rattle.definitions.specs.Checker.{BlockCall, freshReplay, takenLines, firstRefused, endReplay, blockReplay}
+use Rattle.definitions.specs.Programs.{refusedText, acceptedText, verdict, replayLog}
+use Rattle.theory.proofs.Replays.{after-stands}
+use Rattle.checker_theory.proofs.Accepts.{ReplayFold, replay-fold}
+
+-- what is printed of a log whose lines, but for those taken, begin at `at`: the first refusal, else the end's, else 14 where a part line is left
+abbrev pub logText : ℕ → Outcome → Outcome → Bool → List ℕ → List ℕ
+logText at (Outcome.Refused x) end part accepted = refusedText x at
+logText at Outcome.Done (Outcome.Refused x) part accepted = refusedText x at
+logText at Outcome.Done Outcome.Done part accepted = if part then refusedText CutShort at else accepted
+
+verdict-text : (r : Rules) (at : ℕ) (os : List (Option Refusal)) (end : Option Refusal) (part : Bool) (accepted : List ℕ)
+    → verdict r at os end part accepted ≡ logText (at + takenLines (map outcomeOf os)) (firstRefused (map outcomeOf os)) (outcomeOf end) part accepted
+verdict-text r at [] none part accepted = ap (λ (n : ℕ). if part then refusedText CutShort n else accepted) (sym (add-zero at))
+verdict-text r at [] (some x) part accepted = ap (refusedText x) (sym (add-zero at))
+verdict-text r at (none ∷ os) end part accepted =
+    verdict-text r (at + 1) os end part accepted
+    ∙ ap (λ (n : ℕ). logText n (firstRefused (map outcomeOf os)) (outcomeOf end) part accepted) (omega arith)
+verdict-text r at (some x ∷ os) end part accepted = ap (refusedText x) (sym (add-zero at))
+
+first-number : (r : Rules) (s : State) → s .refusal ≡ none → (ts : List (List ℕ)) → firstRefused (map outcomeOf (answers r s ts)) ≡ outcomeOf (after r s ts .refusal)
+first-number r s e [] = rw e
+first-number r s e (t ∷ ts) = go (step r s t .refusal) refl (λ f. first-number r (step r s t) f ts)
+  where
+    go : (o : Option Refusal) → step r s t .refusal ≡ o → (step r s t .refusal ≡ none → firstRefused (map outcomeOf (answers r (step r s t) ts)) ≡ outcomeOf (after r (step r s t) ts .refusal))
+        → firstRefused (outcomeOf o ∷ map outcomeOf (answers r (step r s t) ts)) ≡ outcomeOf (after r (step r s t) ts .refusal)
+    go none f i = i f
+    go (some x) f i = sym (ap outcomeOf (ap (λ (u : State). u .refusal) (after-stands r (step r s t) f ts) ∙ f))
+
+-- the log as a block, and the plain replay's state after its lines
+module _ (r : Rules) (c : Case) (w : List ℤ) (log : List ℕ) where
+  abbrev pub logBlock : BlockCall
+  logBlock = blockReplay r c w (freshReplay r c w) log
+
+  abbrev pub logState : State
+  logState = after r (fresh c w) (linesIn (r .amountWidth) log)
+
+module _ {r : Rules} (coherent : Coherent r) (c : Case) (w : List ℤ) (t : T (valid r c w)) (log : List ℕ) where
+  abbrev fold : ReplayFold r c w
+  fold = replay-fold coherent c w t
+
+  abbrev lines : List (List ℕ)
+  lines = linesIn (r .amountWidth) log
+
+  pub log-table : logBlock r c w log .table ≡ logState r c w log .weights
+  unfolding blockReplay
+  log-table = fold .weights lines
+
+  pub log-rounds : logBlock r c w log .block .replay .rounds ≡ logState r c w log .rounds
+  unfolding blockReplay
+  log-rounds = fold .rounds lines
+
+  pub log-answer : logBlock r c w log .block .answer ≡ outcomeOf (logState r c w log .refusal)
+  unfolding blockReplay
+  log-answer = ap firstRefused (fold .each-answer lines) ∙ first-number r (fresh c w) refl lines
+
+  pub log-lines : logBlock r c w log .block .lines ≡ takenLines (map outcomeOf (answers r (fresh c w) lines))
+  unfolding blockReplay
+  log-lines = ap takenLines (fold .each-answer lines)
+
+  pub log-end : endReplay r c (logBlock r c w log .block .replay) ≡ outcomeOf (atEnd (logState r c w log))
+  unfolding blockReplay
+  log-end = fold .end-answer lines
+
+  -- what the program prints of a log that begins at line `at`
+  pub log-printed : (at : ℕ) → replayLog r c w at log
+      ≡ logText (at + logBlock r c w log .block .lines) (logBlock r c w log .block .answer) (endReplay r c (logBlock r c w log .block .replay)) (hasPart (r .amountWidth) log)
+      (acceptedText (logBlock r c w log .block .replay .rounds) (upperBound c (logBlock r c w log .table)))
+  unfolding blockReplay
+  log-printed at =
+      verdict-text r at (answers r (fresh c w) lines) (atEnd (logState r c w log)) (hasPart (r .amountWidth) log) (acceptedText (logState r c w log .rounds) (upperBound c (logState r c w log .weights)))
+      ∙ sym (ap₂ (λ (os : List Outcome) (end : Outcome). text os end (logBlock r c w log .block .replay .rounds) (logBlock r c w log .table)) (fold .each-answer lines) log-end
+      ∙ ap₂ (text (map outcomeOf (answers r (fresh c w) lines)) (outcomeOf (atEnd (logState r c w log)))) log-rounds log-table)
+    where
+      text : List Outcome → Outcome → ℕ → List ℤ → List ℕ
+      text os end rounds table = logText (at + takenLines os) (firstRefused os) end (hasPart (r .amountWidth) log) (acceptedText rounds (upperBound c table))

@@ -1,0 +1,1 @@
+// Laws of the replay's definitions: see proofs/. There is no code here.
