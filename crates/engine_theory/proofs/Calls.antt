@@ -56,13 +56,13 @@ module _ (r : Rules) (next : Case → List ℤ → Next) (c : Case) (w : List �
         λ (p, q). n .0 (h .1 (p, simp tests (omega arith), tt)),
       )
 
-  pub round-taken : engineRefusal r next c w out ≡ none → roundCall r next c w out ≡ roundMade r next c w out (makeNext r c w (next c w))
+  pub call-taken : engineRefusal r next c w out ≡ none → roundCall r next c w out ≡ roundMade r next c w out (makeNext r c w (next c w))
   unfolding roundCall
-  round-taken e = rw (e, roundCall)
+  call-taken e = rw (e, roundCall)
 
-  pub round-refused : {x : Refusal} → engineRefusal r next c w out ≡ some x → roundCall r next c w out ≡ roundMade r next c w out (refused x)
+  pub call-refused : {x : Refusal} → engineRefusal r next c w out ≡ some x → roundCall r next c w out ≡ roundMade r next c w out (refused x)
   unfolding roundCall
-  round-refused e = rw (e, roundCall)
+  call-refused e = rw (e, roundCall)
 
   -- settled or refused, table and output keep what they held
   pub unmade-keeps : ((bytes : ℕ) (bound : ℤ) → roundCall r next c w out .answer ≡ Round.Made bytes bound → ⊥) → (roundCall r next c w out .table ≡ w) × (roundCall r next c w out .out ≡ out)
@@ -74,16 +74,16 @@ module _ (r : Rules) (next : Case → List ℤ → Next) (c : Case) (w : List �
       keeps (made v lines) e = absurd (unmade _ _ (ap (λ (u : RoundCall). u .answer) e))
 
       asked : (o : Option Refusal) → engineRefusal r next c w out ≡ o → (roundCall r next c w out .table ≡ w) × (roundCall r next c w out .out ≡ out)
-      asked none e = keeps (makeNext r c w (next c w)) (round-taken e)
-      asked (some x) e = keeps (refused x) (round-refused e)
+      asked none e = keeps (makeNext r c w (next c w)) (call-taken e)
+      asked (some x) e = keeps (refused x) (call-refused e)
 
   -- refused before its first round, a run is refused so, with no rounds
   pub run-refused : (limit : ℕ) {x : Refusal} → engineRefusal r next c w out ≡ some x → runCall r next c limit w out ≡ stopRun r next c (RunAnswer.Refused x) 0 w out []
   unfolding runCall
   run-refused zero {x} e =
-      ap (λ (u : RoundCall). stopRun r next c (answerAtLimit (u .answer)) 0 w out []) (round-refused e)
+      ap (λ (u : RoundCall). stopRun r next c (answerAtLimit (u .answer)) 0 w out []) (call-refused e)
       ∙ ap (λ (a : RunAnswer). stopRun r next c a 0 w out []) (if-false RunAnswer.Limit (RunAnswer.Refused x) (isLeaving x) (not-leaving (handedOver r (workingWeight r) c w (ltb (length out) (roundBytes r c)) false) tt e))
-  run-refused (suc limit) e = ap (λ (u : RoundCall). goOn r next c (u .answer) u 0 w out [] (λ v bytes log. runCallFrom r next c limit 1 v bytes log)) (round-refused e)
+  run-refused (suc limit) e = ap (λ (u : RoundCall). goOn r next c (u .answer) u 0 w out [] (λ v bytes log. runCallFrom r next c limit 1 v bytes log)) (call-refused e)
 
 -- ---- a run's call is the plain run
 
@@ -118,7 +118,7 @@ module _ {r : Rules} {next : Case → List ℤ → Next} {c : Case} (coherent : 
       → SameRun c (runFrom r next c left done w log) (length out) (runCallFrom r next c left done w out (joined log))
   calls-from zero done w out log h long =
       subst (λ (u : RoundCall). SameRun c (stopped (atLimit (next c w)) done w log) (length out) (stopRun r next c (answerAtLimit (u .answer)) done w out (joined log)))
-      (sym (round-taken r next c w out (taken-iff r next c w out .1 (h, long)))) (go (next c w))
+      (sym (call-taken r next c w out (taken-iff r next c w out .1 (h, long)))) (go (next c w))
     where
       go : (n : Next) → SameRun c (stopped (atLimit n) done w log) (length out) (stopRun r next c (answerAtLimit (roundMade r next c w out (makeNext r c w n) .answer)) done w out (joined log))
       go nothing = stops RunAnswer.Settled done w out log refl
@@ -129,7 +129,7 @@ module _ {r : Rules} {next : Case → List ℤ → Next} {c : Case} (coherent : 
           leads (some v) = stops RunAnswer.Limit done w out log refl
   calls-from (suc left) done w out log h long =
       subst (λ (u : RoundCall). SameRun c (runFrom r next c (suc left) done w log) (length out) (goOn r next c (u .answer) u done w out (joined log) rest))
-      (sym (round-taken r next c w out (taken-iff r next c w out .1 (h, long)))) (go (next c w) refl (λ v out log. calls-from left (suc done) v out log))
+      (sym (call-taken r next c w out (taken-iff r next c w out .1 (h, long)))) (go (next c w) refl (λ v out log. calls-from left (suc done) v out log))
     where
       rest : List ℤ → List ℕ → List ℕ → RunCall
       rest v bytes log = runCallFrom r next c left (suc done) v bytes log

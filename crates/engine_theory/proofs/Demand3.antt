@@ -43,7 +43,7 @@ pub record LinesTrusted (r : Rules) (c : Case) (w : List ℤ) (ts : List (List �
   -- "and the rounds number no more than the starting ceiling minus any plan's starting total" (L6)
   pub rounds-few : (p : List ℕ) → T (isAssignment c p) → (pos (s .rounds) +ℤ objective c w p) ≤ℤ upperBound c w
 
--- "For every limit": u is the engine's run on a table of the starting weights and an output of so many bytes, which is what number 4 asks
+-- "For every limit": u is the engine's run on a table of the starting weights and an output of so many bytes
 pub record RunTrusted (r : Rules) (c : Case) (w : List ℤ) (limit room : ℕ) (u : RunCall) : Type 0 where
   -- "a run from the starting weights makes the rounds and gives the answer of document 01's run" (L7)
   pub same : SameRun c (run r engineNext c limit w) room u
@@ -65,6 +65,7 @@ pub record RunTrusted (r : Rules) (c : Case) (w : List ℤ) (limit room : ℕ) (
 
 pub record PlainDemand3 (r : Rules) (c : Case) (w : List ℤ) : Type 0 where
   pub any-lines : (ts : List (List ℕ)) → LinesTrusted r c w ts (after r (fresh c w) ts)
+  -- "In demand 3 a run is lent what number 4 asks" (document 01)
   pub any-run : (limit : ℕ) (out : List ℕ) → roundBytes r c ≤ length out → RunTrusted r c w limit (length out) (runCall r engineNext c limit w out)
 
 module _ {r : Rules} (coherent : Coherent r) (kinds : MoveKinds r) (enough : RoundsEnough r) (c : Case) (w : List ℤ) (t : T (valid r c w)) where

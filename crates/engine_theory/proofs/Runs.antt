@@ -255,24 +255,31 @@ pub record Free (r : Rules) (next : Case → List ℤ → Next) (c : Case) (w₀
 
 module _ {r : Rules} {next : Case → List ℤ → Next} {c : Case} (coherent : Coherent r) (kinds : MoveKinds r) (enough : RoundsEnough r)
     (lawful : Lawful r next c) (w₀ : List ℤ) (t : T (valid r c w₀)) where
+  module _ {done : ℕ} {w : List ℤ} {log : List (List ℕ)} (p : Replayed r c w₀ done w log) where
+    replayed-handed : Handed r (workingWeight r) c w
+    replayed-handed = subst (λ (u : State). Handed r (workingWeight r) c (u .weights)) (p .leads) (handed-after r c w₀ t log coherent)
+
+    -- moves alone, before their bound line, lower no first objective
+    moves-above : {v : List ℤ} {moves : List Move} → AllAllowed r c w moves v → (x : List ℕ) → T (isAssignment c x) → objective c w₀ x ≤ℤ upperBound c v
+    moves-above {v} {moves} a x g =
+        let lines : List (List ℕ) = map (lineText (r .amountWidth)) (joined (map moveLines moves)) in
+        subst (λ (u : State). objective c w₀ x ≤ℤ upperBound c (u .weights))
+        (after-append r (fresh c w₀) log lines ∙ ap (λ (u : State). after r u lines) (p .leads) ∙ moves-taken coherent kinds (between c w₀ done w) refl refl replayed-handed a)
+        (bound-sound r c w₀ t (log ++ lines) x g)
+
   replayed-on : (done : ℕ) (w v : List ℤ) (log : List (List ℕ)) (moves : List Move) → Replayed r c w₀ done w log → next c w ≡ round moves → afterMoves r c moves w ≡ some v
       → Replayed r c w₀ (suc done) v (log ++ roundText r c moves v)
   replayed-on done w v log moves p e f =
-      let s : State = between c w₀ done w in
-      let h : Handed r (workingWeight r) c w = subst (λ (u : State). Handed r (workingWeight r) c (u .weights)) (p .leads) (handed-after r c w₀ t log coherent) in
+      let h = replayed-handed p in
       let m : RoundFrom r next c w moves v = record { handed = h; comes = e; leads = f } in
-      let a : AllAllowed r c w moves v = lawful .allowed m in
-      let lines : List (List ℕ) = map (lineText (r .amountWidth)) (joined (map moveLines moves)) in
-      let q = after-append r (fresh c w₀) log lines ∙ ap (λ (u : State). after r u lines) (p .leads) ∙ moves-taken coherent kinds s refl refl h a in
-      let above : (x : List ℕ) → T (isAssignment c x) → objective c w₀ x ≤ℤ upperBound c v
-      = λ x g. subst (λ (u : State). objective c w₀ x ≤ℤ upperBound c (u .weights)) q (bound-sound r c w₀ t (log ++ lines) x g) in
-      let o : scopeCount c ≤ scopesAtMost r = omega (arith, h .variables-most, h .edges-most) in
-      let (few, fallen) = few-rounds done (2 * (scopeCount c * r .starting)) (r .rounds) (upperBound c w₀) (upperBound c w) (upperBound c v) (p .fallen) (lawful .lower m)
-      (bound-spread coherent (valid-facts r c w₀ t) (upperBound c v) above) (omega (arith, mul-le-mul-right (r .starting) o)) in
+      let a = lawful .allowed m in
+      let spread = bound-spread coherent (valid-facts r c w₀ t) (upperBound c v) (moves-above p a) in
+      let most = mul-le-mul-right {m = scopeCount c} {n = scopesAtMost r} (r .starting) (omega (arith, h .variables-most, h .edges-most)) in
+      let (few, fallen) = few-rounds done _ (r .rounds) (upperBound c w₀) (upperBound c w) (upperBound c v) (p .fallen) (lawful .lower m) spread (omega arith) in
       record {
         leads =
             after-append r (fresh c w₀) log (roundText r c moves v) ∙ ap (λ (u : State). after r u (roundText r c moves v)) (p .leads)
-            ∙ round-taken coherent kinds s refl refl h a few (lawful .lower m) ∙ ap (λ (n : ℕ). between c w₀ n v) (omega arith);
+            ∙ round-taken coherent kinds (between c w₀ done w) refl refl h a few (lawful .lower m) ∙ ap (λ (n : ℕ). between c w₀ n v) (omega arith);
         fallen = fallen;
       }
 
