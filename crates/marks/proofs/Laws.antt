@@ -1,5 +1,5 @@
 -- Laws of marks. Those of a single byte are tests that antt computes over all of them. Assumes nothing.
-use mathlib.Core.Path.{_≡_, refl, sym, ap, ap₂, _∙_}
+use mathlib.Core.Path.{_≡_, refl, sym, ap, ap₂, subst, _∙_}
 use mathlib.Core.Bool.{Bool, true, false, not, _&&_}
 use mathlib.Core.Logic.{⊎-elim}
 use Prim.Native.Nat.{ℕ, zero, suc, _+_, _-_, _*_, _/_, _%_, _^_, _<_, _≤_}
@@ -54,6 +54,19 @@ unfolding bitsOf
 bits-cong zero h = refl
 bits-cong (suc n) h = ap₂ (λ (b : Bool) (x : ℕ). (if b then 1 else 0) + 2 * x) (h 0 (omega arith)) (bits-cong n (λ k l. h (suc k) (omega arith)))
 
+bits-mono : (f g : ℕ → Bool) (n : ℕ) → ((k : ℕ) → k < n → T (f k) → T (g k)) → bitsOf n f ≤ bitsOf n g
+unfolding bitsOf
+bits-mono f g zero h = omega arith
+bits-mono f g (suc n) h =
+    let r = bits-mono (λ k. f (suc k)) (λ k. g (suc k)) n (λ k l. h (suc k) (omega arith)) in
+    let q = first-mono (f 0) (g 0) (h 0 (omega arith)) in
+    omega arith
+  where
+    first-mono : (a b : Bool) → (T a → T b) → (if a then 1 else 0) ≤ (if b then 1 else 0)
+    first-mono true true i = omega arith
+    first-mono true false i = absurd (i tt)
+    first-mono false b i = omega arith
+
 odd : (s : ℕ) → (if eqb (s % 2) 1 then 1 else 0) ≡ s % 2
 odd s = if-cases (λ (x : ℕ). x ≡ s % 2) (eqb (s % 2) 1) 1 0 (λ t. sym (eqb→eq (s % 2) 1 t))
     (λ t. let n : s % 2 ≡ 1 → ⊥ = λ e. T-not (eqb (s % 2) 1) t (eqb-iff (s % 2) 1 .1 e) in omega arith)
@@ -83,6 +96,11 @@ byteOf-mark s h = bits-mark 8 s h
 pub byteOf-cong : {f g : ℕ → Bool} → ((k : ℕ) → k < 8 → f k ≡ g k) → byteOf f ≡ byteOf g
 unfolding byteOf
 byteOf-cong h = bits-cong 8 h
+
+-- a set in which only values of s are is a byte of at most s
+pub byte-less : (s : ℕ) (f : ℕ → Bool) → s < 256 → ((k : ℕ) → k < 8 → T (f k) → T (mark s k)) → byteOf f ≤ s
+unfolding byteOf
+byte-less s f h i = subst (λ (x : ℕ). bitsOf 8 f ≤ x) (bits-mark 8 s h) (bits-mono f (mark s) 8 i)
 
 pub mark-high : (s k : ℕ) → s < 256 → 8 ≤ k → mark s k ≡ false
 unfolding mark
