@@ -1,0 +1,32 @@
+-- `consistency::narrow` meets its contract. Assumes nothing.
+use mathlib.Core.Path.{sym, _∙_}
+use denote.Ref.{now}
+use Rattle.consistency.proofs.Results.{some-empty, none-empty}
+use borrow.Author.Needs.{needs}
+use Rattle.consistency.proofs.narrow.Statement.{statement}
+use Rattle.consistency.proofs.narrow.Tie as tie
+
+has-empty-requires : tie.Need-has-empty-requires
+has-empty-requires c κs = search needs
+
+same-length : tie.Need-same-length
+same-length c = search needs
+
+returns : tie.Need-returns
+returns c =
+    let s = c .before .before .before .before .before .before .before .before .args in
+    some-empty (now (s .sets)) (sym (c .before .has-empty .ensures) ∙ c .if1 .taken) (now (s .lower)) (now (s .upper)) (now (s .rows)) (now (s .raised))
+
+settle-requires : tie.Need-settle-requires
+settle-requires c κs = (c .before .before .before .before .before .before .before .before .before .pre, none-empty (now (c .before .before .before .before .before .before .before .before .before .args .sets)) (sym (c .before .before .has-empty .ensures) ∙ c .before .if1 .left))
+
+same-length-2 : tie.Need-same-length-2
+same-length-2 c = search needs
+
+returns-2 : tie.Need-returns-2
+returns-2 c = search needs
+
+pub narrow-spec : {M : Type 1} → statement M
+narrow-spec =
+    tie.close
+    (tie.spec has-empty-requires same-length returns settle-requires same-length-2 returns-2)

@@ -1,0 +1,42 @@
+-- `consistency::revise` meets its contract. Assumes nothing.
+use mathlib.Core.Path.{ap, _∙_}
+use lib.ListN.{getD, set}
+use Rattle.consistency.specs.Sweeps.{changeOf}
+use borrow.Author.Needs.{needs}
+use Rattle.consistency.proofs.revise.Statement.{statement}
+use Rattle.consistency.proofs.revise.Tie as tie
+
+slice-read-own : tie.Need-slice-read-own
+slice-read-own c = search needs
+
+slice-read-supported : tie.Need-slice-read-supported
+slice-read-supported c = search needs
+
+supported-requires : tie.Need-supported-requires
+supported-requires c κs = search needs
+
+slice-write-sets : tie.Need-slice-write-sets
+slice-write-sets c = search needs
+
+change-of-requires : tie.Need-change-of-requires
+change-of-requires c κs = search needs
+
+same-length : tie.Need-same-length
+same-length c = search needs
+
+returns : tie.Need-returns
+returns c =
+    let s = c .before .before .before .before .before .before .args in
+    (ap (set (s .sets .now) (s .i)) (c .before .supported .ensures), c .change-of .ensures ∙ ap (changeOf (getD (s .sets .now) (s .i) 0)) (c .before .supported .ensures))
+
+pub revise-spec : {M : Type 1} → statement M
+revise-spec =
+    tie.close
+    (tie.spec
+    slice-read-own
+    slice-read-supported
+    supported-requires
+    slice-write-sets
+    change-of-requires
+    same-length
+    returns)

@@ -1,0 +1,87 @@
+-- `consistency::sweep` meets its contract. Assumes nothing.
+use Prim.Native.Nat.{_+_, _-_, _≤_, _<_}
+use native.Mathlib.Omega.{arith}
+use lib.ListN.{length}
+use denote.Ref.{now}
+use Rattle.consistency.specs.Closure.{networkOfBytes}
+use Rattle.consistency.specs.Sweeps.{Swept}
+use Rattle.consistency.proofs.Steps.{swept-none, swept-of, swept-more, swept-emptied, well-same}
+use Rattle.consistency.proofs.sweep.Statement.{statement}
+use Rattle.consistency.proofs.sweep.Tie as tie
+
+abbrev Inv-loop : tie.InvT-loop
+Inv-loop lower upper rows raised sets₀ change₀ e₀ sets change e = (e ≤ length raised) × Swept (networkOfBytes (length sets₀) lower upper rows raised) (λ f up. f < e) sets₀ sets change
+
+abbrev μ-loop : tie.MeasureT-loop
+μ-loop lower upper rows raised sets₀ change₀ e₀ sets change e = length raised - e
+
+-- after one edge more
+swept : (c : tie.After-both Inv-loop μ-loop)
+    → Swept
+    (networkOfBytes (length (now (c .before .before .before .before .before .before .before .before .before .before .before .before .args .sets)))
+    (now (c .before .before .before .before .before .before .before .before .before .before .before .before .args .lower))
+    (now (c .before .before .before .before .before .before .before .before .before .before .before .before .args .upper))
+    (now (c .before .before .before .before .before .before .before .before .before .before .before .before .args .rows))
+    (now (c .before .before .before .before .before .before .before .before .before .before .before .before .args .raised)))
+    (λ f up. f < c .before .before .before .before .before .before .loop .e + 1)
+    (now (c .before .before .before .before .before .before .before .before .before .before .before .before .args .sets))
+    (c .before .before .before .revise-edge .last .1 .1 .1 .1 .1 .0)
+    (c .both .result)
+swept c =
+    let s = c .before .before .before .before .before .before .before .before .before .before .before .before .args in
+    let l = c .before .before .before .before .before .before .loop in
+    swept-more (now (s .lower)) (now (s .upper)) (now (s .rows)) (now (s .raised)) (now (s .sets)) (l .sets) _ _ _ _ _ (l .inv .1) (c .before .before .before .revise-edge .ensures) (c .both .ensures)
+
+loop-holds : tie.Need-loop-holds Inv-loop μ-loop
+loop-holds c = (omega arith, swept-none _ _)
+
+revise-edge-requires : tie.Need-revise-edge-requires Inv-loop μ-loop
+revise-edge-requires c κs =
+    let s = c .before .before .before .before .before .before .before .before in
+    let l = c .before .before .loop in
+    (well-same _ _ _ _ (now (s .args .sets)) (l .sets) (l .inv .1 .fewer .same-length) (s .pre), c .before .loop-test .taken)
+
+both-requires : tie.Need-both-requires Inv-loop μ-loop
+both-requires c κs = tt
+
+enum-told : tie.Need-enum-told Inv-loop μ-loop
+enum-told c = c .match .keys1
+
+same-length : tie.Need-same-length Inv-loop μ-loop
+same-length c = swept (c .before .before) .fewer .same-length
+
+returns : tie.Need-returns Inv-loop μ-loop
+returns c = swept-emptied _ _ _ _ _ _ (c .enum-told .given .1) (swept (c .before .before))
+
+add-e : tie.Need-add-e Inv-loop μ-loop
+add-e c = omega (arith, c .before .before .before .before .before .before .loop-test .taken, c .before .before .before .before .before .before .before .before .before .before .before .before .before .good)
+
+loop-less : tie.Need-loop-less Inv-loop μ-loop
+loop-less c = omega (arith, c .before .before .before .before .before .before .loop-test .taken)
+
+loop-again : tie.Need-loop-again Inv-loop μ-loop
+loop-again c = (omega (arith, c .before .before .before .before .before .before .loop-test .taken), swept (c .before))
+
+same-length-2 : tie.Need-same-length-2 Inv-loop μ-loop
+same-length-2 c = c .before .loop .inv .1 .fewer .same-length
+
+returns-2 : tie.Need-returns-2 Inv-loop μ-loop
+returns-2 c = swept-of _ _ _ (λ f up h. omega (arith, c .loop-test .left)) _ _ _ (c .before .loop .inv .1)
+
+pub sweep-spec : {M : Type 1} → statement M
+sweep-spec =
+    tie.close
+    (tie.spec
+    Inv-loop
+    μ-loop
+    loop-holds
+    revise-edge-requires
+    both-requires
+    enum-told
+    same-length
+    returns
+    add-e
+    loop-less
+    loop-again
+    same-length-2
+    returns-2)

@@ -1,0 +1,4 @@
+-- What the functions answer, and what the inner ones may take as known.
+pub mod Partners
+pub mod Closure
+pub mod Sweeps

@@ -1,0 +1,262 @@
+// Refutation by arc consistency (document 01, "Refutation").
+ghost use mathlib.Core.Path.{_≡_};
+ghost use mathlib.Core.Bool.{not, _&&_};
+ghost use Prim.Native.Nat.{_+_, _≤_, _<_};
+ghost use lib.Dec.{ltb, eqb};
+ghost use lib.ListN.{length, getD, set, replicate};
+ghost use Rattle.integers.specs.Words.{below, any};
+ghost use Rattle.consistency.specs.Partners.{lowestPartner, supportedValues};
+ghost use Rattle.consistency.specs.Closure.{networkOfBytes, setsOf, endOutside, isMalformed, closureAnswer, closureSets};
+ghost use Rattle.consistency.specs.Sweeps.{WellFormed, Filled, Swept, Settled, changeOf, bothOf, keptOf};
+
+pub enum Partner {
+    At(u8),
+    Nothing,
+}
+
+// What is left of the given sets: a supported family, or none.
+pub enum Closed {
+    Family,
+    Empty,
+    Malformed,
+}
+
+// ---- the search for partners
+
+// The lowest value of both: `row` holds a value's partners, `other` is the other end's set.
+pub fn lowest_partner(row: u8, other: u8) -> Partner
+    ensures { λ r. ⌜ r ≡ lowestPartner row other ⌝ }
+{
+    let mut left = row;
+    let found = 'partners: loop {
+        if left == 0 {
+            break 'partners Partner::Nothing;
+        }
+        let l = marks::lowest(left);
+        if marks::has(other, l) {
+            break 'partners Partner::At(l);
+        }
+        left = marks::strike(left, l);
+    };
+    found
+}
+
+// The values of `set` that have a partner in `other`. The partners of value k stand at rows[at + k].
+fn supported(rows: &[u8], at: usize, set: u8, other: u8) -> u8
+    requires { ⌜ at + 8 ≤ length (now rows) ⌝ }
+    ensures { λ r. ⌜ r ≡ supportedValues (now (rows .entry)) at set other ⌝ }
+{
+    let mut kept = set;
+    let mut left = set;
+    'values: while left != 0 {
+        let k = marks::lowest(left);
+        left = marks::strike(left, k);
+        let mut rest = rows[at + k as usize];
+        let found = 'partners: loop {
+            if rest == 0 {
+                break 'partners Partner::Nothing;
+            }
+            let l = marks::lowest(rest);
+            if marks::has(other, l) {
+                break 'partners Partner::At(l);
+            }
+            rest = marks::strike(rest, l);
+        };
+        if let Partner::Nothing = found {
+            kept = marks::strike(kept, k);
+        }
+    }
+    kept
+}
+
+// ---- the closure
+
+// What was done to the sets: nothing, a value was struck, a set is empty.
+enum Change {
+    Still,
+    Struck,
+    Emptied,
+}
+
+fn change_of(own: u8, kept: u8) -> Change
+    ensures { λ r. ⌜ r ≡ changeOf own kept ⌝ }
+{
+    if kept == 0 {
+        return Change::Emptied;
+    }
+    if kept == own {
+        return Change::Still;
+    }
+    Change::Struck
+}
+
+fn both(first: Change, second: Change) -> Change
+    ensures { λ r. ⌜ r ≡ bothOf first second ⌝ }
+{
+    match first {
+        Change::Emptied => Change::Emptied,
+        Change::Still => second,
+        Change::Struck => match second {
+            Change::Emptied => Change::Emptied,
+            Change::Still => Change::Struck,
+            Change::Struck => Change::Struck,
+        },
+    }
+}
+
+// Strikes the values of variable i that have no partner in variable j's set.
+fn revise(rows: &[u8], at: usize, sets: &mut [u8], i: usize, j: usize) -> Change
+    requires { ⌜ (at + 8 ≤ length (now rows)) × (i < length (now sets)) × (j < length (now sets)) ⌝ }
+    ensures { λ r. ⌜ now (sets .exit) ≡ set (now (sets .entry)) i (keptOf (now (rows .entry)) at i j (now (sets .entry))) ⌝ }
+    ensures { λ r. ⌜ r ≡ changeOf (getD (now (sets .entry)) i 0) (keptOf (now (rows .entry)) at i j (now (sets .entry))) ⌝ }
+{
+    let own = sets[i];
+    let kept = supported(rows, at, own, sets[j]);
+    sets[i] = kept;
+    change_of(own, kept)
+}
+
+// Both ends of edge e, if it is raised.
+fn revise_edge(
+    lower: &[u8],
+    upper: &[u8],
+    rows: &[u8],
+    raised: &[u8],
+    e: usize,
+    sets: &mut [u8],
+) -> Change
+    requires { ⌜ WellFormed (length (now sets)) (now lower) (now upper) (now rows) (now raised) ⌝ }
+    requires { ⌜ e < length (now raised) ⌝ }
+    ensures { λ r. ⌜ Swept (networkOfBytes (length (now (sets .entry))) (now (lower .entry)) (now (upper .entry)) (now (rows .entry)) (now (raised .entry))) (λ f up. f ≡ e) (now (sets .entry)) (now (sets .exit)) r ⌝ }
+{
+    if raised[e] == 0 {
+        return Change::Still;
+    }
+    let i = lower[e] as usize;
+    let j = upper[e] as usize;
+    let first = revise(rows, 16 * e, sets, i, j);
+    let second = revise(rows, 16 * e + 8, sets, j, i);
+    both(first, second)
+}
+
+// All edges once, or up to the first set that is empty.
+fn sweep(lower: &[u8], upper: &[u8], rows: &[u8], raised: &[u8], sets: &mut [u8]) -> Change
+    requires { ⌜ WellFormed (length (now sets)) (now lower) (now upper) (now rows) (now raised) ⌝ }
+    ensures { λ r. ⌜ Swept (networkOfBytes (length (now (sets .entry))) (now (lower .entry)) (now (upper .entry)) (now (rows .entry)) (now (raised .entry))) (λ f up. f < length (now (raised .entry))) (now (sets .entry)) (now (sets .exit)) r ⌝ }
+{
+    let mut change = Change::Still;
+    let mut e: usize = 0;
+    while e < raised.len() {
+        let next = revise_edge(lower, upper, rows, raised, e, sets);
+        change = both(change, next);
+        if let Change::Emptied = change {
+            return Change::Emptied;
+        }
+        e += 1;
+    }
+    change
+}
+
+// Sweeps until nothing changes or a set is empty. Whether a family is left.
+fn settle(lower: &[u8], upper: &[u8], rows: &[u8], raised: &[u8], sets: &mut [u8]) -> bool
+    requires { ⌜ WellFormed (length (now sets)) (now lower) (now upper) (now rows) (now raised) ⌝ }
+    requires { ⌜ Filled (now sets) ⌝ }
+    ensures { λ r. ⌜ Settled (networkOfBytes (length (now (sets .entry))) (now (lower .entry)) (now (upper .entry)) (now (rows .entry)) (now (raised .entry))) (setsOf (now (sets .entry))) (now (sets .exit)) r ⌝ }
+{
+    loop {
+        let change = sweep(lower, upper, rows, raised, sets);
+        match change {
+            Change::Still => return true,
+            Change::Emptied => return false,
+            Change::Struck => {}
+        }
+    }
+}
+
+fn has_empty(sets: &[u8]) -> bool
+    ensures { λ r. ⌜ r ≡ any (λ s. eqb s 0) (now (sets .entry)) ⌝ }
+{
+    let mut j: usize = 0;
+    while j < sets.len() {
+        if sets[j] == 0 {
+            return true;
+        }
+        j += 1;
+    }
+    false
+}
+
+fn narrow(lower: &[u8], upper: &[u8], rows: &[u8], raised: &[u8], sets: &mut [u8]) -> bool
+    requires { ⌜ WellFormed (length (now sets)) (now lower) (now upper) (now rows) (now raised) ⌝ }
+    ensures { λ r. ⌜ Settled (networkOfBytes (length (now (sets .entry))) (now (lower .entry)) (now (upper .entry)) (now (rows .entry)) (now (raised .entry))) (setsOf (now (sets .entry))) (now (sets .exit)) r ⌝ }
+{
+    if has_empty(sets) {
+        return false;
+    }
+    settle(lower, upper, rows, raised, sets)
+}
+
+fn clear(sets: &mut [u8])
+    ensures { λ r. ⌜ now (sets .exit) ≡ replicate (length (now (sets .entry))) 0 ⌝ }
+{
+    let mut j: usize = 0;
+    while j < sets.len() {
+        sets[j] = 0;
+        j += 1;
+    }
+}
+
+fn end_outside(i: u8, j: u8, n: usize) -> bool
+    ensures { λ r. ⌜ r ≡ not (ltb i n && ltb j n) ⌝ }
+{
+    if (i as usize) < n {
+        return !((j as usize) < n);
+    }
+    true
+}
+
+fn some_end_outside(lower: &[u8], upper: &[u8], edges: usize, n: usize) -> bool
+    requires { ⌜ (edges ≤ length (now lower)) × (edges ≤ length (now upper)) ⌝ }
+    ensures { λ r. ⌜ r ≡ any (endOutside n (now (lower .entry)) (now (upper .entry))) (below edges) ⌝ }
+{
+    let mut e: usize = 0;
+    while e < edges {
+        if end_outside(lower[e], upper[e], n) {
+            return true;
+        }
+        e += 1;
+    }
+    false
+}
+
+fn is_malformed(lower: &[u8], upper: &[u8], rows: &[u8], raised: &[u8], n: usize) -> bool
+    ensures { λ r. ⌜ r ≡ isMalformed n (now (lower .entry)) (now (upper .entry)) (now (rows .entry)) (now (raised .entry)) ⌝ }
+{
+    let edges = raised.len();
+    if lower.len() < edges {
+        return true;
+    }
+    if upper.len() < edges {
+        return true;
+    }
+    if rows.len() / 16 < edges {
+        return true;
+    }
+    some_end_outside(lower, upper, edges, n)
+}
+
+// Takes `sets` to the largest supported family inside them. There are raised.len() edges; edge e joins lower[e] and upper[e]. The 16 bytes
+// from rows[16 * e] on are the partners of each value of the lower end, then of the upper end; an edge whose byte is 0 allows everything.
+pub fn closure(lower: &[u8], upper: &[u8], rows: &[u8], raised: &[u8], sets: &mut [u8]) -> Closed
+    ensures { λ r. ⌜ r ≡ closureAnswer (now (lower .entry)) (now (upper .entry)) (now (rows .entry)) (now (raised .entry)) (now (sets .entry)) ⌝ }
+    ensures { λ r. ⌜ now (sets .exit) ≡ closureSets (now (lower .entry)) (now (upper .entry)) (now (rows .entry)) (now (raised .entry)) (now (sets .entry)) ⌝ }
+{
+    if is_malformed(lower, upper, rows, raised, sets.len()) {
+        return Closed::Malformed;
+    }
+    if narrow(lower, upper, rows, raised, sets) {
+        return Closed::Family;
+    }
+    clear(sets);
+    Closed::Empty
+}
