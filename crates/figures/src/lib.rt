@@ -15,7 +15,7 @@ ghost use Rattle.definitions.specs.Rules.{standard};
 ghost use Rattle.definitions.specs.Refusals.{_when_, firstOf};
 ghost use Rattle.definitions.specs.declared.Refusal.the-variants.{WeightOutOfRange};
 ghost use Rattle.definitions.specs.Answers.{outcomeOf};
-ghost use Rattle.definitions.specs.Case.{place, weight, greatest as greatestWeight, valueOf, atUsed, objective as total, scopes, isAssignment, active, lentLength};
+ghost use Rattle.definitions.specs.Case.{place, weight, greatest as greatestWeight, valueOf, atUsed, objective as total, scopeCount, scopes, isAssignment, active, lentLength};
 ghost use Rattle.definitions.specs.Valid.{startingWeight, workingWeight, withinLimits, someEdge, sameEnds, limitTest, edgeTests, handedOver};
 ghost use Rattle.definitions.specs.Calls.{objectiveAnswer, upperBoundAnswer, isActiveAnswer, tupleOut};
 ghost use Rattle.theory.proofs.Validity.{Handed};
@@ -241,6 +241,13 @@ pub fn greatest(weights: &[i64]) -> i64
 
 // ---- scopes
 
+fn scope_count(case: Case) -> usize
+    requires { ⌜ Limited standard case ⌝ }
+    ensures { λ r. ⌜ r ≡ scopeCount case ⌝ }
+{
+    case.n + case.m
+}
+
 fn place_of(n: usize, d: usize, x: usize, k: usize, l: usize) -> usize
     requires { ⌜ (n ≤ 48) × (d ≤ 8) × (x < n + 96) × (k < 8) × (l < 8) ⌝ }
     ensures { λ r. ⌜ r ≡ place (ofSize n d) x k l ⌝ }
@@ -299,7 +306,7 @@ fn sum_of_greatest(case: Case, table: &[i64]) -> i64
     requires { ⌜ length (now table) ≡ lentLength case ⌝ }
     ensures { λ r. ⌜ r ≡ sum (map (λ x. cut standard (greatestWeight case (now (table .entry)) x)) (scopes case)) ⌝ }
 {
-    let scopes = case.n + case.m;
+    let scopes = scope_count(case);
     let mut sum: i64 = 0;
     let mut x: usize = 0;
     while x < scopes {
@@ -423,7 +430,7 @@ fn sum_of_used(case: Case, table: &[i64], assignment: &[u8]) -> i64
     requires { ⌜ T (isAssignment case (now assignment)) ⌝ }
     ensures { λ r. ⌜ r ≡ total case (now (table .entry)) (now (assignment .entry)) ⌝ }
 {
-    let scopes = case.n + case.m;
+    let scopes = scope_count(case);
     let mut sum: i64 = 0;
     let mut x: usize = 0;
     while x < scopes {

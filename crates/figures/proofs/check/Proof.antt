@@ -1,3 +1,4 @@
+-- The limits and the lengths are asked here; what is left of the tests is asked of the edges and then of the weights. Assumes nothing.
 use mathlib.Core.Path.{_≡_, sym, _∙_}
 use mathlib.Core.Bool.{true, false}
 use lib.ListN.{length}

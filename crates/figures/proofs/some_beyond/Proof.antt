@@ -1,3 +1,4 @@
+-- No element passed is out of range. Assumes nothing.
 use Prim.Native.Nat.{ℕ, _≤_, _<_, _-_}
 use mathlib.Core.Path.{_≡_, ap}
 use mathlib.Core.Bool.{false, not}

@@ -1,3 +1,4 @@
+-- The loop holds the sum over the scopes passed, which fits, as every term is in the range. Assumes nothing.
 use mathlib.Core.Path.{_≡_, refl, ap, _∙_}
 use Prim.Native.Nat.{_+_, _-_, _≤_}
 use native.Mathlib.Omega.{arith}
@@ -21,8 +22,8 @@ Inv-loop case table scopes sum₀ x₀ sum x = (x ≤ scopes) × (toZ w64 sum �
 abbrev μ-loop : tie.MeasureT-loop
 μ-loop case table scopes sum₀ x₀ sum x = scopes - x
 
-add-scopes : tie.Need-add-scopes Inv-loop μ-loop
-add-scopes c = omega arith
+scope-count-requires : tie.Need-scope-count-requires Inv-loop μ-loop
+scope-count-requires c κs = c .pre .0
 
 loop-holds : tie.Need-loop-holds Inv-loop μ-loop
 loop-holds c = (omega arith, refl)
@@ -67,7 +68,7 @@ sum-of-greatest-spec =
     (tie.spec
     Inv-loop
     μ-loop
-    add-scopes
+    scope-count-requires
     loop-holds
     scope-greatest-requires
     cut-weight-requires

@@ -1,3 +1,4 @@
+-- The loop holds the sum over the scopes passed, which fits, as every weight is in the range. Assumes nothing.
 use mathlib.Core.Path.{_≡_, refl, _∙_}
 use Prim.Native.Nat.{_+_, _-_, _≤_}
 use native.Mathlib.Omega.{arith}
@@ -12,6 +13,7 @@ use Rattle.definitions.specs.Rules.{standard}
 use Rattle.definitions.specs.Case.{atUsed, weight}
 use Rattle.definitions.specs.Valid.{workingWeight}
 use Rattle.theory.proofs.Totals.{at-used-holds}
+use Rattle.figures.proofs.Answered.{limits-known}
 use Rattle.figures.proofs.Bounds.{sum-more, sum-fits}
 use Rattle.figures.proofs.sum_of_used.Statement.{statement}
 use Rattle.figures.proofs.sum_of_used.Tie as tie
@@ -22,8 +24,8 @@ Inv-loop case table assignment scopes sum₀ x₀ sum x = (x ≤ scopes) × (toZ
 abbrev μ-loop : tie.MeasureT-loop
 μ-loop case table assignment scopes sum₀ x₀ sum x = scopes - x
 
-add-scopes : tie.Need-add-scopes Inv-loop μ-loop
-add-scopes c = let h = c .before .before .pre .0 in omega (arith, h .variables-most, h .edges-most)
+scope-count-requires : tie.Need-scope-count-requires Inv-loop μ-loop
+scope-count-requires c κs = limits-known (c .before .pre .0)
 
 loop-holds : tie.Need-loop-holds Inv-loop μ-loop
 loop-holds c = (omega arith, refl)
@@ -67,7 +69,7 @@ sum-of-used-spec =
     (tie.spec
     Inv-loop
     μ-loop
-    add-scopes
+    scope-count-requires
     loop-holds
     used-weight-requires
     add-sum

@@ -1,3 +1,4 @@
+-- The values read are the tuple that the assignment uses. Assumes nothing.
 use mathlib.Core.Path.{_≡_, sym, ap, ap₂, _∙_}
 use native.Mathlib.Omega.{arith}
 use mir.Syntax.{w64}
