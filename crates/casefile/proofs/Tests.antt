@@ -1,0 +1,79 @@
+-- Tests of signed numbers in the code, and the kinds of lines. Assumes nothing.
+use mathlib.Core.Path.{_≡_, refl, sym, ap, _∙_}
+use mathlib.Core.Bool.{Bool, true, false, not, _&&_, _||_}
+use mathlib.Core.List.{[], _∷_}
+use Prim.Native.Nat.{ℕ, _+_, _*_, _^_, _≤_, _<_}
+use native.Mathlib.Omega.{arith}
+use lib.IntN.{ℤ, pos, negsuc, natAbs}
+use lib.Dec.{T, eqb, eqb→eq, not-T}
+use lib.Signed.{mag, ltZ, leZ}
+use mir.Syntax.{w64}
+use mir.Val.{SFits, hbits, toZ, ofZ}
+use borrow.Author.Tests.{le-ltb}
+use Rattle.integers.specs.Words.{eqZ, withinZ}
+use Rattle.integers.specs.Tests.{tests, eqb-iff, same-test, and-left}
+use Rattle.integers.specs.Linear.{zs, T-eq, read-back}
+use Rattle.definitions.specs.declared.Line.{Line}
+use Rattle.definitions.specs.Rules.{standard}
+use Rattle.definitions.specs.Lines.{notDue}
+use Rattle.casefile.specs.Reads.{ofKind}
+
+module _ (a b : Bool) where
+  pub and-next : a ≡ true → b ≡ (a && b)
+  and-next e = rw e
+
+  pub and-stops : a ≡ false → a ≡ (a && b)
+  and-stops e = rw e
+
+-- numbers are equal just where their bits are
+module _ (a b : ℤ) (p : mag a < 2 ^ hbits w64) (q : mag b < 2 ^ hbits w64) where
+  pub same-bits : ofZ w64 a ≡ ofZ w64 b → a ≡ b
+  same-bits e = sym (read-back w64 a p) ∙ ap (toZ w64) e ∙ read-back w64 b q
+
+  pub bits-test : eqb (ofZ w64 a) (ofZ w64 b) ≡ eqZ a b
+  bits-test = same-test (eqb (ofZ w64 a) (ofZ w64 b)) (eqZ a b)
+      (λ t. T-eq a b .1 (same-bits (eqb→eq (ofZ w64 a) (ofZ w64 b) t)))
+      (λ t. eqb-iff (ofZ w64 a) (ofZ w64 b) .1 (ap (ofZ w64) (T-eq a b .0 t)))
+
+-- a number from 0 on
+pub from-zero : (z : ℤ) → ltZ z (pos 0) ≡ false → z ≡ pos (natAbs z)
+from-zero (pos n) h = refl
+from-zero (negsuc n) h = absurd (omega zs)
+
+pub abs-fits : (z : ℤ) → SFits w64 z → natAbs z ≤ 2 ^ 63
+abs-fits (pos n) f = omega (arith, f .sfits)
+abs-fits (negsuc n) f = omega (arith, f .sfits)
+
+-- a number within limits
+pub within-nat : (low high : ℕ) (z : ℤ) → T (withinZ (pos low) (pos high) z) → (ltZ z (pos 0) ≡ false) × (low ≤ natAbs z) × (natAbs z ≤ high)
+within-nat low high (pos n) t = (let (p, q) = simp tests at t in (le-ltb n 0 (omega arith), p, q))
+within-nat low high (negsuc n) t = absurd (and-left (leZ (pos low) (negsuc n)) (leZ (negsuc n) (pos high)) t)
+
+and-false : (b : Bool) → (b && false) ≡ false
+and-false true = refl
+and-false false = refl
+
+and-true : (b : Bool) → (b && true) ≡ b
+and-true true = refl
+and-true false = refl
+
+or-false : (b : Bool) → (b || false) ≡ b
+or-false true = refl
+or-false false = refl
+
+-- a line of one kind that is due
+module _ (l : Line) where
+  pub due-10 : notDue standard (10 ∷ []) l ≡ not (ofKind (pos 10) true false l)
+  due-10 = simp (and-false, and-true, or-false)
+
+  pub due-11 : notDue standard (11 ∷ []) l ≡ not (ofKind (pos 11) false true l)
+  due-11 = simp (and-false, and-true, or-false)
+
+  pub due-12 : notDue standard (12 ∷ []) l ≡ not (ofKind (pos 12) true false l)
+  due-12 = simp (and-false, and-true, or-false)
+
+  pub due-13 : notDue standard (13 ∷ []) l ≡ not (ofKind (pos 13) true true l)
+  due-13 = simp (and-false, and-true, or-false)
+
+  pub due-none : notDue standard [] l ≡ true
+  due-none = simp (and-false, and-true)
