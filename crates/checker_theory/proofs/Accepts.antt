@@ -17,7 +17,7 @@ use Rattle.definitions.specs.Answers.{outcomeOf}
 use Rattle.definitions.specs.Case.{isAssignment, objective, upperBound}
 use Rattle.definitions.specs.Valid.{valid}
 use Rattle.definitions.specs.Replay.{fresh, after, answers, atEnd, keepsRules}
-use Rattle.definitions.specs.Checker.{Between, endReplay, afterLines, lineAnswers}
+use Rattle.checker.specs.Checker.{Between, endReplay, afterLines, lineAnswers}
 use Rattle.theory.proofs.Replays.{case-after, total-kept, bound-sound, rounds-few, accepted-iff, keeps-iff}
 use Rattle.checker_theory.proofs.Agrees.{Agrees}
 use Rattle.checker_theory.proofs.Folds.{begun, agrees-fresh, fold-agrees, answers-agree, end-agrees}

@@ -17,17 +17,17 @@ use Rattle.integers.specs.Options.{last-append}
 use Rattle.integers.specs.Lists.{all-same, isIn-append}
 use Rattle.integers.specs.Tables.{all-getD}
 use Rattle.definitions.specs.declared.Case.{Case}
-use Rattle.definitions.specs.declared.LastRaised.{LastRaised}
-use Rattle.definitions.specs.declared.Due.{Due}
-use Rattle.definitions.specs.declared.Replay.{Replay}
-use Rattle.definitions.specs.Rules.{Rules, scopesAtMost}
-use Rattle.definitions.specs.Answers.{outcomeOf, standingOf}
+use Rattle.checker.specs.declared.LastRaised.{LastRaised}
+use Rattle.checker.specs.declared.Due.{Due}
+use Rattle.checker.specs.declared.Replay.{Replay}
+use Rattle.definitions.specs.Rules.{Rules, scopesAtMost, scopePlaces}
+use Rattle.definitions.specs.Answers.{outcomeOf}
 use Rattle.definitions.specs.Case.{scopeCount, active}
 use Rattle.definitions.specs.Valid.{workingWeight}
 use Rattle.definitions.specs.Consistency.{allRefuted}
 use Rattle.definitions.specs.Moves.{plus, onlyWhere, pressBy, activeValues}
 use Rattle.definitions.specs.Replay.{Held, State, notAbove}
-use Rattle.definitions.specs.Checker.{Between, StepCall, isRaised, lastOut, notAboveLast, noneRaised}
+use Rattle.checker.specs.Checker.{Between, StepCall, standingOf, isRaised, lastOut, notAboveLast, noneRaised}
 use Rattle.definitions.proofs.Refutation.{refuted-same}
 use Rattle.theory.proofs.Places.{plus-cong}
 use Rattle.theory.proofs.Validity.{Handed}
@@ -63,7 +63,7 @@ callOf s bytes = record { stepped = record { replay = recordOf s bytes; answer =
 -- ---- the bytes of a press held, and what its record is asked
 
 pub record Marked (r : Rules) (c : Case) (h : Held) (bytes : List ℕ) : Type 0 where
-  pub long : length bytes ≡ scopesAtMost r
+  pub long : length bytes ≡ scopePlaces
   -- not 0 exactly where the scope is raised, and 0 past the case's scopes
   pub marks : (x : ℕ) → x < scopeCount c → isRaised bytes x ≡ isIn (h .raised) x
   pub past : T (all (λ b. eqb b 0) (drop (scopeCount c) bytes))
@@ -81,20 +81,21 @@ pub record Agrees (r : Rules) (s : State) (b : Between) : Type 0 where
   pub marked : MarkedIn r s bytes
   pub sound : Sound r s
   pub handed : Handed r (workingWeight r) (s .case) (s .weights)
+  pub placed : scopesAtMost r ≤ scopePlaces
 
 -- ---- a press begun, and a scope raised
 
-module _ (r : Rules) (c : Case) (fits : scopeCount c ≤ scopesAtMost r) where
+module _ (r : Rules) (c : Case) (fits : scopeCount c ≤ scopePlaces) where
   pub marked-begun : (i : ℕ) (a : ℤ) (left : ℕ) → 1 ≤ left → left ≤ scopeCount c - 1
-      → Marked r c (record { variable = i; amount = a; raised = []; left = left }) (noneRaised r)
+      → Marked r c (record { variable = i; amount = a; raised = []; left = left }) (noneRaised)
   marked-begun i a left some-left most = record {
-    long = length-replicate (scopesAtMost r) 0;
-    marks = λ x h. ap (λ (b : ℕ). not (eqb b 0)) (getD-replicate (scopesAtMost r) x 0 0 (omega arith));
-    past = all-getD (λ b. eqb b 0) (drop (scopeCount c) (noneRaised r)) 0 .1 (λ i h.
+    long = length-replicate {A = ℕ} scopePlaces 0;
+    marks = λ x h. ap (λ (b : ℕ). not (eqb b 0)) (getD-replicate scopePlaces x 0 0 (omega arith));
+    past = all-getD (λ b. eqb b 0) (drop (scopeCount c) (noneRaised)) 0 .1 (λ i h.
         rw (
-          getD-drop (scopeCount c) (noneRaised r) i 0,
-          getD-replicate {A = ℕ} (scopesAtMost r) (scopeCount c + i) 0 0
-              (omega (arith, length-drop (scopeCount c) (noneRaised r), length-replicate {A = ℕ} (scopesAtMost r) 0)),
+          getD-drop (scopeCount c) (noneRaised) i 0,
+          getD-replicate {A = ℕ} scopePlaces (scopeCount c + i) 0 0
+              (omega (arith, length-drop (scopeCount c) (noneRaised), length-replicate {A = ℕ} scopePlaces 0)),
         ) tt);
     last-in = tt;
     some-left = some-left;

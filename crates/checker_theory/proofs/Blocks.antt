@@ -18,12 +18,12 @@ use Rattle.definitions.specs.declared.Case.{Case}
 use Rattle.definitions.specs.declared.Line.{Line}
 use Rattle.definitions.specs.declared.Refusal.{Refusal}
 use Rattle.definitions.specs.declared.Outcome.{Outcome}
-use Rattle.definitions.specs.declared.Standing.{Standing}
-use Rattle.definitions.specs.declared.Replay.{Replay}
+use Rattle.checker.specs.declared.Standing.{Standing}
+use Rattle.checker.specs.declared.Replay.{Replay}
 use Rattle.definitions.specs.Rules.{Rules}
 use Rattle.definitions.specs.Refusals.{firstOf}
 use Rattle.definitions.specs.Lines.{lineLength, readLine, wholeLines, linesIn, hasPart}
-use Rattle.definitions.specs.Checker.{Between, Asked, BlockCall, ofKind, stepBy, stepTests, stepLine, stepStanding, stepReplay, stepBetween, takenLines, firstRefused, afterLines, lineAnswers, blockReplay}
+use Rattle.checker.specs.Checker.{Between, Asked, BlockCall, ofKind, stepBy, stepTests, stepLine, stepStanding, stepReplay, stepBetween, takenLines, firstRefused, afterLines, lineAnswers, blockReplay}
 use Rattle.definitions.proofs.LineLaws.{lines-whole, joined-whole}
 
 -- ---- lines of bytes

@@ -18,18 +18,18 @@ use Rattle.definitions.specs.declared.Case.{Case}
 use Rattle.definitions.specs.declared.Line.{Line}
 use Rattle.definitions.specs.declared.Refusal.{Refusal}
 use Rattle.definitions.specs.declared.Refusal.the-variants.{NotDue, OutOfRange, RaiseNotAscending, NotRefuted, LeavesRange, CutShort}
-use Rattle.definitions.specs.Rules.{Rules, Coherent, scopesAtMost}
+use Rattle.definitions.specs.Rules.{Rules, Coherent, scopesAtMost, scopePlaces}
 use Rattle.definitions.specs.Refusals.{Test, _when_, firstOf}
-use Rattle.definitions.specs.Answers.{outcomeOf, standingOf}
+use Rattle.definitions.specs.Answers.{outcomeOf}
 use Rattle.definitions.specs.Case.{scopeCount}
 use Rattle.definitions.specs.Valid.{workingWeight, startingWeight, limitTest, lengthTest, edgeTests, weightTest, handedOver, valid}
 use Rattle.definitions.specs.Moves.{leavesRange}
 use Rattle.definitions.specs.Lines.{readLine, notDue, isKind, outside}
 use Rattle.definitions.specs.Replay.{Held, State, fresh, afterMove, holding, afterBound, kindsDue, shiftOf, heldOf, shiftTests, pressTests, boundTests, isLast, testsOfKind, lineTests, taken, answered, stepUnrefused, step, after, answers, atEnd}
-use Rattle.definitions.specs.Checker.{Between, StepCall, Asked, dueKinds, isHeld, noneRaised, dueOut, recordOut, freshReplay, ofShift, ofPress, ofBound, ofKind, stepBy, stepTests, stepLine, stepStanding, stepReplay, endStanding, endReplay, stepBetween, afterLines, lineAnswers}
+use Rattle.checker.specs.Checker.{Between, StepCall, standingOf, Asked, dueKinds, isHeld, noneRaised, dueOut, recordOut, freshReplay, ofShift, ofPress, ofBound, ofKind, stepBy, stepTests, stepLine, stepStanding, stepReplay, endStanding, endReplay, stepBetween, afterLines, lineAnswers}
 use Rattle.theory.proofs.Places.{all-weights}
 use Rattle.theory.proofs.Validity.{none-applies, Handed, handed}
-use Rattle.theory.proofs.Replays.{Quiet, Sound, sound-step, sound-fresh, case-after, starting-after, in-range-after, handed-after, none-iff}
+use Rattle.theory.proofs.Replays.{inside, Quiet, Sound, sound-step, sound-fresh, case-after, starting-after, in-range-after, handed-after, none-iff}
 use Rattle.checker_theory.proofs.Agrees.{dueOf, recordOf, callOf, Marked, MarkedIn, Agrees, marked-begun, marks-raised, marked-raised, refuted-alike, press-alike, above-alike}
 
 -- ---- the numbers of what is handed over never apply
@@ -52,10 +52,6 @@ module _ {r : Rules} {range : ℤ → Bool} {c : Case} {w : List ℤ} (h : Hande
   edges-quiet : Quiet (limitTest r c ∷ edgeTests c false)
   edges-quiet = let p = simp and-iff at handed-quiet in simp and-iff (p .0, (p .1 .1 .0, (p .1 .1 .1 .0, (p .1 .1 .1 .1 .0, tt))))
 
-inside : (n : ℕ) (z : ℤ) → T (not (outside n z)) → natAbs z < n
-inside n (pos x) t = t ▸ simp flat (omega zs)
-inside n (negsuc x) t = absurd t
-
 counted : (m : ℕ) (z : ℤ) → T (not (not (withinZ (pos 1) (pos m) z))) → (1 ≤ natAbs z) × (natAbs z ≤ m)
 counted m (pos n) t = (t ▸ simp flat (omega zs), t ▸ simp flat (omega zs))
 counted m (negsuc n) t = absurd t
@@ -74,9 +70,9 @@ held-alike (some h) = refl
 abbrev Reaches : Rules → StepCall → State → Type 0
 Reaches r call u = (bytes : List ℕ) × (call ≡ callOf u bytes) × MarkedIn r u bytes
 
-module _ {r : Rules} {s : State} {bytes : List ℕ} (v : Sound r s) (hand : Handed r (workingWeight r) (s .case) (s .weights)) (k : MarkedIn r s bytes) where
-  fits : scopeCount (s .case) ≤ scopesAtMost r
-  fits = omega (arith, hand .variables-most, hand .edges-most)
+module _ {r : Rules} {s : State} {bytes : List ℕ} (placed : scopesAtMost r ≤ scopePlaces) (v : Sound r s) (hand : Handed r (workingWeight r) (s .case) (s .weights)) (k : MarkedIn r s bytes) where
+  fits : scopeCount (s .case) ≤ scopePlaces
+  fits = omega (arith, placed, hand .variables-most, hand .edges-most)
 
   record-in : T (not (recordOut r (s .case) (recordOf s bytes)))
   record-in = simp not-or-iff (simp tests (omega (arith, v .few)), due-in (s .held) refl)
@@ -128,13 +124,13 @@ module _ {r : Rules} {s : State} {bytes : List ℕ} (v : Sound r s) (hand : Hand
       go false true q =
           let p = simp (and-iff, not-or-iff) at q in
           let (least, most) = counted (scopeCount (s .case) - 1) (t .b) (p .0 .0 .1) in
-          (noneRaised r, refl, λ h e. subst (λ (h : Held). Marked r (s .case) h (noneRaised r)) (some-inj e) (marked-begun r (s .case) fits (natAbs (t .a)) (t .amount) (natAbs (t .b)) least most))
+          (noneRaised, refl, λ h e. subst (λ (h : Held). Marked r (s .case) h (noneRaised)) (some-inj e) (marked-begun r (s .case) fits (natAbs (t .a)) (t .amount) (natAbs (t .b)) least most))
       go false false q = (bytes, refl, λ h e. absurd (none-some e))
   takes-alike t (some h) e q =
       let x = natAbs (t .a) in
       let below = inside (scopeCount (s .case)) (t .a) (and-left (not (outside (scopeCount (s .case)) (t .a))) _ q) in
       ⊎-elim
-      (λ l. rw (is-true (isLast h) l) (noneRaised r, rw (press-alike (s .case) (s .weights) (marks-raised r (s .case) fits (k h e) below) (h .variable) (h .amount)), λ g f. absurd (none-some f)))
+      (λ l. rw (is-true (isLast h) l) (noneRaised, rw (press-alike (s .case) (s .weights) (marks-raised r (s .case) fits (k h e) below) (h .variable) (h .amount)), λ g f. absurd (none-some f)))
       (λ l. rw (is-false (isLast h) l) (
         set bytes x 1,
         rw (last-append (h .raised) [] x),
@@ -187,7 +183,7 @@ handed-step {r} {s} v h t =
 
 module _ {r : Rules} {s : State} {b : Between} (a : Agrees r s b) where
   step-is : (t : List ℕ) → Reaches r (stepReplay r (b .case) (b .table) (b .replay) t) (step r s t)
-  step-is t = subst (λ (d : Between). Reaches r (stepReplay r (d .case) (d .table) (d .replay) t) (step r s t)) (sym (a .same)) (step-reaches (a .sound) (a .handed) (a .marked) t)
+  step-is t = subst (λ (d : Between). Reaches r (stepReplay r (d .case) (d .table) (d .replay) t) (step r s t)) (sym (a .same)) (step-reaches (a .placed) (a .sound) (a .handed) (a .marked) t)
 
   pub agrees-step : (t : List ℕ) → Agrees r (step r s t) (stepBetween r b t)
   agrees-step t =
@@ -198,6 +194,7 @@ module _ {r : Rules} {s : State} {b : Between} (a : Agrees r s b) where
         marked = m;
         sound = sound-step r s t (a .sound);
         handed = handed-step (a .sound) (a .handed) t;
+        placed = a .placed;
       }
     where
       between : Case → StepCall → Between
@@ -214,7 +211,7 @@ module _ {r : Rules} {s : State} {b : Between} (a : Agrees r s b) where
           ≡ outcomeOf (if isSome x then x else if isSome (s .held) || s .moving then some CutShort else none)
       go (some x) = refl
       go none =
-          rw (is-false (recordOut r (s .case) (recordOf s (a .bytes))) (record-in (a .sound) (a .handed) (a .marked)), held-alike (s .held))
+          rw (is-false (recordOut r (s .case) (recordOf s (a .bytes))) (record-in (a .placed) (a .sound) (a .handed) (a .marked)), held-alike (s .held))
           (ap outcomeOf (quiet-skip (limitTest r (s .case) ∷ edgeTests (s .case) false) (CutShort when (isSome (s .held) || s .moving) ∷ []) (edges-quiet (a .handed))))
 
 -- ---- lists of lines
@@ -235,9 +232,10 @@ module _ {r : Rules} (coherent : Coherent r) (c : Case) (w : List ℤ) (t : T (v
   pub agrees-fresh : Agrees r (fresh c w) (begun r c w)
   unfolding freshReplay
   agrees-fresh = record {
-    bytes = noneRaised r;
+    bytes = noneRaised;
     same = rw (none-iff (firstOf (handedOver r (startingWeight r) c w false false)) .0 t);
     marked = λ h e. absurd (none-some e);
     sound = sound-fresh r c w t;
     handed = handed-after r c w t [] coherent;
+    placed = coherent .scopes-placed;
   }

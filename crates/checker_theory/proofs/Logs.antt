@@ -1,5 +1,5 @@
 -- A log as one block from a fresh record, beside the plain replay of its lines: the table, the rounds, the first refusal and its line, the end's
--- answer, and so what the program `replay` prints. With Blocks the same holds of a log cut into blocks. Assumes nothing.
+-- answer, and so the judgement that the program `replay` prints. With Blocks the same holds of a log cut into blocks. Assumes nothing.
 use mathlib.Core.Path.{_≡_, refl, sym, ap, ap₂, _∙_}
 use mathlib.Core.Bool.{Bool}
 use mathlib.Core.Option.{Option, none, some}
@@ -20,25 +20,25 @@ use Rattle.definitions.specs.Case.{upperBound}
 use Rattle.definitions.specs.Valid.{valid}
 use Rattle.definitions.specs.Lines.{linesIn, hasPart}
 use Rattle.definitions.specs.Replay.{State, fresh, step, after, answers, atEnd}
-use Rattle.definitions.specs.Checker.{BlockCall, freshReplay, takenLines, firstRefused, endReplay, blockReplay}
-use Rattle.definitions.specs.Programs.{refusedText, acceptedText, verdict, replayLog}
+use Rattle.checker.specs.Checker.{BlockCall, freshReplay, takenLines, firstRefused, endReplay, blockReplay}
+use Rattle.definitions.specs.Programs.{Judged, accepted, refused, firstNumber, judgeLog}
 use Rattle.theory.proofs.Replays.{after-stands}
 use Rattle.checker_theory.proofs.Accepts.{ReplayFold, replay-fold}
 
--- what is printed of a log whose lines, but for those taken, begin at `at`: the first refusal, else the end's, else 14 where a part line is left
-abbrev pub logText : ℕ → Outcome → Outcome → Bool → List ℕ → List ℕ
-logText at (Outcome.Refused x) end part accepted = refusedText x at
-logText at Outcome.Done (Outcome.Refused x) part accepted = refusedText x at
-logText at Outcome.Done Outcome.Done part accepted = if part then refusedText CutShort at else accepted
+-- the judgement of a log whose lines, but for those taken, begin at `at`: the first refusal, else the end's, else 14 where a part line is left
+abbrev pub logJudged : ℕ → Outcome → Outcome → Bool → Judged → Judged
+logJudged at (Outcome.Refused x) end part good = refused x at
+logJudged at Outcome.Done (Outcome.Refused x) part good = refused x at
+logJudged at Outcome.Done Outcome.Done part good = if part then refused CutShort at else good
 
-verdict-text : (r : Rules) (at : ℕ) (os : List (Option Refusal)) (end : Option Refusal) (part : Bool) (accepted : List ℕ)
-    → verdict r at os end part accepted ≡ logText (at + takenLines (map outcomeOf os)) (firstRefused (map outcomeOf os)) (outcomeOf end) part accepted
-verdict-text r at [] none part accepted = ap (λ (n : ℕ). if part then refusedText CutShort n else accepted) (sym (add-zero at))
-verdict-text r at [] (some x) part accepted = ap (refusedText x) (sym (add-zero at))
-verdict-text r at (none ∷ os) end part accepted =
-    verdict-text r (at + 1) os end part accepted
-    ∙ ap (λ (n : ℕ). logText n (firstRefused (map outcomeOf os)) (outcomeOf end) part accepted) (omega arith)
-verdict-text r at (some x ∷ os) end part accepted = ap (refusedText x) (sym (add-zero at))
+number-judged : (r : Rules) (at : ℕ) (os : List (Option Refusal)) (end : Option Refusal) (part : Bool) (good : Judged)
+    → firstNumber r at os end part good ≡ logJudged (at + takenLines (map outcomeOf os)) (firstRefused (map outcomeOf os)) (outcomeOf end) part good
+number-judged r at [] none part good = ap (λ (n : ℕ). if part then refused CutShort n else good) (sym (add-zero at))
+number-judged r at [] (some x) part good = ap (refused x) (sym (add-zero at))
+number-judged r at (none ∷ os) end part good =
+    number-judged r (at + 1) os end part good
+    ∙ ap (λ (n : ℕ). logJudged n (firstRefused (map outcomeOf os)) (outcomeOf end) part good) (omega arith)
+number-judged r at (some x ∷ os) end part good = ap (refused x) (sym (add-zero at))
 
 first-number : (r : Rules) (s : State) → s .refusal ≡ none → (ts : List (List ℕ)) → firstRefused (map outcomeOf (answers r s ts)) ≡ outcomeOf (after r s ts .refusal)
 first-number r s e [] = rw e
@@ -84,15 +84,15 @@ module _ {r : Rules} (coherent : Coherent r) (c : Case) (w : List ℤ) (t : T (v
   unfolding blockReplay
   log-end = fold .end-answer lines
 
-  -- what the program prints of a log that begins at line `at`
-  pub log-printed : (at : ℕ) → replayLog r c w at log
-      ≡ logText (at + logBlock r c w log .block .lines) (logBlock r c w log .block .answer) (endReplay r c (logBlock r c w log .block .replay)) (hasPart (r .amountWidth) log)
-      (acceptedText (logBlock r c w log .block .replay .rounds) (upperBound c (logBlock r c w log .table)))
+  -- the judgement of a log that begins at line `at`
+  pub log-judged : (at : ℕ) → judgeLog r c w at log
+      ≡ logJudged (at + logBlock r c w log .block .lines) (logBlock r c w log .block .answer) (endReplay r c (logBlock r c w log .block .replay)) (hasPart (r .amountWidth) log)
+      (accepted (logBlock r c w log .block .replay .rounds) (upperBound c (logBlock r c w log .table)))
   unfolding blockReplay
-  log-printed at =
-      verdict-text r at (answers r (fresh c w) lines) (atEnd (logState r c w log)) (hasPart (r .amountWidth) log) (acceptedText (logState r c w log .rounds) (upperBound c (logState r c w log .weights)))
-      ∙ sym (ap₂ (λ (os : List Outcome) (end : Outcome). text os end (logBlock r c w log .block .replay .rounds) (logBlock r c w log .table)) (fold .each-answer lines) log-end
-      ∙ ap₂ (text (map outcomeOf (answers r (fresh c w) lines)) (outcomeOf (atEnd (logState r c w log)))) log-rounds log-table)
+  log-judged at =
+      number-judged r at (answers r (fresh c w) lines) (atEnd (logState r c w log)) (hasPart (r .amountWidth) log) (accepted (logState r c w log .rounds) (upperBound c (logState r c w log .weights)))
+      ∙ sym (ap₂ (λ (os : List Outcome) (end : Outcome). judged os end (logBlock r c w log .block .replay .rounds) (logBlock r c w log .table)) (fold .each-answer lines) log-end
+      ∙ ap₂ (judged (map outcomeOf (answers r (fresh c w) lines)) (outcomeOf (atEnd (logState r c w log)))) log-rounds log-table)
     where
-      text : List Outcome → Outcome → ℕ → List ℤ → List ℕ
-      text os end rounds table = logText (at + takenLines os) (firstRefused os) end (hasPart (r .amountWidth) log) (acceptedText rounds (upperBound c table))
+      judged : List Outcome → Outcome → ℕ → List ℤ → Judged
+      judged os end rounds table = logJudged (at + takenLines os) (firstRefused os) end (hasPart (r .amountWidth) log) (accepted rounds (upperBound c table))

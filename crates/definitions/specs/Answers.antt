@@ -12,7 +12,6 @@ use Rattle.definitions.specs.declared.LineRead.{LineRead}
 use Rattle.definitions.specs.declared.CaseSize.{CaseSize}
 use Rattle.definitions.specs.declared.FileAnswer.{FileAnswer}
 use Rattle.definitions.specs.declared.Written.{Written}
-use Rattle.definitions.specs.declared.Standing.{Standing}
 use Rattle.definitions.specs.declared.Span.{Span}
 use Rattle.definitions.specs.declared.Round.{Round}
 use Rattle.definitions.specs.declared.RunAnswer.{RunAnswer}
@@ -66,10 +65,6 @@ abbrev pub writtenSays : Written → Says
 writtenSays (Written.Bytes n) = gives (pos n ∷ [])
 writtenSays (Written.Refused x) = saysNo x
 
-abbrev pub standingSays : Standing → Says
-standingSays Standing.Good = gives []
-standingSays (Standing.Refused x) = saysNo x
-
 -- the stretch's first byte and the byte after its last
 abbrev pub spanSays : Span → Says
 spanSays (Span.Part from to) = gives (pos from ∷ pos to ∷ [])
@@ -99,11 +94,7 @@ abbrev pub outcomeOf : Option Refusal → Outcome
 outcomeOf none = Outcome.Done
 outcomeOf (some x) = Outcome.Refused x
 
-abbrev pub standingOf : Option Refusal → Standing
-standingOf none = Standing.Good
-standingOf (some x) = Standing.Refused x
-
--- b where a refusal applies, a elsewhere
+-- a, unless a refusal applies: then b
 abbrev pub unlessRefused : {A : Type 0} → Option Refusal → A → A → A
 unlessRefused none a b = a
 unlessRefused (some x) a b = b

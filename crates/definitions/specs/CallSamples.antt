@@ -3,32 +3,21 @@ use mathlib.Core.Path.{_≡_, refl}
 use mathlib.Core.Bool.{true, false}
 use mathlib.Core.List.{List, [], _∷_, _++_, map}
 use Prim.Native.Nat.{ℕ}
-use Prim.Native.String.{String}
 use lib.IntN.{ℤ, pos}
 use lib.ListN.{length, replicate}
 use Rattle.integers.specs.Words.{joined, minus}
 use Rattle.definitions.specs.declared.Case.{Case}
-use Rattle.definitions.specs.declared.Round.{Round}
-use Rattle.definitions.specs.declared.RunAnswer.{RunAnswer}
 use Rattle.definitions.specs.declared.Run.{Run}
-use Rattle.definitions.specs.declared.Standing.{Standing}
-use Rattle.definitions.specs.declared.Due.{Due}
-use Rattle.definitions.specs.declared.LastRaised.{LastRaised}
-use Rattle.definitions.specs.declared.Replay.{Replay}
-use Rattle.definitions.specs.declared.Block.{Block}
 use Rattle.definitions.specs.Rules.{standard}
 use Rattle.definitions.specs.Answers.{Says, outcomeSays, figureSays, verdictSays, spanSays, choiceSays, runSays}
-use Rattle.definitions.specs.Case.{upperBound}
 use Rattle.definitions.specs.Lines.{line, linesIn}
-use Rattle.definitions.specs.CaseFiles.{caseText}
 use Rattle.definitions.specs.Engine.{engineNext, roundBytes}
 use Rattle.definitions.specs.Views.{roundSpan, roundView}
-use Rattle.definitions.specs.Scoring.{betterOf, better}
+use Rattle.definitions.specs.Scoring.{betterOf}
 use Rattle.definitions.specs.Programs.{bytesOf}
 use Rattle.definitions.specs.Calls.{
   TableCall,
   LineCall,
-  WriteCall,
   objectiveAnswer,
   upperBoundAnswer,
   isActiveAnswer,
@@ -36,10 +25,8 @@ use Rattle.definitions.specs.Calls.{
   shiftCall,
   pressCall,
   writeLineCall,
-  writeCaseCall,
 }
-use Rattle.definitions.specs.Checker.{Between, BlockCall, freshReplay, stepReplay, endReplay, afterLines, lineAnswers, blockReplay}
-use Rattle.definitions.specs.EngineCalls.{RunCall, RoundCall, roundCall, runCall}
+use Rattle.definitions.specs.EngineCalls.{RunCall, roundCall, runCall}
 use Rattle.definitions.specs.Samples.{
   Input,
   Question,
@@ -51,7 +38,6 @@ use Rattle.definitions.specs.Samples.{
   replay-on,
   Result,
   ran,
-  replayed,
   Sample,
   samples,
   ourSamples,
@@ -67,42 +53,26 @@ use Rattle.definitions.specs.Samples.{
   zeros,
 }
 
--- ---- the samples of document 01 and ours, answered by the calls of the checker and the engine
-
-abbrev start : Input → Between
-start i = record { case = i .case; table = i .weights; replay = freshReplay standard (i .case) (i .weights) }
-
-abbrev checked : Between → List ℕ → Result
-checked b numbers =
-    replayed numbers (outcomeSays (endReplay standard (b .case) (b .replay)) .number) (b .replay .rounds) (upperBound (b .case) (b .table)) (b .table)
+-- ---- the samples of document 01 and ours: a run is answered by the engine's call
 
 abbrev ranBy : RunCall → Result
 ranBy q = ran (q .run .answer) (q .run .rounds) (q .run .bound) (q .table) (linesIn 12 (q .log))
 
 abbrev answerByCalls : Question → Result
-answerByCalls (bound-of i) = answer (bound-of i)
 answerByCalls (run-of i limit) = ranBy (runCall standard engineNext (i .case) limit (i .weights) (replicate (roundBytes standard (i .case)) 0))
-answerByCalls (replay-of i ts) =
-    checked (afterLines standard (start i) (texts ts)) (map (λ o. outcomeSays o .number) (lineAnswers standard (start i) (texts ts)))
+answerByCalls (bound-of i) = answer (bound-of i)
+answerByCalls (replay-of i ts) = answer (replay-of i ts)
 answerByCalls (all-active i limit) = answer (all-active i limit)
 answerByCalls (press-on ts) = answer (press-on ts)
 answerByCalls (replay-on ts) = answer (replay-on ts)
 
 pub samples-hold-of-calls : map (λ s. answerByCalls (s .ask)) samples ≡ map (λ s. s .gives) samples
-unfolding freshReplay stepReplay endReplay roundCall runCall
+unfolding roundCall runCall
 samples-hold-of-calls = refl
 
 pub our-samples-hold-of-calls : map (λ s. answerByCalls (s .ask)) ourSamples ≡ map (λ s. s .gives) ourSamples
-unfolding freshReplay stepReplay endReplay roundCall runCall
+unfolding roundCall runCall
 our-samples-hold-of-calls = refl
-
--- a block of five lines and a part of one; then the number that stands is answered again
-abbrev blockOf : Input → Replay → List ℕ → BlockCall
-blockOf i p bytes = blockReplay standard (i .case) (i .weights) p bytes
-
-pub block-taken : blockOf triangle (freshReplay standard (triangle .case) (triangle .weights)) (joined (texts log1) ++ (32 ∷ [])) .block .lines ≡ 5
-unfolding freshReplay stepReplay blockReplay
-block-taken = refl
 
 -- ---- the engine
 

@@ -23,10 +23,9 @@ use Rattle.definitions.specs.Answers.{outcomeOf, unlessRefused}
 use Rattle.definitions.specs.Case.{scopeCount, isVariable, objective, upperBound, active}
 use Rattle.definitions.specs.Valid.{startingWeight, workingWeight, wrongAssignment, valueOut, handedOver}
 use Rattle.definitions.specs.Consistency.{refuted}
-use Rattle.definitions.specs.Moves.{Move, shift, press, moved, activeRefuted, leavesRange}
+use Rattle.definitions.specs.Moves.{Move, shift, press, shiftAmount, pressAmount, moved, activeRefuted, leavesRange}
 use Rattle.definitions.specs.Lines.{readLine, lineText, lineLength, lineTooWide, overwritten}
 use Rattle.definitions.specs.CaseFiles.{caseText}
-use Rattle.definitions.specs.Replay.{shiftAmount, pressAmount}
 
 -- ---- answers by whether a refusal applies
 
@@ -50,6 +49,12 @@ pub record TableCall : Type 0 where
 pub record LineCall : Type 0 where
   pub answer : Outcome
   pub out : List ℕ
+
+-- the log writer's call: the lent slice and the position after it
+pub record WriterCall : Type 0 where
+  pub answer : Outcome
+  pub out : List ℕ
+  pub at : ℕ
 
 pub record WriteCall : Type 0 where
   pub answer : Written
@@ -140,6 +145,16 @@ module _ (r : Rules) where
     answer = outcomeOf (writeRefusal (length out) l);
     out = unlessRefused (writeRefusal (length out) l) (overwritten (lineText (r .amountWidth) l) out) out;
   }
+
+  -- the log writer fills a lent slice line by line: a line at position `at`, and the position after it; a refusal keeps both
+  unfoldable pub putLineCall : List ℕ → ℕ → Line → WriterCall
+  putLineCall out at l =
+      let refusal = writeRefusal (length out - at) l in
+      record {
+        answer = outcomeOf refusal;
+        out = unlessRefused refusal (take at out ++ overwritten (lineText (r .amountWidth) l) (drop at out)) out;
+        at = unlessRefused refusal (at + lineLength (r .amountWidth)) at;
+      }
 
   -- ---- case files: the range is that of starting weights
 

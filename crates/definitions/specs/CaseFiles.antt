@@ -25,7 +25,7 @@ use Rattle.definitions.specs.declared.Refusal.the-variants.{
   WeightOutOfRange,
   CutShort,
 }
-use Rattle.definitions.specs.Rules.{Rules}
+use Rattle.definitions.specs.Rules.{Rules, edgePlaces}
 use Rattle.definitions.specs.Refusals.{Test, _when_, firstOf}
 use Rattle.definitions.specs.Case.{values, lowerEnd, upperEnd, eachTuple, weight, place, lentLength}
 use Rattle.definitions.specs.Valid.{startingWeight}
@@ -106,7 +106,7 @@ pub record Reading : Type 0 where
   pub table : List ℤ
 
 abbrev pub caseOf : Rules → ℕ → ℕ → ℕ → Case
-caseOf r n d m = record { n = n; d = d; m = m; lower = replicate (r .edges) 0; upper = replicate (r .edges) 0 }
+caseOf r n d m = record { n = n; d = d; m = m; lower = replicate edgePlaces 0; upper = replicate edgePlaces 0 }
 
 abbrev pub headed : Rules → Option Line → Case
 headed r none = caseOf r 0 0 0

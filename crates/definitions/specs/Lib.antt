@@ -15,6 +15,5 @@ pub mod Scoring
 pub mod Programs
 pub mod Samples
 pub mod Calls
-pub mod Checker
 pub mod EngineCalls
 pub mod CallSamples

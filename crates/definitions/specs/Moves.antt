@@ -5,7 +5,7 @@ use Prim.Native.Nat.{ℕ, _+_}
 use lib.IntN.{ℤ, pos, negℤ, _+ℤ_}
 use lib.Dec.{eqb}
 use lib.ListN.{drop}
-use Rattle.integers.specs.Words.{if_then_else_, isIn, joined}
+use Rattle.integers.specs.Words.{if_then_else_, isIn, joined, minus, eqZ, withinZ}
 use Rattle.definitions.specs.declared.Case.{Case}
 use Rattle.definitions.specs.Rules.{Rules}
 use Rattle.definitions.specs.Case.{scopes, eachTuple, ownLength, lowerEnd, upperEnd, weight, active}
@@ -68,6 +68,13 @@ difference c w (press i raised a) = pressBy c w i (activeValues c w i) (isIn rai
 -- the table after a move
 abbrev pub moved : Case → Move → List ℤ → List ℤ
 moved c move w = plus c (difference c w move) w
+
+-- the amount of a shift is not 0, that of a press is at least 1, and both are within the limit of moves
+abbrev pub shiftAmount : Rules → ℤ → Bool
+shiftAmount r a = withinZ (minus (r .moving)) (pos (r .moving)) a && not (eqZ a (pos 0))
+
+abbrev pub pressAmount : Rules → ℤ → Bool
+pressAmount r a = withinZ (pos 1) (pos (r .moving)) a
 
 -- number 11: a move would take a working weight outside its range
 abbrev pub leavesRange : Rules → Case → List ℤ → Bool

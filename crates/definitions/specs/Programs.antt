@@ -23,6 +23,10 @@ use Rattle.definitions.specs.CaseFiles.{CaseCall, caseSize, readCase, re
 use Rattle.definitions.specs.Replay.{State, fresh, after, answers, atEnd}
 use Rattle.definitions.specs.Engine.{RunOf, engineNext, run}
 
+-- `press` makes at most so many rounds
+abbrev pub pressLimit : ℕ
+pressLimit = 100_000
+
 -- the bytes of a text
 abbrev pub bytesOf : String → List ℕ
 bytesOf empty = []
@@ -35,6 +39,15 @@ refusedText x at = bytesOf "refused " ++ numberText (pos (number x)) ++ bytesOf 
 abbrev pub acceptedText : ℕ → ℤ → List ℕ
 acceptedText rounds bound = bytesOf "accepted " ++ numberText (pos rounds) ++ bytesOf " " ++ numberText bound ++ bytesOf "\n"
 
+-- the judgement of a case and a log: accepted with the rounds and the upper bound, or the refusal and its line in the whole input
+pub data Judged : Type 0 where
+  accepted : ℕ → ℤ → Judged
+  refused : Refusal → ℕ → Judged
+
+abbrev pub judgedText : Judged → List ℕ
+judgedText (accepted rounds bound) = acceptedText rounds bound
+judgedText (refused x at) = refusedText x at
+
 -- the table that a program lends: as long as the head of the case asks
 abbrev pub tableFor : CaseSize → List ℤ
 tableFor (CaseSize.Size n d m long) = replicate long (pos 0)
@@ -44,29 +57,33 @@ module _ (r : Rules) where
   -- ---- `replay`: a case and its log, one after the other
 
   -- the first line answered by a number, counted from `at`; at the end 14 also where a part line is left
-  abbrev pub verdict : ℕ → List (Option Refusal) → Option Refusal → Bool → List ℕ → List ℕ
-  verdict at [] none part accepted = if part then refusedText CutShort at else accepted
-  verdict at [] (some x) part accepted = refusedText x at
-  verdict at (none ∷ xs) end part accepted = verdict (at + 1) xs end part accepted
-  verdict at (some x ∷ xs) end part accepted = refusedText x at
+  abbrev pub firstNumber : ℕ → List (Option Refusal) → Option Refusal → Bool → Judged → Judged
+  firstNumber at [] none part good = if part then refused CutShort at else good
+  firstNumber at [] (some x) part good = refused x at
+  firstNumber at (none ∷ xs) end part good = firstNumber (at + 1) xs end part good
+  firstNumber at (some x ∷ xs) end part good = refused x at
 
-  abbrev pub replayLog : Case → List ℤ → ℕ → List ℕ → List ℕ
-  replayLog c w at log =
+  -- the log begins at line `at`
+  abbrev pub judgeLog : Case → List ℤ → ℕ → List ℕ → Judged
+  judgeLog c w at log =
       let lines = linesIn (r .amountWidth) log in
       let s = after r (fresh c w) lines in
-      verdict at (answers r (fresh c w) lines) (atEnd s) (hasPart (r .amountWidth) log) (acceptedText (s .rounds) (upperBound c (s .weights)))
+      firstNumber at (answers r (fresh c w) lines) (atEnd s) (hasPart (r .amountWidth) log) (accepted (s .rounds) (upperBound c (s .weights)))
 
-  abbrev pub replayRead : List ℕ → CaseCall → FileAnswer → List ℕ
-  replayRead t call (FileAnswer.Refused x at) = refusedText x at
-  replayRead t call (FileAnswer.Read lines) =
-      replayLog (call .read .case) (call .table) lines (drop (lines * lineLength (r .amountWidth)) t)
+  abbrev pub judgeRead : List ℕ → CaseCall → FileAnswer → Judged
+  judgeRead t call (FileAnswer.Refused x at) = refused x at
+  judgeRead t call (FileAnswer.Read lines) =
+      judgeLog (call .read .case) (call .table) lines (drop (lines * lineLength (r .amountWidth)) t)
+
+  abbrev pub judge : List ℕ → Judged
+  judge t =
+      let call = readCase r t (tableFor (caseSize r t)) in
+      judgeRead t call (call .read .answer)
 
   abbrev pub replayPrints : List ℕ → List ℕ
-  replayPrints t =
-      let call = readCase r t (tableFor (caseSize r t)) in
-      replayRead t call (call .read .answer)
+  replayPrints t = judgedText (judge t)
 
-  -- ---- `press`: a case alone, and up to 100,000 rounds
+  -- ---- `press`: a case alone, and the log of up to 100,000 rounds
 
   -- a refusal by the engine counts as met at the line after the input's last
   abbrev pub pressEnd : ℕ → RunAnswer → List ℕ
@@ -79,7 +96,7 @@ module _ (r : Rules) where
 
   abbrev pub pressRead : CaseCall → FileAnswer → List ℕ
   pressRead call (FileAnswer.Refused x at) = refusedText x at
-  pressRead call (FileAnswer.Read lines) = pressRun lines (run r engineNext (call .read .case) 100_000 (call .table))
+  pressRead call (FileAnswer.Read lines) = pressRun lines (run r engineNext (call .read .case) pressLimit (call .table))
 
   abbrev pub pressPrints : List ℕ → List ℕ
   pressPrints t =

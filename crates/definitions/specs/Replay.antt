@@ -1,12 +1,12 @@
 -- Document 01, "The plain replay". Assumes nothing.
 use mathlib.Core.Bool.{Bool, true, false, not, _&&_, _||_}
 use mathlib.Core.Option.{Option, none, some}
-use mathlib.Core.List.{List, [], _∷_, _++_, map}
+use mathlib.Core.List.{List, [], _∷_, _++_}
 use Prim.Native.Nat.{ℕ, _+_, _-_}
 use lib.IntN.{ℤ, pos, natAbs}
 use lib.Dec.{leb, ltb, eqb}
 use lib.Signed.{ltZ}
-use Rattle.integers.specs.Words.{if_then_else_, last, withinZ, minus, eqZ, isSome}
+use Rattle.integers.specs.Words.{if_then_else_, last, withinZ, eqZ, isSome}
 use Rattle.definitions.specs.declared.Case.{Case}
 use Rattle.definitions.specs.declared.Line.{Line}
 use Rattle.definitions.specs.declared.Refusal.{Refusal}
@@ -22,19 +22,10 @@ use Rattle.definitions.specs.declared.Refusal.the-variants.{
   CutShort,
 }
 use Rattle.definitions.specs.Rules.{Rules}
-use Rattle.definitions.specs.Refusals.{Test, _when_, firstOf, numberOf}
+use Rattle.definitions.specs.Refusals.{Test, _when_, firstOf}
 use Rattle.definitions.specs.Case.{scopeCount, upperBound}
-use Rattle.definitions.specs.Moves.{Move, shift, press, moved, activeRefuted, leavesRange}
+use Rattle.definitions.specs.Moves.{Move, shift, press, shiftAmount, pressAmount, moved, activeRefuted, leavesRange}
 use Rattle.definitions.specs.Lines.{readLine, notDue, isKind, outside}
-
--- ---- what moves ask, whoever makes them
-
--- a shift's amount is not 0, and either's is within the limit of moves
-abbrev pub shiftAmount : Rules → ℤ → Bool
-shiftAmount r a = withinZ (minus (r .moving)) (pos (r .moving)) a && not (eqZ a (pos 0))
-
-abbrev pub pressAmount : Rules → ℤ → Bool
-pressAmount r a = withinZ (pos 1) (pos (r .moving)) a
 
 -- ---- the state
 

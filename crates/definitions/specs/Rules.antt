@@ -61,37 +61,50 @@ standard = record {
       ∷ [];
 }
 
+-- the places of the arrays in a case's record and in the replay's, which hold what the greatest rules ask
+abbrev pub edgePlaces : ℕ
+edgePlaces = 96
+
+abbrev pub scopePlaces : ℕ
+scopePlaces = 144
+
 abbrev pub scopesAtMost : Rules → ℕ
 scopesAtMost r = r .variables + r .edges
 
 -- what proofs use in place of the numbers
 pub record Coherent (r : Rules) : Type 0 where
-  -- a value set fits a byte, and so does the number of a variable; the number of a scope fits its column
+  -- a value set fits a byte, and so does the number of a variable; the number of a scope fits its column; the arrays have places for all
   pub values-few : r .values ≤ 8
   pub variables-few : r .variables ≤ 256
   pub scopes-few : scopesAtMost r < 10 ^ 4
+  pub edges-placed : r .edges ≤ edgePlaces
+  pub scopes-placed : scopesAtMost r ≤ scopePlaces
   -- starting weights are working weights, with room for every press of the engine
   pub room : (2 * scopesAtMost r + 1) * r .starting ≤ r .working
   -- the difference of two working weights is the amount of a move
   pub difference : 2 * r .working ≤ r .moving
-  -- amounts of moves, weights and upper bounds fit the amount column with a minus, and the column fits 18 digits
+  -- amounts of moves and upper bounds fit the amount column with a minus, and a number of that column fits 64 bits
+  pub amount-some : 0 < r .amountWidth
   pub moving-fits : r .moving < 10 ^ (r .amountWidth - 1)
   pub bound-fits : scopesAtMost r * r .working < 10 ^ (r .amountWidth - 1)
-  pub amount-some : 0 < r .amountWidth
   pub amount-fits : r .amountWidth ≤ 18
-  -- a count of rounds fits 64 bits
+  -- a count of rounds fits 64 bits, and is never used up from starting weights
   pub rounds-fit : r .rounds < 2 ^ 63
+  pub rounds-enough : 2 * (scopesAtMost r * r .starting) ≤ r .rounds
 
 pub standard-coherent : Coherent standard
 standard-coherent = record {
   values-few = lit≤ tt;
   variables-few = lit≤ tt;
   scopes-few = lit< tt;
+  edges-placed = lit≤ tt;
+  scopes-placed = lit≤ tt;
   room = lit≤ tt;
   difference = lit≤ tt;
+  amount-some = lit< tt;
   moving-fits = lit< tt;
   bound-fits = lit< tt;
-  amount-some = lit< tt;
   amount-fits = lit≤ tt;
   rounds-fit = lit< tt;
+  rounds-enough = lit≤ tt;
 }

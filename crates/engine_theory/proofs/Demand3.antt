@@ -7,7 +7,7 @@ use mathlib.Core.Option.{none}
 use mathlib.Core.List.{List, [], map}
 use Prim.Native.Nat.{ℕ, _≤_}
 use lib.IntN.{ℤ, pos, _+ℤ_}
-use lib.Dec.{T, lit≤}
+use lib.Dec.{T}
 use lib.Signed.{_≤ℤ_}
 use lib.ListN.{length}
 use Rattle.definitions.specs.declared.Case.{Case}
@@ -23,7 +23,7 @@ use Rattle.theory.proofs.Validity.{Handed}
 use Rattle.theory.proofs.Replays.{accepted-iff, keeps-iff, total-kept, bound-sound, rounds-few, handed-after}
 use Rattle.theory.proofs.Rounds.{MoveKinds, standard-kinds}
 use Rattle.engine_theory.proofs.Trim.{Settled}
-use Rattle.engine_theory.proofs.Runs.{boundLines, RoundsEnough, engine-lawful, engine-free, run-settled, run-limit, run-log-taken, run-log-answers, run-log-ends, run-never-refused, run-settles}
+use Rattle.engine_theory.proofs.Runs.{boundLines, engine-lawful, engine-free, run-settled, run-limit, run-log-taken, run-log-answers, run-log-ends, run-never-refused, run-settles}
 use Rattle.engine_theory.proofs.Calls.{SameRun, taken-iff, same-run, call-lines, call-bound-lines}
 
 -- a list is accepted if the replay gives no number at any of its lines or at its end
@@ -68,7 +68,7 @@ pub record PlainDemand3 (r : Rules) (c : Case) (w : List ℤ) : Type 0 where
   -- "In demand 3 a run is lent what number 4 asks" (document 01)
   pub any-run : (limit : ℕ) (out : List ℕ) → roundBytes r c ≤ length out → RunTrusted r c w limit (length out) (runCall r engineNext c limit w out)
 
-module _ {r : Rules} (coherent : Coherent r) (kinds : MoveKinds r) (enough : RoundsEnough r) (c : Case) (w : List ℤ) (t : T (valid r c w)) where
+module _ {r : Rules} (coherent : Coherent r) (kinds : MoveKinds r) (c : Case) (w : List ℤ) (t : T (valid r c w)) where
   lines-trusted : (ts : List (List ℕ)) → LinesTrusted r c w ts (after r (fresh c w) ts)
   lines-trusted ts = record {
     accepted = (
@@ -88,18 +88,18 @@ module _ {r : Rules} (coherent : Coherent r) (kinds : MoveKinds r) (enough : Rou
       let taken = taken-iff r engineNext c w out .1 (h, long) in
       let same = same-run coherent lawful limit w out taken in
       let lines = call-lines coherent lawful limit w out taken in
-      let replayed = ap (after r (fresh c w)) lines ∙ run-log-taken coherent kinds enough lawful w t limit in
+      let replayed = ap (after r (fresh c w)) lines ∙ run-log-taken coherent kinds lawful w t limit in
       record {
         same = same;
         settled = rw (same .answer, same .table) (run-settled r c (h .shape) limit w);
         limited = rw (same .answer, same .rounds, same .table) (run-limit r c (h .shape) limit w);
-        unrefused = rw (same .answer) (run-never-refused coherent kinds enough lawful w t free limit);
+        unrefused = rw (same .answer) (run-never-refused coherent kinds lawful w t free limit);
         bound-lines = call-bound-lines coherent lawful limit w out;
-        log-accepted = rw lines (record { each = run-log-answers coherent kinds enough lawful w t limit; end = run-log-ends coherent kinds enough lawful w t limit });
+        log-accepted = rw lines (record { each = run-log-answers coherent kinds lawful w t limit; end = run-log-ends coherent kinds lawful w t limit });
         log-rounds = ap (λ (s : State). s .rounds) replayed ∙ sym (same .rounds);
         log-bound = ap (λ (s : State). upperBound c (s .weights)) replayed ∙ sym (same .bound);
         log-weights = ap (λ (s : State). s .weights) replayed ∙ sym (same .table);
-        settles = λ p a l. same .answer ∙ run-settles coherent kinds enough lawful w t free limit p a l;
+        settles = λ p a l. same .answer ∙ run-settles coherent kinds lawful w t free limit p a l;
       }
 
   pub plain-demand3 : PlainDemand3 r c w
@@ -107,4 +107,4 @@ module _ {r : Rules} (coherent : Coherent r) (kinds : MoveKinds r) (enough : Rou
 
 -- with document 01's numbers, for every valid case
 pub standard-demand3 : (c : Case) (w : List ℤ) → T (valid standard c w) → PlainDemand3 standard c w
-standard-demand3 = plain-demand3 standard-coherent (standard-kinds standard refl) (lit≤ tt)
+standard-demand3 = plain-demand3 standard-coherent (standard-kinds standard refl)

@@ -244,16 +244,12 @@ few-rounds done s most b₀ b d h l k m = (h ▸ l ▸ k ▸ simp flat (omega zs
 too-many : (rounds limit : ℕ) (b z : ℤ) → rounds ≡ limit → b ≤ℤ (pos limit +ℤ z) → (pos (suc rounds) +ℤ z) ≤ℤ b → ⊥
 too-many rounds limit b z e h k = e ▸ h ▸ k ▸ simp flat (omega zs)
 
--- the replay's count has room for as many rounds as starting weights allow
-abbrev pub RoundsEnough : Rules → Type 0
-RoundsEnough r = 2 * (scopesAtMost r * r .starting) ≤ r .rounds
-
 -- tables from which no round leaves the working range, the first among them
 pub record Free (r : Rules) (next : Case → List ℤ → Next) (c : Case) (w₀ : List ℤ) (Reach : List ℤ → Type 0) : Type 0 where
   pub first : Reach w₀
   pub goes : {w : List ℤ} {moves : List Move} → Reach w → next c w ≡ round moves → (v : List ℤ) × (afterMoves r c moves w ≡ some v) × Reach v
 
-module _ {r : Rules} {next : Case → List ℤ → Next} {c : Case} (coherent : Coherent r) (kinds : MoveKinds r) (enough : RoundsEnough r)
+module _ {r : Rules} {next : Case → List ℤ → Next} {c : Case} (coherent : Coherent r) (kinds : MoveKinds r)
     (lawful : Lawful r next c) (w₀ : List ℤ) (t : T (valid r c w₀)) where
   module _ {done : ℕ} {w : List ℤ} {log : List (List ℕ)} (p : Replayed r c w₀ done w log) where
     replayed-handed : Handed r (workingWeight r) c w

@@ -24,9 +24,9 @@ use Rattle.definitions.specs.Rules.{Rules, Coherent}
 use Rattle.definitions.specs.Refusals.{Test, firstOf}
 use Rattle.definitions.specs.Case.{ownLength, isAssignment, objective, upperBound}
 use Rattle.definitions.specs.Valid.{workingWeight, allWeights, valid}
-use Rattle.definitions.specs.Moves.{Move, shift, press, activeRefuted, difference, moved, leavesRange}
+use Rattle.definitions.specs.Moves.{Move, shift, press, pressAmount, activeRefuted, difference, moved, leavesRange}
 use Rattle.definitions.specs.Lines.{readLine, notDue, isKind, outside}
-use Rattle.definitions.specs.Replay.{pressAmount, Held, State, fresh, afterMove, holding, afterBound, refused, kindsDue, shiftOf, shiftTests, pressTests, heldOf, raising, isLast, pressOf, raiseTests, boundTests, testsOfKind, lineTests, taken, answered, stepUnrefused, step, after, answers, atEnd, keepsRules}
+use Rattle.definitions.specs.Replay.{Held, State, fresh, afterMove, holding, afterBound, refused, kindsDue, shiftOf, shiftTests, pressTests, heldOf, raising, isLast, pressOf, raiseTests, boundTests, testsOfKind, lineTests, taken, answered, stepUnrefused, step, after, answers, atEnd, keepsRules}
 use Rattle.theory.proofs.Shape.{Shape}
 use Rattle.theory.proofs.Places.{all-weights, plus-length}
 use Rattle.theory.proofs.Totals.{bound-above}
@@ -57,7 +57,7 @@ pub data Stepped (r : Rules) (s : State) : State → Type 0 where
 abbrev pub Quiet : List Test → Type 0
 Quiet ts = T (all (λ t. not (t .applies)) ts)
 
-inside : (n : ℕ) (z : ℤ) → T (not (outside n z)) → natAbs z < n
+pub inside : (n : ℕ) (z : ℤ) → T (not (outside n z)) → natAbs z < n
 inside n (pos x) t = t ▸ simp flat (omega zs)
 inside n (negsuc x) t = absurd t
 

@@ -24,11 +24,11 @@ use Rattle.definitions.specs.Rules.{Rules, Coherent, standard, scopesAtMost}
 use Rattle.definitions.specs.Refusals.{firstOf}
 use Rattle.definitions.specs.Case.{scopeCount, greatest, upperBound}
 use Rattle.definitions.specs.Valid.{workingWeight, allWeights}
-use Rattle.definitions.specs.Moves.{Move, shift, press, activeRefuted, difference, moved, leavesRange}
+use Rattle.definitions.specs.Moves.{Move, shift, press, shiftAmount, pressAmount, activeRefuted, difference, moved, leavesRange}
 use Rattle.definitions.specs.Lines.{line, lineText, lineTooWide, readLine, notDue, outside}
 use Rattle.definitions.specs.Calls.{isRising}
 use Rattle.definitions.specs.Engine.{raiseLine, moveLines, boundLine, afterMoves, roundLines, roundText}
-use Rattle.definitions.specs.Replay.{shiftAmount, pressAmount, Held, State, holding, afterBound, kindsDue, notAbove, testsOfKind, lineTests, taken, answered, stepUnrefused, step, after, answers, atEnd}
+use Rattle.definitions.specs.Replay.{Held, State, holding, afterBound, kindsDue, notAbove, testsOfKind, lineTests, taken, answered, stepUnrefused, step, after, answers, atEnd}
 use Rattle.definitions.proofs.ColumnLaws.{fits-digits, fits}
 use Rattle.definitions.proofs.LineLaws.{each-fits, line-read}
 use Rattle.theory.proofs.Places.{first-tuple, greatest-at, all-weights, plus-length}

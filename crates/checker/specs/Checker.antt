@@ -8,11 +8,11 @@ use lib.IntN.{ℤ, pos, natAbs}
 use lib.Dec.{leb, ltb, eqb}
 use lib.Signed.{ltZ}
 use lib.ListN.{getD, drop, set, replicate}
-use Rattle.integers.specs.Words.{if_then_else_, all, within, withinZ, eqZ, isSome}
+use Rattle.integers.specs.Words.{if_then_else_, all, within, withinZ, eqZ}
 use Rattle.definitions.specs.declared.Case.{Case}
 use Rattle.definitions.specs.declared.Line.{Line}
 use Rattle.definitions.specs.declared.Refusal.{Refusal}
 use Rattle.definitions.specs.declared.Refusal.the-variants.{
   NotInColumns,
   NotDue,
   RaiseNotAscending,
@@ -22,28 +22,36 @@ use Rattle.definitions.specs.declared.Refusal.the-variants.{
   BoundNotLower,
   CutShort,
 }
 use Rattle.definitions.specs.declared.Outcome.{Outcome}
-use Rattle.definitions.specs.declared.LastRaised.{LastRaised}
-use Rattle.definitions.specs.declared.Due.{Due}
-use Rattle.definitions.specs.declared.Standing.{Standing}
-use Rattle.definitions.specs.declared.Replay.{Replay}
-use Rattle.definitions.specs.declared.Stepped.{Stepped}
-use Rattle.definitions.specs.declared.Block.{Block}
-use Rattle.definitions.specs.Rules.{Rules, scopesAtMost}
-use Rattle.definitions.specs.Refusals.{Test, _when_, firstOf}
-use Rattle.definitions.specs.Answers.{outcomeOf, standingOf}
+use Rattle.checker.specs.declared.LastRaised.{LastRaised}
+use Rattle.checker.specs.declared.Due.{Due}
+use Rattle.checker.specs.declared.Standing.{Standing}
+use Rattle.checker.specs.declared.Replay.{Replay}
+use Rattle.checker.specs.declared.Stepped.{Stepped}
+use Rattle.checker.specs.declared.Block.{Block}
+use Rattle.definitions.specs.Rules.{Rules, scopePlaces}
+use Rattle.definitions.specs.Refusals.{number, Test, _when_, firstOf}
+use Rattle.definitions.specs.Answers.{Says, outcomeOf}
 use Rattle.definitions.specs.Case.{scopeCount, upperBound}
 use Rattle.definitions.specs.Valid.{startingWeight, workingWeight, limitTest, edgeTests, handedOver}
 use Rattle.definitions.specs.Consistency.{allRefuted}
-use Rattle.definitions.specs.Moves.{plus, shiftBy, pressBy, activeValues, leavesRange}
+use Rattle.definitions.specs.Moves.{plus, shiftBy, pressBy, shiftAmount, pressAmount, activeValues, leavesRange}
 use Rattle.definitions.specs.Lines.{readLine, notDue, isKind, outside, linesIn}
-use Rattle.definitions.specs.Replay.{shiftAmount, pressAmount}
 
 -- what stands between lines: the case, the lent table, the record
 pub record Between : Type 0 where
   pub case : Case
   pub table : List ℤ
   pub replay : Replay
+
+abbrev pub standingOf : Option Refusal → Standing
+standingOf none = Standing.Good
+standingOf (some x) = Standing.Refused x
+
+-- what a standing says in document 01's terms
+abbrev pub standingSays : Standing → Says
+standingSays Standing.Good = record { number = 0; values = [] }
+standingSays (Standing.Refused x) = record { number = number x; values = [] }
 
 -- a step and a block, with the lent table after them
 pub record StepCall : Type 0 where
@@ -62,6 +70,9 @@ pub record Asked : Type 0 where
   pub next : Replay
 
 -- ---- the record
+
+abbrev pub noneRaised : List ℕ
+noneRaised = replicate scopePlaces 0
 
 -- a byte that is not 0 marks a raised scope
 abbrev pub isRaised : List ℕ → ℕ → Bool
@@ -82,6 +93,24 @@ dueKinds (Due.Raise i a left lastOne) = 3 ∷ []
 abbrev pub isHeld : Due → Bool
 isHeld Due.MoveOrBound = false
 isHeld (Due.Raise i a left lastOne) = true
+
+abbrev pub freshOf : Option Refusal → ℤ → Replay
+freshOf none bound = record {
+  rounds = 0;
+  start = bound;
+  moved = false;
+  raised = noneRaised;
+  due = Due.MoveOrBound;
+  standing = Standing.Good;
+}
+freshOf (some x) bound = record {
+  rounds = 0;
+  start = pos 0;
+  moved = false;
+  raised = noneRaised;
+  due = Due.MoveOrBound;
+  standing = Standing.Refused x;
+}
 
 -- ---- the next record: after a shift, inside a press, after a bound line, refused
 
@@ -112,6 +141,17 @@ inPress p raised due = record {
   moved = p .moved;
   raised = raised;
   due = due;
+  standing = Standing.Good;
+}
+
+-- no press, nothing raised
+abbrev pub afterPress : Replay → Replay
+afterPress p = record {
+  rounds = p .rounds;
+  start = p .start;
+  moved = true;
+  raised = noneRaised;
+  due = Due.MoveOrBound;
   standing = Standing.Good;
 }
 
@@ -147,9 +187,6 @@ firstRefused (Outcome.Done ∷ os) = firstRefused os
 firstRefused (Outcome.Refused x ∷ os) = Outcome.Refused x
 
 module _ (r : Rules) where
-  abbrev pub noneRaised : List ℕ
-  noneRaised = replicate (scopesAtMost r) 0
-
   -- number 5 of what is due: inside a press its variable, amount, lines left, last scope, and every scope raised
   abbrev pub dueOut : Case → List ℕ → Due → Bool
   dueOut c raised Due.MoveOrBound = false
@@ -162,37 +199,8 @@ module _ (r : Rules) where
 
   -- ---- fresh: refused, the record stands refused and is zero else
 
-  abbrev pub freshOf : Option Refusal → ℤ → Replay
-  freshOf none bound = record {
-    rounds = 0;
-    start = bound;
-    moved = false;
-    raised = noneRaised;
-    due = Due.MoveOrBound;
-    standing = Standing.Good;
-  }
-  freshOf (some x) bound = record {
-    rounds = 0;
-    start = pos 0;
-    moved = false;
-    raised = noneRaised;
-    due = Due.MoveOrBound;
-    standing = Standing.Refused x;
-  }
-
   unfoldable pub freshReplay : Case → List ℤ → Replay
   freshReplay c w = freshOf (firstOf (handedOver r (startingWeight r) c w false false)) (upperBound c w)
-
-  -- no press, nothing raised
-  abbrev pub afterPress : Replay → Replay
-  afterPress p = record {
-    rounds = p .rounds;
-    start = p .start;
-    moved = true;
-    raised = noneRaised;
-    due = Due.MoveOrBound;
-    standing = Standing.Good;
-  }
 
   -- ---- each kind of line
 

@@ -1,0 +1,209 @@
+-- The replay's calls on the sample cases, on records that are handed over, and on blocks, by computation. Assumes nothing.
+use mathlib.Core.Path.{_≡_, refl}
+use mathlib.Core.Bool.{Bool, true, false}
+use mathlib.Core.List.{List, [], _∷_, _++_, map}
+use Prim.Native.Nat.{ℕ, _+_, _-_}
+use Prim.Native.String.{String}
+use lib.IntN.{ℤ, pos}
+use lib.ListN.{length, replicate}
+use Rattle.integers.specs.Words.{joined, minus}
+use Rattle.definitions.specs.declared.Case.{Case}
+use Rattle.definitions.specs.declared.Outcome.{Outcome}
+use Rattle.definitions.specs.declared.Refusal.the-variants.{RaiseNotAscending}
+use Rattle.definitions.specs.Rules.{standard}
+use Rattle.definitions.specs.Answers.{outcomeSays}
+use Rattle.definitions.specs.Case.{upperBound}
+use Rattle.definitions.specs.Programs.{bytesOf}
+use Rattle.definitions.specs.Samples.{
+  Input,
+  Question,
+  bound-of,
+  run-of,
+  replay-of,
+  all-active,
+  press-on,
+  replay-on,
+  Result,
+  replayed,
+  Sample,
+  samples,
+  ourSamples,
+  answer,
+  triangle,
+  clash,
+  texts,
+  log1,
+  log6,
+  zeros,
+}
+use Rattle.checker.specs.declared.LastRaised.{LastRaised}
+use Rattle.checker.specs.declared.Due.{Due}
+use Rattle.checker.specs.declared.Standing.{Standing}
+use Rattle.checker.specs.declared.Replay.{Replay}
+use Rattle.checker.specs.declared.Stepped.{Stepped}
+use Rattle.checker.specs.declared.Block.{Block}
+use Rattle.checker.specs.Checker.{
+  Between,
+  StepCall,
+  BlockCall,
+  standingSays,
+  freshReplay,
+  stepReplay,
+  endReplay,
+  afterLines,
+  lineAnswers,
+  blockReplay,
+}
+
+-- ---- the samples of document 01 and ours: a replay is answered by the fold of step
+
+abbrev start : Input → Between
+start i = record { case = i .case; table = i .weights; replay = freshReplay standard (i .case) (i .weights) }
+
+abbrev checked : Between → List ℕ → Result
+checked b numbers =
+    replayed numbers (outcomeSays (endReplay standard (b .case) (b .replay)) .number) (b .replay .rounds) (upperBound (b .case) (b .table)) (b .table)
+
+abbrev answerByRecord : Question → Result
+answerByRecord (replay-of i ts) =
+    checked (afterLines standard (start i) (texts ts)) (map (λ o. outcomeSays o .number) (lineAnswers standard (start i) (texts ts)))
+answerByRecord (bound-of i) = answer (bound-of i)
+answerByRecord (run-of i limit) = answer (run-of i limit)
+answerByRecord (all-active i limit) = answer (all-active i limit)
+answerByRecord (press-on ts) = answer (press-on ts)
+answerByRecord (replay-on ts) = answer (replay-on ts)
+
+pub samples-hold-of-records : map (λ s. answerByRecord (s .ask)) samples ≡ map (λ s. s .gives) samples
+unfolding freshReplay stepReplay endReplay
+samples-hold-of-records = refl
+
+pub our-samples-hold-of-records : map (λ s. answerByRecord (s .ask)) ourSamples ≡ map (λ s. s .gives) ourSamples
+unfolding freshReplay stepReplay endReplay
+our-samples-hold-of-records = refl
+
+-- ---- records that are handed over: a number for each line, and what the record holds after it
+
+abbrev most : ℕ
+most = 999_999_999_999_999_999
+
+-- marks for all scopes, the first of them given
+abbrev marksOf : List ℕ → List ℕ
+marksOf marks = marks ++ replicate (144 - length marks) 0
+
+abbrev between : ℕ → Replay
+between rounds = record {
+  rounds = rounds;
+  start = pos 4;
+  moved = false;
+  raised = marksOf [];
+  due = Due.MoveOrBound;
+  standing = Standing.Good;
+}
+
+abbrev inside : ℕ → ℤ → ℕ → LastRaised → List ℕ → Replay
+inside i a left last marks = record {
+  rounds = 0;
+  start = pos 4;
+  moved = true;
+  raised = marksOf marks;
+  due = Due.Raise i a left last;
+  standing = Standing.Good;
+}
+
+abbrev onClash : Replay → String → StepCall
+onClash p line = stepReplay standard (clash .case) (clash .weights) p (bytesOf line)
+
+abbrev numberOf : StepCall → ℕ
+numberOf q = outcomeSays (q .stepped .answer) .number
+
+abbrev shiftLine : String
+shiftLine = " 1   0   0   0          -2\n"
+
+abbrev raise2 : String
+raise2 = " 3   2   0   0           0\n"
+
+pub records-asked :
+    map numberOf
+    -- the count of rounds: one at its end passes but for a bound line, one past it does not
+    (onClash (between most) shiftLine
+    ∷ onClash (between most) " 4   0   0   0           4\n"
+    ∷ onClash (between (most + 1)) shiftLine
+    -- number 2 comes before the record's 5, and that before 10
+    ∷ onClash (between (most + 1)) raise2
+    ∷ onClash (inside 0 (pos 1) 1 LastRaised.Nothing []) raise2
+    ∷ onClash (inside 2 (pos 1) 1 LastRaised.Nothing []) raise2
+    ∷ onClash (inside 0 (pos 0) 1 LastRaised.Nothing []) raise2
+    ∷ onClash (inside 0 (pos 1) 0 LastRaised.Nothing []) raise2
+    ∷ onClash (inside 0 (pos 1) 3 LastRaised.Nothing []) raise2
+    ∷ onClash (inside 0 (pos 1) 1 (LastRaised.Scope 3) []) raise2
+    ∷ onClash (inside 0 (pos 1) 1 (LastRaised.Scope 2) []) raise2
+    ∷ onClash (inside 0 (pos 1) 1 LastRaised.Nothing (0 ∷ 0 ∷ 0 ∷ 1 ∷ [])) raise2
+    -- any byte but 0 marks a scope: with 1 raised the press is made
+    ∷ onClash (inside 0 (pos 1) 1 LastRaised.Nothing (0 ∷ 255 ∷ [])) raise2
+    ∷ [])
+    ≡ 0 ∷ 5 ∷ 5 ∷ 2 ∷ 10 ∷ 5 ∷ 5 ∷ 5 ∷ 5 ∷ 5 ∷ 9 ∷ 5 ∷ 0 ∷ []
+unfolding stepReplay
+records-asked = refl
+
+-- a refused step changes the standing alone; a press made leaves nothing raised
+pub refused-keeps : onClash (inside 0 (pos 1) 2 (LastRaised.Scope 2) (0 ∷ 0 ∷ 1 ∷ [])) raise2 .stepped .replay
+    ≡ record {
+      rounds = 0;
+      start = pos 4;
+      moved = true;
+      raised = marksOf (0 ∷ 0 ∷ 1 ∷ []);
+      due = Due.Raise 0 (pos 1) 2 (LastRaised.Scope 2);
+      standing = Standing.Refused RaiseNotAscending;
+    }
+unfolding stepReplay
+refused-keeps = refl
+
+pub press-made : onClash (inside 0 (pos 1) 1 (LastRaised.Scope 1) (0 ∷ 1 ∷ [])) raise2
+    ≡ record {
+      stepped = record {
+        replay = record {
+          rounds = 0;
+          start = pos 4;
+          moved = true;
+          raised = marksOf [];
+          due = Due.MoveOrBound;
+          standing = Standing.Good;
+        };
+        answer = Outcome.Done;
+      };
+      table = pos 1 ∷ pos 0 ∷ pos 2 ∷ pos 1 ∷ minus 2 ∷ zeros 3;
+    }
+unfolding stepReplay
+press-made = refl
+
+-- ---- fresh and end: number 8 stands, and is answered before anything else is looked at
+
+abbrev tooHigh : Replay
+tooHigh = freshReplay standard (clash .case) (pos 1_000_001 ∷ zeros 7)
+
+pub fresh-refused :
+    _≡_ {A = ℤ × ℕ × ℕ} (tooHigh .start, standingSays (tooHigh .standing) .number, numberOf (onClash tooHigh "x")) (pos 0, 8, 8)
+unfolding freshReplay stepReplay
+fresh-refused = refl
+
+pub ends :
+    map (λ p. outcomeSays (endReplay standard (clash .case) p) .number)
+    (tooHigh ∷ between 0 ∷ between (most + 1) ∷ inside 0 (pos 1) 1 LastRaised.Nothing [] ∷ inside 2 (pos 1) 1 LastRaised.Nothing [] ∷ [])
+    ≡ 8 ∷ 0 ∷ 5 ∷ 14 ∷ 5 ∷ []
+unfolding freshReplay endReplay
+ends = refl
+
+-- ---- blocks: five lines and a part of one; a shift and a bound line that is not lower; no whole line asks nothing
+
+abbrev blockSays : BlockCall → ℕ × ℕ
+blockSays q = (q .block .lines, outcomeSays (q .block .answer) .number)
+
+pub blocks :
+    blockSays (blockReplay standard (triangle .case) (triangle .weights) (start triangle .replay) (joined (texts log1) ++ (32 ∷ [])))
+    ∷ blockSays (blockReplay standard (clash .case) (clash .weights) (start clash .replay) (joined (texts (shiftLine ∷ " 4   0   0   0           4\n" ∷ "x" ∷ []))))
+    ∷ blockSays (blockReplay standard (clash .case) (clash .weights) tooHigh (bytesOf "x"))
+    ∷ blockSays (blockReplay standard (clash .case) (clash .weights) tooHigh (joined (texts log6)))
+    ∷ []
+    ≡ (5, 0) ∷ (1, 13) ∷ (0, 0) ∷ (0, 8) ∷ []
+unfolding freshReplay stepReplay blockReplay
+blocks = refl
