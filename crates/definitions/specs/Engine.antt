@@ -2,11 +2,11 @@
 use mathlib.Core.Bool.{Bool, true, false, not, _&&_, _||_}
 use mathlib.Core.Option.{Option, none, some}
 use mathlib.Core.List.{List, [], _∷_, _++_, map}
-use Prim.Native.Nat.{ℕ, zero, suc, _+_, _*_}
+use Prim.Native.Nat.{ℕ, zero, suc, _+_, _*_, _<_}
 use lib.IntN.{ℤ, pos, _-ℤ_}
-use lib.Dec.{eqb}
+use lib.Dec.{T, eqb}
 use lib.ListN.{length}
-use Rattle.integers.specs.Words.{if_then_else_, below, those, first, joined, greatestOf, leastOf}
+use Rattle.integers.specs.Words.{if_then_else_, below, isIn, those, first, joined, greatestOf, leastOf}
 use Rattle.definitions.specs.declared.Case.{Case}
 use Rattle.definitions.specs.declared.Line.{Line}
 use Rattle.definitions.specs.declared.Refusal.{Refusal}
@@ -14,6 +14,7 @@ use Rattle.definitions.specs.declared.Refusal.the-variants.{LeavesRange}
 use Rattle.definitions.specs.declared.RunAnswer.{RunAnswer}
 use Rattle.definitions.specs.Rules.{Rules}
 use Rattle.definitions.specs.Case.{scopes, scopeCount, eachTuple, weight, greatest, active, upperBound}
+use Rattle.definitions.specs.Consistency.{Family, Supported}
 use Rattle.definitions.specs.Moves.{Move, shift, press, moved, activeRefuted, leavesRange}
 use Rattle.definitions.specs.Lines.{line, lineText, lineLength}
 
@@ -26,6 +27,11 @@ others c i = those (λ x. not (eqb x i)) (scopes c)
 -- the lowest variable whose active values are all refuted with all other scopes raised
 abbrev pub chosen : Case → List ℤ → Option ℕ
 chosen c w = first (those (λ i. activeRefuted c w i (others c i)) (below (c .n)))
+
+-- if there is none, the state is settled: every variable has an active value with a supported family, all other scopes raised. This says it
+-- without an algorithm (engine_theory, Trim.settled-iff)
+abbrev pub Settled : Case → List ℤ → Type 0
+Settled c w = (i : ℕ) → i < c .n → (k : ℕ) × (k < c .d) × T (active c w i k 0) × (S : Family) × Supported c w (isIn (others c i)) i k S
 
 -- upwards through the raised scopes, dropping each one without which the values stay refuted: `kept` were kept, `rest` are still to be tried
 abbrev pub trimmed : Case → List ℤ → ℕ → List ℕ → List ℕ → List ℕ
@@ -56,6 +62,7 @@ pub data Next : Type 0 where
   nothing : Next
   round : List Move → Next
 
+-- a chosen variable always has a least gap (engine_theory, Gaps.amount), so that the first line is never used
 abbrev pub pressRound : Case → List ℤ → ℕ → Option ℤ → Next
 pressRound c w i none = nothing
 pressRound c w i (some a) = round (press i (keptScopes c w i) a ∷ [])

@@ -17,12 +17,11 @@ use Rattle.definitions.specs.Case.{isAssignment, objective, upperBound}
 use Rattle.definitions.specs.Valid.{workingWeight, valid}
 use Rattle.definitions.specs.Lines.{linesIn}
 use Rattle.definitions.specs.Replay.{State, fresh, after, answers, atEnd, keepsRules}
-use Rattle.definitions.specs.Engine.{engineNext, roundBytes, run}
+use Rattle.definitions.specs.Engine.{Settled, engineNext, roundBytes, run}
 use Rattle.definitions.specs.EngineCalls.{RunCall, runCall}
 use Rattle.theory.proofs.Validity.{Handed}
 use Rattle.theory.proofs.Replays.{accepted-iff, keeps-iff, total-kept, bound-sound, rounds-few, handed-after}
 use Rattle.theory.proofs.Rounds.{MoveKinds, standard-kinds}
-use Rattle.engine_theory.proofs.Trim.{Settled}
 use Rattle.engine_theory.proofs.Runs.{boundLines, engine-lawful, engine-free, run-settled, run-limit, run-log-taken, run-log-answers, run-log-ends, run-never-refused, run-settles}
 use Rattle.engine_theory.proofs.Calls.{SameRun, taken-iff, same-run, call-lines, call-bound-lines}
 

@@ -31,13 +31,13 @@ use Rattle.definitions.specs.Valid.{workingWeight, valid}
 use Rattle.definitions.specs.Moves.{Move, shift, press, leavesRange}
 use Rattle.definitions.specs.Lines.{lineText, lineLength, lineTooWide, readLine, isKind}
 use Rattle.definitions.specs.Replay.{State, fresh, after, answers, atEnd}
-use Rattle.definitions.specs.Engine.{chosen, leastGap, Next, nothing, round, keptScopes, engineNext, raiseLine, moveLines, boundLine, afterMoves, roundLines, roundText, madeOf, makeNext, RunOf, stopped, atLimit, onward, runFrom, run}
+use Rattle.definitions.specs.Engine.{Settled, chosen, leastGap, Next, nothing, round, keptScopes, engineNext, raiseLine, moveLines, boundLine, afterMoves, roundLines, roundText, madeOf, makeNext, RunOf, stopped, atLimit, onward, runFrom, run}
 use Rattle.definitions.proofs.LineLaws.{line-read, line-length}
 use Rattle.theory.proofs.Shape.{Shape}
 use Rattle.theory.proofs.Validity.{Handed, valid-facts}
 use Rattle.theory.proofs.Replays.{no-number, bound-sound, rounds-few, handed-after}
 use Rattle.theory.proofs.Rounds.{AllAllowed, no-move, one-more, all-handed, MoveKinds, round-fits, after-append, moves-taken, round-taken}
-use Rattle.engine_theory.proofs.Trim.{Settled, chosen-some, settled-iff, kept-refuted, kept-rising, kept-scopes, kept-fewer, kept-some}
+use Rattle.engine_theory.proofs.Trim.{chosen-some, settled-iff, kept-refuted, kept-rising, kept-scopes, kept-fewer, kept-some}
 use Rattle.engine_theory.proofs.Gaps.{amount-some, amount-most, next-nothing, next-round}
 use Rattle.engine_theory.proofs.Fall.{enginePressed, fall}
 use Rattle.engine_theory.proofs.InRange.{Reached, start, bound-spread, next-made}

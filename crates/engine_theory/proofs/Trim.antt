@@ -18,7 +18,7 @@ use Rattle.definitions.specs.declared.Case.{Case}
 use Rattle.definitions.specs.Case.{scopes, scopeCount, lowerEnd, upperEnd, active}
 use Rattle.definitions.specs.Calls.{isRising}
 use Rattle.definitions.specs.Consistency.{Family, Supported, allowed, supported, families, marks, refuted}
-use Rattle.definitions.specs.Engine.{others, chosen, trimmed, keptScopes}
+use Rattle.definitions.specs.Engine.{others, chosen, Settled, trimmed, keptScopes}
 use Rattle.definitions.specs.Moves.{activeRefuted}
 use Rattle.definitions.proofs.Refutation.{supported-holds, refuted-sound}
 use Rattle.theory.proofs.Shape.{Shape}
@@ -61,10 +61,6 @@ module _ (c : Case) (w : List ℤ) (R : ℕ → Bool) (i k : ℕ) where
 
       mine : (j : ℕ) → T (S j k)
       mine j = simp tests (λ e. refl)
-
--- every variable has an active value with a supported family, all other scopes raised
-abbrev pub Settled : Case → List ℤ → Type 0
-Settled c w = (i : ℕ) → i < c .n → (k : ℕ) × (k < c .d) × T (active c w i k 0) × (S : Family) × Supported c w (isIn (others c i)) i k S
 
 -- an active value that is refuted has no supported family
 pub no-support : (c : Case) (w : List ℤ) (i : ℕ) (raised : List ℕ) → Shape c → T (activeRefuted c w i raised)
