@@ -1,5 +1,7 @@
 -- Laws of the search and of the closure's steps.
 pub mod Search
 pub mod Steps
-pub mod Loops
 pub mod Results
+pub mod Marked
+pub mod Scopes
+pub mod Prepared

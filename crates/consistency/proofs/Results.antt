@@ -92,3 +92,7 @@ module _ (S : List ℕ) where
 
   pub none-empty : any (λ s. eqb s 0) S ≡ false → Filled S
   none-empty e j h z = T-not (any (λ s. eqb s 0) S) (false-is _ e) (any-getD (λ s. eqb s 0) S 0 .1 (j, h, eqb-iff (getD S j 0) 0 .1 z))
+
+pub all-zero : (n : ℕ) (S : List ℕ) → length S ≡ n → ((j : ℕ) → j < n → getD S j 0 ≡ 0) → S ≡ replicate n 0
+all-zero n S len zero =
+    ext-getD 0 S (replicate n 0) (len ∙ sym (length-replicate n 0)) (λ j h. zero j (rw len at h) ∙ sym (getD-replicate n j 0 0 (rw len at h)))

@@ -2,3 +2,4 @@
 pub mod Partners
 pub mod Closure
 pub mod Sweeps
+pub mod Active

@@ -1,13 +1,22 @@
 // Refutation by arc consistency (document 01, "Refutation").
+use definitions::Case;
+use definitions::Outcome;
 ghost use mathlib.Core.Path.{_≡_};
-ghost use mathlib.Core.Bool.{not, _&&_};
-ghost use Prim.Native.Nat.{_+_, _≤_, _<_};
+ghost use mathlib.Core.Bool.{not, _&&_, _||_};
+ghost use Prim.Native.Nat.{ℕ, _+_, _*_, _≤_, _<_};
 ghost use lib.Dec.{ltb, eqb};
 ghost use lib.ListN.{length, getD, set, replicate};
-ghost use Rattle.integers.specs.Words.{below, any};
+ghost use Rattle.integers.specs.Words.{if_then_else_, below, any, eqZ};
+ghost use Rattle.definitions.specs.Rules.{standard};
+ghost use Rattle.definitions.specs.Case.{greatest};
+ghost use Rattle.definitions.specs.Valid.{workingWeight};
+ghost use Rattle.definitions.specs.Lines.{overwritten};
+ghost use Rattle.theory.proofs.Validity.{Handed};
+ghost use Rattle.marks.specs.Marks.{without};
 ghost use Rattle.consistency.specs.Partners.{lowestPartner, supportedValues};
 ghost use Rattle.consistency.specs.Closure.{networkOfBytes, setsOf, endOutside, isMalformed, closureAnswer, closureSets};
 ghost use Rattle.consistency.specs.Sweeps.{WellFormed, Filled, Swept, Settled, changeOf, bothOf, keptOf};
+ghost use Rattle.consistency.specs.Active.{bestValues, activeSet, activeRow, activeSets, activeRows, Written, activeAnswer, setsAfter, rowsAfter};
 
 pub enum Partner {
     At(u8),
@@ -259,4 +268,146 @@ pub fn closure(lower: &[u8], upper: &[u8], rows: &[u8], raised: &[u8], sets: &mu
     }
     clear(sets);
     Closed::Empty
+}
+
+// ---- what is prepared once for a table
+
+fn same(a: i64, b: i64) -> bool
+    ensures { λ r. ⌜ r ≡ eqZ a b ⌝ }
+{
+    if a == b {
+        return true;
+    }
+    false
+}
+
+fn keep_if(set: u8, value: u8, keep: bool) -> u8
+    ensures { λ r. ⌜ r ≡ (if keep then set else without set value) ⌝ }
+{
+    if keep {
+        return set;
+    }
+    marks::strike(set, value)
+}
+
+// The values below d whose weight is `best`. The weight of value j stands at table[from + j * step].
+fn best_values(table: &[i64], from: usize, step: usize, d: usize, best: i64) -> u8
+    requires { ⌜ (d ≤ 8) × ((j : ℕ) → j < d → from + j * step < length (now table)) ⌝ }
+    ensures { λ r. ⌜ r ≡ bestValues (now (table .entry)) from step d best ⌝ }
+{
+    let mut set = marks::full(d as u8);
+    let mut j: usize = 0;
+    while j < d {
+        let weight = table[from + j * step];
+        set = keep_if(set, j as u8, same(weight, best));
+        j += 1;
+    }
+    set
+}
+
+fn active_values(case: Case, table: &[i64], j: usize) -> u8
+    requires { ⌜ Handed standard (workingWeight standard) case (now table) ⌝ }
+    requires { ⌜ j < case .n ⌝ }
+    ensures { λ r. ⌜ r ≡ activeSet case (now (table .entry)) j ⌝ }
+{
+    let d = case.d;
+    let first = j * d;
+    let end = first + d;
+    let best = figures::greatest(&table[first..end]);
+    best_values(table, first, 1, d, best)
+}
+
+fn edge_greatest(case: Case, table: &[i64], e: usize) -> i64
+    requires { ⌜ Handed standard (workingWeight standard) case (now table) ⌝ }
+    requires { ⌜ e < case .m ⌝ }
+    ensures { λ r. ⌜ r ≡ greatest case (now (table .entry)) (case .n + e) ⌝ }
+{
+    let size = case.d * case.d;
+    let first = case.n * case.d + e * size;
+    let end = first + size;
+    figures::greatest(&table[first..end])
+}
+
+// Byte p of the sixteen of edge e, whose greatest weight is `best`.
+fn active_partners(case: Case, table: &[i64], e: usize, best: i64, p: usize) -> u8
+    requires { ⌜ Handed standard (workingWeight standard) case (now table) ⌝ }
+    requires { ⌜ (e < case .m) × (p < 16) × (best ≡ greatest case (now table) (case .n + e)) ⌝ }
+    ensures { λ r. ⌜ r ≡ activeRow case (now (table .entry)) e p ⌝ }
+{
+    let d = case.d;
+    let first = case.n * d + e * (d * d);
+    let k = p % 8;
+    if d <= k {
+        return 0;
+    }
+    if p < 8 {
+        return best_values(table, first + k * d, 1, d, best);
+    }
+    best_values(table, first + k, d, d, best)
+}
+
+fn write_sets(case: Case, table: &[i64], sets: &mut [u8])
+    requires { ⌜ Handed standard (workingWeight standard) case (now table) ⌝ }
+    requires { ⌜ case .n ≤ length (now sets) ⌝ }
+    ensures { λ r. ⌜ now (sets .exit) ≡ overwritten (activeSets case (now (table .entry))) (now (sets .entry)) ⌝ }
+{
+    let n = case.n;
+    let mut j: usize = 0;
+    while j < n {
+        sets[j] = active_values(case, table, j);
+        j += 1;
+    }
+}
+
+fn write_edge(case: Case, table: &[i64], e: usize, rows: &mut [u8])
+    requires { ⌜ Handed standard (workingWeight standard) case (now table) ⌝ }
+    requires { ⌜ (e < case .m) × (16 * e + 16 ≤ length (now rows)) ⌝ }
+    ensures { λ r. ⌜ Written (activeRow case (now (table .entry)) e) (16 * e) 16 (now (rows .entry)) (now (rows .exit)) ⌝ }
+{
+    let best = edge_greatest(case, table, e);
+    let mut p: usize = 0;
+    while p < 16 {
+        rows[16 * e + p] = active_partners(case, table, e, best, p);
+        p += 1;
+    }
+}
+
+fn write_rows(case: Case, table: &[i64], rows: &mut [u8])
+    requires { ⌜ Handed standard (workingWeight standard) case (now table) ⌝ }
+    requires { ⌜ 16 * case .m ≤ length (now rows) ⌝ }
+    ensures { λ r. ⌜ now (rows .exit) ≡ overwritten (activeRows case (now (table .entry))) (now (rows .entry)) ⌝ }
+{
+    let m = case.m;
+    let mut e: usize = 0;
+    while e < m {
+        write_edge(case, table, e, rows);
+        e += 1;
+    }
+}
+
+fn too_short(case: Case, sets: usize, rows: usize) -> bool
+    ensures { λ r. ⌜ r ≡ (ltb sets (case .n) || ltb rows (16 * case .m)) ⌝ }
+{
+    if sets < case.n {
+        return true;
+    }
+    rows / 16 < case.m
+}
+
+// Writes the active values of each variable to the first n bytes of `sets`, and the active partners to the first 16 · m of `rows`, as `closure` takes them.
+pub fn active_marks(case: Case, table: &[i64], sets: &mut [u8], rows: &mut [u8]) -> Outcome
+    ensures { λ r. ⌜ r ≡ activeAnswer standard case (now (table .entry)) (now (sets .entry)) (now (rows .entry)) ⌝ }
+    ensures { λ r. ⌜ now (sets .exit) ≡ setsAfter standard case (now (table .entry)) (now (sets .entry)) (now (rows .entry)) ⌝ }
+    ensures { λ r. ⌜ now (rows .exit) ≡ rowsAfter standard case (now (table .entry)) (now (sets .entry)) (now (rows .entry)) ⌝ }
+{
+    let wrong = too_short(case, sets.len(), rows.len());
+    let checked = figures::check_working(case, table, wrong, false);
+    match checked {
+        Outcome::Refused(refusal) => Outcome::Refused(refusal),
+        Outcome::Done => {
+            write_sets(case, table, sets);
+            write_rows(case, table, rows);
+            Outcome::Done
+        }
+    }
 }

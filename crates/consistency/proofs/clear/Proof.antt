@@ -4,7 +4,7 @@ use Prim.Native.Nat.{ℕ, _-_, _≤_, _<_}
 use native.Mathlib.Omega.{arith}
 use lib.ListN.{length, getD, length-set}
 use Rattle.consistency.proofs.Steps.{after-set}
-use Rattle.consistency.proofs.Loops.{all-zero}
+use Rattle.consistency.proofs.Results.{all-zero}
 use Rattle.consistency.proofs.clear.Statement.{statement}
 use Rattle.consistency.proofs.clear.Tie as tie
 

@@ -8,7 +8,7 @@ use borrow.Author.Tests.{eq-eqb, ne-eqb}
 use denote.Ref.{now}
 use lib.Dec.{eqb}
 use lib.ListN.{length, getD}
-use Rattle.consistency.proofs.Loops.{list-found, list-none}
+use Rattle.figures.proofs.Search.{found-at, found-nowhere}
 use Rattle.consistency.proofs.has_empty.Statement.{statement}
 use Rattle.consistency.proofs.has_empty.Tie as tie
 
@@ -25,7 +25,7 @@ shared-slice-read-if1 : tie.Need-shared-slice-read-if1 Inv-loop μ-loop
 shared-slice-read-if1 c = c .before .loop-test .taken
 
 returns : tie.Need-returns Inv-loop μ-loop
-returns c = list-found (λ (s : ℕ). eqb s 0) (now (c .before .before .before .before .args .sets)) _ (c .before .before .loop-test .taken) (eq-eqb _ 0 (c .if1 .taken))
+returns c = found-at (λ (s : ℕ). eqb s 0) (now (c .before .before .before .before .args .sets)) 0 _ (c .before .before .loop-test .taken) (eq-eqb _ 0 (c .if1 .taken))
 
 add-j : tie.Need-add-j Inv-loop μ-loop
 add-j c = omega (arith, c .before .before .loop-test .taken, c .before .before .before .before .good)
@@ -37,7 +37,7 @@ loop-again : tie.Need-loop-again Inv-loop μ-loop
 loop-again c = (omega (arith, c .before .before .loop-test .taken), below-more _ _ (c .before .before .before .loop .inv .1) (ne-eqb _ 0 (c .if1 .left)))
 
 returns-2 : tie.Need-returns-2 Inv-loop μ-loop
-returns-2 c = list-none (λ (s : ℕ). eqb s 0) (now (c .before .before .args .sets)) (λ k h. c .before .loop .inv .1 k (omega (arith, c .loop-test .left)))
+returns-2 c = found-nowhere (λ (s : ℕ). eqb s 0) (now (c .before .before .args .sets)) 0 (λ k h. c .before .loop .inv .1 k (omega (arith, c .loop-test .left)))
 
 pub has-empty-spec : {M : Type 1} → statement M
 has-empty-spec =

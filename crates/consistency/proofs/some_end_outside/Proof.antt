@@ -5,7 +5,7 @@ use Prim.Native.Nat.{ℕ, _-_, _≤_, _<_}
 use native.Mathlib.Omega.{arith}
 use borrow.Author.Count.{below-more}
 use Rattle.consistency.specs.Closure.{endOutside}
-use Rattle.consistency.proofs.Loops.{any-found, any-none}
+use Rattle.figures.proofs.Search.{found, not-found}
 use Rattle.consistency.proofs.some_end_outside.Statement.{statement}
 use Rattle.consistency.proofs.some_end_outside.Tie as tie
 
@@ -28,7 +28,7 @@ end-outside-requires : tie.Need-end-outside-requires Inv-loop μ-loop
 end-outside-requires c κs = tt
 
 returns : tie.Need-returns Inv-loop μ-loop
-returns c = any-found _ _ _ (c .before .before .before .before .loop-test .taken) (sym (c .before .end-outside .ensures) ∙ c .if1 .taken)
+returns c = found _ _ _ (c .before .before .before .before .loop-test .taken) (sym (c .before .end-outside .ensures) ∙ c .if1 .taken)
 
 add-e : tie.Need-add-e Inv-loop μ-loop
 add-e c = omega (arith, c .before .before .before .before .loop-test .taken, c .before .before .before .before .before .before .before .before .fits .edges)
@@ -40,7 +40,7 @@ loop-again : tie.Need-loop-again Inv-loop μ-loop
 loop-again c = (omega (arith, c .before .before .before .before .loop-test .taken), below-more _ _ (c .before .before .before .before .before .loop .inv .1) (sym (c .before .end-outside .ensures) ∙ c .if1 .left))
 
 returns-2 : tie.Need-returns-2 Inv-loop μ-loop
-returns-2 c = any-none _ (c .before .before .before .before .args .edges) (λ f h. c .before .loop .inv .1 f (omega (arith, c .loop-test .left)))
+returns-2 c = not-found _ (c .before .before .before .before .args .edges) (λ f h. c .before .loop .inv .1 f (omega (arith, c .loop-test .left)))
 
 pub some-end-outside-spec : {M : Type 1} → statement M
 some-end-outside-spec =

@@ -1,0 +1,163 @@
+-- Marks that are found value by value, and bytes that are written place by place. Assumes nothing.
+use mathlib.Core.Path.{_≡_, refl, sym, ap, subst, _∙_}
+use mathlib.Core.Bool.{Bool, true, false, not, _&&_, and-false}
+use mathlib.Core.Logic.{_⊎_, inl, inr}
+use mathlib.Core.List.{List, map}
+use Prim.Native.Nat.{ℕ, _+_, _*_, _-_, _≤_, _<_}
+use lib.IntN.{ℤ}
+use native.Mathlib.Omega.{arith}
+use borrow.Author.Tests.{lt-ltb, le-ltb}
+use lib.Dec.{T, ltb, eqb, eqb→eq, ltb→lt, lt→ltb, nltb→le}
+use lib.ListN.{length, getD, set, drop, length-append, length-drop, length-set, List·getD-append}
+use lib.Seq.{ext-getD, getD-append-add, getD-drop}
+use Rattle.integers.specs.Words.{if_then_else_, below, joined, _⇒_}
+use Rattle.integers.specs.Tests.{either, is-true, is-false, not-eqb-iff, same-test}
+use Rattle.integers.specs.Tables.{length-tab, getD-tab, length-rows, getD-rows}
+use Rattle.definitions.specs.declared.Case.{Case}
+use Rattle.definitions.specs.Lines.{overwritten}
+use Rattle.marks.specs.Marks.{mark, byteOf, without, fullOf}
+use Rattle.marks.proofs.Laws.{mark-byteOf, byteOf-cong}
+use Rattle.consistency.specs.Active.{activeSet, activeRow, activeSets, activeRows, Written}
+use Rattle.consistency.proofs.Steps.{after-set}
+
+-- ---- the values below d at which f passes, where only those below j were asked
+unfoldable pub asked : (ℕ → Bool) → ℕ → ℕ → ℕ
+asked f d j = byteOf (λ v. ltb v d && (ltb v j ⇒ f v))
+
+module _ (f : ℕ → Bool) (d : ℕ) where
+  pub asked-none : fullOf d ≡ asked f d 0
+  unfolding asked
+  asked-none = byteOf-cong (λ v h. simp (le-ltb v 0 (omega arith), and-all (ltb v d)))
+    where
+      and-all : (a : Bool) → (a && true) ≡ a
+      and-all true = refl
+      and-all false = refl
+
+  pub asked-all : (j : ℕ) → d ≤ j → asked f d j ≡ byteOf (λ v. ltb v d && f v)
+  unfolding asked
+  asked-all j h = byteOf-cong (λ v g. by v (either (ltb v d)))
+    where
+      by : (v : ℕ) → T (ltb v d) ⊎ T (not (ltb v d)) → (ltb v d && (ltb v j ⇒ f v)) ≡ (ltb v d && f v)
+      by v (inl t) = let l = ltb→lt v d t in simp (lt-ltb v j (omega arith))
+      by v (inr t) = simp (is-false (ltb v d) t)
+
+  module _ (j : ℕ) where
+    next : (v : ℕ) → (v ≡ j → ⊥) → ltb v (j + 1) ≡ ltb v j
+    next v ne =
+        same-test (ltb v (j + 1)) (ltb v j) (λ t. lt→ltb v j (let h = ltb→lt v (j + 1) t in omega arith))
+        (λ t. lt→ltb v (j + 1) (let h = ltb→lt v j t in omega arith))
+
+    kept-at : f j ≡ true → (v : ℕ) → T (eqb v j) ⊎ T (not (eqb v j)) → (ltb v d && (ltb v j ⇒ f v)) ≡ (ltb v d && (ltb v (j + 1) ⇒ f v))
+    kept-at y v (inl t) =
+        let e = eqb→eq v j t in
+        let yes : f v ≡ true = ap f e ∙ y in
+        simp (le-ltb v j (omega arith), lt-ltb v (j + 1) (omega arith), yes)
+    kept-at y v (inr t) = simp (next v (not-eqb-iff v j .0 t))
+
+    struck-at : f j ≡ false → (v : ℕ) → T (eqb v j) ⊎ T (not (eqb v j)) → ((ltb v d && (ltb v j ⇒ f v)) && not (eqb v j)) ≡ (ltb v d && (ltb v (j + 1) ⇒ f v))
+    struck-at n v (inl t) =
+        let e = eqb→eq v j t in
+        let no : f v ≡ false = ap f e ∙ n in
+        simp (is-true (eqb v j) t, lt-ltb v (j + 1) (omega arith), no, and-false)
+    struck-at n v (inr t) = simp (next v (not-eqb-iff v j .0 t), is-false (eqb v j) t, and-all)
+      where
+        and-all : (a : Bool) → (a && true) ≡ a
+        and-all true = refl
+        and-all false = refl
+
+    pub asked-next : (set r : ℕ) (keep : Bool) → set ≡ asked f d j → keep ≡ f j → r ≡ (if keep then set else without set j) → r ≡ asked f d (j + 1)
+    unfolding asked
+    asked-next set r true e q p = p ∙ e ∙ byteOf-cong (λ v h. kept-at (sym q) v (either (eqb v j)))
+    asked-next set r false e q p =
+        p ∙ byteOf-cong (λ v h. ap (λ (b : Bool). b && not (eqb v j)) (ap (λ (s : ℕ). mark s v) e ∙ mark-byteOf (λ v. ltb v d && (ltb v j ⇒ f v)) v h) ∙ struck-at (sym q) v (either (eqb v j)))
+
+-- ---- bytes that are written
+
+pub written-none : (f : ℕ → ℕ) (at : ℕ) (S : List ℕ) → Written f at 0 S S
+written-none f at S = record { same-length = refl; here = λ p h. absurd (omega arith); before = λ q h. refl; after = λ q h. refl }
+
+pub written-more : (f : ℕ → ℕ) (at n : ℕ) (S S′ : List ℕ) (s : ℕ) → Written f at n S S′ → at + n < length S′ → s ≡ f n → Written f at (n + 1) S (set S′ (at + n) s)
+written-more f at n S S′ s w h e = record {
+  same-length = length-set S′ (at + n) s ∙ w .same-length;
+  here = λ p l. after-set (λ (x : ℕ). x ≡ f p) S′ (at + n) s (at + p) h (λ q. let same : p ≡ n = omega arith in e ∙ ap f (sym same)) (λ ne. w .here p (omega arith));
+  before = λ q l. after-set (λ (x : ℕ). x ≡ getD S q 0) S′ (at + n) s q h (λ e. absurd (omega arith)) (λ ne. w .before q l);
+  after = λ q l. after-set (λ (x : ℕ). x ≡ getD S q 0) S′ (at + n) s q h (λ e. absurd (omega arith)) (λ ne. w .after q (omega arith));
+}
+
+-- a part that is written after those before it
+pub written-then : (f g : ℕ → ℕ) (at n : ℕ) (S S₁ S₂ : List ℕ) → Written f 0 at S S₁ → Written g at n S₁ S₂ → ((p : ℕ) → p < n → g p ≡ f (at + p)) → Written f 0 (at + n) S S₂
+written-then f g at n S S₁ S₂ a b same = record {
+  same-length = b .same-length ∙ a .same-length;
+  here = λ p h. by p h (either (ltb p at));
+  before = λ q h. absurd (omega arith);
+  after = λ q h. b .after q (omega arith) ∙ a .after q (omega arith);
+}
+  where
+    by : (p : ℕ) → p < at + n → T (ltb p at) ⊎ T (not (ltb p at)) → getD S₂ (0 + p) 0 ≡ f p
+    by p h (inl t) = let l = ltb→lt p at t in let z : 0 + p ≡ p = omega arith in ap (λ (q : ℕ). getD S₂ q 0) z ∙ b .before p l ∙ ap (λ (q : ℕ). getD S₁ q 0) (sym z) ∙ a .here p l
+    by p h (inr t) =
+        let l = nltb→le p at t in
+        let z : 0 + p ≡ at + (p - at) = omega arith in
+        let y : at + (p - at) ≡ p = omega arith in
+        ap (λ (q : ℕ). getD S₂ q 0) z ∙ b .here (p - at) (omega arith) ∙ same (p - at) (omega arith) ∙ ap f y
+
+-- all of them are written
+pub written-all : (bytes S S′ : List ℕ) (f : ℕ → ℕ) → ((p : ℕ) → p < length bytes → getD bytes p 0 ≡ f p) → length bytes ≤ length S → Written f 0 (length bytes) S S′ → S′ ≡ overwritten bytes S
+written-all bytes S S′ f is room w =
+    ext-getD 0 S′ (overwritten bytes S) (w .same-length ∙ sym (simp (length-append, length-drop) (omega arith))) (λ q h. by q (either (ltb q (length bytes))))
+  where
+    by : (q : ℕ) → T (ltb q (length bytes)) ⊎ T (not (ltb q (length bytes))) → getD S′ q 0 ≡ getD (overwritten bytes S) q 0
+    by q (inl t) =
+        let l = ltb→lt q (length bytes) t in
+        let z : q ≡ 0 + q = omega arith in
+        ap (λ (p : ℕ). getD S′ p 0) z ∙ w .here q l ∙ sym (is q l) ∙ sym (List·getD-append bytes (drop (length bytes) S) 0 q l)
+    by q (inr t) =
+        let l = nltb→le q (length bytes) t in
+        let z : length bytes + (q - length bytes) ≡ q = omega arith in
+        w .after q (omega arith)
+        ∙ sym (ap (λ (p : ℕ). getD (overwritten bytes S) p 0) (sym z) ∙ getD-append-add bytes (drop (length bytes) S) (q - length bytes) 0 ∙ getD-drop (length bytes) S (q - length bytes) 0
+        ∙ ap (λ (p : ℕ). getD S p 0) z)
+
+pub written-next : (f : ℕ → ℕ) (n : ℕ) (S S′ : List ℕ) (s : ℕ) → Written f 0 n S S′ → n < length S′ → s ≡ f n → Written f 0 (n + 1) S (set S′ n s)
+written-next f n S S′ s w h e =
+    let z : 0 + n ≡ n = omega arith in
+    subst (λ (p : ℕ). Written f 0 (n + 1) S (set S′ p s)) z (written-more f 0 n S S′ s w (omega arith) e)
+
+-- ---- the marks of a table
+
+module _ (c : Case) (w : List ℤ) where
+  pub sets-length : length (activeSets c w) ≡ c .n
+  unfolding activeSets
+  sets-length = length-tab (activeSet c w) 0 (c .n)
+
+  pub sets-at : (j : ℕ) → j < c .n → getD (activeSets c w) j 0 ≡ activeSet c w j
+  unfolding activeSets
+  sets-at j h = getD-tab (activeSet c w) (c .n) j 0 h
+
+  pub rows-length : length (activeRows c w) ≡ 16 * c .m
+  unfolding activeRows
+  rows-length = length-rows (λ e. map (activeRow c w e) (below 16)) (c .m) 16 (λ e h. length-tab (activeRow c w e) 0 16) ∙ omega arith
+
+  pub rows-at : (e p : ℕ) → e < c .m → p < 16 → getD (activeRows c w) (16 * e + p) 0 ≡ activeRow c w e p
+  unfolding activeRows
+  rows-at e p h g =
+      let z : 16 * e + p ≡ e * 16 + p = omega arith in
+      ap (λ (q : ℕ). getD (joined (map (λ e. map (activeRow c w e) (below 16)) (below (c .m)))) q 0) z
+      ∙ getD-rows (λ e. map (activeRow c w e) (below 16)) (c .m) 16 (λ e h. length-tab (activeRow c w e) 0 16) e p 0 h g
+      ∙ getD-tab (activeRow c w e) 16 p 0 g
+
+  pub sets-written : (S S′ : List ℕ) → c .n ≤ length S → Written (activeSet c w) 0 (c .n) S S′ → S′ ≡ overwritten (activeSets c w) S
+  sets-written S S′ room done =
+      written-all (activeSets c w) S S′ (activeSet c w) (λ p h. sets-at p (rw sets-length at h)) (rw sets-length room)
+      (rw sets-length done)
+
+  pub rows-written : (S S′ : List ℕ) → 16 * c .m ≤ length S → Written (λ q. getD (activeRows c w) q 0) 0 (16 * c .m) S S′ → S′ ≡ overwritten (activeRows c w) S
+  rows-written S S′ room done =
+      written-all (activeRows c w) S S′ (λ q. getD (activeRows c w) q 0) (λ p h. refl) (rw rows-length room) (rw rows-length done)
+
+  pub edge-written : (e : ℕ) → e < c .m → (S S₁ S₂ : List ℕ) → Written (λ q. getD (activeRows c w) q 0) 0 (16 * e) S S₁ → Written (activeRow c w e) (16 * e) 16 S₁ S₂
+      → Written (λ q. getD (activeRows c w) q 0) 0 (16 * (e + 1)) S S₂
+  edge-written e h S S₁ S₂ a b =
+      let z : 16 * e + 16 ≡ 16 * (e + 1) = omega arith in
+      subst (λ (n : ℕ). Written (λ q. getD (activeRows c w) q 0) 0 n S S₂) z
+      (written-then (λ q. getD (activeRows c w) q 0) (activeRow c w e) (16 * e) 16 S S₁ S₂ a b (λ p g. sym (rows-at e p h g)))
