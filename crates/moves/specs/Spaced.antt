@@ -1,0 +1,36 @@
+-- Weights that stand `step` apart: `count` of them, from place `start` on. Assumes nothing.
+use mathlib.Core.Bool.{Bool, _&&_}
+use mathlib.Core.List.{List}
+use Prim.Native.Nat.{ℕ, zero, suc, _+_, _*_, _<_}
+use lib.IntN.{ℤ, pos, negℤ, _+ℤ_}
+use lib.Dec.{T}
+use lib.ListN.{length, getD, set}
+use Rattle.integers.specs.Words.{below, all}
+use Rattle.definitions.specs.Rules.{Rules}
+use Rattle.definitions.specs.Valid.{workingWeight}
+
+-- the weight at a place
+abbrev pub weightAt : List ℤ → ℕ → ℤ
+weightAt w p = getD w p (pos 0)
+
+-- they lie in the table and are working weights
+pub record Spaced (r : Rules) (w : List ℤ) (start step count : ℕ) : Type 0 where
+  pub inside : (j : ℕ) → j < count → start + j * step < length w
+  pub working : (j : ℕ) → j < count → T (workingWeight r (weightAt w (start + j * step)))
+
+-- they are working weights with `by` added
+abbrev pub spacedStay : Rules → List ℤ → ℕ → ℕ → ℕ → ℤ → Bool
+spacedStay r w start step count by = all (λ j. workingWeight r (weightAt w (start + j * step) +ℤ by)) (below count)
+
+-- the table with `by` added to each
+unfoldable pub spacedAdd : List ℤ → ℕ → ℕ → ℕ → ℤ → List ℤ
+spacedAdd w start step zero by = w
+spacedAdd w start step (suc j) by =
+    set (spacedAdd w start step j by) (start + j * step) (weightAt (spacedAdd w start step j by) (start + j * step) +ℤ by)
+
+-- `a` added at `own` and subtracted from the others
+abbrev pub shiftStays : Rules → List ℤ → ℕ → ℕ → ℕ → ℕ → ℤ → Bool
+shiftStays r w own start step count a = spacedStay r w own 1 1 a && spacedStay r w start step count (negℤ a)
+
+abbrev pub shifted : List ℤ → ℕ → ℕ → ℕ → ℕ → ℤ → List ℤ
+shifted w own start step count a = spacedAdd (spacedAdd w own 1 1 a) start step count (negℤ a)
