@@ -1,2 +1,3 @@
--- What the inner functions answer.
+-- What the inner functions answer, and what they may take as known.
 pub mod Reads
+pub mod Steps

@@ -1,21 +1,29 @@
 // Case files: read into a lent table, and written (document 01, "Lines").
+use definitions::Case;
+use definitions::CaseRead;
 use definitions::CaseSize;
+use definitions::FileAnswer;
 use definitions::Line;
 use definitions::LineRead;
+use definitions::Outcome;
 use definitions::Refusal;
 ghost use mathlib.Core.Path.{_≡_};
-ghost use mathlib.Core.Bool.{false};
+ghost use mathlib.Core.Bool.{false, not, _&&_, _||_};
 ghost use mathlib.Core.Option.{none, some};
 ghost use Prim.Native.Nat.{_+_, _*_, _≤_, _<_};
-ghost use lib.IntN.{pos, natAbs};
-ghost use lib.Dec.{T};
-ghost use lib.Signed.{ltZ};
-ghost use lib.ListN.{length, drop};
+ghost use mathlib.Core.List.{List};
+ghost use lib.IntN.{ℤ, pos, natAbs};
+ghost use lib.Dec.{T, eqb};
+ghost use lib.Signed.{ltZ, leZ};
+ghost use lib.ListN.{length, getD, set, drop};
 ghost use Rattle.integers.specs.Words.{withinZ};
 ghost use Rattle.definitions.specs.Rules.{standard};
 ghost use Rattle.definitions.specs.Refusals.{firstOf};
-ghost use Rattle.definitions.specs.Lines.{zeroUnless};
-ghost use Rattle.definitions.specs.CaseFiles.{headTests, caseSize};
+ghost use Rattle.definitions.specs.Lines.{zeroUnless, outside};
+ghost use Rattle.definitions.specs.Valid.{startingWeight};
+ghost use Rattle.definitions.specs.Answers.{outcomeOf, unlessRefused};
+ghost use Rattle.definitions.specs.CaseFiles.{headTests, caseSize, caseRefused, caseTaken, readCase, edge-ends, names as namesPlace};
+ghost use Rattle.casefile.specs.Steps.{Limited, dueOf, InCase, edgeDueAt, dueAt, linesDue, weightTests, endsTests, joinedBefore, repeatTest, caseWith, reading, lineRefusal, tableOf, Stepped, SteppedAt, leftFrom, callOf, noEnds};
 ghost use Rattle.casefile.specs.Reads.{lineFrom, ofKind, limitsZ, sizeOf};
 
 // The length of a line.
@@ -27,6 +35,23 @@ const VARIABLES: i64 = 48;
 const VALUES: i64 = 8;
 
 const EDGES: i64 = 96;
+
+// The greatest starting weight on either side of 0.
+const STARTING: i64 = 1_000_000;
+
+// How many variables, values and edges a case has.
+struct Sizes {
+    n: usize,
+    d: usize,
+    m: usize,
+}
+
+// What is due at a line after the head.
+enum Awaited {
+    VariableWeight { variable: usize, value: usize },
+    EdgeEnds(usize),
+    EdgeWeight { edge: usize, k: usize, l: usize },
+}
 
 // ---- a line
 
@@ -114,5 +139,389 @@ pub fn case_size(bytes: &[u8]) -> CaseSize
     match head {
         LineRead::Refused(refusal) => CaseSize::Refused(refusal),
         LineRead::Read(line) => size_of(line),
+    }
+}
+
+// ---- what is due
+
+fn edge_awaited(d: usize, p: usize) -> Awaited
+    requires { ⌜ (1 ≤ d) × (d ≤ 8) ⌝ }
+    ensures { λ r. ⌜ (dueOf r ≡ edgeDueAt d p) × ((s : Sizes) → s .d ≡ d → p < s .m * (1 + d * d) → InCase s r) ⌝ }
+{
+    let size = 1 + d * d;
+    let e = p / size;
+    let line = p % size;
+    if line == 0 {
+        return Awaited::EdgeEnds(e);
+    }
+    let t = line - 1;
+    Awaited::EdgeWeight {
+        edge: e,
+        k: t / d,
+        l: t % d,
+    }
+}
+
+// What is due at line q after the head.
+fn await_at(sizes: Sizes, q: usize) -> Awaited
+    requires { ⌜ Limited sizes ⌝ }
+    requires { ⌜ q < linesDue sizes ⌝ }
+    ensures { λ r. ⌜ (dueOf r ≡ dueAt sizes q) × InCase sizes r ⌝ }
+{
+    let d = sizes.d;
+    let front = sizes.n * d;
+    if q < front {
+        return Awaited::VariableWeight {
+            variable: q / d,
+            value: q % d,
+        };
+    }
+    edge_awaited(d, q - front)
+}
+
+// ---- a weight's line
+
+// The column names this place.
+fn names(z: i64, place: usize) -> bool
+    requires { ⌜ place < 1000 ⌝ }
+    ensures { λ r. ⌜ r ≡ namesPlace place z ⌝ }
+{
+    z == place as i64
+}
+
+fn names_places(line: Line, a: usize, b: usize, c: usize) -> bool
+    requires { ⌜ (a < 1000) × (b < 1000) × (c < 1000) ⌝ }
+    ensures { λ r. ⌜ r ≡ (namesPlace a (line .a) && namesPlace b (line .b) && namesPlace c (line .c)) ⌝ }
+{
+    names(line.a, a) & names(line.b, b) & names(line.c, c)
+}
+
+fn starting(line: Line) -> bool
+    ensures { λ r. ⌜ r ≡ startingWeight standard (line .amount) ⌝ }
+{
+    in_range(line.amount, -STARTING, STARTING)
+}
+
+// `due` says that the line's kind is due.
+fn weigh(line: Line, due: bool, a: usize, b: usize, c: usize) -> Outcome
+    requires { ⌜ (a < 1000) × (b < 1000) × (c < 1000) ⌝ }
+    ensures { λ r. ⌜ r ≡ outcomeOf (firstOf (weightTests due a b c line)) ⌝ }
+{
+    if !due {
+        return Outcome::Refused(Refusal::NotDue);
+    }
+    if !names_places(line, a, b, c) {
+        return Outcome::Refused(Refusal::OutOfRange);
+    }
+    if !starting(line) {
+        return Outcome::Refused(Refusal::WeightOutOfRange);
+    }
+    Outcome::Done
+}
+
+// Puts the weight at its place, if nothing refuses the line.
+fn take_weight(
+    line: Line,
+    due: bool,
+    a: usize,
+    b: usize,
+    c: usize,
+    place: usize,
+    table: &mut [i64],
+) -> Outcome
+    requires { ⌜ (a < 1000) × (b < 1000) × (c < 1000) ⌝ }
+    requires { ⌜ place < length (now table) ⌝ }
+    ensures { λ r. ⌜ (r ≡ outcomeOf (firstOf (weightTests due a b c line))) × (now (table .exit) ≡ unlessRefused (firstOf (weightTests due a b c line)) (set (now (table .entry)) place (line .amount)) (now (table .entry))) ⌝ }
+{
+    let checked = weigh(line, due, a, b, c);
+    match checked {
+        Outcome::Refused(refusal) => Outcome::Refused(refusal),
+        Outcome::Done => {
+            let weight = line.amount;
+            table[place] = weight;
+            Outcome::Done
+        }
+    }
+}
+
+// ---- an edge's line
+
+fn is_below(z: i64, n: usize) -> bool
+    requires { ⌜ n < 1000 ⌝ }
+    ensures { λ r. ⌜ r ≡ (leZ (pos 0) z && ltZ z (pos n)) ⌝ }
+{
+    0 <= z && z < n as i64
+}
+
+fn ends_out(line: Line, n: usize, e: usize) -> bool
+    requires { ⌜ (n < 1000) × (e < 1000) ⌝ }
+    ensures { λ r. ⌜ r ≡ (not (namesPlace e (line .a)) || outside n (line .b) || outside n (line .c)) ⌝ }
+{
+    !names(line.a, e) | !is_below(line.b, n) | !is_below(line.c, n)
+}
+
+fn ascending(line: Line) -> bool
+    ensures { λ r. ⌜ r ≡ ltZ (line .b) (line .c) ⌝ }
+{
+    line.b < line.c
+}
+
+fn check_ends(line: Line, n: usize, e: usize) -> Outcome
+    requires { ⌜ (n < 1000) × (e < 1000) ⌝ }
+    ensures { λ r. ⌜ r ≡ outcomeOf (firstOf (endsTests n e line)) ⌝ }
+{
+    if !is_due(line, 12, true, false) {
+        return Outcome::Refused(Refusal::NotDue);
+    }
+    if ends_out(line, n, e) {
+        return Outcome::Refused(Refusal::OutOfRange);
+    }
+    if !ascending(line) {
+        return Outcome::Refused(Refusal::EndsNotAscending);
+    }
+    Outcome::Done
+}
+
+fn has_ends<'a>(lower: &'a [u8; 96], upper: &'a [u8; 96], f: usize, i: u8, j: u8) -> bool
+    requires { ⌜ f < 96 ⌝ }
+    ensures { λ r. ⌜ r ≡ (eqb (getD (now (lower .entry)) f 0) i && eqb (getD (now (upper .entry)) f 0) j) ⌝ }
+{
+    lower[f] == i && upper[f] == j
+}
+
+// An edge before e joins i and j.
+fn joined_before<'a>(lower: &'a [u8; 96], upper: &'a [u8; 96], e: usize, i: u8, j: u8) -> bool
+    requires { ⌜ e < 96 ⌝ }
+    ensures { λ r. ⌜ r ≡ joinedBefore (now (lower .entry)) (now (upper .entry)) e i j ⌝ }
+{
+    let mut f: usize = 0;
+    while f < e {
+        if has_ends(lower, upper, f, i, j) {
+            return true;
+        }
+        f += 1;
+    }
+    false
+}
+
+// Joins i and j by edge e, if no edge before e does.
+fn join(i: u8, j: u8, e: usize, lower: &mut [u8; 96], upper: &mut [u8; 96]) -> Outcome
+    requires { ⌜ e < 96 ⌝ }
+    ensures { λ r. ⌜ (r ≡ outcomeOf (firstOf (repeatTest (now (lower .entry)) (now (upper .entry)) e i j))) × (now (lower .exit) ≡ unlessRefused (firstOf (repeatTest (now (lower .entry)) (now (upper .entry)) e i j)) (set (now (lower .entry)) e i) (now (lower .entry))) × (now (upper .exit) ≡ unlessRefused (firstOf (repeatTest (now (lower .entry)) (now (upper .entry)) e i j)) (set (now (upper .entry)) e j) (now (upper .entry))) ⌝ }
+{
+    if joined_before(lower, upper, e, i, j) {
+        return Outcome::Refused(Refusal::EdgeRepeated);
+    }
+    lower[e] = i;
+    upper[e] = j;
+    Outcome::Done
+}
+
+fn byte(z: i64) -> u8
+    requires { ⌜ (ltZ z (pos 0) ≡ false) × (natAbs z < 256) ⌝ }
+    ensures { λ r. ⌜ r ≡ natAbs z ⌝ }
+{
+    z as u8
+}
+
+fn take_ends(
+    line: Line,
+    sizes: Sizes,
+    e: usize,
+    lower: &mut [u8; 96],
+    upper: &mut [u8; 96],
+) -> Outcome
+    requires { ⌜ Limited sizes ⌝ }
+    requires { ⌜ e < 96 ⌝ }
+    ensures { λ r. ⌜ (r ≡ outcomeOf (lineRefusal (caseWith sizes (now (lower .entry)) (now (upper .entry))) (edge-ends e) (some line))) × (now (lower .exit) ≡ unlessRefused (lineRefusal (caseWith sizes (now (lower .entry)) (now (upper .entry))) (edge-ends e) (some line)) (set (now (lower .entry)) e (natAbs (line .b))) (now (lower .entry))) × (now (upper .exit) ≡ unlessRefused (lineRefusal (caseWith sizes (now (lower .entry)) (now (upper .entry))) (edge-ends e) (some line)) (set (now (upper .entry)) e (natAbs (line .c))) (now (upper .entry))) ⌝ }
+{
+    let checked = check_ends(line, sizes.n, e);
+    match checked {
+        Outcome::Refused(refusal) => Outcome::Refused(refusal),
+        Outcome::Done => join(byte(line.b), byte(line.c), e, lower, upper),
+    }
+}
+
+// ---- the lines after the head
+
+fn variable_place(sizes: Sizes, i: usize, k: usize) -> usize
+    requires { ⌜ Limited sizes ⌝ }
+    requires { ⌜ (i < sizes .n) × (k < sizes .d) ⌝ }
+    ensures { λ r. ⌜ (r ≡ i * sizes .d + k) × (r < tableOf sizes) ⌝ }
+{
+    i * sizes.d + k
+}
+
+fn edge_place(sizes: Sizes, e: usize, k: usize, l: usize) -> usize
+    requires { ⌜ Limited sizes ⌝ }
+    requires { ⌜ (e < sizes .m) × (k < sizes .d) × (l < sizes .d) ⌝ }
+    ensures { λ r. ⌜ (r ≡ sizes .n * sizes .d + (e * (sizes .d * sizes .d) + (k * sizes .d + l))) × (r < tableOf sizes) ⌝ }
+{
+    let d = sizes.d;
+    sizes.n * d + (e * (d * d) + (k * d + l))
+}
+
+// Takes the line that is due at line q after the head.
+fn take(
+    line: Line,
+    sizes: Sizes,
+    q: usize,
+    lower: &mut [u8; 96],
+    upper: &mut [u8; 96],
+    table: &mut [i64],
+) -> Outcome
+    requires { ⌜ Limited sizes ⌝ }
+    requires { ⌜ q < linesDue sizes ⌝ }
+    requires { ⌜ length (now table) ≡ tableOf sizes ⌝ }
+    ensures { λ r. ⌜ Stepped sizes (now (lower .entry)) (now (upper .entry)) (now (table .entry)) line (dueAt sizes q) r (reading sizes (now (lower .exit)) (now (upper .exit)) (now (table .exit))) ⌝ }
+{
+    let due = await_at(sizes, q);
+    match due {
+        Awaited::VariableWeight { variable, value } => take_weight(
+            line,
+            is_due(line, 11, false, true),
+            variable,
+            value,
+            0,
+            variable_place(sizes, variable, value),
+            table,
+        ),
+        Awaited::EdgeEnds(edge) => take_ends(line, sizes, edge, lower, upper),
+        Awaited::EdgeWeight { edge, k, l } => take_weight(
+            line,
+            is_due(line, 13, true, true),
+            edge,
+            k,
+            l,
+            edge_place(sizes, edge, k, l),
+            table,
+        ),
+    }
+}
+
+fn take_at(
+    bytes: &[u8],
+    sizes: Sizes,
+    q: usize,
+    lower: &mut [u8; 96],
+    upper: &mut [u8; 96],
+    table: &mut [i64],
+) -> Outcome
+    requires { ⌜ Limited sizes ⌝ }
+    requires { ⌜ (q < linesDue sizes) × (27 * (q + 1) ≤ length (now bytes)) ⌝ }
+    requires { ⌜ length (now table) ≡ tableOf sizes ⌝ }
+    ensures { λ r. ⌜ SteppedAt sizes (now (lower .entry)) (now (upper .entry)) (now (table .entry)) (drop (27 * (q + 1)) (now (bytes .entry))) (dueAt sizes q) r (reading sizes (now (lower .exit)) (now (upper .exit)) (now (table .exit))) ⌝ }
+{
+    let read = line_at(bytes, LINE * (q + 1));
+    match read {
+        LineRead::Refused(refusal) => Outcome::Refused(refusal),
+        LineRead::Read(line) => take(line, sizes, q, lower, upper, table),
+    }
+}
+
+fn lines_due(sizes: Sizes) -> usize
+    requires { ⌜ Limited sizes ⌝ }
+    ensures { λ r. ⌜ r ≡ linesDue sizes ⌝ }
+{
+    let d = sizes.d;
+    sizes.n * d + sizes.m * (1 + d * d)
+}
+
+// All lines after the head.
+fn read_lines(
+    bytes: &[u8],
+    sizes: Sizes,
+    lower: &mut [u8; 96],
+    upper: &mut [u8; 96],
+    table: &mut [i64],
+) -> FileAnswer
+    requires { ⌜ Limited sizes ⌝ }
+    requires { ⌜ 27 ≤ length (now bytes) ⌝ }
+    requires { ⌜ length (now table) ≡ tableOf sizes ⌝ }
+    ensures { λ r. ⌜ callOf r (reading sizes (now (lower .exit)) (now (upper .exit)) (now (table .exit))) ≡ leftFrom sizes (reading sizes (now (lower .entry)) (now (upper .entry)) (now (table .entry))) 0 (now (bytes .entry)) ⌝ }
+{
+    let total = lines_due(sizes);
+    let mut q: usize = 0;
+    while q < total {
+        let taken = take_at(bytes, sizes, q, lower, upper, table);
+        match taken {
+            Outcome::Refused(refusal) => {
+                return FileAnswer::Refused {
+                    refusal,
+                    line: q + 1,
+                };
+            }
+            Outcome::Done => {
+                q += 1;
+            }
+        }
+    }
+    FileAnswer::Read { lines: q + 1 }
+}
+
+// ---- a case
+
+fn refused(refusal: Refusal, line: usize) -> CaseRead
+    ensures { λ r. ⌜ ((w : List ℤ) → r ≡ caseRefused standard refusal line w .read) ⌝ }
+{
+    let answer = FileAnswer::Refused { refusal, line };
+    let lower = [0u8; 96];
+    let upper = [0u8; 96];
+    let case = Case {
+        n: 0,
+        d: 0,
+        m: 0,
+        lower,
+        upper,
+    };
+    CaseRead { answer, case }
+}
+
+fn accepted(lines: usize, sizes: Sizes, lower: [u8; 96], upper: [u8; 96]) -> CaseRead
+    ensures { λ r. ⌜ ((w : List ℤ) → r ≡ caseTaken standard (reading sizes lower upper w) lines .read) ⌝ }
+{
+    let answer = FileAnswer::Read { lines };
+    let case = Case {
+        n: sizes.n,
+        d: sizes.d,
+        m: sizes.m,
+        lower,
+        upper,
+    };
+    CaseRead { answer, case }
+}
+
+fn read_body(bytes: &[u8], sizes: Sizes, table: &mut [i64]) -> CaseRead
+    requires { ⌜ Limited sizes ⌝ }
+    requires { ⌜ 27 ≤ length (now bytes) ⌝ }
+    requires { ⌜ length (now table) ≡ tableOf sizes ⌝ }
+    ensures { λ r. ⌜ (r ≡ leftFrom sizes (reading sizes noEnds noEnds (now (table .entry))) 0 (now (bytes .entry)) .read) × (now (table .exit) ≡ leftFrom sizes (reading sizes noEnds noEnds (now (table .entry))) 0 (now (bytes .entry)) .table) ⌝ }
+{
+    let mut lower = [0u8; 96];
+    let mut upper = [0u8; 96];
+    let answer = read_lines(bytes, sizes, &mut lower, &mut upper, table);
+    match answer {
+        FileAnswer::Refused { refusal, line } => refused(refusal, line),
+        FileAnswer::Read { lines } => accepted(lines, sizes, lower, upper),
+    }
+}
+
+pub fn read_case(bytes: &[u8], table: &mut [i64]) -> CaseRead
+    ensures { λ r. ⌜ (r ≡ readCase standard (now (bytes .entry)) (now (table .entry)) .read) × (now (table .exit) ≡ readCase standard (now (bytes .entry)) (now (table .entry)) .table) ⌝ }
+{
+    let size = case_size(bytes);
+    match size {
+        CaseSize::Refused(refusal) => refused(refusal, 0),
+        CaseSize::Size {
+            n,
+            d,
+            m,
+            table: long,
+        } => {
+            if table.len() != long {
+                return refused(Refusal::WrongLength, 0);
+            }
+            read_body(bytes, Sizes { n, d, m }, table)
+        }
     }
 }

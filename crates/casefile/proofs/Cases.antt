@@ -1,0 +1,135 @@
+-- The head of a case file, and then its lines. Assumes nothing.
+use mathlib.Core.Path.{_≡_, refl, sym, ap, ap₂, _∙_}
+use mathlib.Core.Bool.{Bool, true, false, not, _&&_}
+use mathlib.Core.Logic.{_≢_, ⊎-elim}
+use mathlib.Core.Option.{Option, none, some}
+use mathlib.Core.List.{List, [], _∷_}
+use Prim.Native.Nat.{ℕ, _+_, _*_, _≤_, _<_}
+use native.Mathlib.Omega.{arith}
+use lib.IntN.{ℤ, pos, natAbs}
+use lib.Dec.{T, eqb, nltb→le}
+use lib.ListN.{length, drop}
+use borrow.Author.Tests.{eq-eqb, ne-eqb}
+use Rattle.integers.specs.Words.{if_then_else_, isSome}
+use Rattle.integers.specs.Tests.{is-true, either, and-left, and-right, not-not-iff}
+use Rattle.definitions.specs.declared.Case.{Case}
+use Rattle.definitions.specs.declared.Line.{Line}
+use Rattle.definitions.specs.declared.FileAnswer.{FileAnswer}
+use Rattle.definitions.specs.declared.CaseRead.{CaseRead}
+use Rattle.definitions.specs.declared.CaseSize.{CaseSize}
+use Rattle.definitions.specs.declared.Refusal.{Refusal}
+use Rattle.definitions.specs.declared.Refusal.the-variants.{WrongLength, CutShort}
+use Rattle.definitions.specs.Rules.{standard}
+use Rattle.definitions.specs.Refusals.{firstOf}
+use Rattle.definitions.specs.Lines.{notDue}
+use Rattle.definitions.specs.Case.{lentLength}
+use Rattle.definitions.specs.CaseFiles.{CaseCall, Reading, caseOf, headed, headTests, headRefusal, isCut, firstLine, afterFirst, dues, readDues, caseRefused, caseTaken, readCase, caseSize}
+use Rattle.theory.proofs.Validity.{none-applies}
+use Rattle.casefile.specs.declared.Sizes.{Sizes}
+use Rattle.casefile.specs.Steps.{Limited, reading, tableOf, leftFrom, noEnds, callOf}
+use Rattle.casefile.specs.Reads.{limitsZ}
+use Rattle.casefile.proofs.Heads.{limits-known}
+
+-- ---- what is handed back of a call
+
+module _ {call : CaseCall} {u : CaseRead} (r : FileAnswer) (g : Reading) (e : callOf r g ≡ call) where
+  pub handed-refused : {x : Refusal} {at : ℕ} → r ≡ FileAnswer.Refused x at → u ≡ caseRefused standard x at (g .table) .read → (u ≡ call .read) × (g .table ≡ call .table)
+  handed-refused p q = let d = sym (ap (λ r. callOf r g) p) ∙ e in (q ∙ ap (λ c. c .read) d, ap (λ c. c .table) d)
+
+  pub handed-taken : {lines : ℕ} → r ≡ FileAnswer.Read lines → u ≡ caseTaken standard g lines .read → (u ≡ call .read) × (g .table ≡ call .table)
+  handed-taken p q = let d = sym (ap (λ r. callOf r g) p) ∙ e in (q ∙ ap (λ c. c .read) d, ap (λ c. c .table) d)
+
+pub handed-same : {call other : CaseCall} {u : CaseRead} {v : List ℤ} → other ≡ call → (u ≡ call .read) × (v ≡ call .table) → (u ≡ other .read) × (v ≡ other .table)
+handed-same e (p, q) = (p ∙ sym (ap (λ c. c .read) e), q ∙ sym (ap (λ c. c .table) e))
+
+-- ---- by the refusal of the head, and the case that it names
+
+sizeBy : Option Refusal → Case → CaseSize
+sizeBy o c = elim o [
+  | none ↦ CaseSize.Size (c .n) (c .d) (c .m) (lentLength c)
+  | some x ↦ CaseSize.Refused x
+]
+
+size-none : (o : Option Refusal) (c : Case) {n d m long : ℕ} → sizeBy o c ≡ CaseSize.Size n d m long → (o ≡ none) × (c .n ≡ n) × (c .d ≡ d) × (c .m ≡ m) × (lentLength c ≡ long)
+unfolding sizeBy
+size-none none c e = (refl, (cc), (cc), (cc), (cc))
+size-none (some x) c e = ((cc), (cc), (cc), (cc), (cc))
+
+size-some : (o : Option Refusal) (c : Case) {x : Refusal} → sizeBy o c ≡ CaseSize.Refused x → o ≡ some x
+unfolding sizeBy
+size-some none c e = cc
+size-some (some y) c e = cc
+
+headed-is : (o : Option Line) → headed standard o ≡ caseOf standard (headed standard o .n) (headed standard o .d) (headed standard o .m)
+headed-is none = refl
+headed-is (some l) = refl
+
+module _ (t : List ℕ) (w : List ℤ) where
+  caseBy : Option Refusal → Case → CaseCall
+  caseBy o c = elim o [
+    | none ↦
+        if eqb (length w) (lentLength c)
+        then readDues standard (record { case = c; table = w }) 1 (dues c) (afterFirst standard t)
+        else caseRefused standard WrongLength 0 w
+    | some x ↦ caseRefused standard x 0 w
+  ]
+
+  case-is : readCase standard t w ≡ caseBy (headRefusal standard t) (headed standard (firstLine standard t))
+  unfolding caseBy
+  case-is = refl
+
+  size-is : caseSize standard t ≡ sizeBy (headRefusal standard t) (headed standard (firstLine standard t))
+  unfolding sizeBy
+  size-is = refl
+
+  pub case-refused : {x : Refusal} → caseSize standard t ≡ CaseSize.Refused x → readCase standard t w ≡ caseRefused standard x 0 w
+  unfolding caseBy
+  case-refused {x} e =
+      let o : headRefusal standard t ≡ some x = size-some (headRefusal standard t) (headed standard (firstLine standard t)) (sym size-is ∙ e) in
+      case-is ∙ ap (λ o. caseBy o (headed standard (firstLine standard t))) o
+
+  module _ (s : Sizes) {long : ℕ} (e : caseSize standard t ≡ CaseSize.Size (s .n) (s .d) (s .m) long) where
+    named : (headRefusal standard t ≡ none) × (headed standard (firstLine standard t) ≡ caseOf standard (s .n) (s .d) (s .m)) × (tableOf s ≡ long)
+    named =
+        let (o, n, d, m, l) = size-none (headRefusal standard t) (headed standard (firstLine standard t)) (sym size-is ∙ e) in
+        (o, headed-is (firstLine standard t) ∙ cc, cc)
+
+    case-none : readCase standard t w ≡ caseBy none (caseOf standard (s .n) (s .d) (s .m))
+    case-none = case-is ∙ ap₂ caseBy (named .0) (named .1)
+
+    pub case-wrong : length w ≢ long → readCase standard t w ≡ caseRefused standard WrongLength 0 w
+    unfolding caseBy
+    case-wrong h = case-none ∙ rw (ne-eqb (length w) (tableOf s) (λ q. h (q ∙ named .2)))
+
+    pub case-right : length w ≡ long → readCase standard t w ≡ leftFrom s (reading s noEnds noEnds w) 0 t
+    unfolding caseBy leftFrom
+    case-right h = case-none ∙ rw (eq-eqb (length w) (tableOf s) (h ∙ sym (named .2)))
+
+    pub case-length : length w ≡ long → length w ≡ tableOf s
+    case-length h = h ∙ sym (named .2)
+
+    refusal-parts : (b : Bool) (o : Option Refusal) → (if b then some CutShort else o) ≡ none → (b ≡ false) × (o ≡ none)
+    refusal-parts true o p = ((cc), (cc))
+    refusal-parts false o p = (refl, p)
+
+    not-cut : (isCut standard t ≡ false) × (firstOf (headTests standard (firstLine standard t)) ≡ none)
+    not-cut = refusal-parts (isCut standard t) (firstOf (headTests standard (firstLine standard t))) (named .0)
+
+    pub head-whole : 27 ≤ length t
+    head-whole = ⊎-elim (λ u. let z : true ≡ false = sym (is-true (isCut standard t) u) ∙ not-cut .0 in let y : _≡_ {A = ℕ} 0 1 = cc in omega arith) (λ u. nltb→le (length t) 27 u) (either (isCut standard t))
+
+    pub sizes-limited : Limited s
+    sizes-limited = go (firstLine standard t) (not-cut .1) (named .1)
+      where
+        go : (o : Option Line) → firstOf (headTests standard o) ≡ none → headed standard o ≡ caseOf standard (s .n) (s .d) (s .m) → Limited s
+        go none p q = let z : _≡_ {A = ℕ} 0 1 = cc in absurd (omega arith)
+        go (some l) p q =
+            let limits = limitsZ (l .a) (l .b) (l .c) in
+            let k = and-left (not (not limits)) true (and-right (not (notDue standard (10 ∷ []) l)) (not (not limits) && true) (none-applies (headTests standard (some l)) .0 (rw p tt))) in
+            let (n, d, m) = limits-known (l .a) (l .b) (l .c) (not-not-iff limits .0 k) in
+            record {
+              variables = omega (arith, ap (λ c. c .n) q, n .2);
+              some-value = omega (arith, ap (λ c. c .d) q, d .1);
+              values = omega (arith, ap (λ c. c .d) q, d .2);
+              edges = omega (arith, ap (λ c. c .m) q, m .2);
+            }

@@ -1,0 +1,101 @@
+-- What is left to read, one line a step. Assumes nothing.
+use mathlib.Core.Path.{_≡_, refl, sym, ap, ap₂, _∙_}
+use mathlib.Core.Bool.{Bool, true, false, not, _&&_}
+use mathlib.Core.Option.{Option, none, some}
+use mathlib.Core.List.{List, [], _∷_}
+use Prim.Native.Nat.{ℕ, suc, _+_, _*_, _-_, _≤_, _<_}
+use native.Mathlib.Numerals.{add-one}
+use native.Mathlib.Omega.{arith}
+use lib.IntN.{ℤ}
+use lib.ListN.{length, drop, getD, length-set, length-drop, drop-of-length-le}
+use lib.Seq.{drop-cons, drop-drop}
+use Rattle.integers.specs.Words.{if_then_else_}
+use Rattle.definitions.specs.declared.Case.{Case}
+use Rattle.definitions.specs.declared.Line.{Line}
+use Rattle.definitions.specs.declared.Refusal.{Refusal}
+use Rattle.definitions.specs.declared.Refusal.the-variants.{CutShort}
+use Rattle.definitions.specs.declared.Outcome.{Outcome}
+use Rattle.definitions.specs.Rules.{standard}
+use Rattle.definitions.specs.Refusals.{firstOf}
+use Rattle.definitions.specs.CaseFiles.{CaseDue, variable-weight, edge-ends, edge-weight, dueTests, took, Reading, CaseCall, caseRefused, caseTaken, isCut, firstLine, readDues}
+use Rattle.casefile.specs.declared.Sizes.{Sizes}
+use Rattle.casefile.specs.Steps.{dueAt, linesDue, tableOf, caseWith, reading, dueRefusal, SteppedAt, leftFrom}
+use Rattle.figures.proofs.Order.{outcome-done, outcome-refused}
+use Rattle.casefile.proofs.Taken.{kept, changed, whole}
+use Rattle.casefile.proofs.Dues.{allDues, dues-length, dues-at}
+
+abbrev onRefusal : Option Refusal → CaseCall → ℕ → List ℤ → CaseCall
+onRefusal none next at w = next
+onRefusal (some x) next at w = caseRefused standard x at w
+
+read-cons : (g : Reading) (at : ℕ) (due : CaseDue) (ds : List CaseDue) (t : List ℕ)
+    → readDues standard g at (due ∷ ds) t ≡ onRefusal (dueRefusal (g .case) due t) (readDues standard (took g due (firstLine standard t)) (at + 1) ds (drop 27 t)) at (g .table)
+unfolding dueRefusal
+read-cons g at due ds t = go (isCut standard t) (firstOf (dueTests standard (g .case) due (firstLine standard t))) (readDues standard (took g due (firstLine standard t)) (at + 1) ds (drop 27 t))
+  where
+    go : (b : Bool) (o : Option Refusal) (next : CaseCall) → (elim b [
+      | true ↦ caseRefused standard CutShort at (g .table)
+      | false ↦
+          elim o [
+            | none ↦ next
+            | some x ↦ caseRefused standard x at (g .table)
+          ]
+    ]) ≡ onRefusal (if b then some CutShort else o) next at (g .table)
+    go true o next = refl
+    go false none next = refl
+    go false (some x) next = refl
+
+module _ (s : Sizes) (g : Reading) (q : ℕ) (t : List ℕ) where
+  abbrev next : CaseCall
+  next = leftFrom s (took g (dueAt s q) (firstLine standard (drop (27 * (q + 1)) t))) (q + 1) t
+
+  left-step : q < linesDue s → leftFrom s g q t ≡ onRefusal (dueRefusal (g .case) (dueAt s q) (drop (27 * (q + 1)) t)) next (q + 1) (g .table)
+  unfolding leftFrom
+  left-step h =
+      let e : 27 * (q + 1 + 1) ≡ 27 * (q + 1) + 27 = omega arith in
+      let c : drop q (allDues s) ≡ dueAt s q ∷ drop (q + 1) (allDues s) =
+      rw add-one (drop-cons (allDues s) q (edge-ends 0) (omega (arith, dues-length s)) ∙ ap (λ due. due ∷ drop (suc q) (allDues s)) (dues-at s q (edge-ends 0) h)) in
+      ap (λ ds. readDues standard g (q + 1) ds (drop (27 * (q + 1)) t)) c
+      ∙ read-cons g (q + 1) (dueAt s q) (drop (q + 1) (allDues s)) (drop (27 * (q + 1)) t)
+      ∙ rw (e, ← (drop-drop 27 (27 * (q + 1)) t))
+
+  -- the line was taken, and g is what it left
+  pub left-taken : {u : Reading} → q < linesDue s → dueRefusal (g .case) (dueAt s q) (drop (27 * (q + 1)) t) ≡ none
+      → u ≡ took g (dueAt s q) (firstLine standard (drop (27 * (q + 1)) t)) → leftFrom s g q t ≡ leftFrom s u (q + 1) t
+  left-taken h e f = left-step h ∙ ap (λ o. onRefusal o next (q + 1) (g .table)) e ∙ ap (λ g. leftFrom s g (q + 1) t) (sym f)
+
+  pub left-refused : {x : Refusal} → q < linesDue s → dueRefusal (g .case) (dueAt s q) (drop (27 * (q + 1)) t) ≡ some x → leftFrom s g q t ≡ caseRefused standard x (q + 1) (g .table)
+  left-refused h e = left-step h ∙ ap (λ o. onRefusal o next (q + 1) (g .table)) e
+
+  pub left-end : linesDue s ≤ q → leftFrom s g q t ≡ caseTaken standard g (q + 1)
+  unfolding leftFrom
+  left-end h = ap (λ ds. readDues standard g (q + 1) ds (drop (27 * (q + 1)) t)) (drop-of-length-le (allDues s) {i = q} (omega (arith, dues-length s)))
+
+-- ---- the loop over the lines
+
+took-length : (g : Reading) (due : CaseDue) (o : Option Line) → length (took g due o .table) ≡ length (g .table)
+took-length g due none = refl
+took-length g (variable-weight i k) (some l) = simp length-set
+took-length g (edge-ends e) (some l) = refl
+took-length g (edge-weight e k j) (some l) = simp length-set
+
+module _ (s : Sizes) (lower upper : List ℕ) (w : List ℤ) (q : ℕ) (t : List ℕ) {r : Outcome} {g : Reading} (h : q < linesDue s)
+    (step : SteppedAt s lower upper w (drop (27 * (q + 1)) t) (dueAt s q) r g) where
+  abbrev refusal : Option Refusal
+  refusal = dueRefusal (caseWith s lower upper) (dueAt s q) (drop (27 * (q + 1)) t)
+
+  pub line-taken : r ≡ Outcome.Done → length w ≡ tableOf s → 27 * (q + 1) ≤ length t
+      → (27 * (q + 1 + 1) ≤ length t) × (length (g .table) ≡ tableOf s) × (leftFrom s (reading s lower upper w) q t ≡ leftFrom s g (q + 1) t)
+  line-taken e n m =
+      let d : refusal ≡ none = outcome-done (sym e ∙ step .answer) in
+      let u : g ≡ took (reading s lower upper w) (dueAt s q) (firstLine standard (drop (27 * (q + 1)) t)) = step .left ∙ sym (changed refusal (took (reading s lower upper w) (dueAt s q) (firstLine standard (drop (27 * (q + 1)) t))) (reading s lower upper w) d) in (
+        omega (arith, whole (caseWith s lower upper) (dueAt s q) (drop (27 * (q + 1)) t) d, length-drop (27 * (q + 1)) t),
+        ap (λ g. length (g .table)) u ∙ took-length (reading s lower upper w) (dueAt s q) (firstLine standard (drop (27 * (q + 1)) t)) ∙ n,
+        left-taken s (reading s lower upper w) q t h d u,
+      )
+
+  pub line-refused : {x : Refusal} → r ≡ Outcome.Refused x → caseRefused standard x (q + 1) (g .table) ≡ leftFrom s (reading s lower upper w) q t
+  line-refused {x} e =
+      let d : refusal ≡ some x = outcome-refused (sym e ∙ step .answer) in
+      let u : g ≡ reading s lower upper w = step .left ∙ sym (kept refusal (took (reading s lower upper w) (dueAt s q) (firstLine standard (drop (27 * (q + 1)) t))) (reading s lower upper w) d) in
+      ap (λ g. caseRefused standard x (q + 1) (g .table)) u ∙ sym (left-refused s (reading s lower upper w) q t h d)

@@ -1,0 +1,50 @@
+use mathlib.Core.List.{[]}
+use Rattle.casefile.proofs.Cases.{handed-refused, handed-taken}
+use borrow.Author.Needs.{needs}
+use Rattle.casefile.proofs.read_body.Statement.{statement}
+use Rattle.casefile.proofs.read_body.Tie as tie
+
+read-lines-requires : tie.Need-read-lines-requires
+read-lines-requires c κs = search needs
+
+enum-known-answer : tie.Need-enum-known-answer
+enum-known-answer c = search needs
+
+refused-requires : tie.Need-refused-requires
+refused-requires c κs = search needs
+
+enum-known-answer-2 : tie.Need-enum-known-answer-2
+enum-known-answer-2 c = search needs
+
+accepted-requires : tie.Need-accepted-requires
+accepted-requires c κs = search needs
+
+same-length : tie.Need-same-length
+same-length c = search needs
+
+returns : tie.Need-returns
+returns c =
+    let k = c .before .before .before .before .before in
+    handed-refused (k .read-lines .result) _ (k .read-lines .ensures) (c .before .before .answer .given .1) (c .refused .ensures [])
+
+same-length-2 : tie.Need-same-length-2
+same-length-2 c = search needs
+
+returns-2 : tie.Need-returns-2
+returns-2 c =
+    let k = c .before .before .before .before .before in
+    handed-taken (k .read-lines .result) _ (k .read-lines .ensures) (c .before .before .answer2 .given .1) (c .accepted .ensures [])
+
+pub read-body-spec : {M : Type 1} → statement M
+read-body-spec =
+    tie.close
+    (tie.spec
+    read-lines-requires
+    enum-known-answer
+    refused-requires
+    enum-known-answer-2
+    accepted-requires
+    same-length
+    returns
+    same-length-2
+    returns-2)
