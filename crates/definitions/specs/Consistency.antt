@@ -42,7 +42,7 @@ pub record Supported (c : Case) (w : List ℤ) (R : ℕ → Bool) (i k : ℕ) (S
 pub record Refuted (c : Case) (w : List ℤ) (R : ℕ → Bool) (i k : ℕ) : Type 0 where
   pub none-exists : (S : Family) → Supported c w R i k S → ⊥
 
--- ---- the same as tests: proofs/Refutation shows that `refuted` decides `Refuted`
+-- ---- the same as tests: where the ends of edges are variables, `refuted` decides `Refuted` (proofs/Refutation)
 
 abbrev pub isFixed : Case → ℕ → ℕ → Family → Bool
 isFixed c i k S = all (λ v. S i v ⇒ eqb v k) (values c)
