@@ -10,3 +10,7 @@ pub mod Validity
 pub mod Replays
 pub mod Rounds
 pub mod Networks
+pub mod CaseDues
+pub mod CaseTests
+pub mod CaseReads
+pub mod CaseTexts

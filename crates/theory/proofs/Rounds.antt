@@ -137,12 +137,12 @@ standard-kinds r same = record {
 
 -- ---- lines that fit their columns
 
-within-most : (m : ℕ) (z : ℤ) → minus m ≤ℤ z → z ≤ℤ pos m → natAbs z ≤ m
+pub within-most : (m : ℕ) (z : ℤ) → minus m ≤ℤ z → z ≤ℤ pos m → natAbs z ≤ m
 within-most m (pos n) h k = omega zs
 within-most m (negsuc n) h k = h ▸ simp flat (omega zs)
 
 module _ {r : Rules} (coherent : Coherent r) where
-  line-fits : (k a b c : ℕ) (z : ℤ) → k < 10 ^ 2 → a < 10 ^ 4 → b < 10 ^ 4 → c < 10 ^ 4 → natAbs z < 10 ^ (r .amountWidth - 1) → lineTooWide (r .amountWidth) (line k (pos a) (pos b) (pos c) z) ≡ false
+  pub line-fits : (k a b c : ℕ) (z : ℤ) → k < 10 ^ 2 → a < 10 ^ 4 → b < 10 ^ 4 → c < 10 ^ 4 → natAbs z < 10 ^ (r .amountWidth - 1) → lineTooWide (r .amountWidth) (line k (pos a) (pos b) (pos c) z) ≡ false
   line-fits k a b c z hk ha hb hc hz = each-fits (r .amountWidth) (line k (pos a) (pos b) (pos c) z) (record {
     kind = fits-digits 2 k (omega arith) hk;
     a = fits-digits 4 a (omega arith) ha;

@@ -34,7 +34,7 @@ none-applies (t ∷ ts) = go (t .applies) (none-applies ts)
     go true r = (λ t. t, λ t. t)
     go false r = r
 
-not-and-iff : (a b : Bool) → T (not (a && b)) ↔ (T a → T b → ⊥)
+pub not-and-iff : (a b : Bool) → T (not (a && b)) ↔ (T a → T b → ⊥)
 not-and-iff a b = (λ t s u. T-not (a && b) t (and-intro a b s u), λ f. not-T (a && b) (λ t. f (and-left a b t) (and-right a b t)))
 
 -- a case within the limits, and a table of its length, all weights in a range
