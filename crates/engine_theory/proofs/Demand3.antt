@@ -2,10 +2,11 @@
 -- the checker's answers are the plain replay's and the engine's are the calls'. Each clause stands above what it says here; the tender's
 -- plan, total and ceiling are assignment, objective and upper bound. Assumes nothing.
 use mathlib.Core.Path.{_≡_, refl, sym, ap, _∙_}
+use mathlib.Core.Bool.{false}
 use mathlib.Core.Logic.{_↔_, _⊎_}
 use mathlib.Core.Option.{none}
-use mathlib.Core.List.{List, [], map}
-use Prim.Native.Nat.{ℕ, _≤_}
+use mathlib.Core.List.{List, [], _∷_, map}
+use Prim.Native.Nat.{ℕ, _+_, _≤_}
 use lib.IntN.{ℤ, pos, _+ℤ_}
 use lib.Dec.{T}
 use lib.Signed.{_≤ℤ_}
@@ -15,14 +16,16 @@ use Rattle.definitions.specs.declared.RunAnswer.{RunAnswer}
 use Rattle.definitions.specs.Rules.{Rules, Coherent, standard, standard-coherent}
 use Rattle.definitions.specs.Case.{isAssignment, objective, upperBound}
 use Rattle.definitions.specs.Valid.{workingWeight, valid}
-use Rattle.definitions.specs.Lines.{linesIn}
+use Rattle.definitions.specs.Lines.{linesIn, hasPart}
 use Rattle.definitions.specs.Replay.{State, fresh, after, answers, atEnd, keepsRules}
 use Rattle.definitions.specs.Engine.{Settled, engineNext, roundBytes, run}
 use Rattle.definitions.specs.EngineCalls.{RunCall, runCall}
+use Rattle.definitions.specs.Programs.{Judged, accepted as acceptedWith, firstNumber, judgeLog}
+use Rattle.definitions.proofs.LineLaws.{no-part}
 use Rattle.theory.proofs.Validity.{Handed}
 use Rattle.theory.proofs.Replays.{accepted-iff, keeps-iff, total-kept, bound-sound, rounds-few, handed-after}
 use Rattle.theory.proofs.Rounds.{MoveKinds, standard-kinds}
-use Rattle.engine_theory.proofs.Runs.{boundLines, engine-lawful, engine-free, run-settled, run-limit, run-log-taken, run-log-answers, run-log-ends, run-never-refused, run-settles}
+use Rattle.engine_theory.proofs.Runs.{boundLines, engine-lawful, engine-free, run-settled, run-limit, run-log-taken, run-log-answers, run-log-ends, run-never-refused, run-settles, run-tallied, run-ends, ends-within}
 use Rattle.engine_theory.proofs.Calls.{SameRun, taken-iff, same-run, call-lines, call-bound-lines}
 
 -- a list is accepted if the replay gives no number at any of its lines or at its end
@@ -51,9 +54,15 @@ pub record RunTrusted (r : Rules) (c : Case) (w : List ℤ) (limit room : ℕ) (
   pub settled : u .run .answer ≡ RunAnswer.Settled ↔ Settled c (u .table)
   pub limited : u .run .answer ≡ RunAnswer.Limit ↔ (u .run .rounds ≡ limit) × (Settled c (u .table) → ⊥)
   pub unrefused : (u .run .answer ≡ RunAnswer.Settled) ⊎ (u .run .answer ≡ RunAnswer.Limit)
+  -- whatever its answer, it makes no more rounds than the limit, and its upper bound is at least every assignment's starting objective
+  pub within : u .run .rounds ≤ limit
+  pub bound-above : (p : List ℕ) → T (isAssignment c p) → objective c w p ≤ℤ u .run .bound
   -- its rounds are as many as the bound lines written (L9b)
   pub bound-lines : length (boundLines r (linesIn (r .amountWidth) (u .log))) ≡ u .run .rounds
-  -- "and its log, replayed from them, is accepted with the run's own rounds, ceiling and working weights" (L8)
+  -- "and its log, replayed from them, is accepted with the run's own rounds, ceiling and working weights" (L8): it is cut into lines with no
+  -- part of one left over, and wherever in the input it begins, it is judged as accepted with these rounds and this upper bound
+  pub log-whole : hasPart (r .amountWidth) (u .log) ≡ false
+  pub log-judged : (at : ℕ) → judgeLog r c w at (u .log) ≡ acceptedWith (u .run .rounds) (u .run .bound)
   pub log-accepted : Accepted r c w (linesIn (r .amountWidth) (u .log))
   pub log-rounds : after r (fresh c w) (linesIn (r .amountWidth) (u .log)) .rounds ≡ u .run .rounds
   pub log-bound : upperBound c (after r (fresh c w) (linesIn (r .amountWidth) (u .log)) .weights) ≡ u .run .bound
@@ -66,6 +75,11 @@ pub record PlainDemand3 (r : Rules) (c : Case) (w : List ℤ) : Type 0 where
   pub any-lines : (ts : List (List ℕ)) → LinesTrusted r c w ts (after r (fresh c w) ts)
   -- "In demand 3 a run is lent what number 4 asks" (document 01)
   pub any-run : (limit : ℕ) (out : List ℕ) → roundBytes r c ≤ length out → RunTrusted r c w limit (length out) (runCall r engineNext c limit w out)
+
+-- lines without a number and no part line
+unnumbered : (r : Rules) (at : ℕ) (ts : List (List ℕ)) (good : Judged) → firstNumber r at (map (λ t. none) ts) none false good ≡ good
+unnumbered r at [] good = refl
+unnumbered r at (t ∷ ts) good = unnumbered r (at + 1) ts good
 
 module _ {r : Rules} (coherent : Coherent r) (kinds : MoveKinds r) (c : Case) (w : List ℤ) (t : T (valid r c w)) where
   lines-trusted : (ts : List (List ℕ)) → LinesTrusted r c w ts (after r (fresh c w) ts)
@@ -88,15 +102,26 @@ module _ {r : Rules} (coherent : Coherent r) (kinds : MoveKinds r) (c : Case) (w
       let same = same-run coherent lawful limit w out taken in
       let lines = call-lines coherent lawful limit w out taken in
       let replayed = ap (after r (fresh c w)) lines ∙ run-log-taken coherent kinds lawful w t limit in
+      let u : RunCall = runCall r engineNext c limit w out in
+      let log : List (List ℕ) = linesIn (r .amountWidth) (u .log) in
+      let log-accepted : Accepted r c w log = rw lines (record { each = run-log-answers coherent kinds lawful w t limit; end = run-log-ends coherent kinds lawful w t limit }) in
+      let log-rounds : after r (fresh c w) log .rounds ≡ u .run .rounds = ap (λ (s : State). s .rounds) replayed ∙ sym (same .rounds) in
+      let log-bound : upperBound c (after r (fresh c w) log .weights) ≡ u .run .bound = ap (λ (s : State). upperBound c (s .weights)) replayed ∙ sym (same .bound) in
+      let log-whole : hasPart (r .amountWidth) (u .log) ≡ false =
+      ap (hasPart (r .amountWidth)) (same .log) ∙ no-part (r .amountWidth) (run r engineNext c limit w .log) (run-tallied coherent lawful limit w h .kept .whole) in
       record {
         same = same;
         settled = rw (same .answer, same .table) (run-settled r c (h .shape) limit w);
         limited = rw (same .answer, same .rounds, same .table) (run-limit r c (h .shape) limit w);
         unrefused = rw (same .answer) (run-never-refused coherent kinds lawful w t free limit);
+        within = rw (same .rounds) (ends-within r engineNext c (run-ends r engineNext c limit w));
+        bound-above = λ p a. rw (← log-bound) (bound-sound r c w t log p a);
         bound-lines = call-bound-lines coherent lawful limit w out;
-        log-accepted = rw lines (record { each = run-log-answers coherent kinds lawful w t limit; end = run-log-ends coherent kinds lawful w t limit });
-        log-rounds = ap (λ (s : State). s .rounds) replayed ∙ sym (same .rounds);
-        log-bound = ap (λ (s : State). upperBound c (s .weights)) replayed ∙ sym (same .bound);
+        log-whole = log-whole;
+        log-judged = λ at. rw (log-accepted .each, log-accepted .end, log-whole, log-rounds, log-bound) (unnumbered r at log (acceptedWith (u .run .rounds) (u .run .bound)));
+        log-accepted = log-accepted;
+        log-rounds = log-rounds;
+        log-bound = log-bound;
         log-weights = ap (λ (s : State). s .weights) replayed ∙ sym (same .table);
         settles = λ p a l. same .answer ∙ run-settles coherent kinds lawful w t free limit p a l;
       }
