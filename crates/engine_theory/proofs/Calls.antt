@@ -1,12 +1,12 @@
--- The engine's calls on a lent table and output are the plain round and run. A call that is not made keeps table and output. A run that is
--- lent what number 4 asks has the plain run's answer, rounds, weights and log, the upper bound of these weights, and an output of the same
--- length; otherwise it is refused before its first round. For every table, the bound lines in its log are as many as its rounds.
--- Assumes nothing.
-use mathlib.Core.Path.{_≡_, refl, sym, ap, subst, _∙_}
+-- The engine's calls on a lent table and output are the plain round and run. A call that is not made keeps table and output. A run to which
+-- none of numbers 3 to 8 applies has the plain run's answer, rounds, weights and log, the upper bound of these weights, and an output of the
+-- same length; otherwise it is refused before its first round. For every table, a run is the iteration of the round's call, and the bound
+-- lines in its log are as many as its rounds. Assumes nothing.
+use mathlib.Core.Path.{_≡_, refl, sym, ap, ap₂, subst, _∙_}
 use mathlib.Core.Bool.{Bool, true, false, not}
 use mathlib.Core.Logic.{_↔_}
 use mathlib.Core.Option.{Option, none, some}
-use mathlib.Core.List.{List, [], _∷_, _++_, List·Memᴰ·not-nil}
+use mathlib.Core.List.{List, [], _∷_, _++_, append-assoc, append-nil, List·Memᴰ·not-nil}
 use Prim.Native.Nat.{ℕ, zero, suc, _+_, _≤_}
 use native.Mathlib.Nat.{mul-le-mul-right, mul-comm}
 use native.Mathlib.Omega.{arith}
@@ -85,6 +85,63 @@ module _ (r : Rules) (next : Case → List ℤ → Next) (c : Case) (w : List �
       ∙ ap (λ (a : RunAnswer). stopRun r next c a 0 w out []) (if-false RunAnswer.Limit (RunAnswer.Refused x) (isLeaving x) (not-leaving (handedOver r (workingWeight r) c w (ltb (length out) (roundBytes r c)) false) tt e))
   run-refused (suc limit) e = ap (λ (u : RoundCall). goOn r next c (u .answer) u 0 w out [] (λ v bytes log. runCallFrom r next c limit 1 v bytes log)) (call-refused e)
 
+-- ---- a run is the iteration of the round's call, for every table and every output
+
+-- a run before which so many rounds were made, and so much of the log was written
+abbrev pub preceded : ℕ → List ℕ → RunCall → RunCall
+preceded done log u = record {
+  run = record { answer = u .run .answer; rounds = done + u .run .rounds; bound = u .run .bound };
+  table = u .table;
+  out = u .out;
+  log = log ++ u .log;
+}
+
+module _ (r : Rules) (next : Case → List ℤ → Next) (c : Case) where
+  stop-preceded : (answer : RunAnswer) (done : ℕ) (w : List ℤ) (out log : List ℕ) → stopRun r next c answer done w out log ≡ preceded done log (stopRun r next c answer 0 w out [])
+  stop-preceded answer done w out log = ap₂ (λ (n : ℕ) (l : List ℕ). stopRun r next c answer n w out l) (omega arith) (sym (append-nil log))
+
+  from-preceded : (left done : ℕ) (w : List ℤ) (out log : List ℕ) → runCallFrom r next c left done w out log ≡ preceded done log (runCallFrom r next c left 0 w out [])
+  from-preceded zero done w out log = stop-preceded (answerAtLimit (roundCall r next c w out .answer)) done w out log
+  from-preceded (suc left) done w out log = go (λ d v o l. from-preceded left d v o l) (roundCall r next c w out .answer) (roundCall r next c w out)
+    where
+      go : ((d : ℕ) (v : List ℤ) (o l : List ℕ) → runCallFrom r next c left d v o l ≡ preceded d l (runCallFrom r next c left 0 v o []))
+          → (a : Round) (call : RoundCall) → goOn r next c a call done w out log (λ v bytes l. runCallFrom r next c left (suc done) v bytes l)
+          ≡ preceded done log (goOn r next c a call 0 w out [] (λ v bytes l. runCallFrom r next c left 1 v bytes l))
+      go on Round.Settled call = stop-preceded RunAnswer.Settled done w out log
+      go on (Round.Refused x) call = stop-preceded (RunAnswer.Refused x) done w out log
+      go on (Round.Made bytes bound) call =
+          on (suc done) (call .table) (call .out) (log ++ take bytes (call .out))
+          ∙ ap₂ (λ (n : ℕ) (l : List ℕ). record { run = record { answer = rest .run .answer; rounds = n; bound = rest .run .bound }; table = rest .table; out = rest .out; log = l })
+          (omega arith) (append-assoc log (take bytes (call .out)) (rest .log))
+          ∙ sym (ap (preceded done log) (on 1 (call .table) (call .out) (take bytes (call .out))))
+        where
+          rest : RunCall
+          rest = runCallFrom r next c left 0 (call .table) (call .out) []
+
+  module _ (limit : ℕ) (w : List ℤ) (out : List ℕ) where
+    -- a run whose first round is made is this round and then the run on the table and output that its call left, and begins its log with the
+    -- bytes that the call wrote
+    pub run-made : {bytes : ℕ} {bound : ℤ} → roundCall r next c w out .answer ≡ Round.Made bytes bound
+        → runCall r next c (suc limit) w out ≡ preceded 1 (take bytes (roundCall r next c w out .out)) (runCall r next c limit (roundCall r next c w out .table) (roundCall r next c w out .out))
+    unfolding runCall
+    run-made {bytes} {bound} e =
+        ap (λ (a : Round). goOn r next c a (roundCall r next c w out) 0 w out [] (λ v b l. runCallFrom r next c limit 1 v b l)) e
+        ∙ from-preceded limit 1 (roundCall r next c w out .table) (roundCall r next c w out .out) (take bytes (roundCall r next c w out .out))
+
+    -- where it is settled or refused, so is the run, with no rounds and no log
+    pub run-settled-first : roundCall r next c w out .answer ≡ Round.Settled → runCall r next c (suc limit) w out ≡ stopRun r next c RunAnswer.Settled 0 w out []
+    unfolding runCall
+    run-settled-first e = ap (λ (a : Round). goOn r next c a (roundCall r next c w out) 0 w out [] (λ v b l. runCallFrom r next c limit 1 v b l)) e
+
+    pub run-refused-first : {x : Refusal} → roundCall r next c w out .answer ≡ Round.Refused x → runCall r next c (suc limit) w out ≡ stopRun r next c (RunAnswer.Refused x) 0 w out []
+    unfolding runCall
+    run-refused-first e = ap (λ (a : Round). goOn r next c a (roundCall r next c w out) 0 w out [] (λ v b l. runCallFrom r next c limit 1 v b l)) e
+
+  -- with no round allowed, it answers by what the first round's call would answer
+  pub run-no-round : (w : List ℤ) (out : List ℕ) → runCall r next c 0 w out ≡ stopRun r next c (answerAtLimit (roundCall r next c w out .answer)) 0 w out []
+  unfolding runCall
+  run-no-round w out = refl
+
 -- ---- a run's call is the plain run
 
 pub record SameRun (c : Case) (q : RunOf) (room : ℕ) (u : RunCall) : Type 0 where
@@ -154,7 +211,7 @@ module _ {r : Rules} {next : Case → List ℤ → Next} {c : Case} (coherent : 
               (on v (overwritten (joined lines) out) (log ++ lines) (handed-on coherent lawful m) (omega arith)))
 
   module _ (limit : ℕ) (w : List ℤ) (out : List ℕ) where
-    -- lent what number 4 asks
+    -- where none of numbers 3 to 8 applies
     module _ (taken : engineRefusal r next c w out ≡ none) where
       pub same-run : SameRun c (run r next c limit w) (length out) (runCall r next c limit w out)
       unfolding runCall

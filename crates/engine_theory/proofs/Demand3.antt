@@ -6,12 +6,14 @@ use mathlib.Core.Bool.{false}
 use mathlib.Core.Logic.{_↔_, _⊎_}
 use mathlib.Core.Option.{none}
 use mathlib.Core.List.{List, [], _∷_, map}
-use Prim.Native.Nat.{ℕ, _+_, _≤_}
+use Prim.Native.Nat.{ℕ, suc, _+_, _≤_}
 use lib.IntN.{ℤ, pos, _+ℤ_}
 use lib.Dec.{T}
 use lib.Signed.{_≤ℤ_}
-use lib.ListN.{length}
+use lib.ListN.{length, take}
 use Rattle.definitions.specs.declared.Case.{Case}
+use Rattle.definitions.specs.declared.Refusal.{Refusal}
+use Rattle.definitions.specs.declared.Round.{Round}
 use Rattle.definitions.specs.declared.RunAnswer.{RunAnswer}
 use Rattle.definitions.specs.Rules.{Rules, Coherent, standard, standard-coherent}
 use Rattle.definitions.specs.Case.{isAssignment, objective, upperBound}
@@ -19,14 +21,14 @@ use Rattle.definitions.specs.Valid.{workingWeight, valid}
 use Rattle.definitions.specs.Lines.{linesIn, hasPart}
 use Rattle.definitions.specs.Replay.{State, fresh, after, answers, atEnd, keepsRules}
 use Rattle.definitions.specs.Engine.{Settled, engineNext, roundBytes, run}
-use Rattle.definitions.specs.EngineCalls.{RunCall, runCall}
+use Rattle.definitions.specs.EngineCalls.{RunCall, answerAtLimit, roundCall, stopRun, runCall}
 use Rattle.definitions.specs.Programs.{Judged, accepted as acceptedWith, firstNumber, judgeLog}
 use Rattle.definitions.proofs.LineLaws.{no-part}
 use Rattle.theory.proofs.Validity.{Handed}
 use Rattle.theory.proofs.Replays.{accepted-iff, keeps-iff, total-kept, bound-sound, rounds-few, handed-after}
 use Rattle.theory.proofs.Rounds.{MoveKinds, standard-kinds}
 use Rattle.engine_theory.proofs.Runs.{boundLines, engine-lawful, engine-free, run-settled, run-limit, run-log-taken, run-log-answers, run-log-ends, run-never-refused, run-settles, run-tallied, run-ends, ends-within}
-use Rattle.engine_theory.proofs.Calls.{SameRun, taken-iff, same-run, call-lines, call-bound-lines}
+use Rattle.engine_theory.proofs.Calls.{preceded, run-made, run-settled-first, run-refused-first, run-no-round, SameRun, taken-iff, same-run, call-lines, call-bound-lines}
 
 -- a list is accepted if the replay gives no number at any of its lines or at its end
 pub record Accepted (r : Rules) (c : Case) (w : List ℤ) (ts : List (List ℕ)) : Type 0 where
@@ -57,7 +59,7 @@ pub record RunTrusted (r : Rules) (c : Case) (w : List ℤ) (limit room : ℕ) (
   -- whatever its answer, it makes no more rounds than the limit, and its upper bound is at least every assignment's starting objective
   pub within : u .run .rounds ≤ limit
   pub bound-above : (p : List ℕ) → T (isAssignment c p) → objective c w p ≤ℤ u .run .bound
-  -- its rounds are as many as the bound lines written (L9b)
+  -- its rounds are as many as the bound lines written (L9b, for every table in RunIterates)
   pub bound-lines : length (boundLines r (linesIn (r .amountWidth) (u .log))) ≡ u .run .rounds
   -- "and its log, replayed from them, is accepted with the run's own rounds, ceiling and working weights" (L8): it is cut into lines with no
   -- part of one left over, and wherever in the input it begins, it is judged as accepted with these rounds and this upper bound
@@ -71,10 +73,37 @@ pub record RunTrusted (r : Rules) (c : Case) (w : List ℤ) (limit room : ℕ) (
   -- of any plan, so of the best too
   pub settles : (p : List ℕ) → T (isAssignment c p) → upperBound c w ≤ℤ (pos limit +ℤ objective c w p) → u .run .answer ≡ RunAnswer.Settled
 
+-- "A run makes its rounds one after another on the tables it is lent, each writing its lines from the output's first byte; the run's log is
+-- all these lines joined in order. It hands back its number of rounds and its ceiling. Where a round is refused, the earlier rounds stand."
+-- (document 01, L9b): for every limit, every table, whatever it holds, and every output
+pub record RunIterates (r : Rules) (c : Case) : Type 0 where
+  pub made : (limit : ℕ) (w : List ℤ) (out : List ℕ) {bytes : ℕ} {bound : ℤ} → roundCall r engineNext c w out .answer ≡ Round.Made bytes bound
+      → runCall r engineNext c (suc limit) w out
+      ≡ preceded 1 (take bytes (roundCall r engineNext c w out .out)) (runCall r engineNext c limit (roundCall r engineNext c w out .table) (roundCall r engineNext c w out .out))
+  pub settled : (limit : ℕ) (w : List ℤ) (out : List ℕ) → roundCall r engineNext c w out .answer ≡ Round.Settled
+      → runCall r engineNext c (suc limit) w out ≡ stopRun r engineNext c RunAnswer.Settled 0 w out []
+  pub refused : (limit : ℕ) (w : List ℤ) (out : List ℕ) {x : Refusal} → roundCall r engineNext c w out .answer ≡ Round.Refused x
+      → runCall r engineNext c (suc limit) w out ≡ stopRun r engineNext c (RunAnswer.Refused x) 0 w out []
+  pub no-round : (w : List ℤ) (out : List ℕ) → runCall r engineNext c 0 w out ≡ stopRun r engineNext c (answerAtLimit (roundCall r engineNext c w out .answer)) 0 w out []
+  -- its rounds are as many as the bound lines written
+  pub bound-lines : (limit : ℕ) (w : List ℤ) (out : List ℕ)
+      → length (boundLines r (linesIn (r .amountWidth) (runCall r engineNext c limit w out .log))) ≡ runCall r engineNext c limit w out .run .rounds
+
+pub engine-iterates : {r : Rules} → Coherent r → (c : Case) → RunIterates r c
+engine-iterates {r} coherent c = record {
+  made = run-made r engineNext c;
+  settled = run-settled-first r engineNext c;
+  refused = run-refused-first r engineNext c;
+  no-round = run-no-round r engineNext c;
+  bound-lines = call-bound-lines coherent (engine-lawful coherent c);
+}
+
 pub record PlainDemand3 (r : Rules) (c : Case) (w : List ℤ) : Type 0 where
   pub any-lines : (ts : List (List ℕ)) → LinesTrusted r c w ts (after r (fresh c w) ts)
   -- "In demand 3 a run is lent what number 4 asks" (document 01)
   pub any-run : (limit : ℕ) (out : List ℕ) → roundBytes r c ≤ length out → RunTrusted r c w limit (length out) (runCall r engineNext c limit w out)
+  -- a run from any table
+  pub any-table : RunIterates r c
 
 -- lines without a number and no part line
 unnumbered : (r : Rules) (at : ℕ) (ts : List (List ℕ)) (good : Judged) → firstNumber r at (map (λ t. none) ts) none false good ≡ good
@@ -127,7 +156,7 @@ module _ {r : Rules} (coherent : Coherent r) (kinds : MoveKinds r) (c : Case) (w
       }
 
   pub plain-demand3 : PlainDemand3 r c w
-  plain-demand3 = record { any-lines = lines-trusted; any-run = run-trusted }
+  plain-demand3 = record { any-lines = lines-trusted; any-run = run-trusted; any-table = engine-iterates coherent c }
 
 -- with document 01's numbers, for every valid case
 pub standard-demand3 : (c : Case) (w : List ℤ) → T (valid standard c w) → PlainDemand3 standard c w
