@@ -88,7 +88,8 @@ module _ {n d m : ℕ} where
   run-map f a b (suc c) h = step (h b (omega arith) (omega arith) .0) (h b (omega arith) (omega arith) .1)
       (run-cast {x = suc (a + b)} {y = a + (b + suc c)} (run-map f a (suc b) c (λ k l u. h k (omega arith) (omega arith))) (omega arith) (omega arith))
 
-  run-joined : (f : ℕ → List CaseDue) (s a b c : ℕ) → ((i : ℕ) → b ≤ i → i < b + c → Run n d m (a + i * s) (f i) (a + suc i * s)) → Run n d m (a + b * s) (joined (map f (from b c))) (a + (b + c) * s)
+  run-joined : (f : ℕ → List CaseDue) (s a b c : ℕ) → ((i : ℕ) → b ≤ i → i < b + c → Run n d m (a + i * s) (f i) (a + suc i * s))
+      → Run n d m (a + b * s) (joined (map f (from b c))) (a + (b + c) * s)
   run-joined f s a b zero h = stop {a = a + b * s} {b = a + (b + 0) * s} (omega arith)
   run-joined f s a b (suc c) h = run-append (h b (omega arith) (omega arith))
       (run-cast (run-joined f s a (suc b) c (λ i l u. h i (omega arith) (omega arith))) refl (omega arith))

@@ -11,20 +11,20 @@ use lib.IntN.{ℤ}
 use lib.Dec.{T, T-not, not-T, eqb, eqb→eq}
 use lib.ListN.{length, take, drop, length-append}
 use lib.Seq.{take-at, drop-at, take-add}
+use borrow.Author.Tests.{le-ltb, eq-eqb, ne-eqb, eqb-true}
 use Rattle.integers.specs.Words.{joined, if_then_else_, any, isIn}
 use Rattle.integers.specs.Tests.{either, and-left, and-right, not-eqb-iff}
 use Rattle.integers.specs.Lists.{_∈_, any-in}
+use Rattle.integers.specs.Options.{none-some}
 use Rattle.definitions.specs.declared.Line.{Line}
+use Rattle.definitions.specs.declared.FileAnswer.{FileAnswer}
+use Rattle.definitions.specs.declared.Refusal.{Refusal}
+use Rattle.definitions.specs.declared.Refusal.the-variants.{WrongLength, CutShort}
 use Rattle.definitions.specs.Rules.{Rules, edgePlaces, Kind}
 use Rattle.definitions.specs.Refusals.{firstOf}
 use Rattle.definitions.specs.Case.{lentLength}
 use Rattle.definitions.specs.Lines.{isKind, notDue, unusedZero, lineLength, lineText, lineTooWide}
 use Rattle.definitions.specs.CaseFiles.{CaseDue, variable-weight, edge-ends, edge-weight, dues, dueTests, Reading, took, headTests, headed, CaseCall, caseRefused, caseTaken, isCut, firstLine, afterFirst, readDues, readCase, endTests, restRefusal, nothingAfter, readCaseAlone}
-use Rattle.integers.specs.Options.{none-some}
-use borrow.Author.Tests.{le-ltb, eq-eqb, ne-eqb, eqb-true}
-use Rattle.definitions.specs.declared.FileAnswer.{FileAnswer}
-use Rattle.definitions.specs.declared.Refusal.{Refusal}
-use Rattle.definitions.specs.declared.Refusal.the-variants.{WrongLength, CutShort}
 use Rattle.definitions.proofs.LineLaws.{line-read, line-written, line-length}
 use Rattle.theory.proofs.CaseDues.{IsDue, rank, stop, step, rank-apart, lineFor, caseAt, reading, lineAt, next, took-next, next-sized, next-there, next-other, Agree, same-lower, same-upper, same-state, Run, State, Sized}
 use Rattle.theory.proofs.CaseTests.{passes, Good, passed, good-passes, CaseKinds}
@@ -82,17 +82,16 @@ module _ (r : Rules) where
     take-due {l} p q o = turns ∙ ap₂ (λ (b : Bool) (f : Option Line). turn b f (tried f)) p q ∙ ap (turn false (some l)) o
 
     due-taken : {lines : ℕ} → readDues r g at (due ∷ ds) t .read .answer ≡ FileAnswer.Read lines
-        → (isCut r t ≡ false) × ((l : Line) × (firstLine r t ≡ some l) × (firstOf (dueTests r (g .case) due (some l)) ≡ none))
+        → (isCut r t ≡ false) × (l : Line) × (firstLine r t ≡ some l) × (firstOf (dueTests r (g .case) due (some l)) ≡ none)
     unfolding turn tried
     due-taken {lines} h = go (isCut r t) refl (firstLine r t) refl (tried (firstLine r t)) refl (sym (ap (λ (x : CaseCall). x .read .answer) turns) ∙ h)
       where
         go : (b : Bool) → isCut r t ≡ b → (o : Option Line) → firstLine r t ≡ o → (x : Option Refusal) → tried o ≡ x → turn b o x .read .answer ≡ FileAnswer.Read lines
-            → (isCut r t ≡ false) × ((l : Line) × (firstLine r t ≡ some l) × (tried (some l) ≡ none))
+            → (isCut r t ≡ false) × (l : Line) × (firstLine r t ≡ some l) × (tried (some l) ≡ none)
         go true p o q x e h = absurd (never h)
+        go false p o q (some x) e h = absurd (never h)
         go false p none q none e h = absurd (none-some (sym e))
-        go false p none q (some x) e h = absurd (never h)
-        go false p (some l) q none e h = (p, (l, q, e))
-        go false p (some l) q (some x) e h = absurd (never h)
+        go false p (some l) q none e h = (p, l, q, e)
 
   -- ---- the head
   module _ (t : List ℕ) (u : List ℤ) where
@@ -122,19 +121,20 @@ module _ (r : Rules) where
         ∙ ap₂ (opened false (some l)) o (eq-eqb (length u) (lentLength (headed r (some l))) e)
 
     pub head-taken : {lines : ℕ} → readCase r t u .read .answer ≡ FileAnswer.Read lines
-        → (isCut r t ≡ false) × ((l : Line) × (firstLine r t ≡ some l) × (firstOf (headTests r (some l)) ≡ none) × (length u ≡ lentLength (headed r (some l))))
+        → (isCut r t ≡ false) × (l : Line) × (firstLine r t ≡ some l) × (firstOf (headTests r (some l)) ≡ none) × (length u ≡ lentLength (headed r (some l)))
     unfolding opened lentWell
     head-taken {lines} h =
-        go (isCut r t) refl (firstLine r t) refl (firstOf (headTests r (firstLine r t))) refl (lentWell (firstLine r t)) refl (sym (ap (λ (x : CaseCall). x .read .answer) opens) ∙ h)
+        go (isCut r t) refl (firstLine r t) refl (firstOf (headTests r (firstLine r t))) refl (lentWell (firstLine r t)) refl
+        (sym (ap (λ (x : CaseCall). x .read .answer) opens) ∙ h)
       where
         go : (b : Bool) → isCut r t ≡ b → (o : Option Line) → firstLine r t ≡ o → (x : Option Refusal) → firstOf (headTests r o) ≡ x → (long : Bool) → lentWell o ≡ long
             → opened b o x long .read .answer ≡ FileAnswer.Read lines
-            → (isCut r t ≡ false) × ((l : Line) × (firstLine r t ≡ some l) × (firstOf (headTests r (some l)) ≡ none) × (length u ≡ lentLength (headed r (some l))))
+            → (isCut r t ≡ false) × (l : Line) × (firstLine r t ≡ some l) × (firstOf (headTests r (some l)) ≡ none) × (length u ≡ lentLength (headed r (some l)))
         go true p o q x e long k h = absurd (never h)
         go false p none q none e long k h = absurd (none-some (sym e))
         go false p o q (some x) e long k h = absurd (never h)
         go false p (some l) q none e false k h = absurd (never h)
-        go false p (some l) q none e true k h = (p, (l, q, e, eqb-true (length u) (lentLength (headed r (some l))) k))
+        go false p (some l) q none e true k h = (p, l, q, e, eqb-true (length u) (lentLength (headed r (some l))) k)
 
   -- ---- the end of a case that is read alone
   module _ (t : List ℕ) (call : CaseCall) (lines : ℕ) where
@@ -234,7 +234,8 @@ module _ {r : Rules} (kinds : CaseKinds r) (n d m : ℕ) (few : m ≤ edgePlaces
         let shape = passed kinds (caseAt n d m s) due l p .0 in
         let after = next-agrees s f h due u l (sym shape) before in
         ap (readDues r (reading n d m s) at (due ∷ ds)) (append-assoc (lineText (r .amountWidth) l) (textAt r n d m f ds) rest)
-        ∙ take-due r (reading n d m s) at due ds (lineText (r .amountWidth) l ++ (textAt r n d m f ds ++ rest)) (front-whole r l (fits due u) (textAt r n d m f ds ++ rest)) (front-line r l (fits due u) (textAt r n d m f ds ++ rest)) p
+        ∙ take-due r (reading n d m s) at due ds (lineText (r .amountWidth) l ++ (textAt r n d m f ds ++ rest))
+        (front-whole r l (fits due u) (textAt r n d m f ds ++ rest)) (front-line r l (fits due u) (textAt r n d m f ds ++ rest)) p
         ∙ ap₂ (λ (g : Reading) (t : List ℕ). readDues r g (at + 1) ds t) (took-next n d m s due l) (front-after r l (fits due u) (textAt r n d m f ds ++ rest))
         ∙ dues-written run (next-sized n d m h due u l) (λ other v q. after other v (omega arith)) (at + 1) rest
         ∙ ap (caseTaken r (reading n d m f)) (omega arith)
@@ -251,7 +252,7 @@ module _ {r : Rules} (kinds : CaseKinds r) (n d m : ℕ) (few : m ≤ edgePlaces
     text = rw zero-mul;
   }
   dues-read (step {due = due} {ds = ds} u e run) {s} h at t p =
-      let (whole, (l, first, q)) = due-taken r (reading n d m s) at due ds t p in
+      let (whole, l, first, q) = due-taken r (reading n d m s) at due ds t p in
       let (shape, good) = passed kinds (caseAt n d m s) due l q in
       let next-read = take-due r (reading n d m s) at due ds t whole first q ∙ ap (λ (g : Reading). readDues r g (at + 1) ds (afterFirst r t)) (took-next n d m s due l) in
       let o = dues-read run (next-sized n d m h due u l) (at + 1) (afterFirst r t) (sym (ap (λ (x : CaseCall). x .read .answer) next-read) ∙ p) in

@@ -13,6 +13,7 @@ use lib.ListN.{length}
 use Rattle.integers.specs.Words.{all, isSome, eqZ}
 use Rattle.integers.specs.Tests.{tests}
 use Rattle.integers.specs.Linear.{T-eq}
+use Rattle.integers.specs.Options.{none-some}
 use Rattle.definitions.specs.declared.Case.{Case}
 use Rattle.definitions.specs.declared.Line.{Line}
 use Rattle.definitions.specs.Rules.{Rules, standard, Coherent}
@@ -21,7 +22,6 @@ use Rattle.definitions.specs.Case.{lowerEnd, upperEnd, weight, lentLength}
 use Rattle.definitions.specs.Valid.{startingWeight}
 use Rattle.definitions.specs.Lines.{isKind, notDue, lineTooWide}
 use Rattle.definitions.specs.CaseFiles.{headLine, CaseDue, variable-weight, edge-ends, edge-weight, dueTests, headTests, headed}
-use Rattle.integers.specs.Options.{none-some}
 use Rattle.theory.proofs.Words.{none-below}
 use Rattle.theory.proofs.Validity.{none-applies, not-and-iff, Valid, starting-working}
 use Rattle.theory.proofs.Places.{variable-tuple, edge-tuple, by-tuple}
@@ -68,7 +68,7 @@ nat-less (pos a) (negsuc b) t u = absurd u
 nat-less (negsuc a) b t u = absurd t
 
 -- a line is its columns
-pub line-is : (t : Line) {k a b c z : ℤ} → t .kind ≡ k → t .a ≡ a → t .b ≡ b → t .c ≡ c → t .amount ≡ z → t ≡ record { kind = k; a = a; b = b; c = c; amount = z }
+line-is : (t : Line) {k a b c z : ℤ} → t .kind ≡ k → t .a ≡ a → t .b ≡ b → t .c ≡ c → t .amount ≡ z → t ≡ record { kind = k; a = a; b = b; c = c; amount = z }
 line-is t {k} {a} {b} {c} {z} p q r s u =
     let e : _≡_ {A = Line} (record { kind = t .kind; a = t .a; b = t .b; c = t .c; amount = t .amount }) (record { kind = k; a = a; b = b; c = c; amount = z }) = cc in e
 
@@ -124,7 +124,8 @@ module _ {r : Rules} {c : Case} {w : List ℤ} where
     long = long;
     shape = record { some-variable = h .some-variable; some-value = h .some-value; ascending = λ e u. good (edge-ends e) u .0; below-n = λ e u. good (edge-ends e) u .1 };
     apart = λ e f u v p q. good (edge-ends e) u .2 f v (sym p) (sym q);
-    in-range = λ x k l. by-tuple c (λ x k l. T (startingWeight r (weight c w x k l))) (λ i k u v. good (variable-weight i k) (u, v)) (λ e k l u v q. good (edge-weight e k l) (u, v, q));
+    in-range = λ x k l. by-tuple c (λ x k l. T (startingWeight r (weight c w x k l)))
+        (λ i k u v. good (variable-weight i k) (u, v)) (λ e k l u v q. good (edge-weight e k l) (u, v, q));
   }
 
   -- every line fits its columns
@@ -136,9 +137,12 @@ module _ {r : Rules} {c : Case} {w : List ℤ} where
         weight-most z = simp tests (λ p. within-most (r .starting) z (record { le = p .0 }) (record { le = p .1 }))
 
     pub due-fits : (due : CaseDue) → IsDue (c .n) (c .d) (c .m) due → lineTooWide (r .amountWidth) (lineOf c w due) ≡ false
-    due-fits (variable-weight i k) (h, g) = line-fits coherent 11 i k 0 (weight c w i k 0) (omega arith) (omega arith) (omega arith) (omega arith) (weight-fits (weight c w i k 0) (valid-good v (variable-weight i k) (h, g)))
-    due-fits (edge-ends e) h = line-fits coherent 12 e (lowerEnd c e) (upperEnd c e) (pos 0) (omega arith) (omega arith) (omega (arith, v .shape .ascending e h, v .shape .below-n e h)) (omega (arith, v .shape .below-n e h)) (omega arith)
-    due-fits (edge-weight e k l) (h, g, u) = line-fits coherent 13 e k l (weight c w (c .n + e) k l) (omega arith) (omega arith) (omega arith) (omega arith) (weight-fits (weight c w (c .n + e) k l) (valid-good v (edge-weight e k l) (h, g, u)))
+    due-fits (variable-weight i k) h = let z : ℤ = weight c w i k 0 in
+        line-fits coherent 11 i k 0 z (omega arith) (omega arith) (omega arith) (omega arith) (weight-fits z (valid-good v (variable-weight i k) h))
+    due-fits (edge-ends e) h = let (u, o, p) = valid-good v (edge-ends e) h in
+        line-fits coherent 12 e (lowerEnd c e) (upperEnd c e) (pos 0) (omega arith) (omega arith) (omega arith) (omega arith) (omega arith)
+    due-fits (edge-weight e k l) h = let z : ℤ = weight c w (c .n + e) k l in
+        line-fits coherent 13 e k l z (omega arith) (omega arith) (omega arith) (omega arith) (weight-fits z (valid-good v (edge-weight e k l) h))
 
     pub head-fits : lineTooWide (r .amountWidth) (headLine c) ≡ false
     head-fits = line-fits coherent 10 (c .n) (c .d) (c .m) (pos 0) (omega arith) (omega arith) (omega arith) (omega arith) (omega arith)

@@ -8,12 +8,14 @@ use mathlib.Core.List.{List, [], _∷_, _++_, map, List·Memᴰ·head, List·Mem
 use Prim.Native.Nat.{ℕ, zero, suc, _+_, _*_, _≤_, _<_}
 use native.Mathlib.Nat.{mul-comm}
 use native.Mathlib.Omega.{arith}
-use lib.IntN.{ℤ, pos, natAbs}
+use lib.IntN.{ℤ, pos}
 use lib.Dec.{T, ltb, ltb→lt, nltb→le}
-use lib.ListN.{length, getD, List·getD-eq-default, take, drop, replicate, length-map, take-append-drop, drop-of-length-le}
+use lib.ListN.{length, getD, List·getD-eq-default, take, replicate, length-map, take-append-drop, drop-of-length-le}
+use borrow.Author.Tests.{lt-ltb, le-ltb}
 use Rattle.integers.specs.Words.{below, joined, all, if_then_else_}
 use Rattle.integers.specs.Tests.{either}
 use Rattle.integers.specs.Lists.{_∈_, map-map, map-same}
+use Rattle.integers.specs.Tables.{Parts, length-joined, length-tab, getD-tab}
 use Rattle.definitions.specs.declared.Case.{Case}
 use Rattle.definitions.specs.declared.Line.{Line}
 use Rattle.definitions.specs.declared.FileAnswer.{FileAnswer}
@@ -22,11 +24,9 @@ use Rattle.definitions.specs.Case.{lowerEnd, upperEnd, weight, eachTuple, lentL
 use Rattle.definitions.specs.Valid.{valid}
 use Rattle.definitions.specs.Lines.{line, lineLength, lineText, lineTooWide, hasPart}
 use Rattle.definitions.specs.CaseFiles.{headLine, variableLines, caseLines, CaseDue, variable-weight, edge-ends, edge-weight, dues, Reading, caseText, headed, CaseCall, caseTaken, firstLine, afterFirst, readDues, readCase, nothingAfter, readCaseAlone}
-use Rattle.theory.proofs.Validity.{Valid, valid-facts, facts-valid}
-use borrow.Author.Tests.{lt-ltb, le-ltb}
-use Rattle.integers.specs.Tables.{Parts, length-joined, length-tab, getD-tab}
 use Rattle.definitions.specs.Calls.{fileBytes}
 use Rattle.definitions.proofs.LineLaws.{line-length, no-part}
+use Rattle.theory.proofs.Validity.{Valid, valid-facts, facts-valid}
 use Rattle.theory.proofs.CaseDues.{lineOf, case-lines, IsDue, run-length, dues-run, due-in, in-dues, same-ends, caseAt, reading, State, Sized}
 use Rattle.theory.proofs.CaseTests.{Good, valid-limits, valid-good, good-valid, due-fits, head-fits, head-passed, head-passes, CaseKinds, Limited}
 use Rattle.theory.proofs.CaseReads.{front-whole, front-line, front-after, line-front, read-same, take-head, head-taken, ended, alone-taken, dues-written, dues-read, Taken}
@@ -59,6 +59,9 @@ trimmed-lower c = trim-at (c .m) (c .lower)
 
 pub trimmed-upper : (c : Case) → c .m ≤ edgePlaces → (e : ℕ) → e < c .m → upperEnd (trimmed c) e ≡ upperEnd c e
 trimmed-upper c = trim-at (c .m) (c .upper)
+
+pub trimmed-past : (c : Case) (e : ℕ) → c .m ≤ e → (lowerEnd (trimmed c) e ≡ 0) × (upperEnd (trimmed c) e ≡ 0)
+trimmed-past c e h = (trim-past (c .m) (c .lower) e h, trim-past (c .m) (c .upper) e h)
 
 pub trimmed-is : (c : Case) → c .m ≤ edgePlaces → length (c .lower) ≡ edgePlaces → length (c .upper) ≡ edgePlaces
     → ((e : ℕ) → c .m ≤ e → (lowerEnd c e ≡ 0) × (upperEnd c e ≡ 0)) → trimmed c ≡ c
@@ -115,7 +118,9 @@ module _ {r : Rules} (coherent : Coherent r) (c : Case) (w : List ℤ) (t : T (v
   line-parts x i = let (l, j, e) = Memᴰ·of-map (lineText (r .amountWidth)) (caseLines c w) i in ap length (sym e) ∙ line-length (r .amountWidth) l (lines-fit l j)
 
   pub text-length : length (caseText r c w) ≡ fileBytes r c
-  text-length = length-joined (lineLength (r .amountWidth)) (map (lineText (r .amountWidth)) (caseLines c w)) line-parts ∙ rw (length-map, case-count c w) (mul-comm (lineCount c) (lineLength (r .amountWidth)))
+  text-length =
+      length-joined (lineLength (r .amountWidth)) (map (lineText (r .amountWidth)) (caseLines c w)) line-parts
+      ∙ rw (length-map, case-count c w) (mul-comm (lineCount c) (lineLength (r .amountWidth)))
 
   pub text-whole : hasPart (r .amountWidth) (caseText r c w) ≡ false
   text-whole = no-part (r .amountWidth) (map (lineText (r .amountWidth)) (caseLines c w)) line-parts
@@ -171,35 +176,36 @@ module _ {r : Rules} (coherent : Coherent r) (kinds : CaseKinds r) where
 
     pub read-written-alone : (u : List ℤ) → length u ≡ lentLength c → readCaseAlone r (caseText r c w) u ≡ caseTaken r (record { case = trimmed c; table = w }) (lineCount c)
     read-written-alone u long =
-        let e : readCase r (caseText r c w) u ≡ caseTaken r (record { case = trimmed c; table = w }) (lineCount c) = rw append-nil at (read-written [] u long) in
-        let none-left : drop (lineCount c * lineLength (r .amountWidth)) (caseText r c w) ≡ [] = drop-of-length-le (caseText r c w) {i = lineCount c * lineLength (r .amountWidth)} (omega (arith, text-length coherent c w t, mul-comm (lineCount c) (lineLength (r .amountWidth)))) in
-        ap (λ (x : CaseCall). nothingAfter r (caseText r c w) x (x .read .answer)) e ∙ ended r (caseText r c w) (caseTaken r (record { case = trimmed c; table = w }) (lineCount c)) (lineCount c) none-left
+        let end : length (caseText r c w) ≤ lineCount c * lineLength (r .amountWidth) = omega (arith, text-length coherent c w t, mul-comm (lineCount c) (lineLength (r .amountWidth))) in
+        ap (λ (x : CaseCall). nothingAfter r (caseText r c w) x (x .read .answer)) (rw append-nil at (read-written [] u long))
+        ∙ ended r (caseText r c w) (caseTaken r (record { case = trimmed c; table = w }) (lineCount c)) (lineCount c) (drop-of-length-le (caseText r c w) end)
 
   -- ---- read and written
+
   -- the lines after a head that was taken
-  taken-text : (t : List ℕ) (u : List ℤ) (l : Line) → firstLine r t ≡ some l → l ≡ headLine (headed r (some l)) → Limited r (natAbs (l .a)) (natAbs (l .b)) (natAbs (l .c))
-      → (few : natAbs (l .c) ≤ edgePlaces) (o : Taken r (natAbs (l .a)) (natAbs (l .b)) (natAbs (l .c)) 0 1 (start u) (dues (headed r (some l))) (afterFirst r t))
-      → IsText r (caseAt (natAbs (l .a)) (natAbs (l .b)) (natAbs (l .c)) (o .final)) (o .final .table) (1 + length (dues (headed r (some l)))) (take ((1 + length (dues (headed r (some l)))) * lineLength (r .amountWidth)) t)
-  taken-text t u l first shape limits few o =
-      let c : Case = caseAt (natAbs (l .a)) (natAbs (l .b)) (natAbs (l .c)) (o .final) in
+  taken-text : (t : List ℕ) (u : List ℤ) (n d m : ℕ) → firstLine r t ≡ some (line 10 (pos n) (pos d) (pos m) (pos 0)) → Limited r n d m → m ≤ edgePlaces
+      → (ds : List CaseDue) → ds ≡ dues (caseAt n d m (start u)) → (o : Taken r n d m 0 1 (start u) ds (afterFirst r t))
+      → IsText r (caseAt n d m (o .final)) (o .final .table) (1 + length ds) (take ((1 + length ds) * lineLength (r .amountWidth)) t)
+  taken-text t u n d m first limits few ds e o =
+      let c : Case = caseAt n d m (o .final) in
       let w : List ℤ = o .final .table in
       record {
-        accepted = facts-valid r c w (good-valid limits (o .sized .long) (λ due h. o .good due (due-in c due h)));
-        same-text = case-text r c w ∙ ap (λ (x : Line). lineText (r .amountWidth) x ++ joined (map (λ due. lineText (r .amountWidth) (lineOf c w due)) (dues c))) (sym shape)
-            ∙ line-front r t first (length (dues c)) _ (o .text) ∙ ap (λ (i : ℕ). take (i * lineLength (r .amountWidth)) t) (omega arith);
-        same-count = dues-count c;
+        accepted = facts-valid r c w (good-valid limits (o .sized .long) (λ due h. o .good due (rw e (due-in c due h))));
+        same-text = case-text r c w ∙ line-front r t first (length ds) _ (rw (← e) (o .text)) ∙ ap (λ (i : ℕ). take (i * lineLength (r .amountWidth)) t) (omega arith);
+        same-count = rw e (dues-count c);
         plain = trimmed-is c few (o .sized .lower-long) (o .sized .upper-long) (λ e h. (o .sized .lower-past e h, o .sized .upper-past e h));
       }
 
   pub written-read : (t : List ℕ) (u : List ℤ) {lines : ℕ} → readCase r t u .read .answer ≡ FileAnswer.Read lines
       → IsText r (readCase r t u .read .case) (readCase r t u .table) lines (take (lines * lineLength (r .amountWidth)) t)
   written-read t u {lines} p =
-      let (whole, (l, first, q, long)) = head-taken r t u p in
+      let (whole, l, first, q, long) = head-taken r t u p in
       let (shape, limits) = head-passed kinds l q in
-      let few : natAbs (l .c) ≤ edgePlaces = omega (arith, limits .edges-most, coherent .edges-placed) in
+      let c : Case = headed r (some l) in
+      let few : c .m ≤ edgePlaces = omega (arith, limits .edges-most, coherent .edges-placed) in
       let begun = take-head r t u whole first q long in
-      let o = dues-read kinds (natAbs (l .a)) (natAbs (l .b)) (natAbs (l .c)) few (dues-run (headed r (some l))) (start-sized (natAbs (l .a)) (natAbs (l .b)) (natAbs (l .c)) u long) 1 (afterFirst r t) (sym (ap (λ (x : CaseCall). x .read .answer) begun) ∙ p) in
-      go (readCase r t u) _ (begun ∙ o .result) p (taken-text t u l first shape limits few o)
+      let o = dues-read kinds (c .n) (c .d) (c .m) few (dues-run c) (start-sized (c .n) (c .d) (c .m) u long) 1 (afterFirst r t) (sym (ap (λ (x : CaseCall). x .read .answer) begun) ∙ p) in
+      go (readCase r t u) _ (begun ∙ o .result) p (taken-text t u (c .n) (c .d) (c .m) (first ∙ ap some shape) limits few (dues c) refl o)
     where
       go : (call : CaseCall) {g : Reading} (k : ℕ) → call ≡ caseTaken r g k → call .read .answer ≡ FileAnswer.Read lines → IsText r (g .case) (g .table) k (take (k * lineLength (r .amountWidth)) t)
           → IsText r (call .read .case) (call .table) lines (take (lines * lineLength (r .amountWidth)) t)
