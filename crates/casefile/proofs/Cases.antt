@@ -8,10 +8,10 @@ use Prim.Native.Nat.{ℕ, _+_, _*_, _≤_, _<_}
 use native.Mathlib.Omega.{arith}
 use lib.IntN.{ℤ, pos, natAbs}
 use lib.Dec.{T, eqb, nltb→le}
-use lib.ListN.{length, drop}
+use lib.ListN.{length, length-drop}
 use borrow.Author.Tests.{eq-eqb, ne-eqb}
 use Rattle.integers.specs.Words.{if_then_else_, isSome}
-use Rattle.integers.specs.Tests.{is-true, either, and-left, and-right, not-not-iff}
+use Rattle.integers.specs.Tests.{is-true, false-is, either, and-left, and-right, not-not-iff}
 use Rattle.definitions.specs.declared.Case.{Case}
 use Rattle.definitions.specs.declared.Line.{Line}
 use Rattle.definitions.specs.declared.FileAnswer.{FileAnswer}
@@ -29,6 +29,7 @@ use Rattle.casefile.specs.declared.Sizes.{Sizes}
 use Rattle.casefile.specs.Steps.{Limited, reading, tableOf, leftFrom, noEnds, callOf}
 use Rattle.casefile.specs.Reads.{limitsZ}
 use Rattle.casefile.proofs.Heads.{limits-known}
+use Rattle.casefile.proofs.Left.{dues-whole}
 
 -- ---- what is handed back of a call
 
@@ -133,3 +134,19 @@ module _ (t : List ℕ) (w : List ℤ) where
               values = omega (arith, ap (λ c. c .d) q, d .2);
               edges = omega (arith, ap (λ c. c .m) q, m .2);
             }
+
+-- ---- a case that was read has all its lines
+
+module _ (t : List ℕ) (w : List ℤ) {lines : ℕ} where
+  whole-length : (b : Bool) (c : Case) → 27 ≤ length t → (if b then readDues standard (record { case = c; table = w }) 1 (dues c) (afterFirst standard t) else caseRefused standard WrongLength 0 w) .read .answer ≡ FileAnswer.Read lines → lines * 27 ≤ length t
+  whole-length true c h e = omega (arith, dues-whole (dues c) (record { case = c; table = w }) 1 (afterFirst standard t) e, length-drop 27 t)
+  whole-length false c h e = let z : _≡_ {A = ℕ} 0 1 = cc in omega arith
+
+  whole-by : (b : Bool) (o : Option Refusal) → isCut standard t ≡ b → (c : Case) → caseBy t w (if b then some CutShort else o) c .read .answer ≡ FileAnswer.Read lines → lines * 27 ≤ length t
+  unfolding caseBy
+  whole-by true o d c e = let z : _≡_ {A = ℕ} 0 1 = cc in omega arith
+  whole-by false none d c e = whole-length (eqb (length w) (lentLength c)) c (nltb→le (length t) 27 (false-is (isCut standard t) d)) e
+  whole-by false (some x) d c e = let z : _≡_ {A = ℕ} 0 1 = cc in omega arith
+
+  pub read-whole : readCase standard t w .read .answer ≡ FileAnswer.Read lines → lines * 27 ≤ length t
+  read-whole e = whole-by (isCut standard t) (firstOf (headTests standard (firstLine standard t))) refl (headed standard (firstLine standard t)) (sym (ap (λ c. c .read .answer) (case-is t w)) ∙ e)

@@ -14,6 +14,7 @@ use Rattle.definitions.specs.declared.Case.{Case}
 use Rattle.definitions.specs.declared.Line.{Line}
 use Rattle.definitions.specs.declared.Refusal.{Refusal}
 use Rattle.definitions.specs.declared.Refusal.the-variants.{CutShort}
+use Rattle.definitions.specs.declared.FileAnswer.{FileAnswer}
 use Rattle.definitions.specs.declared.Outcome.{Outcome}
 use Rattle.definitions.specs.Rules.{standard}
 use Rattle.definitions.specs.Refusals.{firstOf}
@@ -24,11 +25,11 @@ use Rattle.figures.proofs.Order.{outcome-done, outcome-refused}
 use Rattle.casefile.proofs.Taken.{kept, changed, whole}
 use Rattle.casefile.proofs.Dues.{allDues, dues-length, dues-at}
 
-abbrev onRefusal : Option Refusal → CaseCall → ℕ → List ℤ → CaseCall
+abbrev pub onRefusal : Option Refusal → CaseCall → ℕ → List ℤ → CaseCall
 onRefusal none next at w = next
 onRefusal (some x) next at w = caseRefused standard x at w
 
-read-cons : (g : Reading) (at : ℕ) (due : CaseDue) (ds : List CaseDue) (t : List ℕ)
+pub read-cons : (g : Reading) (at : ℕ) (due : CaseDue) (ds : List CaseDue) (t : List ℕ)
     → readDues standard g at (due ∷ ds) t ≡ onRefusal (dueRefusal (g .case) due t) (readDues standard (took g due (firstLine standard t)) (at + 1) ds (drop 27 t)) at (g .table)
 unfolding dueRefusal
 read-cons g at due ds t = go (isCut standard t) (firstOf (dueTests standard (g .case) due (firstLine standard t))) (readDues standard (took g due (firstLine standard t)) (at + 1) ds (drop 27 t))
@@ -99,3 +100,17 @@ module _ (s : Sizes) (lower upper : List ℕ) (w : List ℤ) (q : ℕ) (t : List
       let d : refusal ≡ some x = outcome-refused (sym e ∙ step .answer) in
       let u : g ≡ reading s lower upper w = step .left ∙ sym (kept refusal (took (reading s lower upper w) (dueAt s q) (firstLine standard (drop (27 * (q + 1)) t))) (reading s lower upper w) d) in
       ap (λ g. caseRefused standard x (q + 1) (g .table)) u ∙ sym (left-refused s (reading s lower upper w) q t h d)
+
+-- ---- a case that was read has all its lines
+
+pub dues-whole : (ds : List CaseDue) (g : Reading) (at : ℕ) (t : List ℕ) {lines : ℕ} → readDues standard g at ds t .read .answer ≡ FileAnswer.Read lines → lines * 27 ≤ at * 27 + length t
+dues-whole [] g at t {lines} e = let n : at ≡ lines = cc in omega arith
+dues-whole (due ∷ ds) g at t {lines} e = go (dueRefusal (g .case) due t) refl (sym (ap (λ c. c .read .answer) (read-cons g at due ds t)) ∙ e) (dues-whole ds (took g due (firstLine standard t)) (at + 1) (drop 27 t))
+  where
+    next : CaseCall
+    next = readDues standard (took g due (firstLine standard t)) (at + 1) ds (drop 27 t)
+
+    go : (o : Option Refusal) → dueRefusal (g .case) due t ≡ o → onRefusal o next at (g .table) .read .answer ≡ FileAnswer.Read lines
+        → (next .read .answer ≡ FileAnswer.Read lines → lines * 27 ≤ (at + 1) * 27 + length (drop 27 t)) → lines * 27 ≤ at * 27 + length t
+    go none d e r = omega (arith, r e, whole (g .case) due t d, length-drop 27 t)
+    go (some x) d e r = let z : _≡_ {A = ℕ} 0 1 = cc in omega arith

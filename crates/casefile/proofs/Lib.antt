@@ -5,3 +5,4 @@ pub mod Dues
 pub mod Taken
 pub mod Left
 pub mod Cases
+pub mod Alone

@@ -22,7 +22,7 @@ ghost use Rattle.definitions.specs.Refusals.{firstOf};
 ghost use Rattle.definitions.specs.Lines.{zeroUnless, outside};
 ghost use Rattle.definitions.specs.Valid.{startingWeight};
 ghost use Rattle.definitions.specs.Answers.{outcomeOf, unlessRefused};
-ghost use Rattle.definitions.specs.CaseFiles.{headTests, caseSize, caseRefused, caseTaken, readCase, edge-ends, names as namesPlace};
+ghost use Rattle.definitions.specs.CaseFiles.{headTests, caseSize, caseRefused, caseTaken, readCase, readCaseAlone, restRefusal, edge-ends, names as namesPlace};
 ghost use Rattle.casefile.specs.Steps.{Limited, dueOf, InCase, edgeDueAt, dueAt, linesDue, weightTests, endsTests, joinedBefore, repeatTest, caseWith, reading, lineRefusal, tableOf, Stepped, SteppedAt, leftFrom, callOf, noEnds};
 ghost use Rattle.casefile.specs.Reads.{lineFrom, ofKind, limitsZ, sizeOf};
 
@@ -522,6 +522,44 @@ pub fn read_case(bytes: &[u8], table: &mut [i64]) -> CaseRead
                 return refused(Refusal::WrongLength, 0);
             }
             read_body(bytes, Sizes { n, d, m }, table)
+        }
+    }
+}
+
+// ---- a case alone
+
+// What is asked of the bytes after a case.
+fn check_rest(bytes: &[u8], from: usize) -> Outcome
+    requires { ⌜ from ≤ length (now bytes) ⌝ }
+    ensures { λ r. ⌜ r ≡ outcomeOf (restRefusal standard (drop from (now (bytes .entry)))) ⌝ }
+{
+    if from == bytes.len() {
+        return Outcome::Done;
+    }
+    let read = line_at(bytes, from);
+    match read {
+        LineRead::Refused(refusal) => Outcome::Refused(refusal),
+        LineRead::Read(_) => Outcome::Refused(Refusal::NotDue),
+    }
+}
+
+// A case with nothing after it.
+pub fn read_case_alone(bytes: &[u8], table: &mut [i64]) -> CaseRead
+    ensures { λ r. ⌜ (r ≡ readCaseAlone standard (now (bytes .entry)) (now (table .entry)) .read) × (now (table .exit) ≡ readCaseAlone standard (now (bytes .entry)) (now (table .entry)) .table) ⌝ }
+{
+    let read = read_case(bytes, table);
+    let answer = read.answer;
+    match answer {
+        FileAnswer::Refused {
+            refusal: _,
+            line: _,
+        } => read,
+        FileAnswer::Read { lines } => {
+            let rest = check_rest(bytes, lines * LINE);
+            match rest {
+                Outcome::Done => read,
+                Outcome::Refused(refusal) => refused(refusal, lines),
+            }
         }
     }
 }
