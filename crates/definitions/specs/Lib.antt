@@ -17,3 +17,4 @@ pub mod Samples
 pub mod Calls
 pub mod EngineCalls
 pub mod CallSamples
+pub mod Borders

@@ -1,0 +1,494 @@
+-- Samples at the borders: the rules of document 01 just inside and just outside, in tables of questions with the answers that the document
+-- gives, one theorem over each table. They rule out wrong definitions that the samples of document 01 leave alive. Assumes nothing.
+use mathlib.Core.Path.{_≡_, refl}
+use mathlib.Core.Bool.{Bool, true, false}
+use mathlib.Core.Option.{none}
+use mathlib.Core.List.{List, [], _∷_, _++_, map}
+use Prim.Native.Nat.{ℕ, _+_, _*_, _-_}
+use Prim.Native.String.{String}
+use lib.IntN.{ℤ, pos}
+use lib.ListN.{take, drop, replicate}
+use Rattle.integers.specs.Words.{joined, minus}
+use Rattle.definitions.specs.declared.Case.{Case}
+use Rattle.definitions.specs.declared.CaseRead.{CaseRead}
+use Rattle.definitions.specs.declared.Refusal.the-variants.{WrongLength, WeightOutOfRange, LeavesRange}
+use Rattle.definitions.specs.declared.Run.{Run}
+use Rattle.definitions.specs.declared.RunAnswer.{RunAnswer}
+use Rattle.definitions.specs.declared.RunAnswer.the-variants.{Settled, Limit, Refused}
+use Rattle.definitions.specs.Rules.{standard}
+use Rattle.definitions.specs.Refusals.{numberOf}
+use Rattle.definitions.specs.Answers.{Says, outcomeSays, figureSays, verdictSays, lineSays, sizeSays}
+use Rattle.definitions.specs.Answers.{fileSays, writtenSays, spanSays, roundSays, choiceSays}
+use Rattle.definitions.specs.Case.{isAssignment, upperBound}
+use Rattle.definitions.specs.Valid.{valid}
+use Rattle.definitions.specs.Moves.{shift, press}
+use Rattle.definitions.specs.Lines.{line, lineText}
+use Rattle.definitions.specs.CaseFiles.{CaseCall, caseText, caseSize, readCase, readCaseAlone}
+use Rattle.definitions.specs.Replay.{State, step, fresh, after, keepsRules}
+use Rattle.definitions.specs.Engine.{Next, round, RunOf, stopped, engineNext, run}
+use Rattle.definitions.specs.Views.{roundSpan, roundView}
+use Rattle.definitions.specs.Scoring.{betterOf, better}
+use Rattle.definitions.specs.Programs.{pressLimit, bytesOf, pressRun, pressPrints, replayPrints}
+use Rattle.definitions.specs.Calls.{TableCall, LineCall, WriterCall, WriteCall, objectiveAnswer, upperBoundAnswer, isActiveAnswer}
+use Rattle.definitions.specs.Calls.{refutedAnswer, shiftCall, pressCall, readLineAnswer, writeLineCall, putLineCall, writeCaseCall}
+use Rattle.definitions.specs.EngineCalls.{RoundCall, RunCall, roundCall, runCall}
+use Rattle.definitions.specs.Samples.{Input, Question, replay-of, Result, replayed, Sample, answer}
+use Rattle.definitions.specs.Samples.{triangle, couple, clash, example2, single, texts, log5, log8, twoRounds, zeros}
+
+-- ---- questions and answers
+
+pub record Asked (A : Type 0) : Type 0 where
+  pub asked : A
+  pub due : A
+
+infix 70 _is_
+abbrev _is_ : {A : Type 0} → A → A → Asked A
+a is b = record { asked = a; due = b }
+
+-- each question of a table has the answer that stands there
+abbrev Hold : {A : Type 0} → List (Asked A) → Type 0
+Hold table = map (λ q. q .asked) table ≡ map (λ q. q .due) table
+
+abbrev says : ℕ → List ℤ → Says
+says n zs = record { number = n; values = zs }
+
+abbrev no : ℕ → Says
+no n = says n []
+
+abbrev value : ℤ → Says
+value z = says 0 (z ∷ [])
+
+-- ---- cases
+
+abbrev given : ℕ → ℕ → ℕ → List ℕ → List ℕ → List ℤ → Input
+given n d m lower upper w = record { case = record { n = n; d = d; m = m; lower = lower; upper = upper }; weights = w }
+
+-- the greatest working weight
+abbrev W : ℕ
+W = 500_000_000
+
+-- P4's case with another first weight, and P1's with another variable 0
+abbrev clashFrom : ℤ → Input
+clashFrom z = couple (z ∷ drop 1 (clash .weights))
+
+abbrev triangleFrom : ℤ → Input
+triangleFrom z = record { case = triangle .case; weights = z ∷ z ∷ drop 2 (triangle .weights) }
+
+-- two variables, D 1, and m edges, all from i to j
+abbrev edges : ℕ → ℕ → ℕ → List ℤ → Input
+edges m i j w = given 2 1 m (replicate m i) (replicate m j) w
+
+-- edges (0,1), for equal values, and (0,2), for others; value 1 of variable 1 is inactive
+abbrev star : Input
+star =
+    given 3 2 2 (0 ∷ 0 ∷ []) (1 ∷ 2 ∷ [])
+    (zeros 3 ++ (minus 1 ∷ zeros 3) ++ (minus 1 ∷ minus 1 ∷ pos 0 ∷ minus 1 ∷ zeros 2) ++ (minus 1 ∷ []))
+
+-- edges (0,1), of zeros, and (2,3), where the variables clash as in P4
+abbrev apart : Input
+apart = given 4 2 2 (0 ∷ 2 ∷ []) (1 ∷ 3 ∷ []) (zeros 4 ++ take 4 (clash .weights) ++ zeros 4 ++ drop 4 (clash .weights))
+
+-- ---- totals, refutation, and numbers 3 to 8 of what is handed over
+
+pub figures :
+    let total : Input → List ℕ → Says = λ i p. figureSays (objectiveAnswer standard (i .case) (i .weights) p) in
+    let bound : Input → Says = λ i. figureSays (upperBoundAnswer standard (i .case) (i .weights)) in
+    let active : Input → ℕ → ℕ → ℕ → Says = λ i x k l. verdictSays (isActiveAnswer standard (i .case) (i .weights) x k l) in
+    let refuted : Input → List ℕ → ℕ → ℕ → Says = λ i R v k. verdictSays (refutedAnswer standard (i .case) (i .weights) R v k) in
+    Hold
+    ( -- the edge's tuple is (0,1) and not (1,0); weights are working weights; 4 before 5 before 8
+    total example2 (0 ∷ 1 ∷ []) is value (pos 1) ∷ total (clashFrom (pos 1_000_001)) (0 ∷ 0 ∷ []) is value (pos 1_000_000)
+    ∷ total clash (5 ∷ []) is no 4 ∷ total clash (0 ∷ 0 ∷ 0 ∷ []) is no 4 ∷ total (clashFrom (pos (W + 1))) (0 ∷ 2 ∷ []) is no 5
+    -- limits, lengths, edges, weights
+    ∷ bound (given 0 1 0 [] [] []) is no 3 ∷ bound (given 1 0 0 [] [] []) is no 3 ∷ bound (given 1 8 0 [] [] (zeros 8)) is value (pos 0)
+    ∷ bound (couple (clash .weights ++ zeros 1)) is no 4 ∷ bound (edges 1 0 9 (zeros 1)) is no 4 ∷ bound (edges 1 2 0 (zeros 3)) is no 5
+    ∷ bound (edges 2 1 0 (zeros 4)) is no 6 ∷ bound (edges 1 1 0 (pos (W + 1) ∷ zeros 2)) is no 6 ∷ bound (edges 96 0 1 (zeros 98)) is no 7
+    ∷ bound (edges 2 0 1 (pos (W + 1) ∷ zeros 3)) is no 7 ∷ bound (given 3 1 3 (0 ∷ 1 ∷ 0 ∷ []) (1 ∷ 2 ∷ 1 ∷ []) (zeros 6)) is no 7
+    ∷ bound (given 3 1 2 (0 ∷ 1 ∷ []) (1 ∷ 2 ∷ []) (pos 1 ∷ pos 2 ∷ pos 3 ∷ pos 4 ∷ pos 5 ∷ [])) is value (pos 15)
+    ∷ bound (clashFrom (pos W)) is value (pos (W + 2)) ∷ bound (clashFrom (minus (W + 1))) is no 8
+    -- tuples
+    ∷ active clash 2 0 0 is value (pos 0) ∷ active clash 2 1 1 is value (pos 1) ∷ active (clashFrom (pos 1_000_001)) 0 0 0 is value (pos 1)
+    ∷ active clash 3 0 0 is no 5 ∷ active clash 0 2 0 is no 5 ∷ active clash 2 0 2 is no 5
+    -- partners of both ends, inside the sets; a set for each variable, also where no edge leads; the own scope raised
+    ∷ refuted star (0 ∷ 1 ∷ 0 ∷ 1 ∷ 1 ∷ []) 2 0 is value (pos 1) ∷ refuted star (0 ∷ 1 ∷ 0 ∷ 1 ∷ 1 ∷ []) 2 1 is value (pos 0)
+    ∷ refuted apart (0 ∷ 0 ∷ 1 ∷ 1 ∷ 0 ∷ 1 ∷ []) 0 0 is value (pos 1) ∷ refuted apart (0 ∷ 0 ∷ 1 ∷ 0 ∷ 0 ∷ 1 ∷ []) 0 0 is value (pos 0)
+    ∷ refuted clash (1 ∷ 0 ∷ 0 ∷ []) 0 1 is value (pos 1) ∷ refuted (clashFrom (pos 1_000_001)) (0 ∷ 1 ∷ 1 ∷ []) 0 0 is value (pos 1)
+    ∷ refuted clash (2 ∷ 2 ∷ []) 0 0 is no 4 ∷ refuted clash (0 ∷ 0 ∷ 0 ∷ 0 ∷ []) 0 0 is no 4
+    ∷ refuted clash (0 ∷ 0 ∷ 2 ∷ []) 0 0 is no 5 ∷ refuted clash (0 ∷ 0 ∷ 0 ∷ []) 2 0 is no 5 ∷ refuted clash (0 ∷ 0 ∷ 0 ∷ []) 0 2 is no 5
+    ∷ [])
+unfolding objectiveAnswer upperBoundAnswer isActiveAnswer refutedAnswer
+figures = refl
+
+pub tests :
+    let starts : Input → Bool = λ i. valid standard (i .case) (i .weights) in
+    let keeps : List String → Bool = λ log. keepsRules standard (clash .case) (clash .weights) (texts log) in
+    Hold
+    (starts (clashFrom (pos 1_000_000)) is true ∷ starts (clashFrom (minus 1_000_000)) is true
+    ∷ starts (clashFrom (pos 1_000_001)) is false ∷ starts (clashFrom (minus 1_000_001)) is false
+    ∷ isAssignment (clash .case) (0 ∷ 1 ∷ []) is true ∷ isAssignment (clash .case) (0 ∷ 2 ∷ []) is false
+    ∷ isAssignment (clash .case) (0 ∷ []) is false ∷ isAssignment (clash .case) (0 ∷ 0 ∷ 0 ∷ []) is false
+    ∷ keeps [] is true ∷ keeps log5 is true ∷ keeps log8 is false ∷ keeps (take 3 log5) is false
+    ∷ [])
+tests = refl
+
+-- ---- the plain replay
+
+-- a line with no negative number, as text
+abbrev l : ℕ → ℕ → ℕ → ℕ → ℕ → List ℕ
+l kind a b c amount = lineText 12 (line kind (pos a) (pos b) (pos c) (pos amount))
+
+-- the number of a line: first in P1's case and in P4's; in P1's after these scopes are raised, in a press of variable 1 by three;
+-- in P4's after so many rounds
+pub lines :
+    let numberIn : State → List ℕ → ℕ = λ s t. numberOf (step standard s t .refusal) in
+    let p1 : List ℕ → ℕ = λ t. numberIn (fresh (triangle .case) (triangle .weights)) t in
+    let p4 : List ℕ → ℕ = λ t. numberIn (fresh (clash .case) (clash .weights)) t in
+    let raised : List ℕ → List ℕ → ℕ =
+    λ xs t. numberIn (after standard (fresh (triangle .case) (triangle .weights)) (l 2 1 3 0 1 ∷ map (λ x. l 3 x 0 0 0) xs)) t
+    in
+    let w : List ℤ = clash .weights in
+    let late : ℕ → State =
+    λ n. record { case = clash .case; starting = w; weights = w; rounds = n; start = pos 9; held = none; moving = false; refusal = none }
+    in
+    Hold
+    ( -- 1 and 2: kinds due and unused columns
+    p1 (take 26 (l 1 0 0 0 1)) is 1 ∷ p1 (l 3 3 0 0 0) is 2 ∷ p1 (l 10 3 2 3 0) is 2 ∷ p1 (l 2 0 2 1 1) is 2
+    ∷ p1 (l 4 1 0 0 0) is 2 ∷ p1 (l 4 0 1 0 0) is 2 ∷ p1 (l 4 0 0 1 0) is 2 ∷ p1 (bytesOf "-1   0   0   0           0\n") is 2
+    ∷ raised [] (l 1 0 0 0 1) is 2 ∷ raised [] (l 2 0 2 0 1) is 2 ∷ raised [] (l 4 0 0 0 1) is 2
+    ∷ raised [] (l 3 3 1 0 0) is 2 ∷ raised [] (l 3 3 0 1 0) is 2 ∷ raised [] (l 3 3 0 0 1) is 2
+    -- 5 of a shift
+    ∷ p1 (l 1 3 0 0 1) is 5 ∷ p1 (l 1 0 2 0 1) is 5 ∷ p1 (l 1 0 0 2 1) is 5 ∷ p1 (l 1 0 0 0 0) is 5
+    ∷ p1 (bytesOf " 1  -1   0   0           1\n") is 5 ∷ p1 (l 1 0 0 0 1_000_000_001) is 5
+    ∷ p1 (bytesOf " 1   0   0   0 -1000000001\n") is 5 ∷ p1 (bytesOf " 1   0   0   0 -1000000000\n") is 11
+    -- 5 of a press, whose count is 1 to s − 1
+    ∷ p1 (l 2 3 2 0 1) is 5 ∷ p1 (l 2 0 0 0 1) is 5 ∷ p1 (l 2 0 5 0 1) is 0 ∷ p1 (l 2 0 6 0 1) is 5
+    ∷ p1 (l 2 0 2 0 0) is 5 ∷ p1 (l 2 0 2 0 1_000_000_000) is 0 ∷ p1 (l 2 0 2 0 1_000_000_001) is 5
+    -- 5 and 9 of a raise line
+    ∷ raised [] (l 3 0 0 0 0) is 0 ∷ raised [] (l 3 6 0 0 0) is 5 ∷ raised (5 ∷ []) (bytesOf " 3  -1   0   0           0\n") is 5
+    ∷ raised [] (l 3 1 0 0 0) is 9 ∷ raised (0 ∷ []) (l 3 1 0 0 0) is 9 ∷ raised (3 ∷ []) (l 3 3 0 0 0) is 9
+    ∷ raised (4 ∷ []) (l 3 3 0 0 0) is 9 ∷ raised (3 ∷ 5 ∷ []) (l 3 4 0 0 0) is 9 ∷ raised (3 ∷ 5 ∷ []) (l 3 6 0 0 0) is 5
+    -- 11: 2 + (W − 1) is outside; W and −W are inside
+    ∷ p4 (l 1 0 0 0 499_999_999) is 11 ∷ p4 (l 1 0 1 1 W) is 0
+    ∷ p4 (bytesOf " 1   0   1   1  -500000000\n") is 0 ∷ p4 (bytesOf " 1   0   1   1  -500000001\n") is 11
+    -- 12 before 13; 5 before 12
+    ∷ p4 (l 4 0 0 0 3) is 12 ∷ p4 (l 4 0 0 0 5) is 12 ∷ p4 (l 4 0 0 0 4) is 13
+    ∷ numberIn (late 999_999_999_999_999_999) (l 4 0 0 0 5) is 5 ∷ numberIn (late 999_999_999_999_999_999) (l 1 0 0 0 1) is 0
+    ∷ numberIn (late 999_999_999_999_999_998) (l 4 0 0 0 4) is 0
+    ∷ [])
+lines = refl
+
+infix 70 _gives_
+abbrev _gives_ : Question → Result → Sample
+q gives a = record { ask = q; gives = a }
+
+-- each line's number and the end's; nothing is changed
+abbrev turned : List ℕ → ℕ → Result
+turned numbers end = replayed numbers end 0 (pos 4) (clash .weights)
+
+-- logs, in the form of the sample cases
+abbrev pub logs : List Sample
+logs =
+    -- a refusal stands; 10 before 11; a press held, and refused in a press
+    replay-of clash (" 4   0   0   0           5\n" ∷ " 2   0   2   0           1\n" ∷ "x" ∷ []) gives turned (12 ∷ 12 ∷ 12 ∷ []) 12
+    ∷ replay-of clash (" 2   0   1   0  1000000000\n" ∷ " 3   1   0   0           0\n" ∷ []) gives turned (0 ∷ 10 ∷ []) 10
+    ∷ replay-of clash (" 2   0   2   0           1\n" ∷ " 3   1   0   0           0\n" ∷ []) gives turned (0 ∷ 0 ∷ []) 14
+    ∷ replay-of clash (" 2   0   2   0           1\n" ∷ " 3   0   0   0           0\n" ∷ []) gives turned (0 ∷ 9 ∷ []) 9
+    -- shifts of end 1 and of other edges
+    ∷ replay-of triangle (" 1   2   1   0           5\n" ∷ []) gives
+    replayed (0 ∷ []) 14 0 (pos 5)
+    (zeros 4 ++ (pos 5 ∷ pos 0 ∷ take 8 (drop 6 (triangle .weights))) ++ (minus 6 ∷ pos 0 ∷ minus 5 ∷ minus 1 ∷ []))
+    ∷ replay-of triangle (" 1   1   0   1          -4\n" ∷ []) gives
+    replayed (0 ∷ []) 14 0 (pos 4)
+    (pos 0 ∷ minus 4 ∷ take 8 (drop 2 (triangle .weights)) ++ (minus 1 ∷ pos 0 ∷ pos 4 ∷ pos 3 ∷ drop 14 (triangle .weights)))
+    ∷ []
+
+pub logs-hold : map (λ s. answer (s .ask)) logs ≡ map (λ s. s .gives) logs
+logs-hold = refl
+
+-- the state keeps the starting weights: after two rounds and a refused line
+pub starting-kept : after standard (fresh (clash .case) (clash .weights)) (texts (twoRounds ++ ("x" ∷ []))) .starting ≡ clash .weights
+starting-kept = refl
+
+-- ---- case files
+
+abbrev file : Input → List ℕ
+file i = caseText standard (i .case) (i .weights)
+
+-- P1's file cut, and with something after it
+abbrev cut : ℕ → List ℕ
+cut bytes = take bytes (file triangle)
+
+abbrev more : List ℕ → List ℕ
+more t = file triangle ++ t
+
+abbrev xs : ℕ → List ℕ
+xs n = replicate n 120
+
+-- The answer, the record and the table, which held sevens. Refused at a line after so many good weights, the record is all zero, and the
+-- places not reached keep what they held. A file is read as the front of an input, and alone; `put` has another line in the place of one.
+abbrev FileRead : Type 0
+FileRead = Says × Case × List ℤ
+
+abbrev refusedAt : ℕ → ℕ → ℕ → FileRead
+refusedAt at good n =
+    let zero : List ℕ = replicate 96 0 in
+    (says n (pos at ∷ []), given 0 0 0 zero zero [] .case, take good (triangle .weights) ++ replicate (18 - good) (pos 7))
+
+pub files :
+    let told : CaseCall → FileRead = λ q. (fileSays (q .read .answer), q .read .case, q .table) in
+    let sevens : List ℤ = replicate 18 (pos 7) in
+    let read : List ℕ → List FileRead = λ t. told (readCase standard t sevens) ∷ told (readCaseAlone standard t sevens) ∷ [] in
+    let both : ℕ → ℕ → ℕ → List FileRead = λ at good n. refusedAt at good n ∷ refusedAt at good n ∷ [] in
+    let put : ℕ → List ℕ → List ℕ = λ at t. cut (27 * at) ++ t ++ drop (27 * (at + 1)) (file triangle) in
+    let zeros93 : List ℕ = replicate 93 0 in
+    let whole : FileRead = (value (pos 22), given 3 2 3 (0 ∷ 0 ∷ 1 ∷ zeros93) (1 ∷ 2 ∷ 2 ∷ zeros93) [] .case, triangle .weights) in
+    Hold
+    (read (more []) is (whole ∷ whole ∷ []) ∷ read (more (xs 27)) is (whole ∷ refusedAt 22 18 1 ∷ [])
+    ∷ read (more (l 4 0 0 0 0)) is (whole ∷ refusedAt 22 18 2 ∷ []) ∷ read (more (xs 26)) is (whole ∷ refusedAt 22 18 14 ∷ [])
+    -- the head, the table's length, a cut
+    ∷ read [] is both 0 0 14 ∷ read (cut 26) is both 0 0 14 ∷ read (xs 27) is both 0 0 1
+    ∷ read (put 0 (l 11 3 2 3 0)) is both 0 0 2 ∷ read (put 0 (l 10 0 2 3 1)) is both 0 0 2 ∷ read (put 0 (l 10 0 2 3 0)) is both 0 0 3
+    ∷ read (put 0 (l 10 3 0 3 0)) is both 0 0 3 ∷ read (put 0 (l 10 3 9 3 0)) is both 0 0 3 ∷ read (put 0 (l 10 3 2 97 0)) is both 0 0 3
+    ∷ read (put 0 (bytesOf "10   3   2  -1           0\n")) is both 0 0 3 ∷ read (put 0 (l 10 3 2 2 0)) is both 0 0 4
+    ∷ read (take 30 (put 0 (l 10 3 2 4 0))) is both 0 0 4 ∷ read (cut 27) is both 1 0 14 ∷ read (cut 135) is both 5 4 14
+    ∷ read (cut 593) is both 21 17 14
+    -- weights of variables
+    ∷ read (put 2 (l 11 1 1 0 0)) is both 2 1 5 ∷ read (put 2 (l 11 0 0 0 1_000_001)) is both 2 1 5 ∷ read (put 2 (l 11 0 1 1 0)) is both 2 1 2
+    ∷ read (put 2 (l 11 0 1 0 1_000_001)) is both 2 1 8 ∷ read (put 2 (bytesOf "11   0   1   0    -1000001\n")) is both 2 1 8
+    -- edges
+    ∷ read (put 12 (l 12 0 0 2 0)) is both 12 10 5 ∷ read (put 12 (l 12 1 0 3 0)) is both 12 10 5 ∷ read (put 12 (l 12 1 3 0 0)) is both 12 10 5
+    ∷ read (put 12 (bytesOf "12   1  -1   2           0\n")) is both 12 10 5 ∷ read (put 12 (l 12 0 2 0 1)) is both 12 10 2
+    ∷ read (put 12 (l 12 1 2 0 0)) is both 12 10 6 ∷ read (put 12 (l 12 1 1 1 0)) is both 12 10 6 ∷ read (put 12 (l 12 1 0 1 0)) is both 12 10 7
+    ∷ read (put 17 (l 12 2 0 1 0)) is both 17 14 7 ∷ read (put 17 (l 12 2 0 2 0)) is both 17 14 7
+    -- weights of edges
+    ∷ read (put 9 (l 13 1 0 1 0)) is both 9 7 5 ∷ read (put 9 (l 13 0 1 1 0)) is both 9 7 5 ∷ read (put 9 (l 13 0 0 0 1_000_001)) is both 9 7 5
+    ∷ read (put 9 (l 13 0 0 1 1_000_001)) is both 9 7 8 ∷ read (put 9 (bytesOf "13   0   0   1    -1000001\n")) is both 9 7 8
+    ∷ read (put 9 (l 12 5 0 1 0)) is both 9 7 2
+    ∷ [])
+files = refl
+
+-- the greatest D and m, after which the file is cut; what the head says
+pub heads :
+    Hold
+    (fileSays (readCase standard (l 10 2 8 96 0) (zeros 6_160) .read .answer) is says 14 (pos 1 ∷ [])
+    ∷ sizeSays (caseSize standard (cut 27)) is says 0 (pos 3 ∷ pos 2 ∷ pos 3 ∷ pos 18 ∷ [])
+    ∷ sizeSays (caseSize standard (l 10 48 8 96 0)) is says 0 (pos 48 ∷ pos 8 ∷ pos 96 ∷ pos 6_528 ∷ [])
+    ∷ sizeSays (caseSize standard (cut 26)) is no 14 ∷ sizeSays (caseSize standard (l 10 3 2 3 1)) is no 2
+    ∷ [])
+heads = refl
+
+-- ---- the engine
+
+-- edges (0,1), (1,2): a round of five lines and then one of four
+abbrev twoSteps : Input
+twoSteps =
+    given 3 2 2 (0 ∷ 1 ∷ []) (1 ∷ 2 ∷ [])
+    (pos 0 ∷ pos 0 ∷ pos 1 ∷ pos 0 ∷ minus 1 ∷ pos 0 ∷ minus 2 ∷ pos 0 ∷ minus 2 ∷ minus 1 ∷ zeros 3 ++ (minus 1 ∷ []))
+
+abbrev afterOne : List ℤ
+afterOne = minus 1 ∷ minus 1 ∷ pos 1 ∷ zeros 3 ++ (minus 1 ∷ pos 0 ∷ minus 1 ∷ zeros 5)
+
+abbrev afterTwo : List ℤ
+afterTwo = minus 2 ∷ minus 2 ∷ pos 1 ∷ pos 1 ∷ zeros 10
+
+-- a round, after which variable 0 is at −W
+abbrev lastRound : Input
+lastRound = couple (minus 499_999_999 ∷ minus W ∷ pos 0 ∷ pos 2 ∷ pos 0 ∷ minus 2 ∷ pos 0 ∷ minus 2 ∷ [])
+
+abbrev afterLast : List ℤ
+afterLast = minus W ∷ minus W ∷ pos 1 ∷ pos 2 ∷ pos 0 ∷ minus 1 ∷ pos 0 ∷ minus 1 ∷ []
+
+-- a round: the press line, the scopes raised, the bound line
+abbrev pressed : List ℕ → List ℕ → String → List ℕ
+pressed begin scopes stated = begin ++ joined (map (λ x. l 3 x 0 0 0) scopes) ++ bytesOf stated
+
+abbrev step1 : List ℕ
+step1 = pressed (l 2 0 3 0 1) (2 ∷ 3 ∷ 4 ∷ []) " 4   0   0   0           0\n"
+
+abbrev step2 : List ℕ
+step2 = pressed (l 2 0 2 0 1) (1 ∷ 3 ∷ []) " 4   0   0   0          -1\n"
+
+abbrev byOne : List ℕ
+byOne = pressed (l 2 0 2 0 1) (1 ∷ 2 ∷ []) " 4   0   0   0  -499999998\n"
+
+abbrev ones : ℕ → List ℕ
+ones n = replicate n 1
+
+-- a run as a call: answer, rounds, upper bound, table, output and log
+pub runs :
+    let ran : Input → ℕ → ℕ → RunCall = λ i limit room. runCall standard engineNext (i .case) limit (i .weights) (ones room) in
+    let told : RunAnswer → ℕ → ℤ → List ℤ → List ℕ → List ℕ → RunCall =
+    λ a n z w out log. record { run = record { answer = a; rounds = n; bound = z }; table = w; out = out; log = log }
+    in
+    Hold
+    (ran twoSteps 1 162 is told Limit 1 (pos 0) afterOne (step1 ++ ones 27) step1
+    -- the lines of a round from the output's first byte, the bytes past them kept
+    ∷ ran twoSteps 2 162 is told Settled 2 (minus 1) afterTwo (step2 ++ drop 108 step1 ++ ones 27) (step1 ++ step2)
+    -- 11: before the first round, at the limit, and after a round
+    ∷ ran (triangleFrom (minus W)) 5 189 is told (Refused LeavesRange) 0 (minus W) (triangleFrom (minus W) .weights) (ones 189) []
+    ∷ ran (triangleFrom (minus W)) 0 189 is told Limit 0 (minus W) (triangleFrom (minus W) .weights) (ones 189) []
+    ∷ ran lastRound 5 108 is told (Refused LeavesRange) 1 (minus 499_999_998) afterLast byOne byOne
+    -- 4, also at limit 0 and where settled; 8
+    ∷ ran clash 5 107 is told (Refused WrongLength) 0 (pos 0) (clash .weights) (ones 107) []
+    ∷ ran clash 0 107 is told (Refused WrongLength) 0 (pos 0) (clash .weights) (ones 107) []
+    ∷ ran single 5 53 is told (Refused WrongLength) 0 (pos 0) (single .weights) (ones 53) []
+    ∷ ran (clashFrom (pos (W + 1))) 5 108 is told (Refused WeightOutOfRange) 0 (pos 0) (clashFrom (pos (W + 1)) .weights) (ones 108) []
+    ∷ [])
+unfolding roundCall runCall
+runs = refl
+
+-- The plain run: answer, rounds, weights and log. `three` has D 3 and no partner for value 0 of variable 0; in `two` variable 0 clashes
+-- with 1 and with 2, and the first reason is dropped; in `four` P1's triangle lies over variables 1 to 3, and variable 0 is not refuted.
+pub plain-runs :
+    let told : RunOf → RunAnswer × ℕ × List ℤ × List ℕ = λ q. (q .answer, q .rounds, q .weights, joined (q .log)) in
+    let ran : Input → ℕ → RunAnswer × ℕ × List ℤ × List ℕ = λ i limit. told (run standard engineNext (i .case) limit (i .weights)) in
+    let three : ℕ → ℕ → Input =
+    λ first low. given 2 3 1 (0 ∷ []) (1 ∷ []) (pos first ∷ pos 1 ∷ pos 3 ∷ zeros 3 ++ replicate 3 (minus low) ++ zeros 6)
+    in
+    let two : ℕ → ℕ → ℕ → Input =
+    λ a b low. given 3 2 2 (0 ∷ 0 ∷ []) (1 ∷ 2 ∷ [])
+    (pos a ∷ pos 0 ∷ pos 2 ∷ pos 1 ∷ pos 2 ∷ pos b ∷ minus 3 ∷ zeros 3 ++ (minus low ∷ zeros 3))
+    in
+    let four : ℕ → ℕ → Input =
+    λ a low. given 4 2 3 (1 ∷ 1 ∷ 2 ∷ []) (2 ∷ 3 ∷ 3 ∷ [])
+    (zeros 2 ++ (minus a ∷ minus a ∷ zeros 4) ++ joined (replicate 3 (minus low ∷ pos 0 ∷ pos 0 ∷ minus low ∷ [])))
+    in
+    Hold
+    (ran twoSteps 1 is (Limit, 1, afterOne, step1) ∷ ran twoSteps 5 is (Settled, 2, afterTwo, step1 ++ step2)
+    ∷ ran (triangleFrom (minus W)) 5 is (Refused LeavesRange, 0, triangleFrom (minus W) .weights, [])
+    ∷ ran (triangleFrom (minus W)) 0 is (Limit, 0, triangleFrom (minus W) .weights, [])
+    ∷ ran lastRound 5 is (Refused LeavesRange, 1, afterLast, byOne)
+    -- the gap of a scope is to its greatest inactive weight; a dropped scope's does not count; the lowest variable refuted is pressed
+    ∷ ran (three 5 9) 5 is (Settled, 1, three 3 7 .weights, pressed (l 2 0 1 0 2) (2 ∷ []) " 4   0   0   0           3\n")
+    ∷ ran (two 2 0 3) 5 is (Settled, 1, two 0 2 1 .weights, pressed (l 2 0 2 0 2) (2 ∷ 4 ∷ []) " 4   0   0   0           4\n")
+    ∷ ran (four 0 1) 5 is (Settled, 1, four 1 0 .weights, pressed (l 2 1 3 0 1) (4 ∷ 5 ∷ 6 ∷ []) " 4   0   0   0          -1\n")
+    ∷ [])
+plain-runs = refl
+
+-- a round of several moves, as another engine could make it: P5's press after a shift and back
+abbrev detour : Case → List ℤ → Next
+detour c w = round (shift 0 1 0 (pos 3) ∷ shift 0 1 0 (minus 3) ∷ press 0 (1 ∷ 2 ∷ []) (pos 2) ∷ [])
+
+pub detours :
+    run standard detour (clash .case) 1 (clash .weights)
+    ≡ stopped Limit 1 (pos 0 ∷ pos 0 ∷ pos 2 ∷ pos 2 ∷ minus 1 ∷ zeros 3)
+    (texts (" 1   0   1   0           3\n" ∷ " 1   0   1   0          -3\n" ∷ log5))
+detours = refl
+
+-- one round as a call: answer, table and output
+pub rounds :
+    let told : RoundCall → Says × List ℤ × List ℕ = λ q. (roundSays (q .answer), q .table, q .out) in
+    let made : Input → ℕ → Says × List ℤ × List ℕ = λ i room. told (roundCall standard engineNext (i .case) (i .weights) (ones room)) in
+    Hold
+    (made twoSteps 162 is (says 0 (pos 135 ∷ pos 0 ∷ []), afterOne, step1 ++ ones 27)
+    ∷ made single 54 is (says 0 [], single .weights, ones 54) ∷ made single 53 is (no 4, single .weights, ones 53)
+    ∷ made (triangleFrom (minus W)) 189 is (no 11, triangleFrom (minus W) .weights, ones 189)
+    ∷ [])
+unfolding roundCall
+rounds = refl
+
+-- ---- moves as calls: the number and the table
+
+pub moves :
+    let told : TableCall → ℕ × List ℤ = λ q. (outcomeSays (q .answer) .number, q .table) in
+    let pressIn : Input → ℕ → List ℕ → ℕ → ℕ × List ℤ = λ i v R a. told (pressCall standard (i .case) (i .weights) v R (pos a)) in
+    let shiftIn : Input → ℕ → ℕ → ℕ → ℕ → ℕ × List ℤ = λ i e end v a. told (shiftCall standard (i .case) (i .weights) e end v (pos a)) in
+    let same : ℕ → ℕ × List ℤ = λ n. (n, clash .weights) in
+    let great : Input = clashFrom (pos (W + 1)) in
+    Hold
+    (pressIn clash 2 (1 ∷ []) 1 is same 5 ∷ pressIn clash 0 (0 ∷ 1 ∷ 2 ∷ []) 1 is same 5 ∷ pressIn clash 0 (1 ∷ 3 ∷ []) 1 is same 5
+    ∷ pressIn clash 0 (1 ∷ 2 ∷ []) 0 is same 5 ∷ pressIn clash 0 (1 ∷ 2 ∷ []) 1_000_000_001 is same 5
+    ∷ pressIn clash 0 (0 ∷ 2 ∷ []) 1 is same 9 ∷ pressIn clash 0 (2 ∷ 2 ∷ []) 1 is same 9 ∷ pressIn clash 0 (1 ∷ []) 1_000_000_000 is same 10
+    ∷ pressIn great 0 (2 ∷ 1 ∷ []) 1 is (8, great .weights) ∷ pressIn triangle 0 (3 ∷ 5 ∷ 4 ∷ []) 1 is (9, triangle .weights)
+    ∷ pressIn (clashFrom (pos 1_000_001)) 0 (1 ∷ 2 ∷ []) 1 is (0, pos 1_000_000 ∷ pos 0 ∷ pos 2 ∷ pos 1 ∷ minus 2 ∷ zeros 3)
+    ∷ shiftIn clash 1 0 0 1 is same 5 ∷ shiftIn clash 0 2 0 1 is same 5 ∷ shiftIn clash 0 0 2 1 is same 5
+    ∷ shiftIn clash 0 0 0 1_000_000_001 is same 5 ∷ shiftIn great 0 0 0 1 is (8, great .weights)
+    ∷ shiftIn (clashFrom (pos 1_000_001)) 0 1 0 3 is
+    (0, pos 1_000_001 ∷ pos 0 ∷ pos 5 ∷ pos 0 ∷ minus 6 ∷ pos 0 ∷ minus 3 ∷ pos 0 ∷ [])
+    ∷ [])
+unfolding pressCall shiftCall
+moves = refl
+
+-- ---- lines and case files, read and written
+
+pub columns :
+    let read : String → Says = λ t. lineSays (readLineAnswer standard (bytesOf t)) in
+    let wrote : ℕ → ℤ → ℕ → ℕ → ℤ → Says = λ k a b c z. outcomeSays (writeLineCall standard (ones 27) (line k a (pos b) (pos c) z) .answer) in
+    Hold
+    (read "13   2   1   0          -7\n" is says 0 (pos 13 ∷ pos 2 ∷ pos 1 ∷ pos 0 ∷ minus 7 ∷ [])
+    ∷ read "13   2   1   0          -0\n" is no 1 ∷ read "13   2   1   0         - 7\n" is no 1
+    ∷ wrote 99 (pos 9_999) 9_999 9_999 (pos 999_999_999_999) is no 0 ∷ wrote 1 (minus 999) 0 0 (minus 99_999_999_999) is no 0
+    ∷ wrote 100 (pos 0) 0 0 (pos 0) is no 5 ∷ wrote 1 (minus 1_000) 0 0 (pos 0) is no 5 ∷ wrote 1 (pos 0) 10_000 0 (pos 0) is no 5
+    ∷ wrote 1 (pos 0) 0 10_000 (pos 0) is no 5 ∷ wrote 1 (pos 0) 0 0 (pos 1_000_000_000_000) is no 5
+    ∷ wrote 1 (pos 0) 0 0 (minus 100_000_000_000) is no 5
+    ∷ [])
+unfolding readLineAnswer writeLineCall
+columns = refl
+
+-- the log writer: the number, the slice and the position after it; 4 before 5
+pub appended :
+    let told : WriterCall → ℕ × List ℕ × ℕ = λ q. (outcomeSays (q .answer) .number, q .out, q .at) in
+    let put : ℕ → ℕ → ℕ × List ℕ × ℕ = λ room a. told (putLineCall standard (ones room) 27 (line 3 (pos a) (pos 0) (pos 0) (pos 0))) in
+    Hold
+    (put 82 5 is (0, ones 27 ++ l 3 5 0 0 0 ++ ones 28, 54) ∷ put 54 5 is (0, ones 27 ++ l 3 5 0 0 0, 54) ∷ put 53 10_000 is (4, ones 53, 27)
+    ∷ put 26 5 is (4, ones 26, 27) ∷ put 54 10_000 is (5, ones 54, 27)
+    ∷ [])
+unfolding putLineCall
+appended = refl
+
+pub written :
+    let told : WriteCall → Says × List ℕ = λ q. (writtenSays (q .answer), q .out) in
+    let wrote : Input → ℕ → Says × List ℕ = λ i room. told (writeCaseCall standard (i .case) (i .weights) (ones room)) in
+    let clashFile : List ℕ =
+    l 10 2 2 1 0 ++ l 11 0 0 0 2 ++ l 11 0 1 0 0 ++ l 11 1 0 0 2 ++ l 11 1 1 0 0
+    ++ l 12 0 0 1 0 ++ bytesOf "13   0   0   0          -3\n" ++ l 13 0 0 1 0 ++ l 13 0 1 0 0 ++ l 13 0 1 1 0
+    in
+    Hold
+    (wrote clash 272 is (value (pos 270), clashFile ++ ones 2) ∷ wrote clash 269 is (no 4, ones 269)
+    ∷ wrote (clashFrom (pos 1_000_001)) 270 is (no 8, ones 270) ∷ wrote (clashFrom (minus 1_000_001)) 270 is (no 8, ones 270)
+    ∷ [])
+unfolding writeCaseCall
+written = refl
+
+-- ---- scoring and views
+
+-- the choice and the plan handed back
+pub scores :
+    let scored : Input → List ℕ → List ℕ → Says × List ℕ =
+    λ i p q. (choiceSays (betterOf standard (i .case) (i .weights) p q), better standard (i .case) (i .weights) p q)
+    in
+    Hold
+    (scored clash (1 ∷ 0 ∷ []) (0 ∷ 1 ∷ []) is (value (pos 0), 1 ∷ 0 ∷ []) ∷ scored clash (1 ∷ 1 ∷ []) (0 ∷ 1 ∷ []) is (value (pos 1), 0 ∷ 1 ∷ [])
+    ∷ scored clash (1 ∷ 1 ∷ []) (0 ∷ 2 ∷ []) is (no 5, []) ∷ scored clash (2 ∷ 0 ∷ []) (0 ∷ 1 ∷ []) is (no 5, [])
+    ∷ scored clash (9 ∷ 9 ∷ []) (0 ∷ []) is (no 4, []) ∷ scored clash (0 ∷ []) (0 ∷ 1 ∷ []) is (no 4, [])
+    ∷ scored (clashFrom (pos 1_000_001)) (1 ∷ 1 ∷ []) (0 ∷ 1 ∷ []) is (no 8, [])
+    ∷ scored (clashFrom (minus 1_000_001)) (1 ∷ 1 ∷ []) (0 ∷ 1 ∷ []) is (no 8, [])
+    ∷ [])
+scores = refl
+
+-- where the round lies and the stretch of the log; what comes after the round is not looked at, and no move is checked
+pub views :
+    let view : List ℕ → ℕ → Says × List ℕ = λ log n. (spanSays (roundSpan standard log n), roundView standard log n) in
+    Hold
+    (view (xs 28) 0 is (says 1 (pos 0 ∷ []), []) ∷ view (step1 ++ xs 1) 1 is (says 14 (pos 5 ∷ []), []) ∷ view [] 0 is (says 5 (pos 0 ∷ []), [])
+    ∷ view (step1 ++ step2) 1 is (says 0 (pos 135 ∷ pos 243 ∷ []), step2) ∷ view (step1 ++ step2) 2 is (says 5 (pos 9 ∷ []), [])
+    ∷ view (step1 ++ xs 28) 0 is (says 0 (pos 0 ∷ pos 135 ∷ []), step1) ∷ view (l 4 9 9 9 9) 0 is (says 0 (pos 0 ∷ pos 27 ∷ []), l 4 9 9 9 9)
+    ∷ [])
+views = refl
+
+-- ---- programs: what they print; at the end the engine refused after a round
+
+pub prints :
+    let replay : List ℕ → List ℕ = λ t. replayPrints standard t in
+    Hold
+    (replay (cut 100) is bytesOf "refused 14 3\n" ∷ replay [] is bytesOf "refused 14 0\n" ∷ replay (more (xs 28)) is bytesOf "refused 1 22\n"
+    ∷ replay (more (l 4 0 0 0 5 ++ l 4 0 0 0 5)) is bytesOf "refused 12 22\n" ∷ replay (more (l 2 0 3 0 1)) is bytesOf "refused 14 23\n"
+    ∷ replay (more (l 2 0 3 0 1 ++ l 3 3 0 0 0 ++ xs 1)) is bytesOf "refused 14 24\n"
+    ∷ replay (file twoSteps ++ step1 ++ step2) is bytesOf "accepted 2 -1\n"
+    ∷ pressPrints standard (file twoSteps) is (step1 ++ step2) ∷ pressPrints standard (cut 100) is bytesOf "refused 14 3\n"
+    ∷ pressRun standard 22 (run standard engineNext (lastRound .case) 5 (lastRound .weights)) is (byOne ++ bytesOf "refused 11 22\n")
+    ∷ [])
+prints = refl
+
+pub rounds-of-press : pressLimit ≡ 100_000
+rounds-of-press = refl
