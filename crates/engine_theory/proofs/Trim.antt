@@ -1,26 +1,27 @@
 -- Which variable the engine presses and which scopes it raises: the variable is the lowest whose active values are refuted with all other
 -- scopes raised, and where there is none, every variable has an active value with a supported family; the kept scopes refute too, they rise,
--- leave out the variable's own scope, and are never none. Assumes nothing.
-use mathlib.Core.Path.{_≡_, refl, ap}
+-- leave out the variable's own scope, and are never none; each of the others is kept just where the kept below it and all others above it do
+-- not refute, so that none of the kept can be left out. Assumes nothing.
+use mathlib.Core.Path.{_≡_, refl, sym, ap, subst}
 use mathlib.Core.Bool.{Bool, true, false, not}
 use mathlib.Core.Option.{none, some}
 use mathlib.Core.Logic.{_≢_, _↔_, ⊎-elim}
-use mathlib.Core.List.{List, [], _∷_, _++_, append-nil, append-assoc, List·Memᴰ·head, List·Memᴰ·tail, List·Memᴰ·append-cases, Memᴰ·append-left, Memᴰ·append-right}
+use mathlib.Core.List.{List, [], _∷_, _++_, append-nil, append-assoc, List·Memᴰ·head, List·Memᴰ·tail, List·Memᴰ·append-cases, List·Memᴰ·eq-of-singleton, Memᴰ·append-left, Memᴰ·append-right}
 use Prim.Native.Nat.{ℕ, zero, suc, _+_, _≤_, _<_}
 use native.Mathlib.Omega.{arith}
 use lib.IntN.{ℤ}
-use lib.Dec.{T, T-not, not-T, ltb, eqb}
+use lib.Dec.{T, T-not, not-T, ltb, ltb→lt, eqb}
 use lib.ListN.{length, length-append}
 use Rattle.integers.specs.Words.{from, below, all, any, those, first, isIn, _⇒_}
-use Rattle.integers.specs.Tests.{tests, either, and-intro, and-left, and-right, if-false, if-cases}
-use Rattle.integers.specs.Lists.{_∈_, any-in, all-at, all-of, any-at, any-of, in-those, those-none, first-none, first-least, in-below, below-in, length-from}
+use Rattle.integers.specs.Tests.{tests, either, and-intro, and-left, and-right, imp-intro, imp-elim, if-false, if-cases}
+use Rattle.integers.specs.Lists.{_∈_, any-in, all-at, all-of, any-at, any-of, in-those, those-in, isIn-in, those-none, first-none, first-least, in-below, below-in, length-from}
 use Rattle.definitions.specs.declared.Case.{Case}
 use Rattle.definitions.specs.Case.{scopes, scopeCount, lowerEnd, upperEnd, active}
 use Rattle.definitions.specs.Calls.{isRising}
 use Rattle.definitions.specs.Consistency.{Family, Supported, allowed, supported, families, marks, refuted}
 use Rattle.definitions.specs.Engine.{others, chosen, Settled, trimmed, keptScopes}
 use Rattle.definitions.specs.Moves.{activeRefuted}
-use Rattle.definitions.proofs.Refutation.{supported-holds, refuted-sound}
+use Rattle.definitions.proofs.Refutation.{supported-holds, refuted-sound, refuted-raised}
 use Rattle.theory.proofs.Shape.{Shape}
 use Rattle.theory.proofs.Places.{IsTuple, variable-tuple, edge-tuple, some-active-value}
 
@@ -139,13 +140,15 @@ those-fewer : {A : Type 0} (f : A → Bool) {x : A} {xs : List A} → x ∈ xs �
 those-fewer f {x} (List·Memᴰ·head {x = y} {xs = xs} e) t = rw (if-false (y ∷ those f xs) (those f xs) (f y) (rw e at t)) (omega (arith, those-most f xs))
 those-fewer f {x} (List·Memᴰ·tail {x = y} {xs = xs} m) t = if-cases (λ l. length l < suc (length xs)) (f y) (y ∷ those f xs) (those f xs) (λ p. omega (arith, those-fewer f m t)) (λ p. omega (arith, those-fewer f m t))
 
+others-rising : (c : Case) (i : ℕ) → T (isRising (others c i))
+others-rising c i = those-rising (λ x. not (eqb x i)) [] (scopes c) (from-rising 0 (scopeCount c))
+
 module _ (c : Case) (w : List ℤ) (i : ℕ) where
   pub kept-refuted : T (activeRefuted c w i (others c i)) → T (activeRefuted c w i (keptScopes c w i))
   kept-refuted = kept-has c w i (λ l. T (activeRefuted c w i l)) (λ kept rest x t p. t)
 
   pub kept-rising : T (isRising (keptScopes c w i))
-  kept-rising = kept-has c w i (λ l. T (isRising l)) (λ kept rest x t. drop-rising kept rest x)
-      (those-rising (λ x. not (eqb x i)) [] (scopes c) (from-rising 0 (scopeCount c)))
+  kept-rising = kept-has c w i (λ l. T (isRising l)) (λ kept rest x t. drop-rising kept rest x) (others-rising c i)
 
   pub kept-scopes : {x : ℕ} → x ∈ keptScopes c w i → (x < scopeCount c) × (x ≢ i)
   kept-scopes {x} = kept-has c w i (λ l. x ∈ l → (x < scopeCount c) × (x ≢ i))
@@ -171,3 +174,120 @@ module _ (c : Case) (w : List ℤ) (i : ℕ) where
         go : (l : List ℕ) → T (activeRefuted c w i l) → 0 < length l
         go [] t = absurd (not-all-open [] t (λ x a b u. tt))
         go (x ∷ l) t = omega arith
+
+-- ---- which of the others are kept
+
+rising-tail : (x : ℕ) (xs : List ℕ) → T (isRising (x ∷ xs)) → T (isRising xs)
+rising-tail x [] t = tt
+rising-tail x (y ∷ xs) t = and-right (ltb x y) (isRising (y ∷ xs)) t
+
+rising-after : (kept rest : List ℕ) → T (isRising (kept ++ rest)) → T (isRising rest)
+rising-after [] rest t = t
+rising-after (a ∷ kept) rest t = rising-after kept rest (rising-tail a (kept ++ rest) t)
+
+rising-above : (x : ℕ) (xs : List ℕ) {y : ℕ} → T (isRising (x ∷ xs)) → y ∈ xs → x < y
+rising-above x (z ∷ xs) t (List·Memᴰ·head e) = omega (arith, ltb→lt x z (and-left (ltb x z) (isRising (z ∷ xs)) t))
+rising-above x (z ∷ xs) t (List·Memᴰ·tail m) = omega (arith, ltb→lt x z (and-left (ltb x z) (isRising (z ∷ xs)) t), rising-above z xs (rising-tail x (z ∷ xs) t) m)
+
+rising-below : (kept rest : List ℕ) (x : ℕ) {y : ℕ} → T (isRising (kept ++ (x ∷ rest))) → y ∈ kept → y < x
+rising-below (a ∷ kept) rest x t (List·Memᴰ·head e) = omega (arith, rising-above a (kept ++ (x ∷ rest)) t (Memᴰ·append-right kept (List·Memᴰ·head {xs = rest} refl)))
+rising-below (a ∷ kept) rest x t (List·Memᴰ·tail m) = rising-below kept rest x (rising-tail a (kept ++ (x ∷ rest)) t) m
+
+abbrev pub lowerThan : ℕ → List ℕ → List ℕ
+lowerThan x l = those (λ y. ltb y x) l
+
+abbrev pub higherThan : ℕ → List ℕ → List ℕ
+higherThan x l = those (λ y. ltb x y) l
+
+abbrev pub without : ℕ → List ℕ → List ℕ
+without x l = those (λ y. not (eqb y x)) l
+
+module _ (c : Case) (w : List ℤ) (i : ℕ) where
+  -- with more scopes raised the values stay refuted
+  pub activeRefuted-more : (l m : List ℕ) → ((y : ℕ) → y ∈ l → y ∈ m) → T (activeRefuted c w i l) → T (activeRefuted c w i m)
+  activeRefuted-more l m sub t =
+      all-of (λ k. active c w i k 0 ⇒ refuted c w (isIn m) i k) (c .d) (λ k h. imp-intro (active c w i k 0) (refuted c w (isIn m) i k) (λ a.
+      refuted-raised c w (isIn l) (isIn m) i k (λ x g q. isIn-in m x .1 (sub x (isIn-in l x .0 q)))
+      (imp-elim (active c w i k 0) (refuted c w (isIn l) i k) (all-at (λ k. active c w i k 0 ⇒ refuted c w (isIn l) i k) (c .d) t k h) a)))
+
+  trimmed-from : (kept rest : List ℕ) {y : ℕ} → y ∈ trimmed c w i kept rest → y ∈ (kept ++ rest)
+  trimmed-from kept rest {y} = trimmed-has c w i (λ l. y ∈ l → y ∈ (kept ++ rest))
+      (λ k q x t p m. p (⊎-elim (λ n. Memᴰ·append-left (x ∷ q) n) (λ n. Memᴰ·append-right k (List·Memᴰ·tail n)) (List·Memᴰ·append-cases k m))) kept rest (λ m. m)
+
+  trimmed-keeps : (kept rest : List ℕ) {y : ℕ} → y ∈ kept → y ∈ trimmed c w i kept rest
+  trimmed-keeps kept [] m = m
+  trimmed-keeps kept (x ∷ rest) {y} m = if-cases (λ l. y ∈ trimmed c w i l rest) (activeRefuted c w i (kept ++ rest)) kept (kept ++ (x ∷ []))
+      (λ t. trimmed-keeps kept rest m) (λ t. trimmed-keeps (kept ++ (x ∷ [])) rest (Memᴰ·append-left (x ∷ []) m))
+
+  -- x is tried with `kept` before it and `rest` after it
+  module _ (kept rest : List ℕ) (x : ℕ) (rises : T (isRising (kept ++ (x ∷ rest)))) (l : List ℕ) where
+    abbrev tried : List ℕ
+    tried = lowerThan x (trimmed c w i l rest) ++ higherThan x (x ∷ rest)
+
+    tried-most : ((y : ℕ) → y ∈ kept → y ∈ l) → (y : ℕ) → y ∈ (kept ++ rest) → y ∈ tried
+    tried-most sub y m = ⊎-elim
+        (λ n. Memᴰ·append-left (higherThan x (x ∷ rest)) (those-in (λ y. ltb y x) (trimmed-keeps l rest (sub y n)) (simp tests (rising-below kept rest x rises n))))
+        (λ n. Memᴰ·append-right (lowerThan x (trimmed c w i l rest)) (those-in (λ y. ltb x y) (List·Memᴰ·tail n) (simp tests (rising-above x rest (rising-after kept (x ∷ rest) rises) n))))
+        (List·Memᴰ·append-cases kept m)
+
+    tried-least : ((y : ℕ) → y ∈ l → y < x → y ∈ kept) → (y : ℕ) → y ∈ tried → y ∈ (kept ++ rest)
+    tried-least back y m = ⊎-elim
+        (λ n. let (o, t) = in-those (λ y. ltb y x) (trimmed c w i l rest) n in
+        ⊎-elim (λ p. Memᴰ·append-left rest (back y p (simp tests at t))) (λ p. Memᴰ·append-right kept p) (List·Memᴰ·append-cases l (trimmed-from l rest o)))
+        (λ n. let (o, t) = in-those (λ y. ltb x y) (x ∷ rest) n in Memᴰ·append-right kept (later o (simp tests at t)))
+        (List·Memᴰ·append-cases (lowerThan x (trimmed c w i l rest)) m)
+      where
+        later : {y : ℕ} → y ∈ (x ∷ rest) → x < y → y ∈ rest
+        later (List·Memᴰ·head e) h = absurd (omega arith)
+        later (List·Memᴰ·tail n) h = n
+
+  abbrev KeptJustWhere : ℕ → List ℕ → List ℕ → Type 0
+  KeptJustWhere x l rest = (x ∈ l) ↔ T (not (activeRefuted c w i (lowerThan x l ++ higherThan x rest)))
+
+  trimmed-first : (kept rest : List ℕ) (x : ℕ) → T (isRising (kept ++ (x ∷ rest))) → KeptJustWhere x (trimmed c w i kept (x ∷ rest)) (x ∷ rest)
+  trimmed-first kept rest x t = if-cases (λ l. KeptJustWhere x (trimmed c w i l rest) (x ∷ rest)) (activeRefuted c w i (kept ++ rest)) kept (kept ++ (x ∷ []))
+      (λ a. (
+        λ m. absurd (not-less (⊎-elim (λ n. rising-below kept rest x t n) (λ n. rising-above x rest (rising-after kept (x ∷ rest) t) n) (List·Memᴰ·append-cases kept (trimmed-from kept rest m)))),
+        λ n. absurd (T-not (activeRefuted c w i (tried kept rest x t kept)) n
+            (activeRefuted-more (kept ++ rest) (tried kept rest x t kept) (tried-most kept rest x t kept (λ y m. m)) a)),
+      ))
+      (λ a. (
+        λ m. not-T (activeRefuted c w i (tried kept rest x t (kept ++ (x ∷ [])))) (λ u. T-not (activeRefuted c w i (kept ++ rest)) a
+            (activeRefuted-more (tried kept rest x t (kept ++ (x ∷ []))) (kept ++ rest) (tried-least kept rest x t (kept ++ (x ∷ [])) back) u)),
+        λ n. trimmed-keeps (kept ++ (x ∷ [])) rest (Memᴰ·append-right kept (List·Memᴰ·head {xs = []} refl)),
+      ))
+    where
+      not-less : x < x → ⊥
+      not-less h = omega arith
+
+      back : (y : ℕ) → y ∈ (kept ++ (x ∷ [])) → y < x → y ∈ kept
+      back y m h = ⊎-elim (λ n. n) (λ n. let e : y ≡ x = List·Memᴰ·eq-of-singleton n in absurd (omega arith)) (List·Memᴰ·append-cases kept m)
+
+  trimmed-upwards : (kept rest : List ℕ) (x : ℕ) → T (isRising (kept ++ rest)) → x ∈ rest → KeptJustWhere x (trimmed c w i kept rest) rest
+  trimmed-upwards kept (z ∷ rest) x t (List·Memᴰ·head e) = subst (λ (y : ℕ). KeptJustWhere y (trimmed c w i kept (z ∷ rest)) (z ∷ rest)) (sym e) (trimmed-first kept rest z t)
+  trimmed-upwards kept (z ∷ rest) x t (List·Memᴰ·tail m) =
+      rw (if-false (z ∷ higherThan x rest) (higherThan x rest) (ltb x z) (let h = rising-above z rest (rising-after kept (z ∷ rest) t) m in simp tests (omega arith)))
+      (if-cases (λ l. KeptJustWhere x (trimmed c w i l rest) rest) (activeRefuted c w i (kept ++ rest)) kept (kept ++ (z ∷ []))
+      (λ a. trimmed-upwards kept rest x (drop-rising kept rest z t) m)
+      (λ a. trimmed-upwards (kept ++ (z ∷ [])) rest x (rw (append-assoc kept (z ∷ []) rest) t) m))
+
+  -- upwards through the others: x is kept just where the kept below x and all others above it do not refute
+  pub kept-upwards : (x : ℕ) → x ∈ others c i → (x ∈ keptScopes c w i) ↔ T (not (activeRefuted c w i (lowerThan x (keptScopes c w i) ++ higherThan x (others c i))))
+  kept-upwards x = trimmed-upwards [] (others c i) x (others-rising c i)
+
+  pub kept-others : {x : ℕ} → x ∈ keptScopes c w i → x ∈ others c i
+  kept-others m = trimmed-from [] (others c i) m
+
+  -- without any one of them the kept do not refute
+  pub kept-needed : (x : ℕ) → x ∈ keptScopes c w i → T (not (activeRefuted c w i (without x (keptScopes c w i))))
+  kept-needed x m =
+      let kept : List ℕ = keptScopes c w i in
+      let n = kept-upwards x (kept-others m) .0 m in
+      not-T (activeRefuted c w i (without x kept)) (λ t. T-not (activeRefuted c w i (lowerThan x kept ++ higherThan x (others c i))) n
+      (activeRefuted-more (without x kept) (lowerThan x kept ++ higherThan x (others c i)) (λ y o. let (p, d) = in-those (λ y. not (eqb y x)) kept o in part y p (simp tests at d)) t))
+    where
+      part : (y : ℕ) → y ∈ keptScopes c w i → y ≢ x → y ∈ (lowerThan x (keptScopes c w i) ++ higherThan x (others c i))
+      part y p d = ⊎-elim
+          (λ t. Memᴰ·append-left (higherThan x (others c i)) (those-in (λ y. ltb y x) p t))
+          (λ t. Memᴰ·append-right (lowerThan x (keptScopes c w i)) (those-in (λ y. ltb x y) (kept-others p) (let h = simp tests at t in simp tests (omega arith))))
+          (either (ltb y x))
