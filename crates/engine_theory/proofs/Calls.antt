@@ -1,19 +1,19 @@
 -- The engine's calls on a lent table and output are the plain round and run. A call that is not made keeps table and output. A run to which
--- none of numbers 3 to 8 applies has the plain run's answer, rounds, weights and log, the upper bound of these weights, and an output of the
--- same length; otherwise it is refused before its first round. For every table, a run is the iteration of the round's call, and the bound
--- lines in its log are as many as its rounds. Assumes nothing.
+-- none of numbers 3 to 8 applies has the plain run's answer, rounds, weights and log, the upper bound of these weights, and the lent output
+-- with each round's lines written from its first byte; otherwise it is refused before its first round. For every table, a run is the iteration
+-- of the round's call, and the bound lines in its log are as many as its rounds. Assumes nothing.
 use mathlib.Core.Path.{_≡_, refl, sym, ap, ap₂, subst, _∙_}
 use mathlib.Core.Bool.{Bool, true, false, not}
 use mathlib.Core.Logic.{_↔_}
 use mathlib.Core.Option.{Option, none, some}
 use mathlib.Core.List.{List, [], _∷_, _++_, append-assoc, append-nil, List·Memᴰ·not-nil}
-use Prim.Native.Nat.{ℕ, zero, suc, _+_, _≤_}
+use Prim.Native.Nat.{ℕ, zero, suc, _+_, _-_, _≤_}
 use native.Mathlib.Nat.{mul-le-mul-right, mul-comm}
 use native.Mathlib.Omega.{arith}
 use lib.IntN.{ℤ}
 use lib.Dec.{T, ltb}
 use lib.ListN.{length, take, drop, length-append, length-drop, length-map}
-use lib.Seq.{take-append-seam}
+use lib.Seq.{take-append-seam, drop-append-add, drop-drop}
 use Rattle.integers.specs.Words.{if_then_else_, all, joined}
 use Rattle.integers.specs.Tests.{tests, if-false, and-left, and-right}
 use Rattle.integers.specs.Options.{none-some, some-inj}
@@ -144,13 +144,63 @@ module _ (r : Rules) (next : Case → List ℤ → Next) (c : Case) where
 
 -- ---- a run's call is the plain run
 
-pub record SameRun (c : Case) (q : RunOf) (room : ℕ) (u : RunCall) : Type 0 where
+-- each round's lines, one list for each round
+abbrev textsOf : Made → (List ℤ → List (List (List ℕ))) → List (List (List ℕ))
+textsOf settled go = []
+textsOf (refused x) go = []
+textsOf (made v lines) go = lines ∷ go v
+
+abbrev pub roundTexts : Rules → (Case → List ℤ → Next) → Case → ℕ → List ℤ → List (List (List ℕ))
+roundTexts r next c zero w = []
+roundTexts r next c (suc left) w = textsOf (makeNext r c w (next c w)) (λ v. roundTexts r next c left v)
+
+-- an output after each round's lines were written from its first byte, one round after another
+abbrev pub writtenOver : List (List (List ℕ)) → List ℕ → List ℕ
+writtenOver [] out = out
+writtenOver (lines ∷ rest) out = writtenOver rest (overwritten (joined lines) out)
+
+-- it begins with the last round's lines
+pub written-last : (before : List (List (List ℕ))) (lines : List (List ℕ)) (out : List ℕ) → writtenOver (before ++ (lines ∷ [])) out ≡ overwritten (joined lines) (writtenOver before out)
+written-last [] lines out = refl
+written-last (first ∷ before) lines out = written-last before lines (overwritten (joined first) out)
+
+-- behind what is written it keeps what it held
+drop-written : (n : ℕ) (bytes out : List ℕ) → length bytes ≤ n → drop n (overwritten bytes out) ≡ drop n out
+drop-written n bytes out h = let k = n - length bytes in let e : length bytes + k ≡ n = omega arith in
+    ap (λ (m : ℕ). drop m (overwritten bytes out)) (sym e) ∙ drop-append-add bytes (drop (length bytes) out) k ∙ drop-drop k (length bytes) out ∙ ap (λ (m : ℕ). drop m out) e
+
+module _ (r : Rules) (next : Case → List ℤ → Next) (c : Case) where
+  abbrev TextsOf : RunOf → ℕ → List (List ℕ) → List (List (List ℕ)) → Type 0
+  TextsOf q done log texts = (q .log ≡ log ++ joined texts) × (q .rounds ≡ done + length texts)
+
+  texts-from : (left done : ℕ) (w : List ℤ) (log : List (List ℕ)) → TextsOf (runFrom r next c left done w log) done log (roundTexts r next c left w)
+  texts-from zero done w log = (sym (append-nil log), omega arith)
+  texts-from (suc left) done w log = go (makeNext r c w (next c w)) (λ v l. texts-from left (suc done) v l)
+    where
+      go : (m : Made) → ((v : List ℤ) (l : List (List ℕ)) → TextsOf (runFrom r next c left (suc done) v l) (suc done) l (roundTexts r next c left v))
+          → TextsOf (onward m done w log (λ v lines. runFrom r next c left (suc done) v lines)) done log (textsOf m (λ v. roundTexts r next c left v))
+      go settled on = (sym (append-nil log), omega arith)
+      go (refused x) on = (sym (append-nil log), omega arith)
+      go (made v lines) on = let (e, n) = on v (log ++ lines) in (e ∙ append-assoc log lines (joined (roundTexts r next c left v)), omega arith)
+
+  -- together they are the plain run's log, and as many as its rounds
+  pub texts-joined : (limit : ℕ) (w : List ℤ) → joined (roundTexts r next c limit w) ≡ run r next c limit w .log
+  texts-joined limit w = sym (texts-from limit 0 w [] .0)
+
+  pub texts-count : (limit : ℕ) (w : List ℤ) → length (roundTexts r next c limit w) ≡ run r next c limit w .rounds
+  texts-count limit w = omega (arith, texts-from limit 0 w [] .1)
+
+-- q is the plain run, texts are its rounds' lines, u is the call on a lent output
+pub record SameRun (r : Rules) (c : Case) (q : RunOf) (texts : List (List (List ℕ))) (lent : List ℕ) (u : RunCall) : Type 0 where
   pub answer : u .run .answer ≡ q .answer
   pub rounds : u .run .rounds ≡ q .rounds
   pub bound : u .run .bound ≡ upperBound c (q .weights)
   pub table : u .table ≡ q .weights
   pub log : u .log ≡ joined (q .log)
-  pub out-length : length (u .out) ≡ room
+  pub out : u .out ≡ writtenOver texts lent
+  pub out-length : length (u .out) ≡ length lent
+  -- behind what one round may need
+  pub out-rest : drop (roundBytes r c) (u .out) ≡ drop (roundBytes r c) lent
 
 module _ {r : Rules} {next : Case → List ℤ → Next} {c : Case} (coherent : Coherent r) (lawful : Lawful r next c) where
   module _ {w v : List ℤ} {moves : List Move} (m : RoundFrom r next c w moves v) where
@@ -168,52 +218,62 @@ module _ {r : Rules} {next : Case → List ℤ → Next} {c : Case} (coherent : 
     kept-length out h = simp (length-append, length-drop) (omega (arith, round-short))
 
   stops : (a : RunAnswer) (done : ℕ) (w : List ℤ) (out : List ℕ) (log : List (List ℕ)) → boundAt r next c a w ≡ upperBound c w
-      → SameRun c (stopped a done w log) (length out) (stopRun r next c a done w out (joined log))
-  stops a done w out log e = record { answer = refl; rounds = refl; bound = e; table = refl; log = refl; out-length = refl }
+      → SameRun r c (stopped a done w log) [] out (stopRun r next c a done w out (joined log))
+  stops a done w out log e = record { answer = refl; rounds = refl; bound = e; table = refl; log = refl; out = refl; out-length = refl; out-rest = refl }
 
   calls-from : (left done : ℕ) (w : List ℤ) (out : List ℕ) (log : List (List ℕ)) → Handed r (workingWeight r) c w → roundBytes r c ≤ length out
-      → SameRun c (runFrom r next c left done w log) (length out) (runCallFrom r next c left done w out (joined log))
+      → SameRun r c (runFrom r next c left done w log) (roundTexts r next c left w) out (runCallFrom r next c left done w out (joined log))
   calls-from zero done w out log h long =
-      subst (λ (u : RoundCall). SameRun c (stopped (atLimit (next c w)) done w log) (length out) (stopRun r next c (answerAtLimit (u .answer)) done w out (joined log)))
+      subst (λ (u : RoundCall). SameRun r c (stopped (atLimit (next c w)) done w log) [] out (stopRun r next c (answerAtLimit (u .answer)) done w out (joined log)))
       (sym (call-taken r next c w out (taken-iff r next c w out .1 (h, long)))) (go (next c w))
     where
-      go : (n : Next) → SameRun c (stopped (atLimit n) done w log) (length out) (stopRun r next c (answerAtLimit (roundMade r next c w out (makeNext r c w n) .answer)) done w out (joined log))
+      go : (n : Next) → SameRun r c (stopped (atLimit n) done w log) [] out (stopRun r next c (answerAtLimit (roundMade r next c w out (makeNext r c w n) .answer)) done w out (joined log))
       go nothing = stops RunAnswer.Settled done w out log refl
       go (round moves) = leads (afterMoves r c moves w)
         where
-          leads : (o : Option (List ℤ)) → SameRun c (stopped RunAnswer.Limit done w log) (length out) (stopRun r next c (answerAtLimit (roundMade r next c w out (madeOf r c moves o) .answer)) done w out (joined log))
+          leads : (o : Option (List ℤ)) → SameRun r c (stopped RunAnswer.Limit done w log) [] out (stopRun r next c (answerAtLimit (roundMade r next c w out (madeOf r c moves o) .answer)) done w out (joined log))
           leads none = stops RunAnswer.Limit done w out log refl
           leads (some v) = stops RunAnswer.Limit done w out log refl
   calls-from (suc left) done w out log h long =
-      subst (λ (u : RoundCall). SameRun c (runFrom r next c (suc left) done w log) (length out) (goOn r next c (u .answer) u done w out (joined log) rest))
+      subst (λ (u : RoundCall). SameRun r c (runFrom r next c (suc left) done w log) (roundTexts r next c (suc left) w) out (goOn r next c (u .answer) u done w out (joined log) rest))
       (sym (call-taken r next c w out (taken-iff r next c w out .1 (h, long)))) (go (next c w) refl (λ v out log. calls-from left (suc done) v out log))
     where
       rest : List ℤ → List ℕ → List ℕ → RunCall
       rest v bytes log = runCallFrom r next c left (suc done) v bytes log
 
+      Same : Made → RunCall → Type 0
+      Same m u = SameRun r c (onward m done w log (λ v lines. runFrom r next c left (suc done) v lines)) (textsOf m (λ v. roundTexts r next c left v)) out u
+
       go : (n : Next) → next c w ≡ n → ((v : List ℤ) (out : List ℕ) (log : List (List ℕ)) → Handed r (workingWeight r) c v → roundBytes r c ≤ length out
-          → SameRun c (runFrom r next c left (suc done) v log) (length out) (runCallFrom r next c left (suc done) v out (joined log)))
-          → SameRun c (onward (makeNext r c w n) done w log (λ v lines. runFrom r next c left (suc done) v lines)) (length out)
-          (goOn r next c (roundMade r next c w out (makeNext r c w n) .answer) (roundMade r next c w out (makeNext r c w n)) done w out (joined log) rest)
+          → SameRun r c (runFrom r next c left (suc done) v log) (roundTexts r next c left v) out (runCallFrom r next c left (suc done) v out (joined log)))
+          → Same (makeNext r c w n) (goOn r next c (roundMade r next c w out (makeNext r c w n) .answer) (roundMade r next c w out (makeNext r c w n)) done w out (joined log) rest)
       go nothing e on = stops RunAnswer.Settled done w out log refl
       go (round moves) e on = leads (afterMoves r c moves w) refl
         where
-          leads : (o : Option (List ℤ)) → afterMoves r c moves w ≡ o → SameRun c (onward (madeOf r c moves o) done w log (λ v lines. runFrom r next c left (suc done) v lines)) (length out)
-              (goOn r next c (roundMade r next c w out (madeOf r c moves o) .answer) (roundMade r next c w out (madeOf r c moves o)) done w out (joined log) rest)
+          leads : (o : Option (List ℤ)) → afterMoves r c moves w ≡ o
+              → Same (madeOf r c moves o) (goOn r next c (roundMade r next c w out (madeOf r c moves o) .answer) (roundMade r next c w out (madeOf r c moves o)) done w out (joined log) rest)
           leads none f = stops (RunAnswer.Refused LeavesRange) done w out log refl
           leads (some v) f =
               let m : RoundFrom r next c w moves v = record { handed = h; comes = e; leads = f } in
               let lines : List (List ℕ) = roundText r c moves v in
               let n : length (overwritten (joined lines) out) ≡ length out = kept-length m out long in
               let wrote = joined-append log lines ∙ ap (λ (l : List ℕ). joined log ++ l) (sym (take-append-seam (joined lines) (drop (length (joined lines)) out))) in
-              subst (λ (k : ℕ). SameRun c (runFrom r next c left (suc done) v (log ++ lines)) k (rest v (overwritten (joined lines) out) (joined log ++ take (length (joined lines)) (overwritten (joined lines) out)))) n
-              (subst (λ (l : List ℕ). SameRun c (runFrom r next c left (suc done) v (log ++ lines)) (length (overwritten (joined lines) out)) (rest v (overwritten (joined lines) out) l)) wrote
-              (on v (overwritten (joined lines) out) (log ++ lines) (handed-on coherent lawful m) (omega arith)))
+              let q = on v (overwritten (joined lines) out) (log ++ lines) (handed-on coherent lawful m) (omega arith) in
+              subst (λ (l : List ℕ). Same (made v lines) (rest v (overwritten (joined lines) out) l)) wrote (record {
+                answer = q .answer;
+                rounds = q .rounds;
+                bound = q .bound;
+                table = q .table;
+                log = q .log;
+                out = q .out;
+                out-length = q .out-length ∙ n;
+                out-rest = q .out-rest ∙ drop-written (roundBytes r c) (joined lines) out (round-short m);
+              })
 
   module _ (limit : ℕ) (w : List ℤ) (out : List ℕ) where
     -- where none of numbers 3 to 8 applies
     module _ (taken : engineRefusal r next c w out ≡ none) where
-      pub same-run : SameRun c (run r next c limit w) (length out) (runCall r next c limit w out)
+      pub same-run : SameRun r c (run r next c limit w) (roundTexts r next c limit w) out (runCall r next c limit w out)
       unfolding runCall
       same-run = let (h, long) = taken-iff r next c w out .0 taken in calls-from limit 0 w out [] h long
 

@@ -11,6 +11,7 @@ use lib.IntN.{ℤ, pos, _+ℤ_}
 use lib.Dec.{T}
 use lib.Signed.{_≤ℤ_}
 use lib.ListN.{length, take}
+use Rattle.integers.specs.Words.{joined}
 use Rattle.definitions.specs.declared.Case.{Case}
 use Rattle.definitions.specs.declared.Refusal.{Refusal}
 use Rattle.definitions.specs.declared.Round.{Round}
@@ -28,7 +29,7 @@ use Rattle.theory.proofs.Validity.{Handed}
 use Rattle.theory.proofs.Replays.{accepted-iff, keeps-iff, total-kept, bound-sound, rounds-few, handed-after}
 use Rattle.theory.proofs.Rounds.{MoveKinds, standard-kinds}
 use Rattle.engine_theory.proofs.Runs.{boundLines, engine-lawful, engine-free, run-settled, run-limit, run-log-taken, run-log-answers, run-log-ends, run-never-refused, run-settles, run-tallied, run-ends, ends-within}
-use Rattle.engine_theory.proofs.Calls.{preceded, run-made, run-settled-first, run-refused-first, run-no-round, SameRun, taken-iff, same-run, call-lines, call-bound-lines}
+use Rattle.engine_theory.proofs.Calls.{preceded, run-made, run-settled-first, run-refused-first, run-no-round, roundTexts, texts-joined, texts-count, SameRun, taken-iff, same-run, call-lines, call-bound-lines}
 
 -- a list is accepted if the replay gives no number at any of its lines or at its end
 pub record Accepted (r : Rules) (c : Case) (w : List ℤ) (ts : List (List ℕ)) : Type 0 where
@@ -47,10 +48,13 @@ pub record LinesTrusted (r : Rules) (c : Case) (w : List ℤ) (ts : List (List �
   -- "and the rounds number no more than the starting ceiling minus any plan's starting total" (L6)
   pub rounds-few : (p : List ℕ) → T (isAssignment c p) → (pos (s .rounds) +ℤ objective c w p) ≤ℤ upperBound c w
 
--- "For every limit": u is the engine's run on a table of the starting weights and an output of so many bytes
-pub record RunTrusted (r : Rules) (c : Case) (w : List ℤ) (limit room : ℕ) (u : RunCall) : Type 0 where
-  -- "a run from the starting weights makes the rounds and gives the answer of document 01's run" (L7)
-  pub same : SameRun c (run r engineNext c limit w) room u
+-- "For every limit": u is the engine's run on a table of the starting weights and a lent output
+pub record RunTrusted (r : Rules) (c : Case) (w : List ℤ) (limit : ℕ) (lent : List ℕ) (u : RunCall) : Type 0 where
+  -- "a run from the starting weights makes the rounds and gives the answer of document 01's run" (L7), "each writing its lines from the
+  -- output's first byte; the run's log is all these lines joined in order" (document 01)
+  pub same : SameRun r c (run r engineNext c limit w) (roundTexts r engineNext c limit w) lent u
+  pub texts-log : joined (joined (roundTexts r engineNext c limit w)) ≡ u .log
+  pub texts-count : length (roundTexts r engineNext c limit w) ≡ u .run .rounds
   -- it answers settled just where every variable has an active value with a supported family, even at limit 0; and limit only after exactly
   -- that many rounds in a state that is not settled (L9a); it is never refused (L10)
   pub settled : u .run .answer ≡ RunAnswer.Settled ↔ Settled c (u .table)
@@ -101,7 +105,7 @@ engine-iterates {r} coherent c = record {
 pub record PlainDemand3 (r : Rules) (c : Case) (w : List ℤ) : Type 0 where
   pub any-lines : (ts : List (List ℕ)) → LinesTrusted r c w ts (after r (fresh c w) ts)
   -- "In demand 3 a run is lent what number 4 asks" (document 01)
-  pub any-run : (limit : ℕ) (out : List ℕ) → roundBytes r c ≤ length out → RunTrusted r c w limit (length out) (runCall r engineNext c limit w out)
+  pub any-run : (limit : ℕ) (out : List ℕ) → roundBytes r c ≤ length out → RunTrusted r c w limit out (runCall r engineNext c limit w out)
   -- a run from any table
   pub any-table : RunIterates r c
 
@@ -122,7 +126,7 @@ module _ {r : Rules} (coherent : Coherent r) (kinds : MoveKinds r) (c : Case) (w
     rounds-few = rounds-few r c w t ts;
   }
 
-  run-trusted : (limit : ℕ) (out : List ℕ) → roundBytes r c ≤ length out → RunTrusted r c w limit (length out) (runCall r engineNext c limit w out)
+  run-trusted : (limit : ℕ) (out : List ℕ) → roundBytes r c ≤ length out → RunTrusted r c w limit out (runCall r engineNext c limit w out)
   run-trusted limit out long =
       let lawful = engine-lawful coherent c in
       let free = engine-free {w₀ = w} coherent t in
@@ -140,6 +144,8 @@ module _ {r : Rules} (coherent : Coherent r) (kinds : MoveKinds r) (c : Case) (w
       ap (hasPart (r .amountWidth)) (same .log) ∙ no-part (r .amountWidth) (run r engineNext c limit w .log) (run-tallied coherent lawful limit w h .kept .whole) in
       record {
         same = same;
+        texts-log = ap joined (texts-joined r engineNext c limit w) ∙ sym (same .log);
+        texts-count = texts-count r engineNext c limit w ∙ sym (same .rounds);
         settled = rw (same .answer, same .table) (run-settled r c (h .shape) limit w);
         limited = rw (same .answer, same .rounds, same .table) (run-limit r c (h .shape) limit w);
         unrefused = rw (same .answer) (run-never-refused coherent kinds lawful w t free limit);
