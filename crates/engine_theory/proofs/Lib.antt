@@ -5,4 +5,5 @@ pub mod Fall
 pub mod InRange
 pub mod Runs
 pub mod Calls
+pub mod Round
 pub mod Demand3

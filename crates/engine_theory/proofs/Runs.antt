@@ -42,7 +42,7 @@ use Rattle.engine_theory.proofs.Gaps.{amount-some, amount-most, next-no
 use Rattle.engine_theory.proofs.Fall.{enginePressed, fall}
 use Rattle.engine_theory.proofs.InRange.{Reached, start, bound-spread, next-made}
 
-differ : {A : Type 0} → _≡_ {A = ℕ} 0 1 → A
+pub differ : {A : Type 0} → _≡_ {A = ℕ} 0 1 → A
 differ e = absurd (omega arith)
 
 -- ---- how a run ends, from any table
