@@ -1,25 +1,26 @@
--- Everything rests on the case's own places alone: two tables that agree there have the same objectives and upper bound, refute the same
--- values, and are changed in the same way by a move. Assumes nothing.
-use mathlib.Core.Path.{_≡_, refl, ap, ap₂, subst}
+-- Two tables that agree on the case's own places have the same objectives and upper bound, refute the same values, keep the same range of
+-- weights, and are changed in the same way by a move. Assumes nothing.
+use mathlib.Core.Path.{_≡_, refl, sym, ap, ap₂, subst}
 use mathlib.Core.Bool.{Bool, not, _&&_}
 use mathlib.Core.Logic.{_↔_, _⊎_, inl, inr}
 use mathlib.Core.List.{List}
-use Prim.Native.Nat.{ℕ, _<_}
+use Prim.Native.Nat.{ℕ, _<_, _≤_}
 use native.Mathlib.Omega.{arith}
 use lib.IntN.{ℤ, pos, negℤ, _+ℤ_}
 use lib.Dec.{T, eqb, eqb→eq}
-use lib.ListN.{getD}
+use lib.ListN.{getD, length}
 use Rattle.integers.specs.Words.{isIn, _⇒_}
-use Rattle.integers.specs.Tests.{either, is-false}
+use Rattle.integers.specs.Tests.{either, is-false, same-test}
 use Rattle.integers.specs.Lists.{in-below, all-same}
 use Rattle.integers.specs.Sums.{sum-cong}
 use Rattle.definitions.specs.declared.Case.{Case}
 use Rattle.definitions.specs.Case.{scopeCount, scopes, ownLength, weight, isAssignment, objective, greatest, upperBound}
+use Rattle.definitions.specs.Valid.{allWeights}
 use Rattle.definitions.specs.Moves.{Move, shift, press, onlyWhere, activeValues, activeRefuted, difference, moved}
 use Rattle.definitions.proofs.CaseLaws.{weight-same, greatest-same, active-same}
 use Rattle.definitions.proofs.Refutation.{refuted-same}
 use Rattle.theory.proofs.Shape.{Shape}
-use Rattle.theory.proofs.Places.{IsTuple, tuple-at, weight-plus}
+use Rattle.theory.proofs.Places.{IsTuple, tuple-at, weight-plus, all-weights}
 use Rattle.theory.proofs.Totals.{objectiveOf-cong}
 
 -- the own places are those of the tuples
@@ -40,6 +41,12 @@ module _ (c : Case) (w u : List ℤ) (own : (p : ℕ) → p < ownLength c → ge
   pub activeRefuted-same : (i : ℕ) → i < c .n → (raised : List ℕ) → activeRefuted c w i raised ≡ activeRefuted c u i raised
   activeRefuted-same i h raised = all-same (c .d) (λ k g.
       ap₂ _⇒_ (active-same c w u own i (omega arith) k 0 g (omega arith)) (refuted-same c w u (isIn raised) (isIn raised) i k own (λ x h. refl)))
+
+  -- the test of all weights, as of the starting or the working range
+  pub range-same : (range : ℤ → Bool) → ownLength c ≤ length w → ownLength c ≤ length u → allWeights range c w ≡ allWeights range c u
+  range-same range g h = same-test _ _
+      (λ t. all-weights c range u h .1 (λ x k l i. subst (λ (z : ℤ). T (range z)) (own-places c w u .1 own x k l i) (all-weights c range w g .0 t x k l i)))
+      (λ t. all-weights c range w g .1 (λ x k l i. subst (λ (z : ℤ). T (range z)) (sym (own-places c w u .1 own x k l i)) (all-weights c range u h .0 t x k l i)))
 
   pub difference-same : (move : Move) (x k l : ℕ) → IsTuple c x k l → difference c w move x k l ≡ difference c u move x k l
   difference-same (shift e end v a) x k l t = refl
