@@ -1,4 +1,5 @@
--- Demand 3 of the library's replay, for every valid case and every list of byte strings, whoever wrote them: one statement. Assumes nothing.
+-- The replay's half of demand 3, for every valid case and every list of byte strings, whoever wrote them: one statement. The run's half is in
+-- engine_theory, Demand3. Assumes nothing.
 use mathlib.Core.Path.{_≡_, refl, sym, ap, subst, _∙_}
 use mathlib.Core.Logic.{_↔_}
 use mathlib.Core.Option.{Option, none, some}
@@ -27,8 +28,9 @@ pub record Accepted (r : Rules) (c : Case) (w : List ℤ) (ts : List (List ℕ))
   pub each : lineAnswers r (begun r c w) ts ≡ map (λ t. Outcome.Done) ts
   pub end : endReplay r c (afterLines r (begun r c w) ts .replay) ≡ Outcome.Done
 
--- Demand 3, in the tender's words. Lines are handed over one after another, the first with the starting weights and a fresh record, each later
--- one with the table and the record that the last one left.
+-- The half of demand 3 that is about the replay, in the tender's words; what the tender goes on to say of a run is not in it. Lines are handed
+-- over one after another, the first with the starting weights and a fresh record, each later one with the table and the record that the last
+-- one left.
 pub record ReplayFold (r : Rules) (c : Case) (w : List ℤ) : Type 0 where
   -- "for .. every list of lines, whoever wrote them, refused ones included, handed to the replay from the starting weights: each line's answer,"
   pub each-answer : (ts : List (List ℕ)) → lineAnswers r (begun r c w) ts ≡ map outcomeOf (answers r (fresh c w) ts)

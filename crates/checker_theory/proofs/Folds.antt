@@ -5,11 +5,11 @@ use mathlib.Core.Bool.{Bool, true, false, not, _&&_, _||_}
 use mathlib.Core.Logic.{⊎-elim}
 use mathlib.Core.Option.{Option, none, some}
 use mathlib.Core.List.{List, [], _∷_, _++_, map}
-use Prim.Native.Nat.{ℕ, _-_, _≤_, _<_}
+use Prim.Native.Nat.{ℕ, _-_, _≤_}
 use native.Mathlib.Omega.{arith}
 use lib.IntN.{ℤ, pos, negsuc, natAbs}
 use lib.Dec.{T, eqb, lt→ltb}
-use lib.ListN.{length, set}
+use lib.ListN.{set}
 use Rattle.integers.specs.Words.{if_then_else_, last, isSome, withinZ}
 use Rattle.integers.specs.Tests.{tests, either, is-true, is-false, not-eqb-iff, and-iff, not-or-iff, not-not-iff, and-left, and-right, if-false}
 use Rattle.integers.specs.Options.{some-inj, none-some, last-append}
@@ -27,9 +27,8 @@ use Rattle.definitions.specs.Moves.{leavesRange}
 use Rattle.definitions.specs.Lines.{readLine, notDue, isKind, outside}
 use Rattle.definitions.specs.Replay.{Held, State, fresh, afterMove, holding, afterBound, kindsDue, shiftOf, heldOf, shiftTests, pressTests, boundTests, isLast, testsOfKind, lineTests, taken, answered, stepUnrefused, step, after, answers, atEnd}
 use Rattle.checker.specs.Checker.{Between, StepCall, standingOf, Asked, dueKinds, isHeld, noneRaised, dueOut, recordOut, freshReplay, ofShift, ofPress, ofBound, ofKind, stepBy, stepTests, stepLine, stepStanding, stepReplay, endStanding, endReplay, stepBetween, afterLines, lineAnswers}
-use Rattle.theory.proofs.Places.{all-weights}
 use Rattle.theory.proofs.Validity.{none-applies, Handed, handed}
-use Rattle.theory.proofs.Replays.{inside, Quiet, Sound, sound-step, sound-fresh, case-after, starting-after, in-range-after, handed-after, none-iff}
+use Rattle.theory.proofs.Replays.{inside, Quiet, Sound, sound-step, sound-fresh, case-after, handed-step, handed-after, none-iff}
 use Rattle.checker_theory.proofs.Agrees.{dueOf, recordOf, callOf, Marked, MarkedIn, Agrees, marked-begun, marks-raised, marked-raised, refuted-alike, press-alike, above-alike}
 
 -- ---- the numbers of what is handed over never apply
@@ -162,24 +161,6 @@ module _ {r : Rules} {s : State} {bytes : List ℕ} (placed : scopesAtMost r ≤
       go (some x) e = (bytes, rw e, k)
 
 -- ---- every line keeps the agreement, and its answer is the plain replay's
-
--- a line keeps what is handed over
-handed-step : {r : Rules} {s : State} → Sound r s → Handed r (workingWeight r) (s .case) (s .weights) → (t : List ℕ) → Handed r (workingWeight r) (step r s t .case) (step r s t .weights)
-handed-step {r} {s} v h t =
-    let e = case-after r s (t ∷ []) in
-    let f = starting-after r s (t ∷ []) in
-    let l : length (step r s t .weights) ≡ length (s .weights) = sound-step r s t v .long ∙ ap length f ∙ sym (v .long) in
-    let n = h .long in
-    rw e (record {
-      variables-most = h .variables-most;
-      values-most = h .values-most;
-      edges-most = h .edges-most;
-      long = l ∙ n;
-      shape = h .shape;
-      apart = h .apart;
-      in-range = all-weights (s .case) (workingWeight r) (step r s t .weights) (omega arith) .0
-          (rw e at (in-range-after r s (t ∷ []) (all-weights (s .case) (workingWeight r) (s .weights) (omega arith) .1 (h .in-range))));
-    })
 
 module _ {r : Rules} {s : State} {b : Between} (a : Agrees r s b) where
   step-is : (t : List ℕ) → Reaches r (stepReplay r (b .case) (b .table) (b .replay) t) (step r s t)

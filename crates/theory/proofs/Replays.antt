@@ -32,7 +32,7 @@ use Rattle.theory.proofs.Places.{all-weights, plus-length}
 use Rattle.theory.proofs.Totals.{bound-above}
 use Rattle.theory.proofs.Shifts.{shift-moves}
 use Rattle.theory.proofs.Presses.{press-moves}
-use Rattle.theory.proofs.Validity.{none-applies, Handed, valid-facts, all-working}
+use Rattle.theory.proofs.Validity.{none-applies, Handed, valid-facts, working-weights}
 
 -- ---- what one line, of any bytes, can do to a state
 
@@ -251,6 +251,28 @@ module _ (r : Rules) where
       one (presses h raised e f i) t = i
       one (bounds z h e l) t = t
 
+-- ---- a table that every call takes, in a sound state, stays one
+
+pub handed-step : {r : Rules} {s : State} → Sound r s → Handed r (workingWeight r) (s .case) (s .weights) → (t : List ℕ) → Handed r (workingWeight r) (step r s t .case) (step r s t .weights)
+handed-step {r} {s} v h t =
+    let e = case-after r s (t ∷ []) in
+    let f = starting-after r s (t ∷ []) in
+    let l : length (step r s t .weights) ≡ length (s .weights) = sound-step r s t v .long ∙ ap length f ∙ sym (v .long) in
+    let n = h .long in
+    rw e (record {
+      variables-most = h .variables-most;
+      values-most = h .values-most;
+      edges-most = h .edges-most;
+      long = l ∙ n;
+      shape = h .shape;
+      apart = h .apart;
+      in-range = all-weights (s .case) (workingWeight r) (step r s t .weights) (omega arith) .0
+          (rw e at (in-range-after r s (t ∷ []) (all-weights (s .case) (workingWeight r) (s .weights) (omega arith) .1 (h .in-range))));
+    })
+
+pub handed-list : {r : Rules} {s : State} → Sound r s → Handed r (workingWeight r) (s .case) (s .weights) → (ts : List (List ℕ)) → Handed r (workingWeight r) (after r s ts .case) (after r s ts .weights)
+handed-list {r} {s} v h ts = after-keeps r (λ u. Sound r u × Handed r (workingWeight r) (u .case) (u .weights)) (λ u t (a, b). (sound-step r u t a, handed-step a b t)) s ts (v, h) .1
+
 -- ---- a valid case
 
 module _ (r : Rules) (c : Case) (w : List ℤ) (t : T (valid r c w)) where
@@ -268,6 +290,19 @@ module _ (r : Rules) (c : Case) (w : List ℤ) (t : T (valid r c w)) where
         press-held = λ h e. absurd (none-some e);
       }
 
+  handed-fresh : Coherent r → Handed r (workingWeight r) c w
+  handed-fresh coherent =
+      let h = valid-facts r c w t in
+      record {
+        variables-most = h .variables-most;
+        values-most = h .values-most;
+        edges-most = h .edges-most;
+        long = h .long;
+        shape = h .shape;
+        apart = h .apart;
+        in-range = working-weights coherent h;
+      }
+
   module _ (ts : List (List ℕ)) where
     pub total-kept : (p : List ℕ) → T (isAssignment c p) → objective c w p ≤ℤ objective c (after r (fresh c w) ts .weights) p
     total-kept p a = rw (case-after r (fresh c w) ts, starting-after r (fresh c w) ts) at (sound-after r (fresh c w) ts sound-fresh .kept p (rw (case-after r (fresh c w) ts) a))
@@ -280,19 +315,7 @@ module _ (r : Rules) (c : Case) (w : List ℤ) (t : T (valid r c w)) where
 
     -- the working table is one that every call takes
     pub handed-after : Coherent r → Handed r (workingWeight r) c (after r (fresh c w) ts .weights)
-    handed-after coherent =
-        let h = valid-facts r c w t in
-        let e = (rw (starting-after r (fresh c w) ts) at (sound-after r (fresh c w) ts sound-fresh .long)) ∙ h .long in
-        record {
-          variables-most = h .variables-most;
-          values-most = h .values-most;
-          edges-most = h .edges-most;
-          long = e;
-          shape = h .shape;
-          apart = h .apart;
-          in-range = all-weights c (workingWeight r) (after r (fresh c w) ts .weights) (omega arith) .0
-              (rw (case-after r (fresh c w) ts) at (in-range-after r (fresh c w) ts (all-working coherent h)));
-        }
+    handed-after coherent = rw (case-after r (fresh c w) ts) at (handed-list sound-fresh (handed-fresh coherent) ts)
 
 -- ---- numbers
 
