@@ -1,32 +1,35 @@
 -- Demand 3 of the plain replay, whoever wrote the lines: after any list each objective is at least its starting one (L4), the upper bound is
 -- at least every starting objective (L5), and rounds number at most the upper bound at the start less any starting objective (L6). What is
--- kept from line to line is said of the state alone. Assumes nothing.
+-- kept from line to line is said of the state alone; a line keeps the weights or makes one move, and every move so made is allowed.
+-- Assumes nothing.
 use mathlib.Core.Path.{_≡_, refl, sym, ap, ap₂, subst, _∙_}
 use mathlib.Core.Bool.{Bool, true, false, not, _&&_, _||_}
-use mathlib.Core.Logic.{_↔_}
+use mathlib.Core.Logic.{_≢_, _↔_, _⊎_, inl, inr, ⊎-elim}
 use mathlib.Core.Option.{Option, none, some}
-use mathlib.Core.List.{List, [], _∷_, map}
-use Prim.Native.Nat.{ℕ, _≤_, _<_}
+use mathlib.Core.List.{List, [], _∷_, _++_, map, List·Memᴰ·append-cases, List·Memᴰ·eq-of-singleton, List·Memᴰ·not-nil}
+use Prim.Native.Nat.{ℕ, _-_, _≤_, _<_}
 use native.Mathlib.Omega.{arith}
 use lib.IntN.{ℤ, pos, negsuc, natAbs, _+ℤ_}
-use lib.Dec.{T, ltb→lt}
+use lib.Dec.{T, ltb, ltb→lt, lt→ltb}
 use lib.Signed.{_≤ℤ_, _<ℤ_}
-use lib.ListN.{length}
-use Rattle.integers.specs.Words.{if_then_else_, all, isSome}
-use Rattle.integers.specs.Tests.{false-is, and-iff, not-or-iff, not-not-iff, if-cases, and-right}
+use lib.ListN.{length, length-append}
+use Rattle.integers.specs.Words.{if_then_else_, all, last, isSome}
+use Rattle.integers.specs.Tests.{false-is, and-iff, not-or-iff, not-not-iff, not-leb-iff, not-eqb-iff, if-cases, and-intro, and-left, and-right}
 use Rattle.integers.specs.Options.{some-inj, none-some}
 use Rattle.integers.specs.Linear.{flat, zs, _▸_, T-eq, ≤ℤ-trans, ≤ℤ-of-eq}
+use Rattle.integers.specs.Lists.{_∈_}
 use Rattle.definitions.specs.declared.Case.{Case}
 use Rattle.definitions.specs.declared.Line.{Line}
 use Rattle.definitions.specs.declared.Refusal.{Refusal}
 use Rattle.definitions.specs.declared.Refusal.the-variants.{NotInColumns, CutShort}
 use Rattle.definitions.specs.Rules.{Rules, Coherent}
 use Rattle.definitions.specs.Refusals.{Test, firstOf}
-use Rattle.definitions.specs.Case.{ownLength, isAssignment, objective, upperBound}
+use Rattle.definitions.specs.Case.{scopeCount, ownLength, isAssignment, objective, upperBound}
 use Rattle.definitions.specs.Valid.{workingWeight, allWeights, valid}
-use Rattle.definitions.specs.Moves.{Move, shift, press, pressAmount, activeRefuted, difference, moved, leavesRange}
+use Rattle.definitions.specs.Moves.{Move, shift, press, shiftAmount, pressAmount, activeRefuted, difference, moved, leavesRange}
 use Rattle.definitions.specs.Lines.{readLine, notDue, isKind, outside}
-use Rattle.definitions.specs.Replay.{Held, State, fresh, afterMove, holding, afterBound, refused, kindsDue, shiftOf, shiftTests, pressTests, heldOf, raising, isLast, pressOf, raiseTests, boundTests, testsOfKind, lineTests, taken, answered, stepUnrefused, step, after, answers, atEnd, keepsRules}
+use Rattle.definitions.specs.Calls.{isRising}
+use Rattle.definitions.specs.Replay.{Held, State, fresh, afterMove, holding, afterBound, refused, kindsDue, shiftOf, shiftTests, pressTests, heldOf, raising, isLast, pressOf, notAbove, raiseTests, boundTests, testsOfKind, lineTests, taken, answered, stepUnrefused, step, after, answers, atEnd, keepsRules}
 use Rattle.theory.proofs.Shape.{Shape}
 use Rattle.theory.proofs.Places.{all-weights, plus-length}
 use Rattle.theory.proofs.Totals.{bound-above}
@@ -34,23 +37,53 @@ use Rattle.theory.proofs.Shifts.{shift-moves}
 use Rattle.theory.proofs.Presses.{press-moves}
 use Rattle.theory.proofs.Validity.{none-applies, Handed, valid-facts, working-weights}
 
+-- ---- moves that are allowed
+
+pub record AllowedShift (r : Rules) (c : Case) (w : List ℤ) (e end v : ℕ) (a : ℤ) : Type 0 where
+  pub edge : e < c .m
+  pub side : end < 2
+  pub value : v < c .d
+  pub amount : T (shiftAmount r a)
+  pub in-range : T (not (leavesRange r c (moved c (shift e end v a) w)))
+
+pub record AllowedPress (r : Rules) (c : Case) (w : List ℤ) (i : ℕ) (raised : List ℕ) (a : ℤ) : Type 0 where
+  pub variable : i < c .n
+  pub some-raised : 0 < length raised
+  pub rising : T (isRising raised)
+  pub scopes : (x : ℕ) → x ∈ raised → (x < scopeCount c) × (x ≢ i)
+  pub amount : T (pressAmount r a)
+  pub refutes : T (activeRefuted c w i raised)
+  pub in-range : T (not (leavesRange r c (moved c (press i raised a) w)))
+
+abbrev pub Allowed : Rules → Case → List ℤ → Move → Type 0
+Allowed r c w (shift e end v a) = AllowedShift r c w e end v a
+Allowed r c w (press i raised a) = AllowedPress r c w i raised a
+
 -- ---- what one line, of any bytes, can do to a state
 
--- a press held can be made
+-- a press held can be made if the scopes still to come are like those raised so far
 pub record HeldSound (r : Rules) (c : Case) (h : Held) : Type 0 where
   pub variable : h .variable < c .n
   pub amount : T (pressAmount r (h .amount))
+  pub rising : T (isRising (h .raised))
+  pub scopes : (x : ℕ) → x ∈ h .raised → (x < scopeCount c) × (x ≢ h .variable)
+
+-- a scope that it may raise next
+pub record RaisesNext (c : Case) (h : Held) (x : ℕ) : Type 0 where
+  pub scope : x < scopeCount c
+  pub other : x ≢ h .variable
+  pub above : T (not (notAbove (last (h .raised)) x))
 
 pub data Stepped (r : Rules) (s : State) : State → Type 0 where
   stays : Stepped r s s
   refuses : (x : Refusal) → Stepped r s (refused s x)
-  shifts : (e end v : ℕ) (a : ℤ) → e < s .case .m → T (allWeights (workingWeight r) (s .case) (moved (s .case) (shift e end v a) (s .weights)))
-      → Stepped r s (afterMove s (shift e end v a))
+  shifts : (e end v : ℕ) (a : ℤ) → AllowedShift r (s .case) (s .weights) e end v a → Stepped r s (afterMove s (shift e end v a))
   holds : (h : Held) → HeldSound r (s .case) h → Stepped r s (holding s h)
-  raises : (h k : Held) → s .held ≡ some h → k .variable ≡ h .variable → k .amount ≡ h .amount → Stepped r s (holding s k)
-  presses : (h : Held) (raised : List ℕ) → s .held ≡ some h → T (activeRefuted (s .case) (s .weights) (h .variable) raised)
-      → T (allWeights (workingWeight r) (s .case) (moved (s .case) (press (h .variable) raised (h .amount)) (s .weights)))
-      → Stepped r s (afterMove s (press (h .variable) raised (h .amount)))
+  raises : (h : Held) (x left : ℕ) → s .held ≡ some h → RaisesNext (s .case) h x
+      → Stepped r s (holding s (record { variable = h .variable; amount = h .amount; raised = h .raised ++ (x ∷ []); left = left }))
+  presses : (h : Held) (x : ℕ) → s .held ≡ some h → RaisesNext (s .case) h x → T (activeRefuted (s .case) (s .weights) (h .variable) (h .raised ++ (x ∷ [])))
+      → T (not (leavesRange r (s .case) (moved (s .case) (press (h .variable) (h .raised ++ (x ∷ [])) (h .amount)) (s .weights))))
+      → Stepped r s (afterMove s (press (h .variable) (h .raised ++ (x ∷ [])) (h .amount)))
   bounds : (z : ℤ) → s .rounds < r .rounds → z ≡ upperBound (s .case) (s .weights) → z <ℤ s .start → Stepped r s (afterBound s z)
 
 -- no test of the list applies
@@ -65,12 +98,23 @@ module _ (r : Rules) (s : State) (t : Line) where
   shift-step : Quiet (shiftTests r s t) → Stepped r s (afterMove s (shiftOf t))
   shift-step q =
       let p = simp (and-iff, not-or-iff) at q in
-      shifts (natAbs (t .a)) (natAbs (t .b)) (natAbs (t .c)) (t .amount) (inside (s .case .m) (t .a) (p .0 .0 .0 .0)) (not-not-iff (allWeights (workingWeight r) (s .case) (moved (s .case) (shiftOf t) (s .weights))) .0 (p .1 .0))
+      shifts (natAbs (t .a)) (natAbs (t .b)) (natAbs (t .c)) (t .amount) (record {
+        edge = inside (s .case .m) (t .a) (p .0 .0 .0 .0);
+        side = inside 2 (t .b) (p .0 .0 .0 .1);
+        value = inside (s .case .d) (t .c) (p .0 .0 .1);
+        amount = not-not-iff (shiftAmount r (t .amount)) .0 (p .0 .1);
+        in-range = p .1 .0;
+      })
 
   press-step : Quiet (pressTests r s t) → Stepped r s (holding s (heldOf t))
   press-step q =
       let p = simp (and-iff, not-or-iff) at q in
-      holds (heldOf t) (record { variable = inside (s .case .n) (t .a) (p .0 .0 .0); amount = not-not-iff (pressAmount r (t .amount)) .0 (p .0 .1) })
+      holds (heldOf t) (record {
+        variable = inside (s .case .n) (t .a) (p .0 .0 .0);
+        amount = not-not-iff (pressAmount r (t .amount)) .0 (p .0 .1);
+        rising = tt;
+        scopes = λ x m. absurd (List·Memᴰ·not-nil m);
+      })
 
   bound-step : Quiet (boundTests r s t) → Stepped r s (afterBound s (t .amount))
   bound-step q =
@@ -80,17 +124,20 @@ module _ (r : Rules) (s : State) (t : Line) where
 
   raise-step : (h : Held) → s .held ≡ some h → Quiet (raiseTests r s h t)
       → Stepped r s (if isLast h then afterMove s (pressOf (raising h t)) else holding s (raising h t))
-  raise-step h e q = let p = simp and-iff at q in go (isLast h) (p .1 .1 .0) (p .1 .1 .1 .0)
+  raise-step h e q = let p = simp (and-iff, not-or-iff) at q in
+      go (record { scope = inside (scopeCount (s .case)) (t .a) (p .0); other = not-eqb-iff x (h .variable) .0 (p .1 .0 .1); above = p .1 .0 .0 }) (isLast h) (p .1 .1 .0) (p .1 .1 .1 .0)
     where
+      x : ℕ
+      x = natAbs (t .a)
+
       raised : List ℕ
       raised = raising h t .raised
 
-      go : (b : Bool) → T (not (b && not (activeRefuted (s .case) (s .weights) (h .variable) raised)))
+      go : RaisesNext (s .case) h x → (b : Bool) → T (not (b && not (activeRefuted (s .case) (s .weights) (h .variable) raised)))
           → T (not (b && leavesRange r (s .case) (moved (s .case) (press (h .variable) raised (h .amount)) (s .weights))))
           → Stepped r s (if b then afterMove s (press (h .variable) raised (h .amount)) else holding s (raising h t))
-      go true x y = presses h raised e (not-not-iff (activeRefuted (s .case) (s .weights) (h .variable) raised) .0 x)
-          (not-not-iff (allWeights (workingWeight r) (s .case) (moved (s .case) (press (h .variable) raised (h .amount)) (s .weights))) .0 y)
-      go false x y = raises h (raising h t) e refl refl
+      go n true f i = presses h x e n (not-not-iff (activeRefuted (s .case) (s .weights) (h .variable) raised) .0 f) i
+      go n false f i = raises h x (h .left - 1) e n
 
   kind-step : (h : Option Held) → s .held ≡ h → Quiet (testsOfKind r s h t) → Stepped r s (taken s h (some t))
   kind-step (some h) e q = raise-step h e q
@@ -130,10 +177,10 @@ module _ (r : Rules) (s : State) (ts : List (List ℕ)) where
       one : {u v : State} → Stepped r u v → (v .case ≡ u .case) × (v .starting ≡ u .starting)
       one stays = (refl, refl)
       one (refuses x) = (refl, refl)
-      one (shifts e end v a h i) = (refl, refl)
+      one (shifts e end v a h) = (refl, refl)
       one (holds h k) = (refl, refl)
-      one (raises h k e f g) = (refl, refl)
-      one (presses h raised e f i) = (refl, refl)
+      one (raises h x left e n) = (refl, refl)
+      one (presses h x e n f i) = (refl, refl)
       one (bounds z h e l) = (refl, refl)
 
   pub case-after : after r s ts .case ≡ s .case
@@ -152,6 +199,43 @@ pub record Sound (r : Rules) (s : State) : Type 0 where
   pub under : (p : List ℕ) → T (isAssignment (s .case) p) → objective (s .case) (s .starting) p ≤ℤ s .start
   pub few : s .rounds ≤ r .rounds
   pub press-held : (h : Held) → s .held ≡ some h → HeldSound r (s .case) h
+
+rising-next : (ys : List ℕ) (x : ℕ) → T (isRising ys) → T (not (notAbove (last ys) x)) → T (isRising (ys ++ (x ∷ [])))
+rising-next [] x t n = tt
+rising-next (y ∷ []) x t n = and-intro (ltb y x) true (lt→ltb y x (not-leb-iff x y .0 n)) tt
+rising-next (y ∷ z ∷ ys) x t n = and-intro (ltb y z) (isRising ((z ∷ ys) ++ (x ∷ []))) (and-left (ltb y z) (isRising (z ∷ ys)) t) (rising-next (z ∷ ys) x (and-right (ltb y z) (isRising (z ∷ ys)) t) n)
+
+module _ {r : Rules} {c : Case} {h : Held} {x : ℕ} (o : HeldSound r c h) (n : RaisesNext c h x) where
+  next-rising : T (isRising (h .raised ++ (x ∷ [])))
+  next-rising = rising-next (h .raised) x (o .rising) (n .above)
+
+  next-scopes : (y : ℕ) → y ∈ (h .raised ++ (x ∷ [])) → (y < scopeCount c) × (y ≢ h .variable)
+  next-scopes y m = ⊎-elim (o .scopes y) (λ k. subst (λ (y : ℕ). (y < scopeCount c) × (y ≢ h .variable)) (sym (List·Memᴰ·eq-of-singleton k)) (n .scope, n .other)) (List·Memᴰ·append-cases (h .raised) m)
+
+-- every line keeps the weights or makes one move, and this one is allowed
+pub stepped-allowed : {r : Rules} {s u : State} → Sound r s → Stepped r s u
+    → (u .weights ≡ s .weights) ⊎ ((move : Move) × Allowed r (s .case) (s .weights) move × (u .weights ≡ moved (s .case) move (s .weights)))
+stepped-allowed v stays = inl refl
+stepped-allowed v (refuses x) = inl refl
+stepped-allowed v (shifts e end k a h) = inr (shift e end k a, h, refl)
+stepped-allowed v (holds h k) = inl refl
+stepped-allowed v (raises h x left e n) = inl refl
+stepped-allowed v (presses h x e n f i) =
+    let o = v .press-held h e in
+    inr (
+      press (h .variable) (h .raised ++ (x ∷ [])) (h .amount),
+      record {
+        variable = o .variable;
+        some-raised = omega (arith, length-append (h .raised) (x ∷ []));
+        rising = next-rising o n;
+        scopes = next-scopes o n;
+        amount = o .amount;
+        refutes = f;
+        in-range = i;
+      },
+      refl,
+    )
+stepped-allowed v (bounds z h e l) = inl refl
 
 module _ {r : Rules} {s : State} (v : Sound r s) where
   pub bound-from : (p : List ℕ) → T (isAssignment (s .case) p) → objective (s .case) (s .starting) p ≤ℤ upperBound (s .case) (s .weights)
@@ -191,15 +275,16 @@ module _ {r : Rules} {s : State} (v : Sound r s) where
     few = v .few;
     press-held = v .press-held;
   }
-  sound-stepped (shifts e end k a h i) = move-sound (shift e end k a) (λ p g. ≤ℤ-of-eq (sym (shift-moves (s .case) e end k a (v .shape) h p g (s .weights))))
+  sound-stepped (shifts e end k a h) = move-sound (shift e end k a) (λ p g. ≤ℤ-of-eq (sym (shift-moves (s .case) e end k a (v .shape) (h .edge) p g (s .weights))))
   sound-stepped (holds h k) = hold-sound h k
-  sound-stepped (raises h k e f g) =
+  sound-stepped (raises h x left e n) =
       let o = v .press-held h e in
-      hold-sound k (record { variable = rw f (o .variable); amount = rw g (o .amount) })
-  sound-stepped (presses h raised e f i) =
+      hold-sound (record { variable = h .variable; amount = h .amount; raised = h .raised ++ (x ∷ []); left = left })
+      (record { variable = o .variable; amount = o .amount; rising = next-rising o n; scopes = next-scopes o n })
+  sound-stepped (presses h x e n f i) =
       let o = v .press-held h e in
-      move-sound (press (h .variable) raised (h .amount)) (λ p g.
-      press-moves (v .shape) p g (s .weights) (h .variable) (o .variable) raised f (h .amount) (o .amount ▸ simp flat (omega zs)))
+      move-sound (press (h .variable) (h .raised ++ (x ∷ [])) (h .amount)) (λ p g.
+      press-moves (v .shape) p g (s .weights) (h .variable) (o .variable) (h .raised ++ (x ∷ [])) f (h .amount) (o .amount ▸ simp flat (omega zs)))
   sound-stepped (bounds z h e l) = record {
     shape = v .shape;
     own = v .own;
@@ -221,10 +306,10 @@ module _ (r : Rules) where
   counted : {s u : State} → Stepped r s u → (pos (u .rounds) +ℤ u .start) ≤ℤ (pos (s .rounds) +ℤ s .start)
   counted stays = simp flat (omega zs)
   counted (refuses x) = simp flat (omega zs)
-  counted (shifts e end v a h i) = simp flat (omega zs)
+  counted (shifts e end v a h) = simp flat (omega zs)
   counted (holds h k) = simp flat (omega zs)
-  counted (raises h k e f g) = simp flat (omega zs)
-  counted (presses h raised e f i) = simp flat (omega zs)
+  counted (raises h x left e n) = simp flat (omega zs)
+  counted (presses h x e n f i) = simp flat (omega zs)
   counted (bounds z h e l) = l ▸ simp flat (omega zs)
 
   module _ (s : State) (ts : List (List ℕ)) where
@@ -245,10 +330,10 @@ module _ (r : Rules) where
       one : {s u : State} → Stepped r s u → T (allWeights (workingWeight r) (s .case) (s .weights)) → T (allWeights (workingWeight r) (u .case) (u .weights))
       one stays t = t
       one (refuses x) t = t
-      one (shifts e end v a h i) t = i
+      one {s} (shifts e end v a h) t = not-not-iff (allWeights (workingWeight r) (s .case) (moved (s .case) (shift e end v a) (s .weights))) .0 (h .in-range)
       one (holds h k) t = t
-      one (raises h k e f g) t = t
-      one (presses h raised e f i) t = i
+      one (raises h x left e n) t = t
+      one {s} (presses h x e n f i) t = not-not-iff (allWeights (workingWeight r) (s .case) (moved (s .case) (press (h .variable) (h .raised ++ (x ∷ [])) (h .amount)) (s .weights))) .0 i
       one (bounds z h e l) t = t
 
 -- ---- a table that every call takes, in a sound state, stays one

@@ -1,5 +1,6 @@
 -- Any list of moves, each allowed where the ones before it lead, is written in lines that the plain replay takes, with the effect of the
--- moves; where the list ends with a lower upper bound, the lines and a bound line are taken as a round. Assumes nothing.
+-- moves; where the list ends with a lower upper bound, the lines and a bound line are taken as a round. And whatever the lines, the weights
+-- after them are reached by such a list. Assumes nothing.
 use mathlib.Core.Path.{_≡_, refl, ap, ap₂, subst, _∙_}
 use mathlib.Core.Bool.{Bool, true, false, not, _&&_, _||_}
 use mathlib.Core.Logic.{_≢_, _⊎_, inl, inr, ⊎-elim}
@@ -23,39 +24,19 @@ use Rattle.definitions.specs.declared.Refusal.{Refusal}
 use Rattle.definitions.specs.Rules.{Rules, Coherent, standard, scopesAtMost}
 use Rattle.definitions.specs.Refusals.{firstOf}
 use Rattle.definitions.specs.Case.{scopeCount, greatest, upperBound}
-use Rattle.definitions.specs.Valid.{workingWeight, allWeights}
+use Rattle.definitions.specs.Valid.{workingWeight, allWeights, valid}
 use Rattle.definitions.specs.Moves.{Move, shift, press, shiftAmount, pressAmount, activeRefuted, difference, moved, leavesRange}
 use Rattle.definitions.specs.Lines.{line, lineText, lineTooWide, readLine, notDue, outside}
 use Rattle.definitions.specs.Calls.{isRising}
 use Rattle.definitions.specs.Engine.{raiseLine, moveLines, boundLine, afterMoves, roundLines, roundText}
-use Rattle.definitions.specs.Replay.{Held, State, holding, afterBound, kindsDue, notAbove, testsOfKind, lineTests, taken, answered, stepUnrefused, step, after, answers, atEnd}
+use Rattle.definitions.specs.Replay.{Held, State, fresh, holding, afterBound, kindsDue, notAbove, testsOfKind, lineTests, taken, answered, stepUnrefused, step, after, answers, atEnd}
 use Rattle.definitions.proofs.ColumnLaws.{fits-digits, fits}
 use Rattle.definitions.proofs.LineLaws.{each-fits, line-read}
 use Rattle.theory.proofs.Places.{first-tuple, greatest-at, all-weights, plus-length}
 use Rattle.theory.proofs.Validity.{none-applies, Handed}
-use Rattle.theory.proofs.Replays.{Quiet, none-iff, no-number}
+use Rattle.theory.proofs.Replays.{AllowedShift, AllowedPress, Allowed, Quiet, Sound, sound-step, stepped, stepped-allowed, case-after, sound-fresh, none-iff, no-number}
 
 -- ---- moves that are allowed
-
-pub record AllowedShift (r : Rules) (c : Case) (w : List ℤ) (e end v : ℕ) (a : ℤ) : Type 0 where
-  pub edge : e < c .m
-  pub side : end < 2
-  pub value : v < c .d
-  pub amount : T (shiftAmount r a)
-  pub in-range : T (not (leavesRange r c (moved c (shift e end v a) w)))
-
-pub record AllowedPress (r : Rules) (c : Case) (w : List ℤ) (i : ℕ) (raised : List ℕ) (a : ℤ) : Type 0 where
-  pub variable : i < c .n
-  pub some-raised : 0 < length raised
-  pub rising : T (isRising raised)
-  pub scopes : (x : ℕ) → x ∈ raised → (x < scopeCount c) × (x ≢ i)
-  pub amount : T (pressAmount r a)
-  pub refutes : T (activeRefuted c w i raised)
-  pub in-range : T (not (leavesRange r c (moved c (press i raised a) w)))
-
-abbrev pub Allowed : Rules → Case → List ℤ → Move → Type 0
-Allowed r c w (shift e end v a) = AllowedShift r c w e end v a
-Allowed r c w (press i raised a) = AllowedPress r c w i raised a
 
 pub stays-in-range : (r : Rules) (c : Case) (w : List ℤ) (move : Move) → Allowed r c w move → T (not (leavesRange r c (moved c move w)))
 stays-in-range r c w (shift e end v a) h = h .in-range
@@ -87,6 +68,21 @@ handed-moved r c w move h k =
 pub all-handed : {r : Rules} {c : Case} {w v : List ℤ} {moves : List Move} → AllAllowed r c w moves v → Handed r (workingWeight r) c w → Handed r (workingWeight r) c v
 all-handed no-move k = k
 all-handed {r} {c} {w} (one-more {move} h m) k = all-handed m (handed-moved r c w move h k)
+
+-- whatever the lines, the weights after them are reached by allowed moves
+pub moves-after : {r : Rules} {s : State} → Sound r s → (ts : List (List ℕ)) → (moves : List Move) × AllAllowed r (s .case) (s .weights) moves (after r s ts .weights)
+moves-after v [] = ([], no-move)
+moves-after {r} {s} v (t ∷ ts) =
+    let (moves, m) = moves-after (sound-step r s t v) ts in
+    let k = rw (case-after r s (t ∷ [])) at m in
+    ⊎-elim
+    (λ e. (moves, subst (λ (w : List ℤ). AllAllowed r (s .case) w moves (after r (step r s t) ts .weights)) e k))
+    (λ (move, h, e). (move ∷ moves, one-more h (subst (λ (w : List ℤ). AllAllowed r (s .case) w moves (after r (step r s t) ts .weights)) e k)))
+    (stepped-allowed v (stepped r s t))
+
+-- from the starting weights of a valid case
+pub moves-from-fresh : (r : Rules) (c : Case) (w : List ℤ) → T (valid r c w) → (ts : List (List ℕ)) → (moves : List Move) × AllAllowed r c w moves (after r (fresh c w) ts .weights)
+moves-from-fresh r c w t ts = moves-after (sound-fresh r c w t) ts
 
 -- ---- scopes that rise
 
