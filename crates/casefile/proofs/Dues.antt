@@ -1,5 +1,5 @@
 -- What is due at each line after the head. Assumes nothing.
-use mathlib.Core.Path.{_≡_, refl, sym, ap, _∙_}
+use mathlib.Core.Path.{_≡_, refl, sym, ap, subst, _∙_}
 use mathlib.Core.List.{List, [], _∷_, _++_, map}
 use Prim.Native.Nat.{ℕ, zero, suc, _+_, _*_, _-_, _/_, _%_, _≤_, _<_}
 use native.Mathlib.Nat.{div-lt-iff-lt-mul, mod-lt, mul-le-mul, mul-le-mul-right}
@@ -15,7 +15,8 @@ use Rattle.integers.specs.Tables.{length-tab, getD-tab, length-rows, getD-rows-
 use Rattle.definitions.specs.Rules.{standard}
 use Rattle.definitions.specs.CaseFiles.{CaseDue, variable-weight, edge-ends, edge-weight, dues, caseOf}
 use Rattle.casefile.specs.declared.Sizes.{Sizes}
-use Rattle.casefile.specs.Steps.{Limited, edgeDue, edgeDueAt, dueAt, linesDue, tableOf}
+use Rattle.casefile.specs.declared.Awaited.{Awaited}
+use Rattle.casefile.specs.Steps.{dueOf, InCase, Limited, edgeDue, edgeDueAt, dueAt, linesDue, tableOf}
 
 some-wide : (a b q : ℕ) → q < a * b → 0 < b
 some-wide a zero q h = absurd (omega arith)
@@ -153,3 +154,7 @@ in-rows x n k d h g = omega (arith, mul-le-mul-right {m = suc x} {n = n} d h)
 -- an edge's place
 pub in-squares : (e m k l d : ℕ) → e < m → k < d → l < d → (k * d + l < d * d) × (e * (d * d) + (k * d + l) < m * (d * d))
 in-squares e m k l d h p q = (in-rows k d l d p q, in-rows e m (k * d + l) (d * d) h (in-rows k d l d p q))
+
+-- what is known of what is due, by what it was found to be
+pub found-due : (s : Sizes) (q : ℕ) {r a : Awaited} → r ≡ a → (dueOf r ≡ dueAt s q) × InCase s r → (dueOf a ≡ dueAt s q) × InCase s a
+found-due s q e p = subst (λ (r : Awaited). (dueOf r ≡ dueAt s q) × InCase s r) e p

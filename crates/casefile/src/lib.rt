@@ -7,22 +7,26 @@ use definitions::Line;
 use definitions::LineRead;
 use definitions::Outcome;
 use definitions::Refusal;
+use definitions::Written;
 ghost use mathlib.Core.Path.{_≡_};
 ghost use mathlib.Core.Bool.{false, not, _&&_, _||_};
 ghost use mathlib.Core.Option.{none, some};
 ghost use Prim.Native.Nat.{_+_, _*_, _≤_, _<_};
-ghost use mathlib.Core.List.{List};
+ghost use mathlib.Core.List.{List, _++_};
 ghost use lib.IntN.{ℤ, pos, natAbs};
 ghost use lib.Dec.{T, eqb};
 ghost use lib.Signed.{ltZ, leZ};
-ghost use lib.ListN.{length, getD, set, drop};
+ghost use lib.ListN.{length, getD, set, take, drop};
 ghost use Rattle.integers.specs.Words.{withinZ};
 ghost use Rattle.definitions.specs.Rules.{standard};
 ghost use Rattle.definitions.specs.Refusals.{firstOf};
-ghost use Rattle.definitions.specs.Lines.{zeroUnless, outside};
+ghost use Rattle.definitions.specs.Lines.{zeroUnless, outside, line, lineText, lineTooWide, overwritten};
 ghost use Rattle.definitions.specs.Valid.{startingWeight};
 ghost use Rattle.definitions.specs.Answers.{outcomeOf, unlessRefused};
-ghost use Rattle.definitions.specs.CaseFiles.{headTests, caseSize, caseRefused, caseTaken, readCase, readCaseAlone, restRefusal, edge-ends, names as namesPlace};
+ghost use Rattle.definitions.specs.CaseFiles.{headTests, caseSize, caseRefused, caseTaken, readCase, readCaseAlone, restRefusal, caseText, edge-ends, names as namesPlace};
+ghost use Rattle.definitions.specs.Calls.{writeCaseCall};
+ghost use Rattle.theory.proofs.Validity.{Valid};
+ghost use Rattle.theory.proofs.CaseDues.{lineOf};
 ghost use Rattle.casefile.specs.Steps.{Limited, dueOf, InCase, edgeDueAt, dueAt, linesDue, weightTests, endsTests, joinedBefore, repeatTest, caseWith, reading, lineRefusal, tableOf, Stepped, SteppedAt, leftFrom, callOf, noEnds};
 ghost use Rattle.casefile.specs.Reads.{lineFrom, ofKind, limitsZ, sizeOf};
 
@@ -560,6 +564,123 @@ pub fn read_case_alone(bytes: &[u8], table: &mut [i64]) -> CaseRead
                 Outcome::Done => read,
                 Outcome::Refused(refusal) => refused(refusal, lines),
             }
+        }
+    }
+}
+
+// ---- writing
+
+fn wide(x: u8) -> usize
+    ensures { λ r. ⌜ (r ≡ x) × (r < 256) ⌝ }
+{
+    x as usize
+}
+
+fn make_line(kind: usize, a: usize, b: usize, c: usize, amount: i64) -> Line
+    requires { ⌜ (kind < 1000) × (a < 1000) × (b < 1000) × (c < 1000) ⌝ }
+    ensures { λ r. ⌜ r ≡ line kind (pos a) (pos b) (pos c) amount ⌝ }
+{
+    Line {
+        kind: kind as i64,
+        a: a as i64,
+        b: b as i64,
+        c: c as i64,
+        amount,
+    }
+}
+
+fn head_line(sizes: Sizes) -> Line
+    requires { ⌜ Limited sizes ⌝ }
+    ensures { λ r. ⌜ r ≡ line 10 (pos (sizes .n)) (pos (sizes .d)) (pos (sizes .m)) (pos 0) ⌝ }
+{
+    make_line(10, sizes.n, sizes.d, sizes.m, 0)
+}
+
+// The line q after the head.
+fn line_after<'a>(
+    sizes: Sizes,
+    lower: &'a [u8; 96],
+    upper: &'a [u8; 96],
+    table: &[i64],
+    q: usize,
+) -> Line
+    requires { ⌜ Limited sizes ⌝ }
+    requires { ⌜ q < linesDue sizes ⌝ }
+    requires { ⌜ length (now table) ≡ tableOf sizes ⌝ }
+    ensures { λ r. ⌜ r ≡ lineOf (caseWith sizes (now (lower .entry)) (now (upper .entry))) (now (table .entry)) (dueAt sizes q) ⌝ }
+{
+    let due = await_at(sizes, q);
+    match due {
+        Awaited::VariableWeight { variable, value } => {
+            let place = variable_place(sizes, variable, value);
+            make_line(11, variable, value, 0, table[place])
+        }
+        Awaited::EdgeEnds(e) => make_line(12, e, wide(lower[e]), wide(upper[e]), 0),
+        Awaited::EdgeWeight { edge, k, l } => {
+            let place = edge_place(sizes, edge, k, l);
+            make_line(13, edge, k, l, table[place])
+        }
+    }
+}
+
+// Puts a line that fits its columns at byte `from`.
+fn put_at(out: &mut [u8], from: usize, line: Line)
+    requires { ⌜ (from + 27 ≤ length (now out)) × (lineTooWide 12 line ≡ false) ⌝ }
+    ensures { λ _. ⌜ now (out .exit) ≡ take from (now (out .entry)) ++ (lineText 12 line ++ drop (from + 27) (now (out .entry))) ⌝ }
+{
+    let to = from + LINE;
+    lines::write_line(&mut out[from..to], line);
+}
+
+fn put_lines<'a>(
+    sizes: Sizes,
+    lower: &'a [u8; 96],
+    upper: &'a [u8; 96],
+    table: &[i64],
+    out: &mut [u8],
+)
+    requires { ⌜ Valid standard (caseWith sizes (now lower) (now upper)) (now table) ⌝ }
+    requires { ⌜ 27 * (linesDue sizes + 1) ≤ length (now out) ⌝ }
+    ensures { λ _. ⌜ now (out .exit) ≡ overwritten (caseText standard (caseWith sizes (now (lower .entry)) (now (upper .entry))) (now (table .entry))) (now (out .entry)) ⌝ }
+{
+    let total = lines_due(sizes);
+    put_at(out, 0, head_line(sizes));
+    let mut q: usize = 0;
+    while q < total {
+        let line = line_after(sizes, lower, upper, table, q);
+        put_at(out, LINE * (q + 1), line);
+        q += 1;
+    }
+}
+
+// The bytes of the whole file.
+fn file_bytes(sizes: Sizes) -> usize
+    requires { ⌜ Limited sizes ⌝ }
+    ensures { λ r. ⌜ r ≡ 27 * (linesDue sizes + 1) ⌝ }
+{
+    LINE * (lines_due(sizes) + 1)
+}
+
+// Writes the case and its starting weights at out's first bytes.
+pub fn write_case(case: Case, table: &[i64], out: &mut [u8]) -> Written
+    ensures { λ r. ⌜ (r ≡ writeCaseCall standard case (now (table .entry)) (now (out .entry)) .answer) × (now (out .exit) ≡ writeCaseCall standard case (now (table .entry)) (now (out .entry)) .out) ⌝ }
+{
+    if !figures::within_limits(case) {
+        return Written::Refused(Refusal::OutsideLimits);
+    }
+    let sizes = Sizes {
+        n: case.n,
+        d: case.d,
+        m: case.m,
+    };
+    let bytes = file_bytes(sizes);
+    let short = out.len() < bytes;
+    let checked = figures::check_starting(case, table, short, false);
+    match checked {
+        Outcome::Refused(refusal) => Written::Refused(refusal),
+        Outcome::Done => {
+            put_lines(sizes, &case.lower, &case.upper, table, out);
+            Written::Bytes(bytes)
         }
     }
 }
