@@ -225,7 +225,7 @@ abbrev xs : ℕ → List ℕ
 xs n = replicate n 120
 
 -- The answer, the record and the table, which held sevens. Refused at a line after so many good weights, the record is all zero, and the
--- places not reached keep what they held. A file is read as the front of an input, and alone; `put` has another line in the place of one.
+-- places not reached keep what they held. A file is read as the front of an input, and by `read` also alone; `put` has another line in the place of one.
 abbrev FileRead : Type 0
 FileRead = Says × Case × List ℤ
 
@@ -237,7 +237,9 @@ refusedAt at good n =
 pub files :
     let told : CaseCall → FileRead = λ q. (fileSays (q .read .answer), q .read .case, q .table) in
     let sevens : List ℤ = replicate 18 (pos 7) in
+    let front : List ℕ → List FileRead = λ t. told (readCase standard t sevens) ∷ [] in
     let read : List ℕ → List FileRead = λ t. told (readCase standard t sevens) ∷ told (readCaseAlone standard t sevens) ∷ [] in
+    let once : ℕ → ℕ → ℕ → List FileRead = λ at good n. refusedAt at good n ∷ [] in
     let both : ℕ → ℕ → ℕ → List FileRead = λ at good n. refusedAt at good n ∷ refusedAt at good n ∷ [] in
     let put : ℕ → List ℕ → List ℕ = λ at t. cut (27 * at) ++ t ++ drop (27 * (at + 1)) (file triangle) in
     let zeros93 : List ℕ = replicate 93 0 in
@@ -247,23 +249,23 @@ pub files :
     ∷ read (more (l 4 0 0 0 0)) is (whole ∷ refusedAt 22 18 2 ∷ []) ∷ read (more (xs 26)) is (whole ∷ refusedAt 22 18 14 ∷ [])
     -- the head, the table's length, a cut
     ∷ read [] is both 0 0 14 ∷ read (cut 26) is both 0 0 14 ∷ read (xs 27) is both 0 0 1
-    ∷ read (put 0 (l 11 3 2 3 0)) is both 0 0 2 ∷ read (put 0 (l 10 0 2 3 1)) is both 0 0 2 ∷ read (put 0 (l 10 0 2 3 0)) is both 0 0 3
-    ∷ read (put 0 (l 10 3 0 3 0)) is both 0 0 3 ∷ read (put 0 (l 10 3 9 3 0)) is both 0 0 3 ∷ read (put 0 (l 10 3 2 97 0)) is both 0 0 3
-    ∷ read (put 0 (bytesOf "10   3   2  -1           0\n")) is both 0 0 3 ∷ read (put 0 (l 10 3 2 2 0)) is both 0 0 4
+    ∷ front (put 0 (l 11 3 2 3 0)) is once 0 0 2 ∷ front (put 0 (l 10 0 2 3 1)) is once 0 0 2 ∷ front (put 0 (l 10 0 2 3 0)) is once 0 0 3
+    ∷ front (put 0 (l 10 3 0 3 0)) is once 0 0 3 ∷ front (put 0 (l 10 3 9 3 0)) is once 0 0 3 ∷ front (put 0 (l 10 3 2 97 0)) is once 0 0 3
+    ∷ front (put 0 (bytesOf "10   3   2  -1           0\n")) is once 0 0 3 ∷ front (put 0 (l 10 3 2 2 0)) is once 0 0 4
     ∷ read (take 30 (put 0 (l 10 3 2 4 0))) is both 0 0 4 ∷ read (cut 27) is both 1 0 14 ∷ read (cut 135) is both 5 4 14
     ∷ read (cut 593) is both 21 17 14
     -- weights of variables
-    ∷ read (put 2 (l 11 1 1 0 0)) is both 2 1 5 ∷ read (put 2 (l 11 0 0 0 1_000_001)) is both 2 1 5 ∷ read (put 2 (l 11 0 1 1 0)) is both 2 1 2
-    ∷ read (put 2 (l 11 0 1 0 1_000_001)) is both 2 1 8 ∷ read (put 2 (bytesOf "11   0   1   0    -1000001\n")) is both 2 1 8
+    ∷ front (put 2 (l 11 1 1 0 0)) is once 2 1 5 ∷ front (put 2 (l 11 0 0 0 1_000_001)) is once 2 1 5 ∷ front (put 2 (l 11 0 1 1 0)) is once 2 1 2
+    ∷ front (put 2 (l 11 0 1 0 1_000_001)) is once 2 1 8 ∷ front (put 2 (bytesOf "11   0   1   0    -1000001\n")) is once 2 1 8
     -- edges
-    ∷ read (put 12 (l 12 0 0 2 0)) is both 12 10 5 ∷ read (put 12 (l 12 1 0 3 0)) is both 12 10 5 ∷ read (put 12 (l 12 1 3 0 0)) is both 12 10 5
-    ∷ read (put 12 (bytesOf "12   1  -1   2           0\n")) is both 12 10 5 ∷ read (put 12 (l 12 0 2 0 1)) is both 12 10 2
-    ∷ read (put 12 (l 12 1 2 0 0)) is both 12 10 6 ∷ read (put 12 (l 12 1 1 1 0)) is both 12 10 6 ∷ read (put 12 (l 12 1 0 1 0)) is both 12 10 7
-    ∷ read (put 17 (l 12 2 0 1 0)) is both 17 14 7 ∷ read (put 17 (l 12 2 0 2 0)) is both 17 14 7
+    ∷ front (put 12 (l 12 0 0 2 0)) is once 12 10 5 ∷ front (put 12 (l 12 1 0 3 0)) is once 12 10 5 ∷ front (put 12 (l 12 1 3 0 0)) is once 12 10 5
+    ∷ front (put 12 (bytesOf "12   1  -1   2           0\n")) is once 12 10 5 ∷ front (put 12 (l 12 0 2 0 1)) is once 12 10 2
+    ∷ read (put 12 (l 12 1 2 0 0)) is both 12 10 6 ∷ front (put 12 (l 12 1 1 1 0)) is once 12 10 6 ∷ front (put 12 (l 12 1 0 1 0)) is once 12 10 7
+    ∷ front (put 17 (l 12 2 0 1 0)) is once 17 14 7 ∷ front (put 17 (l 12 2 0 2 0)) is once 17 14 7
     -- weights of edges
-    ∷ read (put 9 (l 13 1 0 1 0)) is both 9 7 5 ∷ read (put 9 (l 13 0 1 1 0)) is both 9 7 5 ∷ read (put 9 (l 13 0 0 0 1_000_001)) is both 9 7 5
-    ∷ read (put 9 (l 13 0 0 1 1_000_001)) is both 9 7 8 ∷ read (put 9 (bytesOf "13   0   0   1    -1000001\n")) is both 9 7 8
-    ∷ read (put 9 (l 12 5 0 1 0)) is both 9 7 2
+    ∷ front (put 9 (l 13 1 0 1 0)) is once 9 7 5 ∷ front (put 9 (l 13 0 1 1 0)) is once 9 7 5 ∷ front (put 9 (l 13 0 0 0 1_000_001)) is once 9 7 5
+    ∷ front (put 9 (l 13 0 0 1 1_000_001)) is once 9 7 8 ∷ front (put 9 (bytesOf "13   0   0   1    -1000001\n")) is once 9 7 8
+    ∷ front (put 9 (l 12 5 0 1 0)) is once 9 7 2
     ∷ [])
 files = refl
 
