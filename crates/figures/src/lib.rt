@@ -49,18 +49,6 @@ fn in_range(x: usize, low: usize, high: usize) -> bool
     low <= x && x <= high
 }
 
-pub fn within_limits(case: Case) -> bool
-    ensures { λ r. ⌜ r ≡ withinLimits standard (case .n) (case .d) (case .m) ⌝ }
-{
-    if !in_range(case.n, 1, VARIABLES) {
-        return false;
-    }
-    if !in_range(case.d, 1, VALUES) {
-        return false;
-    }
-    in_range(case.m, 0, EDGES)
-}
-
 fn same_ends<'a>(lower: &'a [u8; 96], upper: &'a [u8; 96], e: usize, f: usize) -> bool
     requires { ⌜ (e < 96) × (f < 96) ⌝ }
     ensures { λ r. ⌜ r ≡ sameEnds (withEdges 0 (now (lower .entry)) (now (upper .entry))) e f ⌝ }
@@ -195,50 +183,6 @@ fn check(case: Case, table: &[i64], wrong: bool, out: bool, low: i64, high: i64)
     }
 }
 
-pub fn check_starting(case: Case, table: &[i64], wrong: bool, out: bool) -> Outcome
-    ensures { λ r. ⌜ r ≡ outcomeOf (firstOf (handedOver standard (startingWeight standard) case (now (table .entry)) wrong out)) ⌝ }
-{
-    check(case, table, wrong, out, -STARTING, STARTING)
-}
-
-pub fn check_working(case: Case, table: &[i64], wrong: bool, out: bool) -> Outcome
-    ensures { λ r. ⌜ r ≡ outcomeOf (firstOf (handedOver standard (workingWeight standard) case (now (table .entry)) wrong out)) ⌝ }
-{
-    check(case, table, wrong, out, -WORKING, WORKING)
-}
-
-// What is asked where no table is lent.
-pub fn check_edges(case: Case, out: bool) -> Outcome
-    ensures { λ r. ⌜ r ≡ outcomeOf (firstOf (limitTest standard case ∷ edgeTests case out)) ⌝ }
-{
-    if within_limits(case) {
-        edge_outcome(case, out)
-    } else {
-        Outcome::Refused(Refusal::OutsideLimits)
-    }
-}
-
-// ---- greatest weights
-
-// 0 where there is none.
-pub fn greatest(weights: &[i64]) -> i64
-    ensures { λ r. ⌜ r ≡ greatestOf (now (weights .entry)) ⌝ }
-{
-    if weights.len() == 0 {
-        return 0;
-    }
-    let mut best = weights[0];
-    let mut i: usize = 1;
-    while i < weights.len() {
-        let w = weights[i];
-        if best < w {
-            best = w;
-        }
-        i += 1;
-    }
-    best
-}
-
 // ---- scopes
 
 fn scope_count(case: Case) -> usize
@@ -316,29 +260,6 @@ fn sum_of_greatest(case: Case, table: &[i64]) -> i64
     sum
 }
 
-// The upper bound of a case and a table that were checked before; what it is of any others, `boundOf` says.
-pub fn bound_of(case: Case, table: &[i64]) -> i64
-    ensures { λ r. ⌜ r ≡ boundOf standard case (now (table .entry)) ⌝ }
-{
-    if !within_limits(case) {
-        return 0;
-    }
-    if table.len() != table_length(case) {
-        return 0;
-    }
-    sum_of_greatest(case, table)
-}
-
-pub fn upper_bound(case: Case, table: &[i64]) -> Figure
-    ensures { λ r. ⌜ r ≡ upperBoundAnswer standard case (now (table .entry)) ⌝ }
-{
-    let checked = check_working(case, table, false, false);
-    match checked {
-        Outcome::Refused(refusal) => Figure::Refused(refusal),
-        Outcome::Done => Figure::Value(bound_of(case, table)),
-    }
-}
-
 // ---- activity
 
 fn tuple_out(case: Case, x: usize, k: usize, l: usize) -> bool
@@ -366,16 +287,6 @@ fn has_greatest(case: Case, table: &[i64], x: usize, k: usize, l: usize) -> Verd
         Verdict::Yes
     } else {
         Verdict::No
-    }
-}
-
-pub fn is_active(case: Case, table: &[i64], scope: usize, k: usize, l: usize) -> Verdict
-    ensures { λ r. ⌜ r ≡ isActiveAnswer standard case (now (table .entry)) scope k l ⌝ }
-{
-    let checked = check_working(case, table, false, tuple_out(case, scope, k, l));
-    match checked {
-        Outcome::Refused(refusal) => Verdict::Refused(refusal),
-        Outcome::Done => has_greatest(case, table, scope, k, l),
     }
 }
 
@@ -438,6 +349,95 @@ fn sum_of_used(case: Case, table: &[i64], assignment: &[u8]) -> i64
         x += 1;
     }
     sum
+}
+
+// ---- the calls
+
+pub fn within_limits(case: Case) -> bool
+    ensures { λ r. ⌜ r ≡ withinLimits standard (case .n) (case .d) (case .m) ⌝ }
+{
+    if !in_range(case.n, 1, VARIABLES) {
+        return false;
+    }
+    if !in_range(case.d, 1, VALUES) {
+        return false;
+    }
+    in_range(case.m, 0, EDGES)
+}
+
+pub fn check_starting(case: Case, table: &[i64], wrong: bool, out: bool) -> Outcome
+    ensures { λ r. ⌜ r ≡ outcomeOf (firstOf (handedOver standard (startingWeight standard) case (now (table .entry)) wrong out)) ⌝ }
+{
+    check(case, table, wrong, out, -STARTING, STARTING)
+}
+
+pub fn check_working(case: Case, table: &[i64], wrong: bool, out: bool) -> Outcome
+    ensures { λ r. ⌜ r ≡ outcomeOf (firstOf (handedOver standard (workingWeight standard) case (now (table .entry)) wrong out)) ⌝ }
+{
+    check(case, table, wrong, out, -WORKING, WORKING)
+}
+
+// What is asked where no table is lent.
+pub fn check_edges(case: Case, out: bool) -> Outcome
+    ensures { λ r. ⌜ r ≡ outcomeOf (firstOf (limitTest standard case ∷ edgeTests case out)) ⌝ }
+{
+    if within_limits(case) {
+        edge_outcome(case, out)
+    } else {
+        Outcome::Refused(Refusal::OutsideLimits)
+    }
+}
+
+// 0 where there is none.
+pub fn greatest(weights: &[i64]) -> i64
+    ensures { λ r. ⌜ r ≡ greatestOf (now (weights .entry)) ⌝ }
+{
+    if weights.len() == 0 {
+        return 0;
+    }
+    let mut best = weights[0];
+    let mut i: usize = 1;
+    while i < weights.len() {
+        let w = weights[i];
+        if best < w {
+            best = w;
+        }
+        i += 1;
+    }
+    best
+}
+
+// The upper bound of a case and a table that were checked before; what it is of any others, `boundOf` says.
+pub fn bound_of(case: Case, table: &[i64]) -> i64
+    ensures { λ r. ⌜ r ≡ boundOf standard case (now (table .entry)) ⌝ }
+{
+    if !within_limits(case) {
+        return 0;
+    }
+    if table.len() != table_length(case) {
+        return 0;
+    }
+    sum_of_greatest(case, table)
+}
+
+pub fn upper_bound(case: Case, table: &[i64]) -> Figure
+    ensures { λ r. ⌜ r ≡ upperBoundAnswer standard case (now (table .entry)) ⌝ }
+{
+    let checked = check_working(case, table, false, false);
+    match checked {
+        Outcome::Refused(refusal) => Figure::Refused(refusal),
+        Outcome::Done => Figure::Value(bound_of(case, table)),
+    }
+}
+
+pub fn is_active(case: Case, table: &[i64], scope: usize, k: usize, l: usize) -> Verdict
+    ensures { λ r. ⌜ r ≡ isActiveAnswer standard case (now (table .entry)) scope k l ⌝ }
+{
+    let checked = check_working(case, table, false, tuple_out(case, scope, k, l));
+    match checked {
+        Outcome::Refused(refusal) => Verdict::Refused(refusal),
+        Outcome::Done => has_greatest(case, table, scope, k, l),
+    }
 }
 
 pub fn objective(case: Case, table: &[i64], assignment: &[u8]) -> Figure
