@@ -5,3 +5,4 @@ pub mod Results
 pub mod Marked
 pub mod Scopes
 pub mod Prepared
+pub mod Fixed

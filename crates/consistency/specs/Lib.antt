@@ -3,3 +3,4 @@ pub mod Partners
 pub mod Closure
 pub mod Sweeps
 pub mod Active
+pub mod Refuted

@@ -1,6 +1,7 @@
 // Refutation by arc consistency (document 01, "Refutation").
 use definitions::Case;
 use definitions::Outcome;
+use definitions::Verdict;
 ghost use mathlib.Core.Path.{_≡_};
 ghost use mathlib.Core.Bool.{not, _&&_, _||_};
 ghost use Prim.Native.Nat.{ℕ, _+_, _*_, _≤_, _<_};
@@ -8,15 +9,18 @@ ghost use lib.Dec.{ltb, eqb};
 ghost use lib.ListN.{length, getD, set, replicate};
 ghost use Rattle.integers.specs.Words.{if_then_else_, below, any, eqZ};
 ghost use Rattle.definitions.specs.Rules.{standard};
-ghost use Rattle.definitions.specs.Case.{greatest};
+ghost use Rattle.definitions.specs.Case.{scopeCount, greatest};
+ghost use Rattle.definitions.specs.Consistency.{refuted as refutedValue};
+ghost use Rattle.definitions.specs.Calls.{isMarked, refutedAnswer};
 ghost use Rattle.definitions.specs.Valid.{workingWeight};
 ghost use Rattle.definitions.specs.Lines.{overwritten};
 ghost use Rattle.theory.proofs.Validity.{Handed};
-ghost use Rattle.marks.specs.Marks.{without};
+ghost use Rattle.marks.specs.Marks.{without, fullOf};
 ghost use Rattle.consistency.specs.Partners.{lowestPartner, supportedValues};
 ghost use Rattle.consistency.specs.Closure.{networkOfBytes, setsOf, endOutside, isMalformed, closureAnswer, closureSets};
 ghost use Rattle.consistency.specs.Sweeps.{WellFormed, Filled, Swept, Settled, changeOf, bothOf, keptOf};
 ghost use Rattle.consistency.specs.Active.{bestValues, activeSet, activeRow, activeSets, activeRows, Written, activeAnswer, setsAfter, rowsAfter};
+ghost use Rattle.consistency.specs.Refuted.{fixedSet, allowedOf, argumentsOut};
 
 pub enum Partner {
     At(u8),
@@ -409,5 +413,111 @@ pub fn active_marks(case: Case, table: &[i64], sets: &mut [u8], rows: &mut [u8])
             write_rows(case, table, rows);
             Outcome::Done
         }
+    }
+}
+
+// ---- refutation
+
+fn allowed_set(active: u8, mark: u8, d: usize) -> u8
+    requires { ⌜ d ≤ 8 ⌝ }
+    ensures { λ r. ⌜ r ≡ (if eqb mark 1 then active else fullOf d) ⌝ }
+{
+    if mark == 1 {
+        return active;
+    }
+    marks::full(d as u8)
+}
+
+// Sets of active values become sets of allowed values.
+fn allow(raised: &[u8], n: usize, d: usize, sets: &mut [u8])
+    requires { ⌜ (d ≤ 8) × (n ≤ length (now raised)) × (n ≤ length (now sets)) ⌝ }
+    ensures { λ r. ⌜ Written (allowedOf (now (raised .entry)) d (now (sets .entry))) 0 n (now (sets .entry)) (now (sets .exit)) ⌝ }
+{
+    let mut j: usize = 0;
+    while j < n {
+        sets[j] = allowed_set(sets[j], raised[j], d);
+        j += 1;
+    }
+}
+
+fn fix(case: Case, table: &[i64], raised: &[u8], variable: usize, value: usize, sets: &mut [u8])
+    requires { ⌜ Handed standard (workingWeight standard) case (now table) ⌝ }
+    requires { ⌜ (case .n ≤ length (now raised)) × (case .n ≤ length (now sets)) × (variable < case .n) × (value < case .d) ⌝ }
+    ensures { λ r. ⌜ Written (fixedSet case (now (table .entry)) (now (raised .entry)) variable value) 0 (case .n) (now (sets .entry)) (now (sets .exit)) ⌝ }
+{
+    write_sets(case, table, sets);
+    allow(raised, case.n, case.d, sets);
+    let allowed = sets[variable];
+    sets[variable] = marks::common(allowed, marks::only(value as u8));
+}
+
+fn is_refuted(case: Case, table: &[i64], raised: &[u8], variable: usize, value: usize) -> bool
+    requires { ⌜ Handed standard (workingWeight standard) case (now table) ⌝ }
+    requires { ⌜ (length (now raised) ≡ scopeCount case) × ((x : ℕ) → x < scopeCount case → getD (now raised) x 0 ≤ 1) × (variable < case .n) × (value < case .d) ⌝ }
+    ensures { λ r. ⌜ r ≡ refutedValue case (now (table .entry)) (isMarked (now (raised .entry))) variable value ⌝ }
+{
+    let n = case.n;
+    let lower = case.lower;
+    let upper = case.upper;
+    let mut sets = [0u8; 48];
+    let mut rows = [0u8; 1536];
+    fix(case, table, raised, variable, value, &mut sets);
+    write_rows(case, table, &mut rows);
+    !narrow(&lower, &upper, &rows, &raised[n..], &mut sets[..n])
+}
+
+fn other_length(length: usize, n: usize, m: usize) -> bool
+    ensures { λ r. ⌜ r ≡ not (eqb length (n + m)) ⌝ }
+{
+    if length < n {
+        return true;
+    }
+    length - n != m
+}
+
+fn has_other_mark(raised: &[u8]) -> bool
+    ensures { λ r. ⌜ r ≡ any (λ b. ltb 1 b) (now (raised .entry)) ⌝ }
+{
+    let mut x: usize = 0;
+    while x < raised.len() {
+        if 1 < raised[x] {
+            return true;
+        }
+        x += 1;
+    }
+    false
+}
+
+fn arguments_out(case: Case, raised: &[u8], variable: usize, value: usize) -> bool
+    ensures { λ r. ⌜ r ≡ argumentsOut case (now (raised .entry)) variable value ⌝ }
+{
+    if has_other_mark(raised) {
+        return true;
+    }
+    if case.n <= variable {
+        return true;
+    }
+    case.d <= value
+}
+
+fn verdict(yes: bool) -> Verdict
+    ensures { λ r. ⌜ r ≡ (if yes then Verdict.Yes else Verdict.No) ⌝ }
+{
+    if yes {
+        return Verdict::Yes;
+    }
+    Verdict::No
+}
+
+// Whether a value of a variable is refuted; `raised` has a byte for each scope, 1 where it is raised and else 0.
+pub fn refuted(case: Case, table: &[i64], raised: &[u8], variable: usize, value: usize) -> Verdict
+    ensures { λ r. ⌜ r ≡ refutedAnswer standard case (now (table .entry)) (now (raised .entry)) variable value ⌝ }
+{
+    let wrong = other_length(raised.len(), case.n, case.m);
+    let out = arguments_out(case, raised, variable, value);
+    let checked = figures::check_working(case, table, wrong, out);
+    match checked {
+        Outcome::Refused(refusal) => Verdict::Refused(refusal),
+        Outcome::Done => verdict(is_refuted(case, table, raised, variable, value)),
     }
 }

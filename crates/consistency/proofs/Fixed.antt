@@ -1,0 +1,228 @@
+-- The key theorem: over the bytes of a table with one value fixed, no family is supported exactly where the value is refuted. Assumes nothing.
+use mathlib.Core.Path.{_≡_, refl, sym, ap, ap₂, _∙_}
+use mathlib.Core.Bool.{Bool, true, false, not, _&&_, _||_}
+use mathlib.Core.Logic.{_↔_}
+use mathlib.Core.List.{List}
+use Prim.Native.Nat.{ℕ, zero, suc, _+_, _*_, _-_, _≤_, _<_}
+use native.Mathlib.Omega.{arith}
+use borrow.Author.Tests.{lt-ltb, le-ltb, eq-eqb, ne-eqb}
+use lib.IntN.{ℤ}
+use lib.Dec.{T, not-T, ltb, ltb→lt, eqb}
+use lib.ListN.{length, getD, set, take, drop, length-take, length-drop, length-set, List·getD-append}
+use lib.Seq.{getD-append-add, getD-take, getD-drop, length-take-le}
+use Rattle.integers.specs.Words.{if_then_else_, _⇒_}
+use Rattle.integers.specs.Tests.{and-left, is-true, is-false}
+use Rattle.definitions.specs.declared.Case.{Case}
+use Rattle.definitions.specs.Rules.{standard}
+use Rattle.definitions.specs.Case.{scopeCount, active}
+use Rattle.definitions.specs.Valid.{workingWeight}
+use Rattle.definitions.specs.Calls.{isMarked}
+use Rattle.definitions.specs.Consistency.{allowed, refuted}
+use Rattle.theory.specs.Network.{Network, networkOf, fixedSets}
+use Rattle.theory.proofs.Validity.{Handed}
+use Rattle.theory.proofs.Networks.{None, Alike, to-fewer, to-more, case-ends, refuted-none}
+use Rattle.definitions.specs.Lines.{overwritten}
+use Rattle.marks.specs.Marks.{mark, fullOf, onlyOf, inBoth}
+use Rattle.marks.proofs.Laws.{mark-byteOf}
+use Rattle.consistency.specs.Closure.{networkOfBytes, setsOf}
+use Rattle.consistency.specs.Active.{activeSet, activeAbove, activeBelow, activeRow, activeSets, activeRows, Written}
+use Rattle.consistency.specs.Sweeps.{WellFormed, Settled}
+use Rattle.consistency.specs.Refuted.{allowedSet, fixedSet, allowedOf}
+use Rattle.consistency.proofs.Steps.{after-set}
+use Rattle.consistency.proofs.Marked.{sets-length, sets-at, rows-length, rows-at}
+
+-- ---- tests
+
+not-not : (a : Bool) → not (not a) ≡ a
+not-not true = refl
+not-not false = refl
+
+and-all : (a : Bool) → (a && true) ≡ a
+and-all true = refl
+and-all false = refl
+
+-- a byte that is 0 or 1
+by-mark : (b : ℕ) → b ≤ 1 → (a : Bool) → (eqb b 0 || a) ≡ not (eqb b 1 && not a)
+by-mark zero h a = refl
+by-mark (suc zero) h a = sym (not-not a)
+by-mark (suc (suc b)) h a = absurd (omega arith)
+
+-- ---- sets
+
+module _ (c : Case) (w : List ℤ) (few : c .d ≤ 8) where
+  -- the values of variable j that are allowed, by whether its scope is raised
+  module _ (j v : ℕ) (g : v < 8) where
+    allowed-at : v < c .d → (b : Bool) → mark (if b then activeSet c w j else fullOf (c .d)) v ≡ not (b && not (active c w j v 0))
+    allowed-at l true = mark-byteOf (λ v. ltb v (c .d) && active c w j v 0) v g ∙ simp (lt-ltb v (c .d) l, not-not)
+    allowed-at l false = mark-byteOf (λ v. ltb v (c .d)) v g ∙ lt-ltb v (c .d) l
+
+    allowed-in : (b : Bool) → T (mark (if b then activeSet c w j else fullOf (c .d)) v) → v < c .d
+    allowed-in true t = ltb→lt v (c .d) (and-left (ltb v (c .d)) (active c w j v 0) (rw (mark-byteOf (λ v. ltb v (c .d) && active c w j v 0) v g) at t))
+    allowed-in false t = ltb→lt v (c .d) (rw (mark-byteOf (λ v. ltb v (c .d)) v g) at t)
+
+  module _ (raised : List ℕ) (i k : ℕ) (j v : ℕ) (g : v < 8) where
+    fixed-by : v < c .d → (b : Bool) → mark (if b then inBoth (allowedSet c w raised j) (onlyOf k) else allowedSet c w raised j) v ≡ (allowed c w (isMarked raised) j v 0 && (b ⇒ eqb v k))
+    fixed-by l true =
+        mark-byteOf (λ x. mark (allowedSet c w raised j) x && mark (onlyOf k) x) v g
+        ∙ ap₂ (λ (a b : Bool). a && b) (allowed-at j v g l (isMarked raised j)) (mark-byteOf (λ x. eqb x k) v g)
+    fixed-by l false = allowed-at j v g l (isMarked raised j) ∙ sym (and-all (allowed c w (isMarked raised) j v 0))
+
+    fixed-in-by : (b : Bool) → T (mark (if b then inBoth (allowedSet c w raised j) (onlyOf k) else allowedSet c w raised j) v) → v < c .d
+    fixed-in-by true t =
+        allowed-in j v g (isMarked raised j)
+        (and-left (mark (allowedSet c w raised j) v) (mark (onlyOf k) v) (rw (mark-byteOf (λ x. mark (allowedSet c w raised j) x && mark (onlyOf k) x) v g) at t))
+    fixed-in-by false t = allowed-in j v g (isMarked raised j) t
+
+  -- ---- rows
+  module _ (e : ℕ) (x y : ℕ) (p : x < c .d) (q : y < c .d) where
+    above-mark : mark (activeRow c w e x) y ≡ active c w (c .n + e) x y
+    above-mark =
+        let small : x < 8 = omega arith in
+        ap (λ (s : ℕ). mark s y) (ap (λ (b : Bool). if b then activeAbove c w e x else activeBelow c w e (x - 8)) (lt-ltb x 8 small))
+        ∙ mark-byteOf (λ l. ltb l (c .d) && (ltb x (c .d) && active c w (c .n + e) x l)) y (omega arith)
+        ∙ simp (lt-ltb x (c .d) p, lt-ltb y (c .d) q)
+
+    below-mark : mark (activeRow c w e (8 + y)) x ≡ active c w (c .n + e) x y
+    below-mark =
+        let s : (8 + y) - 8 ≡ y = omega arith in
+        let large : 8 ≤ 8 + y = omega arith in
+        ap (λ (s : ℕ). mark s x)
+        (ap (λ (b : Bool). if b then activeAbove c w e (8 + y) else activeBelow c w e ((8 + y) - 8)) (le-ltb (8 + y) 8 large) ∙ ap (activeBelow c w e) s)
+        ∙ mark-byteOf (λ k. ltb k (c .d) && (ltb y (c .d) && active c w (c .n + e) k y)) x (omega arith)
+        ∙ simp (lt-ltb x (c .d) p, lt-ltb y (c .d) q)
+
+-- ---- the network of a case is that of the bytes
+
+module _ (c : Case) (w : List ℤ) (h : Handed standard (workingWeight standard) c w) (raised : List ℕ) (i k : ℕ) (rows edges S : List ℕ)
+    (marks : (x : ℕ) → x < scopeCount c → getD raised x 0 ≤ 1)
+    (rows-are : (e p : ℕ) → e < c .m → p < 16 → getD rows (16 * e + p) 0 ≡ activeRow c w e p)
+    (edges-length : length edges ≡ c .m) (edges-are : (e : ℕ) → e < c .m → getD edges e 0 ≡ getD raised (c .n + e) 0)
+    (sets-length : length S ≡ c .n) (sets-are : (j : ℕ) → j < c .n → getD S j 0 ≡ fixedSet c w raised i k j) where
+  abbrev R : ℕ → Bool
+  R = isMarked raised
+
+  abbrev N : Network
+  N = networkOf c w R
+
+  abbrev M : Network
+  M = networkOfBytes (length S) (c .lower) (c .upper) rows edges
+
+  few-values : c .d ≤ 8
+  few-values = h .values-most
+
+  edge-mark : (e : ℕ) → e < c .m → (a : Bool) → (eqb (getD edges e 0) 0 || a) ≡ not (R (c .n + e) && not a)
+  edge-mark e g a = ap (λ (b : ℕ). eqb b 0 || a) (edges-are e g) ∙ by-mark (getD raised (c .n + e) 0) (marks (c .n + e) (omega arith)) a
+
+  alike : Alike N M
+  alike = record {
+    variables = sym sets-length;
+    edges = sym edges-length;
+    lower = λ e g. refl;
+    upper = λ e g. refl;
+    above = λ e v u g p q r s.
+        sym (ap (λ (b : ℕ). eqb (getD edges e 0) 0 || mark b u) (rows-are e v g (omega (arith, few-values)))
+        ∙ ap (λ (a : Bool). eqb (getD edges e 0) 0 || a) (above-mark c w few-values e v u p q) ∙ edge-mark e g (active c w (c .n + e) v u));
+    below = λ e v u g p q r s.
+        let z : 16 * e + 8 + u ≡ 16 * e + (8 + u) = omega arith in
+        sym (ap (λ (b : ℕ). eqb (getD edges e 0) 0 || mark b v) (ap (λ (y : ℕ). getD rows y 0) z ∙ rows-are e (8 + u) g (omega (arith, few-values)))
+        ∙ ap (λ (a : Bool). eqb (getD edges e 0) 0 || a) (below-mark c w few-values e v u p q) ∙ edge-mark e g (active c w (c .n + e) v u));
+  }
+
+  same-sets : (j v : ℕ) → j < c .n → v < c .d → fixedSets c w R i k j v ≡ setsOf S j v
+  same-sets j v g l = sym (ap (λ (s : ℕ). mark s v) (sets-are j g) ∙ fixed-by c w few-values raised i k j v (omega (arith, few-values)) l (eqb j i))
+
+  only-values : (j v : ℕ) → j < c .n → v < 8 → T (setsOf S j v) → v < c .d
+  only-values j v g l t = fixed-in-by c w few-values raised i k j v l (eqb j i) (rw (sets-are j g) at t)
+
+  pub refuted-bytes : i < c .n → T (refuted c w R i k) ↔ None M (setsOf S)
+  refuted-bytes g =
+      let (to, back) = refuted-none c w R i k g (h .shape) in
+      let ends = case-ends c w R (h .shape) in (
+        λ t F p. to t F (to-fewer ends alike same-sets few-values only-values p),
+        λ none. back (λ F p. none (λ j v. F j v && ltb v (c .d)) (to-more ends alike same-sets few-values only-values p)),
+      )
+
+  -- what the sweeps leave says whether the value is refuted
+  pub settled-refuted : i < c .n → (S′ : List ℕ) (left : Bool) → Settled M (setsOf S) S′ left → not left ≡ refuted c w R i k
+  settled-refuted g S′ true p = sym (is-false (refuted c w R i k) (not-T (refuted c w R i k) (λ t. refuted-bytes g .0 t (setsOf S′) (p .0))))
+  settled-refuted g S′ false none = sym (is-true (refuted c w R i k) (refuted-bytes g .1 none))
+
+-- ---- the bytes that are written
+
+module _ (c : Case) (w : List ℤ) (raised : List ℕ) (i k : ℕ) where
+  pub fixed-written : (S S₁ S₂ : List ℕ) (o r : ℕ) → i < c .n → c .n ≤ length S → S₁ ≡ overwritten (activeSets c w) S → Written (allowedOf raised (c .d) S₁) 0 (c .n) S₁ S₂
+      → o ≡ onlyOf k → r ≡ inBoth (getD S₂ i 0) o → length S₂ ≡ length S → Written (fixedSet c w raised i k) 0 (c .n) S (set S₂ i r)
+  fixed-written S S₁ S₂ o r g room first second eo er len = record {
+    same-length = length-set S₂ i r ∙ len;
+    here = λ j h.
+        after-set (λ (s : ℕ). s ≡ fixedSet c w raised i k j) S₂ i r (0 + j) (omega arith)
+        (λ q.
+        let same : j ≡ i = omega arith in
+        er ∙ ap₂ inBoth (ap (λ (x : ℕ). getD S₂ x 0) (sym q) ∙ allowed-here j h) eo
+        ∙ sym (ap (λ (b : Bool). if b then inBoth (allowedSet c w raised j) (onlyOf k) else allowedSet c w raised j) (eq-eqb j i same)))
+        (λ ne.
+        allowed-here j h
+        ∙ sym (ap (λ (b : Bool). if b then inBoth (allowedSet c w raised j) (onlyOf k) else allowedSet c w raised j) (ne-eqb j i (λ e. ne (omega arith)))));
+    before = λ q h. absurd (omega arith);
+    after = λ q h. after-set (λ (s : ℕ). s ≡ getD S q 0) S₂ i r q (omega arith) (λ e. absurd (omega arith)) (λ ne. second .after q h ∙ past q (omega arith));
+  }
+    where
+      active-here : (j : ℕ) → j < c .n → getD S₁ j 0 ≡ activeSet c w j
+      active-here j h = ap (λ (l : List ℕ). getD l j 0) first ∙ List·getD-append (activeSets c w) (drop (length (activeSets c w)) S) 0 j (rw (sets-length c w) h) ∙ sets-at c w j h
+
+      allowed-here : (j : ℕ) → j < c .n → getD S₂ (0 + j) 0 ≡ allowedSet c w raised j
+      allowed-here j h = second .here j h ∙ ap (λ (s : ℕ). if isMarked raised j then s else fullOf (c .d)) (active-here j h)
+
+      past : (q : ℕ) → c .n ≤ q → getD S₁ q 0 ≡ getD S q 0
+      past q h =
+          let z : q ≡ length (activeSets c w) + (q - c .n) = omega (arith, sets-length c w) in
+          let y : length (activeSets c w) + (q - c .n) ≡ q = omega (arith, sets-length c w) in
+          ap (λ (l : List ℕ). getD l q 0) first
+          ∙ ap (λ (p : ℕ). getD (overwritten (activeSets c w) S) p 0) z
+          ∙ getD-append-add (activeSets c w) (drop (length (activeSets c w)) S) (q - c .n) 0
+          ∙ getD-drop (length (activeSets c w)) S (q - c .n) 0
+          ∙ ap (λ (p : ℕ). getD S p 0) y
+
+  -- ---- the arrays of `is_refuted`
+
+  module _ (h : Handed standard (workingWeight standard) c w) (len : length raised ≡ scopeCount c) where
+    abbrev part : List ℕ
+    part = take (length raised - c .n) (drop (c .n) raised)
+
+    pub part-length : length part ≡ c .m
+    part-length = simp (length-take, length-drop) (omega arith)
+
+    pub part-at : (e : ℕ) → e < c .m → getD part e 0 ≡ getD raised (c .n + e) 0
+    part-at e g = getD-take (length raised - c .n) (drop (c .n) raised) e 0 (omega arith) ∙ getD-drop (c .n) raised e 0
+
+    pub rows-here : (rows zeros : List ℕ) → rows ≡ overwritten (activeRows c w) zeros → (e p : ℕ) → e < c .m → p < 16 → getD rows (16 * e + p) 0 ≡ activeRow c w e p
+    rows-here rows zeros q e p g l =
+        ap (λ (x : List ℕ). getD x (16 * e + p) 0) q
+        ∙ List·getD-append (activeRows c w) (drop (length (activeRows c w)) zeros) 0 (16 * e + p) (omega (arith, rows-length c w)) ∙ rows-at c w e p g l
+
+    module _ (S zeros : List ℕ) (written : Written (fixedSet c w raised i k) 0 (c .n) zeros S) (room : c .n ≤ length S) where
+      pub first-length : length (take (c .n) S) ≡ c .n
+      first-length = length-take-le (c .n) S room
+
+      pub first-at : (j : ℕ) → j < c .n → getD (take (c .n) S) j 0 ≡ fixedSet c w raised i k j
+      first-at j g =
+          let z : j ≡ 0 + j = omega arith in
+          getD-take (c .n) S j 0 g ∙ ap (λ (p : ℕ). getD S p 0) z ∙ written .here j g
+
+      pub narrow-well : (rows : List ℕ) → length rows ≡ 1536 → length (c .lower) ≡ 96 → length (c .upper) ≡ 96
+          → WellFormed (length (take (c .n) S)) (c .lower) (c .upper) rows part
+      narrow-well rows r lo up =
+          let few : c .m ≤ 96 = h .edges-most in record {
+            lowers = omega (arith, part-length);
+            uppers = omega (arith, part-length);
+            room = omega (arith, part-length);
+            ends = λ e g.
+                let u : e < c .m = omega (arith, part-length) in
+                (omega (arith, first-length, h .shape .ascending e u, h .shape .below-n e u), omega (arith, first-length, h .shape .below-n e u));
+          }
+
+      pub narrow-refuted : i < c .n → ((x : ℕ) → x < scopeCount c → getD raised x 0 ≤ 1) → (rows zeros′ : List ℕ) → rows ≡ overwritten (activeRows c w) zeros′ → (S′ : List ℕ) (left : Bool)
+          → Settled (networkOfBytes (length (take (c .n) S)) (c .lower) (c .upper) rows part) (setsOf (take (c .n) S)) S′ left
+          → not left ≡ refuted c w (isMarked raised) i k
+      narrow-refuted g marks rows zeros′ q S′ left =
+          settled-refuted c w h raised i k rows part (take (c .n) S) marks (rows-here rows zeros′ q) part-length part-at first-length first-at g S′ left
