@@ -2,3 +2,7 @@
 pub mod SpacedLaws
 pub mod Answers
 pub mod ShiftLaws
+pub mod Rising
+pub mod ScopeLaws
+pub mod PressLaws
+pub mod MarkLaws

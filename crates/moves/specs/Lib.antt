@@ -1,2 +1,4 @@
 -- What the inner functions answer, and what they may take as known.
 pub mod Spaced
+pub mod Scopes
+pub mod Marks

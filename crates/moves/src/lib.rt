@@ -2,20 +2,28 @@
 use definitions::Case;
 use definitions::Outcome;
 use definitions::Refusal;
+use definitions::Verdict;
 ghost use mathlib.Core.Path.{_≡_};
-ghost use mathlib.Core.List.{[], _∷_};
-ghost use Prim.Native.Nat.{ℕ, _+_, _*_, _<_};
-ghost use lib.Dec.{T};
+ghost use mathlib.Core.Bool.{not};
+ghost use mathlib.Core.List.{[], _∷_, map};
+ghost use Prim.Native.Nat.{ℕ, _+_, _*_, _≤_, _<_};
+ghost use lib.Dec.{T, ltb};
+ghost use lib.ListN.{length, getD};
 ghost use lib.IntN.{pos};
-ghost use Rattle.integers.specs.Words.{if_then_else_, withinZ, minus};
+ghost use Rattle.integers.specs.Words.{if_then_else_, _⇒_, all, any, isIn, withinZ, minus};
 ghost use Rattle.definitions.specs.Rules.{standard};
 ghost use Rattle.definitions.specs.Refusals.{_when_};
 ghost use Rattle.definitions.specs.declared.Refusal.the-variants.{LeavesRange};
 ghost use Rattle.definitions.specs.Valid.{workingWeight};
-ghost use Rattle.definitions.specs.Moves.{shift as shiftMove, shiftAmount, moved, leavesRange};
-ghost use Rattle.definitions.specs.Calls.{moveCall, shiftOut, shiftCall};
+ghost use Rattle.definitions.specs.Moves.{shift as shiftMove, press as pressMove, shiftAmount, pressAmount, plus, moved, activeValues, activeRefuted, leavesRange};
+ghost use Rattle.definitions.specs.Calls.{isMarked, isRising, moveCall, shiftOut, shiftCall, pressOut, pressCall};
+ghost use Rattle.definitions.specs.Case.{scopeCount, place, lentLength};
+ghost use Rattle.figures.specs.Scopes.{Limited, sizeOf};
+ghost use Rattle.definitions.specs.Consistency.{refuted, allRefuted};
 ghost use Rattle.theory.proofs.Validity.{Handed};
 ghost use Rattle.moves.specs.Spaced.{Spaced, spacedStay, spacedAdd, shiftStays, shifted};
+ghost use Rattle.moves.specs.Scopes.{changed, Amounts, Holding, scopeBy, scopeStays, raisedBy, pressStays};
+ghost use Rattle.moves.specs.Marks.{marked, Marks, saysYes, askedOfPress};
 
 // The greatest working weight and the greatest amount of a move, on either side of 0.
 const WORKING: i64 = 500_000_000;
@@ -161,5 +169,337 @@ pub fn shift(
     match checked {
         Outcome::Refused(refusal) => Outcome::Refused(refusal),
         Outcome::Done => shift_checked(case, table, edge, end, value, amount),
+    }
+}
+
+// ---- a scope's weights
+
+fn changed_weight(weight: i64, best: i64, top: i64, rest: i64) -> i64
+    requires { ⌜ T (workingWeight standard weight) ⌝ }
+    requires { ⌜ Amounts standard top rest ⌝ }
+    ensures { λ r. ⌜ r ≡ changed best top rest weight ⌝ }
+{
+    if weight == best {
+        return weight + top;
+    }
+    weight + rest
+}
+
+fn part_stays(part: &[i64], best: i64, top: i64, rest: i64) -> bool
+    requires { ⌜ T (all (workingWeight standard) (now part)) ⌝ }
+    requires { ⌜ Amounts standard top rest ⌝ }
+    ensures { λ r. ⌜ r ≡ all (λ z. workingWeight standard (changed best top rest z)) (now (part .entry)) ⌝ }
+{
+    let mut i: usize = 0;
+    while i < part.len() {
+        let weight = changed_weight(part[i], best, top, rest);
+        if !is_within(weight, -WORKING, WORKING) {
+            return false;
+        }
+        i += 1;
+    }
+    true
+}
+
+fn change_part(part: &mut [i64], best: i64, top: i64, rest: i64)
+    requires { ⌜ T (all (workingWeight standard) (now part)) ⌝ }
+    requires { ⌜ Amounts standard top rest ⌝ }
+    ensures { λ _. ⌜ now (part .exit) ≡ map (changed best top rest) (now (part .entry)) ⌝ }
+{
+    let mut at: usize = 0;
+    while at < part.len() {
+        let weight = changed_weight(part[at], best, top, rest);
+        part[at] = weight;
+        at += 1;
+    }
+}
+
+fn first_place(case: Case, x: usize) -> usize
+    requires { ⌜ Limited standard case ⌝ }
+    requires { ⌜ x < case .n + case .m ⌝ }
+    ensures { λ r. ⌜ r ≡ place case x 0 0 ⌝ }
+{
+    if x < case.n {
+        return x * case.d;
+    }
+    case.n * case.d + (x - case.n) * (case.d * case.d)
+}
+
+fn size_of(case: Case, x: usize) -> usize
+    requires { ⌜ Limited standard case ⌝ }
+    ensures { λ r. ⌜ r ≡ sizeOf case x ⌝ }
+{
+    if x < case.n {
+        return case.d;
+    }
+    case.d * case.d
+}
+
+// With `top` added to its active tuples and `rest` to the others, the scope's weights stay in their range.
+fn scope_stays(case: Case, table: &[i64], x: usize, top: i64, rest: i64) -> bool
+    requires { ⌜ Holding standard case (now table) x ⌝ }
+    requires { ⌜ Amounts standard top rest ⌝ }
+    ensures { λ r. ⌜ r ≡ scopeStays standard case (now (table .entry)) x top rest ⌝ }
+{
+    let first = first_place(case, x);
+    let end = first + size_of(case, x);
+    let best = figures::greatest(&table[first..end]);
+    part_stays(&table[first..end], best, top, rest)
+}
+
+fn change_scope(case: Case, table: &mut [i64], x: usize, top: i64, rest: i64)
+    requires { ⌜ Holding standard case (now table) x ⌝ }
+    requires { ⌜ Amounts standard top rest ⌝ }
+    ensures { λ _. ⌜ now (table .exit) ≡ plus case (scopeBy case (now (table .entry)) x top rest) (now (table .entry)) ⌝ }
+{
+    let first = first_place(case, x);
+    let end = first + size_of(case, x);
+    let best = figures::greatest(&table[first..end]);
+    change_part(&mut table[first..end], best, top, rest);
+}
+
+// ---- the press
+
+fn scope_at(scope: u16) -> usize
+    ensures { λ r. ⌜ r ≡ scope ⌝ }
+{
+    scope as usize
+}
+
+fn raised_stay(case: Case, table: &[i64], raised: &[u16], amount: i64) -> bool
+    requires { ⌜ Handed standard (workingWeight standard) case (now table) ⌝ }
+    requires { ⌜ T (all (λ x. ltb x (scopeCount case)) (now raised)) ⌝ }
+    requires { ⌜ T (pressAmount standard amount) ⌝ }
+    ensures { λ r. ⌜ r ≡ all (λ x. scopeStays standard case (now (table .entry)) x (pos 0) amount) (now (raised .entry)) ⌝ }
+{
+    let mut j: usize = 0;
+    while j < raised.len() {
+        if !scope_stays(case, table, scope_at(raised[j]), 0, amount) {
+            return false;
+        }
+        j += 1;
+    }
+    true
+}
+
+// Adds the amount to the forbidden tuples.
+fn raise_scopes(case: Case, table: &mut [i64], raised: &[u16], amount: i64)
+    requires { ⌜ ((x : ℕ) → T (isIn (now raised) x) → Holding standard case (now table) x) ⌝ }
+    requires { ⌜ T (isRising (now raised)) ⌝ }
+    requires { ⌜ (length (now table) ≡ lentLength case) × T (pressAmount standard amount) ⌝ }
+    ensures { λ _. ⌜ now (table .exit) ≡ plus case (raisedBy case (now (table .entry)) (now (raised .entry)) amount) (now (table .entry)) ⌝ }
+{
+    let mut j: usize = 0;
+    while j < raised.len() {
+        change_scope(case, table, scope_at(raised[j]), 0, amount);
+        j += 1;
+    }
+}
+
+fn press_stays(case: Case, table: &[i64], variable: usize, raised: &[u16], amount: i64) -> bool
+    requires { ⌜ Handed standard (workingWeight standard) case (now table) ⌝ }
+    requires { ⌜ (variable < case .n) × T (all (λ x. ltb x (scopeCount case)) (now raised)) ⌝ }
+    requires { ⌜ T (pressAmount standard amount) ⌝ }
+    ensures { λ r. ⌜ r ≡ pressStays standard case (now (table .entry)) variable (now (raised .entry)) amount ⌝ }
+{
+    let back = 0 - amount;
+    if !scope_stays(case, table, variable, back, 0) {
+        return false;
+    }
+    raised_stay(case, table, raised, amount)
+}
+
+fn make_press(case: Case, table: &mut [i64], variable: usize, raised: &[u16], amount: i64)
+    requires { ⌜ Handed standard (workingWeight standard) case (now table) ⌝ }
+    requires { ⌜ (variable < case .n) × T (all (λ x. ltb x (scopeCount case)) (now raised)) ⌝ }
+    requires { ⌜ T (isRising (now raised)) × T (not (isIn (now raised) variable)) ⌝ }
+    requires { ⌜ T (pressAmount standard amount) ⌝ }
+    ensures { λ _. ⌜ now (table .exit) ≡ moved case (pressMove variable (now (raised .entry)) amount) (now (table .entry)) ⌝ }
+{
+    let back = 0 - amount;
+    change_scope(case, table, variable, back, 0);
+    raise_scopes(case, table, raised, amount);
+}
+
+fn some_beyond(scopes: &[u16], count: usize) -> bool
+    ensures { λ r. ⌜ r ≡ any (λ x. not (ltb x count)) (now (scopes .entry)) ⌝ }
+{
+    let mut j: usize = 0;
+    while j < scopes.len() {
+        if count <= scope_at(scopes[j]) {
+            return true;
+        }
+        j += 1;
+    }
+    false
+}
+
+fn holds(scopes: &[u16], x: usize) -> bool
+    ensures { λ r. ⌜ r ≡ isIn (now (scopes .entry)) x ⌝ }
+{
+    let mut j: usize = 0;
+    while j < scopes.len() {
+        if scope_at(scopes[j]) == x {
+            return true;
+        }
+        j += 1;
+    }
+    false
+}
+
+fn is_rising(scopes: &[u16]) -> bool
+    ensures { λ r. ⌜ r ≡ isRising (now (scopes .entry)) ⌝ }
+{
+    let mut j: usize = 1;
+    while j < scopes.len() {
+        if scopes[j] <= scopes[j - 1] {
+            return false;
+        }
+        j += 1;
+    }
+    true
+}
+
+fn press_out(case: Case, variable: usize, raised: &[u16], amount: i64) -> bool
+    requires { ⌜ Limited standard case ⌝ }
+    ensures { λ r. ⌜ r ≡ pressOut standard case variable (now (raised .entry)) amount ⌝ }
+{
+    if case.n <= variable {
+        return true;
+    }
+    let scopes = case.n + case.m;
+    if raised.len() == 0 {
+        return true;
+    }
+    if scopes <= raised.len() {
+        return true;
+    }
+    if some_beyond(raised, scopes) {
+        return true;
+    }
+    !is_within(amount, 1, MOVING)
+}
+
+fn mark_scopes(marks: &mut [u8], raised: &[u16])
+    requires { ⌜ T (all (λ x. ltb x (length (now marks))) (now raised)) ⌝ }
+    ensures { λ _. ⌜ now (marks .exit) ≡ marked (now (marks .entry)) (now (raised .entry)) ⌝ }
+{
+    let mut j: usize = 0;
+    while j < raised.len() {
+        let x = scope_at(raised[j]);
+        marks[x] = 1;
+        j += 1;
+    }
+}
+
+fn is_yes(verdict: Verdict) -> bool
+    ensures { λ r. ⌜ r ≡ saysYes verdict ⌝ }
+{
+    match verdict {
+        Verdict::Yes => true,
+        Verdict::No => false,
+        Verdict::Refused(_) => false,
+    }
+}
+
+// The value is refuted, if it is active.
+fn lets_press(case: Case, table: &[i64], marks: &[u8], variable: usize, value: usize) -> bool
+    requires { ⌜ Handed standard (workingWeight standard) case (now table) ⌝ }
+    requires { ⌜ Marks case (now marks) ⌝ }
+    requires { ⌜ (variable < case .n) × (value < case .d) ⌝ }
+    ensures { λ r. ⌜ r ≡ (activeValues case (now (table .entry)) variable value ⇒ refuted case (now (table .entry)) (isMarked (now (marks .entry))) variable value) ⌝ }
+{
+    let active = figures::is_active(case, table, variable, value, 0);
+    if !is_yes(active) {
+        return true;
+    }
+    is_yes(consistency::refuted(case, table, marks, variable, value))
+}
+
+fn all_refuted(case: Case, table: &[i64], marks: &[u8], variable: usize) -> bool
+    requires { ⌜ Handed standard (workingWeight standard) case (now table) ⌝ }
+    requires { ⌜ Marks case (now marks) ⌝ }
+    requires { ⌜ variable < case .n ⌝ }
+    ensures { λ r. ⌜ r ≡ allRefuted case (now (table .entry)) (isMarked (now (marks .entry))) variable (activeValues case (now (table .entry)) variable) ⌝ }
+{
+    let d = case.d;
+    let mut k: usize = 0;
+    while k < d {
+        if !lets_press(case, table, marks, variable, k) {
+            return false;
+        }
+        k += 1;
+    }
+    true
+}
+
+// The same, with marks that are 0 before.
+fn refuted_under(
+    case: Case,
+    table: &[i64],
+    variable: usize,
+    raised: &[u16],
+    marks: &mut [u8],
+) -> bool
+    requires { ⌜ Handed standard (workingWeight standard) case (now table) ⌝ }
+    requires { ⌜ (variable < case .n) × T (all (λ x. ltb x (scopeCount case)) (now raised)) ⌝ }
+    requires { ⌜ (144 ≤ length (now marks)) × ((y : ℕ) → getD (now marks) y 0 ≡ 0) ⌝ }
+    ensures { λ r. ⌜ r ≡ activeRefuted case (now (table .entry)) variable (now (raised .entry)) ⌝ }
+{
+    let scopes = case.n + case.m;
+    mark_scopes(&mut marks[..scopes], raised);
+    all_refuted(case, table, &marks[..scopes], variable)
+}
+
+fn active_refuted(case: Case, table: &[i64], variable: usize, raised: &[u16]) -> bool
+    requires { ⌜ Handed standard (workingWeight standard) case (now table) ⌝ }
+    requires { ⌜ (variable < case .n) × T (all (λ x. ltb x (scopeCount case)) (now raised)) ⌝ }
+    ensures { λ r. ⌜ r ≡ activeRefuted case (now (table .entry)) variable (now (raised .entry)) ⌝ }
+{
+    let mut marks = [0u8; 144];
+    refuted_under(case, table, variable, raised, &mut marks)
+}
+
+// Numbers 9, 10 and 11, and the press.
+fn press_checked(
+    case: Case,
+    table: &mut [i64],
+    variable: usize,
+    raised: &[u16],
+    amount: i64,
+) -> Outcome
+    requires { ⌜ Handed standard (workingWeight standard) case (now table) ⌝ }
+    requires { ⌜ (variable < case .n) × T (all (λ x. ltb x (scopeCount case)) (now raised)) ⌝ }
+    requires { ⌜ T (pressAmount standard amount) ⌝ }
+    ensures { λ r. ⌜ r ≡ moveCall standard case (now (table .entry)) (pressMove variable (now (raised .entry)) amount) (askedOfPress standard case (now (table .entry)) variable (now (raised .entry)) amount) .answer ⌝ }
+    ensures { λ r. ⌜ now (table .exit) ≡ moveCall standard case (now (table .entry)) (pressMove variable (now (raised .entry)) amount) (askedOfPress standard case (now (table .entry)) variable (now (raised .entry)) amount) .table ⌝ }
+{
+    if !is_rising(raised) {
+        return Outcome::Refused(Refusal::RaiseNotAscending);
+    }
+    if holds(raised, variable) {
+        return Outcome::Refused(Refusal::RaiseNotAscending);
+    }
+    if !active_refuted(case, table, variable, raised) {
+        return Outcome::Refused(Refusal::NotRefuted);
+    }
+    if !press_stays(case, table, variable, raised, amount) {
+        return Outcome::Refused(Refusal::LeavesRange);
+    }
+    make_press(case, table, variable, raised, amount);
+    Outcome::Done
+}
+
+pub fn press(case: Case, table: &mut [i64], variable: usize, raised: &[u16], amount: i64) -> Outcome
+    ensures { λ r. ⌜ (r ≡ pressCall standard case (now (table .entry)) variable (now (raised .entry)) amount .answer) × (now (table .exit) ≡ pressCall standard case (now (table .entry)) variable (now (raised .entry)) amount .table) ⌝ }
+{
+    if !figures::within_limits(case) {
+        return Outcome::Refused(Refusal::OutsideLimits);
+    }
+    let out = press_out(case, variable, raised, amount);
+    let checked = figures::check_working(case, table, false, out);
+    match checked {
+        Outcome::Refused(refusal) => Outcome::Refused(refusal),
+        Outcome::Done => press_checked(case, table, variable, raised, amount),
     }
 }

@@ -1,0 +1,52 @@
+-- Rising lists: each element is below all later ones, and none is among those before it. Assumes nothing.
+use mathlib.Core.Path.{_≡_, subst}
+use mathlib.Core.Bool.{not, _&&_}
+use mathlib.Core.Logic.{_↔_, _⊎_, inl, inr, ⊎-elim}
+use mathlib.Core.List.{List, [], _∷_}
+use Prim.Native.Nat.{ℕ, zero, suc, _+_, _-_, _<_}
+use native.Mathlib.Omega.{arith}
+use lib.Dec.{T, not-T, ltb, eqb, ltb→lt, lt→ltb, eqb→eq}
+use lib.ListN.{length, getD, take}
+use lib.Seq.{getD-take, length-take-le}
+use Rattle.integers.specs.Words.{isIn}
+use Rattle.integers.specs.Tests.{either, and-intro, and-left, and-right, not-eqb-iff}
+use Rattle.integers.specs.Tables.{any-getD}
+use Rattle.definitions.specs.Calls.{isRising}
+
+pub rising-iff : (xs : List ℕ) → T (isRising xs) ↔ ((k : ℕ) → suc k < length xs → getD xs k 0 < getD xs (suc k) 0)
+rising-iff [] = (λ t k h. absurd (omega arith), λ f. tt)
+rising-iff (x ∷ []) = (λ t k h. absurd (omega arith), λ f. tt)
+rising-iff (x ∷ y ∷ ys) = (
+  λ t k h. to t k h (rising-iff (y ∷ ys) .0),
+  λ f. and-intro (ltb x y) (isRising (y ∷ ys)) (lt→ltb x y (f 0 (omega arith))) (rising-iff (y ∷ ys) .1 (λ k h. f (suc k) (omega arith))),
+)
+  where
+    to : T (ltb x y && isRising (y ∷ ys)) → (k : ℕ) → suc k < length (x ∷ y ∷ ys)
+        → (T (isRising (y ∷ ys)) → (k : ℕ) → suc k < length (y ∷ ys) → getD (y ∷ ys) k 0 < getD (y ∷ ys) (suc k) 0)
+        → getD (x ∷ y ∷ ys) k 0 < getD (x ∷ y ∷ ys) (suc k) 0
+    to t zero h r = ltb→lt x y (and-left (ltb x y) (isRising (y ∷ ys)) t)
+    to t (suc k) h r = r (and-right (ltb x y) (isRising (y ∷ ys)) t) k (omega arith)
+
+-- one more turn of a search for a step that does not rise
+pub next-rises : (xs : List ℕ) (j k : ℕ) → ((k : ℕ) → suc k < j → getD xs k 0 < getD xs (suc k) 0) → getD xs (j - 1) 0 < getD xs j 0 → suc k < j + 1 → getD xs k 0 < getD xs (suc k) 0
+next-rises xs j k f u h = ⊎-elim
+    (λ t. let e : suc k ≡ j = eqb→eq (suc k) j t in let d : j - 1 ≡ k = omega arith in rw e (subst (λ (i : ℕ). getD xs i 0 < getD xs j 0) d u))
+    (λ t. f k (omega (arith, not-eqb-iff (suc k) j .0 t)))
+    (either (eqb (suc k) j))
+
+module _ (xs : List ℕ) (rising : T (isRising xs)) where
+  pub rising-apart : (i j : ℕ) → i < j → j < length xs → getD xs i 0 < getD xs j 0
+  rising-apart i zero h u = absurd (omega arith)
+  rising-apart i (suc j) h u = go (rising-iff xs .0 rising j u) (either (eqb i j)) (λ k. rising-apart i j k (omega arith))
+    where
+      go : getD xs j 0 < getD xs (suc j) 0 → T (eqb i j) ⊎ T (not (eqb i j)) → (i < j → getD xs i 0 < getD xs j 0) → getD xs i 0 < getD xs (suc j) 0
+      go s (inl t) r = let e : i ≡ j = eqb→eq i j t in rw e s
+      go s (inr t) r = let v = r (omega (arith, not-eqb-iff i j .0 t)) in omega arith
+
+  pub not-before : (j : ℕ) → j < length xs → T (not (isIn (take j xs) (getD xs j 0)))
+  not-before j u = not-T (isIn (take j xs) (getD xs j 0)) (λ t.
+      let (i, h, s) = any-getD (λ y. eqb y (getD xs j 0)) (take j xs) 0 .0 t in
+      let k : i < j = omega (arith, length-take-le j xs (omega arith)) in
+      let e : getD (take j xs) i 0 ≡ getD xs j 0 = eqb→eq (getD (take j xs) i 0) (getD xs j 0) s in
+      let d : getD (take j xs) i 0 ≡ getD xs i 0 = getD-take j xs i 0 k in
+      omega (arith, rising-apart i j k u))

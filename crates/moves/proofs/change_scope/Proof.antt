@@ -1,0 +1,115 @@
+use mathlib.Core.Path.{_≡_, sym, ap, ap₂, _∙_}
+use mathlib.Core.List.{List, map, _++_}
+use Prim.Native.Nat.{ℕ, _+_, _-_, _≤_}
+use native.Mathlib.Omega.{arith}
+use lib.IntN.{ℤ}
+use lib.ListN.{length, take, drop}
+use mir.Syntax.{w64}
+use mir.Val.{toZ, ofZ}
+use mir.Facts.{toZ-ofZ}
+use borrow.Author.Needs.{needs}
+use Rattle.integers.specs.Words.{greatestOf}
+use Rattle.integers.specs.Linear.{read-back}
+use Rattle.definitions.specs.Case.{place, greatest}
+use Rattle.figures.specs.Scopes.{sizeOf}
+use Rattle.figures.proofs.Parts.{part-own}
+use Rattle.moves.specs.Scopes.{partOf, changed}
+use Rattle.moves.proofs.ScopeLaws.{best-known, scope-changed}
+use Rattle.moves.proofs.change_scope.Statement.{statement}
+use Rattle.moves.proofs.change_scope.Tie as tie
+
+first-place-requires : tie.Need-first-place-requires
+first-place-requires c κs = let p = c .pre .0 in (p .limited, p .scope)
+
+size-of-requires : tie.Need-size-of-requires
+size-of-requires c κs = c .before .pre .0 .limited
+
+-- where the scope's part begins, and how long it is
+part-at : (c : tie.After-size-of) → let s = c .before .before in let a = s .args in
+    (c .before .first-place .result ≡ place (a .case) (a .x) 0 0) × ((c .before .first-place .result + c .size-of .result) - c .before .first-place .result ≡ sizeOf (a .case) (a .x))
+    × (c .before .first-place .result + c .size-of .result ≤ length (a .table .now))
+part-at c =
+    let s = c .before .before in
+    let a = s .args in
+    (c .before .first-place .ensures, omega (arith, c .size-of .ensures), omega (arith, c .before .first-place .ensures, c .size-of .ensures, part-own (a .case) (a .x) (s .pre .0 .scope), s .pre .0 .long))
+
+part-is : (c : tie.After-size-of) → let s = c .before .before in let a = s .args in
+    take ((c .before .first-place .result + c .size-of .result) - c .before .first-place .result) (drop (c .before .first-place .result) (a .table .now)) ≡ partOf (a .case) (a .table .now) (a .x)
+part-is c = let a = c .before .before .args in ap₂ (λ (n p : ℕ). take n (drop p (a .table .now))) (part-at c .1) (part-at c .0)
+
+add-end : tie.Need-add-end
+add-end c = omega (arith, part-at c)
+
+mul-greatest : tie.Need-mul-greatest
+mul-greatest c = omega (arith, part-at c)
+
+sub-greatest : tie.Need-sub-greatest
+sub-greatest c = search needs
+
+part-greatest-start : tie.Need-part-greatest-start
+part-greatest-start c = search needs
+
+part-greatest-end : tie.Need-part-greatest-end
+part-greatest-end c = omega (arith, part-at (c .before))
+
+greatest-requires : tie.Need-greatest-requires
+greatest-requires c κs = search needs
+
+mul-change-part : tie.Need-mul-change-part
+mul-change-part c = omega (arith, part-at (c .before .before .before))
+
+sub-change-part : tie.Need-sub-change-part
+sub-change-part c = search needs
+
+part-change-part-start : tie.Need-part-change-part-start
+part-change-part-start c = search needs
+
+part-change-part-end : tie.Need-part-change-part-end
+part-change-part-end c = omega (arith, part-at (c .before .before .before))
+
+change-part-requires : tie.Need-change-part-requires
+change-part-requires c κs = let s = c .before .before .before .before .before .before in
+    (rw (part-is (c .before .before .before .before)) (s .pre .0 .working), rw (toZ-ofZ (s .fits .top), toZ-ofZ (s .fits .rest)) (s .pre .1))
+
+same-length : tie.Need-same-length
+same-length c = search needs
+
+best : (c : tie.After-greatest) → let s = c .before .before .before .before .before in let a = s .args in toZ w64 (ofZ w64 (c .greatest .result)) ≡ greatest (a .case) (a .table .now) (a .x)
+best c =
+    let s = c .before .before .before .before .before in
+    let a = s .args in
+    read-back w64 (c .greatest .result) (c .greatest .ok) ∙ c .greatest .ensures ∙ ap greatestOf (part-is (c .before .before .before))
+    ∙ best-known (a .case) (a .table .now) (s .pre .0 .long) (a .x) (s .pre .0 .scope)
+
+returns : tie.Need-returns
+returns c = let s = c .before .before .before .before .before .before .before .before in
+    let a = s .args in
+    let z = c .before .before .before .before .before .before in
+    let w = a .table .now in
+    let f = changed (greatest (a .case) w (a .x)) (a .top) (a .rest) in
+    let first = z .before .first-place .result in
+    let n = first + z .size-of .result - first in
+    let e : c .before .change-part .last .0 ≡ map f (take n (drop first w)) = rw (best (c .before .before .before), toZ-ofZ (s .fits .top), toZ-ofZ (s .fits .rest)) at (c .before .change-part .ensures) in
+    ap (λ (l : List ℤ). take first w ++ (l ++ drop n (drop first w))) e
+    ∙ ap₂ (λ (p n : ℕ). take p w ++ (map f (take n (drop p w)) ++ drop n (drop p w))) (part-at z .0) (part-at z .1)
+    ∙ sym (scope-changed (a .case) w (s .pre .0 .long) (a .x) (s .pre .0 .scope) (a .top) (a .rest))
+
+pub change-scope-spec : {M : Type 1} → statement M
+change-scope-spec =
+    tie.close
+    (tie.spec
+    first-place-requires
+    size-of-requires
+    add-end
+    mul-greatest
+    sub-greatest
+    part-greatest-start
+    part-greatest-end
+    greatest-requires
+    mul-change-part
+    sub-change-part
+    part-change-part-start
+    part-change-part-end
+    change-part-requires
+    same-length
+    returns)
