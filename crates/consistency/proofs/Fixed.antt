@@ -1,17 +1,17 @@
 -- The key theorem: over the bytes of a table with one value fixed, no family is supported exactly where the value is refuted. Assumes nothing.
 use mathlib.Core.Path.{_≡_, refl, sym, ap, ap₂, _∙_}
 use mathlib.Core.Bool.{Bool, true, false, not, _&&_, _||_}
-use mathlib.Core.Logic.{_↔_}
+use mathlib.Core.Logic.{_↔_, ⊎-elim}
 use mathlib.Core.List.{List}
 use Prim.Native.Nat.{ℕ, zero, suc, _+_, _*_, _-_, _≤_, _<_}
 use native.Mathlib.Omega.{arith}
 use borrow.Author.Tests.{lt-ltb, le-ltb, eq-eqb, ne-eqb}
 use lib.IntN.{ℤ}
-use lib.Dec.{T, not-T, ltb, ltb→lt, eqb}
+use lib.Dec.{T, T-not, not-T, ltb, ltb→lt, eqb}
 use lib.ListN.{length, getD, set, take, drop, length-take, length-drop, length-set, List·getD-append}
 use lib.Seq.{getD-append-add, getD-take, getD-drop, length-take-le}
 use Rattle.integers.specs.Words.{if_then_else_, _⇒_}
-use Rattle.integers.specs.Tests.{and-left, is-true, is-false}
+use Rattle.integers.specs.Tests.{and-left, is-true, is-false, either, same-test}
 use Rattle.definitions.specs.declared.Case.{Case}
 use Rattle.definitions.specs.Rules.{standard}
 use Rattle.definitions.specs.Case.{scopeCount, active}
@@ -20,15 +20,17 @@ use Rattle.definitions.specs.Calls.{isMarked}
 use Rattle.definitions.specs.Consistency.{allowed, refuted}
 use Rattle.theory.specs.Network.{Network, networkOf, fixedSets}
 use Rattle.theory.proofs.Validity.{Handed}
-use Rattle.theory.proofs.Networks.{None, Alike, to-fewer, to-more, case-ends, refuted-none}
+use Rattle.theory.proofs.Networks.{None, Alike, to-fewer, to-more, case-ends, refuted-none, none-tried, some-tried}
 use Rattle.definitions.specs.Lines.{overwritten}
 use Rattle.marks.specs.Marks.{mark, fullOf, onlyOf, inBoth}
 use Rattle.marks.proofs.Laws.{mark-byteOf}
-use Rattle.consistency.specs.Closure.{networkOfBytes, setsOf}
+use Rattle.consistency.specs.Closure.{networkOfBytes, setsOf, isMalformed, someFamily, closureAnswer}
+use Rattle.consistency.specs.declared.Closed.the-variants.{Empty, Family as SomeFamily}
 use Rattle.consistency.specs.Active.{activeSet, activeAbove, activeBelow, activeRow, activeSets, activeRows, Written}
 use Rattle.consistency.specs.Sweeps.{WellFormed, Settled}
 use Rattle.consistency.specs.Refuted.{allowedSet, fixedSet, allowedOf}
 use Rattle.consistency.proofs.Steps.{after-set}
+use Rattle.consistency.proofs.Results.{well-formed, answer-is}
 use Rattle.consistency.proofs.Marked.{sets-length, sets-at, rows-length, rows-at}
 
 -- ---- tests
@@ -146,6 +148,25 @@ module _ (c : Case) (w : List ℤ) (h : Handed standard (workingWeight standard)
   pub settled-refuted : i < c .n → (S′ : List ℕ) (left : Bool) → Settled M (setsOf S) S′ left → not left ≡ refuted c w R i k
   settled-refuted g S′ true p = sym (is-false (refuted c w R i k) (not-T (refuted c w R i k) (λ t. refuted-bytes g .0 t (setsOf S′) (p .0))))
   settled-refuted g S′ false none = sym (is-true (refuted c w R i k) (refuted-bytes g .1 none))
+
+  -- and so does the answer of `closure` on these bytes
+  module _ (g : i < c .n) (good : isMalformed (length S) (c .lower) (c .upper) rows edges ≡ false) where
+    some-family : someFamily M (setsOf S) ≡ not (refuted c w R i k)
+    some-family =
+        same-test (someFamily M (setsOf S)) (not (refuted c w R i k))
+        (λ t. not-T (refuted c w R i k) (λ r. rw (none-tried M (setsOf S) (refuted-bytes g .0 r)) at t))
+        (λ t.
+        ⊎-elim (λ s. s)
+        (λ n. absurd (T-not (refuted c w R i k) t (refuted-bytes g .1 (λ F p. rw (some-tried M (setsOf S) (well-formed (c .lower) (c .upper) rows edges S good .ends) p) at n))))
+        (either (someFamily M (setsOf S))))
+
+    pub closure-refuted : closureAnswer (c .lower) (c .upper) rows edges S ≡ (if refuted c w R i k then Empty else SomeFamily)
+    closure-refuted =
+        answer-is (c .lower) (c .upper) rows edges S good ∙ ap (λ (b : Bool). if b then SomeFamily else Empty) some-family ∙ turned (refuted c w R i k)
+      where
+        turned : (b : Bool) → (if not b then SomeFamily else Empty) ≡ (if b then Empty else SomeFamily)
+        turned true = refl
+        turned false = refl
 
 -- ---- the bytes that are written
 

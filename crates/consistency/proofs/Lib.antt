@@ -1,4 +1,4 @@
--- Laws of the search and of the closure's steps.
+-- Laws that the functions' proofs share. Fixed has the key theorem: `closure-refuted`, and `refuted-bytes` behind it.
 pub mod Search
 pub mod Steps
 pub mod Results

@@ -43,7 +43,7 @@ module _ (lower upper rows raised S : List ℕ) where
     unfolding closureSets
     sets-are = if-false _ _ (isMalformed (length S) lower upper rows raised) (false-is _ e)
 
-    answer-is : closureAnswer lower upper rows raised S ≡ (if someFamily N (setsOf S) then Family else Empty)
+    pub answer-is : closureAnswer lower upper rows raised S ≡ (if someFamily N (setsOf S) then Family else Empty)
     unfolding closureAnswer
     answer-is = if-false _ _ (isMalformed (length S) lower upper rows raised) (false-is _ e)
 

@@ -398,7 +398,8 @@ fn too_short(case: Case, sets: usize, rows: usize) -> bool
     rows / 16 < case.m
 }
 
-// Writes the active values of each variable to the first n bytes of `sets`, and the active partners to the first 16 · m of `rows`, as `closure` takes them.
+// Writes the active values of each variable to the first n bytes of `sets`, and the active partners on each edge to the first 16 · m bytes
+// of `rows`, as `closure` takes them.
 pub fn active_marks(case: Case, table: &[i64], sets: &mut [u8], rows: &mut [u8]) -> Outcome
     ensures { λ r. ⌜ r ≡ activeAnswer standard case (now (table .entry)) (now (sets .entry)) (now (rows .entry)) ⌝ }
     ensures { λ r. ⌜ now (sets .exit) ≡ setsAfter standard case (now (table .entry)) (now (sets .entry)) (now (rows .entry)) ⌝ }
