@@ -30,7 +30,7 @@ use Rattle.theory.proofs.Places.{IsTuple, by-tuple, variable-tuple, edge-tuple,
 use Rattle.theory.proofs.Shape.{Shape}
 use Rattle.theory.proofs.Validity.{Handed}
 use Rattle.moves.specs.Spaced.{weightAt, Spaced, spacedStay, spacedAdd, shiftStays, shifted}
-use Rattle.moves.proofs.SpacedLaws.{spaced-long, spaced-miss, spaced-hit}
+use Rattle.moves.proofs.SpacedLaws.{spaced-long, spaced-miss, spaced-hit, one-place}
 use Rattle.moves.proofs.Answers.{made-answer, made-table, refused-answer, refused-table, next-answer, next-table}
 
 -- where the tuple's place stands among those touched, and what is added there
@@ -39,11 +39,8 @@ pub data Touched (c : Case) (δ : Difference) (own start step : ℕ) (a : ℤ) (
   at-used : (j : ℕ) → j < c .d → place c x k l ≡ start + j * step → δ x k l ≡ negℤ a → Touched c δ own start step a x k l
   elsewhere : (place c x k l ≡ own → ⊥) → ((j : ℕ) → j < c .d → place c x k l ≡ start + j * step → ⊥) → δ x k l ≡ pos 0 → Touched c δ own start step a x k l
 
-one-place : (own : ℕ) → own + 0 * 1 ≡ own
-one-place own = omega arith
-
 not-first : {own p : ℕ} → (p ≡ own → ⊥) → (i : ℕ) → i < 1 → p ≡ own + i * 1 → ⊥
-not-first {own} f i h e = let z : i ≡ 0 = omega arith in f (omega arith)
+not-first {own} f i h e = f (e ∙ one-place own i h)
 
 module _ (r : Rules) (c : Case) (w : List ℤ) (δ : Difference) (own start step : ℕ) (a : ℤ)
     (touched : (x k l : ℕ) → IsTuple c x k l → Touched c δ own start step a x k l)
@@ -57,7 +54,7 @@ module _ (r : Rules) (c : Case) (w : List ℤ) (δ : Difference) (own start step
 
   at-first : weightAt first own ≡ weightAt w own +ℤ a
   unfolding first
-  at-first = subst (λ (p : ℕ). weightAt (spacedAdd w own 1 1 a) p ≡ weightAt w p +ℤ a) (one-place own) (spaced-hit w own 1 a (omega arith) 1 0 (omega arith) (omega arith))
+  at-first = subst (λ (p : ℕ). weightAt (spacedAdd w own 1 1 a) p ≡ weightAt w p +ℤ a) (one-place own 0 (omega arith)) (spaced-hit w own 1 a (omega arith) 1 0 (omega arith) (omega arith))
 
   off-first : {p : ℕ} → (p ≡ own → ⊥) → weightAt first p ≡ weightAt w p
   unfolding first
@@ -119,7 +116,7 @@ module _ (r : Rules) (c : Case) (w : List ℤ) (δ : Difference) (own start step
         v = all-at (λ j. workingWeight r (weightAt w (start + j * step) +ℤ negℤ a)) (c .d) (and-right (spacedStay r w own 1 1 a) _ s)
 
         go : Touched c δ own start step a x k l → inRange (weight c w x k l +ℤ δ x k l)
-        go (at-own e d) = subst inRange (sym (ap₂ _+ℤ_ (ap (weightAt w) (e ∙ sym (one-place own))) d)) u
+        go (at-own e d) = subst inRange (sym (ap₂ _+ℤ_ (ap (weightAt w) (e ∙ sym (one-place own 0 (omega arith)))) d)) u
         go (at-used j h e d) = subst inRange (sym (ap₂ _+ℤ_ (ap (weightAt w) e) d)) (v j h)
         go (elsewhere f g d) = subst inRange (sym (ap (λ (z : ℤ). weight c w x k l +ℤ z) d ∙ +ℤ-idr (weight c w x k l))) (working x k l t)
 

@@ -65,7 +65,7 @@ module _ (w : List ℤ) (start step : ℕ) (by : ℤ) where
         getD-set-other (spacedAdd w start step j by) (start + j * step) (start + i * step) _ (pos 0) (spaced-apart start step i j some k) ∙ spaced-hit j i k l)
         (either (eqb i j))
 
-one-place : (own i : ℕ) → i < 1 → own + i * 1 ≡ own
+pub one-place : (own i : ℕ) → i < 1 → own + i * 1 ≡ own
 one-place own i h = omega arith
 
 -- after something is added at a place apart from them

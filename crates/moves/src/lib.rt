@@ -321,6 +321,8 @@ fn make_press(case: Case, table: &mut [i64], variable: usize, raised: &[u16], am
     raise_scopes(case, table, raised, amount);
 }
 
+// ---- what a press is asked: numbers 5 and 9
+
 fn some_beyond(scopes: &[u16], count: usize) -> bool
     ensures { λ r. ⌜ r ≡ any (λ x. not (ltb x count)) (now (scopes .entry)) ⌝ }
 {
@@ -379,6 +381,8 @@ fn press_out(case: Case, variable: usize, raised: &[u16], amount: i64) -> bool
     }
     !is_within(amount, 1, MOVING)
 }
+
+// ---- number 10
 
 fn mark_scopes(marks: &mut [u8], raised: &[u16])
     requires { ⌜ T (all (λ x. ltb x (length (now marks))) (now raised)) ⌝ }
@@ -459,6 +463,8 @@ fn active_refuted(case: Case, table: &[i64], variable: usize, raised: &[u16]) ->
     let mut marks = [0u8; 144];
     refuted_under(case, table, variable, raised, &mut marks)
 }
+
+// ---- the call
 
 // Numbers 9, 10 and 11, and the press.
 fn press_checked(
