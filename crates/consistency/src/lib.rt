@@ -36,24 +36,6 @@ pub enum Closed {
 
 // ---- the search for partners
 
-// The lowest value of both: `row` holds a value's partners, `other` is the other end's set.
-pub fn lowest_partner(row: u8, other: u8) -> Partner
-    ensures { λ r. ⌜ r ≡ lowestPartner row other ⌝ }
-{
-    let mut left = row;
-    let found = 'partners: loop {
-        if left == 0 {
-            break 'partners Partner::Nothing;
-        }
-        let l = marks::lowest(left);
-        if marks::has(other, l) {
-            break 'partners Partner::At(l);
-        }
-        left = marks::strike(left, l);
-    };
-    found
-}
-
 // The values of `set` that have a partner in `other`. The partners of value k stand at rows[at + k].
 fn supported(rows: &[u8], at: usize, set: u8, other: u8) -> u8
     requires { ⌜ at + 8 ≤ length (now rows) ⌝ }
@@ -258,22 +240,6 @@ fn is_malformed(lower: &[u8], upper: &[u8], rows: &[u8], raised: &[u8], n: usize
     some_end_outside(lower, upper, edges, n)
 }
 
-// Takes `sets` to the largest supported family inside them. There are raised.len() edges; edge e joins lower[e] and upper[e]. The 16 bytes
-// from rows[16 * e] on are the partners of each value of the lower end, then of the upper end; an edge whose byte is 0 allows everything.
-pub fn closure(lower: &[u8], upper: &[u8], rows: &[u8], raised: &[u8], sets: &mut [u8]) -> Closed
-    ensures { λ r. ⌜ r ≡ closureAnswer (now (lower .entry)) (now (upper .entry)) (now (rows .entry)) (now (raised .entry)) (now (sets .entry)) ⌝ }
-    ensures { λ r. ⌜ now (sets .exit) ≡ closureSets (now (lower .entry)) (now (upper .entry)) (now (rows .entry)) (now (raised .entry)) (now (sets .entry)) ⌝ }
-{
-    if is_malformed(lower, upper, rows, raised, sets.len()) {
-        return Closed::Malformed;
-    }
-    if narrow(lower, upper, rows, raised, sets) {
-        return Closed::Family;
-    }
-    clear(sets);
-    Closed::Empty
-}
-
 // ---- what is prepared once for a table
 
 fn same(a: i64, b: i64) -> bool
@@ -398,25 +364,6 @@ fn too_short(case: Case, sets: usize, rows: usize) -> bool
     rows / 16 < case.m
 }
 
-// Writes the active values of each variable to the first n bytes of `sets`, and the active partners on each edge to the first 16 · m bytes
-// of `rows`, as `closure` takes them.
-pub fn active_marks(case: Case, table: &[i64], sets: &mut [u8], rows: &mut [u8]) -> Outcome
-    ensures { λ r. ⌜ r ≡ activeAnswer standard case (now (table .entry)) (now (sets .entry)) (now (rows .entry)) ⌝ }
-    ensures { λ r. ⌜ now (sets .exit) ≡ setsAfter standard case (now (table .entry)) (now (sets .entry)) (now (rows .entry)) ⌝ }
-    ensures { λ r. ⌜ now (rows .exit) ≡ rowsAfter standard case (now (table .entry)) (now (sets .entry)) (now (rows .entry)) ⌝ }
-{
-    let wrong = too_short(case, sets.len(), rows.len());
-    let checked = figures::check_working(case, table, wrong, false);
-    match checked {
-        Outcome::Refused(refusal) => Outcome::Refused(refusal),
-        Outcome::Done => {
-            write_sets(case, table, sets);
-            write_rows(case, table, rows);
-            Outcome::Done
-        }
-    }
-}
-
 // ---- refutation
 
 fn allowed_set(active: u8, mark: u8, d: usize) -> u8
@@ -508,6 +455,61 @@ fn verdict(yes: bool) -> Verdict
         return Verdict::Yes;
     }
     Verdict::No
+}
+
+// ---- the calls
+
+// The lowest value of both: `row` holds a value's partners, `other` is the other end's set.
+pub fn lowest_partner(row: u8, other: u8) -> Partner
+    ensures { λ r. ⌜ r ≡ lowestPartner row other ⌝ }
+{
+    let mut left = row;
+    let found = 'partners: loop {
+        if left == 0 {
+            break 'partners Partner::Nothing;
+        }
+        let l = marks::lowest(left);
+        if marks::has(other, l) {
+            break 'partners Partner::At(l);
+        }
+        left = marks::strike(left, l);
+    };
+    found
+}
+
+// Takes `sets` to the largest supported family inside them. There are raised.len() edges; edge e joins lower[e] and upper[e]. The 16 bytes
+// from rows[16 * e] on are the partners of each value of the lower end, then of the upper end; an edge whose byte is 0 allows everything.
+pub fn closure(lower: &[u8], upper: &[u8], rows: &[u8], raised: &[u8], sets: &mut [u8]) -> Closed
+    ensures { λ r. ⌜ r ≡ closureAnswer (now (lower .entry)) (now (upper .entry)) (now (rows .entry)) (now (raised .entry)) (now (sets .entry)) ⌝ }
+    ensures { λ r. ⌜ now (sets .exit) ≡ closureSets (now (lower .entry)) (now (upper .entry)) (now (rows .entry)) (now (raised .entry)) (now (sets .entry)) ⌝ }
+{
+    if is_malformed(lower, upper, rows, raised, sets.len()) {
+        return Closed::Malformed;
+    }
+    if narrow(lower, upper, rows, raised, sets) {
+        return Closed::Family;
+    }
+    clear(sets);
+    Closed::Empty
+}
+
+// Writes the active values of each variable to the first n bytes of `sets`, and the active partners on each edge to the first 16 · m bytes
+// of `rows`, as `closure` takes them.
+pub fn active_marks(case: Case, table: &[i64], sets: &mut [u8], rows: &mut [u8]) -> Outcome
+    ensures { λ r. ⌜ r ≡ activeAnswer standard case (now (table .entry)) (now (sets .entry)) (now (rows .entry)) ⌝ }
+    ensures { λ r. ⌜ now (sets .exit) ≡ setsAfter standard case (now (table .entry)) (now (sets .entry)) (now (rows .entry)) ⌝ }
+    ensures { λ r. ⌜ now (rows .exit) ≡ rowsAfter standard case (now (table .entry)) (now (sets .entry)) (now (rows .entry)) ⌝ }
+{
+    let wrong = too_short(case, sets.len(), rows.len());
+    let checked = figures::check_working(case, table, wrong, false);
+    match checked {
+        Outcome::Refused(refusal) => Outcome::Refused(refusal),
+        Outcome::Done => {
+            write_sets(case, table, sets);
+            write_rows(case, table, rows);
+            Outcome::Done
+        }
+    }
 }
 
 // Whether a value of a variable is refuted; `raised` has a byte for each scope, 1 where it is raised and else 0.

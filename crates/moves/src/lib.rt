@@ -154,24 +154,6 @@ fn shift_out(case: Case, edge: usize, end: usize, value: usize, amount: i64) -> 
     !is_shift_amount(amount)
 }
 
-pub fn shift(
-    case: Case,
-    table: &mut [i64],
-    edge: usize,
-    end: usize,
-    value: usize,
-    amount: i64,
-) -> Outcome
-    ensures { λ r. ⌜ (r ≡ shiftCall standard case (now (table .entry)) edge end value amount .answer) × (now (table .exit) ≡ shiftCall standard case (now (table .entry)) edge end value amount .table) ⌝ }
-{
-    let out = shift_out(case, edge, end, value, amount);
-    let checked = figures::check_working(case, table, false, out);
-    match checked {
-        Outcome::Refused(refusal) => Outcome::Refused(refusal),
-        Outcome::Done => shift_checked(case, table, edge, end, value, amount),
-    }
-}
-
 // ---- a scope's weights
 
 fn changed_weight(weight: i64, best: i64, top: i64, rest: i64) -> i64
@@ -494,6 +476,26 @@ fn press_checked(
     }
     make_press(case, table, variable, raised, amount);
     Outcome::Done
+}
+
+// ---- the calls
+
+pub fn shift(
+    case: Case,
+    table: &mut [i64],
+    edge: usize,
+    end: usize,
+    value: usize,
+    amount: i64,
+) -> Outcome
+    ensures { λ r. ⌜ (r ≡ shiftCall standard case (now (table .entry)) edge end value amount .answer) × (now (table .exit) ≡ shiftCall standard case (now (table .entry)) edge end value amount .table) ⌝ }
+{
+    let out = shift_out(case, edge, end, value, amount);
+    let checked = figures::check_working(case, table, false, out);
+    match checked {
+        Outcome::Refused(refusal) => Outcome::Refused(refusal),
+        Outcome::Done => shift_checked(case, table, edge, end, value, amount),
+    }
 }
 
 pub fn press(case: Case, table: &mut [i64], variable: usize, raised: &[u16], amount: i64) -> Outcome
