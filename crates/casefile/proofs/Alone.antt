@@ -1,13 +1,12 @@
 -- A case with nothing after it. Assumes nothing.
-use mathlib.Core.Path.{_≡_, refl, sym, ap, ap₂, _∙_}
-use mathlib.Core.Bool.{Bool, true, false}
+use mathlib.Core.Path.{_≡_, refl, ap, ap₂, _∙_}
+use mathlib.Core.Bool.{Bool}
 use mathlib.Core.Logic.{_≢_}
 use mathlib.Core.Option.{Option, none, some}
-use mathlib.Core.List.{List, [], _∷_}
-use Prim.Native.Nat.{ℕ, _+_, _*_, _≤_}
-use native.Mathlib.Omega.{arith}
+use mathlib.Core.List.{List}
+use Prim.Native.Nat.{ℕ, _*_}
 use lib.IntN.{ℤ}
-use lib.ListN.{length, drop, length-drop}
+use lib.ListN.{length, drop}
 use borrow.Author.Tests.{eq-eqb, ne-eqb}
 use Rattle.integers.specs.Words.{if_then_else_}
 use Rattle.definitions.specs.declared.Line.{Line}
@@ -17,7 +16,7 @@ use Rattle.definitions.specs.declared.Refusal.{Refusal}
 use Rattle.definitions.specs.declared.Refusal.the-variants.{NotDue, CutShort}
 use Rattle.definitions.specs.Rules.{standard}
 use Rattle.definitions.specs.Refusals.{firstOf}
-use Rattle.definitions.specs.CaseFiles.{CaseDue, Reading, CaseCall, caseRefused, isCut, firstLine, took, readDues, endTests, restRefusal, nothingAfter, readCase, readCaseAlone}
+use Rattle.definitions.specs.CaseFiles.{CaseCall, caseRefused, isCut, firstLine, endTests, restRefusal, nothingAfter, readCase, readCaseAlone}
 use Rattle.casefile.proofs.Tests.{due-none}
 use Rattle.casefile.proofs.Heads.{Front, cut, bad, good}
 

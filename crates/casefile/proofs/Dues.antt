@@ -1,6 +1,6 @@
 -- What is due at each line after the head. Assumes nothing.
 use mathlib.Core.Path.{_≡_, refl, sym, ap, subst, _∙_}
-use mathlib.Core.List.{List, [], _∷_, _++_, map}
+use mathlib.Core.List.{List, _∷_, _++_, map}
 use Prim.Native.Nat.{ℕ, zero, suc, _+_, _*_, _-_, _/_, _%_, _≤_, _<_}
 use native.Mathlib.Nat.{div-lt-iff-lt-mul, mod-lt, mul-le-mul, mul-le-mul-right}
 use native.Mathlib.Omega.{arith}
@@ -16,7 +16,7 @@ use Rattle.definitions.specs.Rules.{standard}
 use Rattle.definitions.specs.CaseFiles.{CaseDue, variable-weight, edge-ends, edge-weight, dues, caseOf}
 use Rattle.casefile.specs.declared.Sizes.{Sizes}
 use Rattle.casefile.specs.declared.Awaited.{Awaited}
-use Rattle.casefile.specs.Steps.{dueOf, InCase, Limited, edgeDue, edgeDueAt, dueAt, linesDue, tableOf}
+use Rattle.casefile.specs.Steps.{dueOf, InCase, Limited, edgeDue, edgeDueAt, dueAt, linesDue}
 
 some-wide : (a b q : ℕ) → q < a * b → 0 < b
 some-wide a zero q h = absurd (omega arith)

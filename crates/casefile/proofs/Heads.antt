@@ -1,13 +1,11 @@
 -- The line at the front of the bytes left, and what the head says. Assumes nothing.
 use mathlib.Core.Path.{_≡_, refl, sym, ap, ap₂, _∙_}
-use mathlib.Core.Bool.{Bool, true, false, not, _&&_, _||_}
+use mathlib.Core.Bool.{Bool, true, false, _&&_}
 use mathlib.Core.Option.{Option, none, some}
-use mathlib.Core.List.{List, [], _∷_}
-use Prim.Native.Nat.{ℕ, _+_, _*_, _≤_, _<_}
-use native.Mathlib.Nat.{mul-le-mul}
-use native.Mathlib.Omega.{arith}
+use mathlib.Core.List.{List}
+use Prim.Native.Nat.{ℕ, _≤_, _<_}
 use lib.IntN.{ℤ, pos, natAbs}
-use lib.ListN.{length, take, drop}
+use lib.ListN.{length, take}
 use borrow.Author.Tests.{lt-ltb, le-ltb}
 use Rattle.integers.specs.Words.{if_then_else_, withinZ}
 use Rattle.integers.specs.Tests.{and-left, and-right}
@@ -21,9 +19,8 @@ use Rattle.definitions.specs.declared.Refusal.the-variants.{NotInColumns, NotDu
 use Rattle.definitions.specs.Rules.{standard}
 use Rattle.definitions.specs.Refusals.{firstOf}
 use Rattle.definitions.specs.Case.{lentLength}
-use Rattle.definitions.specs.Lines.{readLine}
 use Rattle.definitions.specs.Calls.{readLineAnswer}
-use Rattle.definitions.specs.CaseFiles.{isCut, firstLine, headTests, headRefusal, headed, caseSize}
+use Rattle.definitions.specs.CaseFiles.{isCut, firstLine, headTests, headed, caseSize}
 use Rattle.casefile.specs.Reads.{lineFrom, ofKind, limitsZ, sizeOf}
 use Rattle.casefile.proofs.Tests.{due-10, within-nat}
 

@@ -3,13 +3,13 @@ use mathlib.Core.Path.{_≡_, refl, sym, ap, ap₂, subst, _∙_}
 use mathlib.Core.Bool.{true, false}
 use mathlib.Core.Option.{Option, none, some}
 use mathlib.Core.List.{List, [], _∷_, _++_, map, append-assoc, append-nil}
-use Prim.Native.Nat.{ℕ, suc, _+_, _*_, _-_, _≤_, _<_}
+use Prim.Native.Nat.{ℕ, _+_, _*_, _-_, _≤_, _<_}
 use native.Mathlib.Numerals.{add-one}
 use native.Mathlib.Omega.{arith}
 use lib.IntN.{ℤ}
 use lib.Dec.{ltb, nltb→le}
-use lib.ListN.{length, getD, take, drop, length-append, length-take, length-drop, drop-of-length-le}
-use lib.Seq.{take-suc, take-all, drop-at, drop-drop, drop-append-add}
+use lib.ListN.{length, take, drop, length-append, length-take, length-drop, drop-of-length-le}
+use lib.Seq.{take-suc, take-all, drop-drop, drop-append-add}
 use Rattle.integers.specs.Words.{joined}
 use Rattle.integers.specs.Lists.{_∈_, map-append, map-map, joined-append}
 use Rattle.integers.specs.Tables.{getD-in}
@@ -24,17 +24,17 @@ use Rattle.definitions.specs.Answers.{outcomeOf, unlessRefused}
 use Rattle.definitions.specs.Valid.{startingWeight, withinLimits, handedOver}
 use Rattle.definitions.specs.Rules.{standard, standard-coherent}
 use Rattle.definitions.specs.Lines.{lineText, lineTooWide, overwritten}
-use Rattle.definitions.specs.Calls.{writeLineCall, WriteCall, writtenOf, fileBytes, writeCaseCall}
+use Rattle.definitions.specs.Calls.{writeLineCall, writtenOf, fileBytes, writeCaseCall}
 use Rattle.definitions.specs.CaseFiles.{CaseDue, edge-ends, headLine, caseText}
 use Rattle.definitions.proofs.LineLaws.{line-length}
 use Rattle.theory.proofs.Validity.{Valid, handed}
-use Rattle.theory.proofs.CaseDues.{lineOf, case-lines, IsDue, in-dues}
+use Rattle.theory.proofs.CaseDues.{lineOf, case-lines, in-dues}
 use Rattle.theory.proofs.CaseTests.{due-fits, head-fits}
 use Rattle.figures.proofs.Order.{limited, outcome-done, outcome-refused}
 use Rattle.lines.proofs.Answers.{write-done}
 use Rattle.lines.proofs.Stores.{column-next}
 use Rattle.casefile.specs.declared.Sizes.{Sizes}
-use Rattle.casefile.specs.Steps.{Limited, dueAt, linesDue, tableOf, caseWith}
+use Rattle.casefile.specs.Steps.{Limited, dueAt, linesDue, caseWith}
 use Rattle.casefile.proofs.Dues.{allDues, dues-length, dues-at}
 
 -- ---- a line in its place
