@@ -136,16 +136,6 @@ fn size_of(line: Line) -> CaseSize
     head_size(line)
 }
 
-pub fn case_size(bytes: &[u8]) -> CaseSize
-    ensures { λ r. ⌜ r ≡ caseSize standard (now (bytes .entry)) ⌝ }
-{
-    let head = line_at(bytes, 0);
-    match head {
-        LineRead::Refused(refusal) => CaseSize::Refused(refusal),
-        LineRead::Read(line) => size_of(line),
-    }
-}
-
 // ---- what is due
 
 fn edge_awaited(d: usize, p: usize) -> Awaited
@@ -510,26 +500,6 @@ fn read_body(bytes: &[u8], sizes: Sizes, table: &mut [i64]) -> CaseRead
     }
 }
 
-pub fn read_case(bytes: &[u8], table: &mut [i64]) -> CaseRead
-    ensures { λ r. ⌜ (r ≡ readCase standard (now (bytes .entry)) (now (table .entry)) .read) × (now (table .exit) ≡ readCase standard (now (bytes .entry)) (now (table .entry)) .table) ⌝ }
-{
-    let size = case_size(bytes);
-    match size {
-        CaseSize::Refused(refusal) => refused(refusal, 0),
-        CaseSize::Size {
-            n,
-            d,
-            m,
-            table: long,
-        } => {
-            if table.len() != long {
-                return refused(Refusal::WrongLength, 0);
-            }
-            read_body(bytes, Sizes { n, d, m }, table)
-        }
-    }
-}
-
 // ---- a case alone
 
 // What is asked of the bytes after a case.
@@ -544,27 +514,6 @@ fn check_rest(bytes: &[u8], from: usize) -> Outcome
     match read {
         LineRead::Refused(refusal) => Outcome::Refused(refusal),
         LineRead::Read(_) => Outcome::Refused(Refusal::NotDue),
-    }
-}
-
-// A case with nothing after it.
-pub fn read_case_alone(bytes: &[u8], table: &mut [i64]) -> CaseRead
-    ensures { λ r. ⌜ (r ≡ readCaseAlone standard (now (bytes .entry)) (now (table .entry)) .read) × (now (table .exit) ≡ readCaseAlone standard (now (bytes .entry)) (now (table .entry)) .table) ⌝ }
-{
-    let read = read_case(bytes, table);
-    let answer = read.answer;
-    match answer {
-        FileAnswer::Refused {
-            refusal: _,
-            line: _,
-        } => read,
-        FileAnswer::Read { lines } => {
-            let rest = check_rest(bytes, lines * LINE);
-            match rest {
-                Outcome::Done => read,
-                Outcome::Refused(refusal) => refused(refusal, lines),
-            }
-        }
     }
 }
 
@@ -659,6 +608,59 @@ fn file_bytes(sizes: Sizes) -> usize
     ensures { λ r. ⌜ r ≡ 27 * (linesDue sizes + 1) ⌝ }
 {
     LINE * (lines_due(sizes) + 1)
+}
+
+// ---- the calls
+
+pub fn case_size(bytes: &[u8]) -> CaseSize
+    ensures { λ r. ⌜ r ≡ caseSize standard (now (bytes .entry)) ⌝ }
+{
+    let head = line_at(bytes, 0);
+    match head {
+        LineRead::Refused(refusal) => CaseSize::Refused(refusal),
+        LineRead::Read(line) => size_of(line),
+    }
+}
+
+pub fn read_case(bytes: &[u8], table: &mut [i64]) -> CaseRead
+    ensures { λ r. ⌜ (r ≡ readCase standard (now (bytes .entry)) (now (table .entry)) .read) × (now (table .exit) ≡ readCase standard (now (bytes .entry)) (now (table .entry)) .table) ⌝ }
+{
+    let size = case_size(bytes);
+    match size {
+        CaseSize::Refused(refusal) => refused(refusal, 0),
+        CaseSize::Size {
+            n,
+            d,
+            m,
+            table: long,
+        } => {
+            if table.len() != long {
+                return refused(Refusal::WrongLength, 0);
+            }
+            read_body(bytes, Sizes { n, d, m }, table)
+        }
+    }
+}
+
+// A case with nothing after it.
+pub fn read_case_alone(bytes: &[u8], table: &mut [i64]) -> CaseRead
+    ensures { λ r. ⌜ (r ≡ readCaseAlone standard (now (bytes .entry)) (now (table .entry)) .read) × (now (table .exit) ≡ readCaseAlone standard (now (bytes .entry)) (now (table .entry)) .table) ⌝ }
+{
+    let read = read_case(bytes, table);
+    let answer = read.answer;
+    match answer {
+        FileAnswer::Refused {
+            refusal: _,
+            line: _,
+        } => read,
+        FileAnswer::Read { lines } => {
+            let rest = check_rest(bytes, lines * LINE);
+            match rest {
+                Outcome::Done => read,
+                Outcome::Refused(refusal) => refused(refusal, lines),
+            }
+        }
+    }
 }
 
 // Writes the case and its starting weights at out's first bytes.
