@@ -1,5 +1,5 @@
--- The replay's half of demand 3, for every valid case and every list of byte strings, whoever wrote them: one statement. The run's half is in
--- engine_theory, Demand3. Assumes nothing.
+-- The replay's half of demand 3, for every valid case and every list of byte strings, whoever wrote them: one statement. The whole of it is in
+-- the crate guarantee. Assumes nothing.
 use mathlib.Core.Path.{_≡_, refl, sym, ap, subst, _∙_}
 use mathlib.Core.Logic.{_↔_}
 use mathlib.Core.Option.{Option, none, some}
@@ -20,13 +20,9 @@ use Rattle.definitions.specs.Valid.{valid}
 use Rattle.definitions.specs.Replay.{fresh, after, answers, atEnd, keepsRules}
 use Rattle.checker.specs.Checker.{Between, endReplay, afterLines, lineAnswers}
 use Rattle.theory.proofs.Replays.{case-after, total-kept, bound-sound, rounds-few, accepted-iff, keeps-iff}
+use Rattle.checker_theory.specs.Lists.{begun, Accepted}
 use Rattle.checker_theory.proofs.Agrees.{Agrees}
-use Rattle.checker_theory.proofs.Folds.{begun, agrees-fresh, fold-agrees, answers-agree, end-agrees}
-
--- no line's answer is a number, nor the end's
-pub record Accepted (r : Rules) (c : Case) (w : List ℤ) (ts : List (List ℕ)) : Type 0 where
-  pub each : lineAnswers r (begun r c w) ts ≡ map (λ t. Outcome.Done) ts
-  pub end : endReplay r c (afterLines r (begun r c w) ts .replay) ≡ Outcome.Done
+use Rattle.checker_theory.proofs.Folds.{agrees-fresh, fold-agrees, answers-agree, end-agrees}
 
 -- The half of demand 3 that is about the replay, in the tender's words; what the tender goes on to say of a run is not in it. Lines are handed
 -- over one after another, the first with the starting weights and a fresh record, each later one with the table and the record that the last

@@ -29,6 +29,7 @@ use Rattle.definitions.specs.Replay.{Held, State, fresh, afterMove, holding, af
 use Rattle.checker.specs.Checker.{Between, StepCall, standingOf, Asked, dueKinds, isHeld, noneRaised, dueOut, recordOut, freshReplay, ofShift, ofPress, ofBound, ofKind, stepBy, stepTests, stepLine, stepStanding, stepReplay, endStanding, endReplay, stepBetween, afterLines, lineAnswers}
 use Rattle.theory.proofs.Validity.{none-applies, Handed, handed}
 use Rattle.theory.proofs.Replays.{inside, Quiet, Sound, sound-step, sound-fresh, case-after, handed-step, handed-after, none-iff}
+use Rattle.checker_theory.specs.Lists.{begun}
 use Rattle.checker_theory.proofs.Agrees.{dueOf, recordOf, callOf, Marked, MarkedIn, Agrees, marked-begun, marks-raised, marked-raised, refuted-alike, press-alike, above-alike}
 
 -- ---- the numbers of what is handed over never apply
@@ -204,10 +205,6 @@ fold-agrees a (t ∷ ts) = fold-agrees (agrees-step a t) ts
 pub answers-agree : {r : Rules} {s : State} {b : Between} → Agrees r s b → (ts : List (List ℕ)) → lineAnswers r b ts ≡ map outcomeOf (answers r s ts)
 answers-agree a [] = refl
 answers-agree a (t ∷ ts) = ap₂ _∷_ (answer-agrees a t) (answers-agree (agrees-step a t) ts)
-
--- the case and its starting weights with a fresh record
-abbrev pub begun : Rules → Case → List ℤ → Between
-begun r c w = record { case = c; table = w; replay = freshReplay r c w }
 
 module _ {r : Rules} (coherent : Coherent r) (c : Case) (w : List ℤ) (t : T (valid r c w)) where
   pub agrees-fresh : Agrees r (fresh c w) (begun r c w)

@@ -35,7 +35,8 @@ use Rattle.definitions.specs.EngineCalls.{RoundCall, RunCall, isLeaving, answer
 use Rattle.definitions.proofs.LineLaws.{lines-joined}
 use Rattle.theory.proofs.Validity.{Handed, handed}
 use Rattle.theory.proofs.Replays.{none-iff}
-use Rattle.engine_theory.proofs.Runs.{RoundFrom, Lawful, boundLines, round-whole, handed-on, run-tallied}
+use Rattle.engine_theory.specs.Runs.{boundLines, textsOf, roundTexts, writtenOver, preceded}
+use Rattle.engine_theory.proofs.Runs.{RoundFrom, Lawful, round-whole, handed-on, run-tallied}
 
 -- no number that is asked before a round is 11
 not-leaving : (ts : List Test) → T (all (λ t. not (isLeaving (t .refusal))) ts) → {x : Refusal} → firstOf ts ≡ some x → T (not (isLeaving x))
@@ -87,15 +88,6 @@ module _ (r : Rules) (next : Case → List ℤ → Next) (c : Case) (w : List �
 
 -- ---- a run is the iteration of the round's call, for every table and every output
 
--- a run before which so many rounds were made, and so much of the log was written
-abbrev pub preceded : ℕ → List ℕ → RunCall → RunCall
-preceded done log u = record {
-  run = record { answer = u .run .answer; rounds = done + u .run .rounds; bound = u .run .bound };
-  table = u .table;
-  out = u .out;
-  log = log ++ u .log;
-}
-
 module _ (r : Rules) (next : Case → List ℤ → Next) (c : Case) where
   stop-preceded : (answer : RunAnswer) (done : ℕ) (w : List ℤ) (out log : List ℕ) → stopRun r next c answer done w out log ≡ preceded done log (stopRun r next c answer 0 w out [])
   stop-preceded answer done w out log = ap₂ (λ (n : ℕ) (l : List ℕ). stopRun r next c answer n w out l) (omega arith) (sym (append-nil log))
@@ -143,21 +135,6 @@ module _ (r : Rules) (next : Case → List ℤ → Next) (c : Case) where
   run-no-round w out = refl
 
 -- ---- a run's call is the plain run
-
--- each round's lines, one list for each round
-abbrev textsOf : Made → (List ℤ → List (List (List ℕ))) → List (List (List ℕ))
-textsOf settled go = []
-textsOf (refused x) go = []
-textsOf (made v lines) go = lines ∷ go v
-
-abbrev pub roundTexts : Rules → (Case → List ℤ → Next) → Case → ℕ → List ℤ → List (List (List ℕ))
-roundTexts r next c zero w = []
-roundTexts r next c (suc left) w = textsOf (makeNext r c w (next c w)) (λ v. roundTexts r next c left v)
-
--- an output after each round's lines were written from its first byte, one round after another
-abbrev pub writtenOver : List (List (List ℕ)) → List ℕ → List ℕ
-writtenOver [] out = out
-writtenOver (lines ∷ rest) out = writtenOver rest (overwritten (joined lines) out)
 
 -- it begins with the last round's lines
 pub written-last : (before : List (List (List ℕ))) (lines : List (List ℕ)) (out : List ℕ) → writtenOver (before ++ (lines ∷ [])) out ≡ overwritten (joined lines) (writtenOver before out)

@@ -7,4 +7,3 @@ pub mod InRange
 pub mod Runs
 pub mod Calls
 pub mod Round
-pub mod Demand3

@@ -33,6 +33,7 @@ use Rattle.definitions.specs.Lines.{lineText, lineLength, lineTooWide, readLine
 use Rattle.definitions.specs.Replay.{State, fresh, after, answers, atEnd}
 use Rattle.definitions.specs.Engine.{Settled, chosen, leastGap, Next, nothing, round, keptScopes, engineNext, raiseLine, moveLines, boundLine, afterMoves, roundLines, roundText, madeOf, makeNext, RunOf, stopped, atLimit, onward, runFrom, run}
 use Rattle.definitions.proofs.LineLaws.{line-read, line-length}
+use Rattle.engine_theory.specs.Runs.{isBound, boundLines}
 use Rattle.theory.proofs.Shape.{Shape}
 use Rattle.theory.proofs.Validity.{Handed, valid-facts}
 use Rattle.theory.proofs.Replays.{no-number, bound-sound, rounds-few, handed-after}
@@ -158,14 +159,6 @@ engine-lawful coherent c = record {
 }
 
 -- ---- bound lines
-
-abbrev isBound : Option Line → Bool
-isBound none = false
-isBound (some l) = isKind 4 l
-
--- the bound lines among these lines
-abbrev pub boundLines : Rules → List (List ℕ) → List (List ℕ)
-boundLines r ts = those (λ t. isBound (readLine (r .amountWidth) t)) ts
 
 no-raise : (xs : List ℕ) → any (isKind 4) (map raiseLine xs) ≡ false
 no-raise [] = refl

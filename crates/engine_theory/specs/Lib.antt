@@ -1,0 +1,2 @@
+-- Words that the statements about runs are written with.
+pub mod Runs

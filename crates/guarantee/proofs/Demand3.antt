@@ -1,0 +1,99 @@
+-- Demand 3 holds for every valid case: the replay's half from checker_theory, the run's from engine_theory. Assumes nothing.
+use mathlib.Core.Path.{_≡_, refl, sym, ap, _∙_}
+use mathlib.Core.Bool.{false}
+use mathlib.Core.List.{List, []}
+use Prim.Native.Nat.{ℕ, _≤_}
+use lib.IntN.{ℤ, pos, _-ℤ_, _+ℤ_}
+use lib.Dec.{T}
+use lib.Signed.{_≤ℤ_}
+use lib.ListN.{length}
+use Rattle.integers.specs.Linear.{flat, zs, _▸_}
+use Rattle.definitions.specs.declared.Case.{Case}
+use Rattle.definitions.specs.Rules.{Rules, Coherent, standard, standard-coherent}
+use Rattle.definitions.specs.Case.{objective, upperBound}
+use Rattle.definitions.specs.Valid.{workingWeight, valid}
+use Rattle.definitions.specs.Lines.{linesIn, hasPart}
+use Rattle.definitions.specs.Replay.{State, fresh, after}
+use Rattle.definitions.specs.Engine.{engineNext, roundBytes, RunOf, run}
+use Rattle.definitions.specs.EngineCalls.{RunCall, runCall}
+use Rattle.definitions.proofs.LineLaws.{no-part}
+use Rattle.theory.proofs.Validity.{Handed}
+use Rattle.theory.proofs.Replays.{keeps-iff, handed-after}
+use Rattle.theory.proofs.Rounds.{MoveKinds, standard-kinds}
+use Rattle.checker.specs.Checker.{afterLines}
+use Rattle.checker_theory.specs.Lists.{begun}
+use Rattle.checker_theory.proofs.Accepts.{ReplayFold, replay-fold}
+use Rattle.engine_theory.proofs.Runs.{engine-lawful, engine-free, run-settled, run-limit, run-log-taken, run-log-ends, run-never-refused, run-settles, run-tallied, run-ends, ends-within}
+use Rattle.engine_theory.proofs.Calls.{run-made, run-settled-first, run-refused-first, run-no-round, texts-joined, texts-count, taken-iff, same-run, call-lines, call-bound-lines}
+use Rattle.guarantee.specs.Demand3.{LinesTrusted, RunTrusted, RunIterates, Demand3}
+
+pub engine-iterates : {r : Rules} → Coherent r → (c : Case) → RunIterates r c
+engine-iterates {r} coherent c = record {
+  made = run-made r engineNext c;
+  settled = run-settled-first r engineNext c;
+  refused = run-refused-first r engineNext c;
+  no-round = run-no-round r engineNext c;
+  bound-lines = call-bound-lines coherent (engine-lawful coherent c);
+}
+
+module _ {r : Rules} (coherent : Coherent r) (kinds : MoveKinds r) (c : Case) (w : List ℤ) (t : T (valid r c w)) where
+  fold : ReplayFold r c w
+  fold = replay-fold coherent c w t
+
+  lines-trusted : (ts : List (List ℕ)) → LinesTrusted r c w ts (afterLines r (begun r c w) ts)
+  lines-trusted ts = record {
+    each-answer = fold .each-answer ts;
+    end-answer = fold .end-answer ts;
+    weights = fold .weights ts;
+    bound = fold .bound ts;
+    rounds = fold .rounds ts;
+    accepted = fold .accepted ts;
+    total-least = fold .total-least ts;
+    bound-least = fold .bound-least ts;
+    rounds-most = fold .rounds-most ts;
+  }
+
+  run-trusted : (limit : ℕ) (out : List ℕ) → roundBytes r c ≤ length out
+      → RunTrusted r c w limit out (run r engineNext c limit w) (runCall r engineNext c limit w out) (linesIn (r .amountWidth) (runCall r engineNext c limit w out .log))
+  run-trusted limit out long =
+      let lawful = engine-lawful coherent c in
+      let free = engine-free {w₀ = w} coherent t in
+      let h : Handed r (workingWeight r) c w = handed-after r c w t [] coherent in
+      let taken = taken-iff r engineNext c w out .1 (h, long) in
+      let same = same-run coherent lawful limit w out taken in
+      let lines = call-lines coherent lawful limit w out taken in
+      let u : RunCall = runCall r engineNext c limit w out in
+      let log : List (List ℕ) = linesIn (r .amountWidth) (u .log) in
+      -- the plain replay of the log's lines
+      let replayed = ap (after r (fresh c w)) lines ∙ run-log-taken coherent kinds lawful w t limit in
+      let rounds : after r (fresh c w) log .rounds ≡ u .run .rounds = ap (λ (s : State). s .rounds) replayed ∙ sym (same .rounds) in
+      let weights : after r (fresh c w) log .weights ≡ u .table = ap (λ (s : State). s .weights) replayed ∙ sym (same .table) in
+      let bound : u .run .bound ≡ upperBound c (u .table) = same .bound ∙ ap (upperBound c) (sym (same .table)) in
+      record {
+        rounds = same .rounds;
+        weights = same .table;
+        bound = bound;
+        lines = same .log;
+        round-lines = sym (texts-joined r engineNext c limit w);
+        round-count = texts-count r engineNext c limit w ∙ sym (same .rounds);
+        output = same .out;
+        answer = same .answer;
+        settled = rw (same .answer, same .table) (run-settled r c (h .shape) limit w);
+        limited = rw (same .answer, same .rounds, same .table) (run-limit r c (h .shape) limit w);
+        unrefused = rw (same .answer) (run-never-refused coherent kinds lawful w t free limit);
+        within = rw (same .rounds) (ends-within r engineNext c (run-ends r engineNext c limit w));
+        log-whole = ap (hasPart (r .amountWidth)) (same .log) ∙ no-part (r .amountWidth) (run r engineNext c limit w .log) (run-tallied coherent lawful limit w h .kept .whole);
+        log-accepted = fold .accepted log .1 (keeps-iff r c w log .1 (rw lines (run-log-ends coherent kinds lawful w t limit)));
+        log-rounds = fold .rounds log ∙ rounds;
+        log-bound = fold .bound log ∙ ap (upperBound c) weights ∙ sym bound;
+        log-weights = fold .weights log ∙ weights;
+        bound-least = λ p a. rw (bound, ← weights, ← fold .weights log) (fold .bound-least log p a);
+        settles = λ p a l. same .answer ∙ run-settles coherent kinds lawful w t free limit p a (l ▸ simp flat (omega zs));
+      }
+
+  pub demand3 : Demand3 r c w
+  demand3 = record { any-lines = lines-trusted; any-run = run-trusted; any-table = engine-iterates coherent c }
+
+-- with document 01's numbers, for every valid case
+pub standard-demand3 : (c : Case) (w : List ℤ) → T (valid standard c w) → Demand3 standard c w
+standard-demand3 = demand3 standard-coherent (standard-kinds standard refl)
