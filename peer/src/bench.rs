@@ -8,13 +8,16 @@ use crate::refute::all_active_refuted;
 use crate::replay::replay_file;
 use crate::state::State;
 use crate::types::*;
-use crate::{case, engine, line};
+use crate::{case, engine, line, plain};
 use std::hint::black_box;
 use std::process::ExitCode;
 use std::time::Instant;
 
 /// Different cases of each kind.
 const CASES: u64 = 4;
+
+/// The plain engine makes the first rounds of each case only.
+const PLAIN_ROUNDS: u64 = 100;
 
 pub fn bench(options: &mut Options) -> Result<ExitCode, String> {
     let seconds = options.number("seconds", 20)? as f64 / 10.0;
@@ -58,19 +61,33 @@ fn largest(random: &mut Random, shape: Shape, weights: Weights, unusable: u64) -
 }
 
 fn rounds(name: &str, shape: Shape, weights: Weights, unusable: u64, seconds: f64) {
+    let cases: Vec<Case> = (0..CASES)
+        .map(|seed| largest(&mut Random::new(seed), shape, weights, unusable))
+        .collect();
+    engine_rounds("engine", name, &cases, seconds, PROGRAM_ROUNDS, engine::run_case);
+    engine_rounds("plain", name, &cases, seconds, PLAIN_ROUNDS, plain::run_case);
+}
+
+fn engine_rounds(
+    engine: &str,
+    name: &str,
+    cases: &[Case],
+    seconds: f64,
+    limit: u64,
+    run: fn(&Case, u64) -> Run,
+) {
     let (mut rounds, mut raises, mut spent) = (0, 0, 0.0);
-    for seed in 0..CASES {
-        let case = largest(&mut Random::new(seed), shape, weights, unusable);
-        let run = engine::run_case(&case, PROGRAM_ROUNDS);
-        rounds += run.rounds;
-        raises += (run.log.len() / LINE_BYTES) as u64 - 2 * run.rounds;
+    for case in cases {
+        let whole = run(case, limit);
+        rounds += whole.rounds;
+        raises += (whole.log.len() / LINE_BYTES) as u64 - 2 * whole.rounds;
         spent += best_time(seconds / CASES as f64, || {
-            black_box(engine::run_case(&case, PROGRAM_ROUNDS));
+            black_box(run(case, limit));
         });
     }
     println!(
-        "engine  {name:<24} {:>9.0} rounds/s  ({CASES} cases, {rounds} rounds, {:.1} raise lines \
-         a round, {:.2} ms a case)",
+        "{engine:<7} {name:<24} {:>9.0} rounds/s  ({CASES} cases, {rounds} rounds, {:.1} raise \
+         lines a round, {:.2} ms a case)",
         rounds as f64 / spent,
         raises as f64 / rounds.max(1) as f64,
         1000.0 * spent / CASES as f64

@@ -14,6 +14,7 @@ mod inputs;
 mod line;
 mod options;
 mod outside;
+mod plain;
 mod programs;
 mod random;
 mod refusals;

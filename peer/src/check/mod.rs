@@ -17,7 +17,7 @@ use crate::slow::figures;
 use crate::slow::replay::PlainReplay;
 use crate::state::State;
 use crate::types::*;
-use crate::{case, engine, foreign, line, programs, score, slow, view};
+use crate::{case, engine, foreign, line, plain, programs, score, slow, view};
 
 /// One of so many cases is of any size, the others small.
 const LARGE_EVERY: u64 = 40;

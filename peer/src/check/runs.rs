@@ -15,6 +15,7 @@ impl Check {
         let enough = (start - totals.max().unwrap_or(start)) as u64;
         let full = slow::engine::run(case, enough);
         same("run", &engine::run_case(case, enough), &full, &file)?;
+        same("plain run", &plain::run_case(case, enough), &full, &file)?;
         holds(
             "settled when the limit is enough",
             full.stop == Stop::Settled,
@@ -29,13 +30,19 @@ impl Check {
             &slow,
             &file,
         )?;
+        same(
+            "plain run with a limit",
+            &plain::run_case(case, limit),
+            &slow,
+            &file,
+        )?;
         let early = if limit < full.rounds {
             Stop::Limit
         } else {
             Stop::Settled
         };
         holds("limit rule", slow.stop == early, &file)?;
-        self.figures.runs += 2;
+        self.figures.runs += 4;
         self.own_log(case, &full)?;
         self.run_elsewhere(random, case)
     }
