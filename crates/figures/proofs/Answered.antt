@@ -66,6 +66,9 @@ module _ {c : Case} {w : List ℤ} (h : Handed standard (workingWeight standard)
     edges = h .edges-most;
   }
 
+  pub limits-true : withinLimits standard (c .n) (c .d) (c .m) ≡ true
+  limits-true = let s = h .shape in simp tests (((s .some-variable, h .variables-most), (s .some-value, h .values-most)), (omega arith, h .edges-most))
+
   -- a tuple that is not out
   pub tuple-known : (x k l : ℕ) → T (not (tupleOut c x k l)) → (x < scopeCount c) × (k < c .d) × (l < c .d)
   tuple-known x k l t = let ((p, q), u) = simp tests at t in (p, q, go (isVariable c x) u)
@@ -74,7 +77,7 @@ module _ {c : Case} {w : List ℤ} (h : Handed standard (workingWeight standard)
       go true u = omega (arith, h .shape .some-value, eqb→eq l 0 u)
       go false u = ltb→lt l (c .d) u
 
-  greatest-working : (x : ℕ) → x < scopeCount c → T (workingWeight standard (greatest c w x))
+  pub greatest-working : (x : ℕ) → x < scopeCount c → T (workingWeight standard (greatest c w x))
   greatest-working x l =
       let (k, m, t, e) = greatest-at c w (first-tuple c (h .shape .some-value) x l) in
       subst (λ (z : ℤ). T (workingWeight standard z)) e (h .in-range x k m t)
@@ -82,8 +85,5 @@ module _ {c : Case} {w : List ℤ} (h : Handed standard (workingWeight standard)
   pub bound-known : boundOf standard c w ≡ upperBound c w
   unfolding boundOf
   bound-known =
-      let s = h .shape in
-      let e : withinLimits standard (c .n) (c .d) (c .m) ≡ true =
-      simp tests (((s .some-variable, h .variables-most), (s .some-value, h .values-most)), (omega arith, h .edges-most)) in
-      rw (e, eq-eqb (length w) (lentLength c) (h .long))
+      rw (limits-true, eq-eqb (length w) (lentLength c) (h .long))
       (Σ-cong (λ x. cut standard (greatest c w x)) (greatest c w) 0 (scopeCount c) (λ x l u. sym (cut-same (greatest c w x) (greatest-working x (omega arith)))))

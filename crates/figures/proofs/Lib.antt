@@ -5,3 +5,4 @@ pub mod Order
 pub mod Bounds
 pub mod Parts
 pub mod Answered
+pub mod Best

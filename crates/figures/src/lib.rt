@@ -19,7 +19,7 @@ ghost use Rattle.definitions.specs.Case.{place, weight, greatest as greatestWei
 ghost use Rattle.definitions.specs.Valid.{startingWeight, workingWeight, withinLimits, someEdge, sameEnds, limitTest, edgeTests, handedOver};
 ghost use Rattle.definitions.specs.Calls.{objectiveAnswer, upperBoundAnswer, isActiveAnswer, tupleOut};
 ghost use Rattle.theory.proofs.Validity.{Handed};
-ghost use Rattle.figures.specs.Scopes.{Limited, ofSize, sizeOf, cut, boundOf};
+ghost use Rattle.figures.specs.Scopes.{Limited, ofSize, sizeOf, bestAt, writtenOver, greatestCall, cut, boundOf, boundWith};
 ghost use Rattle.figures.specs.Edges.{faulty, withEdges};
 
 // The limits of a case.
@@ -245,19 +245,44 @@ fn cut_weight(weight: i64) -> i64
     weight
 }
 
-fn sum_of_greatest(case: Case, table: &[i64]) -> i64
+fn write_greatest(case: Case, table: &[i64], best: &mut [i64])
     requires { ⌜ Limited standard case ⌝ }
     requires { ⌜ length (now table) ≡ lentLength case ⌝ }
-    ensures { λ r. ⌜ r ≡ sum (map (λ x. cut standard (greatestWeight case (now (table .entry)) x)) (scopes case)) ⌝ }
+    requires { ⌜ scopeCount case ≤ length (now best) ⌝ }
+    ensures { λ _. ⌜ now (best .exit) ≡ writtenOver (map (greatestWeight case (now (table .entry))) (scopes case)) (now (best .entry)) ⌝ }
+{
+    let scopes = scope_count(case);
+    let mut x: usize = 0;
+    while x < scopes {
+        let weight = scope_greatest(case, table, x);
+        best[x] = weight;
+        x += 1;
+    }
+}
+
+fn sum_of_best(case: Case, best: &[i64]) -> i64
+    requires { ⌜ Limited standard case ⌝ }
+    requires { ⌜ scopeCount case ≤ length (now best) ⌝ }
+    ensures { λ r. ⌜ r ≡ sum (map (λ x. cut standard (bestAt (now (best .entry)) x)) (scopes case)) ⌝ }
 {
     let scopes = scope_count(case);
     let mut sum: i64 = 0;
     let mut x: usize = 0;
     while x < scopes {
-        sum += cut_weight(scope_greatest(case, table, x));
+        sum += cut_weight(best[x]);
         x += 1;
     }
     sum
+}
+
+fn sum_of_greatest(case: Case, table: &[i64]) -> i64
+    requires { ⌜ Limited standard case ⌝ }
+    requires { ⌜ length (now table) ≡ lentLength case ⌝ }
+    ensures { λ r. ⌜ r ≡ sum (map (λ x. cut standard (greatestWeight case (now (table .entry)) x)) (scopes case)) ⌝ }
+{
+    let mut best = [0i64; 144];
+    write_greatest(case, table, &mut best);
+    sum_of_best(case, &best)
 }
 
 // ---- activity
@@ -405,6 +430,36 @@ pub fn greatest(weights: &[i64]) -> i64
         i += 1;
     }
     best
+}
+
+// Writes each scope's greatest weight to the first n + m places of `best`.
+pub fn greatest_weights(case: Case, table: &[i64], best: &mut [i64]) -> Outcome
+    ensures { λ r. ⌜ (r ≡ greatestCall standard case (now (table .entry)) (now (best .entry)) .answer) × (now (best .exit) ≡ greatestCall standard case (now (table .entry)) (now (best .entry)) .best) ⌝ }
+{
+    if !within_limits(case) {
+        return Outcome::Refused(Refusal::OutsideLimits);
+    }
+    if table.len() != table_length(case) {
+        return Outcome::Refused(Refusal::WrongLength);
+    }
+    if best.len() < scope_count(case) {
+        return Outcome::Refused(Refusal::WrongLength);
+    }
+    write_greatest(case, table, best);
+    Outcome::Done
+}
+
+// The upper bound from the scopes' greatest weights; what it is of any other numbers, `boundWith` says.
+pub fn bound_with(case: Case, best: &[i64]) -> i64
+    ensures { λ r. ⌜ r ≡ boundWith standard case (now (best .entry)) ⌝ }
+{
+    if !within_limits(case) {
+        return 0;
+    }
+    if best.len() < scope_count(case) {
+        return 0;
+    }
+    sum_of_best(case, best)
 }
 
 // The upper bound of a case and a table that were checked before; what it is of any others, `boundOf` says.

@@ -22,10 +22,10 @@ use Rattle.definitions.specs.Valid.{workingWeight}
 use Rattle.definitions.specs.Moves.{Difference, plus, onlyWhere}
 use Rattle.theory.proofs.Places.{IsTuple, by-scope, by-tuple, variable-tuple, edge-tuple, variable-is, edge-is, place-variable, place-edge, place-apart, tuple-in, in-tuples, each-cong, weight-plus, plus-length, plus-is}
 use Rattle.theory.proofs.Validity.{Handed}
-use Rattle.figures.specs.Scopes.{sizeOf}
+use Rattle.figures.specs.Scopes.{sizeOf, partOf}
 use Rattle.figures.proofs.Parts.{part-own, scope-part}
 use Rattle.figures.proofs.Answered.{limits-known}
-use Rattle.moves.specs.Scopes.{partOf, changed, Holding, scopeBy, scopeStays}
+use Rattle.moves.specs.Scopes.{changed, Holding, scopeBy, scopeStays}
 
 -- a list with these elements
 pub map-is : (f : ℤ → ℤ) (w u : List ℤ) → length u ≡ length w → ((k : ℕ) → k < length w → getD u k (pos 0) ≡ f (getD w k (pos 0))) → u ≡ map f w

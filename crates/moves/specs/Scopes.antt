@@ -1,23 +1,19 @@
--- A scope's part of the table, its weights changed by whether they are the greatest, and what a press changes. Assumes nothing.
+-- A scope's weights changed by whether they are the greatest, and what a press changes. Assumes nothing.
 use mathlib.Core.Path.{_≡_}
 use mathlib.Core.Bool.{Bool, _&&_}
 use mathlib.Core.List.{List}
 use Prim.Native.Nat.{ℕ, _<_}
 use lib.IntN.{ℤ, pos, negℤ, _+ℤ_}
 use lib.Dec.{T, eqb}
-use lib.ListN.{length, take, drop}
+use lib.ListN.{length}
 use Rattle.integers.specs.Words.{if_then_else_, all, isIn, eqZ, withinZ, minus}
 use Rattle.definitions.specs.declared.Case.{Case}
 use Rattle.definitions.specs.Rules.{Rules}
-use Rattle.definitions.specs.Case.{scopeCount, place, lentLength, eachTuple, weight, active}
+use Rattle.definitions.specs.Case.{scopeCount, lentLength, eachTuple, weight, active}
 use Rattle.definitions.specs.Valid.{workingWeight}
 use Rattle.definitions.specs.Consistency.{forbidden}
 use Rattle.definitions.specs.Moves.{Difference, onlyWhere}
-use Rattle.figures.specs.Scopes.{Limited, sizeOf}
-
--- the weights of scope x
-abbrev pub partOf : Case → List ℤ → ℕ → List ℤ
-partOf c w x = take (sizeOf c x) (drop (place c x 0 0) w)
+use Rattle.figures.specs.Scopes.{Limited, partOf}
 
 -- `top` is added to a weight that is `best`, `rest` to any other
 abbrev pub changed : ℤ → ℤ → ℤ → ℤ → ℤ

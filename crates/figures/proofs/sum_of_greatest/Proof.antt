@@ -1,79 +1,37 @@
--- The loop holds the sum over the scopes passed, which fits, as every term is in the range. Assumes nothing.
-use mathlib.Core.Path.{_≡_, refl, ap, _∙_}
-use Prim.Native.Nat.{_+_, _-_, _≤_}
+-- Assumes nothing.
+use mathlib.Core.Path.{ap, _∙_}
 use native.Mathlib.Omega.{arith}
-use lib.IntN.{_+ℤ_}
 use mir.Syntax.{w64}
-use mir.Val.{toZ, ofZ}
-use mir.Facts.{toZ-ofZ}
 use borrow.Author.Needs.{needs}
 use Rattle.integers.specs.Linear.{read-back}
-use Rattle.integers.specs.Sums.{Σ}
-use Rattle.definitions.specs.Rules.{standard}
-use Rattle.definitions.specs.Case.{greatest}
-use Rattle.figures.specs.Scopes.{cut}
-use Rattle.figures.proofs.Bounds.{cut-within, sum-more, sum-fits}
+use Rattle.figures.proofs.Best.{sum-written}
 use Rattle.figures.proofs.sum_of_greatest.Statement.{statement}
 use Rattle.figures.proofs.sum_of_greatest.Tie as tie
 
-abbrev Inv-loop : tie.InvT-loop
-Inv-loop case table scopes sum₀ x₀ sum x = (x ≤ scopes) × (toZ w64 sum ≡ Σ (λ y. cut standard (greatest case table y)) 0 x)
+slice-aggregate-write-greatest : tie.Need-slice-aggregate-write-greatest
+slice-aggregate-write-greatest c = search needs
 
-abbrev μ-loop : tie.MeasureT-loop
-μ-loop case table scopes sum₀ x₀ sum x = scopes - x
+write-greatest-requires : tie.Need-write-greatest-requires
+write-greatest-requires c κs = search needs
 
-scope-count-requires : tie.Need-scope-count-requires Inv-loop μ-loop
-scope-count-requires c κs = c .pre .0
+slice-aggregate-sum-of-best : tie.Need-slice-aggregate-sum-of-best
+slice-aggregate-sum-of-best c = search needs
 
-loop-holds : tie.Need-loop-holds Inv-loop μ-loop
-loop-holds c = (omega arith, refl)
+sum-of-best-requires : tie.Need-sum-of-best-requires
+sum-of-best-requires c κs = search needs
 
-scope-greatest-requires : tie.Need-scope-greatest-requires Inv-loop μ-loop
-scope-greatest-requires c κs = (c .before .before .before .pre .0, (c .before .before .before .pre .1, omega arith))
-
-cut-weight-requires : tie.Need-cut-weight-requires Inv-loop μ-loop
-cut-weight-requires c κs = search needs
-
--- the sum after the turn
-next : (c : tie.After-cut-weight Inv-loop μ-loop) → let s = c .before .before .before in let a = s .before .before .args in
-    toZ w64 (s .loop .sum) +ℤ toZ w64 (ofZ w64 (c .cut-weight .result)) ≡ Σ (λ y. cut standard (greatest (a .case) (a .table .now) y)) 0 (s .loop .x + 1)
-next c =
-    let s = c .before .before .before in
-    let a = s .before .before .args in
-    let g = c .before .scope-greatest in
-    sum-more (λ y. cut standard (greatest (a .case) (a .table .now) y)) (s .loop .x) (s .loop .inv .1)
-    (read-back w64 (c .cut-weight .result) (c .cut-weight .ok) ∙ c .cut-weight .ensures ∙ ap (cut standard) (read-back w64 (g .result) (g .ok) ∙ g .ensures))
-
-add-sum : tie.Need-add-sum Inv-loop μ-loop
-add-sum c = let s = c .before .before .before in
-    let a = s .before .before .args in
-    rw (next c) (sum-fits (λ y. cut standard (greatest (a .case) (a .table .now) y)) (s .loop .x + 1) (omega arith) (λ y h. cut-within (greatest (a .case) (a .table .now) y)))
-
-add-x : tie.Need-add-x Inv-loop μ-loop
-add-x c = omega arith
-
-loop-less : tie.Need-loop-less Inv-loop μ-loop
-loop-less c = omega arith
-
-loop-again : tie.Need-loop-again Inv-loop μ-loop
-loop-again c = (omega arith, toZ-ofZ (add-sum c) ∙ next c)
-
-returns : tie.Need-returns Inv-loop μ-loop
-returns c = let e : c .before .loop .x ≡ c .before .before .before .args .case .n + c .before .before .before .args .case .m = omega arith in
-    rw e at (c .before .loop .inv .1)
+returns : tie.Need-returns
+returns c = let s = c .before .before .before .before .before in
+    let a = s .args in
+    read-back w64 (c .sum-of-best .result) (c .sum-of-best .ok) ∙ c .sum-of-best .ensures
+    ∙ sum-written (a .case) (a .table .now) _ _ (omega (arith, s .pre .0 .variables, s .pre .0 .edges)) (c .before .before .before .write-greatest .ensures)
 
 pub sum-of-greatest-spec : {M : Type 1} → statement M
 sum-of-greatest-spec =
     tie.close
     (tie.spec
-    Inv-loop
-    μ-loop
-    scope-count-requires
-    loop-holds
-    scope-greatest-requires
-    cut-weight-requires
-    add-sum
-    add-x
-    loop-less
-    loop-again
+    slice-aggregate-write-greatest
+    write-greatest-requires
+    slice-aggregate-sum-of-best
+    sum-of-best-requires
     returns)

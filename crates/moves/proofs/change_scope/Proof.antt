@@ -11,9 +11,9 @@ use borrow.Author.Needs.{needs}
 use Rattle.integers.specs.Words.{greatestOf}
 use Rattle.integers.specs.Linear.{read-back}
 use Rattle.definitions.specs.Case.{place, greatest}
-use Rattle.figures.specs.Scopes.{sizeOf}
+use Rattle.figures.specs.Scopes.{sizeOf, partOf}
 use Rattle.figures.proofs.Parts.{part-own}
-use Rattle.moves.specs.Scopes.{partOf, changed}
+use Rattle.moves.specs.Scopes.{changed}
 use Rattle.moves.proofs.ScopeLaws.{best-known, scope-changed}
 use Rattle.moves.proofs.change_scope.Statement.{statement}
 use Rattle.moves.proofs.change_scope.Tie as tie

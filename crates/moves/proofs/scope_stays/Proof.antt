@@ -10,9 +10,8 @@ use Rattle.integers.specs.Words.{greatestOf}
 use Rattle.integers.specs.Linear.{read-back}
 use Rattle.definitions.specs.Rules.{standard}
 use Rattle.definitions.specs.Case.{place, greatest}
-use Rattle.figures.specs.Scopes.{sizeOf}
+use Rattle.figures.specs.Scopes.{sizeOf, partOf}
 use Rattle.figures.proofs.Parts.{part-own}
-use Rattle.moves.specs.Scopes.{partOf}
 use Rattle.moves.proofs.ScopeLaws.{best-known, part-stays-known}
 use Rattle.moves.proofs.scope_stays.Statement.{statement}
 use Rattle.moves.proofs.scope_stays.Tie as tie
