@@ -43,11 +43,16 @@ and-all : (a : Bool) → (a && true) ≡ a
 and-all true = refl
 and-all false = refl
 
+-- an edge that is not raised allows everything
+edge-test : (z raised a b : Bool) → z ≡ not raised → (T raised → a ≡ b) → (z || a) ≡ not (raised && not b)
+edge-test z true a b e same = ap (λ (x : Bool). x || a) e ∙ same tt ∙ sym (not-not b)
+edge-test z false a b e same = ap (λ (x : Bool). x || a) e
+
 -- a byte that is 0 or 1
-by-mark : (b : ℕ) → b ≤ 1 → (a : Bool) → (eqb b 0 || a) ≡ not (eqb b 1 && not a)
-by-mark zero h a = refl
-by-mark (suc zero) h a = sym (not-not a)
-by-mark (suc (suc b)) h a = absurd (omega arith)
+by-mark : (b : ℕ) → b ≤ 1 → eqb b 0 ≡ not (eqb b 1)
+by-mark zero h = refl
+by-mark (suc zero) h = refl
+by-mark (suc (suc b)) h = absurd (omega arith)
 
 -- ---- sets
 
@@ -62,18 +67,18 @@ module _ (c : Case) (w : List ℤ) (few : c .d ≤ 8) where
     allowed-in true t = ltb→lt v (c .d) (and-left (ltb v (c .d)) (active c w j v 0) (rw (mark-byteOf (λ v. ltb v (c .d) && active c w j v 0) v g) at t))
     allowed-in false t = ltb→lt v (c .d) (rw (mark-byteOf (λ v. ltb v (c .d)) v g) at t)
 
-  module _ (raised : List ℕ) (i k : ℕ) (j v : ℕ) (g : v < 8) where
-    fixed-by : v < c .d → (b : Bool) → mark (if b then inBoth (allowedSet c w raised j) (onlyOf k) else allowedSet c w raised j) v ≡ (allowed c w (isMarked raised) j v 0 && (b ⇒ eqb v k))
+  module _ (R : ℕ → Bool) (i k : ℕ) (j v : ℕ) (g : v < 8) where
+    fixed-by : v < c .d → (b : Bool) → mark (if b then inBoth (allowedSet c w R j) (onlyOf k) else allowedSet c w R j) v ≡ (allowed c w R j v 0 && (b ⇒ eqb v k))
     fixed-by l true =
-        mark-byteOf (λ x. mark (allowedSet c w raised j) x && mark (onlyOf k) x) v g
-        ∙ ap₂ (λ (a b : Bool). a && b) (allowed-at j v g l (isMarked raised j)) (mark-byteOf (λ x. eqb x k) v g)
-    fixed-by l false = allowed-at j v g l (isMarked raised j) ∙ sym (and-all (allowed c w (isMarked raised) j v 0))
+        mark-byteOf (λ x. mark (allowedSet c w R j) x && mark (onlyOf k) x) v g
+        ∙ ap₂ (λ (a b : Bool). a && b) (allowed-at j v g l (R j)) (mark-byteOf (λ x. eqb x k) v g)
+    fixed-by l false = allowed-at j v g l (R j) ∙ sym (and-all (allowed c w R j v 0))
 
-    fixed-in-by : (b : Bool) → T (mark (if b then inBoth (allowedSet c w raised j) (onlyOf k) else allowedSet c w raised j) v) → v < c .d
+    fixed-in-by : (b : Bool) → T (mark (if b then inBoth (allowedSet c w R j) (onlyOf k) else allowedSet c w R j) v) → v < c .d
     fixed-in-by true t =
-        allowed-in j v g (isMarked raised j)
-        (and-left (mark (allowedSet c w raised j) v) (mark (onlyOf k) v) (rw (mark-byteOf (λ x. mark (allowedSet c w raised j) x && mark (onlyOf k) x) v g) at t))
-    fixed-in-by false t = allowed-in j v g (isMarked raised j) t
+        allowed-in j v g (R j)
+        (and-left (mark (allowedSet c w R j) v) (mark (onlyOf k) v) (rw (mark-byteOf (λ x. mark (allowedSet c w R j) x && mark (onlyOf k) x) v g) at t))
+    fixed-in-by false t = allowed-in j v g (R j) t
 
   -- ---- rows
   module _ (e : ℕ) (x y : ℕ) (p : x < c .d) (q : y < c .d) where
@@ -95,14 +100,15 @@ module _ (c : Case) (w : List ℤ) (few : c .d ≤ 8) where
 
 -- ---- the network of a case is that of the bytes
 
-module _ (c : Case) (w : List ℤ) (h : Handed standard (workingWeight standard) c w) (raised : List ℕ) (i k : ℕ) (rows edges S : List ℕ)
-    (marks : (x : ℕ) → x < scopeCount c → getD raised x 0 ≤ 1)
-    (rows-are : (e p : ℕ) → e < c .m → p < 16 → getD rows (16 * e + p) 0 ≡ activeRow c w e p)
-    (edges-length : length edges ≡ c .m) (edges-are : (e : ℕ) → e < c .m → getD edges e 0 ≡ getD raised (c .n + e) 0)
-    (sets-length : length S ≡ c .n) (sets-are : (j : ℕ) → j < c .n → getD S j 0 ≡ fixedSet c w raised i k j) where
-  abbrev R : ℕ → Bool
-  R = isMarked raised
+-- the rows of the raised edges and which edges are raised
+pub record Edges (c : Case) (w : List ℤ) (R : ℕ → Bool) (rows edges : List ℕ) : Type 0 where
+  pub count : length edges ≡ c .m
+  pub raised : (e : ℕ) → e < c .m → eqb (getD edges e 0) 0 ≡ not (R (c .n + e))
+  pub partners : (e p : ℕ) → e < c .m → p < 16 → T (R (c .n + e)) → getD rows (16 * e + p) 0 ≡ activeRow c w e p
 
+module _ (c : Case) (w : List ℤ) (h : Handed standard (workingWeight standard) c w) (R : ℕ → Bool) (i k : ℕ) (rows edges S : List ℕ)
+    (known : Edges c w R rows edges)
+    (sets-length : length S ≡ c .n) (sets-are : (j : ℕ) → j < c .n → getD S j 0 ≡ fixedSet c w R i k j) where
   abbrev N : Network
   N = networkOf c w R
 
@@ -112,29 +118,26 @@ module _ (c : Case) (w : List ℤ) (h : Handed standard (workingWeight standard)
   few-values : c .d ≤ 8
   few-values = h .values-most
 
-  edge-mark : (e : ℕ) → e < c .m → (a : Bool) → (eqb (getD edges e 0) 0 || a) ≡ not (R (c .n + e) && not a)
-  edge-mark e g a = ap (λ (b : ℕ). eqb b 0 || a) (edges-are e g) ∙ by-mark (getD raised (c .n + e) 0) (marks (c .n + e) (omega arith)) a
-
   alike : Alike N M
   alike = record {
     variables = sym sets-length;
-    edges = sym edges-length;
+    edges = sym (known .count);
     lower = λ e g. refl;
     upper = λ e g. refl;
     above = λ e v u g p q r s.
-        sym (ap (λ (b : ℕ). eqb (getD edges e 0) 0 || mark b u) (rows-are e v g (omega (arith, few-values)))
-        ∙ ap (λ (a : Bool). eqb (getD edges e 0) 0 || a) (above-mark c w few-values e v u p q) ∙ edge-mark e g (active c w (c .n + e) v u));
+        sym (edge-test (eqb (getD edges e 0) 0) (R (c .n + e)) _ _ (known .raised e g)
+        (λ t. ap (λ (b : ℕ). mark b u) (known .partners e v g (omega (arith, few-values)) t) ∙ above-mark c w few-values e v u p q));
     below = λ e v u g p q r s.
         let z : 16 * e + 8 + u ≡ 16 * e + (8 + u) = omega arith in
-        sym (ap (λ (b : ℕ). eqb (getD edges e 0) 0 || mark b v) (ap (λ (y : ℕ). getD rows y 0) z ∙ rows-are e (8 + u) g (omega (arith, few-values)))
-        ∙ ap (λ (a : Bool). eqb (getD edges e 0) 0 || a) (below-mark c w few-values e v u p q) ∙ edge-mark e g (active c w (c .n + e) v u));
+        sym (edge-test (eqb (getD edges e 0) 0) (R (c .n + e)) _ _ (known .raised e g)
+        (λ t. ap (λ (b : ℕ). mark b v) (ap (λ (y : ℕ). getD rows y 0) z ∙ known .partners e (8 + u) g (omega (arith, few-values)) t) ∙ below-mark c w few-values e v u p q));
   }
 
   same-sets : (j v : ℕ) → j < c .n → v < c .d → fixedSets c w R i k j v ≡ setsOf S j v
-  same-sets j v g l = sym (ap (λ (s : ℕ). mark s v) (sets-are j g) ∙ fixed-by c w few-values raised i k j v (omega (arith, few-values)) l (eqb j i))
+  same-sets j v g l = sym (ap (λ (s : ℕ). mark s v) (sets-are j g) ∙ fixed-by c w few-values R i k j v (omega (arith, few-values)) l (eqb j i))
 
   only-values : (j v : ℕ) → j < c .n → v < 8 → T (setsOf S j v) → v < c .d
-  only-values j v g l t = fixed-in-by c w few-values raised i k j v l (eqb j i) (rw (sets-are j g) at t)
+  only-values j v g l t = fixed-in-by c w few-values R i k j v l (eqb j i) (rw (sets-are j g) at t)
 
   pub refuted-bytes : i < c .n → T (refuted c w R i k) ↔ None M (setsOf S)
   refuted-bytes g =
@@ -151,7 +154,7 @@ module _ (c : Case) (w : List ℤ) (h : Handed standard (workingWeight standard)
 
   -- and so does the answer of `closure` on these bytes
   module _ (g : i < c .n) (good : isMalformed (length S) (c .lower) (c .upper) rows edges ≡ false) where
-    some-family : someFamily M (setsOf S) ≡ not (refuted c w R i k)
+    pub some-family : someFamily M (setsOf S) ≡ not (refuted c w R i k)
     some-family =
         same-test (someFamily M (setsOf S)) (not (refuted c w R i k))
         (λ t. not-T (refuted c w R i k) (λ r. rw (none-tried M (setsOf S) (refuted-bytes g .0 r)) at t))
@@ -172,18 +175,18 @@ module _ (c : Case) (w : List ℤ) (h : Handed standard (workingWeight standard)
 
 module _ (c : Case) (w : List ℤ) (raised : List ℕ) (i k : ℕ) where
   pub fixed-written : (S S₁ S₂ : List ℕ) (o r : ℕ) → i < c .n → c .n ≤ length S → S₁ ≡ overwritten (activeSets c w) S → Written (allowedOf raised (c .d) S₁) 0 (c .n) S₁ S₂
-      → o ≡ onlyOf k → r ≡ inBoth (getD S₂ i 0) o → length S₂ ≡ length S → Written (fixedSet c w raised i k) 0 (c .n) S (set S₂ i r)
+      → o ≡ onlyOf k → r ≡ inBoth (getD S₂ i 0) o → length S₂ ≡ length S → Written (fixedSet c w (isMarked raised) i k) 0 (c .n) S (set S₂ i r)
   fixed-written S S₁ S₂ o r g room first second eo er len = record {
     same-length = length-set S₂ i r ∙ len;
     here = λ j h.
-        after-set (λ (s : ℕ). s ≡ fixedSet c w raised i k j) S₂ i r (0 + j) (omega arith)
+        after-set (λ (s : ℕ). s ≡ fixedSet c w (isMarked raised) i k j) S₂ i r (0 + j) (omega arith)
         (λ q.
         let same : j ≡ i = omega arith in
         er ∙ ap₂ inBoth (ap (λ (x : ℕ). getD S₂ x 0) (sym q) ∙ allowed-here j h) eo
-        ∙ sym (ap (λ (b : Bool). if b then inBoth (allowedSet c w raised j) (onlyOf k) else allowedSet c w raised j) (eq-eqb j i same)))
+        ∙ sym (ap (λ (b : Bool). if b then inBoth (allowedSet c w (isMarked raised) j) (onlyOf k) else allowedSet c w (isMarked raised) j) (eq-eqb j i same)))
         (λ ne.
         allowed-here j h
-        ∙ sym (ap (λ (b : Bool). if b then inBoth (allowedSet c w raised j) (onlyOf k) else allowedSet c w raised j) (ne-eqb j i (λ e. ne (omega arith)))));
+        ∙ sym (ap (λ (b : Bool). if b then inBoth (allowedSet c w (isMarked raised) j) (onlyOf k) else allowedSet c w (isMarked raised) j) (ne-eqb j i (λ e. ne (omega arith)))));
     before = λ q h. absurd (omega arith);
     after = λ q h. after-set (λ (s : ℕ). s ≡ getD S q 0) S₂ i r q (omega arith) (λ e. absurd (omega arith)) (λ ne. second .after q h ∙ past q (omega arith));
   }
@@ -191,7 +194,7 @@ module _ (c : Case) (w : List ℤ) (raised : List ℕ) (i k : ℕ) where
       active-here : (j : ℕ) → j < c .n → getD S₁ j 0 ≡ activeSet c w j
       active-here j h = ap (λ (l : List ℕ). getD l j 0) first ∙ List·getD-append (activeSets c w) (drop (length (activeSets c w)) S) 0 j (rw (sets-length c w) h) ∙ sets-at c w j h
 
-      allowed-here : (j : ℕ) → j < c .n → getD S₂ (0 + j) 0 ≡ allowedSet c w raised j
+      allowed-here : (j : ℕ) → j < c .n → getD S₂ (0 + j) 0 ≡ allowedSet c w (isMarked raised) j
       allowed-here j h = second .here j h ∙ ap (λ (s : ℕ). if isMarked raised j then s else fullOf (c .d)) (active-here j h)
 
       past : (q : ℕ) → c .n ≤ q → getD S₁ q 0 ≡ getD S q 0
@@ -221,11 +224,11 @@ module _ (c : Case) (w : List ℤ) (raised : List ℕ) (i k : ℕ) where
         ap (λ (x : List ℕ). getD x (16 * e + p) 0) q
         ∙ List·getD-append (activeRows c w) (drop (length (activeRows c w)) zeros) 0 (16 * e + p) (omega (arith, rows-length c w)) ∙ rows-at c w e p g l
 
-    module _ (S zeros : List ℕ) (written : Written (fixedSet c w raised i k) 0 (c .n) zeros S) (room : c .n ≤ length S) where
+    module _ (S zeros : List ℕ) (written : Written (fixedSet c w (isMarked raised) i k) 0 (c .n) zeros S) (room : c .n ≤ length S) where
       pub first-length : length (take (c .n) S) ≡ c .n
       first-length = length-take-le (c .n) S room
 
-      pub first-at : (j : ℕ) → j < c .n → getD (take (c .n) S) j 0 ≡ fixedSet c w raised i k j
+      pub first-at : (j : ℕ) → j < c .n → getD (take (c .n) S) j 0 ≡ fixedSet c w (isMarked raised) i k j
       first-at j g =
           let z : j ≡ 0 + j = omega arith in
           getD-take (c .n) S j 0 g ∙ ap (λ (p : ℕ). getD S p 0) z ∙ written .here j g
@@ -246,4 +249,10 @@ module _ (c : Case) (w : List ℤ) (raised : List ℕ) (i k : ℕ) where
           → Settled (networkOfBytes (length (take (c .n) S)) (c .lower) (c .upper) rows part) (setsOf (take (c .n) S)) S′ left
           → not left ≡ refuted c w (isMarked raised) i k
       narrow-refuted g marks rows zeros′ q S′ left =
-          settled-refuted c w h raised i k rows part (take (c .n) S) marks (rows-here rows zeros′ q) part-length part-at first-length first-at g S′ left
+          settled-refuted c w h (isMarked raised) i k rows part (take (c .n) S)
+          (record {
+            count = part-length;
+            raised = λ e u. ap (λ (b : ℕ). eqb b 0) (part-at e u) ∙ by-mark (getD raised (c .n + e) 0) (marks (c .n + e) (omega arith));
+            partners = λ e p u l t. rows-here rows zeros′ q e p u l;
+          })
+          first-length first-at g S′ left

@@ -1,4 +1,5 @@
--- Laws that the functions' proofs share. Fixed has the key theorem: `closure-refuted`, and `refuted-bytes` behind it.
+-- Laws that the functions' proofs share. Fixed has the key theorem: `closure-refuted`, and `refuted-bytes` behind it. Refutation has what is
+-- cited of `all_refuted`: `tried-active` and `tried-refuted`.
 pub mod Search
 pub mod Steps
 pub mod Results
@@ -6,3 +7,5 @@ pub mod Marked
 pub mod Scopes
 pub mod Prepared
 pub mod Fixed
+pub mod Trying
+pub mod Refutation

@@ -10,6 +10,7 @@ use lib.Seq.{ext-getD}
 use Rattle.integers.specs.Words.{if_then_else_, below, any}
 use Rattle.integers.specs.Tests.{tests, if-true, if-false, true-is, false-is, eqb-iff}
 use Rattle.integers.specs.Tables.{length-tab, getD-tab, any-getD}
+use Rattle.definitions.specs.Consistency.{Family}
 use Rattle.theory.specs.Network.{Network, largest}
 use Rattle.theory.proofs.Networks.{None, Ends, some-tried, none-tried, closed-is-largest, largest-empty}
 use Rattle.theory.proofs.Words.{none-below}
@@ -17,7 +18,7 @@ use Rattle.marks.specs.Marks.{mark, byteOf}
 use Rattle.marks.proofs.Laws.{byte-is, mark-zero}
 use Rattle.consistency.specs.Closure.{networkOfBytes, setsOf, isMalformed, someFamily, closureAnswer, closureSets}
 use Rattle.consistency.specs.Sweeps.{WellFormed, Filled, Settled}
-use Rattle.consistency.specs.declared.Closed.the-variants.{Malformed, Empty, Family}
+use Rattle.consistency.specs.declared.Closed.the-variants.{Malformed, Empty, Family as SomeFamily}
 
 module _ (lower upper rows raised S : List ℕ) where
   abbrev N : Network
@@ -43,7 +44,7 @@ module _ (lower upper rows raised S : List ℕ) where
     unfolding closureSets
     sets-are = if-false _ _ (isMalformed (length S) lower upper rows raised) (false-is _ e)
 
-    pub answer-is : closureAnswer lower upper rows raised S ≡ (if someFamily N (setsOf S) then Family else Empty)
+    pub answer-is : closureAnswer lower upper rows raised S ≡ (if someFamily N (setsOf S) then SomeFamily else Empty)
     unfolding closureAnswer
     answer-is = if-false _ _ (isMalformed (length S) lower upper rows raised) (false-is _ e)
 
@@ -51,10 +52,10 @@ module _ (lower upper rows raised S : List ℕ) where
     ends-in = well-formed .ends
 
     pub family-answer : (S′ : List ℕ) → length S′ ≡ length S → ((j : ℕ) → getD S′ j 0 < 256) → (b : Bool) → b ≡ true → Settled N (setsOf S) S′ b
-        → (Family ≡ closureAnswer lower upper rows raised S) × (S′ ≡ closureSets lower upper rows raised S)
+        → (SomeFamily ≡ closureAnswer lower upper rows raised S) × (S′ ≡ closureSets lower upper rows raised S)
     family-answer S′ len bytes b q settled =
         let p = subst (Settled N (setsOf S) S′) q settled in (
-          sym (answer-is ∙ ap (λ (b : Bool). if b then Family else Empty) (some-tried N (setsOf S) ends-in (p .0))),
+          sym (answer-is ∙ ap (λ (b : Bool). if b then SomeFamily else Empty) (some-tried N (setsOf S) ends-in (p .0))),
           ext-getD 0 S′ _ (len ∙ sym (length-tab _ 0 (length S)))
               (λ j h.
               let i : j < length S = rw len at h in
@@ -65,7 +66,7 @@ module _ (lower upper rows raised S : List ℕ) where
 
     no-family : None N (setsOf S) → (Empty ≡ closureAnswer lower upper rows raised S) × (replicate (length S) 0 ≡ closureSets lower upper rows raised S)
     no-family none = (
-      sym (answer-is ∙ ap (λ (b : Bool). if b then Family else Empty) (none-tried N (setsOf S) none)),
+      sym (answer-is ∙ ap (λ (b : Bool). if b then SomeFamily else Empty) (none-tried N (setsOf S) none)),
       ext-getD 0 (replicate (length S) 0) _ (length-replicate (length S) 0 ∙ sym (length-tab _ 0 (length S)))
           (λ j h.
           let i : j < length S = rw length-replicate at h in
@@ -96,3 +97,9 @@ module _ (S : List ℕ) where
 pub all-zero : (n : ℕ) (S : List ℕ) → length S ≡ n → ((j : ℕ) → j < n → getD S j 0 ≡ 0) → S ≡ replicate n 0
 all-zero n S len zero =
     ext-getD 0 S (replicate n 0) (len ∙ sym (length-replicate n 0)) (λ j h. zero j (rw len at h) ∙ sym (getD-replicate n j 0 0 (rw len at h)))
+
+-- ---- whether a family is left
+
+pub settled-family : (N : Network) (G : Family) → Ends N → (S′ : List ℕ) (left : Bool) → Settled N G S′ left → someFamily N G ≡ left
+settled-family N G ends S′ true p = some-tried N G ends (p .0)
+settled-family N G ends S′ false none = none-tried N G none

@@ -4,3 +4,4 @@ pub mod Closure
 pub mod Sweeps
 pub mod Active
 pub mod Refuted
+pub mod Tried

@@ -12,12 +12,12 @@ use Rattle.marks.specs.Marks.{onlyOf, fullOf, inBoth}
 use Rattle.consistency.specs.Active.{activeSet}
 
 -- the allowed values of variable j: the active ones if its scope is raised, else all
-abbrev pub allowedSet : Case → List ℤ → List ℕ → ℕ → ℕ
-allowedSet c w raised j = if isMarked raised j then activeSet c w j else fullOf (c .d)
+abbrev pub allowedSet : Case → List ℤ → (ℕ → Bool) → ℕ → ℕ
+allowedSet c w R j = if R j then activeSet c w j else fullOf (c .d)
 
 -- the same with value k alone for variable i
-abbrev pub fixedSet : Case → List ℤ → List ℕ → ℕ → ℕ → ℕ → ℕ
-fixedSet c w raised i k j = if eqb j i then inBoth (allowedSet c w raised j) (onlyOf k) else allowedSet c w raised j
+abbrev pub fixedSet : Case → List ℤ → (ℕ → Bool) → ℕ → ℕ → ℕ → ℕ
+fixedSet c w R i k j = if eqb j i then inBoth (allowedSet c w R j) (onlyOf k) else allowedSet c w R j
 
 -- the allowed values of variable j, from a list of active ones
 abbrev pub allowedOf : List ℕ → ℕ → List ℕ → ℕ → ℕ

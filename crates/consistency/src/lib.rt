@@ -18,6 +18,8 @@ ghost use Rattle.theory.proofs.Validity.{Handed};
 ghost use Rattle.marks.specs.Marks.{without, fullOf};
 ghost use Rattle.consistency.specs.Partners.{lowestPartner, supportedValues};
 ghost use Rattle.consistency.specs.Closure.{networkOfBytes, setsOf, endOutside, isMalformed, closureAnswer, closureSets};
+ghost use Rattle.consistency.specs.Tried.{hasFamily, noneHas, triedAnswer};
+ghost use Rattle.consistency.specs.declared.Tried.{Tried};
 ghost use Rattle.consistency.specs.Sweeps.{WellFormed, Filled, Swept, Settled, changeOf, bothOf, keptOf};
 ghost use Rattle.consistency.specs.Active.{bestValues, activeSet, activeRow, activeSets, activeRows, Written, activeAnswer, setsAfter, rowsAfter};
 ghost use Rattle.consistency.specs.Refuted.{fixedSet, allowedOf, argumentsOut};
@@ -33,6 +35,16 @@ pub enum Closed {
     Empty,
     Malformed,
 }
+
+// What is left where each of some values is fixed alone: no family for any of them, or a family for one.
+pub enum Tried {
+    Refuted,
+    Supported,
+    Malformed,
+}
+
+// The most variables that a case has (document 01).
+const VARIABLES: usize = 48;
 
 // ---- the search for partners
 
@@ -240,6 +252,56 @@ fn is_malformed(lower: &[u8], upper: &[u8], rows: &[u8], raised: &[u8], n: usize
     some_end_outside(lower, upper, edges, n)
 }
 
+// ---- values tried one by one
+
+fn copy_sets(sets: &[u8], work: &mut [u8])
+    requires { ⌜ length (now work) ≡ length (now sets) ⌝ }
+    ensures { λ r. ⌜ now (work .exit) ≡ now (sets .entry) ⌝ }
+{
+    let mut j: usize = 0;
+    while j < sets.len() {
+        work[j] = sets[j];
+        j += 1;
+    }
+}
+
+// Whether none of `values` has a family. The sets are narrowed in `work`.
+fn none_has(
+    lower: &[u8],
+    upper: &[u8],
+    rows: &[u8],
+    raised: &[u8],
+    sets: &[u8],
+    variable: usize,
+    values: u8,
+    work: &mut [u8],
+) -> bool
+    requires { ⌜ WellFormed (length (now sets)) (now lower) (now upper) (now rows) (now raised) ⌝ }
+    requires { ⌜ Filled (now sets) × (variable < length (now sets)) × (length (now work) ≡ length (now sets)) ⌝ }
+    ensures { λ r. ⌜ r ≡ noneHas (hasFamily (networkOfBytes (length (now (sets .entry))) (now (lower .entry)) (now (upper .entry)) (now (rows .entry)) (now (raised .entry))) (now (sets .entry)) variable) values ⌝ }
+{
+    let mut left = marks::common(values, sets[variable]);
+    while left != 0 {
+        let k = marks::lowest(left);
+        copy_sets(sets, work);
+        work[variable] = marks::only(k);
+        if settle(lower, upper, rows, raised, work) {
+            return false;
+        }
+        left = marks::strike(left, k);
+    }
+    true
+}
+
+fn tried_of(refuted: bool) -> Tried
+    ensures { λ r. ⌜ r ≡ (if refuted then Tried.Refuted else Tried.Supported) ⌝ }
+{
+    if refuted {
+        return Tried::Refuted;
+    }
+    Tried::Supported
+}
+
 // ---- what is prepared once for a table
 
 fn same(a: i64, b: i64) -> bool
@@ -391,7 +453,7 @@ fn allow(raised: &[u8], n: usize, d: usize, sets: &mut [u8])
 fn fix(case: Case, table: &[i64], raised: &[u8], variable: usize, value: usize, sets: &mut [u8])
     requires { ⌜ Handed standard (workingWeight standard) case (now table) ⌝ }
     requires { ⌜ (case .n ≤ length (now raised)) × (case .n ≤ length (now sets)) × (variable < case .n) × (value < case .d) ⌝ }
-    ensures { λ r. ⌜ Written (fixedSet case (now (table .entry)) (now (raised .entry)) variable value) 0 (case .n) (now (sets .entry)) (now (sets .exit)) ⌝ }
+    ensures { λ r. ⌜ Written (fixedSet case (now (table .entry)) (isMarked (now (raised .entry))) variable value) 0 (case .n) (now (sets .entry)) (now (sets .exit)) ⌝ }
 {
     write_sets(case, table, sets);
     allow(raised, case.n, case.d, sets);
@@ -491,6 +553,45 @@ pub fn closure(lower: &[u8], upper: &[u8], rows: &[u8], raised: &[u8], sets: &mu
     }
     clear(sets);
     Closed::Empty
+}
+
+// Whether each of `values` (marks), fixed alone in the set of `variable`, leaves no supported family inside `sets`. The other bytes are as
+// `closure` takes them.
+pub fn all_refuted(
+    lower: &[u8],
+    upper: &[u8],
+    rows: &[u8],
+    raised: &[u8],
+    sets: &[u8],
+    variable: usize,
+    values: u8,
+) -> Tried
+    ensures { λ r. ⌜ r ≡ triedAnswer (now (lower .entry)) (now (upper .entry)) (now (rows .entry)) (now (raised .entry)) (now (sets .entry)) variable values ⌝ }
+{
+    let n = sets.len();
+    if VARIABLES < n {
+        return Tried::Malformed;
+    }
+    if n <= variable {
+        return Tried::Malformed;
+    }
+    if is_malformed(lower, upper, rows, raised, n) {
+        return Tried::Malformed;
+    }
+    if has_empty(sets) {
+        return Tried::Refuted;
+    }
+    let mut work = [0u8; 48];
+    tried_of(none_has(
+        lower,
+        upper,
+        rows,
+        raised,
+        sets,
+        variable,
+        values,
+        &mut work[..n],
+    ))
 }
 
 // Writes the active values of each variable to the first n bytes of `sets`, and the active partners on each edge to the first 16 · m bytes
