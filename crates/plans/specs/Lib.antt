@@ -1,0 +1,2 @@
+-- The number in a figure.
+pub mod Values

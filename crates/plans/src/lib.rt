@@ -1,0 +1,92 @@
+// Scoring: of two lent assignments (plans), the one with the greater objective under starting weights (document 01, "Lines").
+use definitions::Case;
+use definitions::Choice;
+use definitions::Figure;
+use definitions::Outcome;
+ghost use mathlib.Core.Path.{_≡_};
+ghost use mathlib.Core.Bool.{not};
+ghost use lib.Dec.{T, ltb};
+ghost use lib.Signed.{ltZ};
+ghost use Rattle.integers.specs.Words.{if_then_else_, any};
+ghost use Rattle.definitions.specs.Rules.{standard};
+ghost use Rattle.definitions.specs.Case.{objective, isAssignment};
+ghost use Rattle.definitions.specs.Scoring.{betterOf, better as betterPart};
+ghost use Rattle.theory.proofs.Validity.{Valid};
+ghost use Rattle.plans.specs.Values.{valueIn};
+
+fn wide(value: u8) -> usize
+    ensures { λ r. ⌜ r ≡ value ⌝ }
+{
+    value as usize
+}
+
+fn some_beyond(values: &[u8], d: usize) -> bool
+    ensures { λ r. ⌜ r ≡ any (λ k. not (ltb k d)) (now (values .entry)) ⌝ }
+{
+    let mut i: usize = 0;
+    while i < values.len() {
+        if d <= wide(values[i]) {
+            return true;
+        }
+        i += 1;
+    }
+    false
+}
+
+// 0 where there is none.
+fn value_in(figure: Figure) -> i64
+    ensures { λ r. ⌜ r ≡ valueIn figure ⌝ }
+{
+    match figure {
+        Figure::Value(value) => value,
+        Figure::Refused(_) => 0,
+    }
+}
+
+fn objective_of(case: Case, table: &[i64], assignment: &[u8]) -> i64
+    requires { ⌜ Valid standard case (now table) ⌝ }
+    requires { ⌜ T (isAssignment case (now assignment)) ⌝ }
+    ensures { λ r. ⌜ r ≡ objective case (now (table .entry)) (now (assignment .entry)) ⌝ }
+{
+    value_in(figures::objective(case, table, assignment))
+}
+
+fn greater(first: i64, second: i64) -> Choice
+    ensures { λ r. ⌜ r ≡ (if ltZ first second then Choice.Second else Choice.First) ⌝ }
+{
+    if first < second {
+        Choice::Second
+    } else {
+        Choice::First
+    }
+}
+
+// ---- the calls
+
+// The assignment with the greater objective, the first on a tie.
+pub fn better_of(case: Case, table: &[i64], first: &[u8], second: &[u8]) -> Choice
+    ensures { λ r. ⌜ r ≡ betterOf standard case (now (table .entry)) (now (first .entry)) (now (second .entry)) ⌝ }
+{
+    let wrong = (first.len() != case.n) | (second.len() != case.n);
+    let out = some_beyond(first, case.d) | some_beyond(second, case.d);
+    let checked = figures::check_starting(case, table, wrong, out);
+    match checked {
+        Outcome::Refused(refusal) => Choice::Refused(refusal),
+        Outcome::Done => greater(
+            objective_of(case, table, first),
+            objective_of(case, table, second),
+        ),
+    }
+}
+
+// That one itself; an empty part where it is refused.
+pub fn better<'a>(case: Case, table: &[i64], first: &'a [u8], second: &'a [u8]) -> &'a [u8]
+    ensures { λ r. ⌜ now r ≡ betterPart standard case (now (table .entry)) (now (first .entry)) (now (second .entry)) ⌝ }
+{
+    let choice = better_of(case, table, first, second);
+    match choice {
+        Choice::First => first,
+        Choice::Second => second,
+        Choice::Refused(_) => &first[0..0],
+    }
+}

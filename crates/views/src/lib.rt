@@ -1,0 +1,131 @@
+// The view of a round: the stretch of a lent log from the line after the bound line before it through its own bound line (document 01,
+// "Lines").
+use definitions::Line;
+use definitions::LineRead;
+use definitions::Refusal;
+use definitions::Span;
+ghost use mathlib.Core.Path.{_≡_};
+ghost use Prim.Native.Nat.{_+_, _*_, _≤_};
+ghost use lib.ListN.{length, take, drop};
+ghost use Rattle.integers.specs.Words.{if_then_else_};
+ghost use Rattle.definitions.specs.Rules.{standard};
+ghost use Rattle.definitions.specs.Lines.{isKind, hasPart};
+ghost use Rattle.definitions.specs.declared.Refusal.the-variants.{OutOfRange, CutShort};
+ghost use Rattle.definitions.specs.Calls.{readLineAnswer};
+ghost use Rattle.definitions.specs.Views.{roundSpan, roundView};
+ghost use Rattle.views.specs.Steps.{long, endedStep, passedStep};
+
+// The length of a line.
+const LINE: usize = 27;
+
+// The kind of a bound line.
+const BOUND: i64 = 4;
+
+// After a line: the answer, or the first line of the round in which the next one lies, and the rounds still to pass.
+enum Step {
+    Stop(Span),
+    On { from: usize, left: u64 },
+}
+
+// After the bound line `at`.
+fn round_ended(at: usize, from: usize, left: u64) -> Step
+    requires { ⌜ (from ≤ at) × ((at + 1) * long ≤ 9_223_372_036_854_775_808) ⌝ }
+    ensures { λ r. ⌜ r ≡ endedStep at from left ⌝ }
+{
+    if left == 0 {
+        return Step::Stop(Span::Part {
+            from: from * LINE,
+            to: (at + 1) * LINE,
+        });
+    }
+    Step::On {
+        from: at + 1,
+        left: left - 1,
+    }
+}
+
+fn is_bound(line: Line) -> bool
+    ensures { λ r. ⌜ r ≡ isKind 4 line ⌝ }
+{
+    line.kind == BOUND
+}
+
+fn passed(read: LineRead, at: usize, from: usize, left: u64) -> Step
+    requires { ⌜ (from ≤ at) × ((at + 1) * long ≤ 9_223_372_036_854_775_808) ⌝ }
+    ensures { λ r. ⌜ r ≡ passedStep read at from left ⌝ }
+{
+    let LineRead::Read(line) = read else {
+        return Step::Stop(Span::Refused {
+            refusal: Refusal::NotInColumns,
+            line: at,
+        });
+    };
+    if is_bound(line) {
+        return round_ended(at, from, left);
+    }
+    Step::On { from, left }
+}
+
+fn step_at(log: &[u8], at: usize, from: usize, left: u64) -> Step
+    requires { ⌜ (from ≤ at) × ((at + 1) * long ≤ length (now log)) ⌝ }
+    ensures { λ r. ⌜ r ≡ passedStep (readLineAnswer standard (take long (drop (at * long) (now (log .entry))))) at from left ⌝ }
+{
+    let start = at * LINE;
+    let end = start + LINE;
+    passed(lines::read_line(&log[start..end]), at, from, left)
+}
+
+// What is said of a round that is not there.
+fn not_there(log: &[u8]) -> Refusal
+    ensures { λ r. ⌜ r ≡ (if hasPart (standard .amountWidth) (now (log .entry)) then CutShort else OutOfRange) ⌝ }
+{
+    if log.len() % LINE == 0 {
+        Refusal::OutOfRange
+    } else {
+        Refusal::CutShort
+    }
+}
+
+// ---- the calls
+
+// Where the round's lines lie in the log.
+pub fn round_span(log: &[u8], round: u64) -> Span
+    ensures { λ r. ⌜ r ≡ roundSpan standard (now (log .entry)) round ⌝ }
+{
+    let whole = log.len() / LINE;
+    let mut at: usize = 0;
+    let mut from: usize = 0;
+    let mut left = round;
+    while at < whole {
+        let step = step_at(log, at, from, left);
+        match step {
+            Step::Stop(span) => return span,
+            Step::On {
+                from: first,
+                left: fewer,
+            } => {
+                from = first;
+                left = fewer;
+            }
+        }
+        at += 1;
+    }
+    Span::Refused {
+        refusal: not_there(log),
+        line: at,
+    }
+}
+
+// That part of the log itself; empty where it is refused.
+pub fn round_view(log: &[u8], round: u64) -> &[u8]
+    ensures { λ r. ⌜ now r ≡ roundView standard (now (log .entry)) round ⌝ }
+{
+    let span = round_span(log, round);
+    match span {
+        Span::Part { from, to } => &log[from..to],
+        Span::Refused {
+            refusal: _,
+            line: _,
+        } => &log[0..0],
+    }
+}
