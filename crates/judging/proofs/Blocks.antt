@@ -1,0 +1,156 @@
+-- Blocks handed over one after another, beside one block of all their lines. Assumes nothing.
+use mathlib.Core.Path.{_≡_, refl, sym, ap, ap₂, _∙_}
+use mathlib.Core.Bool.{false}
+use mathlib.Core.List.{List, [], _∷_, _++_, append-assoc, List·Memᴰ·head, List·Memᴰ·tail}
+use Prim.Native.Nat.{ℕ, zero, suc, _+_, _≤_, _<_}
+use native.Mathlib.Nat.{div-eq-of-lt}
+use native.Mathlib.Omega.{arith}
+use lib.IntN.{ℤ}
+use lib.ListN.{length, drop}
+use Rattle.integers.specs.Words.{joined}
+use Rattle.integers.specs.Lists.{_∈_}
+use Rattle.definitions.specs.declared.Case.{Case}
+use Rattle.definitions.specs.declared.FileAnswer.{FileAnswer}
+use Rattle.definitions.specs.declared.Outcome.{Outcome}
+use Rattle.definitions.specs.declared.Refusal.{Refusal}
+use Rattle.definitions.specs.Rules.{Rules}
+use Rattle.definitions.specs.Lines.{lineLength, cutLines, wholeLines, linesIn, hasPart}
+use Rattle.checker.specs.declared.Replay.{Replay}
+use Rattle.checker.specs.Checker.{Between, BlockCall, takenLines, firstRefused, stepBetween, afterLines, lineAnswers, blockReplay}
+use Rattle.checker_theory.proofs.Blocks.{lines-append, answers-append, orElse, blocks-join}
+use Rattle.texts.specs.Texts.{greatestCount}
+use Rattle.judging.specs.declared.Judging.{Judging}
+use Rattle.judging.specs.Judging.{JudgingCall, counted, answerAt, blockFrom, blockJudging}
+use Rattle.judging.specs.Cuts.{afterBlocks}
+
+-- ---- lines and answers
+
+lines-count : (long n : ℕ) (t : List ℕ) → length (cutLines long n t) ≡ n
+lines-count long zero t = refl
+lines-count long (suc n) t = ap suc (lines-count long n (drop long t))
+
+taken-refused : (os ps : List Outcome) {x : Refusal} → firstRefused os ≡ Outcome.Refused x → takenLines (os ++ ps) ≡ takenLines os
+taken-refused [] ps e = cc
+taken-refused (Outcome.Done ∷ os) ps e = ap (λ (n : ℕ). 1 + n) (taken-refused os ps e)
+taken-refused (Outcome.Refused x ∷ os) ps e = refl
+
+taken-most : (os : List Outcome) → takenLines os ≤ length os
+taken-most [] = omega arith
+taken-most (Outcome.Done ∷ os) = omega (arith, taken-most os)
+taken-most (Outcome.Refused x ∷ os) = omega arith
+
+counted-more : (at m n : ℕ) → counted (counted at m) n ≡ counted at (m + n)
+counted-more at m n = omega arith
+
+pub counted-few : (at n : ℕ) → at + n ≤ greatestCount → counted at n ≡ at + n
+counted-few at n h = omega arith
+
+module _ (r : Rules) where
+  answers-count : (b : Between) (ts : List (List ℕ)) → length (lineAnswers r b ts) ≡ length ts
+  answers-count b [] = refl
+  answers-count b (t ∷ ts) = ap suc (answers-count (stepBetween r b t) ts)
+
+  module _ (c : Case) (w : List ℤ) (p : Replay) where
+    pub block-most : (bytes : List ℕ) → blockReplay r c w p bytes .block .lines ≤ wholeLines (r .amountWidth) bytes
+    unfolding blockReplay
+    block-most bytes =
+        let b : Between = record { case = c; table = w; replay = p } in
+        let ts = linesIn (r .amountWidth) bytes in
+        omega (arith, taken-most (lineAnswers r b ts), answers-count b ts, lines-count (lineLength (r .amountWidth)) (wholeLines (r .amountWidth) bytes) bytes)
+
+    -- a line refused in xs is the first
+    block-refused : (xs ys : List ℕ) → hasPart (r .amountWidth) xs ≡ false → {x : Refusal} → blockReplay r c w p xs .block .answer ≡ Outcome.Refused x
+        → blockReplay r c w p (xs ++ ys) .block .lines ≡ blockReplay r c w p xs .block .lines
+    unfolding blockReplay
+    block-refused xs ys whole e =
+        let b : Between = record { case = c; table = w; replay = p } in
+        let ts = linesIn (r .amountWidth) xs in
+        let us = linesIn (r .amountWidth) ys in
+        ap takenLines (ap (lineAnswers r b) (lines-append (r .amountWidth) xs ys whole) ∙ answers-append r b ts us)
+        ∙ taken-refused (lineAnswers r b ts) (lineAnswers r (afterLines r b ts) us) e
+
+    -- no whole line
+    block-short : (bytes : List ℕ) → length bytes < lineLength (r .amountWidth) → blockReplay r c w p bytes ≡ record { block = record { replay = p; lines = 0; answer = Outcome.Done }; table = w }
+    unfolding blockReplay
+    block-short bytes h = let n : wholeLines (r .amountWidth) bytes ≡ 0 = div-eq-of-lt h in rw n
+
+  -- ---- the fold
+
+  -- what stands after blocks, beside one block of them all from line `at`
+  pub record Stands (g : JudgingCall) (c : Case) (at : ℕ) (call : BlockCall) : Type 0 where
+    pub answer : g .judging .answer ≡ answerAt (counted at (call .block .lines)) (call .block .answer)
+    pub case-kept : call .block .answer ≡ Outcome.Done → g .judging .case ≡ c
+    pub replay : call .block .answer ≡ Outcome.Done → g .judging .replay ≡ call .block .replay
+    pub table : call .block .answer ≡ Outcome.Done → g .table ≡ call .table
+
+  -- once refused, nothing changes
+  block-stays : (g : JudgingCall) {x : Refusal} {at : ℕ} → g .judging .answer ≡ FileAnswer.Refused x at → (y : List ℕ) → blockJudging r (g .judging) (g .table) y ≡ g
+  unfolding blockJudging
+  block-stays g e y = ap (blockFrom r (g .judging) (g .table) y) e
+
+  pub stays : (g : JudgingCall) {x : Refusal} {at : ℕ} → g .judging .answer ≡ FileAnswer.Refused x at → (xs : List (List ℕ)) → afterBlocks r g xs ≡ g
+  stays g e [] = refl
+  stays g e (y ∷ ys) = ap (λ (k : JudgingCall). afterBlocks r k ys) (block-stays g e y) ∙ stays g e ys
+
+  block-first : (j : Judging) (w : List ℤ) (x : List ℕ) {at : ℕ} → j .answer ≡ FileAnswer.Read at → blockJudging r j w x ≡ blockFrom r j w x (FileAnswer.Read at)
+  unfolding blockJudging
+  block-first j w x e = ap (blockFrom r j w x) e
+
+  -- a block and then the others
+  module _ (c : Case) (w : List ℤ) (p : Replay) (at : ℕ) (x rest : List ℕ) (whole : hasPart (r .amountWidth) x ≡ false) where
+    abbrev first : BlockCall
+    first = blockReplay r c w p x
+
+    abbrev second : BlockCall
+    second = blockReplay r c (first .table) (first .block .replay) rest
+
+    abbrev next : Outcome → JudgingCall
+    next o = record {
+      judging = record { case = c; replay = first .block .replay; answer = answerAt (counted at (first .block .lines)) o };
+      table = first .table;
+    }
+
+    stand-done : {g : JudgingCall} → first .block .answer ≡ Outcome.Done → Stands g c (counted at (first .block .lines)) second → Stands g c at (blockReplay r c w p (x ++ rest))
+    stand-done {g} d i =
+        let a : orElse (first .block .answer) (second .block .answer) ≡ second .block .answer = rw d in
+        rw (blocks-join r c w p x rest whole)
+        (record {
+          answer = i .answer ∙ ap₂ answerAt (counted-more at (first .block .lines) (second .block .lines)) (sym a);
+          case-kept = λ e. i .case-kept (sym a ∙ e);
+          replay = λ e. i .replay (sym a ∙ e);
+          table = λ e. i .table (sym a ∙ e);
+        })
+
+    never : {y : Refusal} → Outcome.Refused y ≡ Outcome.Done → ⊥
+    never e = let z : _≡_ {A = ℕ} 0 1 = cc in omega arith
+
+    stand-refused : {y : Refusal} → first .block .answer ≡ Outcome.Refused y → Stands (next (Outcome.Refused y)) c at (blockReplay r c w p (x ++ rest))
+    stand-refused {y} d =
+        let a : blockReplay r c w p (x ++ rest) .block .answer ≡ Outcome.Refused y = ap (λ (k : BlockCall). k .block .answer) (blocks-join r c w p x rest whole) ∙ ap (λ (o : Outcome). orElse o (second .block .answer)) d in
+        record {
+          answer = sym (ap₂ (λ (n : ℕ) (o : Outcome). answerAt (counted at n) o) (block-refused c w p x rest whole d) a);
+          case-kept = λ e. absurd (never (sym a ∙ e));
+          replay = λ e. absurd (never (sym a ∙ e));
+          table = λ e. absurd (never (sym a ∙ e));
+        }
+
+    stand-next : (xs : List (List ℕ)) → Stands (afterBlocks r (next Outcome.Done) xs) c (counted at (first .block .lines)) second
+        → (o : Outcome) → first .block .answer ≡ o → Stands (afterBlocks r (next o) xs) c at (blockReplay r c w p (x ++ rest))
+    stand-next xs i Outcome.Done d = stand-done d i
+    stand-next xs i (Outcome.Refused y) d = rw (stays (next (Outcome.Refused y)) refl xs) (stand-refused d)
+
+  module _ (tail : List ℕ) (short : length tail < lineLength (r .amountWidth)) where
+    pub blocks-stand : (xs : List (List ℕ)) → ((x : List ℕ) → x ∈ xs → hasPart (r .amountWidth) x ≡ false)
+        → (j : Judging) (w : List ℤ) (at : ℕ) → j .answer ≡ FileAnswer.Read at → at ≤ greatestCount
+        → Stands (afterBlocks r (record { judging = j; table = w }) xs) (j .case) at (blockReplay r (j .case) w (j .replay) (joined xs ++ tail))
+    blocks-stand [] whole j w at e few =
+        rw (block-short (j .case) w (j .replay) tail short)
+        (record { answer = e ∙ ap FileAnswer.Read (sym (counted-few at 0 (omega arith) ∙ omega arith)); case-kept = λ d. refl; replay = λ d. refl; table = λ d. refl })
+    blocks-stand (x ∷ xs) whole j w at e few =
+        let c : Case = j .case in
+        let p : Replay = j .replay in
+        let rest : List ℕ = joined xs ++ tail in
+        let all-whole = whole x (List·Memᴰ·head refl) in
+        let g : JudgingCall = next c w p at x rest all-whole Outcome.Done in
+        let i = blocks-stand xs (λ k m. whole k (List·Memᴰ·tail m)) (g .judging) (g .table) (counted at (blockReplay r c w p x .block .lines)) refl (omega arith) in
+        rw (append-assoc x (joined xs) tail, block-first j w x e) (stand-next c w p at x rest all-whole xs i (blockReplay r c w p x .block .answer) refl)

@@ -1,0 +1,4 @@
+-- Laws of the definitions, and the promise of the start, the blocks and the finish together.
+pub mod Fronts
+pub mod Blocks
+pub mod Prints

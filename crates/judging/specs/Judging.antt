@@ -1,0 +1,80 @@
+-- The program `replay` as a start, a block and a finish, on all input. Assumes nothing.
+use mathlib.Core.Bool.{Bool}
+use mathlib.Core.List.{List}
+use Prim.Native.Nat.{ℕ, _+_, min}
+use lib.IntN.{ℤ}
+use Rattle.integers.specs.Words.{if_then_else_}
+use Rattle.definitions.specs.declared.FileAnswer.{FileAnswer}
+use Rattle.definitions.specs.declared.Outcome.{Outcome}
+use Rattle.definitions.specs.declared.Refusal.the-variants.{CutShort}
+use Rattle.definitions.specs.Rules.{Rules}
+use Rattle.definitions.specs.Calls.{WriteCall}
+use Rattle.definitions.specs.CaseFiles.{readCase}
+use Rattle.definitions.specs.Programs.{Judged, accepted, refused}
+use Rattle.checker.specs.Checker.{freshReplay, endReplay, blockReplay}
+use Rattle.figures.specs.Scopes.{boundOf}
+use Rattle.texts.specs.Texts.{greatestCount, writeRefusedCall, writeAcceptedCall}
+use Rattle.judging.specs.declared.Judging.{Judging}
+
+-- a start and a block, with the lent table after them
+pub record JudgingCall : Type 0 where
+  pub judging : Judging
+  pub table : List ℤ
+
+-- lines add up, to the greatest count that is written
+abbrev pub counted : ℕ → ℕ → ℕ
+counted at more = min greatestCount (at + more)
+
+-- after lines of which the first with a number, if any, is line `at`
+abbrev pub answerAt : ℕ → Outcome → FileAnswer
+answerAt at Outcome.Done = FileAnswer.Read at
+answerAt at (Outcome.Refused x) = FileAnswer.Refused x at
+
+-- the end's number belongs to the line after the last; 14 also where a part line is left
+abbrev pub endJudged : ℕ → Outcome → Bool → Judged → Judged
+endJudged at (Outcome.Refused x) part good = refused x at
+endJudged at Outcome.Done part good = if part then refused CutShort at else good
+
+abbrev pub writeJudged : List ℕ → Judged → WriteCall
+writeJudged out (accepted rounds bound) = writeAcceptedCall out rounds bound
+writeJudged out (refused x at) = writeRefusedCall out x at
+
+module _ (r : Rules) where
+  -- the case is read as the front of the input
+  unfoldable pub startJudging : List ℕ → List ℤ → JudgingCall
+  startJudging front w =
+      let call = readCase r front w in
+      record {
+        judging = record {
+          case = call .read .case;
+          replay = freshReplay r (call .read .case) (call .table);
+          answer = call .read .answer;
+        };
+        table = call .table;
+      }
+
+  -- once refused, nothing changes
+  abbrev pub blockFrom : Judging → List ℤ → List ℕ → FileAnswer → JudgingCall
+  blockFrom j w bytes (FileAnswer.Refused x at) = record { judging = j; table = w }
+  blockFrom j w bytes (FileAnswer.Read lines) =
+      let call = blockReplay r (j .case) w (j .replay) bytes in
+      record {
+        judging = record {
+          case = j .case;
+          replay = call .block .replay;
+          answer = answerAt (counted lines (call .block .lines)) (call .block .answer);
+        };
+        table = call .table;
+      }
+
+  unfoldable pub blockJudging : Judging → List ℤ → List ℕ → JudgingCall
+  blockJudging j w bytes = blockFrom j w bytes (j .answer)
+
+  -- the judgement where the input ends here
+  abbrev pub judgedFrom : Judging → List ℤ → Bool → FileAnswer → Judged
+  judgedFrom j w part (FileAnswer.Refused x at) = refused x at
+  judgedFrom j w part (FileAnswer.Read lines) =
+      endJudged lines (endReplay r (j .case) (j .replay)) part (accepted (j .replay .rounds) (boundOf r (j .case) w))
+
+  unfoldable pub finishJudging : Judging → List ℤ → Bool → List ℕ → WriteCall
+  finishJudging j w part out = writeJudged out (judgedFrom j w part (j .answer))
