@@ -1,0 +1,4 @@
+-- Laws that the functions' proofs cite.
+pub mod Held
+pub mod Again
+pub mod Puts

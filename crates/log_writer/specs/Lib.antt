@@ -1,0 +1,2 @@
+-- What a log writer is after a line.
+pub mod Writers
