@@ -3,3 +3,4 @@ pub mod Steps
 pub mod Signs
 pub mod Stores
 pub mod Answers
+pub mod Widths

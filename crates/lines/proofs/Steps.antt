@@ -1,5 +1,5 @@
 -- Reading at a place of a list, one byte a step. Assumes nothing.
-use mathlib.Core.Path.{_≡_}
+use mathlib.Core.Path.{_≡_, _∙_}
 use mathlib.Core.Logic.{_≢_}
 use mathlib.Core.Option.{none, some}
 use mathlib.Core.List.{List, _∷_}
@@ -11,8 +11,9 @@ use lib.IntN.{pos}
 use lib.ListN.{length, getD, drop, length-drop, drop-of-length-le}
 use lib.Seq.{drop-cons}
 use borrow.Author.Tests.{le-leb, lt-leb, eq-eqb, ne-eqb}
-use Rattle.definitions.specs.Lines.{readDigits, readPositive, readNumber, readColumn}
+use Rattle.definitions.specs.Lines.{readDigits, readPositive, readNumber, readColumn, columnAt}
 use Rattle.lines.specs.Found.{plainFound, negativeFound}
+use Rattle.lines.specs.Words.{Word}
 
 module _ (t : List ℕ) (i : ℕ) where
   pub at-drop : i < length t → drop i t ≡ getD t i 0 ∷ drop (i + 1) t
@@ -63,6 +64,31 @@ module _ (t : List ℕ) (i : ℕ) where
 
     pub digits-next : i < length t → 48 ≤ getD t i 0 → getD t i 0 ≤ 57 → readDigits v (drop i t) ≡ readDigits (v * 10 + (getD t i 0 - 48)) (drop (i + 1) t)
     digits-next h l u = rw at-drop (simp (le-leb _ _ l, le-leb _ _ u))
+
+-- ---- four bytes at once
+
+module _ (t : List ℕ) (i r : ℕ) (w : Word t i r) (h : i + 4 ≤ length t) where
+  pub column-spaces : r ≡ 538976288 → readColumn (drop i t) ≡ readColumn (drop (i + 4) t)
+  column-spaces e =
+      let e2 : i + 1 + 1 ≡ i + 2 = omega arith in
+      let e3 : i + 2 + 1 ≡ i + 3 = omega arith in
+      let e4 : i + 3 + 1 ≡ i + 4 = omega arith in
+      let d : getD t (i + 3) 0 ≡ 32 = omega arith in
+      let c : getD t (i + 2) 0 ≡ 32 = omega arith in
+      let b : getD t (i + 1) 0 ≡ 32 = omega arith in
+      let a : getD t i 0 ≡ 32 = omega arith in
+      column-space t i (omega arith) a ∙ (column-space t (i + 1) (omega arith) b
+      ∙ (rw e2 (column-space t (i + 2) (omega arith) c ∙ (rw e3 (column-space t (i + 3) (omega arith) d ∙ (rw e4))))))
+
+  pub column-zero : r ≡ 807411744 → columnAt i 4 t ≡ some (pos 0)
+  column-zero e =
+      let e2 : i + 1 + 1 ≡ i + 2 = omega arith in
+      let e3 : i + 2 + 1 ≡ i + 3 = omega arith in
+      let d : getD t (i + 3) 0 ≡ 48 = omega arith in
+      let c : getD t (i + 2) 0 ≡ 32 = omega arith in
+      let b : getD t (i + 1) 0 ≡ 32 = omega arith in
+      let a : getD t i 0 ≡ 32 = omega arith in
+      rw (at-drop t i (omega arith), at-drop t (i + 1) (omega arith), e2, at-drop t (i + 2) (omega arith), e3, at-drop t (i + 3) (omega arith), a, b, c, d)
 
 -- ---- i digits make a number below 10 ^ i
 

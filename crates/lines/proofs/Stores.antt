@@ -4,8 +4,8 @@ use mathlib.Core.List.{List, [], _∷_, _++_, append-assoc}
 use Prim.Native.Nat.{ℕ, suc, _+_, _-_, _/_, _%_, _≤_, _<_}
 use native.Mathlib.Numerals.{add-one}
 use native.Mathlib.Omega.{arith}
-use lib.ListN.{length, take, drop, set, getD, length-append, length-drop}
-use lib.Seq.{append-snoc, set-split, drop-at, take-at, drop-drop, set-at, drop-cons, length-take-le}
+use lib.ListN.{length, take, drop, set, getD, replicate, length-append, length-drop, length-replicate, take-append-drop, replicate-append-replicate}
+use lib.Seq.{append-snoc, set-split, drop-at, take-at, drop-drop, set-at, drop-cons, length-take-le, take-set-le, take-suc-set, take-take}
 use Rattle.definitions.specs.Lines.{decimal, overwritten}
 use Rattle.definitions.proofs.ColumnLaws.{by-digit, decimal-digit, decimal-last}
 
@@ -18,6 +18,33 @@ before l i v p h =
 -- the text's first byte has so many bytes before it
 pub bytes-before : (l t : List ℕ) (i : ℕ) → drop i l ≡ t → i ≤ length l → i + length t ≡ length l
 bytes-before l t i e h = omega (arith, length-drop i l, ap length e)
+
+-- the bytes before a byte stored keep what they held
+pub kept-before : (l o : List ℕ) (i v : ℕ) → take i l ≡ take i o → take (i - 1) (set l (i - 1) v) ≡ take (i - 1) o
+kept-before l o i v e =
+    take-set-le (i - 1) l (i - 1) v (omega arith) ∙ sym (take-take (i - 1) i l (omega arith)) ∙ ap (take (i - 1)) e ∙ take-take (i - 1) i o (omega arith)
+
+pub stored : (l o t : List ℕ) (i : ℕ) → take i l ≡ take i o → drop i l ≡ t → l ≡ take i o ++ t
+stored l o t i e f = sym (take-append-drop i l) ∙ rw (e, f)
+
+pub stored-before : (o t l : List ℕ) (r v : ℕ) → 0 < r → r ≤ length o → l ≡ take r o ++ t → set l (r - 1) v ≡ take (r - 1) o ++ (v ∷ t)
+stored-before o t l r v p h e =
+    let n = length-take-le r o h in
+    let f : take r l ≡ take r o = ap (take r) e ∙ take-at (take r o) t r n in
+    let g : drop r l ≡ t = ap (drop r) e ∙ drop-at (take r o) t r n in
+    let m : r ≤ length l = omega (arith, simp length-append at (ap length e), n) in
+    stored (set l (r - 1) v) o (v ∷ t) (r - 1) (kept-before l o r v f) (before l r v p m ∙ ap (λ t. v ∷ t) g)
+
+-- spaces
+pub spaces-next : (l : List ℕ) (i v : ℕ) → i < length l → take i l ≡ replicate i v → take (i + 1) (set l i v) ≡ replicate (i + 1) v
+spaces-next l i v h e =
+    let f : take (i + 1) (set l i v) ≡ take i l ++ (v ∷ []) = rw add-one (take-suc-set l i v h) in
+    f ∙ ap (λ t. t ++ (v ∷ [])) e ∙ replicate-append-replicate i 1 v
+
+pub take-spaces : (k n v : ℕ) → k ≤ n → take k (replicate n v) ≡ replicate k v
+take-spaces k n v h =
+    let e : k + (n - k) ≡ n = omega arith in
+    ap (λ n. take k (replicate n v)) (sym e) ∙ ap (take k) (sym (replicate-append-replicate k (n - k) v)) ∙ take-at (replicate k v) (replicate (n - k) v) k (length-replicate k v)
 
 -- ---- digits
 

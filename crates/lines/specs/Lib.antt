@@ -1,3 +1,4 @@
 -- The definitions that the contracts of `lines` cite beside those of `definitions`.
 pub mod Found
 pub mod WriteNumber
+pub mod Words

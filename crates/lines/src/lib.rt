@@ -8,17 +8,23 @@ use definitions::Written;
 ghost use mathlib.Core.Path.{_≡_};
 ghost use mathlib.Core.Bool.{false};
 ghost use mathlib.Core.List.{_++_};
-ghost use Prim.Native.Nat.{_+_, _≤_, _<_, _^_};
+ghost use Prim.Native.Nat.{_+_, _-_, _≤_, _<_, _^_};
 ghost use lib.IntN.{natAbs};
-ghost use lib.ListN.{length, take, drop};
+ghost use lib.ListN.{length, take, drop, replicate};
 ghost use Rattle.definitions.specs.Rules.{Rules, standard};
 ghost use Rattle.definitions.specs.Lines.{decimal, numberText, tooWide, columnText, readPositive, readNumber, readColumn, columnAt, lineLength, lineText, lineTooWide, overwritten};
 ghost use Rattle.definitions.specs.Calls.{readLineAnswer, writeLineCall};
 ghost use Rattle.lines.specs.Found.{digitsFound, digitsValue, plainFound, negativeFound, columnFound, lineFound, lineAnswer};
 ghost use Rattle.lines.specs.WriteNumber.{writeNumberCall};
+ghost use Rattle.lines.specs.Words.{Word, digitRoom};
 
 // The width of the amount column today.
 const AMOUNT: usize = 12;
+
+// Four spaces, and three spaces and a 0, as words.
+const BLANKS: u64 = 538976288;
+
+const ZERO: u64 = 807411744;
 
 // Digits, or something else.
 enum Digits {
@@ -35,16 +41,42 @@ enum Column {
 // ---- reading
 
 fn wide(x: u8) -> u64
-    ensures { λ r. ⌜ r ≡ x ⌝ }
+    ensures { λ r. ⌜ (r ≡ x) × (r < 256) ⌝ }
 {
     x as u64
+}
+
+// Four bytes as one number, so that they are compared at once.
+fn word(t: &[u8], i: usize) -> u64
+    requires { ⌜ i + 4 ≤ length (now t) ⌝ }
+    ensures { λ r. ⌜ Word (now (t .entry)) i r ⌝ }
+{
+    let a = wide(t[i]);
+    let b = wide(t[i + 1]);
+    let c = wide(t[i + 2]);
+    let d = wide(t[i + 3]);
+    a + b * 256 + c * 65536 + d * 16777216
+}
+
+// Spaces that t begins with, four at a time.
+fn blank_words(t: &[u8]) -> usize
+    ensures { λ r. ⌜ (r ≤ length (now (t .entry))) × (readColumn (now (t .entry)) ≡ readColumn (drop r (now (t .entry)))) ⌝ }
+{
+    let mut i: usize = 0;
+    while 4 <= t.len() - i {
+        if word(t, i) != BLANKS {
+            return i;
+        }
+        i += 4;
+    }
+    i
 }
 
 // How many spaces t begins with.
 fn blanks(t: &[u8]) -> usize
     ensures { λ r. ⌜ (r ≤ length (now (t .entry))) × (readColumn (now (t .entry)) ≡ readNumber (drop r (now (t .entry)))) ⌝ }
 {
-    let mut i: usize = 0;
+    let mut i = blank_words(t);
     while i < t.len() {
         if t[i] != 32 {
             return i;
@@ -133,6 +165,17 @@ fn read_column_at(bytes: &[u8], from: usize, width: usize) -> Column
     read_column(&bytes[from..to])
 }
 
+// A column of four bytes, which mostly holds 0.
+fn read_narrow(bytes: &[u8], from: usize) -> Column
+    requires { ⌜ from + 4 ≤ length (now bytes) ⌝ }
+    ensures { λ r. ⌜ columnFound r ≡ columnAt from 4 (now (bytes .entry)) ⌝ }
+{
+    if word(bytes, from) == ZERO {
+        return Column::Number(0);
+    }
+    read_column_at(bytes, from, 4)
+}
+
 // The line of five columns, if each is a number.
 fn line_of(kind: Column, a: Column, b: Column, c: Column, amount: Column) -> LineRead
     ensures { λ r. ⌜ r ≡ lineAnswer (lineFound (columnFound kind) (columnFound a) (columnFound b) (columnFound c) (columnFound amount)) ⌝ }
@@ -174,9 +217,9 @@ fn read_line_in(bytes: &[u8], width: usize) -> LineRead
         return LineRead::Refused(Refusal::NotInColumns);
     }
     let kind = read_column_at(bytes, 0, 2);
-    let a = read_column_at(bytes, 2, 4);
-    let b = read_column_at(bytes, 6, 4);
-    let c = read_column_at(bytes, 10, 4);
+    let a = read_narrow(bytes, 2);
+    let b = read_narrow(bytes, 6);
+    let c = read_narrow(bytes, 10);
     let amount = read_column_at(bytes, 14, width);
     line_of(kind, a, b, c, amount)
 }
@@ -215,13 +258,40 @@ fn text_length(z: i64) -> usize
     if z < 0 { k + 1 } else { k }
 }
 
+// 10 to the power k.
+fn power(k: usize) -> u64
+    requires { ⌜ k ≤ 18 ⌝ }
+    ensures { λ r. ⌜ r ≡ 10 ^ k ⌝ }
+{
+    let mut p: u64 = 1;
+    let mut i: usize = 0;
+    while i < k {
+        p *= 10;
+        i += 1;
+    }
+    p
+}
+
+// How many digits a number of z's sign may have in a column.
+fn digit_room(width: usize, z: i64) -> usize
+    requires { ⌜ 1 ≤ width ⌝ }
+    ensures { λ r. ⌜ (r ≤ width) × (r ≡ digitRoom width z) ⌝ }
+{
+    if z < 0 { width - 1 } else { width }
+}
+
 fn too_wide(width: usize, z: i64) -> bool
+    requires { ⌜ (1 ≤ width) × (width ≤ 18) ⌝ }
     ensures { λ r. ⌜ r ≡ tooWide width z ⌝ }
 {
-    width < text_length(z)
+    if magnitude(z) < power(digit_room(width, z)) {
+        return false;
+    }
+    true
 }
 
 fn line_too_wide(line: Line, width: usize) -> bool
+    requires { ⌜ (1 ≤ width) × (width ≤ 18) ⌝ }
     ensures { λ r. ⌜ r ≡ lineTooWide width line ⌝ }
 {
     too_wide(2, line.kind)
@@ -234,7 +304,7 @@ fn line_too_wide(line: Line, width: usize) -> bool
 // Puts n's digits at the end of out, and answers where they begin.
 fn put_digits(out: &mut [u8], n: u64) -> usize
     requires { ⌜ length (decimal n) ≤ length (now out) ⌝ }
-    ensures { λ r. ⌜ (r ≤ length (now (out .entry))) × (drop r (now (out .exit)) ≡ decimal n) ⌝ }
+    ensures { λ r. ⌜ (r + length (decimal n) ≡ length (now (out .entry))) × (now (out .exit) ≡ take r (now (out .entry)) ++ decimal n) ⌝ }
 {
     let mut i = out.len();
     let mut rest = n;
@@ -248,18 +318,27 @@ fn put_digits(out: &mut [u8], n: u64) -> usize
     i
 }
 
-// Puts z at the end of out, and answers where it begins.
-fn put_number(out: &mut [u8], z: i64) -> usize
+// Puts z at the end of out.
+fn put_number(out: &mut [u8], z: i64)
     requires { ⌜ length (numberText z) ≤ length (now out) ⌝ }
-    ensures { λ r. ⌜ (r ≤ length (now (out .entry))) × (drop r (now (out .exit)) ≡ numberText z) ⌝ }
+    ensures { λ _. ⌜ now (out .exit) ≡ take (length (now (out .entry)) - length (numberText z)) (now (out .entry)) ++ numberText z ⌝ }
 {
     let i = put_digits(out, magnitude(z));
     if z < 0 {
         let m = i - 1;
         out[m] = 45;
-        return m;
     }
-    i
+}
+
+// Fills out with spaces.
+fn clear(out: &mut [u8])
+    ensures { λ _. ⌜ now (out .exit) ≡ replicate (length (now (out .entry))) 32 ⌝ }
+{
+    let mut i: usize = 0;
+    while i < out.len() {
+        out[i] = 32;
+        i += 1;
+    }
 }
 
 // Fills out with z, right-justified.
@@ -267,11 +346,8 @@ fn put_column(out: &mut [u8], z: i64)
     requires { ⌜ length (numberText z) ≤ length (now out) ⌝ }
     ensures { λ _. ⌜ now (out .exit) ≡ columnText (length (now (out .entry))) z ⌝ }
 {
-    let mut i = put_number(out, z);
-    while 0 < i {
-        i -= 1;
-        out[i] = 32;
-    }
+    clear(out);
+    put_number(out, z);
 }
 
 // Puts z into the column at byte `from`.
@@ -297,7 +373,7 @@ fn put_line(out: &mut [u8], line: Line, width: usize)
 
 // A line under any rules whose amount column has this width.
 fn write_line_in(out: &mut [u8], line: Line, width: usize) -> Outcome
-    requires { ⌜ width ≤ 18 ⌝ }
+    requires { ⌜ (1 ≤ width) × (width ≤ 18) ⌝ }
     ensures { λ r. ⌜ ((s : Rules) → s .amountWidth ≡ width → (r ≡ writeLineCall s (now (out .entry)) line .answer) × (now (out .exit) ≡ writeLineCall s (now (out .entry)) line .out)) ⌝ }
 {
     if out.len() < 15 + width {

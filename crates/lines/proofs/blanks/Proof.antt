@@ -15,8 +15,11 @@ Inv-loop t i₀ i = (i ≤ length t) × (readColumn t ≡ readColumn (drop i t))
 abbrev μ-loop : tie.MeasureT-loop
 μ-loop t i₀ i = length t - i
 
+blank-words-requires : tie.Need-blank-words-requires Inv-loop μ-loop
+blank-words-requires c κs = search needs
+
 loop-holds : tie.Need-loop-holds Inv-loop μ-loop
-loop-holds c = search needs
+loop-holds c = c .blank-words .ensures
 
 shared-slice-read-if1 : tie.Need-shared-slice-read-if1 Inv-loop μ-loop
 shared-slice-read-if1 c = search needs
@@ -24,7 +27,7 @@ shared-slice-read-if1 c = search needs
 returns : tie.Need-returns Inv-loop μ-loop
 returns c =
     let l = c .before .before .before in
-    (search needs, l .loop .inv .1 ∙ column-other (now (l .before .args .t)) (l .loop .i) (c .before .before .loop-test .taken) (c .if1 .taken))
+    (search needs, l .loop .inv .1 ∙ column-other (now (l .before .before .before .args .t)) (l .loop .i) (c .before .before .loop-test .taken) (c .if1 .taken))
 
 add-i : tie.Need-add-i Inv-loop μ-loop
 add-i c = search needs
@@ -35,12 +38,12 @@ loop-less c = search needs
 loop-again : tie.Need-loop-again Inv-loop μ-loop
 loop-again c =
     let l = c .before .before .before in
-    (search needs, l .loop .inv .1 ∙ column-space (now (l .before .args .t)) (l .loop .i) (c .before .before .loop-test .taken) (c .if1 .left))
+    (search needs, l .loop .inv .1 ∙ column-space (now (l .before .before .before .args .t)) (l .loop .i) (c .before .before .loop-test .taken) (c .if1 .left))
 
 returns-2 : tie.Need-returns-2 Inv-loop μ-loop
 returns-2 c =
     let l = c .before in
-    (search needs, l .loop .inv .1 ∙ column-end (now (l .before .args .t)) (l .loop .i) (c .loop-test .left))
+    (search needs, l .loop .inv .1 ∙ column-end (now (l .before .before .before .args .t)) (l .loop .i) (c .loop-test .left))
 
 pub blanks-spec : {M : Type 1} → statement M
 blanks-spec =
@@ -48,6 +51,7 @@ blanks-spec =
     (tie.spec
     Inv-loop
     μ-loop
+    blank-words-requires
     loop-holds
     shared-slice-read-if1
     returns

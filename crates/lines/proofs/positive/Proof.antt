@@ -64,7 +64,7 @@ sub-v c = search needs
 add-v : tie.Need-add-v Inv-loop μ-loop
 add-v c =
     let l = c .before .before .before .before .before in
-    omega (arith, below-most (l .loop .v) (l .loop .i) 17 (omega arith) (l .loop .inv .2), c .wide .ensures)
+    omega (arith, below-most (l .loop .v) (l .loop .i) 17 (omega arith) (l .loop .inv .2), c .wide .ensures .0)
 
 add-i : tie.Need-add-i Inv-loop μ-loop
 add-i c = search needs
@@ -77,8 +77,8 @@ loop-again c =
     let l = c .before .before .before .before .before in
     let t = now (l .before .before .before .before .before .args .t) in (
       search needs,
-      rw (c .wide .ensures) (l .loop .inv .1 ∙ digits-next t (l .loop .i) (l .loop .v) (c .before .before .before .before .loop-test .taken) (c .before .before .if3 .left) (c .before .if4 .left)),
-      rw (c .wide .ensures) (next-below (l .loop .v) (getD t (l .loop .i) 0 - 48) (l .loop .i) (omega arith) (l .loop .inv .2)),
+      rw (c .wide .ensures .0) (l .loop .inv .1 ∙ digits-next t (l .loop .i) (l .loop .v) (c .before .before .before .before .loop-test .taken) (c .before .before .if3 .left) (c .before .if4 .left)),
+      rw (c .wide .ensures .0) (next-below (l .loop .v) (getD t (l .loop .i) 0 - 48) (l .loop .i) (omega arith) (l .loop .inv .2)),
     )
 
 returns-5 : tie.Need-returns-5 Inv-loop μ-loop

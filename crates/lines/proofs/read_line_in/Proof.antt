@@ -27,17 +27,17 @@ returns-2 c s e =
 read-column-at-requires : tie.Need-read-column-at-requires
 read-column-at-requires c κs = search needs
 
+read-narrow-requires : tie.Need-read-narrow-requires
+read-narrow-requires c κs = search needs
+
+read-narrow-requires-2 : tie.Need-read-narrow-requires-2
+read-narrow-requires-2 c κs = search needs
+
+read-narrow-requires-3 : tie.Need-read-narrow-requires-3
+read-narrow-requires-3 c κs = search needs
+
 read-column-at-requires-2 : tie.Need-read-column-at-requires-2
 read-column-at-requires-2 c κs = search needs
-
-read-column-at-requires-3 : tie.Need-read-column-at-requires-3
-read-column-at-requires-3 c κs = search needs
-
-read-column-at-requires-4 : tie.Need-read-column-at-requires-4
-read-column-at-requires-4 c κs = search needs
-
-read-column-at-requires-5 : tie.Need-read-column-at-requires-5
-read-column-at-requires-5 c κs = search needs
 
 line-of-requires : tie.Need-line-of-requires
 line-of-requires c κs = search needs
@@ -52,7 +52,7 @@ returns-3 c s e =
     let f = k1 .before in
     let a = f .before .before .before .before .args in
     read-columns (a .width) s e (now (a .bytes)) (f .before .before .if1 .left) (f .if2 .left)
-    (k1 .read-column-at .ensures) (k2 .read-column-at2 .ensures) (k3 .read-column-at3 .ensures) (k4 .read-column-at4 .ensures) (k5 .read-column-at5 .ensures) (c .line-of .ensures)
+    (k1 .read-column-at .ensures) (k2 .read-narrow .ensures) (k3 .read-narrow2 .ensures) (k4 .read-narrow3 .ensures) (k5 .read-column-at2 .ensures) (c .line-of .ensures)
 
 pub read-line-in-spec : {M : Type 1} → statement M
 read-line-in-spec =
@@ -64,9 +64,9 @@ read-line-in-spec =
     shared-slice-read-if2
     returns-2
     read-column-at-requires
+    read-narrow-requires
+    read-narrow-requires-2
+    read-narrow-requires-3
     read-column-at-requires-2
-    read-column-at-requires-3
-    read-column-at-requires-4
-    read-column-at-requires-5
     line-of-requires
     returns-3)

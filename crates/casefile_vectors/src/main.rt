@@ -1,0 +1,343 @@
+// Case files read and written. Standard input holds vectors: a line that names what is tried, a line in columns whose amount is the number of
+// bytes that follow, and these bytes.
+// Kind 0: the bytes are asked for their size, read as the front of a longer input and read alone, into a table of a places that hold 7; what
+// was read alone is written again.
+// Kind 1: a case of a links, one value and b pairs is written to c dots, with weights 1, 2, 3, 4 and one more; the bytes are a line with
+// the ends of pair 0, the ends of pair 1 and that weight.
+// After them the largest case goes there and back. The file `stdout` was worked out from document 01; the peer reads each file the same way.
+use definitions::Case;
+use definitions::CaseRead;
+use definitions::CaseSize;
+use definitions::FileAnswer;
+use definitions::Line;
+use definitions::LineRead;
+use definitions::Refusal;
+use definitions::Written;
+ghost use Prim.Native.Nat.{_<_};
+
+// Document 01's number.
+fn number_of(refusal: Refusal) -> u64 {
+    match refusal {
+        Refusal::NotInColumns => 1,
+        Refusal::NotDue => 2,
+        Refusal::OutsideLimits => 3,
+        Refusal::WrongLength => 4,
+        Refusal::OutOfRange => 5,
+        Refusal::EndsNotAscending => 6,
+        Refusal::EdgeRepeated => 7,
+        Refusal::WeightOutOfRange => 8,
+        Refusal::RaiseNotAscending => 9,
+        Refusal::NotRefuted => 10,
+        Refusal::LeavesRange => 11,
+        Refusal::OtherBound => 12,
+        Refusal::BoundNotLower => 13,
+        Refusal::CutShort => 14,
+    }
+}
+
+// ---- what is printed
+
+fn print(text: &[u8]) {
+    io::write_all(1, text);
+}
+
+fn print_count(n: u64) {
+    print(b" ");
+    io::print_decimal(1, n);
+}
+
+fn print_first(text: &[u8], n: usize) {
+    if n <= text.len() {
+        print(&text[0..n]);
+    }
+}
+
+fn print_weight(z: i64) {
+    print(b" ");
+    let mut text = [0u8; 20];
+    let written = lines::write_number(&mut text, z);
+    match written {
+        Written::Bytes(n) => print_first(&text, n),
+        Written::Refused(_) => print(b"?"),
+    }
+}
+
+fn print_each(table: &[i64]) {
+    let mut i: usize = 0;
+    while i < table.len() {
+        print_weight(table[i]);
+        i += 1;
+    }
+}
+
+fn print_weights(table: &[i64]) {
+    print(b":");
+    print_each(table);
+    print(b"\n");
+}
+
+fn print_refusal(refusal: Refusal) {
+    print(b" refused");
+    print_count(number_of(refusal));
+}
+
+fn wide(x: u8) -> u64
+    ensures { λ r. ⌜ r < 256 ⌝ }
+{
+    x as u64
+}
+
+// A checksum.
+fn digest(bytes: &[u8]) -> u64 {
+    let mut sum: u64 = 0;
+    let mut i: usize = 0;
+    while i < bytes.len() {
+        sum = (sum * 31 + wide(bytes[i])) % 1_000_000_007;
+        i += 1;
+    }
+    sum
+}
+
+// How many bytes, and their checksum.
+fn print_bytes(bytes: &[u8]) {
+    print_count(bytes.len() as u64);
+    print_count(digest(bytes));
+    print(b"\n");
+}
+
+// ---- a vector
+
+fn size(bytes: &[u8]) {
+    print(b"  size");
+    let answer = casefile::case_size(bytes);
+    match answer {
+        CaseSize::Size { n, d, m, table } => {
+            print_count(n as u64);
+            print_count(d as u64);
+            print_count(m as u64);
+            print_count(table as u64);
+        }
+        CaseSize::Refused(refusal) => print_refusal(refusal),
+    }
+    print(b"\n");
+}
+
+fn answer(read: CaseRead) {
+    let answer = read.answer;
+    match answer {
+        FileAnswer::Read { lines } => {
+            print(b" read");
+            print_count(lines as u64);
+        }
+        FileAnswer::Refused { refusal, line } => {
+            print_refusal(refusal);
+            print_count(line as u64);
+        }
+    }
+}
+
+fn front(bytes: &[u8], table: &mut [i64]) {
+    print(b"  front");
+    answer(casefile::read_case(bytes, table));
+    print_weights(table);
+}
+
+// How many bytes are written, and all of the output after it.
+fn write(case: Case, table: &[i64], out: &mut [u8]) {
+    let written = casefile::write_case(case, table, out);
+    match written {
+        Written::Bytes(n) => {
+            print(b" written");
+            print_count(n as u64);
+        }
+        Written::Refused(refusal) => print_refusal(refusal),
+    }
+    print(b" of");
+    print_bytes(out);
+}
+
+// The bytes, and the case of them that was read alone, written to as many.
+fn again(bytes: &[u8], case: Case, table: &[i64]) {
+    print(b"  bytes");
+    print_bytes(bytes);
+    let n = bytes.len();
+    if n <= 500 {
+        let mut out = [46u8; 500];
+        print(b"  again");
+        write(case, table, &mut out[0..n]);
+    }
+}
+
+fn alone(bytes: &[u8], table: &mut [i64]) {
+    print(b"  alone");
+    let read = casefile::read_case_alone(bytes, table);
+    answer(read);
+    print_weights(table);
+    if 0 < read.case.n {
+        again(bytes, read.case, table);
+    }
+}
+
+fn read(bytes: &[u8], places: usize) {
+    size(bytes);
+    if places <= 20 {
+        let mut one = [7i64; 20];
+        front(bytes, &mut one[0..places]);
+        let mut other = [7i64; 20];
+        alone(bytes, &mut other[0..places]);
+    }
+}
+
+// ---- a case that no file gives
+
+fn count(z: i64) -> usize {
+    if z < 0 { 0 } else { z as usize }
+}
+
+fn byte(z: i64) -> u8 {
+    let n = count(z);
+    if 255 < n { 255 } else { n as u8 }
+}
+
+fn two(n: usize, m: usize, line: Line) -> Case {
+    let mut lower = [0u8; 96];
+    let mut upper = [0u8; 96];
+    lower[0] = byte(line.kind);
+    upper[0] = byte(line.a);
+    lower[1] = byte(line.b);
+    upper[1] = byte(line.c);
+    Case {
+        n: n,
+        d: 1,
+        m: m,
+        lower: lower,
+        upper: upper,
+    }
+}
+
+fn put(n: usize, m: usize, line: Line, room: usize) {
+    let table = [1, 2, 3, 4, line.amount];
+    if room <= 500 {
+        let mut out = [46u8; 500];
+        print(b" ");
+        write(two(n, m, line), &table, &mut out[0..room]);
+    }
+}
+
+fn put_line(n: usize, m: usize, bytes: &[u8], room: usize) {
+    let ends = lines::read_line(bytes);
+    match ends {
+        LineRead::Refused(_) => print(b"?"),
+        LineRead::Read(line) => put(n, m, line, room),
+    }
+}
+
+// ---- the vectors
+
+fn run(control: Line, bytes: &[u8]) {
+    if control.kind == 0 {
+        read(bytes, count(control.a));
+    } else {
+        put_line(count(control.a), count(control.b), bytes, count(control.c));
+    }
+}
+
+// The bytes of the vector at the front, or 0 where there is none.
+fn vector(input: &[u8]) -> usize {
+    if input.len() < 54 {
+        return 0;
+    }
+    print(&input[0..27]);
+    let control = lines::read_line(&input[27..54]);
+    match control {
+        LineRead::Refused(_) => 0,
+        LineRead::Read(line) => {
+            let size = count(line.amount);
+            if input.len() - 54 < size {
+                return 0;
+            }
+            let to = 54 + size;
+            run(line, &input[54..to]);
+            to
+        }
+    }
+}
+
+fn vectors(input: &[u8]) {
+    let mut at: usize = 0;
+    while at < input.len() {
+        let used = vector(&input[at..]);
+        if used == 0 {
+            return;
+        }
+        if input.len() - at < used {
+            return;
+        }
+        at += used;
+    }
+}
+
+// ---- the largest case there and back
+
+// From -1,000,000 to 1,000,000.
+fn weight(v: u64) -> i64
+    requires { ⌜ v < 2_000_001 ⌝ }
+{
+    v as i64 - 1_000_000
+}
+
+fn fill(table: &mut [i64]) {
+    let mut v: u64 = 0;
+    let mut i: usize = 0;
+    while i < table.len() {
+        table[i] = weight(v);
+        v = (v + 777_777) % 2_000_001;
+        i += 1;
+    }
+}
+
+// Links 0 to 3 joined to links 4 to 27.
+fn full() -> Case {
+    let mut lower = [0u8; 96];
+    let mut upper = [0u8; 96];
+    let mut e: usize = 0;
+    while e < 96 {
+        lower[e] = (e / 24) as u8;
+        upper[e] = (e % 24 + 4) as u8;
+        e += 1;
+    }
+    Case {
+        n: 48,
+        d: 8,
+        m: 96,
+        lower: lower,
+        upper: upper,
+    }
+}
+
+// Reads the bytes alone, and writes the case again.
+fn back(bytes: &[u8]) {
+    let mut table = [7i64; 6528];
+    let read = casefile::read_case_alone(bytes, &mut table);
+    print(b"  alone");
+    answer(read);
+    print(b"\n  again");
+    let mut out = [46u8; 178875];
+    write(read.case, &table, &mut out);
+}
+
+fn largest() {
+    let mut table = [0i64; 6528];
+    fill(&mut table);
+    let mut out = [46u8; 178875];
+    print(b"largest");
+    write(full(), &table, &mut out);
+    back(&out);
+}
+
+fn main() {
+    let mut input = [0u8; 40000];
+    let n = io::read_full(0, &mut input);
+    vectors(&input[..n]);
+    largest();
+}
