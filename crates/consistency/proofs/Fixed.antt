@@ -3,39 +3,34 @@ use mathlib.Core.Path.{_≡_, refl, sym, ap, ap₂, _∙_}
 use mathlib.Core.Bool.{Bool, true, false, not, _&&_, _||_}
 use mathlib.Core.Logic.{_↔_, ⊎-elim}
 use mathlib.Core.List.{List}
-use Prim.Native.Nat.{ℕ, zero, suc, _+_, _*_, _-_, _≤_, _<_}
+use Prim.Native.Nat.{ℕ, _+_, _*_, _-_, _≤_, _<_}
 use native.Mathlib.Omega.{arith}
-use borrow.Author.Tests.{lt-ltb, le-ltb, eq-eqb, ne-eqb}
+use borrow.Author.Tests.{lt-ltb, le-ltb}
 use lib.IntN.{ℤ}
 use lib.Dec.{T, T-not, not-T, ltb, ltb→lt, eqb}
-use lib.ListN.{length, getD, set, take, drop, length-take, length-drop, length-set, List·getD-append}
-use lib.Seq.{getD-append-add, getD-take, getD-drop, length-take-le}
+use lib.ListN.{length, getD}
 use Rattle.integers.specs.Words.{if_then_else_, _⇒_}
 use Rattle.integers.specs.Tests.{and-left, is-true, is-false, either, same-test}
 use Rattle.definitions.specs.declared.Case.{Case}
 use Rattle.definitions.specs.Rules.{standard}
-use Rattle.definitions.specs.Case.{scopeCount, active}
+use Rattle.definitions.specs.Case.{active}
 use Rattle.definitions.specs.Valid.{workingWeight}
-use Rattle.definitions.specs.Calls.{isMarked}
 use Rattle.definitions.specs.Consistency.{allowed, refuted}
 use Rattle.theory.specs.Network.{Network, networkOf, fixedSets}
 use Rattle.theory.proofs.Validity.{Handed}
 use Rattle.theory.proofs.Networks.{None, Alike, to-fewer, to-more, case-ends, refuted-none, none-tried, some-tried}
-use Rattle.definitions.specs.Lines.{overwritten}
 use Rattle.marks.specs.Marks.{mark, fullOf, onlyOf, inBoth}
 use Rattle.marks.proofs.Laws.{mark-byteOf}
 use Rattle.consistency.specs.Closure.{networkOfBytes, setsOf, isMalformed, someFamily, closureAnswer}
 use Rattle.consistency.specs.declared.Closed.the-variants.{Empty, Family as SomeFamily}
-use Rattle.consistency.specs.Active.{activeSet, activeAbove, activeBelow, activeRow, activeSets, activeRows, Written}
-use Rattle.consistency.specs.Sweeps.{WellFormed, Settled}
-use Rattle.consistency.specs.Refuted.{allowedSet, fixedSet, allowedOf}
-use Rattle.consistency.proofs.Steps.{after-set}
+use Rattle.consistency.specs.Active.{activeSet, aboveWhere, belowWhere, activeRow}
+use Rattle.consistency.specs.Sweeps.{Settled}
+use Rattle.consistency.specs.Refuted.{allowedSet, fixedSet}
 use Rattle.consistency.proofs.Results.{well-formed, answer-is}
-use Rattle.consistency.proofs.Marked.{sets-length, sets-at, rows-length, rows-at}
 
 -- ---- tests
 
-not-not : (a : Bool) → not (not a) ≡ a
+pub not-not : (a : Bool) → not (not a) ≡ a
 not-not true = refl
 not-not false = refl
 
@@ -47,12 +42,6 @@ and-all false = refl
 edge-test : (z raised a b : Bool) → z ≡ not raised → (T raised → a ≡ b) → (z || a) ≡ not (raised && not b)
 edge-test z true a b e same = ap (λ (x : Bool). x || a) e ∙ same tt ∙ sym (not-not b)
 edge-test z false a b e same = ap (λ (x : Bool). x || a) e
-
--- a byte that is 0 or 1
-by-mark : (b : ℕ) → b ≤ 1 → eqb b 0 ≡ not (eqb b 1)
-by-mark zero h = refl
-by-mark (suc zero) h = refl
-by-mark (suc (suc b)) h = absurd (omega arith)
 
 -- ---- sets
 
@@ -85,7 +74,7 @@ module _ (c : Case) (w : List ℤ) (few : c .d ≤ 8) where
     above-mark : mark (activeRow c w e x) y ≡ active c w (c .n + e) x y
     above-mark =
         let small : x < 8 = omega arith in
-        ap (λ (s : ℕ). mark s y) (ap (λ (b : Bool). if b then activeAbove c w e x else activeBelow c w e (x - 8)) (lt-ltb x 8 small))
+        ap (λ (s : ℕ). mark s y) (ap (λ (b : Bool). if b then aboveWhere c (active c w) e x else belowWhere c (active c w) e (x - 8)) (lt-ltb x 8 small))
         ∙ mark-byteOf (λ l. ltb l (c .d) && (ltb x (c .d) && active c w (c .n + e) x l)) y (omega arith)
         ∙ simp (lt-ltb x (c .d) p, lt-ltb y (c .d) q)
 
@@ -94,7 +83,7 @@ module _ (c : Case) (w : List ℤ) (few : c .d ≤ 8) where
         let s : (8 + y) - 8 ≡ y = omega arith in
         let large : 8 ≤ 8 + y = omega arith in
         ap (λ (s : ℕ). mark s x)
-        (ap (λ (b : Bool). if b then activeAbove c w e (8 + y) else activeBelow c w e ((8 + y) - 8)) (le-ltb (8 + y) 8 large) ∙ ap (activeBelow c w e) s)
+        (ap (λ (b : Bool). if b then aboveWhere c (active c w) e (8 + y) else belowWhere c (active c w) e ((8 + y) - 8)) (le-ltb (8 + y) 8 large) ∙ ap (belowWhere c (active c w) e) s)
         ∙ mark-byteOf (λ k. ltb k (c .d) && (ltb y (c .d) && active c w (c .n + e) k y)) x (omega arith)
         ∙ simp (lt-ltb x (c .d) p, lt-ltb y (c .d) q)
 
@@ -170,89 +159,3 @@ module _ (c : Case) (w : List ℤ) (h : Handed standard (workingWeight standard)
         turned : (b : Bool) → (if not b then SomeFamily else Empty) ≡ (if b then Empty else SomeFamily)
         turned true = refl
         turned false = refl
-
--- ---- the bytes that are written
-
-module _ (c : Case) (w : List ℤ) (raised : List ℕ) (i k : ℕ) where
-  pub fixed-written : (S S₁ S₂ : List ℕ) (o r : ℕ) → i < c .n → c .n ≤ length S → S₁ ≡ overwritten (activeSets c w) S → Written (allowedOf raised (c .d) S₁) 0 (c .n) S₁ S₂
-      → o ≡ onlyOf k → r ≡ inBoth (getD S₂ i 0) o → length S₂ ≡ length S → Written (fixedSet c w (isMarked raised) i k) 0 (c .n) S (set S₂ i r)
-  fixed-written S S₁ S₂ o r g room first second eo er len = record {
-    same-length = length-set S₂ i r ∙ len;
-    here = λ j h.
-        after-set (λ (s : ℕ). s ≡ fixedSet c w (isMarked raised) i k j) S₂ i r (0 + j) (omega arith)
-        (λ q.
-        let same : j ≡ i = omega arith in
-        er ∙ ap₂ inBoth (ap (λ (x : ℕ). getD S₂ x 0) (sym q) ∙ allowed-here j h) eo
-        ∙ sym (ap (λ (b : Bool). if b then inBoth (allowedSet c w (isMarked raised) j) (onlyOf k) else allowedSet c w (isMarked raised) j) (eq-eqb j i same)))
-        (λ ne.
-        allowed-here j h
-        ∙ sym (ap (λ (b : Bool). if b then inBoth (allowedSet c w (isMarked raised) j) (onlyOf k) else allowedSet c w (isMarked raised) j) (ne-eqb j i (λ e. ne (omega arith)))));
-    before = λ q h. absurd (omega arith);
-    after = λ q h. after-set (λ (s : ℕ). s ≡ getD S q 0) S₂ i r q (omega arith) (λ e. absurd (omega arith)) (λ ne. second .after q h ∙ past q (omega arith));
-  }
-    where
-      active-here : (j : ℕ) → j < c .n → getD S₁ j 0 ≡ activeSet c w j
-      active-here j h = ap (λ (l : List ℕ). getD l j 0) first ∙ List·getD-append (activeSets c w) (drop (length (activeSets c w)) S) 0 j (rw (sets-length c w) h) ∙ sets-at c w j h
-
-      allowed-here : (j : ℕ) → j < c .n → getD S₂ (0 + j) 0 ≡ allowedSet c w (isMarked raised) j
-      allowed-here j h = second .here j h ∙ ap (λ (s : ℕ). if isMarked raised j then s else fullOf (c .d)) (active-here j h)
-
-      past : (q : ℕ) → c .n ≤ q → getD S₁ q 0 ≡ getD S q 0
-      past q h =
-          let z : q ≡ length (activeSets c w) + (q - c .n) = omega (arith, sets-length c w) in
-          let y : length (activeSets c w) + (q - c .n) ≡ q = omega (arith, sets-length c w) in
-          ap (λ (l : List ℕ). getD l q 0) first
-          ∙ ap (λ (p : ℕ). getD (overwritten (activeSets c w) S) p 0) z
-          ∙ getD-append-add (activeSets c w) (drop (length (activeSets c w)) S) (q - c .n) 0
-          ∙ getD-drop (length (activeSets c w)) S (q - c .n) 0
-          ∙ ap (λ (p : ℕ). getD S p 0) y
-
-  -- ---- the arrays of `is_refuted`
-
-  module _ (h : Handed standard (workingWeight standard) c w) (len : length raised ≡ scopeCount c) where
-    abbrev part : List ℕ
-    part = take (length raised - c .n) (drop (c .n) raised)
-
-    pub part-length : length part ≡ c .m
-    part-length = simp (length-take, length-drop) (omega arith)
-
-    pub part-at : (e : ℕ) → e < c .m → getD part e 0 ≡ getD raised (c .n + e) 0
-    part-at e g = getD-take (length raised - c .n) (drop (c .n) raised) e 0 (omega arith) ∙ getD-drop (c .n) raised e 0
-
-    pub rows-here : (rows zeros : List ℕ) → rows ≡ overwritten (activeRows c w) zeros → (e p : ℕ) → e < c .m → p < 16 → getD rows (16 * e + p) 0 ≡ activeRow c w e p
-    rows-here rows zeros q e p g l =
-        ap (λ (x : List ℕ). getD x (16 * e + p) 0) q
-        ∙ List·getD-append (activeRows c w) (drop (length (activeRows c w)) zeros) 0 (16 * e + p) (omega (arith, rows-length c w)) ∙ rows-at c w e p g l
-
-    module _ (S zeros : List ℕ) (written : Written (fixedSet c w (isMarked raised) i k) 0 (c .n) zeros S) (room : c .n ≤ length S) where
-      pub first-length : length (take (c .n) S) ≡ c .n
-      first-length = length-take-le (c .n) S room
-
-      pub first-at : (j : ℕ) → j < c .n → getD (take (c .n) S) j 0 ≡ fixedSet c w (isMarked raised) i k j
-      first-at j g =
-          let z : j ≡ 0 + j = omega arith in
-          getD-take (c .n) S j 0 g ∙ ap (λ (p : ℕ). getD S p 0) z ∙ written .here j g
-
-      pub narrow-well : (rows : List ℕ) → length rows ≡ 1536 → length (c .lower) ≡ 96 → length (c .upper) ≡ 96
-          → WellFormed (length (take (c .n) S)) (c .lower) (c .upper) rows part
-      narrow-well rows r lo up =
-          let few : c .m ≤ 96 = h .edges-most in record {
-            lowers = omega (arith, part-length);
-            uppers = omega (arith, part-length);
-            room = omega (arith, part-length);
-            ends = λ e g.
-                let u : e < c .m = omega (arith, part-length) in
-                (omega (arith, first-length, h .shape .ascending e u, h .shape .below-n e u), omega (arith, first-length, h .shape .below-n e u));
-          }
-
-      pub narrow-refuted : i < c .n → ((x : ℕ) → x < scopeCount c → getD raised x 0 ≤ 1) → (rows zeros′ : List ℕ) → rows ≡ overwritten (activeRows c w) zeros′ → (S′ : List ℕ) (left : Bool)
-          → Settled (networkOfBytes (length (take (c .n) S)) (c .lower) (c .upper) rows part) (setsOf (take (c .n) S)) S′ left
-          → not left ≡ refuted c w (isMarked raised) i k
-      narrow-refuted g marks rows zeros′ q S′ left =
-          settled-refuted c w h (isMarked raised) i k rows part (take (c .n) S)
-          (record {
-            count = part-length;
-            raised = λ e u. ap (λ (b : ℕ). eqb b 0) (part-at e u) ∙ by-mark (getD raised (c .n + e) 0) (marks (c .n + e) (omega arith));
-            partners = λ e p u l t. rows-here rows zeros′ q e p u l;
-          })
-          first-length first-at g S′ left

@@ -9,3 +9,4 @@ pub mod Prepared
 pub mod Fixed
 pub mod Trying
 pub mod Refutation
+pub mod Best

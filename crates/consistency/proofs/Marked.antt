@@ -8,8 +8,8 @@ use lib.IntN.{ℤ}
 use native.Mathlib.Omega.{arith}
 use borrow.Author.Tests.{lt-ltb, le-ltb}
 use lib.Dec.{T, ltb, eqb, eqb→eq, ltb→lt, lt→ltb, nltb→le}
-use lib.ListN.{length, getD, set, drop, length-append, length-drop, length-set, List·getD-append}
-use lib.Seq.{ext-getD, getD-append-add, getD-drop}
+use lib.ListN.{length, getD, set, take, drop, length-append, length-drop, length-set, List·getD-append}
+use lib.Seq.{ext-getD, getD-append-add, getD-drop, take-at}
 use Rattle.integers.specs.Words.{if_then_else_, below, joined, _⇒_}
 use Rattle.integers.specs.Tests.{either, is-true, is-false, not-eqb-iff, same-test}
 use Rattle.integers.specs.Tables.{length-tab, getD-tab, length-rows, getD-rows}
@@ -123,41 +123,57 @@ written-next f n S S′ s w h e =
     let z : 0 + n ≡ n = omega arith in
     subst (λ (p : ℕ). Written f 0 (n + 1) S (set S′ p s)) z (written-more f 0 n S S′ s w (omega arith) e)
 
+-- bytes that are already there
+pub written-kept : (f : ℕ → ℕ) (at n : ℕ) (S : List ℕ) → ((p : ℕ) → p < n → getD S (at + p) 0 ≡ f p) → Written f at n S S
+written-kept f at n S there = record { same-length = refl; here = there; before = λ q h. refl; after = λ q h. refl }
+
+pub written-same : (f g : ℕ → ℕ) (at n : ℕ) (S S′ : List ℕ) → ((p : ℕ) → p < n → f p ≡ g p) → Written f at n S S′ → Written g at n S S′
+written-same f g at n S S′ same w = record { same-length = w .same-length; here = λ p h. w .here p h ∙ same p h; before = w .before; after = w .after }
+
+-- the part that is written
+pub written-part : (bytes S S′ : List ℕ) (f : ℕ → ℕ) (n : ℕ) → length bytes ≡ n → ((p : ℕ) → p < n → getD bytes p 0 ≡ f p) → n ≤ length S → Written f 0 n S S′ → take n S′ ≡ bytes
+written-part bytes S S′ f n len is room w =
+    ap (take n) (written-all bytes S S′ f (λ p h. is p (rw len at h)) (rw len room) (rw len w)) ∙ take-at bytes (drop (length bytes) S) n len
+
+-- ---- sixteen bytes for each edge
+
+module _ (f : ℕ → ℕ → ℕ) (m : ℕ) where
+  abbrev pub rowsOf : List ℕ
+  rowsOf = joined (map (λ e. map (f e) (below 16)) (below m))
+
+  pub rowsOf-length : length rowsOf ≡ 16 * m
+  rowsOf-length = length-rows (λ e. map (f e) (below 16)) m 16 (λ e h. length-tab (f e) 0 16) ∙ omega arith
+
+  pub rowsOf-at : (e p : ℕ) → e < m → p < 16 → getD rowsOf (16 * e + p) 0 ≡ f e p
+  rowsOf-at e p h g =
+      let z : 16 * e + p ≡ e * 16 + p = omega arith in
+      ap (λ (q : ℕ). getD rowsOf q 0) z ∙ getD-rows (λ e. map (f e) (below 16)) m 16 (λ e h. length-tab (f e) 0 16) e p 0 h g ∙ getD-tab (f e) 16 p 0 g
+
+  pub edge-written : (e : ℕ) → e < m → (S S₁ S₂ : List ℕ) → Written (λ q. getD rowsOf q 0) 0 (16 * e) S S₁ → Written (f e) (16 * e) 16 S₁ S₂
+      → Written (λ q. getD rowsOf q 0) 0 (16 * (e + 1)) S S₂
+  edge-written e h S S₁ S₂ a b =
+      let z : 16 * e + 16 ≡ 16 * (e + 1) = omega arith in
+      subst (λ (n : ℕ). Written (λ q. getD rowsOf q 0) 0 n S S₂) z
+      (written-then (λ q. getD rowsOf q 0) (f e) (16 * e) 16 S S₁ S₂ a b (λ p g. sym (rowsOf-at e p h g)))
+
 -- ---- the marks of a table
 
 module _ (c : Case) (w : List ℤ) where
-  pub sets-length : length (activeSets c w) ≡ c .n
+  sets-length : length (activeSets c w) ≡ c .n
   unfolding activeSets
   sets-length = length-tab (activeSet c w) 0 (c .n)
 
-  pub sets-at : (j : ℕ) → j < c .n → getD (activeSets c w) j 0 ≡ activeSet c w j
+  sets-at : (j : ℕ) → j < c .n → getD (activeSets c w) j 0 ≡ activeSet c w j
   unfolding activeSets
   sets-at j h = getD-tab (activeSet c w) (c .n) j 0 h
-
-  pub rows-length : length (activeRows c w) ≡ 16 * c .m
-  unfolding activeRows
-  rows-length = length-rows (λ e. map (activeRow c w e) (below 16)) (c .m) 16 (λ e h. length-tab (activeRow c w e) 0 16) ∙ omega arith
-
-  pub rows-at : (e p : ℕ) → e < c .m → p < 16 → getD (activeRows c w) (16 * e + p) 0 ≡ activeRow c w e p
-  unfolding activeRows
-  rows-at e p h g =
-      let z : 16 * e + p ≡ e * 16 + p = omega arith in
-      ap (λ (q : ℕ). getD (joined (map (λ e. map (activeRow c w e) (below 16)) (below (c .m)))) q 0) z
-      ∙ getD-rows (λ e. map (activeRow c w e) (below 16)) (c .m) 16 (λ e h. length-tab (activeRow c w e) 0 16) e p 0 h g
-      ∙ getD-tab (activeRow c w e) 16 p 0 g
 
   pub sets-written : (S S′ : List ℕ) → c .n ≤ length S → Written (activeSet c w) 0 (c .n) S S′ → S′ ≡ overwritten (activeSets c w) S
   sets-written S S′ room done =
       written-all (activeSets c w) S S′ (activeSet c w) (λ p h. sets-at p (rw sets-length at h)) (rw sets-length room)
       (rw sets-length done)
 
-  pub rows-written : (S S′ : List ℕ) → 16 * c .m ≤ length S → Written (λ q. getD (activeRows c w) q 0) 0 (16 * c .m) S S′ → S′ ≡ overwritten (activeRows c w) S
+  pub rows-written : (S S′ : List ℕ) → 16 * c .m ≤ length S → Written (λ q. getD (rowsOf (activeRow c w) (c .m)) q 0) 0 (16 * c .m) S S′ → S′ ≡ overwritten (activeRows c w) S
+  unfolding activeRows
   rows-written S S′ room done =
-      written-all (activeRows c w) S S′ (λ q. getD (activeRows c w) q 0) (λ p h. refl) (rw rows-length room) (rw rows-length done)
-
-  pub edge-written : (e : ℕ) → e < c .m → (S S₁ S₂ : List ℕ) → Written (λ q. getD (activeRows c w) q 0) 0 (16 * e) S S₁ → Written (activeRow c w e) (16 * e) 16 S₁ S₂
-      → Written (λ q. getD (activeRows c w) q 0) 0 (16 * (e + 1)) S S₂
-  edge-written e h S S₁ S₂ a b =
-      let z : 16 * e + 16 ≡ 16 * (e + 1) = omega arith in
-      subst (λ (n : ℕ). Written (λ q. getD (activeRows c w) q 0) 0 n S S₂) z
-      (written-then (λ q. getD (activeRows c w) q 0) (activeRow c w e) (16 * e) 16 S S₁ S₂ a b (λ p g. sym (rows-at e p h g)))
+      let len = rowsOf-length (activeRow c w) (c .m) in
+      written-all (rowsOf (activeRow c w) (c .m)) S S′ (λ q. getD (rowsOf (activeRow c w) (c .m)) q 0) (λ p h. refl) (rw len room) (rw len done)

@@ -21,10 +21,13 @@ use Rattle.definitions.specs.Answers.{outcomeOf}
 use Rattle.definitions.specs.Valid.{workingWeight, handedOver}
 use Rattle.definitions.specs.Lines.{overwritten}
 use Rattle.theory.proofs.Validity.{Handed}
-use Rattle.figures.proofs.Answered.{known}
+use Rattle.figures.proofs.Answered.{known, limits-known}
 use Rattle.figures.proofs.Order.{outcome-done, outcome-refused}
-use Rattle.consistency.specs.Active.{activeSets, activeRows, tooShort, activeRefusal, activeAnswer, setsAfter, rowsAfter}
+use Rattle.consistency.specs.Active.{Sized, activeSets, activeRows, tooShort, activeRefusal, activeAnswer, setsAfter, rowsAfter}
 use Rattle.consistency.specs.Refuted.{argumentsOut}
+
+pub sized : {c : Case} {w : List ℤ} → Handed standard (workingWeight standard) c w → Sized c w
+sized h = record { limits = limits-known h; long = h .long }
 
 module _ (c : Case) (w : List ℤ) (sets rows : List ℕ) where
   pub prepared-refused : {x : Refusal} → Outcome.Refused x ≡ outcomeOf (activeRefusal standard c w sets rows)
@@ -38,11 +41,11 @@ module _ (c : Case) (w : List ℤ) (sets rows : List ℕ) where
     unfolding activeAnswer setsAfter rowsAfter
     prepared-done sets′ rows′ p q = let r : activeRefusal standard c w sets rows ≡ none = outcome-done e in (e, (rw r p, rw r q))
 
-    pub prepared-known : Handed standard (workingWeight standard) c w × (c .n ≤ length sets) × (16 * c .m ≤ length rows)
+    pub prepared-known : Sized c w × (c .n ≤ length sets) × (16 * c .m ≤ length rows)
     prepared-known =
         let k = known c w (tooShort c sets rows) false e in
         let p = simp tests at (k .1) in
-        (k .0, omega (arith, p .0), omega (arith, p .1))
+        (sized (k .0), omega (arith, p .0), omega (arith, p .1))
 
 -- ---- the arguments of `refuted`
 

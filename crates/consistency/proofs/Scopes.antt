@@ -11,25 +11,21 @@ use lib.ListN.{length, getD, take, drop}
 use Rattle.integers.specs.Words.{if_then_else_, greatestOf, eqZ}
 use Rattle.integers.specs.Tests.{if-true, if-false}
 use Rattle.definitions.specs.declared.Case.{Case}
-use Rattle.definitions.specs.Rules.{standard}
 use Rattle.definitions.specs.Case.{scopeCount, place, greatest, isVariable}
-use Rattle.definitions.specs.Valid.{workingWeight}
 use Rattle.definitions.proofs.CaseLaws.{place-own}
-use Rattle.theory.proofs.Validity.{Handed}
 use Rattle.theory.proofs.Places.{variable-is, edge-is, place-variable, place-edge}
 use Rattle.figures.specs.Scopes.{sizeOf}
-use Rattle.figures.proofs.Answered.{limits-known}
 use Rattle.figures.proofs.Order.{variables-small, values-small, edges-small}
 use Rattle.figures.proofs.Parts.{part-own, part-greatest}
 use Rattle.marks.specs.Marks.{byteOf}
 use Rattle.marks.proofs.Laws.{byteOf-cong, byte-is, mark-zero}
-use Rattle.consistency.specs.Active.{activeSet, activeAbove, activeBelow, activeRow, bestValues}
+use Rattle.consistency.specs.Active.{setWhere, aboveWhere, belowWhere, rowWhere, Sized, hasWeight, bestValues}
 
 -- the first place of an edge's scope
 abbrev pub firstOfEdge : Case → ℕ → ℕ
 firstOfEdge c e = c .n * c .d + e * (c .d * c .d)
 
-module _ (c : Case) (w : List ℤ) (h : Handed standard (workingWeight standard) c w) where
+module _ (c : Case) (w : List ℤ) (h : Sized c w) where
   -- products within the limits
   pub record Few : Type 0 where
     pub variables : c .n * c .d ≤ 384
@@ -39,10 +35,10 @@ module _ (c : Case) (w : List ℤ) (h : Handed standard (workingWeight standard)
 
   pub few : Few
   few = record {
-    variables = variables-small c (limits-known h);
-    values = values-small c (limits-known h);
-    one = h .values-most;
-    table = omega (arith, h .long, variables-small c (limits-known h), edges-small c (limits-known h));
+    variables = variables-small c (h .limits);
+    values = values-small c (h .limits);
+    one = h .limits .values;
+    table = omega (arith, h .long, variables-small c (h .limits), edges-small c (h .limits));
   }
 
   -- ---- a variable's scope
@@ -67,12 +63,11 @@ module _ (c : Case) (w : List ℤ) (h : Handed standard (workingWeight standard)
         let e : (j * c .d + c .d) - j * c .d ≡ sizeOf c j = omega (arith, size-is) in
         ap₂ (λ (n p : ℕ). greatestOf (take n (drop p w))) e (sym first-is) ∙ part-greatest c w (omega (arith, h .long)) j scope-in
 
-    pub variable-active : (best : ℤ) → best ≡ greatest c w j → bestValues w (j * c .d) 1 (c .d) best ≡ activeSet c w j
-    variable-active best q =
-        rw q
-        (byteOf-cong (λ v g.
+    pub variable-with : (best : ℤ) → bestValues w (j * c .d) 1 (c .d) best ≡ setWhere c (hasWeight c w best) j
+    variable-with best =
+        byteOf-cong (λ v g.
         let e : j * c .d + v * 1 ≡ place c j v 0 = omega (arith, place-variable c j v 0 u) in
-        ap (λ (p : ℕ). ltb v (c .d) && eqZ (getD w p (pos 0)) (greatest c w j)) e))
+        ap (λ (p : ℕ). ltb v (c .d) && eqZ (getD w p (pos 0)) best) e)
 
   -- ---- an edge's scope
   module _ (e : ℕ) (u : e < c .m) where
@@ -105,28 +100,28 @@ module _ (c : Case) (w : List ℤ) (h : Handed standard (workingWeight standard)
     pub below-in : (l k : ℕ) → l < c .d → k < c .d → firstOfEdge c e + l + k * c .d < length w
     below-in l k p q = omega (arith, edge-weight-in k l q p)
 
-    module _ (best : ℤ) (q : best ≡ greatest c w (c .n + e)) where
-      above-is : (k : ℕ) → k < c .d → bestValues w (firstOfEdge c e + k * c .d) 1 (c .d) best ≡ activeAbove c w e k
+    module _ (best : ℤ) where
+      above-is : (k : ℕ) → k < c .d → bestValues w (firstOfEdge c e + k * c .d) 1 (c .d) best ≡ aboveWhere c (hasWeight c w best) e k
       above-is k g =
-          rw (q, lt-ltb k (c .d) g)
+          rw (lt-ltb k (c .d) g)
           (byteOf-cong (λ l i.
           let s : firstOfEdge c e + k * c .d + l * 1 ≡ place c (c .n + e) k l = omega (arith, edge-place k l) in
-          ap (λ (p : ℕ). ltb l (c .d) && eqZ (getD w p (pos 0)) (greatest c w (c .n + e))) s))
+          ap (λ (p : ℕ). ltb l (c .d) && eqZ (getD w p (pos 0)) best) s))
 
-      below-is : (l : ℕ) → l < c .d → bestValues w (firstOfEdge c e + l) (c .d) (c .d) best ≡ activeBelow c w e l
+      below-is : (l : ℕ) → l < c .d → bestValues w (firstOfEdge c e + l) (c .d) (c .d) best ≡ belowWhere c (hasWeight c w best) e l
       below-is l g =
-          rw (q, lt-ltb l (c .d) g)
+          rw (lt-ltb l (c .d) g)
           (byteOf-cong (λ k i.
           let s : firstOfEdge c e + l + k * c .d ≡ place c (c .n + e) k l = omega (arith, edge-place k l) in
-          ap (λ (p : ℕ). ltb k (c .d) && eqZ (getD w p (pos 0)) (greatest c w (c .n + e))) s))
+          ap (λ (p : ℕ). ltb k (c .d) && eqZ (getD w p (pos 0)) best) s))
 
       module _ (p : ℕ) where
-        pub row-above : p < 8 → p % 8 < c .d → bestValues w (firstOfEdge c e + p % 8 * c .d) 1 (c .d) best ≡ activeRow c w e p
+        pub row-above : p < 8 → p % 8 < c .d → bestValues w (firstOfEdge c e + p % 8 * c .d) 1 (c .d) best ≡ rowWhere c (hasWeight c w best) e p
         row-above l g =
             let s : p % 8 ≡ p = omega arith in
             rw (s, lt-ltb p 8 l) (above-is p (omega arith))
 
-        pub row-below : 8 ≤ p → p < 16 → p % 8 < c .d → bestValues w (firstOfEdge c e + p % 8) (c .d) (c .d) best ≡ activeRow c w e p
+        pub row-below : 8 ≤ p → p < 16 → p % 8 < c .d → bestValues w (firstOfEdge c e + p % 8) (c .d) (c .d) best ≡ rowWhere c (hasWeight c w best) e p
         row-below l m g =
             let s : p % 8 ≡ p - 8 = omega arith in
             rw (s, le-ltb p 8 l) (below-is (p - 8) (omega arith))
@@ -134,9 +129,9 @@ module _ (c : Case) (w : List ℤ) (h : Handed standard (workingWeight standard)
     none-at : (k : ℕ) (f : ℕ → Bool) → c .d ≤ k → 0 ≡ byteOf (λ l. ltb l (c .d) && (ltb k (c .d) && f l))
     none-at k f g = byte-is 0 _ (omega arith) (λ l i. mark-zero l ∙ sym (simp (le-ltb k (c .d) g, and-false)))
 
-    pub row-none : (p : ℕ) → p < 16 → c .d ≤ p % 8 → 0 ≡ activeRow c w e p
-    row-none p i g = by (ltb p 8) refl
+    pub row-none : (f : ℕ → ℕ → ℕ → Bool) (p : ℕ) → p < 16 → c .d ≤ p % 8 → 0 ≡ rowWhere c f e p
+    row-none f p i g = by (ltb p 8) refl
       where
-        by : (b : Bool) → ltb p 8 ≡ b → 0 ≡ (if b then activeAbove c w e p else activeBelow c w e (p - 8))
+        by : (b : Bool) → ltb p 8 ≡ b → 0 ≡ (if b then aboveWhere c f e p else belowWhere c f e (p - 8))
         by true t = let l = ltb-true p 8 t in none-at p _ (omega arith)
         by false t = let l = ltb-false p 8 t in none-at (p - 8) _ (omega arith)

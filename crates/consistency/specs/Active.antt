@@ -11,28 +11,39 @@ use Rattle.integers.specs.Words.{if_then_else_, below, joined, eqZ}
 use Rattle.definitions.specs.declared.Case.{Case}
 use Rattle.definitions.specs.declared.Outcome.{Outcome}
 use Rattle.definitions.specs.declared.Refusal.{Refusal}
-use Rattle.definitions.specs.Rules.{Rules}
+use Rattle.definitions.specs.Rules.{Rules, standard}
 use Rattle.definitions.specs.Refusals.{firstOf}
 use Rattle.definitions.specs.Answers.{outcomeOf, unlessRefused}
-use Rattle.definitions.specs.Case.{active}
+use Rattle.definitions.specs.Case.{lentLength, weight, active}
 use Rattle.definitions.specs.Valid.{workingWeight, handedOver}
 use Rattle.definitions.specs.Lines.{overwritten}
+use Rattle.figures.specs.Scopes.{Limited}
 use Rattle.marks.specs.Marks.{byteOf}
 
--- the active values of variable j
-abbrev pub activeSet : Case → List ℤ → ℕ → ℕ
-activeSet c w j = byteOf (λ v. ltb v (c .d) && active c w j v 0)
+-- ---- the tuples that pass a test, as marks
 
--- the active partners on edge e: of value k of the lower end, of value l of the upper end
-abbrev pub activeAbove : Case → List ℤ → ℕ → ℕ → ℕ
-activeAbove c w e k = byteOf (λ l. ltb l (c .d) && (ltb k (c .d) && active c w (c .n + e) k l))
+-- the values of variable j
+abbrev pub setWhere : Case → (ℕ → ℕ → ℕ → Bool) → ℕ → ℕ
+setWhere c f j = byteOf (λ v. ltb v (c .d) && f j v 0)
 
-abbrev pub activeBelow : Case → List ℤ → ℕ → ℕ → ℕ
-activeBelow c w e l = byteOf (λ k. ltb k (c .d) && (ltb l (c .d) && active c w (c .n + e) k l))
+-- the partners on edge e: of value k of the lower end, of value l of the upper end
+abbrev pub aboveWhere : Case → (ℕ → ℕ → ℕ → Bool) → ℕ → ℕ → ℕ
+aboveWhere c f e k = byteOf (λ l. ltb l (c .d) && (ltb k (c .d) && f (c .n + e) k l))
+
+abbrev pub belowWhere : Case → (ℕ → ℕ → ℕ → Bool) → ℕ → ℕ → ℕ
+belowWhere c f e l = byteOf (λ k. ltb k (c .d) && (ltb l (c .d) && f (c .n + e) k l))
 
 -- the sixteen bytes of edge e: eight for the lower end's values, then eight for the upper end's
+abbrev pub rowWhere : Case → (ℕ → ℕ → ℕ → Bool) → ℕ → ℕ → ℕ
+rowWhere c f e p = if ltb p 8 then aboveWhere c f e p else belowWhere c f e (p - 8)
+
+-- ---- the active ones
+
+abbrev pub activeSet : Case → List ℤ → ℕ → ℕ
+activeSet c w j = setWhere c (active c w) j
+
 abbrev pub activeRow : Case → List ℤ → ℕ → ℕ → ℕ
-activeRow c w e p = if ltb p 8 then activeAbove c w e p else activeBelow c w e (p - 8)
+activeRow c w e p = rowWhere c (active c w) e p
 
 unfoldable pub activeSets : Case → List ℤ → List ℕ
 activeSets c w = map (activeSet c w) (below (c .n))
@@ -59,6 +70,15 @@ module _ (r : Rules) where
   rowsAfter c w sets rows = unlessRefused (activeRefusal c w sets rows) (overwritten (activeRows c w) rows) rows
 
 -- ---- the inner functions
+
+-- a case within the limits and a table of its length
+pub record Sized (c : Case) (w : List ℤ) : Type 0 where
+  pub limits : Limited standard c
+  pub long : length w ≡ lentLength c
+
+-- the tuple has the weight `best`
+abbrev pub hasWeight : Case → List ℤ → ℤ → ℕ → ℕ → ℕ → Bool
+hasWeight c w best x k l = eqZ (weight c w x k l) best
 
 -- the values below d whose weight is `best`; the weight of value j stands at from + j · step
 abbrev pub bestValues : List ℤ → ℕ → ℕ → ℕ → ℤ → ℕ

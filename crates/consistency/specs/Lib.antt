@@ -5,3 +5,4 @@ pub mod Sweeps
 pub mod Active
 pub mod Refuted
 pub mod Tried
+pub mod Best

@@ -4,10 +4,8 @@ use mathlib.Core.List.{List}
 use Prim.Native.Nat.{ℕ}
 use lib.IntN.{ℤ}
 use lib.Dec.{ltb, eqb}
-use lib.ListN.{getD}
 use Rattle.integers.specs.Words.{if_then_else_, any}
 use Rattle.definitions.specs.declared.Case.{Case}
-use Rattle.definitions.specs.Calls.{isMarked}
 use Rattle.marks.specs.Marks.{onlyOf, fullOf, inBoth}
 use Rattle.consistency.specs.Active.{activeSet}
 
@@ -18,10 +16,6 @@ allowedSet c w R j = if R j then activeSet c w j else fullOf (c .d)
 -- the same with value k alone for variable i
 abbrev pub fixedSet : Case → List ℤ → (ℕ → Bool) → ℕ → ℕ → ℕ → ℕ
 fixedSet c w R i k j = if eqb j i then inBoth (allowedSet c w R j) (onlyOf k) else allowedSet c w R j
-
--- the allowed values of variable j, from a list of active ones
-abbrev pub allowedOf : List ℕ → ℕ → List ℕ → ℕ → ℕ
-allowedOf raised d sets j = if isMarked raised j then getD sets j 0 else fullOf d
 
 -- a mark is neither 0 nor 1, or the variable or the value is outside its range
 abbrev pub argumentsOut : Case → List ℕ → ℕ → ℕ → Bool

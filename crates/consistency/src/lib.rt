@@ -1,6 +1,7 @@
 // Refutation by arc consistency (document 01, "Refutation").
 use definitions::Case;
 use definitions::Outcome;
+use definitions::Refusal;
 use definitions::Verdict;
 ghost use mathlib.Core.Path.{_≡_};
 ghost use mathlib.Core.Bool.{not, _&&_, _||_};
@@ -9,20 +10,20 @@ ghost use lib.Dec.{ltb, eqb};
 ghost use lib.ListN.{length, getD, set, replicate};
 ghost use Rattle.integers.specs.Words.{if_then_else_, below, any, eqZ};
 ghost use Rattle.definitions.specs.Rules.{standard};
-ghost use Rattle.definitions.specs.Case.{scopeCount, greatest};
-ghost use Rattle.definitions.specs.Consistency.{refuted as refutedValue};
-ghost use Rattle.definitions.specs.Calls.{isMarked, refutedAnswer};
-ghost use Rattle.definitions.specs.Valid.{workingWeight};
+ghost use Rattle.definitions.specs.Case.{scopeCount, lentLength, greatest};
+ghost use Rattle.definitions.specs.Calls.{refutedAnswer};
+ghost use Rattle.definitions.specs.Valid.{someEdge, endOutside as edgeOutside};
 ghost use Rattle.definitions.specs.Lines.{overwritten};
-ghost use Rattle.theory.proofs.Validity.{Handed};
-ghost use Rattle.marks.specs.Marks.{without, fullOf};
+ghost use Rattle.figures.specs.Scopes.{Limited};
+ghost use Rattle.marks.specs.Marks.{without};
 ghost use Rattle.consistency.specs.Partners.{lowestPartner, supportedValues};
 ghost use Rattle.consistency.specs.Closure.{networkOfBytes, setsOf, endOutside, isMalformed, closureAnswer, closureSets};
 ghost use Rattle.consistency.specs.Tried.{hasFamily, noneHas, triedAnswer};
 ghost use Rattle.consistency.specs.declared.Tried.{Tried};
 ghost use Rattle.consistency.specs.Sweeps.{WellFormed, Filled, Swept, Settled, changeOf, bothOf, keptOf};
-ghost use Rattle.consistency.specs.Active.{bestValues, activeSet, activeRow, activeSets, activeRows, Written, activeAnswer, setsAfter, rowsAfter};
-ghost use Rattle.consistency.specs.Refuted.{fixedSet, allowedOf, argumentsOut};
+ghost use Rattle.consistency.specs.Active.{bestValues, setWhere, rowWhere, hasWeight, Sized, activeSet, activeSets, activeRows, Written, activeAnswer, setsAfter, rowsAfter};
+ghost use Rattle.consistency.specs.Best.{allowedBest, partnersBest, bestRows, isRefuted, bestRefuted, activeRefutedAnswer};
+ghost use Rattle.consistency.specs.Refuted.{argumentsOut};
 
 pub enum Partner {
     At(u8),
@@ -55,7 +56,7 @@ fn supported(rows: &[u8], at: usize, set: u8, other: u8) -> u8
 {
     let mut kept = set;
     let mut left = set;
-    'values: while left != 0 {
+    while left != 0 {
         let k = marks::lowest(left);
         left = marks::strike(left, k);
         let mut rest = rows[at + k as usize];
@@ -337,8 +338,18 @@ fn best_values(table: &[i64], from: usize, step: usize, d: usize, best: i64) -> 
     set
 }
 
+// The values of variable j whose weight is `best`.
+fn set_with(case: Case, table: &[i64], j: usize, best: i64) -> u8
+    requires { ⌜ Sized case (now table) ⌝ }
+    requires { ⌜ j < case .n ⌝ }
+    ensures { λ r. ⌜ r ≡ setWhere case (hasWeight case (now (table .entry)) best) j ⌝ }
+{
+    let d = case.d;
+    best_values(table, j * d, 1, d, best)
+}
+
 fn active_values(case: Case, table: &[i64], j: usize) -> u8
-    requires { ⌜ Handed standard (workingWeight standard) case (now table) ⌝ }
+    requires { ⌜ Sized case (now table) ⌝ }
     requires { ⌜ j < case .n ⌝ }
     ensures { λ r. ⌜ r ≡ activeSet case (now (table .entry)) j ⌝ }
 {
@@ -346,11 +357,11 @@ fn active_values(case: Case, table: &[i64], j: usize) -> u8
     let first = j * d;
     let end = first + d;
     let best = figures::greatest(&table[first..end]);
-    best_values(table, first, 1, d, best)
+    set_with(case, table, j, best)
 }
 
 fn edge_greatest(case: Case, table: &[i64], e: usize) -> i64
-    requires { ⌜ Handed standard (workingWeight standard) case (now table) ⌝ }
+    requires { ⌜ Sized case (now table) ⌝ }
     requires { ⌜ e < case .m ⌝ }
     ensures { λ r. ⌜ r ≡ greatest case (now (table .entry)) (case .n + e) ⌝ }
 {
@@ -360,11 +371,11 @@ fn edge_greatest(case: Case, table: &[i64], e: usize) -> i64
     figures::greatest(&table[first..end])
 }
 
-// Byte p of the sixteen of edge e, whose greatest weight is `best`.
-fn active_partners(case: Case, table: &[i64], e: usize, best: i64, p: usize) -> u8
-    requires { ⌜ Handed standard (workingWeight standard) case (now table) ⌝ }
-    requires { ⌜ (e < case .m) × (p < 16) × (best ≡ greatest case (now table) (case .n + e)) ⌝ }
-    ensures { λ r. ⌜ r ≡ activeRow case (now (table .entry)) e p ⌝ }
+// Byte p of the sixteen of edge e: the partners whose weight is `best`.
+fn partners_with(case: Case, table: &[i64], e: usize, best: i64, p: usize) -> u8
+    requires { ⌜ Sized case (now table) ⌝ }
+    requires { ⌜ (e < case .m) × (p < 16) ⌝ }
+    ensures { λ r. ⌜ r ≡ rowWhere case (hasWeight case (now (table .entry)) best) e p ⌝ }
 {
     let d = case.d;
     let first = case.n * d + e * (d * d);
@@ -379,7 +390,7 @@ fn active_partners(case: Case, table: &[i64], e: usize, best: i64, p: usize) -> 
 }
 
 fn write_sets(case: Case, table: &[i64], sets: &mut [u8])
-    requires { ⌜ Handed standard (workingWeight standard) case (now table) ⌝ }
+    requires { ⌜ Sized case (now table) ⌝ }
     requires { ⌜ case .n ≤ length (now sets) ⌝ }
     ensures { λ r. ⌜ now (sets .exit) ≡ overwritten (activeSets case (now (table .entry))) (now (sets .entry)) ⌝ }
 {
@@ -391,28 +402,28 @@ fn write_sets(case: Case, table: &[i64], sets: &mut [u8])
     }
 }
 
-fn write_edge(case: Case, table: &[i64], e: usize, rows: &mut [u8])
-    requires { ⌜ Handed standard (workingWeight standard) case (now table) ⌝ }
+fn write_edge(case: Case, table: &[i64], e: usize, best: i64, rows: &mut [u8])
+    requires { ⌜ Sized case (now table) ⌝ }
     requires { ⌜ (e < case .m) × (16 * e + 16 ≤ length (now rows)) ⌝ }
-    ensures { λ r. ⌜ Written (activeRow case (now (table .entry)) e) (16 * e) 16 (now (rows .entry)) (now (rows .exit)) ⌝ }
+    ensures { λ r. ⌜ Written (rowWhere case (hasWeight case (now (table .entry)) best) e) (16 * e) 16 (now (rows .entry)) (now (rows .exit)) ⌝ }
 {
-    let best = edge_greatest(case, table, e);
     let mut p: usize = 0;
     while p < 16 {
-        rows[16 * e + p] = active_partners(case, table, e, best, p);
+        rows[16 * e + p] = partners_with(case, table, e, best, p);
         p += 1;
     }
 }
 
 fn write_rows(case: Case, table: &[i64], rows: &mut [u8])
-    requires { ⌜ Handed standard (workingWeight standard) case (now table) ⌝ }
+    requires { ⌜ Sized case (now table) ⌝ }
     requires { ⌜ 16 * case .m ≤ length (now rows) ⌝ }
     ensures { λ r. ⌜ now (rows .exit) ≡ overwritten (activeRows case (now (table .entry))) (now (rows .entry)) ⌝ }
 {
     let m = case.m;
     let mut e: usize = 0;
     while e < m {
-        write_edge(case, table, e, rows);
+        let best = edge_greatest(case, table, e);
+        write_edge(case, table, e, best, rows);
         e += 1;
     }
 }
@@ -426,54 +437,126 @@ fn too_short(case: Case, sets: usize, rows: usize) -> bool
     rows / 16 < case.m
 }
 
-// ---- refutation
+// ---- refutation, each scope's greatest weight given
 
-fn allowed_set(active: u8, mark: u8, d: usize) -> u8
-    requires { ⌜ d ≤ 8 ⌝ }
-    ensures { λ r. ⌜ r ≡ (if eqb mark 1 then active else fullOf d) ⌝ }
+fn allowed_set(case: Case, table: &[i64], best: &[i64], raised: &[u8], j: usize) -> u8
+    requires { ⌜ Sized case (now table) ⌝ }
+    requires { ⌜ (scopeCount case ≤ length (now best)) × (scopeCount case ≤ length (now raised)) × (j < case .n) ⌝ }
+    ensures { λ r. ⌜ r ≡ allowedBest case (now (table .entry)) (now (best .entry)) (now (raised .entry)) j ⌝ }
 {
-    if mark == 1 {
-        return active;
+    if raised[j] == 0 {
+        return marks::full(case.d as u8);
     }
-    marks::full(d as u8)
+    set_with(case, table, j, best[j])
 }
 
-// Sets of active values become sets of allowed values.
-fn allow(raised: &[u8], n: usize, d: usize, sets: &mut [u8])
-    requires { ⌜ (d ≤ 8) × (n ≤ length (now raised)) × (n ≤ length (now sets)) ⌝ }
-    ensures { λ r. ⌜ Written (allowedOf (now (raised .entry)) d (now (sets .entry))) 0 n (now (sets .entry)) (now (sets .exit)) ⌝ }
+fn prepare_sets(case: Case, table: &[i64], best: &[i64], raised: &[u8], sets: &mut [u8])
+    requires { ⌜ Sized case (now table) ⌝ }
+    requires { ⌜ (scopeCount case ≤ length (now best)) × (scopeCount case ≤ length (now raised)) × (case .n ≤ length (now sets)) ⌝ }
+    ensures { λ r. ⌜ Written (allowedBest case (now (table .entry)) (now (best .entry)) (now (raised .entry))) 0 (case .n) (now (sets .entry)) (now (sets .exit)) ⌝ }
 {
+    let n = case.n;
     let mut j: usize = 0;
     while j < n {
-        sets[j] = allowed_set(sets[j], raised[j], d);
+        sets[j] = allowed_set(case, table, best, raised, j);
         j += 1;
     }
 }
 
-fn fix(case: Case, table: &[i64], raised: &[u8], variable: usize, value: usize, sets: &mut [u8])
-    requires { ⌜ Handed standard (workingWeight standard) case (now table) ⌝ }
-    requires { ⌜ (case .n ≤ length (now raised)) × (case .n ≤ length (now sets)) × (variable < case .n) × (value < case .d) ⌝ }
-    ensures { λ r. ⌜ Written (fixedSet case (now (table .entry)) (isMarked (now (raised .entry))) variable value) 0 (case .n) (now (sets .entry)) (now (sets .exit)) ⌝ }
+// The bytes of an edge that is not raised stay 0.
+fn prepare_edge(case: Case, table: &[i64], best: &[i64], raised: &[u8], e: usize, rows: &mut [u8])
+    requires { ⌜ Sized case (now table) ⌝ }
+    requires { ⌜ (scopeCount case ≤ length (now best)) × (scopeCount case ≤ length (now raised)) × (e < case .m) × (16 * e + 16 ≤ length (now rows)) ⌝ }
+    requires { ⌜ ((p : ℕ) → p < 16 → getD (now rows) (16 * e + p) 0 ≡ 0) ⌝ }
+    ensures { λ r. ⌜ Written (partnersBest case (now (table .entry)) (now (best .entry)) (now (raised .entry)) e) (16 * e) 16 (now (rows .entry)) (now (rows .exit)) ⌝ }
 {
-    write_sets(case, table, sets);
-    allow(raised, case.n, case.d, sets);
-    let allowed = sets[variable];
-    sets[variable] = marks::common(allowed, marks::only(value as u8));
+    let x = case.n + e;
+    if raised[x] != 0 {
+        write_edge(case, table, e, best[x], rows);
+    }
 }
 
-fn is_refuted(case: Case, table: &[i64], raised: &[u8], variable: usize, value: usize) -> bool
-    requires { ⌜ Handed standard (workingWeight standard) case (now table) ⌝ }
-    requires { ⌜ (length (now raised) ≡ scopeCount case) × ((x : ℕ) → x < scopeCount case → getD (now raised) x 0 ≤ 1) × (variable < case .n) × (value < case .d) ⌝ }
-    ensures { λ r. ⌜ r ≡ refutedValue case (now (table .entry)) (isMarked (now (raised .entry))) variable value ⌝ }
+fn prepare_rows(case: Case, table: &[i64], best: &[i64], raised: &[u8], rows: &mut [u8])
+    requires { ⌜ Sized case (now table) ⌝ }
+    requires { ⌜ (scopeCount case ≤ length (now best)) × (scopeCount case ≤ length (now raised)) × (16 * case .m ≤ length (now rows)) ⌝ }
+    requires { ⌜ ((q : ℕ) → getD (now rows) q 0 ≡ 0) ⌝ }
+    ensures { λ r. ⌜ Written (λ q. getD (bestRows case (now (table .entry)) (now (best .entry)) (now (raised .entry))) q 0) 0 (16 * case .m) (now (rows .entry)) (now (rows .exit)) ⌝ }
+{
+    let m = case.m;
+    let mut e: usize = 0;
+    while e < m {
+        prepare_edge(case, table, best, raised, e, rows);
+        e += 1;
+    }
+}
+
+fn is_refuted(tried: Tried) -> bool
+    ensures { λ r. ⌜ r ≡ isRefuted tried ⌝ }
+{
+    match tried {
+        Tried::Refuted => true,
+        Tried::Supported => false,
+        Tried::Malformed => false,
+    }
+}
+
+fn are_refuted(
+    case: Case,
+    table: &[i64],
+    best: &[i64],
+    raised: &[u8],
+    variable: usize,
+    values: u8,
+) -> bool
+    requires { ⌜ Sized case (now table) ⌝ }
+    requires { ⌜ (scopeCount case ≤ length (now best)) × (scopeCount case ≤ length (now raised)) ⌝ }
+    ensures { λ r. ⌜ r ≡ bestRefuted case (now (table .entry)) (now (best .entry)) (now (raised .entry)) variable values ⌝ }
 {
     let n = case.n;
+    let s = n + case.m;
+    let long = 16 * case.m;
     let lower = case.lower;
     let upper = case.upper;
     let mut sets = [0u8; 48];
     let mut rows = [0u8; 1536];
-    fix(case, table, raised, variable, value, &mut sets);
-    write_rows(case, table, &mut rows);
-    !narrow(&lower, &upper, &rows, &raised[n..], &mut sets[..n])
+    prepare_sets(case, table, best, raised, &mut sets);
+    prepare_rows(case, table, best, raised, &mut rows);
+    is_refuted(all_refuted(
+        &lower,
+        &upper,
+        &rows[..long],
+        &raised[n..s],
+        &sets[..n],
+        variable,
+        values,
+    ))
+}
+
+fn too_few(case: Case, best: usize, raised: usize) -> bool
+    requires { ⌜ Limited standard case ⌝ }
+    ensures { λ r. ⌜ r ≡ (ltb best (scopeCount case) || ltb raised (scopeCount case)) ⌝ }
+{
+    let s = case.n + case.m;
+    if best < s {
+        return true;
+    }
+    raised < s
+}
+
+fn table_length(case: Case) -> usize
+    requires { ⌜ Limited standard case ⌝ }
+    ensures { λ r. ⌜ r ≡ lentLength case ⌝ }
+{
+    case.n * case.d + case.m * (case.d * case.d)
+}
+
+fn edge_outside(case: Case) -> bool
+    requires { ⌜ Limited standard case ⌝ }
+    ensures { λ r. ⌜ r ≡ someEdge case (edgeOutside case) ⌝ }
+{
+    let lower = case.lower;
+    let upper = case.upper;
+    some_end_outside(&lower, &upper, case.m, case.n)
 }
 
 fn other_length(length: usize, n: usize, m: usize) -> bool
@@ -613,6 +696,36 @@ pub fn active_marks(case: Case, table: &[i64], sets: &mut [u8], rows: &mut [u8])
     }
 }
 
+// Whether the active values of `variable` are all refuted with the scopes raised whose byte in `raised` is not 0. best[x] is taken as the
+// greatest weight of scope x; of the table and the case only what is cheap is asked.
+pub fn active_refuted(
+    case: Case,
+    table: &[i64],
+    best: &[i64],
+    raised: &[u8],
+    variable: usize,
+) -> Verdict
+    ensures { λ r. ⌜ r ≡ activeRefutedAnswer standard case (now (table .entry)) (now (best .entry)) (now (raised .entry)) variable ⌝ }
+{
+    if !figures::within_limits(case) {
+        return Verdict::Refused(Refusal::OutsideLimits);
+    }
+    if table.len() != table_length(case) {
+        return Verdict::Refused(Refusal::WrongLength);
+    }
+    if too_few(case, best.len(), raised.len()) {
+        return Verdict::Refused(Refusal::WrongLength);
+    }
+    if case.n <= variable {
+        return Verdict::Refused(Refusal::OutOfRange);
+    }
+    if edge_outside(case) {
+        return Verdict::Refused(Refusal::OutOfRange);
+    }
+    let values = set_with(case, table, variable, best[variable]);
+    verdict(are_refuted(case, table, best, raised, variable, values))
+}
+
 // Whether a value of a variable is refuted; `raised` has a byte for each scope, 1 where it is raised and else 0.
 pub fn refuted(case: Case, table: &[i64], raised: &[u8], variable: usize, value: usize) -> Verdict
     ensures { λ r. ⌜ r ≡ refutedAnswer standard case (now (table .entry)) (now (raised .entry)) variable value ⌝ }
@@ -622,6 +735,17 @@ pub fn refuted(case: Case, table: &[i64], raised: &[u8], variable: usize, value:
     let checked = figures::check_working(case, table, wrong, out);
     match checked {
         Outcome::Refused(refusal) => Verdict::Refused(refusal),
-        Outcome::Done => verdict(is_refuted(case, table, raised, variable, value)),
+        Outcome::Done => {
+            let mut best = [0i64; 144];
+            figures::greatest_weights(case, table, &mut best);
+            verdict(are_refuted(
+                case,
+                table,
+                &best,
+                raised,
+                variable,
+                marks::only(value as u8),
+            ))
+        }
     }
 }

@@ -5,9 +5,7 @@ use denote.Ref.{now}
 use lib.ListN.{length}
 use Rattle.definitions.specs.Rules.{standard}
 use Rattle.definitions.specs.Answers.{outcomeOf}
-use Rattle.definitions.specs.Valid.{workingWeight}
-use Rattle.theory.proofs.Validity.{Handed}
-use Rattle.consistency.specs.Active.{activeRefusal}
+use Rattle.consistency.specs.Active.{Sized, activeRefusal}
 use Rattle.consistency.proofs.Prepared.{prepared-refused, prepared-done, prepared-known}
 use borrow.Author.Needs.{needs}
 use Rattle.consistency.proofs.active_marks.Statement.{statement}
@@ -31,7 +29,7 @@ asked : (c : tie.After-check-working) → let a = c .before .before .before .bef
 asked c = rw (c .before .too-short .ensures) at (c .check-working .ensures)
 
 given : (c : tie.After-enum-told) → let a = c .before .before .before .before .before .before .args in
-    Handed standard (workingWeight standard) (a .case) (now (a .table)) × (a .case .n ≤ length (now (a .sets))) × (16 * a .case .m ≤ length (now (a .rows)))
+    Sized (a .case) (now (a .table)) × (a .case .n ≤ length (now (a .sets))) × (16 * a .case .m ≤ length (now (a .rows)))
 given c =
     let a = c .before .before .before .before .before .before .args in
     prepared-known (a .case) (now (a .table)) (now (a .sets)) (now (a .rows)) (sym (c .enum-told .given .1) ∙ asked (c .before .before))

@@ -1,9 +1,12 @@
 -- `consistency::active_values` meets its contract. Assumes nothing.
-use mathlib.Core.Path.{_∙_}
+use mathlib.Core.Path.{ap, _∙_}
 use native.Mathlib.Omega.{arith}
+use denote.Ref.{now}
+use lib.IntN.{ℤ}
 use mir.Syntax.{w64}
 use Rattle.integers.specs.Linear.{read-back}
-use Rattle.consistency.proofs.Scopes.{few, variable-room, variable-in, variable-greatest, variable-active}
+use Rattle.consistency.specs.Active.{setWhere, hasWeight}
+use Rattle.consistency.proofs.Scopes.{few, variable-room, variable-greatest}
 use borrow.Author.Needs.{needs}
 use Rattle.consistency.proofs.active_values.Statement.{statement}
 use Rattle.consistency.proofs.active_values.Tie as tie
@@ -29,16 +32,15 @@ part-greatest-end c = let s = c in omega (arith, few _ _ (s .pre .0), variable-r
 greatest-requires : tie.Need-greatest-requires
 greatest-requires c κs = search needs
 
-best-values-requires : tie.Need-best-values-requires
-best-values-requires c κs =
-    let s = c .before .before in
-    (few _ _ (s .pre .0) .one, λ v g. variable-in _ _ (s .pre .0) _ (s .pre .1) v g)
+set-with-requires : tie.Need-set-with-requires
+set-with-requires c κs = let s = c .before .before in (s .pre .0, s .pre .1)
 
 returns : tie.Need-returns
 returns c =
     let s = c .before .before .before in
-    c .best-values .ensures
-    ∙ variable-active _ _ (s .pre .0) _ (s .pre .1) _ (read-back w64 (c .before .greatest .result) (c .before .greatest .ok) ∙ c .before .greatest .ensures ∙ variable-greatest _ _ (s .pre .0) _ (s .pre .1))
+    c .set-with .ensures
+    ∙ ap (λ (b : ℤ). setWhere (s .args .case) (hasWeight (s .args .case) (now (s .args .table)) b) (s .args .j))
+    (read-back w64 (c .before .greatest .result) (c .before .greatest .ok) ∙ c .before .greatest .ensures ∙ variable-greatest _ _ (s .pre .0) _ (s .pre .1))
 
 pub active-values-spec : {M : Type 1} → statement M
 active-values-spec =
@@ -51,5 +53,5 @@ active-values-spec =
     part-greatest-start
     part-greatest-end
     greatest-requires
-    best-values-requires
+    set-with-requires
     returns)

@@ -1,17 +1,18 @@
 -- `consistency::allowed_set` meets its contract. Assumes nothing.
-use mathlib.Core.Path.{sym, ap}
-use mathlib.Core.Bool.{Bool}
-use borrow.Author.Tests.{eq-eqb, ne-eqb}
-use Rattle.integers.specs.Words.{if_then_else_}
-use Rattle.marks.specs.Marks.{fullOf}
+use mathlib.Core.Path.{ap, _∙_}
+use denote.Ref.{now}
+use lib.IntN.{ℤ, pos}
+use lib.ListN.{getD}
+use mir.Syntax.{w64}
+use Rattle.integers.specs.Linear.{read-back}
+use Rattle.consistency.specs.Active.{setWhere, hasWeight}
+use Rattle.consistency.proofs.Best.{set-unraised, set-raised}
 use borrow.Author.Needs.{needs}
 use Rattle.consistency.proofs.allowed_set.Statement.{statement}
 use Rattle.consistency.proofs.allowed_set.Tie as tie
 
-returns : tie.Need-returns
-returns c =
-    let a = c .before .args in
-    sym (ap (λ (b : Bool). if b then a .active else fullOf (a .d)) (eq-eqb (a .mark) 1 (c .if1 .taken)))
+shared-slice-read-if1 : tie.Need-shared-slice-read-if1
+shared-slice-read-if1 c = search needs
 
 cast-full : tie.Need-cast-full
 cast-full c = search needs
@@ -19,8 +20,36 @@ cast-full c = search needs
 full-requires : tie.Need-full-requires
 full-requires c κs = search needs
 
+returns : tie.Need-returns
+returns c =
+    let a = c .before .before .before .before .before .args in
+    c .full .ensures ∙ set-unraised (a .case) (now (a .table)) (now (a .best)) (now (a .raised)) (a .j) (c .before .before .if1 .taken)
+
+mul-set-with : tie.Need-mul-set-with
+mul-set-with c = search needs
+
+shared-slice-copy-out-set-with : tie.Need-shared-slice-copy-out-set-with
+shared-slice-copy-out-set-with c = search needs
+
+set-with-requires : tie.Need-set-with-requires
+set-with-requires c κs = search needs
+
 returns-2 : tie.Need-returns-2
-returns-2 c = simp (ne-eqb _ _ (c .before .if1 .left)) (c .full .ensures)
+returns-2 c =
+    let a = c .before .before .before .before .before .args in
+    c .set-with .ensures
+    ∙ ap (λ (b : ℤ). setWhere (a .case) (hasWeight (a .case) (now (a .table)) b) (a .j)) (read-back w64 (getD (now (a .best)) (a .j) (pos 0)) (c .before .set-with-arg .given))
+    ∙ set-raised (a .case) (now (a .table)) (now (a .best)) (now (a .raised)) (a .j) (c .before .before .if1 .left)
 
 pub allowed-set-spec : {M : Type 1} → statement M
-allowed-set-spec = tie.close (tie.spec returns cast-full full-requires returns-2)
+allowed-set-spec =
+    tie.close
+    (tie.spec
+    shared-slice-read-if1
+    cast-full
+    full-requires
+    returns
+    mul-set-with
+    shared-slice-copy-out-set-with
+    set-with-requires
+    returns-2)

@@ -24,7 +24,7 @@ slice-write-sets : tie.Need-slice-write-sets Inv-loop μ-loop
 slice-write-sets c = omega (arith, c .before .loop-test .taken, c .before .before .loop .inv .1 .same-length, c .before .before .before .before .pre .1)
 
 add-j : tie.Need-add-j Inv-loop μ-loop
-add-j c = omega (arith, c .before .loop-test .taken, c .before .before .before .before .pre .0 .variables-most)
+add-j c = omega (arith, c .before .loop-test .taken, c .before .before .before .before .pre .0 .limits .variables)
 
 loop-less : tie.Need-loop-less Inv-loop μ-loop
 loop-less c = omega (arith, c .before .loop-test .taken)
