@@ -1,0 +1,84 @@
+"""The case sheet: links, channels, pairs and starting weights."""
+
+from .columns import Lines
+
+MOST_LINKS, MOST_CHANNELS, MOST_PAIRS = 48, 8, 96
+STARTING = 1_000_000
+
+
+class Case:
+    def __init__(self, data, n, d, m):
+        self.data = data
+        self.n, self.d, self.m = n, d, m
+        self.pairs = []
+        self.weights = []
+
+    @property
+    def scopes(self):
+        return self.n + self.m
+
+    def span(self, scope):
+        """Where a scope's weights lie in the table."""
+        n, d = self.n, self.d
+        if scope < n:
+            return scope * d, (scope + 1) * d
+        first = n * d + (scope - n) * d * d
+        return first, first + d * d
+
+
+def read_case(data):
+    lines = Lines("case", data)
+    case = read_head(lines)
+    at = 1
+    for link in range(case.n):
+        for value in range(case.d):
+            place(lines, at, (11, link, value, 0))
+            weight(lines, at, case)
+            at += 1
+    for pair in range(case.m):
+        read_pair(lines, at, case, pair)
+        at += 1
+        for k in range(case.d):
+            for l in range(case.d):
+                place(lines, at, (13, pair, k, l))
+                weight(lines, at, case)
+                at += 1
+    if len(data) > at * 27:
+        lines.read(at)
+        lines.refuse(at, "the case is complete before this line")
+    return case
+
+
+def read_head(lines):
+    kind, n, d, m, amount = lines.read(0)
+    if kind != 10 or amount != 0:
+        lines.refuse(0, "a case begins with its head, kind 10")
+    if not (1 <= n <= MOST_LINKS and 1 <= d <= MOST_CHANNELS and 0 <= m <= MOST_PAIRS):
+        lines.refuse(0, "1 to 48 links, 1 to 8 channels and 0 to 96 pairs can be drawn")
+    return Case(lines.data, n, d, m)
+
+
+def place(lines, at, due):
+    names = {11: "link {1}, channel {2}", 13: "pair {1}, channels {2} and {3}"}
+    if lines.read(at)[:4] != list(due):
+        lines.refuse(at, "here the weight of " + names[due[0]].format(*due) + " is due")
+
+
+def weight(lines, at, case):
+    amount = lines.read(at)[4]
+    if abs(amount) > STARTING:
+        lines.refuse(at, "a starting weight lies between -1,000,000 and 1,000,000")
+    case.weights.append(amount)
+
+
+def read_pair(lines, at, case, pair):
+    kind, number, low, high, amount = lines.read(at)
+    if (kind, number, amount) != (12, pair, 0):
+        lines.refuse(at, f"here the line of pair {pair} is due")
+    if not (0 <= low < case.n and 0 <= high < case.n):
+        lines.refuse(at, "the pair names a link that the case does not have")
+    if low >= high:
+        lines.refuse(at, "a pair's first link is below its second")
+    if (low, high) in case.pairs:
+        lines.refuse(at, "the two links are already paired")
+    case.pairs.append((low, high))

@@ -1,0 +1,186 @@
+"""The page: figures, network, fall of the ceiling, and the rounds beside the case sheet."""
+
+import os
+from html import escape
+
+from .axes import number
+from .columns import LINE
+from .curve import curve
+from .network import network
+
+# Bytes of log that the page carries; later rounds are in the curve only.
+CARRIED = 12_000_000
+
+HERE = os.path.dirname(os.path.abspath(__file__))
+
+
+def part(name):
+    with open(os.path.join(HERE, name), encoding="utf-8") as file:
+        return file.read()
+
+
+def frame(title, body):
+    return (
+        '<!doctype html>\n<html lang="en">\n<head>\n<meta charset="utf-8">\n'
+        '<meta name="viewport" content="width=device-width, initial-scale=1">\n'
+        f"<title>{escape(title)}</title>\n<style>\n{part('page.css')}</style>\n</head>\n"
+        f"<body>\n<main>\n{body}\n</main>\n</body>\n</html>\n"
+    )
+
+
+def counted(count, one):
+    return f"{number(count)} {one}{'' if count == 1 else 's'}"
+
+
+def refusal(names, refused):
+    """The page for a line that cannot be read: nothing is drawn."""
+    name = names[0] if refused.file == "case" else names[1]
+    title = f"No picture: line {refused.line} of the {refused.file} cannot be read"
+    return frame(
+        title,
+        f"<h1>{title}</h1>\n"
+        f"<p>The file is {escape(name)}, its lines counted from 0. In case and log together, "
+        f"as <code>replay</code> counts, it is line {number(refused.input_line)}.</p>\n"
+        f'<p class="stop">{escape(refused.why[0].upper() + refused.why[1:])}.</p>\n'
+        f'<pre class="raw">{shown(refused.raw)}</pre>\n'
+        "<p>A line has 27 bytes: columns of 2, 4, 4, 4 and 12 characters (kind, a, b, c, amount) "
+        "and a line feed. Each column holds a whole number at its right edge, filled up with "
+        "spaces on the left, without leading zeros. The case comes first on the command line, "
+        "the log second.</p>",
+    )
+
+
+def shown(raw):
+    if not raw:
+        return "(nothing stands there)"
+    if len(raw) == LINE and raw.endswith(b"\n"):
+        raw = raw[:-1]
+    text = raw.decode("ascii", "backslashreplace")
+    return escape("".join(c if c.isprintable() else repr(c)[1:-1] for c in text))
+
+
+def picture(names, case, log):
+    body = [
+        head(names, case, log),
+        stop(log),
+        drawings(case, log),
+        rounds(case, log),
+        reading(),
+        data(case, log),
+    ]
+    return frame(f"Ceiling of {names[0]}", "\n".join(body))
+
+
+def head(names, case, log):
+    first, last = log.ceilings[0], log.ceilings[-1]
+    facts = [
+        ("links", number(case.n)),
+        ("channels for each link", number(case.d)),
+        ("pairs", number(case.m)),
+        ("log lines", number(log.lines.count)),
+        ("rounds" if log.stopped is None else "rounds drawn", number(log.rounds)),
+        ("ceiling at the start", number(first)),
+        ("ceiling at the end" if log.stopped is None else "ceiling after them", number(last)),
+        ("fall", number(first - last)),
+    ]
+    cells = "".join(f"<div><dd>{value}</dd><dt>{name}</dt></div>" for name, value in facts)
+    return (
+        f"<h1>The ceiling of {escape(names[0])}, round by round</h1>\n"
+        f"<p>The case sheet {escape(names[0])} beside the log {escape(names[1])}: the network, how "
+        "far each round lowers the ceiling that no plan\u2019s total can pass, and for every line "
+        f"of a round the rows of the sheet that it touches.</p>\n<dl>{cells}</dl>\n"
+        '<p class="warning"><strong>This page is a picture and no proof.</strong> It adds the '
+        "weights up by itself, but it does not ask whether a press was allowed. Whether the log "
+        "may be trusted is judged by <code>replay</code>: "
+        f"<code>cat {escape(names[0])} {escape(names[1])} | replay</code></p>"
+    )
+
+
+def stop(log):
+    if log.stopped is None:
+        return ""
+    refused = log.stopped
+    return (
+        f'<div class="stop"><p><strong>The picture ends after {counted(log.rounds, "round")}.'
+        f"</strong> Line {number(refused.line)} of the log, line {number(refused.input_line)} of "
+        f"case and log together: {escape(refused.why)}.</p>"
+        f'<pre class="raw">{shown(refused.raw)}</pre></div>'
+    )
+
+
+COLOURS = (
+    '<p class="legend"><span class="key pressed"></span>pressed link '
+    '<span class="key raised"></span>raised link or pair '
+    '<span class="key shifted"></span>shifted pair, in the round chosen below</p>\n'
+)
+AXIS = (
+    '<p class="legend">The upright axis covers the fall only. '
+    "Click on the curve to choose a round.</p>\n"
+)
+
+
+def drawings(case, log):
+    some = log.rounds > 0
+    return (
+        '<div class="drawings">\n<figure>\n<figcaption>The network: '
+        f"{counted(case.n, 'link')}, {counted(case.m, 'pair')}</figcaption>\n"
+        f"{network(case)}\n{COLOURS if some else ''}</figure>\n"
+        "<figure>\n<figcaption>The ceiling after each round</figcaption>\n"
+        f"{curve(log.ceilings)}\n{AXIS if some else ''}</figure>\n</div>"
+    )
+
+
+def rounds(case, log):
+    if log.rounds == 0:
+        return ""
+    carried = carried_rounds(log)
+    word = ""
+    if carried < log.rounds:
+        word = (
+            f'<p class="warning">The page carries the lines of the first {number(carried)} of '
+            f"{number(log.rounds)} rounds, to stay small enough for a browser. The figures above "
+            "and the curve are those of all rounds.</p>"
+        )
+    return (
+        '<h2>One round beside the case sheet</h2>\n<noscript><p class="warning">The rounds are '
+        "laid out by a script on this page; the browser has scripts switched off.</p></noscript>\n"
+        f'{word}\n<form id="choose"><button type="button" id="back">\u2190 before</button>'
+        f'<label>round <input id="round" type="number" min="0" max="{carried - 1}" value="0">'
+        f"</label><span>0 to {number(carried - 1)}</span>"
+        '<button type="button" id="on">next \u2192</button>'
+        '<label class="apart">round with line <input id="line" type="number" '
+        f'min="{log.lines.before}" max="{log.lines.before + log.ends[carried - 1] - 1}"></label>'
+        '<button type="button" id="unfold" class="apart">unfold all rows</button></form>\n'
+        '<div id="view"></div>\n<h2>All rounds</h2>\n<div id="list"></div>'
+    )
+
+
+def carried_rounds(log):
+    return sum(1 for end in log.ends if end * LINE <= CARRIED)
+
+
+def reading():
+    return (
+        "<h2>How to read it</h2>\n<ul>\n"
+        "<li>Links, channels, pairs and rounds count from 0. Lines are counted from 0 through the "
+        "case and then the log, as <code>replay</code> counts them.</li>\n"
+        "<li>Scopes: link i is scope i; pair e is scope e plus the number of links. A weight is "
+        "active if it is the greatest of its scope. The ceiling is the sum of every scope\u2019s "
+        "greatest weight.</li>\n"
+        "<li>A press by an amount lowers the active channels of its link by that amount, and in "
+        "every raised scope raises all weights that are not active (closed) by it. A shift moves "
+        "an amount between a link\u2019s channel and a pair; totals stay.</li>\n"
+        "<li>A row shows the line of the case sheet, with the weight that the case started with, "
+        "then the weight before and after the move.</li>\n</ul>"
+    )
+
+
+def data(case, log):
+    if log.rounds == 0:
+        return ""
+    carried = log.ends[carried_rounds(log) - 1] * LINE
+    return (
+        f'<script type="text/plain" id="case">{case.data.decode("ascii")}</script>\n'
+        f'<script type="text/plain" id="log">{log.data[:carried].decode("ascii")}</script>\n'
+        f"<script>\n{part('rounds.js')}</script>"
+    )

@@ -1,0 +1,375 @@
+"use strict";
+// Lays out the chosen round beside the case sheet. The moves are made again from the
+// start of the log; the lines were read before the page was written.
+
+const LINE = 27;
+const STARTS = [0, 2, 6, 10, 14];
+const ENDS = [2, 6, 10, 14, 26];
+const byId = (id) => document.getElementById(id);
+const sheet = byId("case").textContent;
+const log = byId("log").textContent;
+const sheetLines = sheet.length / LINE;
+
+function row(text, line) {
+  return text.substr(line * LINE, LINE - 1);
+}
+
+function column(text, line, at) {
+  return Number(text.substring(line * LINE + STARTS[at], line * LINE + ENDS[at]));
+}
+
+const n = column(sheet, 0, 1);
+const d = column(sheet, 0, 2);
+const m = column(sheet, 0, 3);
+const places = n * d + m * d * d;
+
+function sheetLine(place) {
+  if (place < n * d) return 1 + place;
+  const pair = Math.floor((place - n * d) / (d * d));
+  return pairLine(pair) + 1 + ((place - n * d) % (d * d));
+}
+
+function pairLine(pair) {
+  return 1 + n * d + pair * (d * d + 1);
+}
+
+function span(scope) {
+  if (scope < n) return [scope * d, scope * d + d];
+  const first = n * d + (scope - n) * d * d;
+  return [first, first + d * d];
+}
+
+const pairEnds = [];
+for (let pair = 0; pair < m; pair++) {
+  pairEnds.push([column(sheet, pairLine(pair), 2), column(sheet, pairLine(pair), 3)]);
+}
+
+const firstLines = [0];
+const ceilings = [0];
+for (let line = 0; line < log.length / LINE; line++) {
+  if (column(log, line, 0) !== 4) continue;
+  firstLines.push(line + 1);
+  ceilings.push(column(log, line, 4));
+}
+const rounds = firstLines.length - 1;
+
+// ---- moves
+
+function movesOf(round) {
+  const moves = [];
+  let line = firstLines[round];
+  while (line < firstLines[round + 1] - 1) {
+    const move = { line, kind: column(log, line, 0), amount: column(log, line, 4) };
+    if (move.kind === 1) {
+      move.pair = column(log, line, 1);
+      move.end = column(log, line, 2);
+      move.value = column(log, line, 3);
+      line += 1;
+    } else {
+      const count = column(log, line, 2);
+      move.link = column(log, line, 1);
+      move.raised = [];
+      for (let k = 1; k <= count; k++) move.raised.push(column(log, line + k, 1));
+      line += 1 + count;
+    }
+    moves.push(move);
+  }
+  return moves;
+}
+
+function greatest(table, scope) {
+  const [from, to] = span(scope);
+  let top = table[from];
+  for (let place = from + 1; place < to; place++) top = Math.max(top, table[place]);
+  return top;
+}
+
+function make(table, move) {
+  if (move.kind === 1) {
+    for (const place of shiftPlaces(move)) table[place] -= move.amount;
+    table[pairEnds[move.pair][move.end] * d + move.value] += move.amount;
+    return;
+  }
+  const own = greatest(table, move.link);
+  for (let place = move.link * d; place < move.link * d + d; place++) {
+    if (table[place] === own) table[place] -= move.amount;
+  }
+  for (const scope of move.raised) {
+    const top = greatest(table, scope);
+    const [from, to] = span(scope);
+    for (let place = from; place < to; place++) {
+      if (table[place] !== top) table[place] += move.amount;
+    }
+  }
+}
+
+function shiftPlaces(move) {
+  const [from] = span(n + move.pair);
+  const found = [];
+  for (let other = 0; other < d; other++) {
+    found.push(from + (move.end === 0 ? move.value * d + other : other * d + move.value));
+  }
+  return found;
+}
+
+function startTable() {
+  const table = new Int32Array(places);
+  for (let place = 0; place < places; place++) table[place] = column(sheet, sheetLine(place), 4);
+  return table;
+}
+
+const started = startTable();
+for (let scope = 0; scope < n + m; scope++) ceilings[0] += greatest(started, scope);
+let reached = { round: 0, table: started.slice() };
+
+function tableBefore(round) {
+  if (round < reached.round) reached = { round: 0, table: started.slice() };
+  for (; reached.round < round; reached.round++) {
+    for (const move of movesOf(reached.round)) make(reached.table, move);
+  }
+  return reached.table.slice();
+}
+
+// ---- words
+
+const digits = new Intl.NumberFormat("en-US");
+
+function number(value) {
+  return digits.format(value).replace("-", "\u2212");
+}
+
+function counted(count, one) {
+  return number(count) + " " + one + (count === 1 ? "" : "s");
+}
+
+function scopeName(scope) {
+  if (scope < n) return "link " + scope;
+  const [low, high] = pairEnds[scope - n];
+  return `pair ${scope - n} (links ${low} and ${high})`;
+}
+
+function moveWords(move) {
+  if (move.kind === 2) {
+    return `Press link ${move.link} by ${number(move.amount)}, ${counted(move.raised.length, "scope")} raised`;
+  }
+  const link = pairEnds[move.pair][move.end];
+  return `Shift ${number(move.amount)} from pair ${move.pair} to channel ${move.value} of link ${link}`;
+}
+
+// ---- rows of the sheet
+
+function weightRow(place, before, after, why) {
+  const change = after - before;
+  const kind = change < 0 ? "down" : change > 0 ? "up" : "same";
+  return (
+    `<tr class="${kind}"><td class="no">${sheetLine(place)}</td>` +
+    `<td class="text">${row(sheet, sheetLine(place))}</td><td class="weight">${number(before)}</td>` +
+    `<td class="weight">${number(after)}</td><td class="why">${why}</td></tr>`
+  );
+}
+
+function rowTable(rows) {
+  return (
+    '<table class="rows"><tr><th class="no">line</th><th class="text">row of the case sheet</th>' +
+    '<th class="weight">before</th><th class="weight">after</th><th></th></tr>' +
+    rows.join("") + "</table>"
+  );
+}
+
+function pairRow(scope) {
+  if (scope < n) return "";
+  const line = pairLine(scope - n);
+  return `<tr class="same"><td class="no">${line}</td><td class="text">${row(sheet, line)}</td></tr>`;
+}
+
+function why(active, own, change) {
+  const amount = (change > 0 ? "+" : "") + number(change);
+  if (change === 0) return active ? "active" : "";
+  return (own ? "active " : "closed ") + amount;
+}
+
+function scopeRows(scope, own, before, after) {
+  const [from, to] = span(scope);
+  const top = greatest(before, scope);
+  const tables = [];
+  const each = scope >= n && d > 4 ? d : to - from;
+  for (let first = from; first < to; first += each) {
+    const rows = first === from ? [pairRow(scope)] : [];
+    for (let place = first; place < first + each; place++) {
+      const change = after[place] - before[place];
+      rows.push(weightRow(place, before[place], after[place], why(before[place] === top, own, change)));
+    }
+    tables.push(rowTable(rows));
+  }
+  return '<div class="tables">' + tables.join("") + "</div>";
+}
+
+function touched(scope, before, after) {
+  const [from, to] = span(scope);
+  let changed = 0;
+  for (let place = from; place < to; place++) if (before[place] !== after[place]) changed++;
+  return [changed, to - from];
+}
+
+function folded(title, inner, unfold) {
+  return `<details class="scope"${unfold ? " open" : ""}><summary>${title}</summary>${inner}</details>`;
+}
+
+// ---- blocks: a line of the log beside its rows
+
+function block(line, words, rows) {
+  return (
+    `<section class="block"><div class="said"><span class="no">${sheetLines + line}</span>` +
+    `<code>${row(log, line)}</code>${words ? `<p>${words}</p>` : ""}</div>` +
+    `<div class="beside">${rows}</div></section>`
+  );
+}
+
+function pressBlocks(move, before, after, unfold) {
+  const [changed, all] = touched(move.link, before, after);
+  const title = `Press link ${move.link}: ${changed} of ${counted(all, "channel")} active, lowered by ${number(move.amount)}`;
+  const rows = folded(title, scopeRows(move.link, true, before, after), true);
+  const blocks = [block(move.line, moveWords(move) + ".", rows)];
+  move.raised.forEach((scope, k) => {
+    const [up, of] = touched(scope, before, after);
+    const head = `Raise ${scopeName(scope)}: ${up} of ${counted(of, "weight")} closed, raised by ${number(move.amount)}`;
+    const rows = scopeRows(scope, false, before, after);
+    blocks.push(block(move.line + 1 + k, "", folded(head, rows, unfold)));
+  });
+  return blocks;
+}
+
+function shiftBlock(move, before, after) {
+  const link = pairEnds[move.pair][move.end];
+  const shiftRow = (place) => {
+    const change = after[place] - before[place];
+    return weightRow(place, before[place], after[place], (change > 0 ? "+" : "") + number(change));
+  };
+  const rows = [shiftRow(link * d + move.value), pairRow(n + move.pair), ...shiftPlaces(move).map(shiftRow)];
+  const title = `Shift between channel ${move.value} of link ${link} and ${scopeName(n + move.pair)}`;
+  return block(move.line, moveWords(move) + ".", folded(title, rowTable(rows), true));
+}
+
+function layOut(round) {
+  const moves = movesOf(round);
+  const table = tableBefore(round);
+  const scopes = moves.flatMap((move) => move.raised || []);
+  const total = scopes.reduce((sum, scope) => sum + (scope < n ? d : d * d), 0);
+  const blocks = [];
+  for (const move of moves) {
+    const before = table.slice();
+    make(table, move);
+    if (move.kind === 1) blocks.push(shiftBlock(move, before, table));
+    else blocks.push(...pressBlocks(move, before, table, total <= 140));
+  }
+  const fall = ceilings[round] - ceilings[round + 1];
+  const bound = `<p>Bound: the ceiling is ${number(ceilings[round + 1])}, ${number(fall)} below the round\u2019s start.</p>`;
+  blocks.push(block(firstLines[round + 1] - 1, "", bound));
+  return (
+    `<h3>Round ${number(round)}: the ceiling falls by ${number(fall)}, from ${number(ceilings[round])} ` +
+    `to ${number(ceilings[round + 1])}</h3><div class="heads"><span><span class="no">line</span>of the log</span>` +
+    `<span>The rows of the case sheet that the line touches</span></div>` + blocks.join("")
+  );
+}
+
+// ---- the drawings show the chosen round
+
+function mark(round) {
+  for (const element of document.querySelectorAll("#network .link, #network .pair")) {
+    element.classList.remove("pressed", "raised", "shifted");
+  }
+  for (const move of movesOf(round)) {
+    if (move.kind === 1) byId("s" + (n + move.pair)).classList.add("shifted");
+    for (const scope of move.raised || []) byId("s" + scope).classList.add("raised");
+    if (move.kind === 2) byId("s" + move.link).classList.add("pressed");
+  }
+  const { left, right, rounds: all } = byId("curve").dataset;
+  const width = (right - left) / all;
+  byId("chosen").setAttribute("x", Number(left) + round * width - (width < 3 ? 1.5 : 0));
+  byId("chosen").setAttribute("width", Math.max(width, 3));
+  byId("chosen").classList.toggle("wide", width > 12);
+}
+
+let shown = 0;
+
+function show(round) {
+  shown = Math.max(0, Math.min(rounds - 1, round || 0));
+  byId("round").value = shown;
+  byId("line").value = sheetLines + firstLines[shown];
+  byId("view").innerHTML = layOut(shown);
+  byId("back").disabled = shown === 0;
+  byId("on").disabled = shown === rounds - 1;
+  mark(shown);
+}
+
+function roundOfLine(line) {
+  let low = 0;
+  let high = rounds - 1;
+  while (low < high) {
+    const middle = (low + high + 1) >> 1;
+    if (firstLines[middle] <= line - sheetLines) low = middle;
+    else high = middle - 1;
+  }
+  return low;
+}
+
+function listMoves(round) {
+  const moves = movesOf(round);
+  const words = moves.slice(0, 3).map(moveWords).join("; ");
+  return words + (moves.length > 3 ? `; and ${counted(moves.length - 3, "more move")}` : "");
+}
+
+function listRows(from, to) {
+  const rows = [];
+  for (let round = from; round < to; round++) {
+    rows.push(
+      `<tr><td><a href="#round-${round}">${number(round)}</a></td><td class="weight">${number(ceilings[round + 1])}</td>` +
+      `<td class="weight">${number(ceilings[round] - ceilings[round + 1])}</td><td>${listMoves(round)}</td></tr>`
+    );
+  }
+  return (
+    '<table class="list"><tr><th>round</th><th class="weight">ceiling after it</th><th class="weight">fall</th>' +
+    `<th>moves</th></tr>${rows.join("")}</table>`
+  );
+}
+
+function list() {
+  const each = rounds <= 10000 ? 100 : 1000;
+  for (let from = 0; from < rounds; from += each) {
+    const to = Math.min(rounds, from + each);
+    const details = document.createElement("details");
+    const names = to === from + 1 ? `Round ${number(from)}` : `Rounds ${number(from)} to ${number(to - 1)}`;
+    details.innerHTML = `<summary>${names}: from ${number(ceilings[from])} to ${number(ceilings[to])}</summary>`;
+    const fill = () => {
+      if (details.childElementCount === 1) details.insertAdjacentHTML("beforeend", listRows(from, to));
+    };
+    details.addEventListener("toggle", fill);
+    byId("list").append(details);
+    details.open = rounds <= 20;
+  }
+}
+
+byId("choose").addEventListener("submit", (event) => event.preventDefault());
+byId("back").addEventListener("click", () => show(shown - 1));
+byId("on").addEventListener("click", () => show(shown + 1));
+byId("round").addEventListener("change", (event) => show(Math.floor(event.target.value)));
+byId("line").addEventListener("change", (event) => show(roundOfLine(Number(event.target.value))));
+byId("unfold").addEventListener("click", () => {
+  for (const details of document.querySelectorAll("#view details")) details.open = true;
+});
+byId("curve").addEventListener("click", (event) => {
+  const svg = byId("curve");
+  const { left, right, rounds: all } = svg.dataset;
+  const box = svg.getBoundingClientRect();
+  const x = ((event.clientX - box.left) / box.width) * svg.viewBox.baseVal.width;
+  show(Math.floor(((x - left) / (right - left)) * all));
+});
+function follow() {
+  const named = /^#round-(\d+)$/.exec(location.hash);
+  show(named ? Number(named[1]) : 0);
+  if (named) byId("choose").scrollIntoView();
+}
+
+window.addEventListener("hashchange", follow);
+list();
+follow();
