@@ -1,6 +1,6 @@
 -- The objective of an assignment under starting weights, and what the check of two assignments says. Assumes nothing.
-use mathlib.Core.Path.{_≡_, refl, sym, ap, _∙_}
-use mathlib.Core.Bool.{Bool, true, false, not, _||_}
+use mathlib.Core.Path.{_≡_, refl, sym, ap}
+use mathlib.Core.Bool.{not, _||_}
 use mathlib.Core.Option.{Option, none, some}
 use mathlib.Core.List.{List}
 use Prim.Native.Nat.{ℕ}
@@ -8,7 +8,7 @@ use lib.IntN.{ℤ}
 use lib.Dec.{T}
 use lib.Signed.{ltZ}
 use Rattle.integers.specs.Words.{if_then_else_, isSome}
-use Rattle.integers.specs.Tests.{tests, not-or-iff}
+use Rattle.integers.specs.Tests.{not-or-iff}
 use Rattle.definitions.specs.declared.Case.{Case}
 use Rattle.definitions.specs.declared.Refusal.{Refusal}
 use Rattle.definitions.specs.declared.Outcome.{Outcome}

@@ -3,9 +3,8 @@ use mathlib.Core.Path.{_≡_, refl, sym, ap, subst, _∙_}
 use mathlib.Core.Bool.{Bool, true, false}
 use mathlib.Core.Option.{Option, none, some}
 use mathlib.Core.List.{List, [], _∷_}
-use Prim.Native.Nat.{ℕ, zero, suc, _+_, _*_, _/_, _-_, _^_, _<_, _≤_}
+use Prim.Native.Nat.{ℕ, zero, suc, _+_, _*_, _-_, _^_, _<_, _≤_}
 use native.Mathlib.Omega.{arith}
-use native.Mathlib.Numerals.{add-one}
 use lib.ListN.{length, take, drop}
 use lib.Seq.{drop-drop}
 use lib.IntN.{ℤ}
@@ -23,7 +22,7 @@ use Rattle.definitions.specs.declared.Refusal.the-variants.{NotInColumns, OutOf
 use Rattle.definitions.specs.Rules.{standard}
 use Rattle.definitions.specs.Lines.{readLine, isKind, cutLines, linesIn, hasPart}
 use Rattle.definitions.specs.Calls.{readLineAnswer}
-use Rattle.definitions.specs.Views.{spanFrom, roundSpan, roundView}
+use Rattle.definitions.specs.Views.{spanFrom, roundSpan}
 use Rattle.views.specs.declared.Step.{Step}
 use Rattle.views.specs.declared.Step.the-variants.{Stop, On}
 use Rattle.views.specs.Steps.{long, endedStep, passedStep, resumed}
