@@ -1,8 +1,9 @@
 -- Laws that the functions' proofs cite.
-pub mod SpacedLaws
 pub mod Answers
-pub mod ShiftLaws
-pub mod Rising
+pub mod SpacedLaws
 pub mod ScopeLaws
+pub mod KeptLaws
+pub mod ShiftLaws
 pub mod PressLaws
+pub mod Rising
 pub mod MarkLaws

@@ -7,7 +7,7 @@ use mathlib.Core.List.{List, [], _∷_}
 use Prim.Native.Nat.{ℕ, zero, suc, _≤_, _<_}
 use native.Mathlib.Omega.{arith}
 use lib.IntN.{ℤ}
-use lib.Dec.{T, not-T, eqb, ltb, leb, eqb→eq, ltb→lt, leb→le, nltb→le}
+use lib.Dec.{T, not-T, eqb, ltb, leb, eqb→eq, ltb→lt, leb→le, lt→ltb, nltb→le}
 use lib.ListN.{length, getD, set, take, replicate, length-set, List·getD-eq-default}
 use lib.Seq.{getD-set-same, getD-set-other, getD-take, length-take-le}
 use borrow.Author.Tests.{eq-eqb, lt-ltb}
@@ -27,6 +27,7 @@ use Rattle.definitions.specs.Calls.{verdictOf, tupleOut, isMarked, isActiveAnsw
 use Rattle.definitions.proofs.Refutation.{refuted-same}
 use Rattle.theory.proofs.Validity.{Handed, handed}
 use Rattle.moves.specs.Marks.{marked, Marks, saysYes}
+use Rattle.moves.specs.Kept.{isRaised}
 
 -- ---- marks
 pub marked-long : (xs l : List ℕ) → length (marked l xs) ≡ length l
@@ -59,6 +60,13 @@ module _ (l raised : List ℕ) (inside : T (all (λ x. ltb x (length l)) raised)
       go true = refl
       go false = refl
 
+  pub raised-is : (y : ℕ) → isRaised (marked l raised) y ≡ isIn raised y
+  raised-is y = ap (λ (n : ℕ). not (eqb n 0)) (mark-of y) ∙ go (isIn raised y)
+    where
+      go : (b : Bool) → not (eqb (if b then 1 else 0) 0) ≡ b
+      go true = refl
+      go false = refl
+
   pub marks-made : (c : Case) → length l ≡ scopeCount c → Marks c (marked l raised)
   marks-made c e = record {
     long = marked-long raised l ∙ e;
@@ -68,6 +76,10 @@ module _ (l raised : List ℕ) (inside : T (all (λ x. ltb x (length l)) raised)
       go : (b : Bool) → T (leb (if b then 1 else 0) 1)
       go true = tt
       go false = tt
+
+-- scopes lie in a list that is long enough
+pub inside-more : (raised : List ℕ) (n k : ℕ) → n ≤ k → T (all (λ x. ltb x n) raised) → T (all (λ x. ltb x k) raised)
+inside-more raised n k h t = all-in (λ x. ltb x k) raised .1 (λ x m. lt→ltb x k (omega (arith, ltb→lt x n (all-in (λ x. ltb x n) raised .0 t x m))))
 
 pub clear-take : (l : List ℕ) (n : ℕ) → n ≤ length l → ((y : ℕ) → getD l y 0 ≡ 0) → (y : ℕ) → getD (take n l) y 0 ≡ 0
 clear-take l n h f y = ⊎-elim

@@ -1,21 +1,19 @@
--- A press, scope by scope: the own scope first, then the raised ones, each once; and whether a weight leaves its range. Assumes nothing.
+-- A press, scope by scope; and what it is on a table that was checked. Assumes nothing.
 use mathlib.Core.Path.{_≡_, refl, sym, ap, ap₂, subst, _∙_}
 use mathlib.Core.Bool.{Bool, true, false, not, _&&_, _||_}
-use mathlib.Core.Logic.{_⊎_, inl, inr}
+use mathlib.Core.Logic.{_⊎_, inl, inr, ⊎-elim}
 use mathlib.Core.List.{List, [], _∷_}
 use Prim.Native.Nat.{ℕ, _+_, _-_, _≤_, _<_}
-use native.Mathlib.Numerals.{add-one}
 use native.Mathlib.Omega.{arith}
 use lib.IntN.{ℤ, pos, negℤ, _+ℤ_, +ℤ-idl, +ℤ-idr}
-use lib.Dec.{T, T-not, not-T, eqb, ltb, eqb→eq, ltb→lt}
-use lib.ListN.{length, getD, take}
-use lib.Seq.{take-suc}
-use borrow.Author.Tests.{eq-eqb}
-use Rattle.integers.specs.Words.{if_then_else_, all, any, isIn, within, withinZ, minus}
-use Rattle.integers.specs.Tests.{either, is-true, is-false, and-intro, and-left, and-right, same-test, not-not-iff, false-is}
+use lib.Dec.{T, T-not, not-T, eqb, ltb, eqb→eq, ltb→lt, lt→ltb}
+use lib.ListN.{length, getD, set, length-set}
+use lib.Seq.{getD-set-same, getD-set-other}
+use borrow.Author.Tests.{eq-eqb, lt-ltb, le-ltb}
+use Rattle.integers.specs.Words.{if_then_else_, all, any, isIn, within, greatestOf, eqZ, withinZ, minus}
+use Rattle.integers.specs.Tests.{either, is-true, is-false, same-test, imp-intro, imp-elim, not-or-iff, false-is, not-not-iff, not-eqb-iff}
+use Rattle.integers.specs.Lists.{all-at, all-of, all-in, any-in}
 use Rattle.integers.specs.Linear.{zs, flat, _▸_}
-use Rattle.integers.specs.Lists.{all-in, any-in, isIn-in, isIn-append}
-use Rattle.integers.specs.Tables.{getD-in}
 use Rattle.definitions.specs.declared.Case.{Case}
 use Rattle.definitions.specs.declared.Refusal.{Refusal}
 use Rattle.definitions.specs.declared.Refusal.the-variants.{OutsideLimits, LeavesRange}
@@ -23,205 +21,225 @@ use Rattle.definitions.specs.declared.Outcome.{Outcome}
 use Rattle.definitions.specs.Rules.{standard}
 use Rattle.definitions.specs.Refusals.{Test, _when_, firstOf}
 use Rattle.definitions.specs.Answers.{outcomeOf, unlessRefused}
-use Rattle.definitions.specs.Case.{scopeCount, ownLength, lentLength, weight, active}
-use Rattle.definitions.specs.Valid.{workingWeight, allWeights, withinLimits, handedOver}
+use Rattle.definitions.specs.Case.{scopeCount, ownLength, lentLength, weight, greatest, active}
+use Rattle.definitions.specs.Valid.{workingWeight, withinLimits, handedOver}
 use Rattle.definitions.specs.Moves.{Difference, plus, onlyWhere, pressBy, activeValues, press, moved, pressAmount, activeRefuted, leavesRange}
 use Rattle.definitions.specs.Calls.{isRising, moveCall, pressOut, pressCall}
-use Rattle.theory.proofs.Places.{IsTuple, all-weights, weight-plus, plus-length, plus-cong, plus-plus}
+use Rattle.theory.proofs.Places.{IsTuple, each-cong, weight-plus, plus-length, plus-cong, plus-plus, plus-zero}
 use Rattle.theory.proofs.Validity.{Handed}
-use Rattle.moves.specs.Scopes.{Amounts, Holding, scopeBy, scopeStays, raisedBy, pressStays}
-use Rattle.moves.specs.Marks.{askedOfPress}
-use Rattle.moves.proofs.Answers.{made-answer, made-table, refused-answer, refused-table, next-answer, next-table}
-use Rattle.moves.proofs.Rising.{not-before}
-use Rattle.moves.proofs.ScopeLaws.{scope-stays-iff, same-active, same-holding, holding-known}
+use Rattle.figures.specs.Scopes.{partOf, bestAt, BestOf, greatestCall}
+use Rattle.figures.proofs.Best.{over-is, greatest-known}
+use Rattle.moves.specs.Scopes.{Amounts, scopeBy, topOf, restOf, isTouched, scopeLets, pressLets}
+use Rattle.moves.specs.Kept.{isRaised, isBest, Change, pressChange, staysWorking, bestAfter, pressWithCall}
+use Rattle.moves.specs.Marks.{marked, askedOfPress}
+use Rattle.moves.proofs.Answers.{refused-answer, refused-table, next-answer, next-table}
+use Rattle.moves.proofs.ScopeLaws.{part-stays-iff, same-weight, same-part}
+use Rattle.moves.proofs.MarkLaws.{marked-long, raised-is, inside-more}
+use Rattle.moves.proofs.KeptLaws.{stays-iff, call-answer, call-table, call-best}
 
 -- ---- amounts
-pub amounts-up : (a : ℤ) → T (pressAmount standard a) → Amounts standard (pos 0) a
-amounts-up a t = record { top-within = tt; rest-within = t ▸ simp flat (omega zs) }
+pub press-amounts : (i x mark : ℕ) (a : ℤ) → T (pressAmount standard a) → Amounts standard (topOf i a x) (restOf mark a)
+press-amounts i x mark a t = record { top-within = top (eqb x i); rest-within = rest (not (eqb mark 0)) }
+  where
+    top : (b : Bool) → T (withinZ (minus 1_000_000_000) (pos 1_000_000_000) (onlyWhere b (negℤ a)))
+    top true = t ▸ simp flat (omega zs)
+    top false = tt
 
-pub amounts-down : (a : ℤ) → T (pressAmount standard a) → Amounts standard (negℤ a) (pos 0)
-amounts-down a t = record { top-within = t ▸ simp flat (omega zs); rest-within = tt }
-
-pub press-moves : (a : ℤ) → T (pressAmount standard a) → T (withinZ (minus 1_000_000_000) (pos 1_000_000_000) a)
-press-moves a t = t ▸ simp flat (omega zs)
+    rest : (b : Bool) → T (withinZ (minus 1_000_000_000) (pos 1_000_000_000) (onlyWhere b a))
+    rest true = t ▸ simp flat (omega zs)
+    rest false = tt
 
 -- ---- tests
-only-false : {b : Bool} (z : ℤ) → b ≡ false → onlyWhere b z ≡ pos 0
-only-false z e = rw e
+split : (e b r : Bool) (a : ℤ) → onlyWhere (e && b) (negℤ a) +ℤ onlyWhere (r && not b) a ≡ (if b then onlyWhere e (negℤ a) else onlyWhere r a)
+split true true true a = +ℤ-idr (negℤ a)
+split true true false a = +ℤ-idr (negℤ a)
+split false true true a = refl
+split false true false a = refl
+split true false true a = +ℤ-idl a
+split true false false a = refl
+split false false true a = +ℤ-idl a
+split false false false a = refl
 
-not-raised : {m : Bool} (b : Bool) (a : ℤ) → m ≡ false → onlyWhere (m && not b) a ≡ pos 0
-not-raised b a e = rw e
+only-false : (b : Bool) (z : ℤ) → b ≡ false → onlyWhere b z ≡ pos 0
+only-false b z e = rw e
 
-same-eqb : (x y : ℕ) → eqb x y ≡ eqb y x
-same-eqb x y = same-test (eqb x y) (eqb y x)
-    (λ t. let e : x ≡ y = eqb→eq x y t in subst (λ (z : ℕ). T (eqb y z)) (sym e) (rw (eq-eqb y y refl) tt))
-    (λ t. let e : y ≡ x = eqb→eq y x t in subst (λ (z : ℕ). T (eqb x z)) (sym e) (rw (eq-eqb x x refl) tt))
+-- what is added up to a scope
+abbrev pub upTo : ℕ → Difference → Difference
+upTo x δ y k l = onlyWhere (ltb y x) (δ y k l)
 
--- a scope that is raised now, and any other
-new-scope : (m e d b : Bool) (a : ℤ) → m ≡ false → e ≡ true → d ≡ true → onlyWhere (m && not b) a +ℤ onlyWhere e (if b then pos 0 else a) ≡ onlyWhere ((m || (d || false)) && not b) a
-new-scope m e d true a p q r = rw (p, q, r)
-new-scope m e d false a p q r = rw (p, q, r) (+ℤ-idl a)
-
-old-scope : (m e d b g : Bool) (a : ℤ) → e ≡ false → d ≡ false → onlyWhere (m && not b) a +ℤ onlyWhere e (if g then pos 0 else a) ≡ onlyWhere ((m || (d || false)) && not b) a
-old-scope true e d b g a p q = rw p (+ℤ-idr (onlyWhere (not b) a))
-old-scope false e d b g a p q = rw (p, q)
-
--- ---- the raised scopes, one after the other
-module _ (c : Case) (w : List ℤ) (long : length w ≡ lentLength c) (raised : List ℕ) (rising : T (isRising raised)) (a : ℤ)
-    (held : (x : ℕ) → T (isIn raised x) → Holding standard c w x) (j : ℕ) (h : j < length raised) where
-  abbrev next : ℕ
-  next = getD raised j 0
-
-  abbrev so-far : Difference
-  so-far = raisedBy c w (take j raised) a
-
-  next-held : Holding standard c w next
-  next-held = held next (isIn-in raised next .1 (getD-in raised 0 h))
-
-  next-new : isIn (take j raised) next ≡ false
-  next-new = is-false (isIn (take j raised) next) (not-before raised rising j h)
-
-  nothing-yet : (k l : ℕ) → IsTuple c next k l → so-far next k l ≡ pos 0
-  nothing-yet k l t = not-raised (active c w next k l) a next-new
-
-  pub next-holding : Holding standard c (plus c so-far w) next
-  next-holding = same-holding c so-far w long next (next-held .scope) nothing-yet standard next-held
-
-  pub raise-next : plus c (scopeBy c (plus c so-far w) next (pos 0) a) (plus c so-far w) ≡ plus c (raisedBy c w (take (j + 1) raised) a) w
-  raise-next = plus-plus c so-far w (scopeBy c (plus c so-far w) next (pos 0) a) ∙ plus-cong c (λ y k l. so-far y k l +ℤ scopeBy c (plus c so-far w) next (pos 0) a y k l) w (raisedBy c w (take (j + 1) raised) a) (λ y k l t.
-      rw (add-one, take-suc raised j 0 h, isIn-append (take j raised) (next ∷ []) y) (go y k l t (either (eqb y next))))
+-- a scope that is not touched stays
+module _ (c : Case) (w : List ℤ) (long : length w ≡ ownLength c) (x i mark : ℕ) (best a : ℤ) (e : isTouched i x mark ≡ false) where
+  pub untouched : plus c (scopeBy c w x best (topOf i a x) (restOf mark a)) w ≡ w
+  untouched =
+      let (s, u) = not-or-iff (eqb x i) (not (eqb mark 0)) .0 (false-is (isTouched i x mark) e) in
+      plus-zero c (scopeBy c w x best (topOf i a x) (restOf mark a)) w (omega arith) (λ y k l t. go (eqb y x) (eqZ (weight c w x k l) best) (is-false _ s) (is-false _ u))
     where
-      go : (y k l : ℕ) → IsTuple c y k l → T (eqb y next) ⊎ T (not (eqb y next))
-          → so-far y k l +ℤ scopeBy c (plus c so-far w) next (pos 0) a y k l ≡ onlyWhere ((isIn (take j raised) y || (eqb next y || false)) && not (active c w y k l)) a
-      go y k l t (inl s) =
-          let e : y ≡ next = eqb→eq y next s in
-          subst (λ (y : ℕ). IsTuple c y k l → so-far y k l +ℤ scopeBy c (plus c so-far w) next (pos 0) a y k l ≡ onlyWhere ((isIn (take j raised) y || (eqb next y || false)) && not (active c w y k l)) a)
-          (sym e) (λ u. rw (same-active c so-far w long next (next-held .scope) nothing-yet k l u)
-          (new-scope (isIn (take j raised) next) (eqb next next) (eqb next next) (active c w next k l) a next-new (eq-eqb next next refl) (eq-eqb next next refl))) t
-      go y k l t (inr s) =
-          old-scope (isIn (take j raised) y) (eqb y next) (eqb next y) (active c w y k l) (active c (plus c so-far w) next k l) a (is-false (eqb y next) s) (same-eqb next y ∙ is-false (eqb y next) s)
+      go : (p q : Bool) → eqb x i ≡ false → not (eqb mark 0) ≡ false → onlyWhere p (if q then topOf i a x else restOf mark a) ≡ pos 0
+      go true true f g = rw f
+      go true false f g = rw g
+      go false q f g = refl
 
--- ---- the own scope and the raised ones
-module _ {c : Case} {w : List ℤ} (known : Handed standard (workingWeight standard) c w) (i : ℕ) (raised : List ℕ) (a : ℤ)
-    (variable : i < c .n) (inside : T (all (λ x. ltb x (scopeCount c)) raised)) (apart : T (not (isIn raised i))) where
-  abbrev lowered : Difference
-  lowered = scopeBy c w i (negℤ a) (pos 0)
+module _ (c : Case) (w best : List ℤ) (raised : List ℕ) (i : ℕ) (a : ℤ) (variable : i < c .n) where
+  abbrev m : Change
+  m = pressChange c w best raised i a
 
-  scope-inside : (x : ℕ) → T (isIn raised x) → x < scopeCount c
-  scope-inside x t = ltb→lt x (scopeCount c) (all-in (λ x. ltb x (scopeCount c)) raised .0 inside x (isIn-in raised x .0 t))
-
-  other-scope : (x : ℕ) → T (isIn raised x) → T (not (eqb x i))
-  other-scope x t = not-T (eqb x i) (λ s. let e : x ≡ i = eqb→eq x i s in T-not (isIn raised i) apart (subst (λ (x : ℕ). T (isIn raised x)) e t))
-
-  not-lowered : (x : ℕ) → T (not (eqb x i)) → (k l : ℕ) → IsTuple c x k l → lowered x k l ≡ pos 0
-  not-lowered x n k l t = only-false _ (is-false (eqb x i) n)
-
-  pub raised-holding : (x : ℕ) → T (isIn raised x) → Holding standard c (plus c lowered w) x
-  raised-holding x t =
-      same-holding c lowered w (known .long) x (scope-inside x t) (not-lowered x (other-scope x t)) standard (holding-known known x (scope-inside x t))
-
-  own-only : (e b m : Bool) (z : ℤ) → e ≡ true → onlyWhere e (if b then negℤ a else pos 0) +ℤ z ≡ onlyWhere (e && b) (negℤ a) +ℤ z
-  own-only e true m z p = rw p
-  own-only e false m z p = rw p
-
-  pub press-made : plus c (raisedBy c (plus c lowered w) raised a) (plus c lowered w) ≡ moved c (press i raised a) w
-  press-made = plus-plus c lowered w (raisedBy c (plus c lowered w) raised a) ∙ plus-cong c _ w (pressBy c w i (activeValues c w i) (isIn raised) a) (λ y k l t. go y k l t (either (eqb y i)))
-    where
-      go : (y k l : ℕ) → IsTuple c y k l → T (eqb y i) ⊎ T (not (eqb y i))
-          → lowered y k l +ℤ raisedBy c (plus c lowered w) raised a y k l ≡ pressBy c w i (activeValues c w i) (isIn raised) a y k l
-      go y k l t (inl s) =
-          let e : y ≡ i = eqb→eq y i s in
-          let z : l ≡ 0 = t .alone (omega arith) in
-          let m : isIn raised y ≡ false = is-false (isIn raised y) (subst (λ (x : ℕ). T (not (isIn raised x))) (sym e) apart) in
-          ap₂ _+ℤ_ (ap (λ (l : ℕ). onlyWhere (eqb y i) (if active c w i k l then negℤ a else pos 0)) z) (not-raised (active c (plus c lowered w) y k l) a m)
-          ∙ own-only (eqb y i) (active c w i k 0) true (pos 0) (is-true (eqb y i) s)
-          ∙ ap (λ (q : ℤ). onlyWhere (eqb y i && active c w i k 0) (negℤ a) +ℤ q) (sym (not-raised (active c w y k l) a m))
-      go y k l t (inr s) =
-          ap₂ _+ℤ_ (only-false _ (is-false (eqb y i) s) ∙ sym (others (is-false (eqb y i) s)))
-          (ap (λ (b : Bool). onlyWhere (isIn raised y && not b) a) (same-active c lowered w (known .long) y (t .scope) (not-lowered y s) k l t))
-        where
-          others : eqb y i ≡ false → onlyWhere (eqb y i && active c w i k 0) (negℤ a) ≡ pos 0
-          others e = rw e
-
-  -- ---- what is added at a tuple
   abbrev δ : Difference
-  δ = pressBy c w i (activeValues c w i) (isIn raised) a
+  δ = pressChange c w best raised i a .adds
 
-  at-own : (k l : ℕ) → IsTuple c i k l → δ i k l ≡ (if active c w i k l then negℤ a else pos 0)
-  at-own k l t =
-      let z : l ≡ 0 = t .alone variable in
-      subst (λ (l : ℕ). δ i k l ≡ (if active c w i k l then negℤ a else pos 0)) (sym z)
-      (rw (is-false (isIn raised i) apart, eq-eqb i i refl) (go (active c w i k 0)))
+  -- what is added at a tuple
+  pub added-at : (x k l : ℕ) → IsTuple c x k l → δ x k l ≡ (if isBest c w best x k l then topOf i a x else restOf (getD raised x 0) a)
+  added-at x k l t = ⊎-elim
+      (λ s.
+      let e : x ≡ i = eqb→eq x i s in
+      let z : l ≡ 0 = t .alone (omega arith) in
+      ap (λ (b : Bool). onlyWhere (eqb x i && b) (negℤ a) +ℤ onlyWhere (isRaised raised x && not (isBest c w best x k l)) a) (ap₂ (λ (x l : ℕ). isBest c w best x k l) (sym e) (sym z))
+      ∙ split (eqb x i) (isBest c w best x k l) (isRaised raised x) a)
+      (λ s. other (is-false (eqb x i) s) ∙ split (eqb x i) (isBest c w best x k l) (isRaised raised x) a)
+      (either (eqb x i))
     where
-      go : (b : Bool) → onlyWhere b (negℤ a) +ℤ pos 0 ≡ (if b then negℤ a else pos 0)
-      go true = +ℤ-idr (negℤ a)
-      go false = refl
+      other : eqb x i ≡ false → δ x k l ≡ onlyWhere (eqb x i && isBest c w best x k l) (negℤ a) +ℤ onlyWhere (isRaised raised x && not (isBest c w best x k l)) a
+      other e = rw e
 
-  at-raised : (y k l : ℕ) → T (isIn raised y) → δ y k l ≡ (if active c w y k l then pos 0 else a)
-  at-raised y k l m = rw (is-true (isIn raised y) m, is-false (eqb y i) (other-scope y m)) (go (active c w y k l))
+  -- nothing is added elsewhere
+  pub press-still : (x k l : ℕ) → T (not (eqb x i || isRaised raised x)) → δ x k l ≡ pos 0
+  press-still x k l t = let (s, u) = not-or-iff (eqb x i) (isRaised raised x) .0 t in rw (is-false (eqb x i) s, is-false (isRaised raised x) u)
+
+  pub lets-is : length w ≡ ownLength c → pressLets standard c w best raised i a ≡ staysWorking standard c w (pressChange c w best raised i a)
+  lets-is long = same-test (pressLets standard c w best raised i a) (staysWorking standard c w m)
+      (λ s. stays-iff standard c w m .1 (λ x k l t u.
+      let p = imp-elim (isTouched i x (getD raised x 0)) _ (all-at (λ x. scopeLets standard c w x (bestAt best x) (getD raised x 0) i a) (scopeCount c) s x (t .scope)) u in
+      subst (λ (z : ℤ). T (workingWeight standard (weight c w x k l +ℤ z))) (sym (added-at x k l t))
+      (part-stays-iff c w long x (t .scope) (bestAt best x) (topOf i a x) (restOf (getD raised x 0) a) standard .0 p k l t)))
+      (λ s. all-of (λ x. scopeLets standard c w x (bestAt best x) (getD raised x 0) i a) (scopeCount c) (λ x h. imp-intro (isTouched i x (getD raised x 0)) _ (λ u.
+      part-stays-iff c w long x h (bestAt best x) (topOf i a x) (restOf (getD raised x 0) a) standard .1 (λ k l t.
+      subst (λ (z : ℤ). T (workingWeight standard (weight c w x k l +ℤ z))) (added-at x k l t) (stays-iff standard c w m .0 s x k l t u)))))
+
+  -- ---- one scope after the other
+  pub press-none : length w ≡ ownLength c → plus c (upTo 0 δ) w ≡ w
+  press-none long = plus-zero c (upTo 0 δ) w (omega arith) (λ y k l t. only-false (ltb y 0) (δ y k l) (le-ltb y 0 (omega arith)))
+
+  pub press-all : plus c (upTo (scopeCount c) δ) w ≡ plus c δ w
+  press-all = plus-cong c (upTo (scopeCount c) δ) w δ (λ y k l t. whole y k l (lt-ltb y (scopeCount c) (t .scope)))
     where
-      go : (b : Bool) → pos 0 +ℤ onlyWhere (not b) a ≡ (if b then pos 0 else a)
-      go true = refl
-      go false = +ℤ-idl a
+      whole : (y k l : ℕ) → ltb y (scopeCount c) ≡ true → upTo (scopeCount c) δ y k l ≡ δ y k l
+      whole y k l e = rw e
 
-  elsewhere : (y k l : ℕ) → T (not (eqb y i)) → T (not (isIn raised y)) → δ y k l ≡ pos 0
-  elsewhere y k l n m = rw (is-false (isIn raised y) m, is-false (eqb y i) n)
+  module _ (x : ℕ) (h : x < scopeCount c) where
+    pub nothing-yet : (k l : ℕ) → IsTuple c x k l → upTo x δ x k l ≡ pos 0
+    nothing-yet k l t = only-false (ltb x x) (δ x k l) (le-ltb x x (omega arith))
 
-  abbrev inRange : ℤ → Type 0
-  inRange z = T (workingWeight standard z)
+    abbrev turn : Difference
+    turn = scopeBy c (plus c (upTo x δ) w) x (bestAt best x) (topOf i a x) (restOf (getD raised x 0) a)
 
-  stays : T (pressStays standard c w i raised a) → (y k l : ℕ) → IsTuple c y k l → inRange (weight c w y k l +ℤ δ y k l)
-  stays s y k l t = go (either (eqb y i)) (either (isIn raised y))
-    where
-      own : T (scopeStays standard c w i (negℤ a) (pos 0))
-      own = and-left (scopeStays standard c w i (negℤ a) (pos 0)) _ s
+    pub press-turn : plus c (scopeBy c (plus c (upTo x δ) w) x (bestAt best x) (topOf i a x) (restOf (getD raised x 0) a)) (plus c (upTo x δ) w) ≡ plus c (upTo (x + 1) δ) w
+    press-turn = plus-plus c (upTo x δ) w turn ∙ plus-cong c (λ y k l. upTo x δ y k l +ℤ turn y k l) w (upTo (x + 1) δ) (λ y k l t. go y k l t (either (eqb y x)))
+      where
+        at : (k l : ℕ) → IsTuple c x k l → upTo x δ x k l +ℤ turn x k l ≡ upTo (x + 1) δ x k l
+        at k l t =
+            rw (le-ltb x x (omega arith), eq-eqb x x refl, lt-ltb x (x + 1) (omega arith), same-weight c (upTo x δ) w x h nothing-yet k l t)
+            (+ℤ-idl _ ∙ sym (added-at x k l t))
 
-      others : T (all (λ x. scopeStays standard c w x (pos 0) a) raised)
-      others = and-right (scopeStays standard c w i (negℤ a) (pos 0)) _ s
+        go : (y k l : ℕ) → IsTuple c y k l → T (eqb y x) ⊎ T (not (eqb y x)) → upTo x δ y k l +ℤ turn y k l ≡ upTo (x + 1) δ y k l
+        go y k l t (inl s) = let e : y ≡ x = eqb→eq y x s in subst (λ (y : ℕ). IsTuple c y k l → upTo x δ y k l +ℤ turn y k l ≡ upTo (x + 1) δ y k l) (sym e) (at k l) t
+        go y k l t (inr s) =
+            ap (λ (z : ℤ). upTo x δ y k l +ℤ z) (only-false (eqb y x) _ (is-false (eqb y x) s)) ∙ +ℤ-idr (upTo x δ y k l)
+            ∙ ap (λ (b : Bool). onlyWhere b (δ y k l)) (same-test (ltb y x) (ltb y (x + 1))
+            (λ u. lt→ltb y (x + 1) (omega (arith, ltb→lt y x u)))
+            (λ u. lt→ltb y x (omega (arith, ltb→lt y (x + 1) u, not-eqb-iff y x .0 s))))
 
-      go : T (eqb y i) ⊎ T (not (eqb y i)) → T (isIn raised y) ⊎ T (not (isIn raised y)) → inRange (weight c w y k l +ℤ δ y k l)
-      go (inl e) m =
-          let q : y ≡ i = eqb→eq y i e in
-          subst (λ (y : ℕ). IsTuple c y k l → inRange (weight c w y k l +ℤ δ y k l)) (sym q)
-          (λ u. subst (λ (z : ℤ). inRange (weight c w i k l +ℤ z)) (sym (at-own k l u)) (scope-stays-iff c w (known .long) i (omega arith) (negℤ a) (pos 0) standard .0 own k l u)) t
-      go (inr n) (inl m) =
-          subst (λ (z : ℤ). inRange (weight c w y k l +ℤ z)) (sym (at-raised y k l m))
-          (scope-stays-iff c w (known .long) y (t .scope) (pos 0) a standard .0 (all-in (λ x. scopeStays standard c w x (pos 0) a) raised .0 others y (isIn-in raised y .0 m)) k l t)
-      go (inr n) (inr m) = subst inRange (sym (ap (λ (z : ℤ). weight c w y k l +ℤ z) (elsewhere y k l n m) ∙ +ℤ-idr (weight c w y k l))) (known .in-range y k l t)
+    pub press-greatest : greatest c (plus c (upTo (x + 1) δ) w) x ≡ greatest c (plus c δ w) x
+    press-greatest = ap greatestOf (each-cong c x h (λ k l t. weight-plus c (upTo (x + 1) δ) w t ∙ ap (λ (z : ℤ). weight c w x k l +ℤ z) (whole k l (lt-ltb x (x + 1) (omega arith))) ∙ sym (weight-plus c δ w t)))
+      where
+        whole : (k l : ℕ) → ltb x (x + 1) ≡ true → upTo (x + 1) δ x k l ≡ δ x k l
+        whole k l e = rw e
 
-  back : ((y k l : ℕ) → IsTuple c y k l → inRange (weight c w y k l +ℤ δ y k l)) → T (pressStays standard c w i raised a)
-  back f = and-intro (scopeStays standard c w i (negℤ a) (pos 0)) _
-      (scope-stays-iff c w (known .long) i (omega arith) (negℤ a) (pos 0) standard .1 (λ k l t. subst (λ (z : ℤ). inRange (weight c w i k l +ℤ z)) (at-own k l t) (f i k l t)))
-      (all-in (λ x. scopeStays standard c w x (pos 0) a) raised .1 (λ y m.
-      let s : T (isIn raised y) = isIn-in raised y .1 m in
-      scope-stays-iff c w (known .long) y (scope-inside y s) (pos 0) a standard .1 (λ k l t. subst (λ (z : ℤ). inRange (weight c w y k l +ℤ z)) (at-raised y k l s) (f y k l t))))
+-- the table and `best` when the scopes below x are done
+pub record Pressed (c : Case) (w best : List ℤ) (raised : List ℕ) (i : ℕ) (a : ℤ) (x : ℕ) (table kept : List ℤ) : Type 0 where
+  pub table-is : table ≡ plus c (upTo x (pressChange c w best raised i a .adds)) w
+  pub same-long : length kept ≡ length best
+  pub done : (y : ℕ) → y < x → bestAt kept y ≡ (if (eqb y i || isRaised raised y) then greatest c (plus c (pressChange c w best raised i a .adds) w) y else bestAt best y)
+  pub due : (y : ℕ) → x ≤ y → bestAt kept y ≡ bestAt best y
 
-  pub press-stays-known : pressStays standard c w i raised a ≡ allWeights (workingWeight standard) c (moved c (press i raised a) w)
-  press-stays-known =
-      let n : length w ≡ lentLength c = known .long in
-      let h : ownLength c ≤ length (plus c δ w) = omega (arith, plus-length c δ w (omega arith)) in
-      let every = all-weights c (workingWeight standard) (plus c δ w) h in
-      same-test (pressStays standard c w i raised a) (allWeights (workingWeight standard) c (plus c δ w))
-      (λ s. every .1 (λ y k l t. subst inRange (sym (weight-plus c δ w t)) (stays s y k l t)))
-      (λ s. back (λ y k l t. subst inRange (weight-plus c δ w t) (every .0 s y k l t)))
+module _ (c : Case) (w best : List ℤ) (raised : List ℕ) (i : ℕ) (a : ℤ) (variable : i < c .n) (long : length w ≡ lentLength c) (room : scopeCount c ≤ length best) where
+  pub pressed-none : Pressed c w best raised i a 0 w best
+  pressed-none = record { table-is = sym (press-none c w best raised i a variable long); same-long = refl; done = λ y h. absurd (omega arith); due = λ y h. refl }
 
--- ---- what is asked after the check, and the call
-module _ {c : Case} {w : List ℤ} (known : Handed standard (workingWeight standard) c w) (i : ℕ) (raised : List ℕ) (a : ℤ)
-    (variable : i < c .n) (inside : T (all (λ x. ltb x (scopeCount c)) raised))
-    (rises : isRising raised ≡ true) (apart : isIn raised i ≡ false) (refutes : activeRefuted c w i raised ≡ true) (b : Bool) (e : b ≡ pressStays standard c w i raised a) where
-  range-left : firstOf (askedOfPress standard c w i raised a) ≡ firstOf (LeavesRange when (leavesRange standard c (moved c (press i raised a) w)) ∷ [])
-  range-left = rw (rises, apart, refutes)
+  pub pressed-all : {t b : List ℤ} → Pressed c w best raised i a (scopeCount c) t b
+      → (t ≡ plus c (pressChange c w best raised i a .adds) w) × (b ≡ bestAfter c w best (pressChange c w best raised i a))
+  pressed-all {t} {b} p = (
+    p .table-is ∙ press-all c w best raised i a variable,
+    over-is (λ x. if (eqb x i || isRaised raised x) then greatest c (plus c (pressChange c w best raised i a .adds) w) x else bestAt best x) (scopeCount c) best room b (p .same-long) (p .done) (p .due),
+  )
 
-  stays-left : b ≡ allWeights (workingWeight standard) c (moved c (press i raised a) w)
-  stays-left = e ∙ press-stays-known known i raised a variable inside (false-is (isIn raised i) apart)
+  module _ {t b : List ℤ} {x : ℕ} (p : Pressed c w best raised i a x t b) where
+    pub pressed-long : length t ≡ lentLength c
+    pressed-long = ap length (p .table-is) ∙ plus-length c (upTo x (pressChange c w best raised i a .adds)) w (omega arith) ∙ long
 
-  pub press-answer : (if b then Outcome.Done else Outcome.Refused LeavesRange) ≡ moveCall standard c w (press i raised a) (askedOfPress standard c w i raised a) .answer
-  press-answer = made-answer standard c w (press i raised a) b stays-left ∙ ap outcomeOf (sym range-left)
+    module _ (h : x < scopeCount c) where
+      pub pressed-lets : T (pressLets standard c w best raised i a) → T (scopeLets standard c t x (bestAt b x) (getD raised x 0) i a)
+      pressed-lets s =
+          let e : partOf c t x ≡ partOf c w x = ap (λ (t : List ℤ). partOf c t x) (p .table-is)
+          ∙ same-part c (upTo x (pressChange c w best raised i a .adds)) w x h (nothing-yet c w best raised i a variable x h) long in
+          rw (e, p .due x (omega arith)) (all-at (λ x. scopeLets standard c w x (bestAt best x) (getD raised x 0) i a) (scopeCount c) s x h)
 
-  pub press-table : (if b then moved c (press i raised a) w else w) ≡ moveCall standard c w (press i raised a) (askedOfPress standard c w i raised a) .table
-  press-table =
-      made-table standard c w (press i raised a) b stays-left (moved c (press i raised a) w) refl
-      ∙ ap (λ o. unlessRefused o (moved c (press i raised a) w) w) (sym range-left)
+      pub pressed-next : {t′ b′ : List ℤ} → t′ ≡ plus c (scopeBy c t x (bestAt b x) (topOf i a x) (restOf (getD raised x 0) a)) t
+          → b′ ≡ set b x (if isTouched i x (getD raised x 0) then greatest c t′ x else bestAt b x) → Pressed c w best raised i a (x + 1) t′ b′
+      pressed-next {t′} {b′} e d =
+          let g : t′ ≡ plus c (upTo (x + 1) (pressChange c w best raised i a .adds)) w =
+          e ∙ ap₂ (λ (t : List ℤ) (z : ℤ). plus c (scopeBy c t x z (topOf i a x) (restOf (getD raised x 0) a)) t) (p .table-is) (p .due x (omega arith)) ∙ press-turn c w best raised i a variable x h in
+          let l : x < length b = omega (arith, p .same-long) in
+          record {
+            table-is = g;
+            same-long = ap length d ∙ length-set b x _ ∙ p .same-long;
+            done = λ y u. ap (λ (b : List ℤ). bestAt b y) d ∙ ⊎-elim
+                (λ s. let q : y ≡ x = eqb→eq y x s in
+                subst (λ (y : ℕ). bestAt (set b x (if isTouched i x (getD raised x 0) then greatest c t′ x else bestAt b x)) y ≡ (if (eqb y i || isRaised raised y) then greatest c (plus c (pressChange c w best raised i a .adds) w) y else bestAt best y))
+                (sym q) (getD-set-same b x _ (pos 0) l ∙ ap₂ (λ (u v : ℤ). if isTouched i x (getD raised x 0) then u else v)
+                (ap (λ (t : List ℤ). greatest c t x) g ∙ press-greatest c w best raised i a variable x h) (p .due x (omega arith))))
+                (λ s. getD-set-other b x y _ (pos 0) (not-eqb-iff y x .0 s) ∙ p .done y (omega (arith, not-eqb-iff y x .0 s)))
+                (either (eqb y x));
+            due = λ y u. ap (λ (b : List ℤ). bestAt b y) d ∙ getD-set-other b x y _ (pos 0) (λ q. omega arith) ∙ p .due y (omega arith);
+          }
+
+-- ---- where `best` holds the greatest weights
+pub press-same : {c : Case} {w best : List ℤ} → BestOf c w best → (raised : List ℕ) (i : ℕ) (a : ℤ) → i < c .n → (x k l : ℕ) → IsTuple c x k l
+    → pressChange c w best raised i a .adds x k l ≡ pressBy c w i (activeValues c w i) (isRaised raised) a x k l
+press-same {c} {w} {best} b raised i a variable x k l t =
+    ap₂ (λ (p q : Bool). onlyWhere (eqb x i && p) (negℤ a) +ℤ onlyWhere (isRaised raised x && not q) a)
+    (ap (eqZ (weight c w i k 0)) (b .holds i (omega arith))) (ap (eqZ (weight c w x k l)) (b .holds x (t .scope)))
+
+module _ {c : Case} {w best : List ℤ} (h : Handed standard (workingWeight standard) c w) (b : BestOf c w best) (raised : List ℕ) (i : ℕ) (a : ℤ)
+    (room : scopeCount c ≤ length raised) (variable : i < c .n) (amount : T (pressAmount standard a)) where
+  pub press-with-known :
+      (pressWithCall standard c w best raised i a .answer
+      ≡ outcomeOf (firstOf (LeavesRange when (leavesRange standard c (plus c (pressBy c w i (activeValues c w i) (isRaised raised) a) w)) ∷ [])))
+      × (pressWithCall standard c w best raised i a .table
+      ≡ unlessRefused (firstOf (LeavesRange when (leavesRange standard c (plus c (pressBy c w i (activeValues c w i) (isRaised raised) a) w)) ∷ [])) (plus c (pressBy c w i (activeValues c w i) (isRaised raised) a) w) w)
+      × BestOf c (pressWithCall standard c w best raised i a .table) (pressWithCall standard c w best raised i a .best)
+  unfolding pressWithCall
+  press-with-known =
+      let m = pressChange c w best raised i a in
+      let wrong = ltb (length best) (scopeCount c) || ltb (length raised) (scopeCount c) in
+      let out = not (ltb i (c .n)) || not (pressAmount standard a) in
+      let n : wrong ≡ false = rw (le-ltb (length best) (scopeCount c) (b .enough), le-ltb (length raised) (scopeCount c) room) in
+      let o : out ≡ false = rw (lt-ltb i (c .n) variable, is-true (pressAmount standard a) amount) in
+      let still = press-still c w best raised i a variable in
+      let same = press-same b raised i a variable in (
+        call-answer h b m (λ x k l t. still x k l) (λ x k l t. still x k l) (pressBy c w i (activeValues c w i) (isRaised raised) a) same wrong out n o,
+        call-table h b m (λ x k l t. still x k l) (λ x k l t. still x k l) (pressBy c w i (activeValues c w i) (isRaised raised) a) same wrong out n o,
+        call-best h b m (λ x k l t. still x k l) (λ x k l t. still x k l) (pressBy c w i (activeValues c w i) (isRaised raised) a) same wrong out n o,
+      )
+
+-- ---- the call that checks: number 11 is left
+module _ (c : Case) (w : List ℤ) (i : ℕ) (raised : List ℕ) (a : ℤ) where
+  pub range-left : isRising raised ≡ true → isIn raised i ≡ false → activeRefuted c w i raised ≡ true
+      → firstOf (askedOfPress standard c w i raised a) ≡ firstOf (LeavesRange when (leavesRange standard c (moved c (press i raised a) w)) ∷ [])
+  range-left p q u = rw (p, q, u)
+
+  -- marks for the raised scopes
+  pub press-marked : (marks : List ℕ) → ((x : ℕ) → isRaised marks x ≡ isIn raised x) → plus c (pressBy c w i (activeValues c w i) (isRaised marks) a) w ≡ moved c (press i raised a) w
+  press-marked marks same = plus-cong c (pressBy c w i (activeValues c w i) (isRaised marks) a) w (pressBy c w i (activeValues c w i) (isIn raised) a)
+      (λ x k l t. ap (λ (b : Bool). onlyWhere (eqb x i && activeValues c w i k) (negℤ a) +ℤ onlyWhere (b && not (active c w x k l)) a) (same x))
 
 module _ (c : Case) (w : List ℤ) (i : ℕ) (raised : List ℕ) (a : ℤ) where
   abbrev asked : List Test
@@ -261,3 +279,19 @@ module _ (c : Case) (w : List ℤ) (i : ℕ) (raised : List ℕ) (a : ℤ) where
       none-out false false true s t = absurd t
       none-out false true r s t = absurd t
       none-out true q r s t = absurd t
+
+-- ---- the press with marks and greatest weights made for it
+module _ {c : Case} {w : List ℤ} (h : Handed standard (workingWeight standard) c w) (i : ℕ) (raised : List ℕ) (a : ℤ)
+    (variable : i < c .n) (inside : T (all (λ x. ltb x (scopeCount c)) raised)) (amount : T (pressAmount standard a))
+    (zeros : List ℕ) (clear : (y : ℕ) → getD zeros y 0 ≡ 0) (room : scopeCount c ≤ length zeros) (out : List ℤ) (space : scopeCount c ≤ length out) where
+  pub press-raised-is : {marks : List ℕ} {best : List ℤ} → marks ≡ marked zeros raised → best ≡ greatestCall standard c w out .best → {o : Outcome} {t : List ℤ}
+      → o ≡ pressWithCall standard c w best marks i a .answer → t ≡ pressWithCall standard c w best marks i a .table
+      → (o ≡ moveCall standard c w (press i raised a) (LeavesRange when (leavesRange standard c (moved c (press i raised a) w)) ∷ []) .answer)
+      × (t ≡ moveCall standard c w (press i raised a) (LeavesRange when (leavesRange standard c (moved c (press i raised a) w)) ∷ []) .table)
+  press-raised-is {marks} {best} e d p q =
+      let b : BestOf c w best = subst (λ (l : List ℤ). BestOf c w l) (sym d) (greatest-known out h space .1) in
+      let k = press-with-known h b marks i a (omega (arith, ap length e, marked-long raised zeros)) variable amount in
+      let g = press-marked c w i raised a marks (λ x. ap (λ (l : List ℕ). isRaised l x) e ∙ raised-is zeros raised (inside-more raised (scopeCount c) (length zeros) room inside) clear x) in (
+        p ∙ k .0 ∙ ap (λ (v : List ℤ). outcomeOf (firstOf (LeavesRange when (leavesRange standard c v) ∷ []))) g,
+        q ∙ k .1 ∙ ap (λ (v : List ℤ). unlessRefused (firstOf (LeavesRange when (leavesRange standard c v) ∷ [])) v w) g,
+      )

@@ -1,4 +1,4 @@
--- Rising lists: each element is below all later ones, and none is among those before it. Assumes nothing.
+-- Rising lists: each element is below the next. Assumes nothing.
 use mathlib.Core.Path.{_≡_, subst}
 use mathlib.Core.Bool.{not, _&&_}
 use mathlib.Core.Logic.{_↔_, _⊎_, inl, inr, ⊎-elim}
@@ -33,20 +33,3 @@ next-rises xs j k f u h = ⊎-elim
     (λ t. let e : suc k ≡ j = eqb→eq (suc k) j t in let d : j - 1 ≡ k = omega arith in rw e (subst (λ (i : ℕ). getD xs i 0 < getD xs j 0) d u))
     (λ t. f k (omega (arith, not-eqb-iff (suc k) j .0 t)))
     (either (eqb (suc k) j))
-
-module _ (xs : List ℕ) (rising : T (isRising xs)) where
-  pub rising-apart : (i j : ℕ) → i < j → j < length xs → getD xs i 0 < getD xs j 0
-  rising-apart i zero h u = absurd (omega arith)
-  rising-apart i (suc j) h u = go (rising-iff xs .0 rising j u) (either (eqb i j)) (λ k. rising-apart i j k (omega arith))
-    where
-      go : getD xs j 0 < getD xs (suc j) 0 → T (eqb i j) ⊎ T (not (eqb i j)) → (i < j → getD xs i 0 < getD xs j 0) → getD xs i 0 < getD xs (suc j) 0
-      go s (inl t) r = let e : i ≡ j = eqb→eq i j t in rw e s
-      go s (inr t) r = let v = r (omega (arith, not-eqb-iff i j .0 t)) in omega arith
-
-  pub not-before : (j : ℕ) → j < length xs → T (not (isIn (take j xs) (getD xs j 0)))
-  not-before j u = not-T (isIn (take j xs) (getD xs j 0)) (λ t.
-      let (i, h, s) = any-getD (λ y. eqb y (getD xs j 0)) (take j xs) 0 .0 t in
-      let k : i < j = omega (arith, length-take-le j xs (omega arith)) in
-      let e : getD (take j xs) i 0 ≡ getD xs j 0 = eqb→eq (getD (take j xs) i 0) (getD xs j 0) s in
-      let d : getD (take j xs) i 0 ≡ getD xs i 0 = getD-take j xs i 0 k in
-      omega (arith, rising-apart i j k u))

@@ -11,21 +11,19 @@ use lib.Dec.{T, eqb, ltb, eqb→eq, ltb→lt, nltb→le}
 use lib.ListN.{length, getD, take, drop, length-map, length-append, length-drop, List·getD-append}
 use lib.Seq.{ext-getD, getD-append-add, getD-drop, getD-take, length-take-le}
 use borrow.Author.Tests.{eq-eqb}
-use Rattle.integers.specs.Words.{if_then_else_, all, joined, greatestOf, eqZ}
+use Rattle.integers.specs.Words.{if_then_else_, greatestOf, eqZ}
 use Rattle.integers.specs.Tests.{either, is-false, if-true, if-false, not-eqb-iff}
-use Rattle.integers.specs.Lists.{all-in, all-map, map-map, map-joined, map-same}
+use Rattle.integers.specs.Lists.{_∈_, all-in}
 use Rattle.integers.specs.Tables.{getD-map}
 use Rattle.definitions.specs.declared.Case.{Case}
-use Rattle.definitions.specs.Rules.{Rules, standard}
-use Rattle.definitions.specs.Case.{values, scopeCount, isVariable, eachTuple, place, ownLength, weight, greatest, active}
+use Rattle.definitions.specs.Rules.{Rules}
+use Rattle.definitions.specs.Case.{scopeCount, isVariable, place, ownLength, weight, greatest}
 use Rattle.definitions.specs.Valid.{workingWeight}
 use Rattle.definitions.specs.Moves.{Difference, plus, onlyWhere}
 use Rattle.theory.proofs.Places.{IsTuple, by-scope, by-tuple, variable-tuple, edge-tuple, variable-is, edge-is, place-variable, place-edge, place-apart, tuple-in, in-tuples, each-cong, weight-plus, plus-length, plus-is}
-use Rattle.theory.proofs.Validity.{Handed}
 use Rattle.figures.specs.Scopes.{sizeOf, partOf}
 use Rattle.figures.proofs.Parts.{part-own, scope-part}
-use Rattle.figures.proofs.Answered.{limits-known}
-use Rattle.moves.specs.Scopes.{changed, Holding, scopeBy, scopeStays}
+use Rattle.moves.specs.Scopes.{changed, partStays, scopeBy}
 
 -- a list with these elements
 pub map-is : (f : ℤ → ℤ) (w u : List ℤ) → length u ≡ length w → ((k : ℕ) → k < length w → getD u k (pos 0) ≡ f (getD w k (pos 0))) → u ≡ map f w
@@ -100,86 +98,60 @@ module _ (c : Case) where
       let (q, r, y, z, g) = in-row (c .d) (c .d) i (rw (size-edge e) at u) in
       (q, r, edge-tuple c e q r h y z, omega (arith, place-edge c e q r, place-edge c e 0 0)))
 
-  each-map : {A B : Type 0} (g : A → B) (f : ℕ → ℕ → A) (x : ℕ) → eachTuple c x (λ k l. g (f k l)) ≡ map g (eachTuple c x f)
-  each-map {A} {B} g f x = go (isVariable c x)
-    where
-      go : (b : Bool) → (if b then map (λ k. g (f k 0)) (values c) else joined (map (λ k. map (λ l. g (f k l)) (values c)) (values c)))
-          ≡ map g (if b then map (λ k. f k 0) (values c) else joined (map (λ k. map (λ l. f k l) (values c)) (values c)))
-      go true = sym (map-map g (λ k. f k 0) (values c))
-      go false =
-          ap joined (map-same (c .d) (λ k h. sym (map-map g (λ l. f k l) (values c))) ∙ sym (map-map (map g) (λ k. map (λ l. f k l) (values c)) (values c)))
-          ∙ sym (map-joined g (map (λ k. map (λ l. f k l) (values c)) (values c)))
-
   module _ (w : List ℤ) (long : length w ≡ ownLength c) (x : ℕ) (h : x < scopeCount c) where
     pub best-known : greatestOf (partOf c w x) ≡ greatest c w x
     best-known = ap greatestOf (sym (scope-part c w (omega arith) x h))
 
-    module _ (top rest : ℤ) where
-      pub part-stays-known : (r : Rules) → all (λ z. workingWeight r (changed (greatest c w x) top rest z)) (partOf c w x) ≡ scopeStays r c w x top rest
-      part-stays-known r =
-          ap (all (λ z. workingWeight r (changed (greatest c w x) top rest z))) (sym (scope-part c w (omega arith) x h))
-          ∙ sym (all-map (workingWeight r) (changed (greatest c w x) top rest) (eachTuple c x (weight c w x)))
-          ∙ ap (all (workingWeight r)) (sym (each-map (changed (greatest c w x) top rest) (weight c w x) x))
-
+    module _ (best top rest : ℤ) where
       abbrev pub after : List ℤ
-      after = take (place c x 0 0) w ++ (map (changed (greatest c w x) top rest) (partOf c w x) ++ drop (sizeOf c x) (drop (place c x 0 0) w))
+      after = take (place c x 0 0) w ++ (map (changed best top rest) (partOf c w x) ++ drop (sizeOf c x) (drop (place c x 0 0) w))
 
       fits : place c x 0 0 + sizeOf c x ≤ length w
       fits = omega (arith, part-own c x h)
 
-      at-scope : (k l : ℕ) → IsTuple c x k l → weight c after x k l ≡ weight c w x k l +ℤ onlyWhere (eqb x x) (if active c w x k l then top else rest)
+      at-scope : (k l : ℕ) → IsTuple c x k l → weight c after x k l ≡ weight c w x k l +ℤ onlyWhere (eqb x x) (if eqZ (weight c w x k l) best then top else rest)
       unfolding middle
       at-scope k l t =
           let (i, u, e) = tuple-inside x k l t in
-          ap (λ (p : ℕ). getD after p (pos 0)) e ∙ in-middle (changed (greatest c w x) top rest) w (place c x 0 0) (sizeOf c x) fits i u
-          ∙ ap (λ (p : ℕ). changed (greatest c w x) top rest (getD w p (pos 0))) (sym e) ∙ rw (eq-eqb x x refl)
+          ap (λ (p : ℕ). getD after p (pos 0)) e ∙ in-middle (changed best top rest) w (place c x 0 0) (sizeOf c x) fits i u
+          ∙ ap (λ (p : ℕ). changed best top rest (getD w p (pos 0))) (sym e) ∙ rw (eq-eqb x x refl)
 
-      at-other : (y k l : ℕ) → T (not (eqb y x)) → IsTuple c y k l → weight c after y k l ≡ weight c w y k l +ℤ onlyWhere (eqb y x) (if active c w x k l then top else rest)
+      at-other : (y k l : ℕ) → T (not (eqb y x)) → IsTuple c y k l → weight c after y k l ≡ weight c w y k l +ℤ onlyWhere (eqb y x) (if eqZ (weight c w x k l) best then top else rest)
       unfolding middle
       at-other y k l n t =
-          off-middle (changed (greatest c w x) top rest) w (place c x 0 0) (sizeOf c x) fits (place c y k l)
+          off-middle (changed best top rest) w (place c x 0 0) (sizeOf c x) fits (place c y k l)
           (λ i u e. let (a, b, s, g) = inside-tuple x h i u in not-eqb-iff y x .0 n (place-apart c t s (e ∙ sym g) .0))
           ∙ rw (is-false (eqb y x) n) (sym (+ℤ-idr (weight c w y k l)))
 
-      pub scope-changed : plus c (scopeBy c w x top rest) w ≡ after
+      pub scope-changed : plus c (scopeBy c w x best top rest) w ≡ after
       unfolding middle
       scope-changed =
-          plus-is c (scopeBy c w x top rest) w (omega arith) after
-          (middle-long (changed (greatest c w x) top rest) w (place c x 0 0) (sizeOf c x) fits)
+          plus-is c (scopeBy c w x best top rest) w (omega arith) after
+          (middle-long (changed best top rest) w (place c x 0 0) (sizeOf c x) fits)
           (λ y k l t. ⊎-elim
           (λ s. let e : y ≡ x = eqb→eq y x s in
-          subst (λ (y : ℕ). IsTuple c y k l → weight c after y k l ≡ weight c w y k l +ℤ onlyWhere (eqb y x) (if active c w x k l then top else rest)) (sym e) (at-scope k l) t)
+          subst (λ (y : ℕ). IsTuple c y k l → weight c after y k l ≡ weight c w y k l +ℤ onlyWhere (eqb y x) (if eqZ (weight c w x k l) best then top else rest)) (sym e) (at-scope k l) t)
           (λ s. at-other y k l s t) (either (eqb y x)))
-          (λ p u. off-middle (changed (greatest c w x) top rest) w (place c x 0 0) (sizeOf c x) fits p (λ i v e. omega (arith, part-own c x h)))
+          (λ p u. off-middle (changed best top rest) w (place c x 0 0) (sizeOf c x) fits p (λ i v e. omega (arith, part-own c x h)))
 
-      pub scope-stays-iff : (r : Rules) → T (scopeStays r c w x top rest) ↔ ((k l : ℕ) → IsTuple c x k l → T (workingWeight r (weight c w x k l +ℤ (if active c w x k l then top else rest))))
-      scope-stays-iff r = (
-        λ s k l t. all-in (workingWeight r) _ .0 s _ (tuple-in c (λ k l. weight c w x k l +ℤ (if active c w x k l then top else rest)) t),
-        λ f. all-in (workingWeight r) _ .1 (λ z m.
-            let (k, l, t, e) = in-tuples c (λ k l. weight c w x k l +ℤ (if active c w x k l then top else rest)) x h m in
-            subst (λ (z : ℤ). T (workingWeight r z)) e (f k l t)),
-      )
+      pub part-stays-iff : (r : Rules) → T (partStays r best top rest (partOf c w x)) ↔ ((k l : ℕ) → IsTuple c x k l → T (workingWeight r (changed best top rest (weight c w x k l))))
+      part-stays-iff r =
+          let e = scope-part c w (omega arith) x h in (
+            λ s k l t. all-in (λ z. workingWeight r (changed best top rest z)) (partOf c w x) .0 s _ (subst (λ (p : List ℤ). weight c w x k l ∈ p) e (tuple-in c (weight c w x) t)),
+            λ f. all-in (λ z. workingWeight r (changed best top rest z)) (partOf c w x) .1 (λ z m.
+                let (k, l, t, d) = in-tuples c (weight c w x) x h (subst (λ (p : List ℤ). z ∈ p) (sym e) m) in
+                subst (λ (z : ℤ). T (workingWeight r (changed best top rest z))) d (f k l t)),
+          )
 
   -- ---- a scope in which nothing is added
-  module _ (δ : Difference) (w : List ℤ) (long : length w ≡ ownLength c) (x : ℕ) (h : x < scopeCount c) (none : (k l : ℕ) → IsTuple c x k l → δ x k l ≡ pos 0) where
-    same-weight : (k l : ℕ) → IsTuple c x k l → weight c (plus c δ w) x k l ≡ weight c w x k l
+  module _ (δ : Difference) (w : List ℤ) (x : ℕ) (h : x < scopeCount c) (none : (k l : ℕ) → IsTuple c x k l → δ x k l ≡ pos 0) where
+    pub same-weight : (k l : ℕ) → IsTuple c x k l → weight c (plus c δ w) x k l ≡ weight c w x k l
     same-weight k l t = weight-plus c δ w t ∙ ap (λ (z : ℤ). weight c w x k l +ℤ z) (none k l t) ∙ +ℤ-idr (weight c w x k l)
 
-    pub same-active : (k l : ℕ) → IsTuple c x k l → active c (plus c δ w) x k l ≡ active c w x k l
-    same-active k l t = ap₂ eqZ (same-weight k l t) (ap greatestOf (each-cong c x h same-weight))
+    pub same-greatest : greatest c (plus c δ w) x ≡ greatest c w x
+    same-greatest = ap greatestOf (each-cong c x h same-weight)
 
-    pub same-holding : (r : Rules) → Holding r c w x → Holding r c (plus c δ w) x
-    same-holding r g =
+    pub same-part : length w ≡ ownLength c → partOf c (plus c δ w) x ≡ partOf c w x
+    same-part long =
         let n : length (plus c δ w) ≡ length w = plus-length c δ w (omega arith) in
-        let e : partOf c w x ≡ partOf c (plus c δ w) x =
-        sym (scope-part c w (omega arith) x h) ∙ sym (each-cong c x h same-weight) ∙ scope-part c (plus c δ w) (omega arith) x h in
-        record { limited = g .limited; long = n ∙ g .long; scope = h; working = subst (λ (l : List ℤ). T (all (workingWeight r) l)) e (g .working) }
-
-pub holding-known : {c : Case} {w : List ℤ} → Handed standard (workingWeight standard) c w → (x : ℕ) → x < scopeCount c → Holding standard c w x
-holding-known {c} {w} g x h = record {
-  limited = limits-known g;
-  long = g .long;
-  scope = h;
-  working = subst (λ (l : List ℤ). T (all (workingWeight standard) l)) (scope-part c w (omega (arith, g .long)) x h)
-      (all-in (workingWeight standard) _ .1 (λ z m. let (k, l, t, e) = in-tuples c (weight c w x) x h m in subst (λ (z : ℤ). T (workingWeight standard z)) e (g .in-range x k l t)));
-}
+        sym (scope-part c (plus c δ w) (omega arith) x h) ∙ each-cong c x h same-weight ∙ scope-part c w (omega arith) x h

@@ -1,18 +1,18 @@
 -- A shift touches the value's own place and the edge's tuples that use it: the table after it, and whether a weight leaves its range.
 -- Assumes nothing.
 use mathlib.Core.Path.{_≡_, refl, sym, ap, ap₂, subst, _∙_}
-use mathlib.Core.Bool.{Bool, true, false, not, _&&_}
+use mathlib.Core.Bool.{Bool, true, false, not, _&&_, _||_}
 use mathlib.Core.Logic.{_⊎_, inl, inr}
 use mathlib.Core.List.{List, [], _∷_}
 use Prim.Native.Nat.{ℕ, _+_, _*_, _≤_, _<_}
 use native.Mathlib.Omega.{arith}
 use lib.IntN.{ℤ, pos, negℤ, _+ℤ_, +ℤ-idl, +ℤ-idr}
-use lib.Dec.{T, T-not, eqb, eqb→eq}
+use lib.Dec.{T, T-not, eqb, ltb, eqb→eq}
 use lib.Signed.{leZ}
-use lib.ListN.{length}
-use borrow.Author.Tests.{eq-eqb, ne-eqb}
-use Rattle.integers.specs.Words.{if_then_else_, all, withinZ, minus}
-use Rattle.integers.specs.Tests.{either, is-true, is-false, and-intro, and-left, and-right, same-test, eqb-iff, tests}
+use lib.ListN.{length, set}
+use borrow.Author.Tests.{eq-eqb, ne-eqb, lt-ltb, le-ltb}
+use Rattle.integers.specs.Words.{if_then_else_, withinZ, minus}
+use Rattle.integers.specs.Tests.{either, is-true, is-false, false-is, and-intro, and-left, and-right, or-left, or-right, not-or-iff, same-test, eqb-iff, tests}
 use Rattle.integers.specs.Lists.{all-at, all-of}
 use Rattle.definitions.specs.declared.Case.{Case}
 use Rattle.definitions.specs.declared.Refusal.{Refusal}
@@ -20,30 +20,33 @@ use Rattle.definitions.specs.declared.Refusal.the-variants.{LeavesRange}
 use Rattle.definitions.specs.declared.Outcome.{Outcome}
 use Rattle.definitions.specs.Rules.{Rules, standard}
 use Rattle.definitions.specs.Refusals.{Test, _when_, firstOf}
-use Rattle.definitions.specs.Answers.{outcomeOf}
-use Rattle.definitions.specs.Case.{lowerEnd, upperEnd, place, ownLength, weight}
+use Rattle.definitions.specs.Answers.{outcomeOf, unlessRefused}
+use Rattle.definitions.specs.Case.{scopeCount, lowerEnd, upperEnd, place, ownLength, lentLength, weight, greatest}
 use Rattle.definitions.specs.Valid.{workingWeight, allWeights, handedOver}
-use Rattle.definitions.specs.Moves.{Difference, plus, onlyWhere, endVariable, endValue, shiftBy, shift, moved, leavesRange}
+use Rattle.definitions.specs.Moves.{plus, onlyWhere, endVariable, endValue, shiftBy, shift, moved, leavesRange}
 use Rattle.definitions.specs.Calls.{moveCall, shiftOut, shiftCall}
 use Rattle.definitions.proofs.CaseLaws.{place-own}
-use Rattle.theory.proofs.Places.{IsTuple, by-tuple, variable-tuple, edge-tuple, place-variable, place-edge, place-apart, tuple-at, all-weights, weight-plus, plus-length, plus-is}
+use Rattle.theory.proofs.Places.{IsTuple, by-tuple, variable-tuple, edge-tuple, place-variable, place-edge, place-apart, tuple-at, plus-is}
 use Rattle.theory.proofs.Shape.{Shape}
 use Rattle.theory.proofs.Validity.{Handed}
-use Rattle.moves.specs.Spaced.{weightAt, Spaced, spacedStay, spacedAdd, shiftStays, shifted}
+use Rattle.figures.specs.Scopes.{BestOf}
+use Rattle.moves.specs.Spaced.{weightAt, Inside, spacedStay, spacedAdd, shiftStays, shifted}
+use Rattle.moves.specs.Kept.{Change, shiftChange, staysWorking, bestAfter, shiftWithCall}
 use Rattle.moves.proofs.SpacedLaws.{spaced-long, spaced-miss, spaced-hit, one-place}
 use Rattle.moves.proofs.Answers.{made-answer, made-table, refused-answer, refused-table, next-answer, next-table}
+use Rattle.moves.proofs.KeptLaws.{stays-iff, stays-all, two-kept, call-answer, call-table, call-best}
 
 -- where the tuple's place stands among those touched, and what is added there
-pub data Touched (c : Case) (δ : Difference) (own start step : ℕ) (a : ℤ) (x k l : ℕ) : Type 0 where
-  at-own : place c x k l ≡ own → δ x k l ≡ a → Touched c δ own start step a x k l
-  at-used : (j : ℕ) → j < c .d → place c x k l ≡ start + j * step → δ x k l ≡ negℤ a → Touched c δ own start step a x k l
-  elsewhere : (place c x k l ≡ own → ⊥) → ((j : ℕ) → j < c .d → place c x k l ≡ start + j * step → ⊥) → δ x k l ≡ pos 0 → Touched c δ own start step a x k l
+pub data Touched (c : Case) (m : Change) (own start step : ℕ) (a : ℤ) (x k l : ℕ) : Type 0 where
+  at-own : T (m .touches x k l) → place c x k l ≡ own → m .adds x k l ≡ a → Touched c m own start step a x k l
+  at-used : T (m .touches x k l) → (j : ℕ) → j < c .d → place c x k l ≡ start + j * step → m .adds x k l ≡ negℤ a → Touched c m own start step a x k l
+  elsewhere : T (not (m .touches x k l)) → (place c x k l ≡ own → ⊥) → ((j : ℕ) → j < c .d → place c x k l ≡ start + j * step → ⊥) → m .adds x k l ≡ pos 0 → Touched c m own start step a x k l
 
 not-first : {own p : ℕ} → (p ≡ own → ⊥) → (i : ℕ) → i < 1 → p ≡ own + i * 1 → ⊥
 not-first {own} f i h e = f (e ∙ one-place own i h)
 
-module _ (r : Rules) (c : Case) (w : List ℤ) (δ : Difference) (own start step : ℕ) (a : ℤ)
-    (touched : (x k l : ℕ) → IsTuple c x k l → Touched c δ own start step a x k l)
+module _ (r : Rules) (c : Case) (w : List ℤ) (m : Change) (own start step : ℕ) (a : ℤ)
+    (touched : (x k l : ℕ) → IsTuple c x k l → Touched c m own start step a x k l)
     (some : 0 < step)
     (apart : (j : ℕ) → j < c .d → start + j * step ≡ own → ⊥)
     (long : length w ≡ ownLength c)
@@ -63,94 +66,76 @@ module _ (r : Rules) (c : Case) (w : List ℤ) (δ : Difference) (own start step
   shifted-long : length (shifted w own start step (c .d) a) ≡ length w
   shifted-long = spaced-long (spacedAdd w own 1 1 a) start step (negℤ a) (c .d) ∙ spaced-long w own 1 a 1
 
-  weight-shifted : (x k l : ℕ) → IsTuple c x k l → weight c (shifted w own start step (c .d) a) x k l ≡ weight c w x k l +ℤ δ x k l
+  weight-shifted : (x k l : ℕ) → IsTuple c x k l → weight c (shifted w own start step (c .d) a) x k l ≡ weight c w x k l +ℤ m .adds x k l
   unfolding first
   weight-shifted x k l t = go (touched x k l t)
     where
-      go : Touched c δ own start step a x k l → weight c (shifted w own start step (c .d) a) x k l ≡ weight c w x k l +ℤ δ x k l
-      go (at-own e d) =
+      go : Touched c m own start step a x k l → weight c (shifted w own start step (c .d) a) x k l ≡ weight c w x k l +ℤ m .adds x k l
+      go (at-own z e d) =
           ap (weightAt (shifted w own start step (c .d) a)) e
           ∙ spaced-miss first start step (negℤ a) (c .d) own (λ j h q. apart j h (sym q)) ∙ at-first
           ∙ sym (ap₂ _+ℤ_ (ap (weightAt w) e) d)
-      go (at-used j h e d) =
+      go (at-used z j h e d) =
           ap (weightAt (shifted w own start step (c .d) a)) e
           ∙ spaced-hit first start step (negℤ a) some (c .d) j h (omega (arith, used-in j h, spaced-long w own 1 a 1))
           ∙ ap (λ (z : ℤ). z +ℤ negℤ a) (off-first (apart j h))
           ∙ sym (ap₂ _+ℤ_ (ap (weightAt w) e) d)
-      go (elsewhere f g d) =
+      go (elsewhere z f g d) =
           spaced-miss first start step (negℤ a) (c .d) (place c x k l) g ∙ off-first f ∙ sym (ap (λ (z : ℤ). weight c w x k l +ℤ z) d ∙ +ℤ-idr (weight c w x k l))
 
-  pub shifted-is : plus c δ w ≡ shifted w own start step (c .d) a
-  shifted-is = plus-is c δ w (omega arith) (shifted w own start step (c .d) a) shifted-long weight-shifted
+  pub shifted-is : plus c (m .adds) w ≡ shifted w own start step (c .d) a
+  shifted-is = plus-is c (m .adds) w (omega arith) (shifted w own start step (c .d) a) shifted-long weight-shifted
       (λ p h. spaced-miss (spacedAdd w own 1 1 a) start step (negℤ a) (c .d) p (λ j u e. omega (arith, used-in j u))
       ∙ spaced-miss w own 1 a 1 p (not-first (λ e. omega arith)))
 
-  module _ (working : (x k l : ℕ) → IsTuple c x k l → T (workingWeight r (weight c w x k l))) where
-    abbrev inRange : ℤ → Type 0
-    inRange z = T (workingWeight r z)
+  abbrev inRange : ℤ → Type 0
+  inRange z = T (workingWeight r z)
 
-    -- what is added at a place
-    added-own : (x k l : ℕ) → IsTuple c x k l → place c x k l ≡ own → δ x k l ≡ a
-    added-own x k l t e = go (touched x k l t)
-      where
-        go : Touched c δ own start step a x k l → δ x k l ≡ a
-        go (at-own p d) = d
-        go (at-used j h p d) = absurd (apart j h (sym p ∙ e))
-        go (elsewhere f g d) = absurd (f e)
+  -- what is added at a place
+  added-own : (x k l : ℕ) → IsTuple c x k l → place c x k l ≡ own → T (m .touches x k l) × (m .adds x k l ≡ a)
+  added-own x k l t e = go (touched x k l t)
+    where
+      go : Touched c m own start step a x k l → T (m .touches x k l) × (m .adds x k l ≡ a)
+      go (at-own u p d) = (u, d)
+      go (at-used u j h p d) = absurd (apart j h (sym p ∙ e))
+      go (elsewhere u f g d) = absurd (f e)
 
-    added-used : (x k l j : ℕ) → IsTuple c x k l → j < c .d → place c x k l ≡ start + j * step → δ x k l ≡ negℤ a
-    added-used x k l j t h e = go (touched x k l t)
-      where
-        go : Touched c δ own start step a x k l → δ x k l ≡ negℤ a
-        go (at-own p d) = absurd (apart j h (sym e ∙ p))
-        go (at-used i u p d) = d
-        go (elsewhere f g d) = absurd (g j h e)
+  added-used : (x k l j : ℕ) → IsTuple c x k l → j < c .d → place c x k l ≡ start + j * step → T (m .touches x k l) × (m .adds x k l ≡ negℤ a)
+  added-used x k l j t h e = go (touched x k l t)
+    where
+      go : Touched c m own start step a x k l → T (m .touches x k l) × (m .adds x k l ≡ negℤ a)
+      go (at-own u p d) = absurd (apart j h (sym e ∙ p))
+      go (at-used u i v p d) = (u, d)
+      go (elsewhere u f g d) = absurd (g j h e)
 
-    stays : T (shiftStays r w own start step (c .d) a) → (x k l : ℕ) → IsTuple c x k l → inRange (weight c w x k l +ℤ δ x k l)
-    stays s x k l t = go (touched x k l t)
-      where
-        u : inRange (weightAt w (own + 0 * 1) +ℤ a)
-        u = all-at (λ j. workingWeight r (weightAt w (own + j * 1) +ℤ a)) 1 (and-left (spacedStay r w own 1 1 a) _ s) 0 (omega arith)
+  stays : T (shiftStays r w own start step (c .d) a) → (x k l : ℕ) → IsTuple c x k l → T (m .touches x k l) → inRange (weight c w x k l +ℤ m .adds x k l)
+  stays s x k l t y = go (touched x k l t)
+    where
+      u : inRange (weightAt w (own + 0 * 1) +ℤ a)
+      u = all-at (λ j. workingWeight r (weightAt w (own + j * 1) +ℤ a)) 1 (and-left (spacedStay r w own 1 1 a) _ s) 0 (omega arith)
 
-        v : (j : ℕ) → j < c .d → inRange (weightAt w (start + j * step) +ℤ negℤ a)
-        v = all-at (λ j. workingWeight r (weightAt w (start + j * step) +ℤ negℤ a)) (c .d) (and-right (spacedStay r w own 1 1 a) _ s)
+      v : (j : ℕ) → j < c .d → inRange (weightAt w (start + j * step) +ℤ negℤ a)
+      v = all-at (λ j. workingWeight r (weightAt w (start + j * step) +ℤ negℤ a)) (c .d) (and-right (spacedStay r w own 1 1 a) _ s)
 
-        go : Touched c δ own start step a x k l → inRange (weight c w x k l +ℤ δ x k l)
-        go (at-own e d) = subst inRange (sym (ap₂ _+ℤ_ (ap (weightAt w) (e ∙ sym (one-place own 0 (omega arith)))) d)) u
-        go (at-used j h e d) = subst inRange (sym (ap₂ _+ℤ_ (ap (weightAt w) e) d)) (v j h)
-        go (elsewhere f g d) = subst inRange (sym (ap (λ (z : ℤ). weight c w x k l +ℤ z) d ∙ +ℤ-idr (weight c w x k l))) (working x k l t)
+      go : Touched c m own start step a x k l → inRange (weight c w x k l +ℤ m .adds x k l)
+      go (at-own z e d) = subst inRange (sym (ap₂ _+ℤ_ (ap (weightAt w) (e ∙ sym (one-place own 0 (omega arith)))) d)) u
+      go (at-used z j h e d) = subst inRange (sym (ap₂ _+ℤ_ (ap (weightAt w) e) d)) (v j h)
+      go (elsewhere z f g d) = absurd (T-not (m .touches x k l) z y)
 
-    back : ((x k l : ℕ) → IsTuple c x k l → inRange (weight c w x k l +ℤ δ x k l)) → T (shiftStays r w own start step (c .d) a)
-    back f = and-intro (spacedStay r w own 1 1 a) _
-        (all-of (λ j. workingWeight r (weightAt w (own + j * 1) +ℤ a)) 1 (λ i h.
-        let z : own + i * 1 ≡ own = omega arith in
-        let (x, k, l, t, e) = tuple-at c own own-in in
-        subst inRange (ap₂ _+ℤ_ (ap (weightAt w) (e ∙ sym z)) (added-own x k l t e)) (f x k l t)))
-        (all-of (λ j. workingWeight r (weightAt w (start + j * step) +ℤ negℤ a)) (c .d) (λ j h.
-        let (x, k, l, t, e) = tuple-at c (start + j * step) (used-in j h) in
-        subst inRange (ap₂ _+ℤ_ (ap (weightAt w) e) (added-used x k l j t h e)) (f x k l t)))
+  back : ((x k l : ℕ) → IsTuple c x k l → T (m .touches x k l) → inRange (weight c w x k l +ℤ m .adds x k l)) → T (shiftStays r w own start step (c .d) a)
+  back f = and-intro (spacedStay r w own 1 1 a) _
+      (all-of (λ j. workingWeight r (weightAt w (own + j * 1) +ℤ a)) 1 (λ i h.
+      let z : own + i * 1 ≡ own = omega arith in
+      let (x, k, l, t, e) = tuple-at c own own-in in
+      let q = added-own x k l t e in
+      subst inRange (ap₂ _+ℤ_ (ap (weightAt w) (e ∙ sym z)) (q .1)) (f x k l t (q .0))))
+      (all-of (λ j. workingWeight r (weightAt w (start + j * step) +ℤ negℤ a)) (c .d) (λ j h.
+      let (x, k, l, t, e) = tuple-at c (start + j * step) (used-in j h) in
+      let q = added-used x k l j t h e in
+      subst inRange (ap₂ _+ℤ_ (ap (weightAt w) e) (q .1)) (f x k l t (q .0))))
 
-    pub shift-stays : shiftStays r w own start step (c .d) a ≡ allWeights (workingWeight r) c (plus c δ w)
-    shift-stays =
-        let h : ownLength c ≤ length (plus c δ w) = omega (arith, plus-length c δ w (omega arith)) in
-        let all = all-weights c (workingWeight r) (plus c δ w) h in
-        same-test (shiftStays r w own start step (c .d) a) (allWeights (workingWeight r) c (plus c δ w))
-        (λ s. all .1 (λ x k l t. subst inRange (sym (weight-plus c δ w t)) (stays s x k l t)))
-        (λ s. back (λ x k l t. subst inRange (weight-plus c δ w t) (all .0 s x k l t)))
-
-    pub places-spaced : Spaced r w own 1 1 × Spaced r w start step (c .d)
-    places-spaced = (
-      record {
-        inside = λ i h. omega arith;
-        working = λ i h.
-            let z : own + i * 1 ≡ own = omega arith in
-            let (x, k, l, t, e) = tuple-at c own own-in in subst inRange (ap (weightAt w) (e ∙ sym z)) (working x k l t);
-      },
-      record {
-        inside = λ j h. omega (arith, used-in j h);
-        working = λ j h. let (x, k, l, t, e) = tuple-at c (start + j * step) (used-in j h) in subst inRange (ap (weightAt w) e) (working x k l t);
-      },
-    )
+  pub shift-stays : shiftStays r w own start step (c .d) a ≡ staysWorking r c w m
+  shift-stays = same-test (shiftStays r w own start step (c .d) a) (staysWorking r c w m) (λ s. stays-iff r c w m .1 (stays s)) (λ s. back (stays-iff r c w m .0 s))
 
 -- ---- the places of a shift
 
@@ -175,6 +160,9 @@ module _ (b d : Bool) (a : ℤ) where
   none-of-both : b ≡ false → d ≡ false → onlyWhere b a +ℤ onlyWhere d (negℤ a) ≡ pos 0
   none-of-both p q = rw (p, q)
 
+neither : (b d : Bool) → T (not b) → T (not d) → T (not (b || d))
+neither b d s t = not-or-iff b d .1 (s, t)
+
 and-false : (b d : Bool) → b ≡ false → (b && d) ≡ false
 and-false b d e = rw e
 
@@ -197,41 +185,41 @@ module _ (c : Case) (e end v own start step : ℕ) (a : ℤ) (edge : e < c .m) (
   pub own-apart : (j : ℕ) → j < c .d → start + j * step ≡ own → ⊥
   own-apart j h q = omega (arith, p .variable, place-apart c (used-tuple j h) own-tuple (sym (p .used-at j h) ∙ q ∙ p .own-at) .0)
 
-  pub shift-touched : (x k l : ℕ) → IsTuple c x k l → Touched c (shiftBy c e end v a) own start step a x k l
-  shift-touched x k l = by-tuple c (λ x k l. Touched c (shiftBy c e end v a) own start step a x k l) at-variable at-edge
+  pub shift-touched : (x k l : ℕ) → IsTuple c x k l → Touched c (shiftChange c e end v a) own start step a x k l
+  shift-touched x k l = by-tuple c (λ x k l. Touched c (shiftChange c e end v a) own start step a x k l) at-variable at-edge
     where
-      at-variable : (i k : ℕ) → i < c .n → k < c .d → Touched c (shiftBy c e end v a) own start step a i k 0
+      at-variable : (i k : ℕ) → i < c .n → k < c .d → Touched c (shiftChange c e end v a) own start step a i k 0
       at-variable i k h q = go (either (eqb i own-v && eqb k v))
         where
           other : (eqb i (c .n + e) && eqb (endValue end k 0) v) ≡ false
           other = and-false (eqb i (c .n + e)) _ (ne-eqb i (c .n + e) (λ e. omega arith))
 
-          go : T (eqb i own-v && eqb k v) ⊎ T (not (eqb i own-v && eqb k v)) → Touched c (shiftBy c e end v a) own start step a i k 0
+          go : T (eqb i own-v && eqb k v) ⊎ T (not (eqb i own-v && eqb k v)) → Touched c (shiftChange c e end v a) own start step a i k 0
           go (inl t) =
-              let m : i ≡ own-v = eqb→eq i own-v (and-left (eqb i own-v) (eqb k v) t) in
+              let q : i ≡ own-v = eqb→eq i own-v (and-left (eqb i own-v) (eqb k v) t) in
               let n : k ≡ v = eqb→eq k v (and-right (eqb i own-v) (eqb k v) t) in
-              at-own (ap₂ (λ (x k : ℕ). place c x k 0) m n ∙ sym (p .own-at)) (first-only _ _ a (is-true (eqb i own-v && eqb k v) t) other)
-          go (inr t) = elsewhere
+              at-own (or-left (eqb i own-v && eqb k v) (eqb i (c .n + e) && eqb (endValue end k 0) v) t) (ap₂ (λ (x k : ℕ). place c x k 0) q n ∙ sym (p .own-at)) (first-only _ _ a (is-true (eqb i own-v && eqb k v) t) other)
+          go (inr t) = elsewhere (neither (eqb i own-v && eqb k v) (eqb i (c .n + e) && eqb (endValue end k 0) v) t (false-is (eqb i (c .n + e) && eqb (endValue end k 0) v) other))
               (λ g. let (m, n, o) = place-apart c (variable-tuple c i k h q) own-tuple (g ∙ p .own-at) in
               T-not (eqb i own-v && eqb k v) t (and-intro (eqb i own-v) (eqb k v) (eqb-iff i own-v .1 m) (eqb-iff k v .1 n)))
               (λ j u g. let (m, n, o) = place-apart c (variable-tuple c i k h q) (used-tuple j u) (g ∙ p .used-at j u) in omega arith)
               (none-of-both _ _ a (is-false (eqb i own-v && eqb k v) t) other)
 
-      at-edge : (f k l : ℕ) → f < c .m → k < c .d → l < c .d → Touched c (shiftBy c e end v a) own start step a (c .n + f) k l
+      at-edge : (f k l : ℕ) → f < c .m → k < c .d → l < c .d → Touched c (shiftChange c e end v a) own start step a (c .n + f) k l
       at-edge f k l h q r = go (either (eqb (c .n + f) (c .n + e) && eqb (endValue end k l) v))
         where
           other : (eqb (c .n + f) own-v && eqb k v) ≡ false
           other = and-false (eqb (c .n + f) own-v) _ (ne-eqb (c .n + f) own-v (λ e. omega (arith, p .variable)))
 
           go : T (eqb (c .n + f) (c .n + e) && eqb (endValue end k l) v) ⊎ T (not (eqb (c .n + f) (c .n + e) && eqb (endValue end k l) v))
-              → Touched c (shiftBy c e end v a) own start step a (c .n + f) k l
+              → Touched c (shiftChange c e end v a) own start step a (c .n + f) k l
           go (inl t) =
               let m : c .n + f ≡ c .n + e = eqb→eq (c .n + f) (c .n + e) (and-left (eqb (c .n + f) (c .n + e)) (eqb (endValue end k l) v) t) in
               let n : endValue end k l ≡ v = eqb→eq (endValue end k l) v (and-right (eqb (c .n + f) (c .n + e)) (eqb (endValue end k l) v) t) in
               let (j, u, y, z) = p .every k l q r n in
-              at-used j u (ap₂ (λ (k l : ℕ). place c (c .n + f) k l) (sym y) (sym z) ∙ ap (λ (x : ℕ). place c x (p .one j) (p .two j)) m ∙ sym (p .used-at j u))
+              at-used (or-right (eqb (c .n + f) own-v && eqb k v) (eqb (c .n + f) (c .n + e) && eqb (endValue end k l) v) t) j u (ap₂ (λ (k l : ℕ). place c (c .n + f) k l) (sym y) (sym z) ∙ ap (λ (x : ℕ). place c x (p .one j) (p .two j)) m ∙ sym (p .used-at j u))
               (second-only _ _ a other (is-true (eqb (c .n + f) (c .n + e) && eqb (endValue end k l) v) t))
-          go (inr t) = elsewhere
+          go (inr t) = elsewhere (neither (eqb (c .n + f) own-v && eqb k v) (eqb (c .n + f) (c .n + e) && eqb (endValue end k l) v) (false-is (eqb (c .n + f) own-v && eqb k v) other) t)
               (λ g. let (m, n, o) = place-apart c (edge-tuple c f k l h q r) own-tuple (g ∙ p .own-at) in omega (arith, p .variable))
               (λ j u g. let (m, n, o) = place-apart c (edge-tuple c f k l h q r) (used-tuple j u) (g ∙ p .used-at j u) in
               T-not (eqb (c .n + f) (c .n + e) && eqb (endValue end k l) v) t
@@ -240,61 +228,82 @@ module _ (c : Case) (e end v own start step : ℕ) (a : ℤ) (edge : e < c .m) (
               (none-of-both _ _ a other (is-false (eqb (c .n + f) (c .n + e) && eqb (endValue end k l) v) t))
 
 -- at end 0 a row, at end 1 a column
-module _ (c : Case) (shape : Shape c) (e end v own start : ℕ) (edge : e < c .m) (value : v < c .d) where
-  pub row-places : end ≡ 0 → own ≡ lowerEnd c e * c .d + v → start ≡ (c .n * c .d + e * (c .d * c .d)) + v * c .d → ShiftPlaces c e end v own start 1
-  row-places z o s =
-      let lower : lowerEnd c e < c .n = omega (arith, shape .ascending e edge, shape .below-n e edge) in
-      record {
-        one = λ j. v;
-        two = λ j. j;
-        used = λ j h. (value, h, rw (eq-eqb end 0 z));
-        every = λ k l p q g. (l, q, sym (rw (eq-eqb end 0 z) at g), refl);
-        spread = omega arith;
-        variable = rw (eq-eqb end 0 z) lower;
-        own-at = rw (eq-eqb end 0 z) (o ∙ sym (place-variable c (lowerEnd c e) v 0 lower));
-        used-at = λ j h. omega (arith, place-edge c e v j);
-      }
+module _ (c : Case) (e end v own start : ℕ) (edge : e < c .m) (value : v < c .d) (variable : endVariable c e end < c .n) (o : own ≡ endVariable c e end * c .d + v) where
+  pub row-places : end ≡ 0 → start ≡ (c .n * c .d + e * (c .d * c .d)) + v * c .d → ShiftPlaces c e end v own start 1
+  row-places z s = record {
+    one = λ j. v;
+    two = λ j. j;
+    used = λ j h. (value, h, rw (eq-eqb end 0 z));
+    every = λ k l p q g. (l, q, sym (rw (eq-eqb end 0 z) at g), refl);
+    spread = omega arith;
+    variable = variable;
+    own-at = o ∙ sym (place-variable c (endVariable c e end) v 0 variable);
+    used-at = λ j h. omega (arith, place-edge c e v j);
+  }
 
-  pub column-places : end ≡ 1 → own ≡ upperEnd c e * c .d + v → start ≡ (c .n * c .d + e * (c .d * c .d)) + v → ShiftPlaces c e end v own start (c .d)
-  column-places z o s =
-      let upper : upperEnd c e < c .n = shape .below-n e edge in
-      let n : eqb end 0 ≡ false = ne-eqb end 0 (λ y. omega arith) in
+  pub column-places : (end ≡ 0 → ⊥) → start ≡ (c .n * c .d + e * (c .d * c .d)) + v → ShiftPlaces c e end v own start (c .d)
+  column-places z s =
+      let n : eqb end 0 ≡ false = ne-eqb end 0 z in
       record {
         one = λ j. j;
         two = λ j. v;
         used = λ j h. (h, value, rw n);
         every = λ k l p q g. (k, p, refl, sym (rw n at g));
         spread = omega arith;
-        variable = rw n upper;
-        own-at = rw n (o ∙ sym (place-variable c (upperEnd c e) v 0 upper));
+        variable = variable;
+        own-at = o ∙ sym (place-variable c (endVariable c e end) v 0 variable);
         used-at = λ j h. omega (arith, place-edge c e j v);
       }
 
--- ---- a shift of a case and a table that were checked
-module _ {c : Case} {w : List ℤ} (h : Handed standard (workingWeight standard) c w) (e end v own start step : ℕ) (a : ℤ)
+-- ---- a shift on any table of the case's length
+module _ (c : Case) (w : List ℤ) (long : length w ≡ lentLength c) (e end v own start step : ℕ) (a : ℤ)
     (edge : e < c .m) (value : v < c .d) (p : ShiftPlaces c e end v own start step) where
-  pub shift-spaced : Spaced standard w own 1 1 × Spaced standard w start step (c .d)
-  shift-spaced =
-      places-spaced standard c w (shiftBy c e end v a) own start step a (shift-touched c e end v own start step a edge value p) (p .spread)
-      (own-apart c e end v own start step a edge value p) (h .long) (own-in c e end v own start step a edge value p) (used-in c e end v own start step a edge value p) (h .in-range)
+  pub shift-inside : Inside w own 1 1 × Inside w start step (c .d)
+  shift-inside = (
+    λ j h. omega (arith, own-in c e end v own start step a edge value p, long),
+    λ j h. omega (arith, used-in c e end v own start step a edge value p j h, long),
+  )
 
   pub shift-separate : (j : ℕ) → j < c .d → start + j * step ≡ own → ⊥
   shift-separate = own-apart c e end v own start step a edge value p
 
-  stays-known : shiftStays standard w own start step (c .d) a ≡ allWeights (workingWeight standard) c (moved c (shift e end v a) w)
-  stays-known =
-      shift-stays standard c w (shiftBy c e end v a) own start step a (shift-touched c e end v own start step a edge value p) (p .spread)
-      (own-apart c e end v own start step a edge value p) (h .long) (own-in c e end v own start step a edge value p) (used-in c e end v own start step a edge value p) (h .in-range)
+  pub shift-is : shiftStays standard w own start step (c .d) a ≡ staysWorking standard c w (shiftChange c e end v a)
+  shift-is = shift-stays standard c w (shiftChange c e end v a) own start step a (shift-touched c e end v own start step a edge value p) (p .spread)
+      (own-apart c e end v own start step a edge value p) long (own-in c e end v own start step a edge value p) (used-in c e end v own start step a edge value p)
 
-  pub shift-answer : (if shiftStays standard w own start step (c .d) a then Outcome.Done else Outcome.Refused LeavesRange)
-      ≡ moveCall standard c w (shift e end v a) (LeavesRange when (leavesRange standard c (moved c (shift e end v a) w)) ∷ []) .answer
-  shift-answer = made-answer standard c w (shift e end v a) _ stays-known
+  pub shift-made : shifted w own start step (c .d) a ≡ plus c (shiftBy c e end v a) w
+  shift-made = sym (shifted-is standard c w (shiftChange c e end v a) own start step a (shift-touched c e end v own start step a edge value p) (p .spread)
+      (own-apart c e end v own start step a edge value p) long (own-in c e end v own start step a edge value p) (used-in c e end v own start step a edge value p))
 
-  pub shift-table : (if shiftStays standard w own start step (c .d) a then shifted w own start step (c .d) a else w)
-      ≡ moveCall standard c w (shift e end v a) (LeavesRange when (leavesRange standard c (moved c (shift e end v a) w)) ∷ []) .table
-  shift-table = made-table standard c w (shift e end v a) _ stays-known (shifted w own start step (c .d) a)
-      (shifted-is standard c w (shiftBy c e end v a) own start step a (shift-touched c e end v own start step a edge value p) (p .spread)
-      (own-apart c e end v own start step a edge value p) (h .long) (own-in c e end v own start step a edge value p) (used-in c e end v own start step a edge value p))
+-- ---- nothing is added elsewhere
+module _ (c : Case) (e end v : ℕ) (a : ℤ) where
+  pub shift-still : (x k l : ℕ) → T (not (shiftChange c e end v a .touches x k l)) → shiftBy c e end v a x k l ≡ pos 0
+  shift-still x k l t =
+      let p = eqb x (endVariable c e end) && eqb k v in
+      let q = eqb x (c .n + e) && eqb (endValue end k l) v in
+      let (s, u) = not-or-iff p q .0 t in none-of-both p q a (is-false p s) (is-false q u)
+
+  pub shift-off : (x k l : ℕ) → T (not (shiftChange c e end v a .inScope x)) → shiftBy c e end v a x k l ≡ pos 0
+  shift-off x k l t =
+      let (s, u) = not-or-iff (eqb x (endVariable c e end)) (eqb x (c .n + e)) .0 t in
+      none-of-both (eqb x (endVariable c e end) && eqb k v) (eqb x (c .n + e) && eqb (endValue end k l) v) a
+      (and-false (eqb x (endVariable c e end)) (eqb k v) (is-false (eqb x (endVariable c e end)) s))
+      (and-false (eqb x (c .n + e)) (eqb (endValue end k l) v) (is-false (eqb x (c .n + e)) u))
+
+  -- the greatest weights of the two scopes
+  pub shift-best : (w best : List ℤ) → scopeCount c ≤ length best → e < c .m → endVariable c e end < c .n → {t : List ℤ} → t ≡ plus c (shiftBy c e end v a) w
+      → set (set best (endVariable c e end) (greatest c t (endVariable c e end))) (c .n + e) (greatest c t (c .n + e)) ≡ bestAfter c w best (shiftChange c e end v a)
+  shift-best w best room edge variable {t} is =
+      ap (λ (t : List ℤ). set (set best (endVariable c e end) (greatest c t (endVariable c e end))) (c .n + e) (greatest c t (c .n + e))) is
+      ∙ two-kept (greatest c (plus c (shiftBy c e end v a) w)) best (endVariable c e end) (c .n + e) (scopeCount c) room (omega arith) (omega arith)
+
+-- the ends of a checked case are variables
+pub end-inside : {c : Case} → Shape c → (e end : ℕ) → e < c .m → endVariable c e end < c .n
+end-inside {c} s e end h = go (eqb end 0)
+  where
+    go : (b : Bool) → (if b then lowerEnd c e else upperEnd c e) < c .n
+    go true = omega (arith, s .ascending e h, s .below-n e h)
+    go false = s .below-n e h
 
 -- arguments that are not out
 pub shift-in : (c : Case) (e end v : ℕ) (a : ℤ) → T (not (shiftOut standard c e end v a))
@@ -319,3 +328,42 @@ module _ (c : Case) (w : List ℤ) (e end v : ℕ) (a : ℤ) where
       × (moveCall standard c w (shift e end v a) leaves .table ≡ shiftCall standard c w e end v a .table)
   unfolding shiftCall
   shift-next d = (next-answer standard c w (shift e end v a) asked leaves d, next-table standard c w (shift e end v a) asked leaves d)
+
+-- ---- a shift of a case and a table that were checked
+module _ {c : Case} {w : List ℤ} (h : Handed standard (workingWeight standard) c w) (e end v : ℕ) (a : ℤ) where
+  stays-known : staysWorking standard c w (shiftChange c e end v a) ≡ allWeights (workingWeight standard) c (moved c (shift e end v a) w)
+  stays-known = stays-all standard c w (shiftChange c e end v a) (omega (arith, h .long)) (h .in-range) (λ x k l t. shift-still c e end v a x k l)
+
+  pub shift-checked-is :
+      ((if staysWorking standard c w (shiftChange c e end v a) then Outcome.Done else Outcome.Refused LeavesRange)
+      ≡ moveCall standard c w (shift e end v a) (LeavesRange when (leavesRange standard c (moved c (shift e end v a) w)) ∷ []) .answer)
+      × ((if staysWorking standard c w (shiftChange c e end v a) then plus c (shiftBy c e end v a) w else w)
+      ≡ moveCall standard c w (shift e end v a) (LeavesRange when (leavesRange standard c (moved c (shift e end v a) w)) ∷ []) .table)
+  shift-checked-is = (
+    made-answer standard c w (shift e end v a) _ stays-known,
+    made-table standard c w (shift e end v a) _ stays-known (plus c (shiftBy c e end v a) w) refl,
+  )
+
+-- a shift with `best` that holds the greatest weights
+module _ {c : Case} {w best : List ℤ} (h : Handed standard (workingWeight standard) c w) (b : BestOf c w best) (e end v : ℕ) (a : ℤ)
+    (inside : shiftOut standard c e end v a ≡ false) where
+  out-false : (shiftOut standard c e end v a || not (ltb (endVariable c e end) (c .n))) ≡ false
+  out-false =
+      let q = shift-in c e end v a (false-is (shiftOut standard c e end v a) inside) in
+      rw (inside, lt-ltb (endVariable c e end) (c .n) (end-inside (h .shape) e end (q .0 .0)))
+
+  pub shift-with-known :
+      (shiftWithCall standard c w best e end v a .answer ≡ outcomeOf (firstOf (LeavesRange when (leavesRange standard c (plus c (shiftBy c e end v a) w)) ∷ [])))
+      × (shiftWithCall standard c w best e end v a .table
+      ≡ unlessRefused (firstOf (LeavesRange when (leavesRange standard c (plus c (shiftBy c e end v a) w)) ∷ [])) (plus c (shiftBy c e end v a) w) w)
+      × BestOf c (shiftWithCall standard c w best e end v a .table) (shiftWithCall standard c w best e end v a .best)
+  unfolding shiftWithCall
+  shift-with-known =
+      let m = shiftChange c e end v a in
+      let n : ltb (length best) (scopeCount c) ≡ false = le-ltb (length best) (scopeCount c) (b .enough) in
+      let out = shiftOut standard c e end v a || not (ltb (endVariable c e end) (c .n)) in
+      let wrong = ltb (length best) (scopeCount c) in (
+        call-answer h b m (λ x k l t. shift-still c e end v a x k l) (λ x k l t. shift-off c e end v a x k l) (shiftBy c e end v a) (λ x k l t. refl) wrong out n out-false,
+        call-table h b m (λ x k l t. shift-still c e end v a x k l) (λ x k l t. shift-off c e end v a x k l) (shiftBy c e end v a) (λ x k l t. refl) wrong out n out-false,
+        call-best h b m (λ x k l t. shift-still c e end v a x k l) (λ x k l t. shift-off c e end v a x k l) (shiftBy c e end v a) (λ x k l t. refl) wrong out n out-false,
+      )

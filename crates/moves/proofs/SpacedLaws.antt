@@ -1,5 +1,6 @@
--- Weights that stand apart: where something is added, and where nothing changes. Assumes nothing.
+-- Amounts and ranges; weights that stand apart: where something is added, and where nothing changes. Assumes nothing.
 use mathlib.Core.Path.{_≡_, refl, sym, ap, subst, _∙_}
+use mathlib.Core.Bool.{Bool, true, false}
 use mathlib.Core.Logic.{_⊎_, ⊎-elim}
 use mathlib.Core.List.{List}
 use Prim.Native.Nat.{ℕ, zero, suc, _+_, _*_, _<_}
@@ -12,16 +13,37 @@ use lib.Seq.{getD-set-same, getD-set-other}
 use mir.Syntax.{w64}
 use mir.Val.{SFits, toZ, ofZ}
 use mir.Facts.{toZ-ofZ}
-use Rattle.integers.specs.Words.{withinZ, minus}
-use Rattle.integers.specs.Tests.{either, not-eqb-iff}
-use Rattle.integers.specs.Linear.{zs, flat}
+use Rattle.integers.specs.Words.{if_then_else_, withinZ, minus}
+use Rattle.integers.specs.Tests.{either, same-test, not-eqb-iff}
+use Rattle.integers.specs.Linear.{zs, flat, _▸_}
+use Rattle.integers.specs.Lists.{all-same}
 use Rattle.definitions.specs.Rules.{standard}
 use Rattle.definitions.specs.Valid.{workingWeight}
-use Rattle.moves.specs.Spaced.{weightAt, Spaced, spacedAdd}
+use Rattle.definitions.specs.Moves.{pressAmount}
+use Rattle.moves.specs.Scopes.{Amounts}
+use Rattle.moves.specs.Spaced.{weightAt, Inside, spacedStay, spacedAdd}
 
--- a working weight and the amount of a move
-pub sum-fits : (z by : ℤ) → T (workingWeight standard z) → T (withinZ (minus 1_000_000_000) (pos 1_000_000_000) by) → SFits w64 (z +ℤ by)
-sum-fits z by = simp flat (omega zs)
+pub working-fits : (z : ℤ) → T (workingWeight standard z) → SFits w64 z
+working-fits z = simp flat (omega zs)
+
+-- a range moved by an amount
+module _ (z by : ℤ) (h : T (withinZ (minus 1_000_000_000) (pos 1_000_000_000) by)) where
+  pub low-fits : SFits w64 (minus 500_000_000 -ℤ by)
+  low-fits = h ▸ simp flat (omega zs)
+
+  pub high-fits : SFits w64 (pos 500_000_000 -ℤ by)
+  high-fits = h ▸ simp flat (omega zs)
+
+  pub range-moved : withinZ (minus 500_000_000 -ℤ by) (pos 500_000_000 -ℤ by) z ≡ workingWeight standard (z +ℤ by)
+  range-moved = same-test (withinZ (minus 500_000_000 -ℤ by) (pos 500_000_000 -ℤ by) z) (workingWeight standard (z +ℤ by))
+      (λ t. t ▸ simp flat (omega zs)) (λ t. t ▸ simp flat (omega zs))
+
+pub added-within : (b : Bool) (z top rest : ℤ) → z ≡ (if b then top else rest) → Amounts standard top rest → T (withinZ (minus 1_000_000_000) (pos 1_000_000_000) z)
+added-within true z top rest e h = rw e (h .top-within)
+added-within false z top rest e h = rw e (h .rest-within)
+
+pub press-moves : (a : ℤ) → T (pressAmount standard a) → T (withinZ (minus 1_000_000_000) (pos 1_000_000_000) a)
+press-moves a t = t ▸ simp flat (omega zs)
 
 pub back-within : (a : ℤ) → T (withinZ (minus 1_000_000_000) (pos 1_000_000_000) a) → T (withinZ (minus 1_000_000_000) (pos 1_000_000_000) (negℤ a))
 back-within a = simp flat (omega zs)
@@ -69,10 +91,9 @@ pub one-place : (own i : ℕ) → i < 1 → own + i * 1 ≡ own
 one-place own i h = omega arith
 
 -- after something is added at a place apart from them
-pub spaced-kept : (w : List ℤ) (own start step count : ℕ) (a : ℤ) → Spaced standard w start step count
-    → ((j : ℕ) → j < count → start + j * step ≡ own → ⊥) → Spaced standard (spacedAdd w own 1 1 a) start step count
-spaced-kept w own start step count a s apart = record {
-  inside = λ j h. omega (arith, s .inside j h, spaced-long w own 1 a 1);
-  working = λ j h.
-      subst (λ (z : ℤ). T (workingWeight standard z)) (sym (spaced-miss w own 1 a 1 (start + j * step) (λ i u e. apart j h (e ∙ one-place own i u)))) (s .working j h);
-}
+module _ (w : List ℤ) (own start step count : ℕ) (a : ℤ) (apart : (j : ℕ) → j < count → start + j * step ≡ own → ⊥) where
+  pub inside-kept : Inside w start step count → Inside (spacedAdd w own 1 1 a) start step count
+  inside-kept s j h = omega (arith, s j h, spaced-long w own 1 a 1)
+
+  pub stay-kept : (by : ℤ) → spacedStay standard (spacedAdd w own 1 1 a) start step count by ≡ spacedStay standard w start step count by
+  stay-kept by = all-same count (λ j h. ap (λ (z : ℤ). workingWeight standard (z +ℤ by)) (spaced-miss w own 1 a 1 (start + j * step) (λ i u e. apart j h (e ∙ one-place own i u))))

@@ -1,4 +1,5 @@
 -- What the inner functions answer, and what they may take as known.
 pub mod Spaced
 pub mod Scopes
+pub mod Kept
 pub mod Marks

@@ -3,7 +3,6 @@ use mathlib.Core.Bool.{Bool, _&&_}
 use mathlib.Core.List.{List}
 use Prim.Native.Nat.{ℕ, zero, suc, _+_, _*_, _<_}
 use lib.IntN.{ℤ, pos, negℤ, _+ℤ_}
-use lib.Dec.{T}
 use lib.ListN.{length, getD, set}
 use Rattle.integers.specs.Words.{below, all}
 use Rattle.definitions.specs.Rules.{Rules}
@@ -13,10 +12,9 @@ use Rattle.definitions.specs.Valid.{workingWeight}
 abbrev pub weightAt : List ℤ → ℕ → ℤ
 weightAt w p = getD w p (pos 0)
 
--- they lie in the table and are working weights
-pub record Spaced (r : Rules) (w : List ℤ) (start step count : ℕ) : Type 0 where
-  pub inside : (j : ℕ) → j < count → start + j * step < length w
-  pub working : (j : ℕ) → j < count → T (workingWeight r (weightAt w (start + j * step)))
+-- they lie in the table
+abbrev pub Inside : List ℤ → ℕ → ℕ → ℕ → Type 0
+Inside w start step count = (j : ℕ) → j < count → start + j * step < length w
 
 -- they are working weights with `by` added
 abbrev pub spacedStay : Rules → List ℤ → ℕ → ℕ → ℕ → ℤ → Bool

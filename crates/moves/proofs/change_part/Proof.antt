@@ -34,10 +34,10 @@ slice-copy-out-changed-weight c = omega arith
 
 changed-weight-requires : tie.Need-changed-weight-requires Inv-loop μ-loop
 changed-weight-requires c κs = let s = c .before .before in
-    let p = s .before .args .part .now in (
-      rw (read-back w64 (getD (s .loop .part) (s .loop .at) (pos 0)) (c .changed-weight-arg .given), s .loop .inv .3 (s .loop .at) (omega arith)) (all-getD (workingWeight standard) p (pos 0) .0 (s .before .pre .0) (s .loop .at) (omega arith)),
-      rw (toZ-ofZ (s .before .fits .top), toZ-ofZ (s .before .fits .rest)) (s .before .pre .1),
-    )
+    let a = s .before .args in
+    let f = s .before .fits in
+    rw (read-back w64 (getD (s .loop .part) (s .loop .at) (pos 0)) (c .changed-weight-arg .given), s .loop .inv .3 (s .loop .at) (omega arith), toZ-ofZ (f .best), toZ-ofZ (f .top), toZ-ofZ (f .rest))
+    (all-getD (λ z. workingWeight standard (changed (a .best) (a .top) (a .rest) z)) (a .part .now) (pos 0) .0 (s .before .pre) (s .loop .at) (omega arith))
 
 stored : (c : tie.After-changed-weight Inv-loop μ-loop) → let s = c .before .before .before in let a = s .before .args in
     toZ w64 (ofZ w64 (c .changed-weight .result)) ≡ changed (toZ w64 (ofZ w64 (a .best))) (toZ w64 (ofZ w64 (a .top))) (toZ w64 (ofZ w64 (a .rest))) (getD (a .part .now) (s .loop .at) (pos 0))

@@ -4,17 +4,13 @@ use Prim.Native.Nat.{ℕ, _+_, _-_, _≤_}
 use native.Mathlib.Omega.{arith}
 use lib.IntN.{ℤ}
 use lib.ListN.{length, take, drop}
-use mir.Syntax.{w64}
-use mir.Val.{toZ, ofZ}
 use mir.Facts.{toZ-ofZ}
 use borrow.Author.Needs.{needs}
-use Rattle.integers.specs.Words.{greatestOf}
-use Rattle.integers.specs.Linear.{read-back}
-use Rattle.definitions.specs.Case.{place, greatest}
+use Rattle.definitions.specs.Case.{place}
 use Rattle.figures.specs.Scopes.{sizeOf, partOf}
 use Rattle.figures.proofs.Parts.{part-own}
 use Rattle.moves.specs.Scopes.{changed}
-use Rattle.moves.proofs.ScopeLaws.{best-known, scope-changed}
+use Rattle.moves.proofs.ScopeLaws.{scope-changed}
 use Rattle.moves.proofs.change_scope.Statement.{statement}
 use Rattle.moves.proofs.change_scope.Tie as tie
 
@@ -40,23 +36,8 @@ part-is c = let a = c .before .before .args in ap₂ (λ (n p : ℕ). take n (dr
 add-end : tie.Need-add-end
 add-end c = omega (arith, part-at c)
 
-mul-greatest : tie.Need-mul-greatest
-mul-greatest c = omega (arith, part-at c)
-
-sub-greatest : tie.Need-sub-greatest
-sub-greatest c = search needs
-
-part-greatest-start : tie.Need-part-greatest-start
-part-greatest-start c = search needs
-
-part-greatest-end : tie.Need-part-greatest-end
-part-greatest-end c = omega (arith, part-at (c .before))
-
-greatest-requires : tie.Need-greatest-requires
-greatest-requires c κs = search needs
-
 mul-change-part : tie.Need-mul-change-part
-mul-change-part c = omega (arith, part-at (c .before .before .before))
+mul-change-part c = omega (arith, part-at c)
 
 sub-change-part : tie.Need-sub-change-part
 sub-change-part c = search needs
@@ -65,34 +46,27 @@ part-change-part-start : tie.Need-part-change-part-start
 part-change-part-start c = search needs
 
 part-change-part-end : tie.Need-part-change-part-end
-part-change-part-end c = omega (arith, part-at (c .before .before .before))
+part-change-part-end c = omega (arith, part-at c)
 
 change-part-requires : tie.Need-change-part-requires
-change-part-requires c κs = let s = c .before .before .before .before .before .before in
-    (rw (part-is (c .before .before .before .before)) (s .pre .0 .working), rw (toZ-ofZ (s .fits .top), toZ-ofZ (s .fits .rest)) (s .pre .1))
+change-part-requires c κs = let s = c .before .before .before in
+    rw (toZ-ofZ (s .fits .best), toZ-ofZ (s .fits .top), toZ-ofZ (s .fits .rest), part-is (c .before)) (s .pre .1)
 
 same-length : tie.Need-same-length
 same-length c = search needs
 
-best : (c : tie.After-greatest) → let s = c .before .before .before .before .before in let a = s .args in toZ w64 (ofZ w64 (c .greatest .result)) ≡ greatest (a .case) (a .table .now) (a .x)
-best c =
-    let s = c .before .before .before .before .before in
-    let a = s .args in
-    read-back w64 (c .greatest .result) (c .greatest .ok) ∙ c .greatest .ensures ∙ ap greatestOf (part-is (c .before .before .before))
-    ∙ best-known (a .case) (a .table .now) (s .pre .0 .long) (a .x) (s .pre .0 .scope)
-
 returns : tie.Need-returns
-returns c = let s = c .before .before .before .before .before .before .before .before in
+returns c = let s = c .before .before .before .before .before in
     let a = s .args in
-    let z = c .before .before .before .before .before .before in
+    let z = c .before .before .before in
     let w = a .table .now in
-    let f = changed (greatest (a .case) w (a .x)) (a .top) (a .rest) in
+    let f = changed (a .best) (a .top) (a .rest) in
     let first = z .before .first-place .result in
     let n = first + z .size-of .result - first in
-    let e : c .before .change-part .last .0 ≡ map f (take n (drop first w)) = rw (best (c .before .before .before), toZ-ofZ (s .fits .top), toZ-ofZ (s .fits .rest)) at (c .before .change-part .ensures) in
+    let e : c .before .change-part .last .0 ≡ map f (take n (drop first w)) = rw (toZ-ofZ (s .fits .best), toZ-ofZ (s .fits .top), toZ-ofZ (s .fits .rest)) at (c .before .change-part .ensures) in
     ap (λ (l : List ℤ). take first w ++ (l ++ drop n (drop first w))) e
     ∙ ap₂ (λ (p n : ℕ). take p w ++ (map f (take n (drop p w)) ++ drop n (drop p w))) (part-at z .0) (part-at z .1)
-    ∙ sym (scope-changed (a .case) w (s .pre .0 .long) (a .x) (s .pre .0 .scope) (a .top) (a .rest))
+    ∙ sym (scope-changed (a .case) w (s .pre .0 .long) (a .x) (s .pre .0 .scope) (a .best) (a .top) (a .rest))
 
 pub change-scope-spec : {M : Type 1} → statement M
 change-scope-spec =
@@ -101,11 +75,6 @@ change-scope-spec =
     first-place-requires
     size-of-requires
     add-end
-    mul-greatest
-    sub-greatest
-    part-greatest-start
-    part-greatest-end
-    greatest-requires
     mul-change-part
     sub-change-part
     part-change-part-start

@@ -1,24 +1,29 @@
-use mathlib.Core.Path.{_∙_}
-use Prim.Native.Nat.{_-_}
+use mathlib.Core.Path.{_≡_, ap₂, _∙_}
+use lib.IntN.{_+ℤ_}
+use mir.Syntax.{w64}
+use mir.Val.{toZ, ofZ}
 use mir.Facts.{toZ-ofZ}
-use Rattle.figures.proofs.Bounds.{same-bits, other-bits}
-use Rattle.moves.proofs.SpacedLaws.{sum-fits}
+use Rattle.integers.specs.Linear.{read-back}
+use Rattle.moves.specs.Scopes.{changed}
+use Rattle.moves.proofs.SpacedLaws.{working-fits}
+use borrow.Author.Needs.{needs}
 use Rattle.moves.proofs.changed_weight.Statement.{statement}
 use Rattle.moves.proofs.changed_weight.Tie as tie
 
+added-requires : tie.Need-added-requires
+added-requires c κs = search needs
+
+after : (c : tie.After-added) → let s = c .before in let a = s .args in
+    toZ w64 (ofZ w64 (a .weight)) +ℤ toZ w64 (ofZ w64 (c .added .result)) ≡ changed (a .best) (a .top) (a .rest) (a .weight)
+after c =
+    let f = c .before .fits in
+    ap₂ _+ℤ_ (toZ-ofZ (f .weight)) (read-back w64 (c .added .result) (c .added .ok) ∙ rw (toZ-ofZ (f .weight), toZ-ofZ (f .best), toZ-ofZ (f .top), toZ-ofZ (f .rest)) at (c .added .ensures))
+
 add-result : tie.Need-add-result
-add-result c = let s = c .before in rw (toZ-ofZ (s .fits .weight), toZ-ofZ (s .fits .top)) (sum-fits (s .args .weight) (s .args .top) (s .pre .0) (s .pre .1 .top-within))
+add-result c = rw (after c) (working-fits _ (c .before .pre))
 
 returns : tie.Need-returns
-returns c = let s = c .before in
-    toZ-ofZ (add-result c) ∙ rw (toZ-ofZ (s .fits .weight), toZ-ofZ (s .fits .top), ← same-bits (s .args .weight) (s .args .best) (s .fits .weight .sfits) (s .fits .best .sfits) (c .if1 .taken))
-
-add-result-2 : tie.Need-add-result-2
-add-result-2 c = let s = c .before in rw (toZ-ofZ (s .fits .weight), toZ-ofZ (s .fits .rest)) (sum-fits (s .args .weight) (s .args .rest) (s .pre .0) (s .pre .1 .rest-within))
-
-returns-2 : tie.Need-returns-2
-returns-2 c = let s = c .before in
-    toZ-ofZ (add-result-2 c) ∙ rw (toZ-ofZ (s .fits .weight), toZ-ofZ (s .fits .rest), ← other-bits (s .args .weight) (s .args .best) (s .fits .weight .sfits) (s .fits .best .sfits) (c .if1 .left))
+returns c = toZ-ofZ (add-result c) ∙ after c
 
 pub changed-weight-spec : {M : Type 1} → statement M
-changed-weight-spec = tie.close (tie.spec add-result returns add-result-2 returns-2)
+changed-weight-spec = tie.close (tie.spec added-requires add-result returns)

@@ -1,51 +1,74 @@
-use mathlib.Core.Path.{_≡_, _∙_}
+use mathlib.Core.Path.{_≡_, sym, subst, _∙_}
+use Prim.Native.Nat.{ℕ, _+_, _-_, _≤_, _<_}
 use native.Mathlib.Omega.{arith}
-use lib.IntN.{pos, negℤ}
+use mir.Syntax.{w64}
+use mir.Val.{toZ, ofZ}
 use mir.Facts.{toZ-ofZ}
-use borrow.Author.Needs.{needs}
-use Rattle.definitions.specs.Moves.{plus}
-use Rattle.theory.proofs.Places.{plus-length}
-use Rattle.moves.specs.Scopes.{scopeBy}
-use Rattle.moves.proofs.SpacedLaws.{back-fits, back-is}
-use Rattle.moves.proofs.ScopeLaws.{holding-known}
-use Rattle.moves.proofs.PressLaws.{amounts-down, press-moves, raised-holding, press-made}
+use Rattle.definitions.specs.Case.{scopeCount}
+use Rattle.moves.proofs.PressLaws.{Pressed, pressed-none, pressed-all, pressed-long, pressed-lets, pressed-next}
 use Rattle.moves.proofs.make_press.Statement.{statement}
 use Rattle.moves.proofs.make_press.Tie as tie
 
-sub-back : tie.Need-sub-back
-sub-back c = let b = c .before in rw (toZ-ofZ (b .fits .amount)) (back-fits (b .args .amount) (press-moves (b .args .amount) (b .pre .1 .1 .1)))
+abbrev Inv-loop : tie.InvT-loop
+Inv-loop case table₀ best₀ raised variable amount scopes x₀ table best x = (x ≤ scopes) × Pressed case table₀ best₀ raised variable (toZ w64 amount) x table best
 
-change-scope-requires : tie.Need-change-scope-requires
-change-scope-requires c κs = let b = c .before .before in (holding-known (b .pre .0) (b .args .variable) (omega (arith, b .pre .1 .0 .0)), rw (back-is (b .args .amount) (b .fits .amount) (press-moves (b .args .amount) (b .pre .1 .1 .1))) (amounts-down (b .args .amount) (b .pre .1 .1 .1)))
+abbrev μ-loop : tie.MeasureT-loop
+μ-loop case table₀ best₀ raised variable amount scopes x₀ table best x = scopes - x
 
--- the table after the own scope's change
-lowered : (c : tie.After-change-scope) → let b = c .before .before .before in let a = b .args in
-    c .change-scope .last .1 .0 ≡ plus (a .case) (scopeBy (a .case) (a .table .now) (a .variable) (negℤ (a .amount)) (pos 0)) (a .table .now)
-lowered c = let b = c .before .before .before in rw (back-is (b .args .amount) (b .fits .amount) (press-moves (b .args .amount) (b .pre .1 .1 .1))) at (c .change-scope .ensures)
+add-scopes : tie.Need-add-scopes Inv-loop μ-loop
+add-scopes c = omega arith
 
-raise-scopes-requires : tie.Need-raise-scopes-requires
-raise-scopes-requires c κs = let b = c .before .before .before .before .before in
-    let a = b .args in
-    let e = lowered (c .before .before) in (
-      λ x t. rw e (raised-holding (b .pre .0) (a .variable) (a .raised .now) (a .amount) (b .pre .1 .0 .0) (b .pre .1 .0 .1) (b .pre .1 .1 .0 .1) x t),
-      (
-        b .pre .1 .1 .0 .0,
-        (
-          rw e (plus-length (a .case) (scopeBy (a .case) (a .table .now) (a .variable) (negℤ (a .amount)) (pos 0)) (a .table .now) (omega (arith, b .pre .0 .long)) ∙ b .pre .0 .long),
-          rw (toZ-ofZ (b .fits .amount)) (b .pre .1 .1 .1),
-        ),
-      ),
+loop-holds : tie.Need-loop-holds Inv-loop μ-loop
+loop-holds c = let z = c .before .before in (omega arith, pressed-none (z .args .case) (z .args .table .now) (z .args .best .now) (z .args .raised .now) (z .args .variable) (toZ w64 (ofZ w64 (z .args .amount))) (z .pre .1 .1 .0 .0) (z .pre .0 .1) (z .pre .1 .0 .0))
+
+shared-slice-read-press-scope : tie.Need-shared-slice-read-press-scope Inv-loop μ-loop
+shared-slice-read-press-scope c = omega arith
+
+press-scope-requires : tie.Need-press-scope-requires Inv-loop μ-loop
+press-scope-requires c κs = let s = c .before .before .before .before in
+    let z = c .before .before .before .before .before .before .before in
+    let p = s .loop .inv .1 in
+    let h : s .loop .x < scopeCount (z .args .case) = omega arith in (
+      (record { limited = z .pre .0 .0; long = pressed-long (z .args .case) (z .args .table .now) (z .args .best .now) (z .args .raised .now) (z .args .variable) (toZ w64 (ofZ w64 (z .args .amount))) (z .pre .1 .1 .0 .0) (z .pre .0 .1) (z .pre .1 .0 .0) p; scope = h }, omega (arith, p .same-long, z .pre .1 .0 .0)),
+      (pressed-lets (z .args .case) (z .args .table .now) (z .args .best .now) (z .args .raised .now) (z .args .variable) (toZ w64 (ofZ w64 (z .args .amount))) (z .pre .1 .1 .0 .0) (z .pre .0 .1) (z .pre .1 .0 .0) p h (rw (toZ-ofZ (z .fits .amount)) (z .pre .1 .1 .1)), rw (toZ-ofZ (z .fits .amount)) (z .pre .1 .1 .0 .1)),
     )
 
-same-length : tie.Need-same-length
-same-length c = search needs
+add-x : tie.Need-add-x Inv-loop μ-loop
+add-x c = omega arith
 
-returns : tie.Need-returns
-returns c = let b = c .before .before .before .before .before .before .before in
-    let a = b .args in
-    (rw (lowered (c .before .before .before .before), toZ-ofZ (b .fits .amount)) at (c .before .raise-scopes .ensures))
-    ∙ press-made (b .pre .0) (a .variable) (a .raised .now) (a .amount) (b .pre .1 .0 .0) (b .pre .1 .0 .1) (b .pre .1 .1 .0 .1)
+loop-less : tie.Need-loop-less Inv-loop μ-loop
+loop-less c = omega arith
+
+loop-again : tie.Need-loop-again Inv-loop μ-loop
+loop-again c = let s = c .before .before .before .before .before .before .before in
+    let z = c .before .before .before .before .before .before .before .before .before .before in
+    (omega arith, pressed-next (z .args .case) (z .args .table .now) (z .args .best .now) (z .args .raised .now) (z .args .variable) (toZ w64 (ofZ w64 (z .args .amount))) (z .pre .1 .1 .0 .0) (z .pre .0 .1) (z .pre .1 .0 .0) (s .loop .inv .1) (omega arith) (c .before .before .press-scope .ensures .0) (c .before .before .press-scope .ensures .1))
+
+same-length : tie.Need-same-length Inv-loop μ-loop
+same-length c = let z = c .before .before .before .before in pressed-long (z .args .case) (z .args .table .now) (z .args .best .now) (z .args .raised .now) (z .args .variable) (toZ w64 (ofZ w64 (z .args .amount))) (z .pre .1 .1 .0 .0) (z .pre .0 .1) (z .pre .1 .0 .0) (c .before .loop .inv .1) ∙ sym (z .pre .0 .1)
+
+same-length-2 : tie.Need-same-length-2 Inv-loop μ-loop
+same-length-2 c = c .before .loop .inv .1 .same-long
+
+returns : tie.Need-returns Inv-loop μ-loop
+returns c = let z = c .before .before .before .before in
+    let l = c .before .loop in
+    let e : l .x ≡ scopeCount (z .args .case) = omega arith in
+    rw (toZ-ofZ (z .fits .amount)) at (pressed-all (z .args .case) (z .args .table .now) (z .args .best .now) (z .args .raised .now) (z .args .variable) (toZ w64 (ofZ w64 (z .args .amount))) (z .pre .1 .1 .0 .0) (z .pre .0 .1) (z .pre .1 .0 .0) (subst (λ (x : ℕ). Pressed (z .args .case) (z .args .table .now) (z .args .best .now) (z .args .raised .now) (z .args .variable) (toZ w64 (ofZ w64 (z .args .amount))) x (l .table) (l .best)) e (l .inv .1)))
 
 pub make-press-spec : {M : Type 1} → statement M
 make-press-spec =
-    tie.close (tie.spec sub-back change-scope-requires raise-scopes-requires same-length returns)
+    tie.close
+    (tie.spec
+    Inv-loop
+    μ-loop
+    add-scopes
+    loop-holds
+    shared-slice-read-press-scope
+    press-scope-requires
+    add-x
+    loop-less
+    loop-again
+    same-length
+    same-length-2
+    returns)

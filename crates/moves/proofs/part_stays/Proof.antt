@@ -1,21 +1,22 @@
-use mathlib.Core.Path.{_≡_, sym, ap, _∙_}
+use mathlib.Core.Path.{_≡_, sym, ap, ap₂, _∙_}
 use mathlib.Core.Bool.{true}
 use Prim.Native.Nat.{ℕ, _-_, _≤_, _<_}
 use native.Mathlib.Omega.{arith}
-use lib.IntN.{pos}
+use lib.IntN.{ℤ, pos, _+ℤ_}
 use lib.ListN.{length, getD}
 use mir.Syntax.{w64}
 use mir.Val.{toZ, ofZ}
 use mir.Facts.{toZ-ofZ}
-use borrow.Author.Needs.{needs}
 use borrow.Author.Count.{below-more}
+use borrow.Author.Needs.{needs}
 use borrow.Author.Tests.{not-true, not-false}
-use Rattle.integers.specs.Tables.{all-getD}
+use Rattle.integers.specs.Words.{if_then_else_, eqZ}
 use Rattle.integers.specs.Linear.{read-back}
 use Rattle.definitions.specs.Rules.{standard}
 use Rattle.definitions.specs.Valid.{workingWeight}
 use Rattle.figures.proofs.Search.{passes, fails}
 use Rattle.moves.specs.Scopes.{changed}
+use Rattle.moves.proofs.SpacedLaws.{added-within}
 use Rattle.moves.proofs.part_stays.Statement.{statement}
 use Rattle.moves.proofs.part_stays.Tie as tie
 
@@ -28,35 +29,30 @@ abbrev μ-loop : tie.MeasureT-loop
 loop-holds : tie.Need-loop-holds Inv-loop μ-loop
 loop-holds c = (omega arith, λ k h. absurd (omega arith))
 
-mul-changed-weight : tie.Need-mul-changed-weight Inv-loop μ-loop
-mul-changed-weight c = omega arith
+mul-weight : tie.Need-mul-weight Inv-loop μ-loop
+mul-weight c = omega arith
 
-shared-slice-copy-out-changed-weight :
-    tie.Need-shared-slice-copy-out-changed-weight Inv-loop μ-loop
-shared-slice-copy-out-changed-weight c = omega arith
+shared-slice-copy-out-weight : tie.Need-shared-slice-copy-out-weight Inv-loop μ-loop
+shared-slice-copy-out-weight c = omega arith
 
-changed-weight-requires : tie.Need-changed-weight-requires Inv-loop μ-loop
-changed-weight-requires c κs = let s = c .before .before in
-    let p = s .before .args .part .now in (
-      rw (read-back w64 (getD p (s .loop .i) (pos 0)) (c .changed-weight-arg .given)) (all-getD (workingWeight standard) p (pos 0) .0 (s .before .pre .0) (s .loop .i) (omega arith)),
-      rw (toZ-ofZ (s .before .fits .top), toZ-ofZ (s .before .fits .rest)) (s .before .pre .1),
-    )
+added-requires : tie.Need-added-requires Inv-loop μ-loop
+added-requires c κs = search needs
 
-sub-is-within : tie.Need-sub-is-within Inv-loop μ-loop
-sub-is-within c = search needs
+stays-with-requires : tie.Need-stays-with-requires Inv-loop μ-loop
+stays-with-requires c κs = let s = c .before .before .before in
+    let f = s .before .fits in
+    let r = c .added in
+    added-within (eqZ (toZ w64 (ofZ w64 (getD (s .before .args .part .now) (s .loop .i) (pos 0)))) (toZ w64 (ofZ w64 (s .before .args .best)))) _ (s .before .args .top) (s .before .args .rest) (read-back w64 (r .result) (r .ok) ∙ rw (toZ-ofZ (f .top), toZ-ofZ (f .rest)) at (r .ensures)) (s .before .pre)
 
-is-within-requires : tie.Need-is-within-requires Inv-loop μ-loop
-is-within-requires c κs = tt
-
-told : (c : tie.After-is-within Inv-loop μ-loop) → let s = c .before .before .before .before in let a = s .before .args in
-    c .is-within .result ≡ workingWeight standard (changed (toZ w64 (ofZ w64 (a .best))) (toZ w64 (ofZ w64 (a .top))) (toZ w64 (ofZ w64 (a .rest))) (getD (a .part .now) (s .loop .i) (pos 0)))
+told : (c : tie.After-stays-with Inv-loop μ-loop) → let s = c .before .before .before .before in let a = s .before .args in
+    c .stays-with .result ≡ workingWeight standard (changed (toZ w64 (ofZ w64 (a .best))) (toZ w64 (ofZ w64 (a .top))) (toZ w64 (ofZ w64 (a .rest))) (getD (a .part .now) (s .loop .i) (pos 0)))
 told c =
     let s = c .before .before .before .before in
     let a = s .before .args in
-    let r = c .before .changed-weight in
-    c .is-within .ensures ∙ ap (workingWeight standard) (read-back w64 (r .result) (r .ok) ∙ r .ensures
-    ∙ ap (changed (toZ w64 (ofZ w64 (a .best))) (toZ w64 (ofZ w64 (a .top))) (toZ w64 (ofZ w64 (a .rest))))
-    (read-back w64 (getD (a .part .now) (s .loop .i) (pos 0)) (c .before .before .changed-weight-arg .given)))
+    let r = c .before .added in
+    let e = read-back w64 (getD (a .part .now) (s .loop .i) (pos 0)) (c .before .before .weight .given) in
+    c .stays-with .ensures ∙ ap (workingWeight standard) (ap₂ _+ℤ_ e (read-back w64 (r .result) (r .ok) ∙ r .ensures
+    ∙ ap (λ (z : ℤ). if eqZ z (toZ w64 (ofZ w64 (a .best))) then toZ w64 (ofZ w64 (a .top)) else toZ w64 (ofZ w64 (a .rest))) e))
 
 returns : tie.Need-returns Inv-loop μ-loop
 returns c = let s = c .before .before .before .before .before in
@@ -89,11 +85,10 @@ part-stays-spec =
     Inv-loop
     μ-loop
     loop-holds
-    mul-changed-weight
-    shared-slice-copy-out-changed-weight
-    changed-weight-requires
-    sub-is-within
-    is-within-requires
+    mul-weight
+    shared-slice-copy-out-weight
+    added-requires
+    stays-with-requires
     returns
     add-i
     loop-less

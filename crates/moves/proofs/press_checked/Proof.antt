@@ -1,12 +1,13 @@
-use mathlib.Core.Path.{_≡_, sym, _∙_}
-use mathlib.Core.Bool.{true, false, not}
+use mathlib.Core.Path.{_≡_, sym, ap, _∙_}
+use mathlib.Core.Bool.{true, false}
 use mir.Facts.{toZ-ofZ}
 use borrow.Author.Needs.{needs}
 use borrow.Author.Tests.{not-true, not-false}
 use Rattle.integers.specs.Words.{isIn}
-use Rattle.integers.specs.Tests.{true-is, false-is}
+use Rattle.definitions.specs.Answers.{outcomeOf, unlessRefused}
+use Rattle.definitions.specs.Moves.{press, moved}
 use Rattle.definitions.specs.Calls.{isRising}
-use Rattle.moves.proofs.PressLaws.{press-answer, press-table}
+use Rattle.moves.proofs.PressLaws.{range-left}
 use Rattle.moves.proofs.press_checked.Statement.{statement}
 use Rattle.moves.proofs.press_checked.Tie as tie
 
@@ -39,8 +40,8 @@ returns-3 c = let (d, e) = allowed (c .before .before .before) in
     let f = sym (c .before .active-refuted .ensures) ∙ not-true _ (c .if3 .taken) in
     (rw (d, e, f), rw (d, e, f))
 
-press-stays-requires : tie.Need-press-stays-requires
-press-stays-requires c κs = search needs
+press-raised-requires : tie.Need-press-raised-requires
+press-raised-requires c κs = search needs
 
 same-length-2 : tie.Need-same-length-2
 same-length-2 c = search needs
@@ -50,28 +51,9 @@ returns-4 c = let s = c .before .before .before .before .before .before .before 
     let a = s .args in
     let (d, e) = allowed (c .before .before .before .before .before .before) in
     let f = sym (c .before .before .before .before .active-refuted .ensures) ∙ not-false _ (c .before .before .before .if3 .left) in
-    let g = sym (not-true _ (c .if4 .taken)) ∙ rw (toZ-ofZ (s .fits .amount)) at (c .before .press-stays .ensures) in (
-      press-answer (s .pre .0) (a .variable) (a .raised .now) (a .amount) (s .pre .1 .0 .0) (s .pre .1 .0 .1) d e f false g,
-      press-table (s .pre .0) (a .variable) (a .raised .now) (a .amount) (s .pre .1 .0 .0) (s .pre .1 .0 .1) d e f false g,
-    )
-
-make-press-requires : tie.Need-make-press-requires
-make-press-requires c κs = let s = c .before .before .before .before .before .before .before .before .before .before .before .before in
-    let (d, e) = allowed (c .before .before .before .before .before .before .before) in
-    (s .pre .0, (s .pre .1 .0, ((true-is (isRising (s .args .raised .now)) d, false-is (isIn (s .args .raised .now) (s .args .variable)) e), rw (toZ-ofZ (s .fits .amount)) (s .pre .1 .1))))
-
-same-length-3 : tie.Need-same-length-3
-same-length-3 c = search needs
-
-returns-5 : tie.Need-returns-5
-returns-5 c = let s = c .before .before .before .before .before .before .before .before .before .before .before .before .before .before in
-    let a = s .args in
-    let (d, e) = allowed (c .before .before .before .before .before .before .before .before .before) in
-    let f = sym (c .before .before .before .before .before .before .before .active-refuted .ensures) ∙ not-false _ (c .before .before .before .before .before .before .if3 .left) in
-    let g = sym (not-false _ (c .before .before .before .if4 .left)) ∙ rw (toZ-ofZ (s .fits .amount)) at (c .before .before .before .before .press-stays .ensures) in (
-      press-answer (s .pre .0) (a .variable) (a .raised .now) (a .amount) (s .pre .1 .0 .0) (s .pre .1 .0 .1) d e f true g,
-      (rw (toZ-ofZ (s .fits .amount)) at (c .before .make-press .ensures)) ∙ press-table (s .pre .0) (a .variable) (a .raised .now) (a .amount) (s .pre .1 .0 .0) (s .pre .1 .0 .1) d e f true g,
-    )
+    let g = range-left (a .case) (a .table .now) (a .variable) (a .raised .now) (a .amount) d e f in
+    let r = rw (toZ-ofZ (s .fits .amount)) at (c .before .press-raised .ensures) in
+    (r .0 ∙ ap outcomeOf (sym g), r .1 ∙ ap (λ o. unlessRefused o (moved (a .case) (press (a .variable) (a .raised .now) (a .amount)) (a .table .now)) (a .table .now)) (sym g))
 
 pub press-checked-spec : {M : Type 1} → statement M
 press-checked-spec =
@@ -84,9 +66,6 @@ press-checked-spec =
     active-refuted-requires
     same-length
     returns-3
-    press-stays-requires
+    press-raised-requires
     same-length-2
-    returns-4
-    make-press-requires
-    same-length-3
-    returns-5)
+    returns-4)

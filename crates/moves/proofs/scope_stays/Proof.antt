@@ -1,18 +1,12 @@
-use mathlib.Core.Path.{_≡_, ap, ap₂, _∙_}
+use mathlib.Core.Path.{_≡_, ap₂}
 use Prim.Native.Nat.{ℕ, _+_, _-_, _≤_}
 use native.Mathlib.Omega.{arith}
 use lib.ListN.{length, take, drop}
-use mir.Syntax.{w64}
-use mir.Val.{toZ, ofZ}
 use mir.Facts.{toZ-ofZ}
 use borrow.Author.Needs.{needs}
-use Rattle.integers.specs.Words.{greatestOf}
-use Rattle.integers.specs.Linear.{read-back}
-use Rattle.definitions.specs.Rules.{standard}
-use Rattle.definitions.specs.Case.{place, greatest}
+use Rattle.definitions.specs.Case.{place}
 use Rattle.figures.specs.Scopes.{sizeOf, partOf}
 use Rattle.figures.proofs.Parts.{part-own}
-use Rattle.moves.proofs.ScopeLaws.{best-known, part-stays-known}
 use Rattle.moves.proofs.scope_stays.Statement.{statement}
 use Rattle.moves.proofs.scope_stays.Tie as tie
 
@@ -38,23 +32,8 @@ part-is c = let a = c .before .before .args in ap₂ (λ (n p : ℕ). take n (dr
 add-end : tie.Need-add-end
 add-end c = omega (arith, part-at c)
 
-mul-greatest : tie.Need-mul-greatest
-mul-greatest c = omega (arith, part-at c)
-
-sub-greatest : tie.Need-sub-greatest
-sub-greatest c = search needs
-
-part-greatest-start : tie.Need-part-greatest-start
-part-greatest-start c = search needs
-
-part-greatest-end : tie.Need-part-greatest-end
-part-greatest-end c = omega (arith, part-at c)
-
-greatest-requires : tie.Need-greatest-requires
-greatest-requires c κs = search needs
-
 mul-part-stays : tie.Need-mul-part-stays
-mul-part-stays c = omega (arith, part-at (c .before .before))
+mul-part-stays c = omega (arith, part-at c)
 
 sub-part-stays : tie.Need-sub-part-stays
 sub-part-stays c = search needs
@@ -63,24 +42,14 @@ part-part-stays-start : tie.Need-part-part-stays-start
 part-part-stays-start c = search needs
 
 part-part-stays-end : tie.Need-part-part-stays-end
-part-part-stays-end c = omega (arith, part-at (c .before .before))
+part-part-stays-end c = omega (arith, part-at c)
 
 part-stays-requires : tie.Need-part-stays-requires
-part-stays-requires c κs = let s = c .before .before .before .before .before in
-    (rw (part-is (c .before .before .before)) (s .pre .0 .working), rw (toZ-ofZ (s .fits .top), toZ-ofZ (s .fits .rest)) (s .pre .1))
-
-best : (c : tie.After-greatest) → let s = c .before .before .before .before in let a = s .args in toZ w64 (ofZ w64 (c .greatest .result)) ≡ greatest (a .case) (a .table .now) (a .x)
-best c =
-    let s = c .before .before .before .before in
-    let a = s .args in
-    read-back w64 (c .greatest .result) (c .greatest .ok) ∙ c .greatest .ensures ∙ ap greatestOf (part-is (c .before .before))
-    ∙ best-known (a .case) (a .table .now) (s .pre .0 .long) (a .x) (s .pre .0 .scope)
+part-stays-requires c κs = let s = c .before .before .before in rw (toZ-ofZ (s .fits .top), toZ-ofZ (s .fits .rest)) (s .pre .1)
 
 returns : tie.Need-returns
-returns c = let s = c .before .before .before .before .before .before in
-    let a = s .args in
-    c .part-stays .ensures
-    ∙ rw (best (c .before .before), toZ-ofZ (s .fits .top), toZ-ofZ (s .fits .rest), part-is (c .before .before .before .before)) (part-stays-known (a .case) (a .table .now) (s .pre .0 .long) (a .x) (s .pre .0 .scope) (a .top) (a .rest) standard)
+returns c = let s = c .before .before .before .before in
+    rw (toZ-ofZ (s .fits .best), toZ-ofZ (s .fits .top), toZ-ofZ (s .fits .rest), part-is (c .before .before)) at (c .part-stays .ensures)
 
 pub scope-stays-spec : {M : Type 1} → statement M
 scope-stays-spec =
@@ -89,11 +58,6 @@ scope-stays-spec =
     first-place-requires
     size-of-requires
     add-end
-    mul-greatest
-    sub-greatest
-    part-greatest-start
-    part-greatest-end
-    greatest-requires
     mul-part-stays
     sub-part-stays
     part-part-stays-start

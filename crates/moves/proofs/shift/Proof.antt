@@ -7,8 +7,8 @@ use Rattle.definitions.specs.Refusals.{firstOf}
 use Rattle.definitions.specs.Answers.{outcomeOf}
 use Rattle.definitions.specs.Valid.{workingWeight, handedOver}
 use Rattle.definitions.specs.Calls.{shiftOut}
-use Rattle.figures.proofs.Answered.{known}
-use Rattle.moves.proofs.ShiftLaws.{shift-in, shift-refused, shift-next}
+use Rattle.figures.proofs.Answered.{known, limits-known}
+use Rattle.moves.proofs.ShiftLaws.{end-inside, shift-in, shift-checked-is, shift-refused, shift-next}
 use Rattle.moves.proofs.shift.Statement.{statement}
 use Rattle.moves.proofs.shift.Tie as tie
 
@@ -34,7 +34,7 @@ shift-checked-requires c κs = let s = c .before .before .before .before .before
     let a = s .args in
     let k = known (a .case) (a .table .now) false (shiftOut standard (a .case) (a .edge) (a .end) (a .value) (a .amount)) (sym (c .before .enum-told .given .1) ∙ asked (c .before .before .before)) in
     let q = shift-in (a .case) (a .edge) (a .end) (a .value) (a .amount) (k .2) in
-    (k .0, (q .0, rw (toZ-ofZ (s .fits .amount)) (q .1)))
+    ((limits-known (k .0), k .0 .long), ((q .0 .0, q .0 .1, q .0 .2, end-inside (k .0 .shape) (a .edge) (a .end) (q .0 .0)), rw (toZ-ofZ (s .fits .amount)) (q .1)))
 
 same-length : tie.Need-same-length
 same-length c = search needs
@@ -50,9 +50,12 @@ same-length-2 c = search needs
 returns-2 : tie.Need-returns-2
 returns-2 c = let s = c .before .before .before .before .before .before .before .before in
     let a = s .args in
+    let d = sym (c .before .before .before .enum-told .given .1) ∙ asked (c .before .before .before .before .before) in
+    let h = known (a .case) (a .table .now) false (shiftOut standard (a .case) (a .edge) (a .end) (a .value) (a .amount)) d .0 in
     let r = rw (toZ-ofZ (s .fits .amount)) at (c .before .shift-checked .ensures) in
-    let n = shift-next (a .case) (a .table .now) (a .edge) (a .end) (a .value) (a .amount) (sym (c .before .before .before .enum-told .given .1) ∙ asked (c .before .before .before .before .before)) in
-    (r .0 ∙ n .0, r .1 ∙ n .1)
+    let m = shift-checked-is h (a .edge) (a .end) (a .value) (a .amount) in
+    let n = shift-next (a .case) (a .table .now) (a .edge) (a .end) (a .value) (a .amount) d in
+    (r .0 ∙ m .0 ∙ n .0, r .1 ∙ m .1 ∙ n .1)
 
 pub shift-spec : {M : Type 1} → statement M
 shift-spec =

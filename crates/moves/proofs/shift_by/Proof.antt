@@ -1,8 +1,11 @@
 use mathlib.Core.Path.{sym, _∙_}
+use lib.IntN.{negℤ}
 use mir.Facts.{toZ-ofZ}
 use borrow.Author.Tests.{not-true, not-false}
+use native.Mathlib.Omega.{arith}
 use borrow.Author.Needs.{needs}
-use Rattle.moves.proofs.SpacedLaws.{back-within, back-fits, back-is, spaced-kept}
+use Rattle.integers.specs.Tests.{true-is}
+use Rattle.moves.proofs.SpacedLaws.{back-within, back-fits, back-is, inside-kept, stay-kept}
 use Rattle.moves.proofs.shift_by.Statement.{statement}
 use Rattle.moves.proofs.shift_by.Tie as tie
 
@@ -34,13 +37,20 @@ returns-2 c = let s = c .before .before .before .before .before .before in
     (rw (d, e), rw (d, e))
 
 spaced-add-requires : tie.Need-spaced-add-requires
-spaced-add-requires c κs = search needs
+spaced-add-requires c κs = let s = c .before .before .before .before .before .before .before in
+    let d = sym (c .before .before .before .before .before .spaced-stay .ensures) ∙ not-false _ (c .before .before .before .before .if1 .left) in
+    (s .pre .0, (true-is _ d, omega arith))
 
 spaced-add-requires-2 : tie.Need-spaced-add-requires-2
 spaced-add-requires-2 c κs = let s = c .before .before .before .before .before .before .before .before .before .before in
-    let a = s .args in (
-      rw (c .before .before .spaced-add .ensures, toZ-ofZ (s .fits .amount)) (spaced-kept (a .table .now) (a .own) (a .start) (a .step) (a .count) (a .amount) (s .pre .1 .0) (s .pre .1 .1 .1)),
-      (rw (back-is (a .amount) (s .fits .amount) (s .pre .1 .1 .0 .0)) (back-within (a .amount) (s .pre .1 .1 .0 .0)), s .pre .1 .1 .0 .1),
+    let a = s .args in
+    let e = sym (c .before .before .before .before .before .spaced-stay2 .ensures) ∙ not-false _ (c .before .before .before .before .if2 .left) in (
+      rw (c .before .before .spaced-add .ensures, toZ-ofZ (s .fits .amount)) (inside-kept (a .table .now) (a .own) (a .start) (a .step) (a .count) (a .amount) (s .pre .1 .1 .1) (s .pre .1 .0)),
+      (
+        rw (c .before .before .spaced-add .ensures, back-is (a .amount) (s .fits .amount) (s .pre .1 .1 .0 .0), toZ-ofZ (s .fits .amount))
+            (true-is _ (stay-kept (a .table .now) (a .own) (a .start) (a .step) (a .count) (a .amount) (s .pre .1 .1 .1) (negℤ (a .amount)) ∙ rw (back-is (a .amount) (s .fits .amount) (s .pre .1 .1 .0 .0)) at e)),
+        s .pre .1 .1 .0 .1,
+      ),
     )
 
 same-length-3 : tie.Need-same-length-3

@@ -8,7 +8,10 @@ use mir.Facts.{toZ-ofZ}
 use mir.Val.{ofZ, toZ}
 use mir.Syntax.{w64}
 use Rattle.integers.specs.Linear.{read-back}
-use Rattle.moves.proofs.SpacedLaws.{sum-fits, spaced-long, spaced-next}
+use Rattle.integers.specs.Lists.{all-at}
+use Rattle.definitions.specs.Rules.{standard}
+use Rattle.definitions.specs.Valid.{workingWeight}
+use Rattle.moves.proofs.SpacedLaws.{working-fits, spaced-long, spaced-next}
 use Rattle.moves.specs.Spaced.{weightAt, spacedAdd}
 use Rattle.moves.proofs.spaced_add.Statement.{statement}
 use Rattle.moves.proofs.spaced_add.Tie as tie
@@ -28,7 +31,7 @@ inside : (c : tie.In-loop Inv-loop μ-loop) → c .before .before .args .start +
 inside c =
     let s = c .before in
     let a = s .before .args in
-    omega (arith, s .before .pre .0 .inside (s .loop .j) (c .loop-test .taken), ap length (s .loop .inv .1), spaced-long (a .table .now) (a .start) (a .step) (toZ w64 (ofZ w64 (a .by))) (s .loop .j))
+    omega (arith, s .before .pre .0 (s .loop .j) (c .loop-test .taken), ap length (s .loop .inv .1), spaced-long (a .table .now) (a .start) (a .step) (toZ w64 (ofZ w64 (a .by))) (s .loop .j))
 
 -- the weight there is as it was
 held : (c : tie.After-table Inv-loop μ-loop) → let s = c .before .before in let a = s .before .args in
@@ -41,13 +44,13 @@ held c =
     ∙ spaced-next (a .table .now) (a .start) (a .step) (toZ w64 (ofZ w64 (a .by))) (s .before .pre .1 .1) (s .loop .j)
 
 mul-p : tie.Need-mul-p Inv-loop μ-loop
-mul-p c = let s = c .before in let a = s .before .args in omega (arith, s .before .pre .0 .inside (s .loop .j) (c .loop-test .taken))
+mul-p c = let s = c .before in let a = s .before .args in omega (arith, s .before .pre .0 (s .loop .j) (c .loop-test .taken))
 
 add-p : tie.Need-add-p Inv-loop μ-loop
-add-p c = let s = c .before in let a = s .before .args in omega (arith, s .before .pre .0 .inside (s .loop .j) (c .loop-test .taken))
+add-p c = let s = c .before in let a = s .before .args in omega (arith, s .before .pre .0 (s .loop .j) (c .loop-test .taken))
 
 mul-table : tie.Need-mul-table Inv-loop μ-loop
-mul-table c = let s = c .before in let a = s .before .args in omega (arith, s .before .pre .0 .inside (s .loop .j) (c .loop-test .taken))
+mul-table c = let s = c .before in let a = s .before .args in omega (arith, s .before .pre .0 (s .loop .j) (c .loop-test .taken))
 
 slice-copy-out-table : tie.Need-slice-copy-out-table Inv-loop μ-loop
 slice-copy-out-table c = inside c
@@ -55,10 +58,10 @@ slice-copy-out-table c = inside c
 add-table : tie.Need-add-table Inv-loop μ-loop
 add-table c = let s = c .before .before in
     let a = s .before .args in
-    rw (toZ-ofZ (s .before .fits .by), held c) (sum-fits (weightAt (a .table .now) (a .start + s .loop .j * a .step)) (a .by) (s .before .pre .0 .working (s .loop .j) (c .before .loop-test .taken)) (s .before .pre .1 .0))
+    rw (toZ-ofZ (s .before .fits .by), held c) (working-fits _ (all-at (λ j. workingWeight standard (weightAt (a .table .now) (a .start + j * a .step) +ℤ a .by)) (a .count) (s .before .pre .1 .0) (s .loop .j) (c .before .loop-test .taken)))
 
 mul-t13 : tie.Need-mul-t13 Inv-loop μ-loop
-mul-t13 c = let s = c .before .before in let a = s .before .args in omega (arith, s .before .pre .0 .inside (s .loop .j) (c .before .loop-test .taken))
+mul-t13 c = let s = c .before .before in let a = s .before .args in omega (arith, s .before .pre .0 (s .loop .j) (c .before .loop-test .taken))
 
 slice-set-from-table : tie.Need-slice-set-from-table Inv-loop μ-loop
 slice-set-from-table c = inside (c .before)

@@ -8,11 +8,9 @@ use mir.Syntax.{w64}
 use mir.Val.{toZ}
 use borrow.Author.Count.{below-more}
 use borrow.Author.Tests.{not-true, not-false}
-use borrow.Author.Needs.{needs}
 use Rattle.integers.specs.Linear.{read-back}
 use Rattle.definitions.specs.Rules.{standard}
 use Rattle.definitions.specs.Valid.{workingWeight}
-use Rattle.moves.proofs.SpacedLaws.{sum-fits}
 use Rattle.moves.proofs.Answers.{not-all, all-passed}
 use Rattle.moves.specs.Spaced.{weightAt}
 use Rattle.moves.proofs.spaced_stay.Statement.{statement}
@@ -27,37 +25,28 @@ abbrev μ-loop : tie.MeasureT-loop
 loop-holds : tie.Need-loop-holds Inv-loop μ-loop
 loop-holds c = (omega arith, λ i h. absurd (omega arith))
 
-mul-weight : tie.Need-mul-weight Inv-loop μ-loop
-mul-weight c = let s = c .before in let a = s .before .args in omega (arith, s .before .pre .0 .inside (s .loop .j) (c .loop-test .taken))
+mul-stays-with : tie.Need-mul-stays-with Inv-loop μ-loop
+mul-stays-with c = let s = c .before in let a = s .before .args in omega (arith, s .before .pre .0 (s .loop .j) (c .loop-test .taken))
 
-add-weight : tie.Need-add-weight Inv-loop μ-loop
-add-weight c = let s = c .before in let a = s .before .args in omega (arith, s .before .pre .0 .inside (s .loop .j) (c .loop-test .taken))
+add-stays-with : tie.Need-add-stays-with Inv-loop μ-loop
+add-stays-with c = let s = c .before in let a = s .before .args in omega (arith, s .before .pre .0 (s .loop .j) (c .loop-test .taken))
 
-mul-weight-2 : tie.Need-mul-weight-2 Inv-loop μ-loop
-mul-weight-2 c = let s = c .before in let a = s .before .args in omega (arith, s .before .pre .0 .inside (s .loop .j) (c .loop-test .taken))
+mul-stays-with-2 : tie.Need-mul-stays-with-2 Inv-loop μ-loop
+mul-stays-with-2 c = let s = c .before in let a = s .before .args in omega (arith, s .before .pre .0 (s .loop .j) (c .loop-test .taken))
 
-shared-slice-copy-out-weight : tie.Need-shared-slice-copy-out-weight Inv-loop μ-loop
-shared-slice-copy-out-weight c = let s = c .before in let a = s .before .args in omega (arith, s .before .pre .0 .inside (s .loop .j) (c .loop-test .taken))
+shared-slice-copy-out-stays-with : tie.Need-shared-slice-copy-out-stays-with Inv-loop μ-loop
+shared-slice-copy-out-stays-with c = let s = c .before in let a = s .before .args in omega (arith, s .before .pre .0 (s .loop .j) (c .loop-test .taken))
 
-add-is-within : tie.Need-add-is-within Inv-loop μ-loop
-add-is-within c = let s = c .before .before in
-    let a = s .before .args in
-    rw (read-back w64 (weightAt (a .table .now) (a .start + s .loop .j * a .step)) (c .weight .given), toZ-ofZ (s .before .fits .by))
-    (sum-fits (weightAt (a .table .now) (a .start + s .loop .j * a .step)) (a .by) (s .before .pre .0 .working (s .loop .j) (c .before .loop-test .taken)) (s .before .pre .1))
+stays-with-requires : tie.Need-stays-with-requires Inv-loop μ-loop
+stays-with-requires c κs = let s = c .before .before in rw (toZ-ofZ (s .before .fits .by)) (s .before .pre .1)
 
-sub-is-within : tie.Need-sub-is-within Inv-loop μ-loop
-sub-is-within c = search needs
-
-is-within-requires : tie.Need-is-within-requires Inv-loop μ-loop
-is-within-requires c κs = tt
-
-told : (c : tie.After-is-within Inv-loop μ-loop) → let s = c .before .before .before in let a = s .before .args in
-    c .is-within .result ≡ workingWeight standard (weightAt (a .table .now) (a .start + s .loop .j * a .step) +ℤ a .by)
+told : (c : tie.After-stays-with Inv-loop μ-loop) → let s = c .before .before .before in let a = s .before .args in
+    c .stays-with .result ≡ workingWeight standard (weightAt (a .table .now) (a .start + s .loop .j * a .step) +ℤ a .by)
 told c =
     let s = c .before .before .before in
     let a = s .before .args in
-    let e = read-back w64 (weightAt (a .table .now) (a .start + s .loop .j * a .step)) (c .before .weight .given) in
-    c .is-within .ensures ∙ ap (workingWeight standard) (toZ-ofZ (add-is-within (c .before)) ∙ ap₂ _+ℤ_ e (toZ-ofZ (s .before .fits .by)))
+    let e = read-back w64 (weightAt (a .table .now) (a .start + s .loop .j * a .step)) (c .before .stays-with-arg .given) in
+    c .stays-with .ensures ∙ ap (workingWeight standard) (ap₂ _+ℤ_ e (toZ-ofZ (s .before .fits .by)))
 
 returns : tie.Need-returns Inv-loop μ-loop
 returns c = let s = c .before .before .before .before in
@@ -88,13 +77,11 @@ spaced-stay-spec =
     Inv-loop
     μ-loop
     loop-holds
-    mul-weight
-    add-weight
-    mul-weight-2
-    shared-slice-copy-out-weight
-    add-is-within
-    sub-is-within
-    is-within-requires
+    mul-stays-with
+    add-stays-with
+    mul-stays-with-2
+    shared-slice-copy-out-stays-with
+    stays-with-requires
     returns
     add-j
     loop-less

@@ -1,0 +1,60 @@
+use mathlib.Core.Path.{_≡_}
+use Prim.Native.Nat.{_≤_}
+use native.Mathlib.Omega.{arith}
+use lib.IntN.{pos}
+use lib.ListN.{replicate}
+use mir.Facts.{toZ-ofZ}
+use borrow.Author.Needs.{needs}
+use Rattle.definitions.specs.Case.{scopeCount}
+use Rattle.moves.proofs.MarkLaws.{inside-more, zeros}
+use Rattle.moves.proofs.PressLaws.{press-raised-is}
+use Rattle.moves.proofs.press_raised.Statement.{statement}
+use Rattle.moves.proofs.press_raised.Tie as tie
+
+few : (s : tie.Start) → scopeCount (s .args .case) ≤ 144
+few s = omega (arith, s .pre .0 .variables-most, s .pre .0 .edges-most)
+
+slice-aggregate-mark-scopes : tie.Need-slice-aggregate-mark-scopes
+slice-aggregate-mark-scopes c = search needs
+
+mark-scopes-requires : tie.Need-mark-scopes-requires
+mark-scopes-requires c κs = let s = c .before .before in inside-more (s .args .raised .now) (scopeCount (s .args .case)) 144 (few s) (s .pre .1 .0 .1)
+
+slice-aggregate-greatest-weights : tie.Need-slice-aggregate-greatest-weights
+slice-aggregate-greatest-weights c = search needs
+
+greatest-weights-requires : tie.Need-greatest-weights-requires
+greatest-weights-requires c κs = search needs
+
+slice-aggregate-press-with : tie.Need-slice-aggregate-press-with
+slice-aggregate-press-with c = search needs
+
+slice-aggregate-press-with-2 : tie.Need-slice-aggregate-press-with-2
+slice-aggregate-press-with-2 c = search needs
+
+press-with-requires : tie.Need-press-with-requires
+press-with-requires c κs = search needs
+
+same-length : tie.Need-same-length
+same-length c = search needs
+
+returns : tie.Need-returns
+returns c = let s = c .before .before .before .before .before .before .before .before .before .before .before .before .before .before in
+    let a = s .args in
+    let p = rw (toZ-ofZ (s .fits .amount)) at (c .before .before .press-with .ensures) in
+    press-raised-is (s .pre .0) (a .variable) (a .raised .now) (a .amount) (s .pre .1 .0 .0) (s .pre .1 .0 .1) (s .pre .1 .1) (replicate 144 0) (λ y. zeros 144 y) (few s)
+    (replicate 144 (pos 0)) (few s) (c .before .before .before .before .before .before .before .before .before .before .before .mark-scopes .ensures) (c .before .before .before .before .before .before .before .greatest-weights .ensures .1) (p .0) (p .1)
+
+pub press-raised-spec : {M : Type 1} → statement M
+press-raised-spec =
+    tie.close
+    (tie.spec
+    slice-aggregate-mark-scopes
+    mark-scopes-requires
+    slice-aggregate-greatest-weights
+    greatest-weights-requires
+    slice-aggregate-press-with
+    slice-aggregate-press-with-2
+    press-with-requires
+    same-length
+    returns)
