@@ -1,4 +1,5 @@
 -- A case with nothing after it. Assumes nothing.
+use Rattle.casefile.specs.Reads.{lineBytes}
 use mathlib.Core.Path.{_≡_, refl, ap, ap₂, _∙_}
 use mathlib.Core.Bool.{Bool}
 use mathlib.Core.Logic.{_≢_}
@@ -56,8 +57,8 @@ module _ (t : List ℕ) (w : List ℤ) where
   alone-refused e = ap (nothingAfter standard t (readCase standard t w)) e
 
   module _ (lines : ℕ) (e : readCase standard t w .read .answer ≡ FileAnswer.Read lines) where
-    alone-is : readCaseAlone standard t w ≡ restCall (restRefusal standard (drop (lines * 27) t)) (readCase standard t w) lines
-    alone-is = ap (nothingAfter standard t (readCase standard t w)) e ∙ go (restRefusal standard (drop (lines * 27) t)) (readCase standard t w)
+    alone-is : readCaseAlone standard t w ≡ restCall (restRefusal standard (drop (lines * lineBytes) t)) (readCase standard t w) lines
+    alone-is = ap (nothingAfter standard t (readCase standard t w)) e ∙ go (restRefusal standard (drop (lines * lineBytes) t)) (readCase standard t w)
       where
         go : (o : Option Refusal) (call : CaseCall) → (elim o [
           | none ↦ call
@@ -66,8 +67,8 @@ module _ (t : List ℕ) (w : List ℤ) where
         go none call = refl
         go (some x) call = refl
 
-    pub alone-good : restRefusal standard (drop (lines * 27) t) ≡ none → readCaseAlone standard t w ≡ readCase standard t w
+    pub alone-good : restRefusal standard (drop (lines * lineBytes) t) ≡ none → readCaseAlone standard t w ≡ readCase standard t w
     alone-good h = alone-is ∙ ap (λ o. restCall o (readCase standard t w) lines) h
 
-    pub alone-more : {x : Refusal} → restRefusal standard (drop (lines * 27) t) ≡ some x → readCaseAlone standard t w ≡ caseRefused standard x lines (readCase standard t w .table)
+    pub alone-more : {x : Refusal} → restRefusal standard (drop (lines * lineBytes) t) ≡ some x → readCaseAlone standard t w ≡ caseRefused standard x lines (readCase standard t w .table)
     alone-more h = alone-is ∙ ap (λ o. restCall o (readCase standard t w) lines) h

@@ -27,7 +27,7 @@ use Rattle.definitions.specs.CaseFiles.{CaseCall, Reading, caseOf, headed, head
 use Rattle.theory.proofs.Validity.{none-applies}
 use Rattle.casefile.specs.declared.Sizes.{Sizes}
 use Rattle.casefile.specs.Steps.{Limited, reading, tableOf, leftFrom, noEnds, callOf}
-use Rattle.casefile.specs.Reads.{limitsZ}
+use Rattle.casefile.specs.Reads.{limitsZ, lineBytes}
 use Rattle.casefile.proofs.Heads.{limits-known}
 use Rattle.casefile.proofs.Left.{dues-whole}
 
@@ -116,8 +116,8 @@ module _ (t : List ℕ) (w : List ℤ) where
     not-cut : (isCut standard t ≡ false) × (firstOf (headTests standard (firstLine standard t)) ≡ none)
     not-cut = refusal-parts (isCut standard t) (firstOf (headTests standard (firstLine standard t))) (named .0)
 
-    pub head-whole : 27 ≤ length t
-    head-whole = ⊎-elim (λ u. let z : true ≡ false = sym (is-true (isCut standard t) u) ∙ not-cut .0 in let y : _≡_ {A = ℕ} 0 1 = cc in omega arith) (λ u. nltb→le (length t) 27 u) (either (isCut standard t))
+    pub head-whole : lineBytes ≤ length t
+    head-whole = ⊎-elim (λ u. let z : true ≡ false = sym (is-true (isCut standard t) u) ∙ not-cut .0 in let y : _≡_ {A = ℕ} 0 1 = cc in omega arith) (λ u. nltb→le (length t) lineBytes u) (either (isCut standard t))
 
     pub sizes-limited : Limited s
     sizes-limited = go (firstLine standard t) (not-cut .1) (named .1)
@@ -138,15 +138,15 @@ module _ (t : List ℕ) (w : List ℤ) where
 -- ---- a case that was read has all its lines
 
 module _ (t : List ℕ) (w : List ℤ) {lines : ℕ} where
-  whole-length : (b : Bool) (c : Case) → 27 ≤ length t → (if b then readDues standard (record { case = c; table = w }) 1 (dues c) (afterFirst standard t) else caseRefused standard WrongLength 0 w) .read .answer ≡ FileAnswer.Read lines → lines * 27 ≤ length t
-  whole-length true c h e = omega (arith, dues-whole (dues c) (record { case = c; table = w }) 1 (afterFirst standard t) e, length-drop 27 t)
+  whole-length : (b : Bool) (c : Case) → lineBytes ≤ length t → (if b then readDues standard (record { case = c; table = w }) 1 (dues c) (afterFirst standard t) else caseRefused standard WrongLength 0 w) .read .answer ≡ FileAnswer.Read lines → lines * lineBytes ≤ length t
+  whole-length true c h e = omega (arith, dues-whole (dues c) (record { case = c; table = w }) 1 (afterFirst standard t) e, length-drop lineBytes t)
   whole-length false c h e = let z : _≡_ {A = ℕ} 0 1 = cc in omega arith
 
-  whole-by : (b : Bool) (o : Option Refusal) → isCut standard t ≡ b → (c : Case) → caseBy t w (if b then some CutShort else o) c .read .answer ≡ FileAnswer.Read lines → lines * 27 ≤ length t
+  whole-by : (b : Bool) (o : Option Refusal) → isCut standard t ≡ b → (c : Case) → caseBy t w (if b then some CutShort else o) c .read .answer ≡ FileAnswer.Read lines → lines * lineBytes ≤ length t
   unfolding caseBy
   whole-by true o d c e = let z : _≡_ {A = ℕ} 0 1 = cc in omega arith
-  whole-by false none d c e = whole-length (eqb (length w) (lentLength c)) c (nltb→le (length t) 27 (false-is (isCut standard t) d)) e
+  whole-by false none d c e = whole-length (eqb (length w) (lentLength c)) c (nltb→le (length t) lineBytes (false-is (isCut standard t) d)) e
   whole-by false (some x) d c e = let z : _≡_ {A = ℕ} 0 1 = cc in omega arith
 
-  pub read-whole : readCase standard t w .read .answer ≡ FileAnswer.Read lines → lines * 27 ≤ length t
+  pub read-whole : readCase standard t w .read .answer ≡ FileAnswer.Read lines → lines * lineBytes ≤ length t
   read-whole e = whole-by (isCut standard t) (firstOf (headTests standard (firstLine standard t))) refl (headed standard (firstLine standard t)) (sym (ap (λ c. c .read .answer) (case-is t w)) ∙ e)

@@ -1,8 +1,8 @@
 -- What is due at each line after the head. Assumes nothing.
-use mathlib.Core.Path.{_≡_, refl, sym, ap, subst, _∙_}
+use mathlib.Core.Path.{_≡_, refl, sym, ap, ap₂, _∙_}
 use mathlib.Core.List.{List, _∷_, _++_, map}
 use Prim.Native.Nat.{ℕ, zero, suc, _+_, _*_, _-_, _/_, _%_, _≤_, _<_}
-use native.Mathlib.Nat.{div-lt-iff-lt-mul, mod-lt, mul-le-mul, mul-le-mul-right}
+use native.Mathlib.Nat.{mod-lt, mod-eq-of-lt, div-eq-of-lt, mul-add-div-right, mul-add-mod-self-right, mul-le-mul, mul-le-mul-right}
 use native.Mathlib.Omega.{arith}
 use mathlib.Core.Logic.{_≢_, ⊎-elim}
 use lib.Dec.{ltb, ltb→lt, nltb→le}
@@ -16,7 +16,8 @@ use Rattle.definitions.specs.Rules.{standard}
 use Rattle.definitions.specs.CaseFiles.{CaseDue, variable-weight, edge-ends, edge-weight, dues, caseOf}
 use Rattle.casefile.specs.declared.Sizes.{Sizes}
 use Rattle.casefile.specs.declared.Awaited.{Awaited}
-use Rattle.casefile.specs.Steps.{dueOf, InCase, Limited, edgeDue, edgeDueAt, dueAt, linesDue}
+use Rattle.casefile.specs.declared.Awaited.the-variants.{VariableWeight, EdgeEnds, EdgeWeight}
+use Rattle.casefile.specs.Steps.{dueOf, InCase, AtLine, Limited, edgeDue, edgeDueAt, dueAt, linesDue}
 
 some-wide : (a b q : ℕ) → q < a * b → 0 < b
 some-wide a zero q h = absurd (omega arith)
@@ -106,45 +107,44 @@ module _ (s : Sizes) where
       ∙ at-back (s .n) (s .d) (s .m) (q - s .n * s .d) z (omega arith) ∙ sym (rw (le-ltb q (s .n * s .d) l)))
       (either (ltb q (s .n * s .d)))
 
+-- the most that the limits allow
+abbrev pub mostWeights : ℕ
+mostWeights = standard .variables * standard .values
+
+abbrev pub mostSquare : ℕ
+mostSquare = standard .values * standard .values
+
+abbrev pub mostLines : ℕ
+mostLines = mostWeights + (standard .edges + standard .edges * mostSquare)
+
 module _ (s : Sizes) (l : Limited s) where
-  pub variables-small : s .n * s .d ≤ 384
+  pub variables-small : s .n * s .d ≤ mostWeights
   variables-small = mul-le-mul (l .variables) (l .values)
 
-  pub square-small : s .d * s .d ≤ 64
+  pub square-small : s .d * s .d ≤ mostSquare
   square-small = mul-le-mul (l .values) (l .values)
 
-  pub edges-small : s .m * (s .d * s .d) ≤ 6144
+  pub edges-small : s .m * (s .d * s .d) ≤ standard .edges * mostSquare
   edges-small = mul-le-mul (l .edges) square-small
 
-  pub lines-small : linesDue s ≤ 6624
+  pub lines-small : linesDue s ≤ mostLines
   lines-small = omega (arith, variables-small, edges-small, l .edges)
 
 -- ---- by the place of the line
 
 module _ (s : Sizes) (q : ℕ) where
-  pub due-variable : q < s .n * s .d → variable-weight (q / s .d) (q % s .d) ≡ dueAt s q
+  due-variable : q < s .n * s .d → variable-weight (q / s .d) (q % s .d) ≡ dueAt s q
   due-variable h = sym (rw (lt-ltb q (s .n * s .d) h))
 
-  pub in-variable : q < s .n * s .d → (q / s .d < s .n) × (q % s .d < s .d)
-  in-variable h = let p : 0 < s .d = some-wide (s .n) (s .d) q h in (div-lt-iff-lt-mul {k = s .d} {x = q} {y = s .n} p .1 h, mod-lt q {m = s .d} p)
-
-  pub due-edge : s .n * s .d ≤ q → edgeDueAt (s .d) (q - s .n * s .d) ≡ dueAt s q
+  due-edge : s .n * s .d ≤ q → edgeDueAt (s .d) (q - s .n * s .d) ≡ dueAt s q
   due-edge h = sym (rw (le-ltb q (s .n * s .d) h))
 
 module _ (d p : ℕ) where
-  pub due-ends : p % (1 + d * d) ≡ 0 → edge-ends (p / (1 + d * d)) ≡ edgeDueAt d p
+  due-ends : p % (1 + d * d) ≡ 0 → edge-ends (p / (1 + d * d)) ≡ edgeDueAt d p
   due-ends h = sym (rw (eq-eqb (p % (1 + d * d)) 0 h))
 
-  pub due-weight : p % (1 + d * d) ≢ 0 → edge-weight (p / (1 + d * d)) ((p % (1 + d * d) - 1) / d) ((p % (1 + d * d) - 1) % d) ≡ edgeDueAt d p
+  due-weight : p % (1 + d * d) ≢ 0 → edge-weight (p / (1 + d * d)) ((p % (1 + d * d) - 1) / d) ((p % (1 + d * d) - 1) % d) ≡ edgeDueAt d p
   due-weight h = sym (rw (ne-eqb (p % (1 + d * d)) 0 h))
-
-  pub in-edge : (m : ℕ) → p < m * (1 + d * d) → p / (1 + d * d) < m
-  in-edge m h = div-lt-iff-lt-mul {k = 1 + d * d} {x = p} {y = m} (omega arith) .1 h
-
-  pub in-square : 1 ≤ d → p % (1 + d * d) ≢ 0 → ((p % (1 + d * d) - 1) / d < d) × ((p % (1 + d * d) - 1) % d < d)
-  in-square h g =
-      let l : p % (1 + d * d) - 1 < d * d = omega (arith, mod-lt p {m = 1 + d * d} (omega arith)) in
-      (div-lt-iff-lt-mul {k = d} {x = p % (1 + d * d) - 1} {y = d} h .1 l, mod-lt (p % (1 + d * d) - 1) {m = d} h)
 
 -- ---- places
 
@@ -155,6 +155,62 @@ in-rows x n k d h g = omega (arith, mul-le-mul-right {m = suc x} {n = n} d h)
 pub in-squares : (e m k l d : ℕ) → e < m → k < d → l < d → (k * d + l < d * d) × (e * (d * d) + (k * d + l) < m * (d * d))
 in-squares e m k l d h p q = (in-rows k d l d p q, in-rows e m (k * d + l) (d * d) h (in-rows k d l d p q))
 
--- what is known of what is due, by what it was found to be
-pub found-due : (s : Sizes) (q : ℕ) {r a : Awaited} → r ≡ a → (dueOf r ≡ dueAt s q) × InCase s r → (dueOf a ≡ dueAt s q) × InCase s a
-found-due s q e p = subst (λ (r : Awaited). (dueOf r ≡ dueAt s q) × InCase s r) e p
+-- ---- by what is due
+
+row-at : (x k d : ℕ) → k < d → ((x * d + k) / d ≡ x) × ((x * d + k) % d ≡ k)
+row-at x k d h = (rw (mul-add-div-right {m = d} (omega arith) x k, div-eq-of-lt h) (omega arith), mul-add-mod-self-right x d k ∙ mod-eq-of-lt h)
+
+module _ (s : Sizes) (q : ℕ) where
+  abbrev long : ℕ
+  long = 1 + s .d * s .d
+
+  abbrev past : ℕ
+  past = q - s .n * s .d
+
+  pub due-known : (a : Awaited) → AtLine s q a → (dueOf a ≡ dueAt s q) × InCase s a
+  due-known (VariableWeight i k) (e, h, g) =
+      let (p, r) = row-at i k (s .d) g in (
+        ap₂ variable-weight (sym (ap (λ q. q / s .d) e ∙ p)) (sym (ap (λ q. q % s .d) e ∙ r)) ∙ due-variable s q (omega (arith, in-rows i (s .n) k (s .d) h g)),
+        (h, g),
+      )
+  due-known (EdgeEnds e) (x, h) =
+      let f : past ≡ e * long + 0 = omega arith in
+      let (p, r) = row-at e 0 long (omega arith) in
+      (ap edge-ends (sym (ap (λ p. p / long) f ∙ p)) ∙ due-ends (s .d) past (ap (λ p. p % long) f ∙ r) ∙ due-edge s q (omega arith), h)
+  due-known (EdgeWeight e k l) (x, h, g, b) =
+      let f : past ≡ e * long + (1 + (k * s .d + l)) = omega arith in
+      let (p, r) = row-at e (1 + (k * s .d + l)) long (omega (arith, in-rows k (s .d) l (s .d) g b)) in
+      let (u, v) = row-at k l (s .d) b in
+      let m : past % long ≡ 1 + (k * s .d + l) = ap (λ p. p % long) f ∙ r in
+      let t : past % long - 1 ≡ k * s .d + l = omega arith in (
+        ap₂ (edge-weight e) (sym u) (sym v) ∙ ap₂ (λ x y. edge-weight x (y / s .d) (y % s .d)) (sym (ap (λ p. p / long) f ∙ p)) (sym t)
+            ∙ due-weight (s .d) past (λ z. omega arith) ∙ due-edge s q (omega arith),
+        (h, g, b),
+      )
+
+pub some-edge : (m x : ℕ) → 0 < m * x → 0 < m
+some-edge zero x h = absurd (omega arith)
+some-edge (suc m) x h = omega arith
+
+pub no-row : (n d : ℕ) → n ≤ 0 → n * d ≡ 0
+no-row zero d h = omega arith
+no-row (suc n) d h = absurd (omega arith)
+
+-- the last line of the variables, and of an edge
+pub after-variables : (s : Sizes) (i k q : ℕ) → AtLine s q (VariableWeight i k) → s .d ≤ k + 1 → s .n ≤ i + 1 → q + 1 < linesDue s → AtLine s (q + 1) (EdgeEnds 0)
+after-variables s i k q (e, h, g) p r l =
+    let n : i + 1 ≡ s .n = omega arith in
+    let x : (i + 1) * s .d ≡ s .n * s .d = ap (λ n. n * s .d) n in
+    (omega arith, some-edge (s .m) (1 + s .d * s .d) (omega arith))
+
+pub after-weights : (s : Sizes) (e k l q : ℕ) → AtLine s q (EdgeWeight e k l) → s .d ≤ l + 1 → s .d ≤ k + 1 → q + 1 < linesDue s → AtLine s (q + 1) (EdgeEnds (e + 1))
+after-weights s e k l q (x, h, g, b) p r f =
+    let n : k + 1 ≡ s .d = omega arith in
+    let y : (k + 1) * s .d ≡ s .d * s .d = ap (λ k. k * s .d) n in
+    let z : q + 1 ≡ s .n * s .d + (e + 1) * (1 + s .d * s .d) = omega arith in (
+      z,
+      ⊎-elim
+          (λ t. ltb→lt (e + 1) (s .m) t)
+          (λ t. absurd (omega (arith, mul-le-mul-right {m = s .m} {n = e + 1} (1 + s .d * s .d) (nltb→le (e + 1) (s .m) t))))
+          (either (ltb (e + 1) (s .m))),
+    )

@@ -21,17 +21,17 @@ use Rattle.definitions.specs.Refusals.{firstOf}
 use Rattle.definitions.specs.Case.{lentLength}
 use Rattle.definitions.specs.Calls.{readLineAnswer}
 use Rattle.definitions.specs.CaseFiles.{isCut, firstLine, headTests, headed, caseSize}
-use Rattle.casefile.specs.Reads.{lineFrom, ofKind, limitsZ, sizeOf}
+use Rattle.casefile.specs.Reads.{lineFrom, ofKind, limitsZ, sizeOf, lineBytes}
 use Rattle.casefile.proofs.Tests.{due-10, within-nat}
 
 module _ (t : List ℕ) where
-  pub cut-short : length t < 27 → lineFrom t ≡ LineRead.Refused CutShort
+  pub cut-short : length t < lineBytes → lineFrom t ≡ LineRead.Refused CutShort
   unfolding lineFrom
-  cut-short h = simp (lt-ltb (length t) 27 h)
+  cut-short h = simp (lt-ltb (length t) lineBytes h)
 
-  pub not-cut : 27 ≤ length t → lineFrom t ≡ readLineAnswer standard (take 27 t)
+  pub not-cut : lineBytes ≤ length t → lineFrom t ≡ readLineAnswer standard (take lineBytes t)
   unfolding lineFrom
-  not-cut h = simp (le-ltb (length t) 27 h)
+  not-cut h = simp (le-ltb (length t) lineBytes h)
 
 -- what a line that was read, or refused, says of the bytes
 pub data Front (t : List ℕ) : LineRead → Type 0 where
@@ -62,12 +62,12 @@ module _ (l : Line) where
 
 -- what limits say of the sizes
 pub limits-known : (n d m : ℤ) → T (limitsZ n d m)
-    → ((ltZ n (pos 0) ≡ false) × (1 ≤ natAbs n) × (natAbs n ≤ 48)) × ((ltZ d (pos 0) ≡ false) × (1 ≤ natAbs d) × (natAbs d ≤ 8)) × ((ltZ m (pos 0) ≡ false) × (0 ≤ natAbs m) × (natAbs m ≤ 96))
+    → ((ltZ n (pos 0) ≡ false) × (1 ≤ natAbs n) × (natAbs n ≤ standard .variables)) × ((ltZ d (pos 0) ≡ false) × (1 ≤ natAbs d) × (natAbs d ≤ standard .values)) × ((ltZ m (pos 0) ≡ false) × (0 ≤ natAbs m) × (natAbs m ≤ standard .edges))
 limits-known n d m t =
-    let p = and-left (withinZ (pos 1) (pos 48) n && withinZ (pos 1) (pos 8) d) (withinZ (pos 0) (pos 96) m) t in (
-      within-nat 1 48 n (and-left (withinZ (pos 1) (pos 48) n) (withinZ (pos 1) (pos 8) d) p),
-      within-nat 1 8 d (and-right (withinZ (pos 1) (pos 48) n) (withinZ (pos 1) (pos 8) d) p),
-      within-nat 0 96 m (and-right (withinZ (pos 1) (pos 48) n && withinZ (pos 1) (pos 8) d) (withinZ (pos 0) (pos 96) m) t),
+    let p = and-left (withinZ (pos 1) (pos (standard .variables)) n && withinZ (pos 1) (pos (standard .values)) d) (withinZ (pos 0) (pos (standard .edges)) m) t in (
+      within-nat 1 (standard .variables) n (and-left (withinZ (pos 1) (pos (standard .variables)) n) (withinZ (pos 1) (pos (standard .values)) d) p),
+      within-nat 1 (standard .values) d (and-right (withinZ (pos 1) (pos (standard .variables)) n) (withinZ (pos 1) (pos (standard .values)) d) p),
+      within-nat 0 (standard .edges) m (and-right (withinZ (pos 1) (pos (standard .variables)) n && withinZ (pos 1) (pos (standard .values)) d) (withinZ (pos 0) (pos (standard .edges)) m) t),
     )
 
 -- by whether the bytes are cut short, and the line

@@ -1,6 +1,6 @@
 -- What is answered, and what is left, by whether a refusal applies. Assumes nothing.
 use mathlib.Core.Path.{_≡_, refl, sym, ap, ap₂, subst, _∙_}
-use mathlib.Core.Bool.{Bool, true, false, not, _&&_}
+use mathlib.Core.Bool.{Bool, true, false, not, _&&_, and-true}
 use mathlib.Core.Logic.{⊎-elim}
 use mathlib.Core.Option.{Option, none, some}
 use mathlib.Core.List.{List, [], _∷_, _++_}
@@ -23,10 +23,10 @@ use Rattle.integers.specs.Tests.{tests, and-iff, not-or-iff, either, is-true, t
 use Rattle.theory.proofs.Validity.{none-applies}
 use Rattle.theory.proofs.Places.{place-variable, place-edge}
 use Rattle.casefile.specs.declared.Sizes.{Sizes}
-use Rattle.casefile.specs.Reads.{ofKind}
+use Rattle.casefile.specs.Reads.{ofKind, lineBytes}
 use Rattle.casefile.specs.Steps.{weightTests, endsTests, repeatTest, caseWith, reading, lineRefusal, dueRefusal, Stepped, SteppedAt}
 use Rattle.casefile.proofs.Heads.{Front, cut, bad, good}
-use Rattle.casefile.proofs.Tests.{due-11, due-13, and-true}
+use Rattle.casefile.proofs.Tests.{due-11, due-13}
 use Rattle.definitions.specs.declared.Refusal.{Refusal}
 use Rattle.definitions.specs.declared.Outcome.{Outcome}
 use Rattle.definitions.specs.declared.LineRead.{LineRead}
@@ -120,6 +120,9 @@ module _ (s : Sizes) (lower upper : List ℕ) (w : List ℤ) (l : Line) {r : Out
 pub same-due : {s : Sizes} {lower upper : List ℕ} {w : List ℤ} {l : Line} {r : Outcome} {g : Reading} {due other : CaseDue} → due ≡ other → Stepped s lower upper w l due r g → Stepped s lower upper w l other r g
 same-due {s} {lower} {upper} {w} {l} {r} {g} e h = subst (λ (due : CaseDue). Stepped s lower upper w l due r g) e h
 
+pub same-due-at : {s : Sizes} {lower upper : List ℕ} {w : List ℤ} {t : List ℕ} {r : Outcome} {g : Reading} {due other : CaseDue} → due ≡ other → SteppedAt s lower upper w t due r g → SteppedAt s lower upper w t other r g
+same-due-at {s} {lower} {upper} {w} {t} {r} {g} e h = subst (λ (due : CaseDue). SteppedAt s lower upper w t due r g) e h
+
 -- ---- ends that nothing refuses but that they are repeated
 
 outside-known : (n : ℕ) (z : ℤ) → T (not (outside n z)) → (ltZ z (pos 0) ≡ false) × (natAbs z < n)
@@ -191,9 +194,9 @@ module _ (s : Sizes) (lower upper : List ℕ) (w : List ℤ) (t : List ℕ) (due
       record { answer = rw e (q .answer); left = rw (e, d) (q .left) }
 
 -- a line that is not refused is whole
-pub whole : (c : Case) (due : CaseDue) (t : List ℕ) → dueRefusal c due t ≡ none → 27 ≤ length t
+pub whole : (c : Case) (due : CaseDue) (t : List ℕ) → dueRefusal c due t ≡ none → lineBytes ≤ length t
 unfolding refusalBy
 whole c due t h =
     ⊎-elim
     (λ u. let z : some CutShort ≡ none = sym (refusal-is c due t ∙ ap (λ b. refusalBy c due b (firstLine standard t)) (is-true (isCut standard t) u)) ∙ h in let y : _≡_ {A = ℕ} 0 1 = cc in omega arith)
-    (λ u. nltb→le (length t) 27 u) (either (isCut standard t))
+    (λ u. nltb→le (length t) lineBytes u) (either (isCut standard t))

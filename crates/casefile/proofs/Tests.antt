@@ -1,6 +1,6 @@
 -- Tests of signed numbers in the code, and the kinds of lines. Assumes nothing.
 use mathlib.Core.Path.{_≡_, refl, sym, ap, _∙_}
-use mathlib.Core.Bool.{Bool, true, false, not, _&&_, _||_}
+use mathlib.Core.Bool.{Bool, true, false, not, _&&_, and-true, and-false}
 use mathlib.Core.List.{[], _∷_}
 use Prim.Native.Nat.{ℕ, _^_, _≤_, _<_}
 use native.Mathlib.Omega.{arith}
@@ -16,6 +16,7 @@ use Rattle.integers.specs.Linear.{zs, T-eq, read-back}
 use Rattle.definitions.specs.declared.Line.{Line}
 use Rattle.definitions.specs.Rules.{standard}
 use Rattle.definitions.specs.Lines.{notDue}
+use Rattle.theory.proofs.CaseTests.{CaseKinds, standard-case-kinds}
 use Rattle.casefile.specs.Reads.{ofKind}
 
 module _ (a b : Bool) where
@@ -49,31 +50,22 @@ pub within-nat : (low high : ℕ) (z : ℤ) → T (withinZ (pos low) (pos high) 
 within-nat low high (pos n) t = (let (p, q) = simp tests at t in (le-ltb n 0 (omega arith), p, q))
 within-nat low high (negsuc n) t = absurd (and-left (leZ (pos low) (negsuc n)) (leZ (negsuc n) (pos high)) t)
 
-and-false : (b : Bool) → (b && false) ≡ false
-and-false true = refl
-and-false false = refl
-
-pub and-true : (b : Bool) → (b && true) ≡ b
-and-true true = refl
-and-true false = refl
-
-or-false : (b : Bool) → (b || false) ≡ b
-or-false true = refl
-or-false false = refl
-
 -- a line of one kind that is due
+abbrev kinds : CaseKinds standard
+kinds = standard-case-kinds standard refl
+
 module _ (l : Line) where
   pub due-10 : notDue standard (10 ∷ []) l ≡ not (ofKind (pos 10) true false l)
-  due-10 = simp (and-false, and-true, or-false)
+  due-10 = kinds .head-due l ∙ simp and-true
 
   pub due-11 : notDue standard (11 ∷ []) l ≡ not (ofKind (pos 11) false true l)
-  due-11 = simp (and-false, and-true, or-false)
+  due-11 = kinds .variable-due l ∙ simp and-true
 
   pub due-12 : notDue standard (12 ∷ []) l ≡ not (ofKind (pos 12) true false l)
-  due-12 = simp (and-false, and-true, or-false)
+  due-12 = kinds .ends-due l ∙ simp and-true
 
   pub due-13 : notDue standard (13 ∷ []) l ≡ not (ofKind (pos 13) true true l)
-  due-13 = simp (and-false, and-true, or-false)
+  due-13 = kinds .edge-due l ∙ simp and-true
 
   pub due-none : notDue standard [] l ≡ true
   due-none = simp (and-false, and-true)

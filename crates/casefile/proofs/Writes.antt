@@ -1,4 +1,5 @@
 -- A case file written line by line. Assumes nothing.
+use Rattle.casefile.specs.Reads.{lineBytes}
 use mathlib.Core.Path.{_≡_, refl, sym, ap, ap₂, subst, _∙_}
 use mathlib.Core.Bool.{true, false}
 use mathlib.Core.Option.{Option, none, some}
@@ -40,12 +41,12 @@ use Rattle.casefile.proofs.Dues.{allDues, dues-length, dues-at}
 -- ---- a line in its place
 
 -- a part as long as a line holds the line alone
-pub line-over : (part : List ℕ) (l : Line) → length part ≡ 27 → lineTooWide 12 l ≡ false → writeLineCall standard part l .out ≡ lineText 12 l
+pub line-over : (part : List ℕ) (l : Line) → length part ≡ lineBytes → lineTooWide (standard .amountWidth) l ≡ false → writeLineCall standard part l .out ≡ lineText (standard .amountWidth) l
 line-over part l n f =
-    ap (λ c. c .out) (write-done 12 standard refl part l (omega arith) f)
-    ∙ ap (λ t. lineText 12 l ++ t) (drop-of-length-le part {i = length (lineText 12 l)} (omega (arith, line-length 12 l f))) ∙ append-nil (lineText 12 l)
+    ap (λ c. c .out) (write-done (standard .amountWidth) standard refl part l (omega arith) f)
+    ∙ ap (λ t. lineText (standard .amountWidth) l ++ t) (drop-of-length-le part {i = length (lineText (standard .amountWidth) l)} (omega (arith, line-length (standard .amountWidth) l f))) ∙ append-nil (lineText (standard .amountWidth) l)
 
-pub put-length : (o y : List ℕ) (n : ℕ) → n + 27 ≤ length o → length y ≡ 27 → length (take n o ++ (y ++ drop (n + 27) o)) ≡ length o
+pub put-length : (o y : List ℕ) (n : ℕ) → n + lineBytes ≤ length o → length y ≡ lineBytes → length (take n o ++ (y ++ drop (n + lineBytes) o)) ≡ length o
 put-length o y n h e = simp (length-append, length-take, length-drop) (omega arith)
 
 pub over-twice : (p x out : List ℕ) → length p ≤ length x → overwritten x (overwritten p out) ≡ overwritten x out
@@ -57,63 +58,63 @@ over-twice p x out h =
 
 module _ (s : Sizes) (lower upper : List ℕ) (w : List ℤ) where
   text : CaseDue → List ℕ
-  text due = lineText 12 (lineOf (caseWith s lower upper) w due)
+  text due = lineText (standard .amountWidth) (lineOf (caseWith s lower upper) w due)
 
   -- the head and q lines after it
   pub written : ℕ → List ℕ
-  written q = lineText 12 (headLine (caseWith s lower upper)) ++ joined (map text (take q (allDues s)))
+  written q = lineText (standard .amountWidth) (headLine (caseWith s lower upper)) ++ joined (map text (take q (allDues s)))
 
-  written-first : written 0 ≡ lineText 12 (headLine (caseWith s lower upper))
+  written-first : written 0 ≡ lineText (standard .amountWidth) (headLine (caseWith s lower upper))
   unfolding written
-  written-first = append-nil (lineText 12 (headLine (caseWith s lower upper)))
+  written-first = append-nil (lineText (standard .amountWidth) (headLine (caseWith s lower upper)))
 
-  written-next : (q : ℕ) → q < linesDue s → written (q + 1) ≡ written q ++ lineText 12 (lineOf (caseWith s lower upper) w (dueAt s q))
+  written-next : (q : ℕ) → q < linesDue s → written (q + 1) ≡ written q ++ lineText (standard .amountWidth) (lineOf (caseWith s lower upper) w (dueAt s q))
   unfolding written text
   written-next q h =
       let e : take (q + 1) (allDues s) ≡ take q (allDues s) ++ (dueAt s q ∷ []) =
       rw add-one (take-suc (allDues s) q (edge-ends 0) (omega (arith, dues-length s)) ∙ ap (λ due. take q (allDues s) ++ (due ∷ [])) (dues-at s q (edge-ends 0) h)) in
-      ap (λ ds. lineText 12 (headLine (caseWith s lower upper)) ++ joined (map text ds)) e
-      ∙ ap (λ ts. lineText 12 (headLine (caseWith s lower upper)) ++ joined ts) (map-append text (take q (allDues s)) (dueAt s q ∷ []))
-      ∙ ap (λ t. lineText 12 (headLine (caseWith s lower upper)) ++ t) (joined-append (map text (take q (allDues s))) (text (dueAt s q) ∷ []) ∙ ap (λ t. joined (map text (take q (allDues s))) ++ t) (append-nil (text (dueAt s q))))
-      ∙ sym (append-assoc (lineText 12 (headLine (caseWith s lower upper))) (joined (map text (take q (allDues s)))) (text (dueAt s q)))
+      ap (λ ds. lineText (standard .amountWidth) (headLine (caseWith s lower upper)) ++ joined (map text ds)) e
+      ∙ ap (λ ts. lineText (standard .amountWidth) (headLine (caseWith s lower upper)) ++ joined ts) (map-append text (take q (allDues s)) (dueAt s q ∷ []))
+      ∙ ap (λ t. lineText (standard .amountWidth) (headLine (caseWith s lower upper)) ++ t) (joined-append (map text (take q (allDues s))) (text (dueAt s q) ∷ []) ∙ ap (λ t. joined (map text (take q (allDues s))) ++ t) (append-nil (text (dueAt s q))))
+      ∙ sym (append-assoc (lineText (standard .amountWidth) (headLine (caseWith s lower upper))) (joined (map text (take q (allDues s)))) (text (dueAt s q)))
 
   pub written-all : (q : ℕ) → linesDue s ≤ q → written q ≡ caseText standard (caseWith s lower upper) w
   unfolding written text
   written-all q h =
-      ap (λ ds. lineText 12 (headLine (caseWith s lower upper)) ++ joined (map text ds)) (take-all q (allDues s) (omega (arith, dues-length s)))
-      ∙ sym (ap (λ ls. joined (map (lineText 12) ls)) (case-lines (caseWith s lower upper) w)
-      ∙ ap (λ ts. lineText 12 (headLine (caseWith s lower upper)) ++ joined ts) (map-map (lineText 12) (lineOf (caseWith s lower upper) w) (allDues s)))
+      ap (λ ds. lineText (standard .amountWidth) (headLine (caseWith s lower upper)) ++ joined (map text ds)) (take-all q (allDues s) (omega (arith, dues-length s)))
+      ∙ sym (ap (λ ls. joined (map (lineText (standard .amountWidth)) ls)) (case-lines (caseWith s lower upper) w)
+      ∙ ap (λ ts. lineText (standard .amountWidth) (headLine (caseWith s lower upper)) ++ joined ts) (map-map (lineText (standard .amountWidth)) (lineOf (caseWith s lower upper) w) (allDues s)))
 
   module _ (v : Valid standard (caseWith s lower upper) w) where
     pub valid-limited : Limited s
     valid-limited = record { variables = v .variables-most; some-value = v .shape .some-value; values = v .values-most; edges = v .edges-most }
 
-    pub first-fits : lineTooWide 12 (headLine (caseWith s lower upper)) ≡ false
+    pub first-fits : lineTooWide (standard .amountWidth) (headLine (caseWith s lower upper)) ≡ false
     first-fits = head-fits standard-coherent v
 
-    pub line-fits : (q : ℕ) → q < linesDue s → lineTooWide 12 (lineOf (caseWith s lower upper) w (dueAt s q)) ≡ false
+    pub line-fits : (q : ℕ) → q < linesDue s → lineTooWide (standard .amountWidth) (lineOf (caseWith s lower upper) w (dueAt s q)) ≡ false
     line-fits q h = due-fits standard-coherent v (dueAt s q)
         (in-dues (caseWith s lower upper) (subst (λ (due : CaseDue). due ∈ allDues s) (dues-at s q (edge-ends 0) h) (getD-in (allDues s) {i = q} (edge-ends 0) (omega (arith, dues-length s)))))
 
     -- the head is put, and then each line
-    pub put-first : (entry out : List ℕ) → out ≡ take 0 entry ++ (lineText 12 (headLine (caseWith s lower upper)) ++ drop (0 + 27) entry)
-        → 27 ≤ length entry → (length (written 0) ≡ 27) × (length out ≡ length entry) × (out ≡ overwritten (written 0) entry)
+    pub put-first : (entry out : List ℕ) → out ≡ take 0 entry ++ (lineText (standard .amountWidth) (headLine (caseWith s lower upper)) ++ drop (0 + lineBytes) entry)
+        → lineBytes ≤ length entry → (length (written 0) ≡ lineBytes) × (length out ≡ length entry) × (out ≡ overwritten (written 0) entry)
     put-first entry out e h =
-        let n = line-length 12 (headLine (caseWith s lower upper)) first-fits in (
+        let n = line-length (standard .amountWidth) (headLine (caseWith s lower upper)) first-fits in (
           ap length written-first ∙ n,
-          ap length e ∙ put-length entry (lineText 12 (headLine (caseWith s lower upper))) 0 (omega arith) n,
+          ap length e ∙ put-length entry (lineText (standard .amountWidth) (headLine (caseWith s lower upper))) 0 (omega arith) n,
           e ∙ ap₂ (λ p n. p ++ drop n entry) (sym written-first) (sym (ap length written-first ∙ n)),
         )
 
-    pub put-next : (entry out next : List ℕ) (q : ℕ) → q < linesDue s → length (written q) ≡ 27 * (q + 1) → out ≡ overwritten (written q) entry → 27 * (q + 1) + 27 ≤ length out
-        → next ≡ take (27 * (q + 1)) out ++ (lineText 12 (lineOf (caseWith s lower upper) w (dueAt s q)) ++ drop (27 * (q + 1) + 27) out)
-        → (length (written (q + 1)) ≡ 27 * (q + 1 + 1)) × (length next ≡ length out) × (next ≡ overwritten (written (q + 1)) entry)
+    pub put-next : (entry out next : List ℕ) (q : ℕ) → q < linesDue s → length (written q) ≡ lineBytes * (q + 1) → out ≡ overwritten (written q) entry → lineBytes * (q + 1) + lineBytes ≤ length out
+        → next ≡ take (lineBytes * (q + 1)) out ++ (lineText (standard .amountWidth) (lineOf (caseWith s lower upper) w (dueAt s q)) ++ drop (lineBytes * (q + 1) + lineBytes) out)
+        → (length (written (q + 1)) ≡ lineBytes * (q + 1 + 1)) × (length next ≡ length out) × (next ≡ overwritten (written (q + 1)) entry)
     put-next entry out next q h n e m f =
-        let y = lineText 12 (lineOf (caseWith s lower upper) w (dueAt s q)) in
-        let k : length y ≡ 27 = line-length 12 (lineOf (caseWith s lower upper) w (dueAt s q)) (line-fits q h) in (
+        let y = lineText (standard .amountWidth) (lineOf (caseWith s lower upper) w (dueAt s q)) in
+        let k : length y ≡ lineBytes = line-length (standard .amountWidth) (lineOf (caseWith s lower upper) w (dueAt s q)) (line-fits q h) in (
           ap length (written-next q h) ∙ length-append (written q) y ∙ omega arith,
-          ap length f ∙ put-length out y (27 * (q + 1)) m k,
-          f ∙ column-next (written q) entry out (27 * (q + 1)) n e y 27 k ∙ ap (λ p. overwritten p entry) (sym (written-next q h)),
+          ap length f ∙ put-length out y (lineBytes * (q + 1)) m k,
+          f ∙ column-next (written q) entry out (lineBytes * (q + 1)) n e y lineBytes k ∙ ap (λ p. overwritten p entry) (sym (written-next q h)),
         )
 
 -- ---- the call
@@ -123,19 +124,19 @@ module _ (c : Case) (w : List ℤ) (out : List ℕ) where
   sizesOf = record { n = c .n; d = c .d; m = c .m }
 
   abbrev pub asked : Option Refusal
-  asked = firstOf (handedOver standard (startingWeight standard) c w (ltb (length out) (27 * (linesDue sizesOf + 1))) false)
+  asked = firstOf (handedOver standard (startingWeight standard) c w (ltb (length out) (lineBytes * (linesDue sizesOf + 1))) false)
 
-  bytes-are : fileBytes standard c ≡ 27 * (linesDue sizesOf + 1)
+  bytes-are : fileBytes standard c ≡ lineBytes * (linesDue sizesOf + 1)
   bytes-are = omega arith
 
-  call-is : writeCaseCall standard c w out ≡ record { answer = writtenOf asked (27 * (linesDue sizesOf + 1)); out = unlessRefused asked (overwritten (caseText standard c w) out) out }
+  call-is : writeCaseCall standard c w out ≡ record { answer = writtenOf asked (lineBytes * (linesDue sizesOf + 1)); out = unlessRefused asked (overwritten (caseText standard c w) out) out }
   unfolding writeCaseCall
   call-is = ap (λ n.
       let o = firstOf (handedOver standard (startingWeight standard) c w (ltb (length out) n) false) in
       record { answer = writtenOf o n; out = unlessRefused o (overwritten (caseText standard c w) out) out }) bytes-are
 
   refused-is : {x : Refusal} → asked ≡ some x → writeCaseCall standard c w out ≡ record { answer = Written.Refused x; out = out }
-  refused-is e = call-is ∙ ap (λ o. record { answer = writtenOf o (27 * (linesDue sizesOf + 1)); out = unlessRefused o (overwritten (caseText standard c w) out) out }) e
+  refused-is e = call-is ∙ ap (λ o. record { answer = writtenOf o (lineBytes * (linesDue sizesOf + 1)); out = unlessRefused o (overwritten (caseText standard c w) out) out }) e
 
   pub write-limits : withinLimits standard (c .n) (c .d) (c .m) ≡ false → (Written.Refused OutsideLimits ≡ writeCaseCall standard c w out .answer) × (out ≡ writeCaseCall standard c w out .out)
   write-limits h = let e = refused-is {x = OutsideLimits} (rw h) in (sym (ap (λ c. c .answer) e), sym (ap (λ c. c .out) e))
@@ -144,16 +145,16 @@ module _ (c : Case) (w : List ℤ) (out : List ℕ) where
   write-refused h = let e = refused-is (outcome-refused h) in (sym (ap (λ c. c .answer) e), sym (ap (λ c. c .out) e))
 
   module _ (h : Outcome.Done ≡ outcomeOf asked) where
-    pub write-valid : Valid standard c w × (27 * (linesDue sizesOf + 1) ≤ length out)
+    pub write-valid : Valid standard c w × (lineBytes * (linesDue sizesOf + 1) ≤ length out)
     write-valid =
         let d : asked ≡ none = outcome-done h in
-        let (v, short, o) = handed standard (startingWeight standard) c w (ltb (length out) (27 * (linesDue sizesOf + 1))) false .0 (rw d tt) in
-        (v, nltb→le (length out) (27 * (linesDue sizesOf + 1)) short)
+        let (v, short, o) = handed standard (startingWeight standard) c w (ltb (length out) (lineBytes * (linesDue sizesOf + 1))) false .0 (rw d tt) in
+        (v, nltb→le (length out) (lineBytes * (linesDue sizesOf + 1)) short)
 
-    pub write-done-is : {n : ℕ} {u : List ℕ} → n ≡ 27 * (linesDue sizesOf + 1) → u ≡ overwritten (caseText standard c w) out → (Written.Bytes n ≡ writeCaseCall standard c w out .answer) × (u ≡ writeCaseCall standard c w out .out)
+    pub write-done-is : {n : ℕ} {u : List ℕ} → n ≡ lineBytes * (linesDue sizesOf + 1) → u ≡ overwritten (caseText standard c w) out → (Written.Bytes n ≡ writeCaseCall standard c w out .answer) × (u ≡ writeCaseCall standard c w out .out)
     write-done-is p q =
         let d : asked ≡ none = outcome-done h in
-        let e = call-is ∙ ap (λ o. record { answer = writtenOf o (27 * (linesDue sizesOf + 1)); out = unlessRefused o (overwritten (caseText standard c w) out) out }) d in
+        let e = call-is ∙ ap (λ o. record { answer = writtenOf o (lineBytes * (linesDue sizesOf + 1)); out = unlessRefused o (overwritten (caseText standard c w) out) out }) d in
         (ap Written.Bytes p ∙ sym (ap (λ c. c .answer) e), q ∙ sym (ap (λ c. c .out) e))
 
 pub limits-are : (c : Case) → withinLimits standard (c .n) (c .d) (c .m) ≡ true → Limited (record { n = c .n; d = c .d; m = c .m })

@@ -13,12 +13,16 @@ use Rattle.definitions.specs.declared.Refusal.{Refusal}
 use Rattle.definitions.specs.declared.Refusal.the-variants.{CutShort}
 use Rattle.definitions.specs.Rules.{standard}
 use Rattle.definitions.specs.Case.{lentLength}
-use Rattle.definitions.specs.Lines.{zeroUnless}
+use Rattle.definitions.specs.Lines.{zeroUnless, lineLength}
 use Rattle.definitions.specs.CaseFiles.{isCut, headed}
 use Rattle.definitions.specs.Calls.{readLineAnswer}
 
+-- the bytes of a line
+abbrev pub lineBytes : ℕ
+lineBytes = lineLength (standard .amountWidth)
+
 unfoldable pub lineFrom : List ℕ → LineRead
-lineFrom t = if isCut standard t then LineRead.Refused CutShort else readLineAnswer standard (take 27 t)
+lineFrom t = if isCut standard t then LineRead.Refused CutShort else readLineAnswer standard (take lineBytes t)
 
 -- a line of a kind that uses its first two places, and the third and the amount or not
 abbrev pub ofKind : ℤ → Bool → Bool → Line → Bool

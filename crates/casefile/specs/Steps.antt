@@ -15,22 +15,23 @@ use Rattle.definitions.specs.declared.FileAnswer.{FileAnswer}
 use Rattle.definitions.specs.declared.Outcome.{Outcome}
 use Rattle.definitions.specs.declared.Refusal.{Refusal}
 use Rattle.definitions.specs.declared.Refusal.the-variants.{NotDue, OutOfRange, EndsNotAscending, EdgeRepeated, WeightOutOfRange, CutShort}
-use Rattle.definitions.specs.Rules.{standard}
+use Rattle.definitions.specs.Rules.{standard, edgePlaces}
 use Rattle.definitions.specs.Refusals.{Test, _when_, firstOf}
 use Rattle.definitions.specs.Answers.{outcomeOf, unlessRefused}
 use Rattle.definitions.specs.Valid.{startingWeight}
 use Rattle.definitions.specs.Lines.{notDue, outside}
 use Rattle.definitions.specs.CaseFiles.{CaseDue, variable-weight, edge-ends, edge-weight, dues, dueTests, names, caseOf, Reading, took, CaseCall, caseRefused, caseTaken, isCut, firstLine, readDues}
+use Rattle.casefile.specs.Reads.{lineBytes}
 use Rattle.casefile.specs.declared.Sizes.{Sizes}
 use Rattle.casefile.specs.declared.Awaited.{Awaited}
 use Rattle.casefile.specs.declared.Awaited.the-variants.{VariableWeight, EdgeEnds, EdgeWeight}
 
 -- sizes within the limits
 pub record Limited (s : Sizes) : Type 0 where
-  pub variables : s .n ≤ 48
+  pub variables : s .n ≤ standard .variables
   pub some-value : 1 ≤ s .d
-  pub values : s .d ≤ 8
-  pub edges : s .m ≤ 96
+  pub values : s .d ≤ standard .values
+  pub edges : s .m ≤ standard .edges
 
 -- ---- what is due at line q after the head
 
@@ -44,6 +45,12 @@ abbrev pub InCase : Sizes → Awaited → Type 0
 InCase s (VariableWeight i k) = (i < s .n) × (k < s .d)
 InCase s (EdgeEnds e) = e < s .m
 InCase s (EdgeWeight e k l) = (e < s .m) × (k < s .d) × (l < s .d)
+
+-- it is due at line q after the head
+abbrev pub AtLine : Sizes → ℕ → Awaited → Type 0
+AtLine s q (VariableWeight i k) = (q ≡ i * s .d + k) × (i < s .n) × (k < s .d)
+AtLine s q (EdgeEnds e) = (q ≡ s .n * s .d + e * (1 + s .d * s .d)) × (e < s .m)
+AtLine s q (EdgeWeight e k l) = (q ≡ s .n * s .d + (e * (1 + s .d * s .d) + (1 + (k * s .d + l)))) × (e < s .m) × (k < s .d) × (l < s .d)
 
 -- at line p after the variables' lines, by its edge and its line there
 abbrev pub edgeDue : ℕ → ℕ → ℕ → CaseDue
@@ -112,10 +119,10 @@ pub record SteppedAt (s : Sizes) (lower upper : List ℕ) (w : List ℤ) (t : Li
 -- ---- what is left to read after q lines
 
 unfoldable pub leftFrom : Sizes → Reading → ℕ → List ℕ → CaseCall
-leftFrom s g q t = readDues standard g (q + 1) (drop q (dues (caseOf standard (s .n) (s .d) (s .m)))) (drop (27 * (q + 1)) t)
+leftFrom s g q t = readDues standard g (q + 1) (drop q (dues (caseOf standard (s .n) (s .d) (s .m)))) (drop (lineBytes * (q + 1)) t)
 
 abbrev pub noEnds : List ℕ
-noEnds = replicate 96 0
+noEnds = replicate edgePlaces 0
 
 -- the call that the answer and what was lent make
 abbrev pub callOf : FileAnswer → Reading → CaseCall

@@ -11,14 +11,14 @@ use definitions::Written;
 ghost use mathlib.Core.Path.{_≡_};
 ghost use mathlib.Core.Bool.{false, not, _&&_, _||_};
 ghost use mathlib.Core.Option.{none, some};
-ghost use Prim.Native.Nat.{_+_, _*_, _≤_, _<_};
+ghost use Prim.Native.Nat.{ℕ, _+_, _*_, _≤_, _<_};
 ghost use mathlib.Core.List.{List, _++_};
 ghost use lib.IntN.{ℤ, pos, natAbs};
 ghost use lib.Dec.{T, eqb};
 ghost use lib.Signed.{ltZ, leZ};
 ghost use lib.ListN.{length, getD, set, take, drop};
 ghost use Rattle.integers.specs.Words.{withinZ};
-ghost use Rattle.definitions.specs.Rules.{standard};
+ghost use Rattle.definitions.specs.Rules.{standard, edgePlaces};
 ghost use Rattle.definitions.specs.Refusals.{firstOf};
 ghost use Rattle.definitions.specs.Lines.{zeroUnless, outside, line, lineText, lineTooWide, overwritten};
 ghost use Rattle.definitions.specs.Valid.{startingWeight};
@@ -27,8 +27,8 @@ ghost use Rattle.definitions.specs.CaseFiles.{headTests, caseSize, caseRefused,
 ghost use Rattle.definitions.specs.Calls.{writeCaseCall};
 ghost use Rattle.theory.proofs.Validity.{Valid};
 ghost use Rattle.theory.proofs.CaseDues.{lineOf};
-ghost use Rattle.casefile.specs.Steps.{Limited, dueOf, InCase, edgeDueAt, dueAt, linesDue, weightTests, endsTests, joinedBefore, repeatTest, caseWith, reading, lineRefusal, tableOf, Stepped, SteppedAt, leftFrom, callOf, noEnds};
-ghost use Rattle.casefile.specs.Reads.{lineFrom, ofKind, limitsZ, sizeOf};
+ghost use Rattle.casefile.specs.Steps.{Limited, dueOf, InCase, AtLine, linesDue, weightTests, endsTests, joinedBefore, repeatTest, caseWith, reading, lineRefusal, tableOf, Stepped, SteppedAt, leftFrom, callOf, noEnds};
+ghost use Rattle.casefile.specs.Reads.{lineBytes, lineFrom, ofKind, limitsZ, sizeOf};
 
 // The length of a line.
 const LINE: usize = 27;
@@ -106,7 +106,7 @@ fn within_limits(line: Line) -> bool
 }
 
 fn sized(n: usize, d: usize, m: usize) -> CaseSize
-    requires { ⌜ (n ≤ 48) × (d ≤ 8) × (m ≤ 96) ⌝ }
+    requires { ⌜ (n ≤ standard .variables) × (d ≤ standard .values) × (m ≤ standard .edges) ⌝ }
     ensures { λ r. ⌜ r ≡ CaseSize.Size n d m (n * d + m * (d * d)) ⌝ }
 {
     CaseSize::Size {
@@ -138,39 +138,77 @@ fn size_of(line: Line) -> CaseSize
 
 // ---- what is due
 
-fn edge_awaited(d: usize, p: usize) -> Awaited
-    requires { ⌜ (1 ≤ d) × (d ≤ 8) ⌝ }
-    ensures { λ r. ⌜ (dueOf r ≡ edgeDueAt d p) × ((s : Sizes) → s .d ≡ d → p < s .m * (1 + d * d) → InCase s r) ⌝ }
-{
-    let size = 1 + d * d;
-    let e = p / size;
-    let line = p % size;
-    if line == 0 {
-        return Awaited::EdgeEnds(e);
-    }
-    let t = line - 1;
-    Awaited::EdgeWeight {
-        edge: e,
-        k: t / d,
-        l: t % d,
-    }
-}
-
-// What is due at line q after the head.
-fn await_at(sizes: Sizes, q: usize) -> Awaited
+// What is due at the first line after the head.
+fn first_due(sizes: Sizes) -> Awaited
     requires { ⌜ Limited sizes ⌝ }
-    requires { ⌜ q < linesDue sizes ⌝ }
-    ensures { λ r. ⌜ (dueOf r ≡ dueAt sizes q) × InCase sizes r ⌝ }
+    ensures { λ r. ⌜ (0 < linesDue sizes → AtLine sizes 0 r) ⌝ }
 {
-    let d = sizes.d;
-    let front = sizes.n * d;
-    if q < front {
+    if 0 < sizes.n {
         return Awaited::VariableWeight {
-            variable: q / d,
-            value: q % d,
+            variable: 0,
+            value: 0,
         };
     }
-    edge_awaited(d, q - front)
+    Awaited::EdgeEnds(0)
+}
+
+fn after_variable(sizes: Sizes, i: usize, k: usize) -> Awaited
+    requires { ⌜ Limited sizes ⌝ }
+    requires { ⌜ (i < sizes .n) × (k < sizes .d) ⌝ }
+    ensures { λ r. ⌜ ((q : ℕ) → AtLine sizes q (Awaited.VariableWeight i k) → q + 1 < linesDue sizes → AtLine sizes (q + 1) r) ⌝ }
+{
+    if k + 1 < sizes.d {
+        return Awaited::VariableWeight {
+            variable: i,
+            value: k + 1,
+        };
+    }
+    if i + 1 < sizes.n {
+        return Awaited::VariableWeight {
+            variable: i + 1,
+            value: 0,
+        };
+    }
+    Awaited::EdgeEnds(0)
+}
+
+fn after_edge(sizes: Sizes, e: usize, k: usize, l: usize) -> Awaited
+    requires { ⌜ Limited sizes ⌝ }
+    requires { ⌜ (e < sizes .m) × (k < sizes .d) × (l < sizes .d) ⌝ }
+    ensures { λ r. ⌜ ((q : ℕ) → AtLine sizes q (Awaited.EdgeWeight e k l) → q + 1 < linesDue sizes → AtLine sizes (q + 1) r) ⌝ }
+{
+    if l + 1 < sizes.d {
+        return Awaited::EdgeWeight {
+            edge: e,
+            k,
+            l: l + 1,
+        };
+    }
+    if k + 1 < sizes.d {
+        return Awaited::EdgeWeight {
+            edge: e,
+            k: k + 1,
+            l: 0,
+        };
+    }
+    Awaited::EdgeEnds(e + 1)
+}
+
+// What is due at the line after the one at which `due` is.
+fn next_due(sizes: Sizes, due: Awaited) -> Awaited
+    requires { ⌜ Limited sizes ⌝ }
+    requires { ⌜ InCase sizes due ⌝ }
+    ensures { λ r. ⌜ ((q : ℕ) → AtLine sizes q due → q + 1 < linesDue sizes → AtLine sizes (q + 1) r) ⌝ }
+{
+    match due {
+        Awaited::VariableWeight { variable, value } => after_variable(sizes, variable, value),
+        Awaited::EdgeEnds(edge) => Awaited::EdgeWeight {
+            edge: edge,
+            k: 0,
+            l: 0,
+        },
+        Awaited::EdgeWeight { edge, k, l } => after_edge(sizes, edge, k, l),
+    }
 }
 
 // ---- a weight's line
@@ -277,7 +315,7 @@ fn check_ends(line: Line, n: usize, e: usize) -> Outcome
 }
 
 fn has_ends<'a>(lower: &'a [u8; 96], upper: &'a [u8; 96], f: usize, i: u8, j: u8) -> bool
-    requires { ⌜ f < 96 ⌝ }
+    requires { ⌜ f < edgePlaces ⌝ }
     ensures { λ r. ⌜ r ≡ (eqb (getD (now (lower .entry)) f 0) i && eqb (getD (now (upper .entry)) f 0) j) ⌝ }
 {
     lower[f] == i && upper[f] == j
@@ -285,7 +323,7 @@ fn has_ends<'a>(lower: &'a [u8; 96], upper: &'a [u8; 96], f: usize, i: u8, j: u8
 
 // An edge before e joins i and j.
 fn joined_before<'a>(lower: &'a [u8; 96], upper: &'a [u8; 96], e: usize, i: u8, j: u8) -> bool
-    requires { ⌜ e < 96 ⌝ }
+    requires { ⌜ e < edgePlaces ⌝ }
     ensures { λ r. ⌜ r ≡ joinedBefore (now (lower .entry)) (now (upper .entry)) e i j ⌝ }
 {
     let mut f: usize = 0;
@@ -300,7 +338,7 @@ fn joined_before<'a>(lower: &'a [u8; 96], upper: &'a [u8; 96], e: usize, i: u8, 
 
 // Joins i and j by edge e, if no edge before e does.
 fn join(i: u8, j: u8, e: usize, lower: &mut [u8; 96], upper: &mut [u8; 96]) -> Outcome
-    requires { ⌜ e < 96 ⌝ }
+    requires { ⌜ e < edgePlaces ⌝ }
     ensures { λ r. ⌜ (r ≡ outcomeOf (firstOf (repeatTest (now (lower .entry)) (now (upper .entry)) e i j))) × (now (lower .exit) ≡ unlessRefused (firstOf (repeatTest (now (lower .entry)) (now (upper .entry)) e i j)) (set (now (lower .entry)) e i) (now (lower .entry))) × (now (upper .exit) ≡ unlessRefused (firstOf (repeatTest (now (lower .entry)) (now (upper .entry)) e i j)) (set (now (upper .entry)) e j) (now (upper .entry))) ⌝ }
 {
     if joined_before(lower, upper, e, i, j) {
@@ -326,7 +364,7 @@ fn take_ends(
     upper: &mut [u8; 96],
 ) -> Outcome
     requires { ⌜ Limited sizes ⌝ }
-    requires { ⌜ e < 96 ⌝ }
+    requires { ⌜ e < edgePlaces ⌝ }
     ensures { λ r. ⌜ (r ≡ outcomeOf (lineRefusal (caseWith sizes (now (lower .entry)) (now (upper .entry))) (edge-ends e) (some line))) × (now (lower .exit) ≡ unlessRefused (lineRefusal (caseWith sizes (now (lower .entry)) (now (upper .entry))) (edge-ends e) (some line)) (set (now (lower .entry)) e (natAbs (line .b))) (now (lower .entry))) × (now (upper .exit) ≡ unlessRefused (lineRefusal (caseWith sizes (now (lower .entry)) (now (upper .entry))) (edge-ends e) (some line)) (set (now (upper .entry)) e (natAbs (line .c))) (now (upper .entry))) ⌝ }
 {
     let checked = check_ends(line, sizes.n, e);
@@ -355,21 +393,20 @@ fn edge_place(sizes: Sizes, e: usize, k: usize, l: usize) -> usize
     sizes.n * d + (e * (d * d) + (k * d + l))
 }
 
-// Takes the line that is due at line q after the head.
+// Takes a line, where `due` is due.
 fn take(
     line: Line,
     sizes: Sizes,
-    q: usize,
+    due: Awaited,
     lower: &mut [u8; 96],
     upper: &mut [u8; 96],
     table: &mut [i64],
 ) -> Outcome
     requires { ⌜ Limited sizes ⌝ }
-    requires { ⌜ q < linesDue sizes ⌝ }
+    requires { ⌜ InCase sizes due ⌝ }
     requires { ⌜ length (now table) ≡ tableOf sizes ⌝ }
-    ensures { λ r. ⌜ Stepped sizes (now (lower .entry)) (now (upper .entry)) (now (table .entry)) line (dueAt sizes q) r (reading sizes (now (lower .exit)) (now (upper .exit)) (now (table .exit))) ⌝ }
+    ensures { λ r. ⌜ Stepped sizes (now (lower .entry)) (now (upper .entry)) (now (table .entry)) line (dueOf due) r (reading sizes (now (lower .exit)) (now (upper .exit)) (now (table .exit))) ⌝ }
 {
-    let due = await_at(sizes, q);
     match due {
         Awaited::VariableWeight { variable, value } => take_weight(
             line,
@@ -397,19 +434,20 @@ fn take_at(
     bytes: &[u8],
     sizes: Sizes,
     q: usize,
+    due: Awaited,
     lower: &mut [u8; 96],
     upper: &mut [u8; 96],
     table: &mut [i64],
 ) -> Outcome
     requires { ⌜ Limited sizes ⌝ }
-    requires { ⌜ (q < linesDue sizes) × (27 * (q + 1) ≤ length (now bytes)) ⌝ }
+    requires { ⌜ (q < linesDue sizes) × (lineBytes * (q + 1) ≤ length (now bytes)) × InCase sizes due ⌝ }
     requires { ⌜ length (now table) ≡ tableOf sizes ⌝ }
-    ensures { λ r. ⌜ SteppedAt sizes (now (lower .entry)) (now (upper .entry)) (now (table .entry)) (drop (27 * (q + 1)) (now (bytes .entry))) (dueAt sizes q) r (reading sizes (now (lower .exit)) (now (upper .exit)) (now (table .exit))) ⌝ }
+    ensures { λ r. ⌜ SteppedAt sizes (now (lower .entry)) (now (upper .entry)) (now (table .entry)) (drop (lineBytes * (q + 1)) (now (bytes .entry))) (dueOf due) r (reading sizes (now (lower .exit)) (now (upper .exit)) (now (table .exit))) ⌝ }
 {
     let read = line_at(bytes, LINE * (q + 1));
     match read {
         LineRead::Refused(refusal) => Outcome::Refused(refusal),
-        LineRead::Read(line) => take(line, sizes, q, lower, upper, table),
+        LineRead::Read(line) => take(line, sizes, due, lower, upper, table),
     }
 }
 
@@ -430,14 +468,15 @@ fn read_lines(
     table: &mut [i64],
 ) -> FileAnswer
     requires { ⌜ Limited sizes ⌝ }
-    requires { ⌜ 27 ≤ length (now bytes) ⌝ }
+    requires { ⌜ lineBytes ≤ length (now bytes) ⌝ }
     requires { ⌜ length (now table) ≡ tableOf sizes ⌝ }
     ensures { λ r. ⌜ callOf r (reading sizes (now (lower .exit)) (now (upper .exit)) (now (table .exit))) ≡ leftFrom sizes (reading sizes (now (lower .entry)) (now (upper .entry)) (now (table .entry))) 0 (now (bytes .entry)) ⌝ }
 {
     let total = lines_due(sizes);
     let mut q: usize = 0;
+    let mut due = first_due(sizes);
     while q < total {
-        let taken = take_at(bytes, sizes, q, lower, upper, table);
+        let taken = take_at(bytes, sizes, q, due, lower, upper, table);
         match taken {
             Outcome::Refused(refusal) => {
                 return FileAnswer::Refused {
@@ -446,6 +485,7 @@ fn read_lines(
                 };
             }
             Outcome::Done => {
+                due = next_due(sizes, due);
                 q += 1;
             }
         }
@@ -487,7 +527,7 @@ fn accepted(lines: usize, sizes: Sizes, lower: [u8; 96], upper: [u8; 96]) -> Cas
 
 fn read_body(bytes: &[u8], sizes: Sizes, table: &mut [i64]) -> CaseRead
     requires { ⌜ Limited sizes ⌝ }
-    requires { ⌜ 27 ≤ length (now bytes) ⌝ }
+    requires { ⌜ lineBytes ≤ length (now bytes) ⌝ }
     requires { ⌜ length (now table) ≡ tableOf sizes ⌝ }
     ensures { λ r. ⌜ (r ≡ leftFrom sizes (reading sizes noEnds noEnds (now (table .entry))) 0 (now (bytes .entry)) .read) × (now (table .exit) ≡ leftFrom sizes (reading sizes noEnds noEnds (now (table .entry))) 0 (now (bytes .entry)) .table) ⌝ }
 {
@@ -545,20 +585,19 @@ fn head_line(sizes: Sizes) -> Line
     make_line(10, sizes.n, sizes.d, sizes.m, 0)
 }
 
-// The line q after the head.
+// The line at which `due` is due.
 fn line_after<'a>(
     sizes: Sizes,
     lower: &'a [u8; 96],
     upper: &'a [u8; 96],
     table: &[i64],
-    q: usize,
+    due: Awaited,
 ) -> Line
     requires { ⌜ Limited sizes ⌝ }
-    requires { ⌜ q < linesDue sizes ⌝ }
+    requires { ⌜ InCase sizes due ⌝ }
     requires { ⌜ length (now table) ≡ tableOf sizes ⌝ }
-    ensures { λ r. ⌜ r ≡ lineOf (caseWith sizes (now (lower .entry)) (now (upper .entry))) (now (table .entry)) (dueAt sizes q) ⌝ }
+    ensures { λ r. ⌜ r ≡ lineOf (caseWith sizes (now (lower .entry)) (now (upper .entry))) (now (table .entry)) (dueOf due) ⌝ }
 {
-    let due = await_at(sizes, q);
     match due {
         Awaited::VariableWeight { variable, value } => {
             let place = variable_place(sizes, variable, value);
@@ -574,8 +613,8 @@ fn line_after<'a>(
 
 // Puts a line that fits its columns at byte `from`.
 fn put_at(out: &mut [u8], from: usize, line: Line)
-    requires { ⌜ (from + 27 ≤ length (now out)) × (lineTooWide 12 line ≡ false) ⌝ }
-    ensures { λ _. ⌜ now (out .exit) ≡ take from (now (out .entry)) ++ (lineText 12 line ++ drop (from + 27) (now (out .entry))) ⌝ }
+    requires { ⌜ (from + lineBytes ≤ length (now out)) × (lineTooWide (standard .amountWidth) line ≡ false) ⌝ }
+    ensures { λ _. ⌜ now (out .exit) ≡ take from (now (out .entry)) ++ (lineText (standard .amountWidth) line ++ drop (from + lineBytes) (now (out .entry))) ⌝ }
 {
     let to = from + LINE;
     lines::write_line(&mut out[from..to], line);
@@ -589,15 +628,17 @@ fn put_lines<'a>(
     out: &mut [u8],
 )
     requires { ⌜ Valid standard (caseWith sizes (now lower) (now upper)) (now table) ⌝ }
-    requires { ⌜ 27 * (linesDue sizes + 1) ≤ length (now out) ⌝ }
+    requires { ⌜ lineBytes * (linesDue sizes + 1) ≤ length (now out) ⌝ }
     ensures { λ _. ⌜ now (out .exit) ≡ overwritten (caseText standard (caseWith sizes (now (lower .entry)) (now (upper .entry))) (now (table .entry))) (now (out .entry)) ⌝ }
 {
     let total = lines_due(sizes);
     put_at(out, 0, head_line(sizes));
     let mut q: usize = 0;
+    let mut due = first_due(sizes);
     while q < total {
-        let line = line_after(sizes, lower, upper, table, q);
+        let line = line_after(sizes, lower, upper, table, due);
         put_at(out, LINE * (q + 1), line);
+        due = next_due(sizes, due);
         q += 1;
     }
 }
@@ -605,7 +646,7 @@ fn put_lines<'a>(
 // The bytes of the whole file.
 fn file_bytes(sizes: Sizes) -> usize
     requires { ⌜ Limited sizes ⌝ }
-    ensures { λ r. ⌜ r ≡ 27 * (linesDue sizes + 1) ⌝ }
+    ensures { λ r. ⌜ r ≡ lineBytes * (linesDue sizes + 1) ⌝ }
 {
     LINE * (lines_due(sizes) + 1)
 }

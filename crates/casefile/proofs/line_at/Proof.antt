@@ -1,3 +1,4 @@
+use Rattle.casefile.specs.Reads.{lineBytes}
 use mathlib.Core.Path.{_≡_, sym, _∙_}
 use Prim.Native.Nat.{_+_, _-_}
 use native.Mathlib.Omega.{arith}
@@ -32,7 +33,7 @@ read-line-requires c κs = search needs
 returns-2 : tie.Need-returns-2
 returns-2 c =
     let a = c .before .before .before .before .args in
-    let n : a .from + 27 - a .from ≡ 27 = omega arith in
+    let n : a .from + lineBytes - a .from ≡ lineBytes = omega arith in
     (rw n at (c .read-line .ensures)) ∙ sym (not-cut (drop (a .from) (now (a .bytes))) (rw length-drop (omega arith)))
 
 pub line-at-spec : {M : Type 1} → statement M

@@ -1,3 +1,4 @@
+use Rattle.casefile.specs.Reads.{lineBytes}
 use mathlib.Core.Path.{_≡_, _∙_}
 use Prim.Native.Nat.{_+_, _-_}
 use native.Mathlib.Omega.{arith}
@@ -9,8 +10,8 @@ use borrow.Author.Needs.{needs}
 use Rattle.casefile.proofs.put_at.Statement.{statement}
 use Rattle.casefile.proofs.put_at.Tie as tie
 
-part-length : (a : tie.Start) → length (take (a .args .from + 27 - a .args .from) (drop (a .args .from) (now (a .args .out)))) ≡ 27
-part-length a = length-take-le (a .args .from + 27 - a .args .from) (drop (a .args .from) (now (a .args .out))) (simp length-drop (omega arith)) ∙ omega arith
+part-length : (a : tie.Start) → length (take (a .args .from + lineBytes - a .args .from) (drop (a .args .from) (now (a .args .out)))) ≡ lineBytes
+part-length a = length-take-le (a .args .from + lineBytes - a .args .from) (drop (a .args .from) (now (a .args .out))) (simp length-drop (omega arith)) ∙ omega arith
 
 add-to : tie.Need-add-to
 add-to c = search needs
@@ -35,8 +36,8 @@ returns c =
     let k = c .before .before in
     let a = k .before .before .before in
     let o = now (a .args .out) in
-    let n : a .args .from + 27 - a .args .from ≡ 27 = omega arith in
-    rw (k .write-line .ensures .1 ∙ line-over (take (a .args .from + 27 - a .args .from) (drop (a .args .from) o)) (a .args .line) (part-length a) (a .pre .1), n, drop-drop 27 (a .args .from) o)
+    let n : a .args .from + lineBytes - a .args .from ≡ lineBytes = omega arith in
+    rw (k .write-line .ensures .1 ∙ line-over (take (a .args .from + lineBytes - a .args .from) (drop (a .args .from) o)) (a .args .line) (part-length a) (a .pre .1), n, drop-drop lineBytes (a .args .from) o)
 
 pub put-at-spec : {M : Type 1} → statement M
 put-at-spec =

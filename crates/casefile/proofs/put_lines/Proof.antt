@@ -1,44 +1,57 @@
+use Rattle.casefile.specs.Reads.{lineBytes}
 use Rattle.definitions.specs.Rules.{standard}
 use Rattle.definitions.specs.CaseFiles.{caseText}
 use Rattle.casefile.specs.Steps.{caseWith}
-use Rattle.casefile.proofs.Dues.{lines-small}
+use Rattle.casefile.proofs.Dues.{lines-small, due-known, mostLines}
+use Rattle.theory.proofs.CaseDues.{lineOf}
 use mathlib.Core.Path.{_≡_, refl, sym, ap, _∙_}
 use Prim.Native.Nat.{_+_, _*_, _-_, _≤_, _<_}
 use native.Mathlib.Omega.{arith}
 use denote.Ref.{now}
 use lib.ListN.{length}
 use Rattle.definitions.specs.Lines.{overwritten}
-use Rattle.casefile.specs.Steps.{linesDue}
+use Rattle.casefile.specs.Steps.{dueOf, InCase, AtLine, dueAt, linesDue}
 use Rattle.casefile.proofs.Writes.{written, written-all, valid-limited, first-fits, line-fits, put-first, put-next, over-twice}
 use Rattle.casefile.proofs.put_lines.Statement.{statement}
 use Rattle.casefile.proofs.put_lines.Tie as tie
 
 abbrev Inv-loop : tie.InvT-loop
-Inv-loop sizes lower upper table out₀ total q₀ out q =
-    (q ≤ linesDue sizes) × (length (written sizes lower upper table q) ≡ 27 * (q + 1)) × (length out ≡ length out₀) × (out ≡ overwritten (written sizes lower upper table q) out₀)
+Inv-loop sizes lower upper table out₀ total q₀ due₀ out q due =
+    (q ≤ linesDue sizes) × (length (written sizes lower upper table q) ≡ lineBytes * (q + 1)) × (length out ≡ length out₀) × (out ≡ overwritten (written sizes lower upper table q) out₀) × (q < linesDue sizes → AtLine sizes q due)
 
 abbrev μ-loop : tie.MeasureT-loop
-μ-loop sizes lower upper table out₀ total q₀ out q = linesDue sizes - q
+μ-loop sizes lower upper table out₀ total q₀ due₀ out q due = linesDue sizes - q
 
 -- the head is in its place
 first : (c : tie.After-put-at Inv-loop μ-loop) → let a = c .before .before .before .before .before .args in
     let t = written (a .sizes) (now (a .lower)) (now (a .upper)) (now (a .table)) 0 in
-    (length t ≡ 27) × (length (c .put-at .last .0) ≡ length (now (a .out))) × (c .put-at .last .0 ≡ overwritten t (now (a .out)))
+    (length t ≡ lineBytes) × (length (c .put-at .last .0) ≡ length (now (a .out))) × (c .put-at .last .0 ≡ overwritten t (now (a .out)))
 first c =
     let a = c .before .before .before .before .before in
     put-first (a .args .sizes) (now (a .args .lower)) (now (a .args .upper)) (now (a .args .table)) (a .pre .0) (now (a .args .out)) (c .put-at .last .0) (rw (c .before .head-line .ensures) at (c .put-at .ensures)) (omega arith)
 
 -- there is room for line q
-room : (c : tie.In-loop Inv-loop μ-loop) → let l = c .before in let a = l .before .before .before .before .before .before .before .before .args in
-    (l .loop .q < linesDue (a .sizes)) × (27 * (l .loop .q + 1) + 27 ≤ length (l .loop .out)) × (l .loop .q < 6624)
+room : (c : tie.In-loop Inv-loop μ-loop) → let l = c .before in let a = l .before .before .before .before .before .before .before .before .before .args in
+    (l .loop .q < linesDue (a .sizes)) × (lineBytes * (l .loop .q + 1) + lineBytes ≤ length (l .loop .out)) × (l .loop .q < mostLines)
 room c =
     let l = c .before in
-    let p = l .before .before .before in
+    let p = l .before .before .before .before in
     let n = p .before .before .before in
     let a = n .before .before in
     let s = a .args .sizes in
     let h : l .loop .q < linesDue s = omega (arith, n .lines-due .ensures, c .loop-test .taken) in
     (h, omega (arith, h, l .loop .inv .2, first p .1, a .pre .1), omega (arith, h, lines-small s (valid-limited s (now (a .args .lower)) (now (a .args .upper)) (now (a .args .table)) (a .pre .0))))
+
+-- what is due at line q, and its line
+known : (c : tie.In-loop Inv-loop μ-loop) → let l = c .before in let a = l .before .before .before .before .before .before .before .before .before .args in
+    (dueOf (l .loop .due) ≡ dueAt (a .sizes) (l .loop .q)) × InCase (a .sizes) (l .loop .due)
+known c = let l = c .before in due-known (l .before .before .before .before .before .before .before .before .before .args .sizes) (l .loop .q) (l .loop .due) (l .loop .inv .4 (room c .0))
+
+line-is : (c : tie.After-line-after Inv-loop μ-loop) → let l = c .before .before in let a = l .before .before .before .before .before .before .before .before .before .args in
+    c .line-after .result ≡ lineOf (caseWith (a .sizes) (now (a .lower)) (now (a .upper))) (now (a .table)) (dueAt (a .sizes) (l .loop .q))
+line-is c =
+    let a = c .before .before .before .before .before .before .before .before .before .before .before .args in
+    c .line-after .ensures ∙ ap (lineOf (caseWith (a .sizes) (now (a .lower)) (now (a .upper))) (now (a .table))) (known (c .before) .0)
 
 lines-due-requires : tie.Need-lines-due-requires Inv-loop μ-loop
 lines-due-requires c κs = let a = c .before in valid-limited (a .args .sizes) (now (a .args .lower)) (now (a .args .upper)) (now (a .args .table)) (a .pre .0)
@@ -49,21 +62,24 @@ head-line-requires c κs = let a = c .before .before .before in valid-limited (a
 put-at-requires : tie.Need-put-at-requires Inv-loop μ-loop
 put-at-requires c κs =
     let a = c .before .before .before .before in
-    let h : 27 ≤ length (now (a .args .out)) = omega (arith, a .pre .1) in
+    let h : lineBytes ≤ length (now (a .args .out)) = omega (arith, a .pre .1) in
     (h, rw (c .head-line .ensures) (first-fits (a .args .sizes) (now (a .args .lower)) (now (a .args .upper)) (now (a .args .table)) (a .pre .0)))
+
+first-due-requires : tie.Need-first-due-requires Inv-loop μ-loop
+first-due-requires c κs = let a = c .before .before .before .before .before .before .before in valid-limited (a .args .sizes) (now (a .args .lower)) (now (a .args .upper)) (now (a .args .table)) (a .pre .0)
 
 loop-holds : tie.Need-loop-holds Inv-loop μ-loop
 loop-holds c =
-    let p = c .before .before in
+    let p = c .before .before .before in
     let a = p .before .before .before .before .before .args in
     let t = written (a .sizes) (now (a .lower)) (now (a .upper)) (now (a .table)) 0 in
     let (n, k, e) = first p in
-    (omega arith, n, refl, e ∙ sym (over-twice t t (now (a .out)) (omega arith)) ∙ ap (overwritten t) (sym e))
+    (omega arith, n, refl, e ∙ sym (over-twice t t (now (a .out)) (omega arith)) ∙ ap (overwritten t) (sym e), c .first-due .ensures)
 
 line-after-requires : tie.Need-line-after-requires Inv-loop μ-loop
 line-after-requires c κs =
-    let a = c .before .before .before .before .before .before .before .before .before in
-    (valid-limited (a .args .sizes) (now (a .args .lower)) (now (a .args .upper)) (now (a .args .table)) (a .pre .0), (room c .0, a .pre .0 .long))
+    let a = c .before .before .before .before .before .before .before .before .before .before in
+    (valid-limited (a .args .sizes) (now (a .args .lower)) (now (a .args .upper)) (now (a .args .table)) (a .pre .0), (known c .1, a .pre .0 .long))
 
 add-put-at : tie.Need-add-put-at Inv-loop μ-loop
 add-put-at c = omega (arith, room (c .before .before))
@@ -74,36 +90,42 @@ mul-put-at c = omega (arith, room (c .before .before))
 put-at-requires-2 : tie.Need-put-at-requires-2 Inv-loop μ-loop
 put-at-requires-2 c κs =
     let i = c .before .before in
-    let a = i .before .before .before .before .before .before .before .before .before in
-    (room i .1, rw (c .before .line-after .ensures) (line-fits (a .args .sizes) (now (a .args .lower)) (now (a .args .upper)) (now (a .args .table)) (a .pre .0) (i .before .loop .q) (room i .0)))
+    let a = i .before .before .before .before .before .before .before .before .before .before in
+    (room i .1, rw (line-is (c .before)) (line-fits (a .args .sizes) (now (a .args .lower)) (now (a .args .upper)) (now (a .args .table)) (a .pre .0) (i .before .loop .q) (room i .0)))
+
+next-due-requires : tie.Need-next-due-requires Inv-loop μ-loop
+next-due-requires c κs =
+    let i = c .before .before .before .before .before in
+    let a = i .before .before .before .before .before .before .before .before .before .before in
+    (valid-limited (a .args .sizes) (now (a .args .lower)) (now (a .args .upper)) (now (a .args .table)) (a .pre .0), known i .1)
 
 add-q : tie.Need-add-q Inv-loop μ-loop
-add-q c = omega (arith, room (c .before .before .before .before .before))
+add-q c = omega (arith, room (c .before .before .before .before .before .before))
 
 loop-less : tie.Need-loop-less Inv-loop μ-loop
-loop-less c = omega (arith, room (c .before .before .before .before .before))
+loop-less c = omega (arith, room (c .before .before .before .before .before .before))
 
 loop-again : tie.Need-loop-again Inv-loop μ-loop
 loop-again c =
-    let k = c .before .before in
+    let k = c .before .before .before in
     let m = k .before .before in
     let i = m .before in
     let l = i .before in
-    let p = l .before .before .before in
+    let p = l .before .before .before .before in
     let a = p .before .before .before .before .before in
     let (n, e, f) = put-next (a .args .sizes) (now (a .args .lower)) (now (a .args .upper)) (now (a .args .table)) (a .pre .0) (p .put-at .last .0) (l .loop .out) (k .put-at2 .last .0) (l .loop .q)
-    (room i .0) (l .loop .inv .1) (l .loop .inv .3) (room i .1) (rw (m .line-after .ensures) at (k .put-at2 .ensures)) in
-    (omega (arith, room i .0), n, e ∙ l .loop .inv .2, f)
+    (room i .0) (l .loop .inv .1) (l .loop .inv .3) (room i .1) (rw (line-is m) at (k .put-at2 .ensures)) in
+    (omega (arith, room i .0), n, e ∙ l .loop .inv .2, f, c .next-due .ensures (l .loop .q) (l .loop .inv .4 (room i .0)))
 
 same-length : tie.Need-same-length Inv-loop μ-loop
 same-length c =
     let l = c .before in
-    l .loop .inv .2 ∙ first (l .before .before .before) .1
+    l .loop .inv .2 ∙ first (l .before .before .before .before) .1
 
 returns : tie.Need-returns Inv-loop μ-loop
 returns c =
     let l = c .before in
-    let p = l .before .before .before in
+    let p = l .before .before .before .before in
     let n = p .before .before .before in
     let a = n .before .before .args in
     let t = written (a .sizes) (now (a .lower)) (now (a .upper)) (now (a .table)) 0 in
@@ -121,11 +143,13 @@ put-lines-spec =
     lines-due-requires
     head-line-requires
     put-at-requires
+    first-due-requires
     loop-holds
     line-after-requires
     add-put-at
     mul-put-at
     put-at-requires-2
+    next-due-requires
     add-q
     loop-less
     loop-again

@@ -1,8 +1,9 @@
+use Rattle.casefile.specs.Reads.{lineBytes}
 use mathlib.Core.Path.{sym, _∙_}
 use Prim.Native.Nat.{_+_, _*_}
 use lib.ListN.{drop}
 use denote.Ref.{now}
-use Rattle.casefile.specs.Steps.{dueAt}
+use Rattle.casefile.specs.Steps.{dueOf}
 use Rattle.casefile.proofs.Heads.{front}
 use Rattle.casefile.proofs.Taken.{at-refused, at-read}
 use borrow.Author.Needs.{needs}
@@ -31,8 +32,8 @@ returns : tie.Need-returns
 returns c =
     let l = c .before .before .before in
     let a = l .before .before .args in
-    let t = drop (27 * (a .q + 1)) (now (a .bytes)) in
-    at-refused (a .sizes) (now (a .lower)) (now (a .upper)) (now (a .table)) t (dueAt (a .sizes) (a .q)) (front t) (sym (l .line-at .ensures) ∙ c .before .read .given .1)
+    let t = drop (lineBytes * (a .q + 1)) (now (a .bytes)) in
+    at-refused (a .sizes) (now (a .lower)) (now (a .upper)) (now (a .table)) t (dueOf (a .due)) (front t) (sym (l .line-at .ensures) ∙ c .before .read .given .1)
 
 same-length : tie.Need-same-length
 same-length c = search needs
@@ -42,8 +43,8 @@ returns-2 c =
     let k = c .before .before .before .before .before .before in
     let l = k .before .before in
     let a = l .before .before .args in
-    let t = drop (27 * (a .q + 1)) (now (a .bytes)) in
-    at-read (a .sizes) (now (a .lower)) (now (a .upper)) (now (a .table)) t (dueAt (a .sizes) (a .q)) (front t) (sym (l .line-at .ensures) ∙ k .read2 .given .1) (c .before .take .ensures)
+    let t = drop (lineBytes * (a .q + 1)) (now (a .bytes)) in
+    at-read (a .sizes) (now (a .lower)) (now (a .upper)) (now (a .table)) t (dueOf (a .due)) (front t) (sym (l .line-at .ensures) ∙ k .read2 .given .1) (c .before .take .ensures)
 
 pub take-at-spec : {M : Type 1} → statement M
 take-at-spec =

@@ -1,3 +1,4 @@
+use Rattle.definitions.specs.Rules.{standard}
 use mathlib.Core.Path.{ap, _∙_}
 use lib.IntN.{pos}
 use mir.Syntax.{w64}
@@ -23,9 +24,9 @@ returns c =
     let s = p1 .before .struct-told .given in
     let l = p1 .before .before .args .line in
     rw (
-      p1 .in-range .ensures ∙ ap (withinZ (pos 1) (pos 48)) (read-back w64 (l .a) (s .1 .0 .1)),
-      p2 .in-range2 .ensures ∙ ap (withinZ (pos 1) (pos 8)) (read-back w64 (l .b) (s .1 .1 .0 .1)),
-      c .in-range3 .ensures ∙ ap (withinZ (pos 0) (pos 96)) (read-back w64 (l .c) (s .1 .1 .1 .0 .1)),
+      p1 .in-range .ensures ∙ ap (withinZ (pos 1) (pos (standard .variables))) (read-back w64 (l .a) (s .1 .0 .1)),
+      p2 .in-range2 .ensures ∙ ap (withinZ (pos 1) (pos (standard .values))) (read-back w64 (l .b) (s .1 .1 .0 .1)),
+      c .in-range3 .ensures ∙ ap (withinZ (pos 0) (pos (standard .edges))) (read-back w64 (l .c) (s .1 .1 .1 .0 .1)),
     )
 
 pub within-limits-spec : {M : Type 1} → statement M
