@@ -1,6 +1,7 @@
-// Executes the search for partners, the closure and refutation on samples of document 01, on a chain and on calls that are refused, a line for each.
+// Executes the search for partners, the closure, values tried one by one and refutation on samples of document 01, on a chain and on calls that are refused, a line for each.
 use consistency::Closed;
 use consistency::Partner;
+use consistency::Tried;
 use definitions::Case;
 use definitions::Outcome;
 use definitions::Refusal;
@@ -96,6 +97,15 @@ fn partner(label: &[u8], answer: Partner) {
     match answer {
         Partner::At(value) => print_bytes(&[value]),
         Partner::Nothing => print(b" none\n"),
+    }
+}
+
+fn told(label: &[u8], answer: Tried) {
+    print(label);
+    match answer {
+        Tried::Refuted => print(b" refuted\n"),
+        Tried::Supported => print(b" supported\n"),
+        Tried::Malformed => print(b" malformed\n"),
     }
 }
 
@@ -395,6 +405,46 @@ fn one_pair(label: &[u8], lower: u8, upper: u8) {
     closed(label, answer, &sets);
 }
 
+// The same pair, values of one variable tried.
+fn pair_tried(label: &[u8], raised: u8, sets: &[u8], variable: usize, values: u8) {
+    let rows = [3, 4, 0, 0, 0, 0, 0, 0, 1, 1, 2, 0, 0, 0, 0, 0];
+    told(
+        label,
+        consistency::all_refuted(&[0], &[1], &rows, &[raised], sets, variable, values),
+    );
+}
+
+fn tries_below() {
+    pair_tried(b"pair, 2 below", 1, &[7, 7], 0, 4);
+    pair_tried(b"pair, 1 2 below", 1, &[7, 7], 0, 6);
+    pair_tried(b"pair, nothing below", 1, &[7, 7], 0, 0);
+}
+
+fn tries_above() {
+    pair_tried(b"pair from 0 2, 0 to 2, 2 above", 1, &[5, 7], 1, 4);
+    pair_tried(b"pair from 0 2, 0 to 2, 1 2 above", 1, &[5, 7], 1, 6);
+}
+
+fn tries_unraised() {
+    pair_tried(b"pair not raised, 2 below", 0, &[7, 7], 0, 4);
+    pair_tried(b"pair not raised, 3 below", 0, &[7, 7], 0, 8);
+    pair_tried(b"pair not raised, a set empty", 0, &[7, 0], 0, 7);
+}
+
+fn tries_malformed() {
+    pair_tried(b"pair, variable 2", 1, &[7, 7], 2, 1);
+    pair_tried(b"pair, one variable", 1, &[7], 0, 1);
+    pair_tried(b"pair, 48 variables", 1, &[7; 48], 0, 4);
+    pair_tried(b"pair, 49 variables", 1, &[7; 49], 0, 4);
+}
+
+fn tries() {
+    tries_below();
+    tries_above();
+    tries_unraised();
+    tries_malformed();
+}
+
 fn malformed(label: &[u8], upper: u8, raised: &[u8]) {
     let rows = [1, 2, 0, 0, 0, 0, 0, 0, 1, 2, 0, 0, 0, 0, 0, 0];
     let mut sets = [1, 3];
@@ -583,6 +633,61 @@ fn refusals() {
     weighted(b"a weight of -500000001", -500000001);
 }
 
+// ---- the active values of a link, each scope's greatest weight given
+
+fn p4_active(label: &[u8], best: &[i64], raised: &[u8], variable: usize) {
+    let t = [2, 0, 2, 0, -3, 0, 0, 0];
+    let c = joining(2, 2, 1, [0, 0, 0, 0], [1, 0, 0, 0]);
+    verdict(
+        label,
+        consistency::active_refuted(c, &t, best, raised, variable),
+    );
+}
+
+fn p4_joining(label: &[u8], n: usize, lower: u8, upper: u8, t: &[i64]) {
+    let c = joining(n, 2, 1, [lower, 0, 0, 0], [upper, 0, 0, 0]);
+    verdict(
+        label,
+        consistency::active_refuted(c, t, &[2, 2, 0], &[0, 1, 1], 0),
+    );
+}
+
+fn p4_raised() {
+    p4_active(b"P4 raised 1 2 link 0", &[2, 2, 0], &[0, 1, 1], 0);
+    p4_active(b"P4 raised 1 link 0", &[2, 2, 0], &[0, 1, 0], 0);
+    p4_active(b"P4 bytes 0 7 255 link 0", &[2, 2, 0], &[0, 7, 255], 0);
+    p4_active(b"P4 raised 0 1 2 link 0", &[2, 2, 0], &[1, 1, 1], 0);
+}
+
+fn p4_given() {
+    p4_active(b"P4 with 0 for link 0", &[0, 2, 0], &[0, 1, 1], 0);
+    p4_active(b"P4 with 1 for link 0", &[1, 2, 0], &[0, 0, 0], 0);
+    p4_active(b"P4 with -3 for the pair", &[2, 2, -3], &[0, 1, 1], 0);
+}
+
+fn p4_lengths() {
+    p4_active(b"P4 with 2 greatest weights", &[2, 2], &[0, 1, 1], 2);
+    p4_active(b"P4 with 2 marks", &[2, 2, 0], &[0, 1], 2);
+    p4_active(b"P4 with more of both", &[2, 2, 0, 9], &[0, 1, 1, 9], 0);
+    p4_active(b"P4 link 2", &[2, 2, 0], &[0, 1, 1], 2);
+}
+
+fn p4_joined() {
+    let t = [2, 0, 2, 0, -3, 0, 0, 0];
+    let less = [2, 0, 2, 0, -3, 0, 0];
+    p4_joining(b"P4 joining 1 0", 2, 1, 0, &t);
+    p4_joining(b"P4 joining 0 2", 2, 0, 2, &t);
+    p4_joining(b"P4 with 7 weights, joining 0 2", 2, 0, 2, &less);
+    p4_joining(b"P4 with 0 links and 7 weights", 0, 0, 1, &less);
+}
+
+fn actives() {
+    p4_raised();
+    p4_given();
+    p4_lengths();
+    p4_joined();
+}
+
 fn main() {
     p1();
     p4();
@@ -590,6 +695,8 @@ fn main() {
     chain();
     partners();
     closures();
+    tries();
     active();
+    actives();
     refusals();
 }
