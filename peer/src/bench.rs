@@ -95,7 +95,7 @@ fn engine_rounds(
 }
 
 /// A log of untrimmed presses by 1: almost all raise lines.
-fn raise_log(case: &Case, rounds: usize) -> Vec<u8> {
+pub fn raise_log(case: &Case, rounds: usize) -> Vec<u8> {
     let mut state = State::new(case);
     let mut log = Vec::new();
     for _ in 0..rounds {

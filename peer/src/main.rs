@@ -35,7 +35,7 @@ use std::process::ExitCode;
 use types::*;
 
 const USAGE: &str = "usage: peer COMMAND [OPTIONS]
-  press [--limit ROUNDS]      case file in, log out
+  press [--limit ROUNDS] [--plain]  case file in, log out (by the plain engine)
   replay                      case file and log in, accepted or refused out
   slow-press, slow-replay     the same by the slow reading
   view ROUND                  log in, the round's lines out
@@ -45,6 +45,7 @@ const USAGE: &str = "usage: peer COMMAND [OPTIONS]
   generate KIND [--seed S] [--links N] [--values D] [--pairs M] [--unusable PERCENT]
   foreign [--seed S] [--careful]    case file in, case file and a foreign log out
   damage [--seed S]           any input in, damaged input out
+  untrimmed [--rounds N]      case file in, a log of untrimmed presses by 1 out
   check [--seconds N | --cases N] [--seed S] [--keep DIR] [--counts]
   compare [--seconds N] [--seed S] [--press PROGRAM] [--replay PROGRAM] [--keep DIR] [--counts]
   bench [--seconds N]         figures of speed";
@@ -80,6 +81,7 @@ fn run(command: &str, options: &mut Options) -> Result<ExitCode, String> {
         "ceiling" => print_after(options, ceiling),
         "generate" => generate_case(options),
         "foreign" => foreign_log(options),
+        "untrimmed" => untrimmed_log(options),
         "damage" => {
             let mut random = Random::new(options.number("seed", 1)?);
             print_after(options, |input| damage::damage(&mut random, input))
@@ -119,8 +121,13 @@ fn print_after(
 
 fn press(options: &mut Options) -> Result<ExitCode, String> {
     let limit = options.number("limit", PROGRAM_ROUNDS)?;
+    let run_case = if options.flag("plain") {
+        plain::run_case
+    } else {
+        engine::run_case
+    };
     print_after(options, |input| {
-        match programs::press_answer(input, limit) {
+        match programs::press_answer(input, limit, run_case) {
             Ok(run) => run.log,
             Err(refusal) => programs::refusal_text(refusal),
         }
@@ -205,6 +212,14 @@ fn generate_case(options: &mut Options) -> Result<ExitCode, String> {
         edges,
     };
     output(&case::write(&generate::case(&mut random, plan)))
+}
+
+fn untrimmed_log(options: &mut Options) -> Result<ExitCode, String> {
+    let rounds = options.number("rounds", 1000)?;
+    print_after(options, |input| match case::read_alone(input) {
+        Ok((case, _)) => bench::raise_log(&case, rounds as usize),
+        Err(refusal) => programs::refusal_text(refusal),
+    })
 }
 
 fn foreign_log(options: &mut Options) -> Result<ExitCode, String> {

@@ -6,7 +6,7 @@ pub struct Options {
     flags: Vec<String>,
 }
 
-const FLAGS: [&str; 2] = ["counts", "careful"];
+const FLAGS: [&str; 3] = ["counts", "careful", "plain"];
 
 impl Options {
     pub fn new(arguments: &[String]) -> Result<Options, String> {

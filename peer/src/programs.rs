@@ -9,10 +9,14 @@ pub fn refusal_text(refusal: Refusal) -> Vec<u8> {
     format!("refused {} {}\n", refusal.number, refusal.line).into_bytes()
 }
 
-/// The log of up to `limit` rounds, or the refusal.
-pub fn press_answer(input: &[u8], limit: u64) -> Result<Run, Refusal> {
+/// The log of up to `limit` rounds of the given engine, or the refusal.
+pub fn press_answer(
+    input: &[u8],
+    limit: u64,
+    run_case: fn(&Case, u64) -> Run,
+) -> Result<Run, Refusal> {
     let (case, used) = case::read_alone(input)?;
-    let run = engine::run_case(&case, limit);
+    let run = run_case(&case, limit);
     match run.stop {
         Stop::Refused(number) => Err(Refusal { number, line: used }),
         _ => Ok(run),
@@ -20,7 +24,7 @@ pub fn press_answer(input: &[u8], limit: u64) -> Result<Run, Refusal> {
 }
 
 pub fn press(input: &[u8]) -> Vec<u8> {
-    match press_answer(input, PROGRAM_ROUNDS) {
+    match press_answer(input, PROGRAM_ROUNDS, engine::run_case) {
         Ok(run) => run.log,
         Err(refusal) => refusal_text(refusal),
     }

@@ -134,6 +134,8 @@ def rounds(case, log):
     if log.rounds == 0:
         return ""
     carried = carried_rounds(log)
+    if carried == 0:
+        return '<p class="warning">The first round is too long to be laid out on a page.</p>'
     word = ""
     if carried < log.rounds:
         word = (
@@ -176,7 +178,7 @@ def reading():
 
 
 def data(case, log):
-    if log.rounds == 0:
+    if carried_rounds(log) == 0:
         return ""
     carried = log.ends[carried_rounds(log) - 1] * LINE
     return (
