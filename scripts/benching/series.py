@@ -18,9 +18,9 @@ def axes(quick):
     """Sizes (links, values, pairs) by what grows."""
     if quick:
         return {
-            "links": [(n, 8, 2 * n) for n in (6, 9, 12)],
-            "values": [(12, d, 24) for d in (2, 4, 8)],
-            "pairs": [(12, 8, m) for m in (6, 12, 24)],
+            "links": [(n, 8, 2 * n) for n in (6, 12)],
+            "values": [(12, d, 24) for d in (4, 8)],
+            "pairs": [(12, 8, m) for m in (12, 24)],
         }
     return {
         "links": [(n, 8, 2 * n) for n in (6, 12, 24, 36, 48)],
