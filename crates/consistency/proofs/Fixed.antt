@@ -10,7 +10,7 @@ use lib.IntN.{ℤ}
 use lib.Dec.{T, T-not, not-T, ltb, ltb→lt, eqb}
 use lib.ListN.{length, getD}
 use Rattle.integers.specs.Words.{if_then_else_, _⇒_}
-use Rattle.integers.specs.Tests.{and-left, is-true, is-false, either, same-test}
+use Rattle.integers.specs.Tests.{and-left, either, same-test}
 use Rattle.definitions.specs.declared.Case.{Case}
 use Rattle.definitions.specs.Rules.{standard}
 use Rattle.definitions.specs.Case.{active}
@@ -24,7 +24,6 @@ use Rattle.marks.proofs.Laws.{mark-byteOf}
 use Rattle.consistency.specs.Closure.{networkOfBytes, setsOf, isMalformed, someFamily, closureAnswer}
 use Rattle.consistency.specs.declared.Closed.the-variants.{Empty, Family as SomeFamily}
 use Rattle.consistency.specs.Active.{activeSet, aboveWhere, belowWhere, activeRow}
-use Rattle.consistency.specs.Sweeps.{Settled}
 use Rattle.consistency.specs.Refuted.{allowedSet, fixedSet}
 use Rattle.consistency.proofs.Results.{well-formed, answer-is}
 
@@ -136,12 +135,7 @@ module _ (c : Case) (w : List ℤ) (h : Handed standard (workingWeight standard)
         λ none. back (λ F p. none (λ j v. F j v && ltb v (c .d)) (to-more ends alike same-sets few-values only-values p)),
       )
 
-  -- what the sweeps leave says whether the value is refuted
-  pub settled-refuted : i < c .n → (S′ : List ℕ) (left : Bool) → Settled M (setsOf S) S′ left → not left ≡ refuted c w R i k
-  settled-refuted g S′ true p = sym (is-false (refuted c w R i k) (not-T (refuted c w R i k) (λ t. refuted-bytes g .0 t (setsOf S′) (p .0))))
-  settled-refuted g S′ false none = sym (is-true (refuted c w R i k) (refuted-bytes g .1 none))
-
-  -- and so does the answer of `closure` on these bytes
+  -- the answer of `closure` on these bytes says whether the value is refuted
   module _ (g : i < c .n) (good : isMalformed (length S) (c .lower) (c .upper) rows edges ≡ false) where
     pub some-family : someFamily M (setsOf S) ≡ not (refuted c w R i k)
     some-family =

@@ -1,5 +1,5 @@
 -- Laws that the functions' proofs share. Fixed has the key theorem: `closure-refuted`, and `refuted-bytes` behind it. Refutation has what is
--- cited of `all_refuted`: `tried-active` and `tried-refuted`.
+-- cited of `all_refuted`: `tried-active` and `tried-refuted`; Best has what is cited of `active_refuted`: `active-refuted-is`.
 pub mod Search
 pub mod Steps
 pub mod Results
