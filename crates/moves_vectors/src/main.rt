@@ -1,5 +1,5 @@
 // Executes shifts and presses on document 01's samples P5 to P9 and at the borders of their numbers: a line for each call, with its answer
-// and the table after it.
+// and the table after it, and where the greatest weights are kept also these.
 use definitions::Case;
 use definitions::Outcome;
 use definitions::Refusal;
@@ -60,9 +60,7 @@ fn print_refusal(refusal: Refusal) {
     print(b":");
 }
 
-fn show(label: &[u8], answer: Outcome, t: &[i64; 8]) {
-    print(label);
-    print_answer(answer);
+fn print_table(t: &[i64; 8]) {
     print_number(t[0]);
     print_number(t[1]);
     print_number(t[2]);
@@ -71,6 +69,23 @@ fn show(label: &[u8], answer: Outcome, t: &[i64; 8]) {
     print_number(t[5]);
     print_number(t[6]);
     print_number(t[7]);
+}
+
+fn show(label: &[u8], answer: Outcome, t: &[i64; 8]) {
+    print(label);
+    print_answer(answer);
+    print_table(t);
+    print(b"\n");
+}
+
+fn show_kept<'a>(label: &[u8], answer: Outcome, t: &'a [i64; 8], best: &'a [i64; 3]) {
+    print(label);
+    print_answer(answer);
+    print_table(t);
+    print(b", best");
+    print_number(best[0]);
+    print_number(best[1]);
+    print_number(best[2]);
     print(b"\n");
 }
 
@@ -113,6 +128,41 @@ fn press_in(label: &[u8], n: usize, lower: u8, upper: u8, weight: i64) {
     let raised = [1u16, 2];
     let answer = moves::press(clash(n, lower, upper), &mut t, 0, &raised, 1);
     show(label, answer, &t);
+}
+
+// Six pairs that join the same links: a table of as many places.
+fn repeated() -> Case {
+    Case {
+        n: 2,
+        d: 1,
+        m: 6,
+        lower: [0u8; 96],
+        upper: [1u8; 96],
+    }
+}
+
+fn repeats() {
+    let mut t = [2, 0, 2, 0, -3, 0, 0, 0];
+    let shifted = moves::shift(repeated(), &mut t, 0, 0, 0, 1);
+    show(b"shift of a repeated pair", shifted, &t);
+    let raised = [1u16, 2];
+    let pressed = moves::press(repeated(), &mut t, 0, &raised, 1);
+    show(b"press of a repeated pair", pressed, &t);
+}
+
+// The greatest weights of the same table are 2, 2 and 0.
+fn shift_kept(label: &[u8], n: usize, upper: u8, end: usize, amount: i64) {
+    let mut t = [2, 0, 2, 0, -3, 0, 0, 0];
+    let mut best = [2, 2, 0];
+    let answer = moves::shift_with(clash(n, 0, upper), &mut t, &mut best, 0, end, 0, amount);
+    show_kept(label, answer, &t, &best);
+}
+
+fn press_kept(label: &[u8], link: usize, raised: &[u8], amount: i64, weight: i64) {
+    let mut t = [2, 0, 2, 0, -3, 0, 0, weight];
+    let mut best = [2, 2, 0];
+    let answer = moves::press_with(clash(2, 0, 1), &mut t, &mut best, raised, link, amount);
+    show_kept(label, answer, &t, &best);
 }
 
 fn samples() {
@@ -171,8 +221,39 @@ fn press_borders() {
     press_in(b"press of 500000001", 2, 0, 1, 500_000_001);
 }
 
+// The earlier number of two that apply.
+fn orders() {
+    let twice = [2u16, 2];
+    let one = [1u16];
+    let mut t = [2, 0, 2, 0, -3, 0, 0, 500_000_001];
+    let answer = moves::press(clash(2, 0, 1), &mut t, 0, &twice, 1);
+    show(b"8 before 9", answer, &t);
+    press(b"9 before 10", 0, &twice, 1);
+    press(b"10 before 11", 0, &one, 1_000_000_000);
+}
+
+fn kept() {
+    let both = [0u8, 1, 1];
+    let own = [1u8, 0, 0];
+    let two = [0u8, 2, 0];
+    shift_kept(b"shift_with by -2", 2, 1, 0, -2);
+    shift_kept(b"shift_with of pair 0 2, end 1", 2, 2, 1, 1);
+    shift_kept(b"shift_with by 1000000000", 2, 1, 0, 1_000_000_000);
+    shift_kept(b"shift_with of 49 links", 49, 1, 0, 1);
+    press_kept(b"press_with by 2", 0, &both, 2, 0);
+    press_kept(b"press_with its own scope raised", 0, &own, 1, 0);
+    press_kept(b"press_with byte 2", 0, &two, 1, 0);
+    press_kept(b"press_with beside 500000001", 0, &two, 1, 500_000_001);
+    press_kept(b"press_with by 500000003", 0, &both, 500_000_003, 0);
+    press_kept(b"press_with link 2", 2, &both, 1, 0);
+    press_kept(b"press_with two bytes", 0, &both[0..2], 1, 0);
+}
+
 fn main() {
     samples();
     shift_borders();
     press_borders();
+    repeats();
+    orders();
+    kept();
 }
