@@ -1,0 +1,115 @@
+-- What is prepared of a table, and what is asked of `all_refuted` over it. Assumes nothing.
+use mathlib.Core.Path.{_≡_, refl, sym, ap, _∙_}
+use mathlib.Core.Bool.{Bool, true, false, not, _||_}
+use mathlib.Core.Option.{none}
+use mathlib.Core.List.{List, map}
+use Prim.Native.Nat.{ℕ, _+_, _*_, _-_, _≤_, _<_}
+use native.Mathlib.Omega.{arith}
+use borrow.Author.Tests.{le-ltb}
+use lib.IntN.{ℤ}
+use lib.Dec.{T, eqb}
+use lib.ListN.{length, getD, take, drop, length-append, length-take, length-drop, List·getD-append}
+use lib.Seq.{getD-take, getD-drop, length-take-le}
+use Rattle.integers.specs.Words.{if_then_else_, below}
+use Rattle.integers.specs.Tables.{length-tab, getD-tab, length-rows, getD-rows}
+use Rattle.definitions.specs.declared.Case.{Case}
+use Rattle.definitions.specs.Rules.{standard}
+use Rattle.definitions.specs.Case.{scopeCount}
+use Rattle.definitions.specs.Valid.{workingWeight}
+use Rattle.definitions.specs.Lines.{overwritten}
+use Rattle.theory.proofs.Validity.{Handed, handed}
+use Rattle.theory.proofs.Replays.{none-iff}
+use Rattle.consistency.specs.Active.{activeSet, activeRow, activeSets, activeRows, tooShort, activeRefusal, setsAfter, rowsAfter}
+use Rattle.consistency.specs.Tried.{triedAnswer}
+use Rattle.consistency.specs.declared.Tried.{Tried}
+use Rattle.consistency.specs.declared.Tried.the-variants.{Malformed, Refuted, Supported}
+use Rattle.consistency.proofs.Refutation.{Bytes, tried-active}
+use Rattle.engine.specs.Search.{isRaised, Prepared, Allowing, refutesIn}
+
+-- ---- what `active_marks` leaves
+
+module _ (c : Case) (w : List ℤ) where
+  sets-length : length (activeSets c w) ≡ c .n
+  unfolding activeSets
+  sets-length = length-tab (activeSet c w) 0 (c .n)
+
+  sets-at : (j : ℕ) → j < c .n → getD (activeSets c w) j 0 ≡ activeSet c w j
+  unfolding activeSets
+  sets-at j h = getD-tab (activeSet c w) (c .n) j 0 h
+
+  rows-of : ℕ → List ℕ
+  rows-of e = map (activeRow c w e) (below 16)
+
+  rows-length : length (activeRows c w) ≡ 16 * c .m
+  unfolding activeRows rows-of
+  rows-length = length-rows rows-of (c .m) 16 (λ e h. length-tab (activeRow c w e) 0 16) ∙ omega arith
+
+  rows-at : (e p : ℕ) → e < c .m → p < 16 → getD (activeRows c w) (16 * e + p) 0 ≡ activeRow c w e p
+  unfolding activeRows rows-of
+  rows-at e p h g =
+      let z : 16 * e + p ≡ e * 16 + p = omega arith in
+      ap (λ (q : ℕ). getD (activeRows c w) q 0) z ∙ getD-rows rows-of (c .m) 16 (λ e h. length-tab (activeRow c w e) 0 16) e p 0 h g ∙ getD-tab (activeRow c w e) 16 p 0 g
+
+pub marks-known : {c : Case} {w : List ℤ} → Handed standard (workingWeight standard) c w → (sets rows : List ℕ) → c .n ≤ length sets → 16 * c .m ≤ length rows
+    → Prepared c w (setsAfter standard c w sets rows) (rowsAfter standard c w sets rows)
+unfolding setsAfter rowsAfter
+marks-known {c} {w} h sets rows room wide = rw taken (record {
+  handed = h;
+  acts-are = λ j l. List·getD-append (activeSets c w) (drop (length (activeSets c w)) sets) 0 j (rw (sets-length c w) l) ∙ sets-at c w j l;
+  rows-long = simp (length-append, length-drop) (omega (arith, rows-length c w));
+  rows-are = λ e p g l.
+      List·getD-append (activeRows c w) (drop (length (activeRows c w)) rows) 0 (16 * e + p) (omega (arith, rows-length c w)) ∙ rows-at c w e p g l;
+})
+  where
+    taken : activeRefusal standard c w sets rows ≡ none
+    taken = none-iff (activeRefusal standard c w sets rows) .0
+        (handed standard (workingWeight standard) c w (tooShort c sets rows) false .1 (h, rw (le-ltb (length sets) (c .n) room, le-ltb (length rows) (16 * c .m) wide) tt, tt))
+
+-- ---- what is asked
+
+not-not : (b : Bool) → b ≡ not (not b)
+not-not true = refl
+not-not false = refl
+
+-- the bytes of the edges
+abbrev edgesOf : Case → List ℕ → List ℕ
+edgesOf c raised = take ((c .n + c .m) - c .n) (drop (c .n) raised)
+
+module _ (c : Case) (w : List ℤ) {acts rows : List ℕ} (raised sets : List ℕ) (p : Prepared c w acts rows) (a : Allowing c w raised sets)
+    (lowers : length (c .lower) ≡ 96) (uppers : length (c .upper) ≡ 96) (long : scopeCount c ≤ length raised) (room : c .n ≤ length sets) where
+  edges-length : length (edgesOf c raised) ≡ c .m
+  edges-length = simp (length-take, length-drop) (omega arith)
+
+  bytes : Bytes c w (isRaised raised) rows (edgesOf c raised) (take (c .n) sets)
+  bytes =
+      let few : c .m ≤ 96 = p .handed .edges-most in record {
+        lowers = omega arith;
+        uppers = omega arith;
+        room = p .rows-long;
+        edges = record {
+          count = edges-length;
+          raised = λ e g. ap (λ (b : ℕ). eqb b 0) (getD-take ((c .n + c .m) - c .n) (drop (c .n) raised) e 0 (omega arith) ∙ getD-drop (c .n) raised e 0) ∙ not-not (eqb (getD raised (c .n + e) 0) 0);
+          partners = λ e q g l t. p .rows-are e q g l;
+        };
+        sets-length = length-take-le (c .n) sets room;
+        sets = λ j g. getD-take (c .n) sets j 0 g ∙ a j g;
+      }
+
+  pub asked-says : (i values : ℕ) → i < c .n → values ≡ getD acts i 0
+      → triedAnswer (c .lower) (c .upper) rows (edgesOf c raised) (take (c .n) sets) i values ≡ (if refutesIn c w i raised then Refuted else Supported)
+  asked-says i values g e =
+      ap (triedAnswer (c .lower) (c .upper) rows (edgesOf c raised) (take (c .n) sets) i) (e ∙ p .acts-are i g)
+      ∙ tried-active c w (p .handed) (isRaised raised) rows (edgesOf c raised) (take (c .n) sets) bytes i g
+
+-- the answer says it
+pub refuted-says : (b : Bool) → Refuted ≡ (if b then Refuted else Supported) → true ≡ b
+refuted-says true e = refl
+refuted-says false e = cc
+
+pub supported-says : (b : Bool) → Supported ≡ (if b then Refuted else Supported) → false ≡ b
+supported-says true e = cc
+supported-says false e = refl
+
+pub malformed-not : (b : Bool) → Malformed ≡ (if b then Refuted else Supported) → false ≡ b
+malformed-not true e = cc
+malformed-not false e = refl

@@ -1,0 +1,9 @@
+-- Laws that the functions' proofs share.
+mod Raising
+mod Asking
+mod Choice
+mod Trims
+mod Amounts
+mod Texts
+mod Rounds
+mod Runs

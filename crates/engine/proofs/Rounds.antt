@@ -1,0 +1,163 @@
+-- What a call of the engine's round answers and leaves, by what its press did. Assumes nothing.
+use mathlib.Core.Path.{_≡_, refl, sym, ap, ap₂, subst, _∙_}
+use mathlib.Core.Bool.{Bool, true, false, not, _&&_}
+use mathlib.Core.Option.{Option, none, some}
+use mathlib.Core.List.{List, [], _∷_, _++_, map, append-nil, append-assoc, List·Memᴰ·head, Memᴰ·append-right}
+use Prim.Native.Nat.{ℕ, _+_, _*_, _≤_, _<_}
+use native.Mathlib.Omega.{arith}
+use lib.IntN.{ℤ, pos, negℤ, _+ℤ_}
+use lib.Dec.{T, eqb}
+use lib.ListN.{length}
+use Rattle.integers.specs.Words.{if_then_else_, below, those, joined, isIn}
+use Rattle.integers.specs.Tests.{is-true, is-false, false-is, same-test}
+use Rattle.integers.specs.Linear.{flat, zs, _▸_}
+use Rattle.integers.specs.Lists.{map-append, map-map, joined-append, those-in, in-those, below-in, isIn-in}
+use Rattle.definitions.specs.declared.Case.{Case}
+use Rattle.definitions.specs.declared.Line.{Line}
+use Rattle.definitions.specs.declared.Outcome.{Outcome}
+use Rattle.definitions.specs.declared.Refusal.{Refusal}
+use Rattle.definitions.specs.declared.Refusal.the-variants.{LeavesRange}
+use Rattle.definitions.specs.declared.Round.{Round}
+use Rattle.definitions.specs.Rules.{standard, standard-coherent}
+use Rattle.definitions.specs.Refusals.{_when_, firstOf}
+use Rattle.definitions.specs.Answers.{outcomeOf, unlessRefused}
+use Rattle.definitions.specs.Case.{scopes, scopeCount, active, upperBound}
+use Rattle.definitions.specs.Valid.{workingWeight}
+use Rattle.definitions.specs.Moves.{press, onlyWhere, pressBy, activeValues, pressAmount, leavesRange}
+use Rattle.definitions.specs.Lines.{lineText, lineTooWide, overwritten}
+use Rattle.definitions.specs.Engine.{chosen, keptScopes, leastGap, Next, raiseLine, boundLine, moveLines, roundText, roundBytes, madeOf, makeNext, engineNext}
+use Rattle.definitions.specs.EngineCalls.{RoundCall, roundMade, roundCall}
+use Rattle.theory.proofs.Validity.{Handed}
+use Rattle.theory.proofs.Places.{plus-cong}
+use Rattle.theory.proofs.Rounds.{AllAllowed, all-handed, round-fits}
+use Rattle.engine_theory.proofs.Trim.{chosen-some, kept-fewer}
+use Rattle.engine_theory.proofs.Gaps.{amount-some, amount-most, next-press}
+use Rattle.engine_theory.proofs.Fall.{enginePressed}
+use Rattle.engine_theory.proofs.Runs.{differ, presses, engine-allowed}
+use Rattle.engine_theory.proofs.Calls.{taken-iff, call-taken}
+use Rattle.figures.specs.Scopes.{BestOf}
+use Rattle.moves.specs.Kept.{pressWithCall}
+use Rattle.moves.proofs.PressLaws.{press-with-known}
+use Rattle.engine.specs.Search.{isRaised}
+use Rattle.engine.specs.Texts.{raisedBelow, raiseTexts, pressLine, pressText}
+use Rattle.engine.specs.Rounds.{pressedBy, Pressed, MadeRound}
+
+-- ---- which way a press went
+
+refused-way : {x : Refusal} (b : Bool) → Outcome.Refused x ≡ (if b then Outcome.Refused LeavesRange else Outcome.Done) → (b ≡ true) × (x ≡ LeavesRange)
+refused-way true e = (refl, cc)
+refused-way false e = differ (cc)
+
+done-way : (b : Bool) → Outcome.Done ≡ (if b then Outcome.Refused LeavesRange else Outcome.Done) → b ≡ false
+done-way true e = cc
+done-way false e = refl
+
+-- what `press_with` gives on a table that was checked
+pub pressed-by : {c : Case} {w best : List ℤ} → Handed standard (workingWeight standard) c w → BestOf c w best → (raised : List ℕ) (i : ℕ) (a : ℤ)
+    → scopeCount c ≤ length raised → i < c .n → T (pressAmount standard a) → {r : Outcome} {after next : List ℤ} → r ≡ pressWithCall standard c w best raised i a .answer
+    → after ≡ pressWithCall standard c w best raised i a .table → next ≡ pressWithCall standard c w best raised i a .best → Pressed c i raised a w after next r
+pressed-by {c} {w} {best} h b raised i a room variable amount e f g =
+    let (p, q, k) = press-with-known h b raised i a room variable amount in
+    record {
+      answer = e ∙ p ∙ answers (leavesRange standard c (pressedBy c i raised a w));
+      table = f ∙ q ∙ tables (leavesRange standard c (pressedBy c i raised a w));
+      greatest-kept = rw (f, g) k;
+    }
+  where
+    answers : (l : Bool) → outcomeOf (firstOf (LeavesRange when l ∷ [])) ≡ (if l then Outcome.Refused LeavesRange else Outcome.Done)
+    answers true = refl
+    answers false = refl
+
+    tables : (l : Bool) → unlessRefused (firstOf (LeavesRange when l ∷ [])) (pressedBy c i raised a w) w ≡ (if l then w else pressedBy c i raised a w)
+    tables true = refl
+    tables false = refl
+
+-- ---- the lines of a press
+
+texts-are : (c : Case) (i : ℕ) (xs : List ℕ) (a : ℤ) (v : List ℤ) → joined (roundText standard c (press i xs a ∷ []) v) ≡ pressText i xs a (upperBound c v)
+texts-are c i xs a v =
+    ap (λ (t : List ℕ). lineText 12 (pressLine i (length xs) a) ++ t)
+    (ap (λ (l : List Line). joined (map (lineText 12) (l ++ (boundLine (upperBound c v) ∷ [])))) (append-nil (map raiseLine xs))
+    ∙ ap joined (map-append (lineText 12) (map raiseLine xs) (boundLine (upperBound c v) ∷ []))
+    ∙ joined-append (map (lineText 12) (map raiseLine xs)) (lineText 12 (boundLine (upperBound c v)) ∷ [])
+    ∙ ap₂ (λ (s t : List ℕ). s ++ t) (ap joined (map-map (lineText 12) raiseLine xs)) (append-nil (lineText 12 (boundLine (upperBound c v)))))
+    ∙ sym (append-assoc (lineText 12 (pressLine i (length xs) a)) (raiseTexts xs) (lineText 12 (boundLine (upperBound c v))))
+
+module _ {c : Case} {w : List ℤ} {i : ℕ} {a : ℤ} (h : Handed standard (workingWeight standard) c w) (which : chosen c w ≡ some i) (least : leastGap c w i ≡ some a) where
+  pub amount-within : T (pressAmount standard a)
+  amount-within = amount-some c w (h .shape) which least ▸ amount-most c w (h .shape) which least standard (h .in-range) ▸ simp flat (omega zs)
+
+  module _ (raised : List ℕ) (same : raisedBelow raised (scopeCount c) ≡ keptScopes c w i) where
+    kept-in : (x : ℕ) → x < scopeCount c → isRaised raised x ≡ isIn (keptScopes c w i) x
+    kept-in x g = same-test (isRaised raised x) (isIn (keptScopes c w i) x)
+        (λ t. subst (λ (l : List ℕ). T (isIn l x)) same (isIn-in (raisedBelow raised (scopeCount c)) x .1 (those-in (isRaised raised) (below-in g) t)))
+        (λ t. in-those (isRaised raised) (scopes c) (isIn-in (raisedBelow raised (scopeCount c)) x .0 (subst (λ (l : List ℕ). T (isIn l x)) (sym same) t)) .1)
+
+    pressed-is : pressedBy c i raised a w ≡ enginePressed c w i a
+    pressed-is = plus-cong c (pressBy c w i (activeValues c w i) (isRaised raised) a) w (pressBy c w i (activeValues c w i) (isIn (keptScopes c w i)) a) (λ x k l t.
+        ap (λ (b : Bool). onlyWhere (eqb x i && activeValues c w i k) (negℤ a) +ℤ onlyWhere (b && not (active c w x k l)) a) (kept-in x (t .scope)))
+
+    pub count-room : {n : ℕ} → roundBytes standard c ≤ n → 27 * (length (raisedBelow raised (scopeCount c)) + 2) ≤ n
+    count-room long = omega (arith, ap length same, kept-fewer c w i (chosen-some c w which .0))
+
+    module _ (out : List ℕ) (long : roundBytes standard c ≤ length out) where
+      call-is : (b : Bool) → leavesRange standard c (enginePressed c w i a) ≡ b
+          → roundCall standard engineNext c w out ≡ roundMade standard engineNext c w out (madeOf standard c (press i (keptScopes c w i) a ∷ []) (if b then none else some (enginePressed c w i a)))
+      call-is b e =
+          call-taken standard engineNext c w out (taken-iff standard engineNext c w out .1 (h, long))
+          ∙ ap (λ (n : Next). roundMade standard engineNext c w out (makeNext standard c w n)) (next-press c w which least)
+          ∙ ap (λ (q : Bool). roundMade standard engineNext c w out (madeOf standard c (press i (keptScopes c w i) a ∷ []) (if q then none else some (enginePressed c w i a)))) e
+
+      -- number 11
+      pub made-refused : {x : Refusal} {after best : List ℤ} → Pressed c i raised a w after best (Outcome.Refused x)
+          → MadeRound c w out after out (Round.Refused x) × BestOf c after best
+      made-refused {x} p =
+          let (e, f) = refused-way (leavesRange standard c (pressedBy c i raised a w)) (p .answer) in
+          let d = call-is true (ap (leavesRange standard c) (sym pressed-is) ∙ e) in (
+            record {
+              answer = ap Round.Refused f ∙ sym (ap (λ (u : RoundCall). u .answer) d);
+              table = p .table ∙ ap (λ (b : Bool). if b then w else pressedBy c i raised a w) e ∙ sym (ap (λ (u : RoundCall). u .table) d);
+              output = sym (ap (λ (u : RoundCall). u .out) d);
+            },
+            p .greatest-kept,
+          )
+
+      module _ {after best : List ℤ} (p : Pressed c i raised a w after best Outcome.Done) where
+        stays : leavesRange standard c (enginePressed c w i a) ≡ false
+        stays = ap (leavesRange standard c) (sym pressed-is) ∙ done-way (leavesRange standard c (pressedBy c i raised a w)) (p .answer)
+
+        after-is : after ≡ enginePressed c w i a
+        after-is = p .table ∙ ap (λ (b : Bool). if b then w else pressedBy c i raised a w) (done-way (leavesRange standard c (pressedBy c i raised a w)) (p .answer)) ∙ pressed-is
+
+        allows : AllAllowed standard c w (press i (keptScopes c w i) a ∷ []) (enginePressed c w i a)
+        allows = engine-allowed h standard-coherent (presses which least (false-is (leavesRange standard c (enginePressed c w i a)) stays))
+
+        pub handed-after : Handed standard (workingWeight standard) c after
+        handed-after = rw after-is (all-handed allows h)
+
+        pub press-fits : T (not (lineTooWide 12 (pressLine i (length (raisedBelow raised (scopeCount c))) a)))
+        press-fits = rw (same, round-fits standard-coherent h allows {l = pressLine i (length (keptScopes c w i)) a} (List·Memᴰ·head refl)) tt
+
+        pub bound-fits : {bound : ℤ} → bound ≡ upperBound c after → T (not (lineTooWide 12 (boundLine bound)))
+        bound-fits e = rw (
+          e,
+          after-is,
+          round-fits standard-coherent h allows {l = boundLine (upperBound c (enginePressed c w i a))}
+              (Memᴰ·append-right (joined (map moveLines (press i (keptScopes c w i) a ∷ []))) (List·Memᴰ·head refl)),
+        ) tt
+
+        pub made-done : {bytes : ℕ} {bound : ℤ} {written : List ℕ} → bound ≡ upperBound c after
+            → bytes ≡ length (pressText i (raisedBelow raised (scopeCount c)) a bound) → written ≡ overwritten (pressText i (raisedBelow raised (scopeCount c)) a bound) out
+            → MadeRound c w out after written (Round.Made bytes bound) × BestOf c after best
+        made-done {bytes} {bound} e n o =
+            let d = call-is false stays in
+            let b : bound ≡ upperBound c (enginePressed c w i a) = e ∙ ap (upperBound c) after-is in
+            let t : pressText i (raisedBelow raised (scopeCount c)) a bound ≡ joined (roundText standard c (press i (keptScopes c w i) a ∷ []) (enginePressed c w i a)) =
+            ap₂ (λ (l : List ℕ) (z : ℤ). pressText i l a z) same b ∙ sym (texts-are c i (keptScopes c w i) a (enginePressed c w i a)) in (
+              record {
+                answer = ap₂ Round.Made (n ∙ ap length t) b ∙ sym (ap (λ (u : RoundCall). u .answer) d);
+                table = after-is ∙ sym (ap (λ (u : RoundCall). u .table) d);
+                output = o ∙ ap (λ (l : List ℕ). overwritten l out) t ∙ sym (ap (λ (u : RoundCall). u .out) d);
+              },
+              p .greatest-kept,
+            )

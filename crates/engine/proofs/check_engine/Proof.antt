@@ -1,0 +1,27 @@
+use mathlib.Core.Path.{_≡_, sym, _∙_}
+use borrow.Author.Tests.{not-true, not-false}
+use Rattle.definitions.specs.Rules.{standard}
+use Rattle.figures.proofs.Order.{limited}
+use borrow.Author.Needs.{needs}
+use Rattle.engine.proofs.check_engine.Statement.{statement}
+use Rattle.engine.proofs.check_engine.Tie as tie
+
+within-limits-requires : tie.Need-within-limits-requires
+within-limits-requires c κs = search needs
+
+returns : tie.Need-returns
+returns c = let e = sym (c .before .within-limits .ensures) ∙ not-true _ (c .if1 .taken) in rw e
+
+too-short-requires : tie.Need-too-short-requires
+too-short-requires c κs = limited standard (c .before .before .args .case) (sym (c .before .within-limits .ensures) ∙ not-false _ (c .if1 .left))
+
+check-working-requires : tie.Need-check-working-requires
+check-working-requires c κs = search needs
+
+returns-2 : tie.Need-returns-2
+returns-2 c = rw (c .before .too-short .ensures) at (c .check-working .ensures)
+
+pub check-engine-spec : {M : Type 1} → statement M
+check-engine-spec =
+    tie.close
+    (tie.spec within-limits-requires returns too-short-requires check-working-requires returns-2)

@@ -1,0 +1,66 @@
+use mathlib.Core.Path.{_≡_, refl, subst, _∙_}
+use mathlib.Core.List.{List}
+use Prim.Native.Nat.{ℕ, _+_, _*_, _-_, _≤_}
+use native.Mathlib.Omega.{arith}
+use lib.ListN.{length}
+use denote.Ref.{now}
+use Rattle.engine.specs.Texts.{raisedBelow}
+use Rattle.engine.proofs.Texts.{Put, puts-none, puts-next, raised-room}
+use Rattle.engine.proofs.put_raises.Statement.{statement}
+use Rattle.engine.proofs.put_raises.Tie as tie
+
+abbrev Inv-loop : tie.InvT-loop
+Inv-loop out₀ from raised scopes at₀ x₀ out at x =
+    (x ≤ scopes) × (length out ≡ length out₀) × ((at ≡ from + 27 * length (raisedBelow raised x)) × Put from (raisedBelow raised x) at out₀ out)
+
+abbrev μ-loop : tie.MeasureT-loop
+μ-loop out₀ from raised scopes at₀ x₀ out at x = scopes - x
+
+loop-holds : tie.Need-loop-holds Inv-loop μ-loop
+loop-holds c = let a = c .before .before .args in (omega arith, refl, puts-none (a .from) (now (a .out)))
+
+put-raise-requires : tie.Need-put-raise-requires Inv-loop μ-loop
+put-raise-requires c κs =
+    let l = c .before .before in
+    let s = c .before .before .before .before .before in (
+      omega (arith, s .pre, c .before .loop-test .taken),
+      omega (arith, s .pre, c .before .loop-test .taken),
+      omega (arith, s .pre, l .loop .inv, raised-room (now (s .args .raised)) (l .loop .x) (s .args .scopes) (c .before .loop-test .taken)),
+    )
+
+add-x : tie.Need-add-x Inv-loop μ-loop
+add-x c = omega arith
+
+loop-less : tie.Need-loop-less Inv-loop μ-loop
+loop-less c = omega (arith, c .before .before .before .before .loop-test .taken)
+
+loop-again : tie.Need-loop-again Inv-loop μ-loop
+loop-again c =
+    let l = c .before .before .before .before .before in
+    let a = c .before .before .before .before .before .before .before .before .args in
+    let r = c .before .before .put-raise in
+    (omega (arith, c .before .before .before .before .loop-test .taken), r .kept .0 ∙ l .loop .inv .1, puts-next (now (a .raised)) (l .loop .x) (l .loop .inv .2 .0) (l .loop .inv .2 .1) (r .ensures))
+
+same-length : tie.Need-same-length Inv-loop μ-loop
+same-length c = c .before .loop .inv .1
+
+returns : tie.Need-returns Inv-loop μ-loop
+returns c =
+    let l = c .before in
+    let a = c .before .before .before .before .args in
+    let e : l .loop .x ≡ a .scopes = omega (arith, c .loop-test .left, l .loop .inv) in
+    subst (λ (x : ℕ). (l .loop .at ≡ a .from + 27 * length (raisedBelow (now (a .raised)) x)) × Put (a .from) (raisedBelow (now (a .raised)) x) (l .loop .at) (now (a .out)) (l .loop .out)) e (l .loop .inv .2)
+
+pub put-raises-spec : {M : Type 1} → statement M
+put-raises-spec =
+    tie.close
+    (tie.spec
+    Inv-loop
+    μ-loop
+    loop-holds
+    put-raise-requires
+    add-x
+    loop-less
+    loop-again
+    same-length
+    returns)

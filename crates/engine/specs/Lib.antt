@@ -1,0 +1,5 @@
+-- What the inner functions answer, and what they may take as known.
+pub mod Search
+pub mod Gaps
+pub mod Texts
+pub mod Rounds

@@ -1,0 +1,60 @@
+-- What a press and a round do to a table that was checked before. Assumes nothing.
+use mathlib.Core.Path.{_≡_}
+use mathlib.Core.Bool.{false}
+use mathlib.Core.Option.{Option, none, some}
+use mathlib.Core.List.{List}
+use Prim.Native.Nat.{ℕ}
+use lib.IntN.{ℤ}
+use lib.Dec.{ltb}
+use Rattle.integers.specs.Words.{if_then_else_}
+use Rattle.definitions.specs.declared.Case.{Case}
+use Rattle.definitions.specs.declared.Outcome.{Outcome}
+use Rattle.definitions.specs.declared.Round.{Round}
+use Rattle.definitions.specs.declared.Run.{Run}
+use Rattle.definitions.specs.declared.RunAnswer.{RunAnswer}
+use Rattle.definitions.specs.declared.Refusal.{Refusal}
+use Rattle.definitions.specs.declared.Refusal.the-variants.{LeavesRange}
+use Rattle.definitions.specs.Rules.{standard}
+use Rattle.definitions.specs.Refusals.{firstOf}
+use Rattle.definitions.specs.Case.{upperBound}
+use Rattle.definitions.specs.Valid.{workingWeight, handedOver}
+use Rattle.definitions.specs.Moves.{plus, pressBy, activeValues, leavesRange}
+use Rattle.definitions.specs.Engine.{engineNext, roundBytes}
+use Rattle.definitions.specs.EngineCalls.{roundCall, runCall}
+use Rattle.figures.specs.Scopes.{BestOf}
+use Rattle.engine.specs.Search.{isRaised}
+
+-- the table after a press of the raised scopes
+abbrev pub pressedBy : Case → ℕ → List ℕ → ℤ → List ℤ → List ℤ
+pressedBy c i raised a w = plus c (pressBy c w i (activeValues c w i) (isRaised raised) a) w
+
+pub record Pressed (c : Case) (i : ℕ) (raised : List ℕ) (a : ℤ) (w after best : List ℤ) (r : Outcome) : Type 0 where
+  pub answer : r ≡ (if leavesRange standard c (pressedBy c i raised a w) then Outcome.Refused LeavesRange else Outcome.Done)
+  pub table : after ≡ (if leavesRange standard c (pressedBy c i raised a w) then w else pressedBy c i raised a w)
+  pub greatest-kept : BestOf c after best
+
+-- what a call of the round answers and leaves
+pub record MadeRound (c : Case) (w : List ℤ) (out : List ℕ) (after : List ℤ) (written : List ℕ) (r : Round) : Type 0 where
+  pub answer : r ≡ roundCall standard engineNext c w out .answer
+  pub table : after ≡ roundCall standard engineNext c w out .table
+  pub output : written ≡ roundCall standard engineNext c w out .out
+
+-- ---- the run
+
+-- where no more rounds may be made: settled if no variable is chosen
+abbrev pub limitAnswer : Option ℕ → RunAnswer
+limitAnswer none = RunAnswer.Settled
+limitAnswer (some i) = RunAnswer.Limit
+
+abbrev pub stoppedRun : Case → List ℤ → RunAnswer → ℕ → Run
+stoppedRun c w answer rounds = record { answer = answer; rounds = rounds; bound = upperBound c w }
+
+-- what a call of the run answers and leaves
+pub record RunIs (c : Case) (limit : ℕ) (w : List ℤ) (out : List ℕ) (after : List ℤ) (written : List ℕ) (r : Run) : Type 0 where
+  pub run : r ≡ runCall standard engineNext c limit w out .run
+  pub table : after ≡ runCall standard engineNext c limit w out .table
+  pub output : written ≡ runCall standard engineNext c limit w out .out
+
+-- numbers 3 to 8, with an output of so many bytes
+abbrev pub engineRefusalOf : Case → List ℤ → ℕ → Option Refusal
+engineRefusalOf c w length = firstOf (handedOver standard (workingWeight standard) c w (ltb length (roundBytes standard c)) false)

@@ -1,0 +1,79 @@
+-- Raised scopes and sets of values as bytes, and what the search for a press may take as known. Assumes nothing.
+use mathlib.Core.Path.{_≡_}
+use mathlib.Core.Bool.{Bool, true, false, not, _&&_}
+use mathlib.Core.Option.{Option, none, some}
+use mathlib.Core.List.{List}
+use Prim.Native.Nat.{ℕ, _+_, _*_, _≤_, _<_}
+use lib.IntN.{ℤ}
+use lib.Dec.{T, eqb, leb, ltb}
+use lib.ListN.{length, getD}
+use Rattle.integers.specs.Words.{if_then_else_, those}
+use Rattle.definitions.specs.declared.Case.{Case}
+use Rattle.definitions.specs.Rules.{standard}
+use Rattle.definitions.specs.Case.{scopes, scopeCount}
+use Rattle.definitions.specs.Valid.{workingWeight}
+use Rattle.definitions.specs.Consistency.{allRefuted}
+use Rattle.definitions.specs.Moves.{activeValues}
+use Rattle.definitions.specs.Engine.{chosen, keptScopes}
+use Rattle.theory.proofs.Validity.{Handed}
+use Rattle.marks.specs.Marks.{fullOf}
+use Rattle.consistency.specs.Active.{activeSet, activeRow}
+use Rattle.engine.specs.declared.Chosen.{Chosen}
+
+-- scope x is raised
+abbrev pub isRaised : List ℕ → ℕ → Bool
+isRaised raised x = not (eqb (getD raised x 0) 0)
+
+-- acts holds the active values of each variable
+abbrev pub ActiveIn : Case → List ℤ → List ℕ → Type 0
+ActiveIn c w acts = (j : ℕ) → j < c .n → getD acts j 0 ≡ activeSet c w j
+
+-- what is prepared of a table: the active values of each variable, and the active partners on each edge
+pub record Prepared (c : Case) (w : List ℤ) (acts rows : List ℕ) : Type 0 where
+  pub handed : Handed standard (workingWeight standard) c w
+  pub acts-are : ActiveIn c w acts
+  pub rows-long : 16 * c .m ≤ length rows
+  pub rows-are : (e p : ℕ) → e < c .m → p < 16 → getD rows (16 * e + p) 0 ≡ activeRow c w e p
+
+-- sets holds the allowed values of each variable: the active ones if its scope is raised, else all
+abbrev pub Allowing : Case → List ℤ → List ℕ → List ℕ → Type 0
+Allowing c w raised sets = (j : ℕ) → j < c .n → getD sets j 0 ≡ (if isRaised raised j then activeSet c w j else fullOf (c .d))
+
+-- the active values of variable i are all refuted with these scopes raised
+abbrev pub refutesIn : Case → List ℤ → ℕ → List ℕ → Bool
+refutesIn c w i raised = allRefuted c w (isRaised raised) i (activeValues c w i)
+
+-- all scopes are raised; all but x are
+abbrev pub AllRaised : Case → List ℕ → Type 0
+AllRaised c raised = (y : ℕ) → y < scopeCount c → isRaised raised y ≡ true
+
+abbrev pub OthersRaised : Case → ℕ → List ℕ → Type 0
+OthersRaised c x raised = (y : ℕ) → y < scopeCount c → isRaised raised y ≡ not (eqb y x)
+
+-- a variable of the case, if one was chosen
+abbrev pub ChosenIn : Case → Chosen → Type 0
+ChosenIn c Chosen.Nothing = T true
+ChosenIn c (Chosen.Variable i) = i < c .n
+
+-- y is one of the scopes from x up to `end`
+abbrev pub isBetween : ℕ → ℕ → ℕ → Bool
+isBetween x end y = leb x y && ltb y end
+
+-- from x on all others are raised
+abbrev pub OthersFrom : Case → ℕ → ℕ → List ℕ → Type 0
+OthersFrom c i x raised = (y : ℕ) → x ≤ y → y < scopeCount c → isRaised raised y ≡ not (eqb y i)
+
+-- the variable that was chosen, with all other scopes raised
+abbrev pub ChosenIs : Case → List ℤ → List ℕ → List ℕ → Chosen → Type 0
+ChosenIs c w raised sets Chosen.Nothing = chosen c w ≡ none
+ChosenIs c w raised sets (Chosen.Variable i) = (chosen c w ≡ some i) × (Allowing c w raised sets × OthersRaised c i raised)
+
+-- the variable that was chosen, with the scopes raised that are kept
+abbrev pub FoundIs : Case → List ℤ → List ℕ → Chosen → Type 0
+FoundIs c w raised Chosen.Nothing = chosen c w ≡ none
+FoundIs c w raised (Chosen.Variable i) = (chosen c w ≡ some i) × (those (isRaised raised) (scopes c) ≡ keptScopes c w i)
+
+-- the scopes from x up to `end` were dropped, unless the values are not refuted without them
+pub record Dropped (c : Case) (w : List ℤ) (i x end : ℕ) (before after : List ℕ) (dropped : Bool) : Type 0 where
+  pub says : dropped ≡ allRefuted c w (λ y. isRaised before y && not (isBetween x end y)) i (activeValues c w i)
+  pub leaves : (y : ℕ) → y < scopeCount c → isRaised after y ≡ (if dropped then isRaised before y && not (isBetween x end y) else isRaised before y)

@@ -1,0 +1,668 @@
+// The engine (document 01, "The engine's round"): one round, and the run that makes rounds one after another.
+use consistency::Tried;
+use definitions::Case;
+use definitions::Line;
+use definitions::Outcome;
+use definitions::Refusal;
+use definitions::Round;
+use definitions::Run;
+use definitions::RunAnswer;
+ghost use mathlib.Core.Path.{_≡_};
+ghost use mathlib.Core.Option.{some};
+ghost use mathlib.Core.Bool.{false, not, _&&_, _||_};
+ghost use mathlib.Core.List.{List, _++_};
+ghost use Prim.Native.Nat.{ℕ, _+_, _*_, _≤_, _<_};
+ghost use lib.Dec.{T, eqb, ltb};
+ghost use lib.IntN.{ℤ, pos};
+ghost use lib.ListN.{length, getD, set};
+ghost use Rattle.integers.specs.Words.{if_then_else_, all};
+ghost use Rattle.definitions.specs.Rules.{standard};
+ghost use Rattle.definitions.specs.Answers.{outcomeOf};
+ghost use Rattle.definitions.specs.Case.{scopeCount, eachTuple, place, weight, greatest, upperBound};
+ghost use Rattle.definitions.specs.Valid.{workingWeight};
+ghost use Rattle.definitions.specs.Moves.{pressAmount};
+ghost use Rattle.definitions.specs.Lines.{lineText, lineTooWide, overwritten};
+ghost use Rattle.definitions.specs.Engine.{chosen, keptScopes, leastGap, roundBytes, engineNext, raiseLine, boundLine};
+ghost use Rattle.definitions.specs.EngineCalls.{roundCall, runCall};
+ghost use Rattle.theory.proofs.Validity.{Handed};
+ghost use Rattle.figures.specs.Scopes.{Limited, sizeOf, BestOf};
+ghost use Rattle.engine.specs.Search.{isRaised, isBetween, ActiveIn, Prepared, Allowing, refutesIn, AllRaised, OthersRaised, OthersFrom, ChosenIn, ChosenIs, FoundIs, Dropped};
+ghost use Rattle.engine.specs.Gaps.{limits, lesserGap, lessGaps};
+ghost use Rattle.engine.specs.Texts.{raisedFrom, raisedBelow, raiseTexts, pressLine, pressText};
+ghost use Rattle.engine.specs.Rounds.{Pressed, MadeRound, RunIs, limitAnswer, stoppedRun, engineRefusalOf};
+
+// The bytes of a line today.
+const LINE: usize = 27;
+
+// More than any gap of working weights.
+const NO_GAP: i64 = 1_000_000_001;
+
+// The variable to press, if there is one.
+enum Chosen {
+    Variable(usize),
+    Nothing,
+}
+
+// ---- which press
+
+// Whether the active values of the variable are all refuted.
+fn refutes(
+    case: Case,
+    acts: &[u8],
+    rows: &[u8],
+    raised: &[u8],
+    sets: &[u8],
+    variable: usize,
+) -> bool
+    requires { ⌜ (scopeCount case ≤ length (now raised)) × (case .n ≤ length (now sets)) × (case .n ≤ length (now acts)) × (variable < case .n) ⌝ }
+    ensures { λ r. ⌜ ((w : List ℤ) → Prepared case w (now (acts .entry)) (now (rows .entry)) → Allowing case w (now (raised .entry)) (now (sets .entry)) → r ≡ refutesIn case w variable (now (raised .entry))) ⌝ }
+{
+    let n = case.n;
+    let end = n + case.m;
+    let lower = case.lower;
+    let upper = case.upper;
+    let values = acts[variable];
+    let tried = consistency::all_refuted(
+        &lower,
+        &upper,
+        rows,
+        &raised[n..end],
+        &sets[..n],
+        variable,
+        values,
+    );
+    match tried {
+        Tried::Refuted => true,
+        Tried::Supported => false,
+        Tried::Malformed => false,
+    }
+}
+
+fn lower_scope(case: Case, raised: &mut [u8], sets: &mut [u8], x: usize)
+    requires { ⌜ (x < length (now raised)) × (case .n ≤ length (now sets)) × (case .d ≤ 8) ⌝ }
+    ensures { λ _. ⌜ (now (raised .exit) ≡ set (now (raised .entry)) x 0) × ((w : List ℤ) → Allowing case w (now (raised .entry)) (now (sets .entry)) → Allowing case w (now (raised .exit)) (now (sets .exit))) ⌝ }
+{
+    raised[x] = 0;
+    if x < case.n {
+        sets[x] = marks::full(case.d as u8);
+    }
+}
+
+fn raise_scope(case: Case, acts: &[u8], raised: &mut [u8], sets: &mut [u8], x: usize)
+    requires { ⌜ (x < length (now raised)) × (case .n ≤ length (now sets)) × (case .n ≤ length (now acts)) ⌝ }
+    ensures { λ _. ⌜ (now (raised .exit) ≡ set (now (raised .entry)) x 1) × ((w : List ℤ) → ActiveIn case w (now (acts .entry)) → Allowing case w (now (raised .entry)) (now (sets .entry)) → Allowing case w (now (raised .exit)) (now (sets .exit))) ⌝ }
+{
+    raised[x] = 1;
+    if x < case.n {
+        sets[x] = acts[x];
+    }
+}
+
+// The lowest variable whose active values are refuted with all other scopes raised, which are left so.
+fn choose(case: Case, acts: &[u8], rows: &[u8], raised: &mut [u8], sets: &mut [u8]) -> Chosen
+    requires { ⌜ (scopeCount case ≤ length (now raised)) × (case .n ≤ length (now sets)) × (case .n ≤ length (now acts)) × (case .d ≤ 8) ⌝ }
+    ensures { λ r. ⌜ ChosenIn case r × ((w : List ℤ) → Prepared case w (now (acts .entry)) (now (rows .entry)) → AllRaised case (now (raised .entry)) → Allowing case w (now (raised .entry)) (now (sets .entry)) → ChosenIs case w (now (raised .exit)) (now (sets .exit)) r) ⌝ }
+{
+    let n = case.n;
+    let mut i: usize = 0;
+    while i < n {
+        lower_scope(case, raised, sets, i);
+        if refutes(case, acts, rows, raised, sets, i) {
+            return Chosen::Variable(i);
+        }
+        raise_scope(case, acts, raised, sets, i);
+        i += 1;
+    }
+    Chosen::Nothing
+}
+
+// Takes the scopes from x up to `end` out.
+fn lower_scopes(case: Case, raised: &mut [u8], sets: &mut [u8], x: usize, end: usize)
+    requires { ⌜ (x ≤ end) × (end ≤ length (now raised)) × (case .n ≤ length (now sets)) × (case .d ≤ 8) ⌝ }
+    ensures { λ _. ⌜ ((y : ℕ) → isRaised (now (raised .exit)) y ≡ (isRaised (now (raised .entry)) y && not (isBetween x end y))) × ((w : List ℤ) → Allowing case w (now (raised .entry)) (now (sets .entry)) → Allowing case w (now (raised .exit)) (now (sets .exit))) ⌝ }
+{
+    let mut y = x;
+    while y < end {
+        lower_scope(case, raised, sets, y);
+        y += 1;
+    }
+}
+
+fn raise_other(
+    case: Case,
+    acts: &[u8],
+    raised: &mut [u8],
+    sets: &mut [u8],
+    variable: usize,
+    x: usize,
+)
+    requires { ⌜ (x < length (now raised)) × (case .n ≤ length (now sets)) × (case .n ≤ length (now acts)) ⌝ }
+    ensures { λ _. ⌜ ((y : ℕ) → isRaised (now (raised .exit)) y ≡ (isRaised (now (raised .entry)) y || (eqb y x && not (eqb y variable)))) × ((w : List ℤ) → ActiveIn case w (now (acts .entry)) → Allowing case w (now (raised .entry)) (now (sets .entry)) → Allowing case w (now (raised .exit)) (now (sets .exit))) ⌝ }
+{
+    if x == variable {
+        return;
+    }
+    raise_scope(case, acts, raised, sets, x);
+}
+
+// Raises the scopes from x up to `end`, but for the variable's own.
+fn raise_scopes(
+    case: Case,
+    acts: &[u8],
+    raised: &mut [u8],
+    sets: &mut [u8],
+    variable: usize,
+    x: usize,
+    end: usize,
+)
+    requires { ⌜ (x ≤ end) × (end ≤ length (now raised)) × (case .n ≤ length (now sets)) × (case .n ≤ length (now acts)) ⌝ }
+    ensures { λ _. ⌜ ((y : ℕ) → isRaised (now (raised .exit)) y ≡ (isRaised (now (raised .entry)) y || (isBetween x end y && not (eqb y variable)))) × ((w : List ℤ) → ActiveIn case w (now (acts .entry)) → Allowing case w (now (raised .entry)) (now (sets .entry)) → Allowing case w (now (raised .exit)) (now (sets .exit))) ⌝ }
+{
+    let mut y = x;
+    while y < end {
+        raise_other(case, acts, raised, sets, variable, y);
+        y += 1;
+    }
+}
+
+// Drops the scopes from x up to `end`, unless the values are not refuted without them.
+fn drop_scopes(
+    case: Case,
+    acts: &[u8],
+    rows: &[u8],
+    raised: &mut [u8],
+    sets: &mut [u8],
+    variable: usize,
+    x: usize,
+    end: usize,
+) -> bool
+    requires { ⌜ (scopeCount case ≤ length (now raised)) × (case .n ≤ length (now sets)) × (case .n ≤ length (now acts)) × (case .d ≤ 8) ⌝ }
+    requires { ⌜ (variable < case .n) × (x ≤ end) × (end ≤ scopeCount case) ⌝ }
+    ensures { λ r. ⌜ ((w : List ℤ) → Prepared case w (now (acts .entry)) (now (rows .entry)) → Allowing case w (now (raised .entry)) (now (sets .entry)) → OthersFrom case variable x (now (raised .entry)) → Allowing case w (now (raised .exit)) (now (sets .exit)) × Dropped case w variable x end (now (raised .entry)) (now (raised .exit)) r) ⌝ }
+{
+    lower_scopes(case, raised, sets, x, end);
+    if refutes(case, acts, rows, raised, sets, variable) {
+        return true;
+    }
+    raise_scopes(case, acts, raised, sets, variable, x, end);
+    false
+}
+
+fn end_of(x: usize, step: usize, scopes: usize) -> usize
+    requires { ⌜ (x < scopes) × (1 ≤ step) ⌝ }
+    ensures { λ r. ⌜ (x < r) × (r ≤ scopes) × (step ≡ 1 → r ≡ x + 1) ⌝ }
+{
+    if scopes - x <= step {
+        return scopes;
+    }
+    x + step
+}
+
+fn next_place(x: usize, end: usize, dropped: bool) -> usize
+    requires { ⌜ x < end ⌝ }
+    ensures { λ r. ⌜ r ≡ (if dropped || eqb end (x + 1) then end else x) ⌝ }
+{
+    if dropped {
+        return end;
+    }
+    if end - x == 1 {
+        return end;
+    }
+    x
+}
+
+// Twice as many scopes are tried next where some were dropped, and half as many where not.
+fn next_step(step: usize, dropped: bool) -> usize
+    requires { ⌜ (1 ≤ step) × (step ≤ 64) ⌝ }
+    ensures { λ r. ⌜ (1 ≤ r) × (r ≤ 64) × (dropped ≡ false → 1 < step → r < step) ⌝ }
+{
+    if dropped {
+        if step <= 32 {
+            return step * 2;
+        }
+        return step;
+    }
+    if 1 < step {
+        return step / 2;
+    }
+    1
+}
+
+// Upwards through the raised scopes, several at a time: scopes that can be dropped together can be dropped one after another.
+fn trim(case: Case, acts: &[u8], rows: &[u8], raised: &mut [u8], sets: &mut [u8], variable: usize)
+    requires { ⌜ (scopeCount case ≤ length (now raised)) × (case .n ≤ length (now sets)) × (case .n ≤ length (now acts)) × (case .d ≤ 8) ⌝ }
+    requires { ⌜ (variable < case .n) × (case .n ≤ 48) × (case .m ≤ 96) ⌝ }
+    ensures { λ _. ⌜ ((w : List ℤ) → Prepared case w (now (acts .entry)) (now (rows .entry)) → OthersRaised case variable (now (raised .entry)) → Allowing case w (now (raised .entry)) (now (sets .entry)) → raisedBelow (now (raised .exit)) (scopeCount case) ≡ keptScopes case w variable) ⌝ }
+{
+    let scopes = case.n + case.m;
+    let mut x: usize = 0;
+    let mut step: usize = 1;
+    while x < scopes {
+        let end = end_of(x, step, scopes);
+        let dropped = drop_scopes(case, acts, rows, raised, sets, variable, x, end);
+        step = next_step(step, dropped);
+        x = next_place(x, end, dropped);
+    }
+}
+
+// ---- the amount
+
+fn lesser_gap(weight: i64, best: i64, least: i64) -> i64
+    requires { ⌜ T (workingWeight standard weight) × T (workingWeight standard best) ⌝ }
+    ensures { λ r. ⌜ r ≡ lesserGap best weight least ⌝ }
+{
+    if weight == best {
+        return least;
+    }
+    let gap = best - weight;
+    if least <= gap {
+        return least;
+    }
+    gap
+}
+
+fn gap_in(part: &[i64], best: i64, limit: i64) -> i64
+    requires { ⌜ T (all (workingWeight standard) (now part)) × T (workingWeight standard best) ⌝ }
+    ensures { λ r. ⌜ r ≡ lessGaps best (now (part .entry)) limit ⌝ }
+{
+    let mut least = limit;
+    let mut j: usize = 0;
+    while j < part.len() {
+        least = lesser_gap(part[j], best, least);
+        j += 1;
+    }
+    least
+}
+
+// ---- the lines
+
+fn whole(x: usize) -> i64
+    requires { ⌜ x < 10000 ⌝ }
+    ensures { λ r. ⌜ r ≡ pos x ⌝ }
+{
+    x as i64
+}
+
+// Puts the line at byte `at`, and answers where it ends.
+fn put_line(out: &mut [u8], at: usize, line: Line) -> usize
+    requires { ⌜ (at + 27 ≤ length (now out)) × T (not (lineTooWide 12 line)) ⌝ }
+    ensures { λ r. ⌜ (r ≡ at + 27) × ((p o : List ℕ) → now (out .entry) ≡ overwritten p o → length p ≡ at → (now (out .exit) ≡ overwritten (p ++ lineText 12 line) o) × (length (p ++ lineText 12 line) ≡ at + 27)) ⌝ }
+{
+    let to = at + LINE;
+    lines::write_line(&mut out[at..to], line);
+    to
+}
+
+fn count_raised(raised: &[u8], scopes: usize) -> usize
+    requires { ⌜ scopes ≤ length (now raised) ⌝ }
+    ensures { λ r. ⌜ r ≡ length (raisedBelow (now (raised .entry)) scopes) ⌝ }
+{
+    let mut count: usize = 0;
+    let mut x: usize = 0;
+    while x < scopes {
+        if raised[x] != 0 {
+            count += 1;
+        }
+        x += 1;
+    }
+    count
+}
+
+fn raise_line(x: usize) -> Line
+    requires { ⌜ x < 10000 ⌝ }
+    ensures { λ r. ⌜ r ≡ raiseLine x ⌝ }
+{
+    Line {
+        kind: 3,
+        a: whole(x),
+        b: 0,
+        c: 0,
+        amount: 0,
+    }
+}
+
+fn press_line(variable: usize, count: usize, amount: i64) -> Line
+    requires { ⌜ (variable < 10000) × (count < 10000) ⌝ }
+    ensures { λ r. ⌜ r ≡ pressLine variable count amount ⌝ }
+{
+    Line {
+        kind: 2,
+        a: whole(variable),
+        b: whole(count),
+        c: 0,
+        amount,
+    }
+}
+
+fn bound_line(bound: i64) -> Line
+    ensures { λ r. ⌜ r ≡ boundLine bound ⌝ }
+{
+    Line {
+        kind: 4,
+        a: 0,
+        b: 0,
+        c: 0,
+        amount: bound,
+    }
+}
+
+// The raise line of scope x, if it is raised.
+fn put_raise(out: &mut [u8], at: usize, raised: &[u8], x: usize) -> usize
+    requires { ⌜ (x < length (now raised)) × (x < 10000) × (at + 27 * length (raisedFrom (now raised) x 1) ≤ length (now out)) ⌝ }
+    ensures { λ r. ⌜ (r ≡ at + 27 * length (raisedFrom (now (raised .entry)) x 1)) × ((p o : List ℕ) → now (out .entry) ≡ overwritten p o → length p ≡ at → (now (out .exit) ≡ overwritten (p ++ raiseTexts (raisedFrom (now (raised .entry)) x 1)) o) × (length (p ++ raiseTexts (raisedFrom (now (raised .entry)) x 1)) ≡ r)) ⌝ }
+{
+    if raised[x] == 0 {
+        return at;
+    }
+    put_line(out, at, raise_line(x))
+}
+
+fn put_raises(out: &mut [u8], from: usize, raised: &[u8], scopes: usize) -> usize
+    requires { ⌜ (scopes ≤ length (now raised)) × (scopes < 10000) × (from + 27 * length (raisedBelow (now raised) scopes) ≤ length (now out)) ⌝ }
+    ensures { λ r. ⌜ (r ≡ from + 27 * length (raisedBelow (now (raised .entry)) scopes)) × ((p o : List ℕ) → now (out .entry) ≡ overwritten p o → length p ≡ from → (now (out .exit) ≡ overwritten (p ++ raiseTexts (raisedBelow (now (raised .entry)) scopes)) o) × (length (p ++ raiseTexts (raisedBelow (now (raised .entry)) scopes)) ≡ r)) ⌝ }
+{
+    let mut at = from;
+    let mut x: usize = 0;
+    while x < scopes {
+        at = put_raise(out, at, raised, x);
+        x += 1;
+    }
+    at
+}
+
+// The lines of a round from the first byte, and how many bytes they are.
+fn write_round(
+    out: &mut [u8],
+    raised: &[u8],
+    scopes: usize,
+    variable: usize,
+    amount: i64,
+    bound: i64,
+) -> usize
+    requires { ⌜ (scopes ≤ length (now raised)) × (scopes < 10000) × (variable < 10000) × (27 * (length (raisedBelow (now raised) scopes) + 2) ≤ length (now out)) ⌝ }
+    requires { ⌜ T (not (lineTooWide 12 (pressLine variable (length (raisedBelow (now raised) scopes)) amount))) × T (not (lineTooWide 12 (boundLine bound))) ⌝ }
+    ensures { λ r. ⌜ (r ≡ length (pressText variable (raisedBelow (now (raised .entry)) scopes) amount bound)) × (now (out .exit) ≡ overwritten (pressText variable (raisedBelow (now (raised .entry)) scopes) amount bound) (now (out .entry))) ⌝ }
+{
+    let count = count_raised(raised, scopes);
+    let first = put_line(out, 0, press_line(variable, count, amount));
+    let next = put_raises(out, first, raised, scopes);
+    put_line(out, next, bound_line(bound))
+}
+
+// ---- the amount, scope by scope
+
+fn first_place(case: Case, x: usize) -> usize
+    requires { ⌜ Limited standard case × (x < scopeCount case) ⌝ }
+    ensures { λ r. ⌜ r ≡ place case x 0 0 ⌝ }
+{
+    if x < case.n {
+        return x * case.d;
+    }
+    case.n * case.d + (x - case.n) * (case.d * case.d)
+}
+
+fn size_of(case: Case, x: usize) -> usize
+    requires { ⌜ Limited standard case ⌝ }
+    ensures { λ r. ⌜ r ≡ sizeOf case x ⌝ }
+{
+    if x < case.n {
+        return case.d;
+    }
+    case.d * case.d
+}
+
+fn scope_gap(case: Case, table: &[i64], x: usize, best: i64, least: i64) -> i64
+    requires { ⌜ Handed standard (workingWeight standard) case (now table) ⌝ }
+    requires { ⌜ (x < scopeCount case) × (best ≡ greatest case (now table) x) ⌝ }
+    ensures { λ r. ⌜ r ≡ lessGaps (greatest case (now (table .entry)) x) (eachTuple case x (weight case (now (table .entry)) x)) least ⌝ }
+{
+    let first = first_place(case, x);
+    let end = first + size_of(case, x);
+    gap_in(&table[first..end], best, least)
+}
+
+// The own scope and the raised ones limit the amount.
+fn limited_gap(
+    case: Case,
+    table: &[i64],
+    best: &[i64],
+    raised: &[u8],
+    variable: usize,
+    x: usize,
+    least: i64,
+) -> i64
+    requires { ⌜ Handed standard (workingWeight standard) case (now table) ⌝ }
+    requires { ⌜ BestOf case (now table) (now best) ⌝ }
+    requires { ⌜ (scopeCount case ≤ length (now raised)) × (x < scopeCount case) ⌝ }
+    ensures { λ r. ⌜ r ≡ (if limits (now (raised .entry)) variable x then lessGaps (greatest case (now (table .entry)) x) (eachTuple case x (weight case (now (table .entry)) x)) least else least) ⌝ }
+{
+    if x == variable {
+        return scope_gap(case, table, x, best[x], least);
+    }
+    if raised[x] == 0 {
+        return least;
+    }
+    scope_gap(case, table, x, best[x], least)
+}
+
+fn least_gap(case: Case, table: &[i64], best: &[i64], raised: &[u8], variable: usize) -> i64
+    requires { ⌜ Handed standard (workingWeight standard) case (now table) ⌝ }
+    requires { ⌜ BestOf case (now table) (now best) ⌝ }
+    requires { ⌜ scopeCount case ≤ length (now raised) ⌝ }
+    requires { ⌜ (chosen case (now table) ≡ some variable) × (raisedBelow (now raised) (scopeCount case) ≡ keptScopes case (now table) variable) ⌝ }
+    ensures { λ r. ⌜ leastGap case (now (table .entry)) variable ≡ some r ⌝ }
+{
+    let scopes = case.n + case.m;
+    let mut least = NO_GAP;
+    let mut x: usize = 0;
+    while x < scopes {
+        least = limited_gap(case, table, best, raised, variable, x, least);
+        x += 1;
+    }
+    least
+}
+
+// ---- the round
+
+// What is prepared of a table, and each scope's greatest weight.
+fn prepare(case: Case, table: &[i64], acts: &mut [u8], rows: &mut [u8], best: &mut [i64])
+    requires { ⌜ Handed standard (workingWeight standard) case (now table) ⌝ }
+    requires { ⌜ (case .n ≤ length (now acts)) × (16 * case .m ≤ length (now rows)) × (scopeCount case ≤ length (now best)) ⌝ }
+    ensures { λ _. ⌜ Prepared case (now (table .entry)) (now (acts .exit)) (now (rows .exit)) × BestOf case (now (table .entry)) (now (best .exit)) ⌝ }
+{
+    consistency::active_marks(case, table, acts, rows);
+    figures::greatest_weights(case, table, best);
+}
+
+fn press(
+    case: Case,
+    table: &mut [i64],
+    best: &mut [i64],
+    raised: &[u8],
+    variable: usize,
+    amount: i64,
+) -> Outcome
+    requires { ⌜ Handed standard (workingWeight standard) case (now table) ⌝ }
+    requires { ⌜ BestOf case (now table) (now best) ⌝ }
+    requires { ⌜ (scopeCount case ≤ length (now raised)) × (variable < case .n) × T (pressAmount standard amount) ⌝ }
+    ensures { λ r. ⌜ Pressed case variable (now (raised .entry)) amount (now (table .entry)) (now (table .exit)) (now (best .exit)) r ⌝ }
+{
+    moves::press_with(case, table, best, raised, variable, amount)
+}
+
+fn bound_of(case: Case, best: &[i64]) -> i64
+    ensures { λ r. ⌜ ((w : List ℤ) → Handed standard (workingWeight standard) case w → BestOf case w (now (best .entry)) → r ≡ upperBound case w) ⌝ }
+{
+    figures::bound_with(case, best)
+}
+
+// The press of the chosen variable, and its lines.
+fn press_round(
+    case: Case,
+    table: &mut [i64],
+    out: &mut [u8],
+    best: &mut [i64],
+    raised: &[u8],
+    variable: usize,
+) -> Round
+    requires { ⌜ Handed standard (workingWeight standard) case (now table) ⌝ }
+    requires { ⌜ BestOf case (now table) (now best) ⌝ }
+    requires { ⌜ (scopeCount case ≤ length (now raised)) × (roundBytes standard case ≤ length (now out)) ⌝ }
+    requires { ⌜ (chosen case (now table) ≡ some variable) × (raisedBelow (now raised) (scopeCount case) ≡ keptScopes case (now table) variable) ⌝ }
+    ensures { λ r. ⌜ MadeRound case (now (table .entry)) (now (out .entry)) (now (table .exit)) (now (out .exit)) r × BestOf case (now (table .exit)) (now (best .exit)) ⌝ }
+{
+    let scopes = case.n + case.m;
+    let amount = least_gap(case, table, best, raised, variable);
+    let pressed = press(case, table, best, raised, variable, amount);
+    match pressed {
+        Outcome::Refused(refusal) => Round::Refused(refusal),
+        Outcome::Done => {
+            let bound = bound_of(case, best);
+            let bytes = write_round(out, raised, scopes, variable, amount, bound);
+            Round::Made { bytes, bound }
+        }
+    }
+}
+
+fn copy_sets(acts: &[u8], sets: &mut [u8], n: usize)
+    requires { ⌜ (n ≤ length (now acts)) × (n ≤ length (now sets)) ⌝ }
+    ensures { λ _. ⌜ ((j : ℕ) → j < n → getD (now (sets .exit)) j 0 ≡ getD (now (acts .entry)) j 0) ⌝ }
+{
+    let mut j: usize = 0;
+    while j < n {
+        sets[j] = acts[j];
+        j += 1;
+    }
+}
+
+// The variable to press, and the scopes to raise.
+fn search(case: Case, acts: &[u8], rows: &[u8], raised: &mut [u8]) -> Chosen
+    requires { ⌜ (scopeCount case ≤ length (now raised)) × (case .n ≤ length (now acts)) × (case .n ≤ 48) × (case .d ≤ 8) × (case .m ≤ 96) ⌝ }
+    ensures { λ r. ⌜ ((w : List ℤ) → Prepared case w (now (acts .entry)) (now (rows .entry)) → AllRaised case (now (raised .entry)) → FoundIs case w (now (raised .exit)) r) ⌝ }
+{
+    let mut sets = [0u8; 48];
+    copy_sets(acts, &mut sets, case.n);
+    let found = choose(case, acts, rows, raised, &mut sets);
+    match found {
+        Chosen::Nothing => Chosen::Nothing,
+        Chosen::Variable(i) => {
+            trim(case, acts, rows, raised, &mut sets, i);
+            Chosen::Variable(i)
+        }
+    }
+}
+
+// One round on a case and a table that were checked before.
+fn round_checked(case: Case, table: &mut [i64], out: &mut [u8]) -> Round
+    requires { ⌜ Handed standard (workingWeight standard) case (now table) ⌝ }
+    requires { ⌜ roundBytes standard case ≤ length (now out) ⌝ }
+    ensures { λ r. ⌜ MadeRound case (now (table .entry)) (now (out .entry)) (now (table .exit)) (now (out .exit)) r ⌝ }
+{
+    let mut acts = [0u8; 48];
+    let mut rows = [0u8; 1536];
+    let mut best = [0i64; 144];
+    let mut raised = [1u8; 144];
+    prepare(case, table, &mut acts, &mut rows, &mut best);
+    let found = search(case, &acts, &rows, &mut raised);
+    match found {
+        Chosen::Nothing => Round::Settled,
+        Chosen::Variable(i) => press_round(case, table, out, &mut best, &raised, i),
+    }
+}
+
+// ---- the run
+
+// What a run answers that may make no more rounds.
+fn at_limit(case: Case, table: &[i64]) -> RunAnswer
+    requires { ⌜ Handed standard (workingWeight standard) case (now table) ⌝ }
+    ensures { λ r. ⌜ r ≡ limitAnswer (chosen case (now (table .entry))) ⌝ }
+{
+    let mut acts = [0u8; 48];
+    let mut rows = [0u8; 1536];
+    let mut best = [0i64; 144];
+    let mut raised = [1u8; 144];
+    prepare(case, table, &mut acts, &mut rows, &mut best);
+    let found = search(case, &acts, &rows, &mut raised);
+    match found {
+        Chosen::Nothing => RunAnswer::Settled,
+        Chosen::Variable(_) => RunAnswer::Limit,
+    }
+}
+
+fn stop_run(case: Case, table: &[i64], answer: RunAnswer, rounds: u64) -> Run
+    requires { ⌜ Handed standard (workingWeight standard) case (now table) ⌝ }
+    ensures { λ r. ⌜ r ≡ stoppedRun case (now (table .entry)) answer rounds ⌝ }
+{
+    let bound = figures::bound_of(case, table);
+    Run {
+        answer,
+        rounds,
+        bound,
+    }
+}
+
+fn run_checked(case: Case, table: &mut [i64], out: &mut [u8], limit: u64) -> Run
+    requires { ⌜ Handed standard (workingWeight standard) case (now table) ⌝ }
+    requires { ⌜ roundBytes standard case ≤ length (now out) ⌝ }
+    ensures { λ r. ⌜ RunIs case limit (now (table .entry)) (now (out .entry)) (now (table .exit)) (now (out .exit)) r ⌝ }
+{
+    let mut done: u64 = 0;
+    while done < limit {
+        let made = round_checked(case, table, out);
+        match made {
+            Round::Settled => return stop_run(case, table, RunAnswer::Settled, done),
+            Round::Refused(refusal) => {
+                return stop_run(case, table, RunAnswer::Refused(refusal), done);
+            }
+            Round::Made { bytes: _, bound: _ } => {}
+        }
+        done += 1;
+    }
+    let answer = at_limit(case, table);
+    stop_run(case, table, answer, done)
+}
+
+// An output is too short for a round.
+fn too_short(case: Case, length: usize) -> bool
+    requires { ⌜ Limited standard case ⌝ }
+    ensures { λ r. ⌜ r ≡ ltb length (roundBytes standard case) ⌝ }
+{
+    length < LINE * (case.n + case.m + 1)
+}
+
+fn check_engine(case: Case, table: &[i64], length: usize) -> Outcome
+    ensures { λ r. ⌜ r ≡ outcomeOf (engineRefusalOf case (now (table .entry)) length) ⌝ }
+{
+    if !figures::within_limits(case) {
+        return Outcome::Refused(Refusal::OutsideLimits);
+    }
+    figures::check_working(case, table, too_short(case, length), false)
+}
+
+// ---- the calls
+
+// One round: its lines from the output's first byte. Settled or refused, table and output keep what they held.
+pub fn round(case: Case, table: &mut [i64], out: &mut [u8]) -> Round
+    ensures { λ r. ⌜ (r ≡ roundCall standard engineNext case (now (table .entry)) (now (out .entry)) .answer) × (now (table .exit) ≡ roundCall standard engineNext case (now (table .entry)) (now (out .entry)) .table) × (now (out .exit) ≡ roundCall standard engineNext case (now (table .entry)) (now (out .entry)) .out) ⌝ }
+{
+    let checked = check_engine(case, table, out.len());
+    match checked {
+        Outcome::Refused(refusal) => Round::Refused(refusal),
+        Outcome::Done => round_checked(case, table, out),
+    }
+}
+
+// Rounds one after another, at most `limit`.
+pub fn run(case: Case, table: &mut [i64], out: &mut [u8], limit: u64) -> Run
+    ensures { λ r. ⌜ (r ≡ runCall standard engineNext case limit (now (table .entry)) (now (out .entry)) .run) × (now (table .exit) ≡ runCall standard engineNext case limit (now (table .entry)) (now (out .entry)) .table) × (now (out .exit) ≡ runCall standard engineNext case limit (now (table .entry)) (now (out .entry)) .out) ⌝ }
+{
+    let checked = check_engine(case, table, out.len());
+    match checked {
+        Outcome::Refused(refusal) => Run {
+            answer: RunAnswer::Refused(refusal),
+            rounds: 0,
+            bound: 0,
+        },
+        Outcome::Done => run_checked(case, table, out, limit),
+    }
+}
