@@ -1,11 +1,8 @@
--- Four bytes compared at once, and the digits that a column has room for. Assumes nothing.
+-- Four bytes compared at once. Assumes nothing.
 use mathlib.Core.Path.{_≡_}
 use mathlib.Core.List.{List}
-use Prim.Native.Nat.{ℕ, _+_, _*_, _-_, _<_}
-use lib.IntN.{ℤ, pos}
+use Prim.Native.Nat.{ℕ, _+_, _*_, _<_}
 use lib.ListN.{getD}
-use lib.Signed.{ltZ}
-use Rattle.integers.specs.Words.{if_then_else_}
 
 -- the number of the four bytes at place i
 pub record Word (t : List ℕ) (i r : ℕ) : Type 0 where
@@ -14,7 +11,3 @@ pub record Word (t : List ℕ) (i r : ℕ) : Type 0 where
   pub second : getD t (i + 1) 0 < 256
   pub third : getD t (i + 2) 0 < 256
   pub fourth : getD t (i + 3) 0 < 256
-
--- a minus takes a byte
-abbrev pub digitRoom : ℕ → ℤ → ℕ
-digitRoom width z = if ltZ z (pos 0) then width - 1 else width

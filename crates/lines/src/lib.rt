@@ -16,7 +16,7 @@ ghost use Rattle.definitions.specs.Lines.{decimal, numberText, tooWide, columnT
 ghost use Rattle.definitions.specs.Calls.{readLineAnswer, writeLineCall};
 ghost use Rattle.lines.specs.Found.{digitsFound, digitsValue, plainFound, negativeFound, columnFound, lineFound, lineAnswer};
 ghost use Rattle.lines.specs.WriteNumber.{writeNumberCall};
-ghost use Rattle.lines.specs.Words.{Word, digitRoom};
+ghost use Rattle.lines.specs.Words.{Word};
 
 // The width of the amount column today.
 const AMOUNT: usize = 12;
@@ -272,22 +272,14 @@ fn power(k: usize) -> u64
     p
 }
 
-// How many digits a number of z's sign may have in a column.
-fn digit_room(width: usize, z: i64) -> usize
-    requires { ⌜ 1 ≤ width ⌝ }
-    ensures { λ r. ⌜ (r ≤ width) × (r ≡ digitRoom width z) ⌝ }
-{
-    if z < 0 { width - 1 } else { width }
-}
-
 fn too_wide(width: usize, z: i64) -> bool
     requires { ⌜ (1 ≤ width) × (width ≤ 18) ⌝ }
     ensures { λ r. ⌜ r ≡ tooWide width z ⌝ }
 {
-    if magnitude(z) < power(digit_room(width, z)) {
-        return false;
+    if z < 0 {
+        return power(width - 1) <= magnitude(z);
     }
-    true
+    power(width) <= magnitude(z)
 }
 
 fn line_too_wide(line: Line, width: usize) -> bool
