@@ -1,3 +1,4 @@
--- The replay's calls on all input, and samples of them.
+-- The replay's calls on all input, samples of them, and what the inner functions answer.
 pub mod Checker
 pub mod CheckerSamples
+pub mod Taken

@@ -1,7 +1,33 @@
 // The replay's record, by value: the next record comes back with the answer (document 01, "The replay's record says what is due").
 // What its calls answer is defined in specs/.
+use definitions::Case;
+use definitions::Line;
+use definitions::LineRead;
 use definitions::Outcome;
 use definitions::Refusal;
+use definitions::Verdict;
+ghost use mathlib.Core.Path.{_≡_};
+ghost use mathlib.Core.Bool.{not, _||_, true, false};
+ghost use mathlib.Core.Option.{some};
+ghost use mathlib.Core.List.{List, [], _∷_};
+ghost use Prim.Native.Nat.{ℕ, _+_, _≤_, _<_};
+ghost use lib.IntN.{ℤ, pos, natAbs};
+ghost use lib.Dec.{T, ltb, eqb};
+ghost use lib.Signed.{ltZ};
+ghost use lib.ListN.{length, drop, replicate};
+ghost use Rattle.integers.specs.Words.{all, within, withinZ};
+ghost use Rattle.definitions.specs.Rules.{standard};
+ghost use Rattle.definitions.specs.Refusals.{firstOf};
+ghost use Rattle.definitions.specs.Answers.{outcomeOf, unlessRefused};
+ghost use Rattle.definitions.specs.Case.{scopeCount};
+ghost use Rattle.definitions.specs.Valid.{workingWeight};
+ghost use Rattle.definitions.specs.Consistency.{allRefuted};
+ghost use Rattle.definitions.specs.Moves.{shiftAmount, pressAmount, activeValues};
+ghost use Rattle.definitions.specs.Lines.{outside, notDue};
+ghost use Rattle.theory.proofs.Validity.{Handed};
+ghost use Rattle.figures.specs.Scopes.{Limited, BestOf};
+ghost use Rattle.checker.specs.Checker.{isRaised, lastOut, notAboveLast, dueKinds, isHeld, refusedReplay, dueOut, recordOut, freshReplay, ofShift, ofPress, ofBound, ofRaise, ofKind, stepLine, stepReplay, endTests, endReplay, blockReplay};
+ghost use Rattle.checker.specs.Taken.{standingAfter, replayOf, goodReplay, stepOf, stepNext, pressed, rangeTests, wholeTests, lastStep, frontTests, moreBy};
 
 // The last scope that a press has raised.
 pub enum LastRaised {
@@ -47,4 +73,862 @@ pub struct Block {
     pub replay: Replay,
     pub lines: usize,
     pub answer: Outcome,
+}
+
+// What the record holds beside the raised scopes and the standing.
+struct Progress {
+    rounds: u64,
+    start: i64,
+    moved: bool,
+    due: Due,
+}
+
+// What stands after a line, and the answer to it.
+struct Taken {
+    progress: Progress,
+    answer: Outcome,
+}
+
+// The greatest count of rounds, and the greatest amount of a move.
+const ROUNDS: u64 = 999_999_999_999_999_999;
+
+const MOVING: i64 = 1_000_000_000;
+
+// The length of a line.
+const LINE: usize = 27;
+
+// ---- numbers in columns
+
+fn is_within(z: i64, low: i64, high: i64) -> bool
+    ensures { λ r. ⌜ r ≡ withinZ low high z ⌝ }
+{
+    low <= z && z <= high
+}
+
+fn is_outside(z: i64, n: usize) -> bool
+    ensures { λ r. ⌜ r ≡ outside n z ⌝ }
+{
+    if z < 0 {
+        return true;
+    }
+    n <= z as usize
+}
+
+fn index(z: i64) -> usize
+    requires { ⌜ ltZ z (pos 0) ≡ false ⌝ }
+    ensures { λ r. ⌜ r ≡ natAbs z ⌝ }
+{
+    z as usize
+}
+
+// ---- number 2
+
+fn move_due(line: Line) -> bool
+    ensures { λ r. ⌜ r ≡ not (notDue standard (1 ∷ 2 ∷ 4 ∷ []) line) ⌝ }
+{
+    if line.kind == 1 {
+        return true;
+    }
+    if line.kind == 2 {
+        return line.c == 0;
+    }
+    if line.kind == 4 {
+        return (line.a == 0) & (line.b == 0) & (line.c == 0);
+    }
+    false
+}
+
+fn raise_due(line: Line) -> bool
+    ensures { λ r. ⌜ r ≡ not (notDue standard (3 ∷ []) line) ⌝ }
+{
+    (line.kind == 3) & (line.b == 0) & (line.c == 0) & (line.amount == 0)
+}
+
+fn is_due(due: Due, line: Line) -> bool
+    ensures { λ r. ⌜ r ≡ not (notDue standard (dueKinds due) line) ⌝ }
+{
+    match due {
+        Due::MoveOrBound => move_due(line),
+        Due::Raise {
+            variable: _,
+            amount: _,
+            left: _,
+            last: _,
+        } => raise_due(line),
+    }
+}
+
+// ---- number 5 of the record
+
+fn last_out(case: Case, last: LastRaised) -> bool
+    requires { ⌜ Limited standard case ⌝ }
+    ensures { λ r. ⌜ r ≡ lastOut case last ⌝ }
+{
+    match last {
+        LastRaised::Nothing => false,
+        LastRaised::Scope(x) => case.n + case.m <= x,
+    }
+}
+
+// No scope from `from` on is raised.
+fn none_from(raised: &[u8], from: usize) -> bool
+    ensures { λ r. ⌜ r ≡ all (λ b. eqb b 0) (drop from (now (raised .entry))) ⌝ }
+{
+    let mut x = from;
+    while x < raised.len() {
+        if raised[x] != 0 {
+            return false;
+        }
+        x += 1;
+    }
+    true
+}
+
+fn in_range(x: usize, low: usize, high: usize) -> bool
+    ensures { λ r. ⌜ r ≡ within low high x ⌝ }
+{
+    low <= x && x <= high
+}
+
+fn press_out(
+    case: Case,
+    raised: &[u8],
+    variable: usize,
+    amount: i64,
+    left: usize,
+    last: LastRaised,
+) -> bool
+    requires { ⌜ Limited standard case ⌝ }
+    ensures { λ r. ⌜ r ≡ dueOut standard case (now (raised .entry)) (Due.Raise variable amount left last) ⌝ }
+{
+    let scopes = case.n + case.m;
+    !(variable < case.n)
+        | !is_within(amount, 1, MOVING)
+        | !in_range(left, 1, scopes - 1)
+        | last_out(case, last)
+        | !none_from(raised, scopes)
+}
+
+fn record_out(case: Case, raised: &[u8], rounds: u64, due: Due) -> bool
+    requires { ⌜ Limited standard case ⌝ }
+    ensures { λ r. ⌜ r ≡ (ltb (standard .rounds) rounds || dueOut standard case (now (raised .entry)) due) ⌝ }
+{
+    if ROUNDS < rounds {
+        return true;
+    }
+    match due {
+        Due::MoveOrBound => false,
+        Due::Raise {
+            variable,
+            amount,
+            left,
+            last,
+        } => press_out(case, raised, variable, amount, left, last),
+    }
+}
+
+// ---- number 5 of the line
+
+fn is_shift_amount(amount: i64) -> bool
+    ensures { λ r. ⌜ r ≡ shiftAmount standard amount ⌝ }
+{
+    if !is_within(amount, -MOVING, MOVING) {
+        return false;
+    }
+    amount != 0
+}
+
+fn shift_out(case: Case, line: Line) -> bool
+    ensures { λ r. ⌜ ((w : List ℤ) (p : Replay) → r ≡ ofShift standard case w p line .out) ⌝ }
+{
+    is_outside(line.a, case.m)
+        | is_outside(line.b, 2)
+        | is_outside(line.c, case.d)
+        | !is_shift_amount(line.amount)
+}
+
+fn begin_out(case: Case, line: Line) -> bool
+    requires { ⌜ Limited standard case ⌝ }
+    ensures { λ r. ⌜ ((w : List ℤ) (p : Replay) → r ≡ ofPress standard case w p line .out) ⌝ }
+{
+    let most = case.n + case.m - 1;
+    is_outside(line.a, case.n)
+        | !is_within(line.b, 1, most as i64)
+        | !is_within(line.amount, 1, MOVING)
+}
+
+fn move_out(case: Case, rounds: u64, line: Line) -> bool
+    requires { ⌜ Limited standard case ⌝ }
+    ensures { λ r. ⌜ ((w : List ℤ) (p : Replay) → p .rounds ≡ rounds → r ≡ ofKind standard case w p Due.MoveOrBound line .out) ⌝ }
+{
+    if line.kind == 1 {
+        return shift_out(case, line);
+    }
+    if line.kind == 2 {
+        return begin_out(case, line);
+    }
+    ROUNDS <= rounds
+}
+
+fn line_out(case: Case, rounds: u64, due: Due, line: Line) -> bool
+    requires { ⌜ Limited standard case ⌝ }
+    ensures { λ r. ⌜ ((w : List ℤ) (p : Replay) → p .rounds ≡ rounds → r ≡ ofKind standard case w p due line .out) ⌝ }
+{
+    match due {
+        Due::MoveOrBound => move_out(case, rounds, line),
+        Due::Raise {
+            variable: _,
+            amount: _,
+            left: _,
+            last: _,
+        } => is_outside(line.a, case.n + case.m),
+    }
+}
+
+// ---- the next record
+
+fn refused(progress: Progress, refusal: Refusal) -> Taken
+    ensures { λ r. ⌜ r ≡ record { progress = progress; answer = Outcome.Refused refusal } ⌝ }
+{
+    Taken {
+        progress,
+        answer: Outcome::Refused(refusal),
+    }
+}
+
+fn with_due(progress: Progress, due: Due) -> Taken
+    ensures { λ r. ⌜ r ≡ record { progress = record { rounds = progress .rounds; start = progress .start; moved = progress .moved; due = due }; answer = Outcome.Done } ⌝ }
+{
+    Taken {
+        progress: Progress {
+            rounds: progress.rounds,
+            start: progress.start,
+            moved: progress.moved,
+            due,
+        },
+        answer: Outcome::Done,
+    }
+}
+
+// After a shift or a press.
+fn after_move(progress: Progress) -> Taken
+    ensures { λ r. ⌜ r ≡ record { progress = record { rounds = progress .rounds; start = progress .start; moved = true; due = Due.MoveOrBound }; answer = Outcome.Done } ⌝ }
+{
+    Taken {
+        progress: Progress {
+            rounds: progress.rounds,
+            start: progress.start,
+            moved: true,
+            due: Due::MoveOrBound,
+        },
+        answer: Outcome::Done,
+    }
+}
+
+fn after_bound(progress: Progress, bound: i64) -> Taken
+    requires { ⌜ progress .rounds < standard .rounds ⌝ }
+    ensures { λ r. ⌜ r ≡ record { progress = record { rounds = progress .rounds + 1; start = bound; moved = false; due = Due.MoveOrBound }; answer = Outcome.Done } ⌝ }
+{
+    Taken {
+        progress: Progress {
+            rounds: progress.rounds + 1,
+            start: bound,
+            moved: false,
+            due: Due::MoveOrBound,
+        },
+        answer: Outcome::Done,
+    }
+}
+
+// The record of its parts.
+fn record_of(progress: Progress, raised: [u8; 144], standing: Standing) -> Replay
+    ensures { λ r. ⌜ r ≡ replayOf progress raised standing ⌝ }
+{
+    let due = progress.due;
+    Replay {
+        rounds: progress.rounds,
+        start: progress.start,
+        moved: progress.moved,
+        raised,
+        due,
+        standing,
+    }
+}
+
+fn progress_of(replay: Replay) -> Progress
+    ensures { λ r. ⌜ r ≡ record { rounds = replay .rounds; start = replay .start; moved = replay .moved; due = replay .due } ⌝ }
+{
+    let due = replay.due;
+    Progress {
+        rounds: replay.rounds,
+        start: replay.start,
+        moved: replay.moved,
+        due,
+    }
+}
+
+fn stands(answer: Outcome) -> Standing
+    ensures { λ r. ⌜ r ≡ standingAfter answer ⌝ }
+{
+    match answer {
+        Outcome::Done => Standing::Good,
+        Outcome::Refused(refusal) => Standing::Refused(refusal),
+    }
+}
+
+fn clear(raised: &mut [u8])
+    ensures { λ _. ⌜ now (raised .exit) ≡ replicate (length (now (raised .entry))) 0 ⌝ }
+{
+    let mut x: usize = 0;
+    while x < raised.len() {
+        raised[x] = 0;
+        x += 1;
+    }
+}
+
+// ---- what is prepared for many lines: each scope's greatest weight
+
+fn prepare(case: Case, table: &[i64], best: &mut [i64])
+    requires { ⌜ Handed standard (workingWeight standard) case (now table) ⌝ }
+    requires { ⌜ length (now best) ≡ 144 ⌝ }
+    ensures { λ _. ⌜ BestOf case (now (table .entry)) (now (best .exit)) ⌝ }
+{
+    figures::greatest_weights(case, table, best);
+}
+
+// ---- each kind of line, none of whose numbers up to 8 applies
+
+fn shift_made(case: Case, table: &mut [i64], best: &mut [i64], line: Line) -> Outcome
+    requires { ⌜ Handed standard (workingWeight standard) case (now table) ⌝ }
+    requires { ⌜ BestOf case (now table) (now best) ⌝ }
+    requires { ⌜ ((p : Replay) → T (not (ofShift standard case (now table) p line .out))) ⌝ }
+    ensures { λ r. ⌜ ((p : Replay) → (r ≡ outcomeOf (firstOf (ofShift standard case (now (table .entry)) p line .later))) × (now (table .exit) ≡ unlessRefused (firstOf (ofShift standard case (now (table .entry)) p line .later)) (ofShift standard case (now (table .entry)) p line .table) (now (table .entry)))) ⌝ }
+    ensures { λ r. ⌜ BestOf case (now (table .exit)) (now (best .exit)) ⌝ }
+{
+    let edge = index(line.a);
+    let end = index(line.b);
+    let value = index(line.c);
+    moves::shift_with(case, table, best, edge, end, value, line.amount)
+}
+
+fn shift_line(
+    case: Case,
+    table: &mut [i64],
+    best: &mut [i64],
+    progress: Progress,
+    line: Line,
+) -> Taken
+    requires { ⌜ Handed standard (workingWeight standard) case (now table) ⌝ }
+    requires { ⌜ BestOf case (now table) (now best) ⌝ }
+    requires { ⌜ ((p : Replay) → T (not (ofShift standard case (now table) p line .out))) ⌝ }
+    ensures { λ r. ⌜ ((raised : List ℕ) → stepOf r raised (now (table .exit)) ≡ stepNext (now (table .entry)) (goodReplay progress raised) (ofShift standard case (now (table .entry)) (goodReplay progress raised) line)) ⌝ }
+    ensures { λ r. ⌜ BestOf case (now (table .exit)) (now (best .exit)) ⌝ }
+{
+    let made = shift_made(case, table, best, line);
+    match made {
+        Outcome::Refused(refusal) => refused(progress, refusal),
+        Outcome::Done => after_move(progress),
+    }
+}
+
+// A press is begun.
+fn press_line(raised: &mut [u8], progress: Progress, line: Line) -> Taken
+    requires { ⌜ length (now raised) ≡ 144 ⌝ }
+    requires { ⌜ (ltZ (line .a) (pos 0) ≡ false) × (ltZ (line .b) (pos 0) ≡ false) ⌝ }
+    ensures { λ r. ⌜ ((c : Case) (w : List ℤ) → stepOf r (now (raised .exit)) w ≡ stepNext w (goodReplay progress (now (raised .entry))) (ofPress standard c w (goodReplay progress (now (raised .entry))) line)) ⌝ }
+{
+    clear(raised);
+    let variable = index(line.a);
+    let left = index(line.b);
+    let amount = line.amount;
+    with_due(
+        progress,
+        Due::Raise {
+            variable,
+            amount,
+            left,
+            last: LastRaised::Nothing,
+        },
+    )
+}
+
+fn bound_line(case: Case, best: &[i64], progress: Progress, line: Line) -> Taken
+    requires { ⌜ progress .rounds < standard .rounds ⌝ }
+    ensures { λ r. ⌜ ((w : List ℤ) (raised : List ℕ) → Handed standard (workingWeight standard) case w → BestOf case w (now (best .entry)) → stepOf r raised w ≡ stepNext w (goodReplay progress raised) (ofBound standard case w (goodReplay progress raised) line)) ⌝ }
+{
+    let bound = figures::bound_with(case, best);
+    if line.amount != bound {
+        return refused(progress, Refusal::OtherBound);
+    }
+    if progress.start <= bound {
+        return refused(progress, Refusal::BoundNotLower);
+    }
+    after_bound(progress, bound)
+}
+
+// ---- raise lines
+
+fn not_above(last: LastRaised, x: usize) -> bool
+    ensures { λ r. ⌜ r ≡ notAboveLast last x ⌝ }
+{
+    match last {
+        LastRaised::Nothing => false,
+        LastRaised::Scope(y) => x <= y,
+    }
+}
+
+fn all_refuted(case: Case, table: &[i64], best: &[i64], raised: &[u8], variable: usize) -> bool
+    requires { ⌜ Handed standard (workingWeight standard) case (now table) ⌝ }
+    requires { ⌜ BestOf case (now table) (now best) ⌝ }
+    requires { ⌜ (length (now raised) ≡ 144) × (variable < case .n) ⌝ }
+    ensures { λ r. ⌜ r ≡ allRefuted case (now (table .entry)) (isRaised (now (raised .entry))) variable (activeValues case (now (table .entry)) variable) ⌝ }
+{
+    let verdict = consistency::active_refuted(case, table, best, raised, variable);
+    match verdict {
+        Verdict::Yes => true,
+        Verdict::No => false,
+        Verdict::Refused(_) => false,
+    }
+}
+
+fn press_made(
+    case: Case,
+    table: &mut [i64],
+    best: &mut [i64],
+    raised: &[u8],
+    variable: usize,
+    amount: i64,
+) -> Outcome
+    requires { ⌜ Handed standard (workingWeight standard) case (now table) ⌝ }
+    requires { ⌜ BestOf case (now table) (now best) ⌝ }
+    requires { ⌜ (length (now raised) ≡ 144) × (variable < case .n) × T (pressAmount standard amount) ⌝ }
+    ensures { λ r. ⌜ (r ≡ outcomeOf (firstOf (rangeTests case (pressed case (now (table .entry)) variable (now (raised .entry)) amount)))) × (now (table .exit) ≡ unlessRefused (firstOf (rangeTests case (pressed case (now (table .entry)) variable (now (raised .entry)) amount))) (pressed case (now (table .entry)) variable (now (raised .entry)) amount) (now (table .entry))) ⌝ }
+    ensures { λ r. ⌜ BestOf case (now (table .exit)) (now (best .exit)) ⌝ }
+{
+    moves::press_with(case, table, best, raised, variable, amount)
+}
+
+// The press with its raised scopes, unless number 10 or 11 applies.
+fn press_whole(
+    case: Case,
+    table: &mut [i64],
+    best: &mut [i64],
+    raised: &[u8],
+    variable: usize,
+    amount: i64,
+) -> Outcome
+    requires { ⌜ Handed standard (workingWeight standard) case (now table) ⌝ }
+    requires { ⌜ BestOf case (now table) (now best) ⌝ }
+    requires { ⌜ (length (now raised) ≡ 144) × (variable < case .n) × T (pressAmount standard amount) ⌝ }
+    ensures { λ r. ⌜ (r ≡ outcomeOf (firstOf (wholeTests case (now (table .entry)) variable (now (raised .entry)) amount))) × (now (table .exit) ≡ unlessRefused (firstOf (wholeTests case (now (table .entry)) variable (now (raised .entry)) amount)) (pressed case (now (table .entry)) variable (now (raised .entry)) amount) (now (table .entry))) ⌝ }
+    ensures { λ r. ⌜ BestOf case (now (table .exit)) (now (best .exit)) ⌝ }
+{
+    if !all_refuted(case, table, best, raised, variable) {
+        return Outcome::Refused(Refusal::NotRefuted);
+    }
+    press_made(case, table, best, raised, variable, amount)
+}
+
+// The press's last raise line, of scope x.
+fn last_raise(
+    case: Case,
+    table: &mut [i64],
+    best: &mut [i64],
+    raised: &mut [u8],
+    progress: Progress,
+    variable: usize,
+    amount: i64,
+    x: usize,
+) -> Taken
+    requires { ⌜ Handed standard (workingWeight standard) case (now table) ⌝ }
+    requires { ⌜ BestOf case (now table) (now best) ⌝ }
+    requires { ⌜ (length (now raised) ≡ 144) × (variable < case .n) × T (pressAmount standard amount) × (x < 144) ⌝ }
+    ensures { λ r. ⌜ stepOf r (now (raised .exit)) (now (table .exit)) ≡ lastStep case (now (table .entry)) (goodReplay progress (now (raised .entry))) variable amount x ⌝ }
+    ensures { λ r. ⌜ BestOf case (now (table .exit)) (now (best .exit)) ⌝ }
+{
+    let before = raised[x];
+    raised[x] = 1;
+    let made = press_whole(case, table, best, raised, variable, amount);
+    match made {
+        Outcome::Refused(refusal) => {
+            raised[x] = before;
+            refused(progress, refusal)
+        }
+        Outcome::Done => {
+            clear(raised);
+            after_move(progress)
+        }
+    }
+}
+
+fn raise_line(
+    case: Case,
+    table: &mut [i64],
+    best: &mut [i64],
+    raised: &mut [u8],
+    progress: Progress,
+    variable: usize,
+    amount: i64,
+    left: usize,
+    last: LastRaised,
+    line: Line,
+) -> Taken
+    requires { ⌜ Handed standard (workingWeight standard) case (now table) ⌝ }
+    requires { ⌜ BestOf case (now table) (now best) ⌝ }
+    requires { ⌜ (length (now raised) ≡ 144) × (variable < case .n) × T (pressAmount standard amount) × (1 ≤ left) ⌝ }
+    requires { ⌜ T (not (outside (scopeCount case) (line .a))) ⌝ }
+    ensures { λ r. ⌜ stepOf r (now (raised .exit)) (now (table .exit)) ≡ stepNext (now (table .entry)) (goodReplay progress (now (raised .entry))) (ofRaise standard case (now (table .entry)) (goodReplay progress (now (raised .entry))) variable amount left last line) ⌝ }
+    ensures { λ r. ⌜ BestOf case (now (table .exit)) (now (best .exit)) ⌝ }
+{
+    let x = index(line.a);
+    if not_above(last, x) {
+        return refused(progress, Refusal::RaiseNotAscending);
+    }
+    if x == variable {
+        return refused(progress, Refusal::RaiseNotAscending);
+    }
+    if left == 1 {
+        return last_raise(case, table, best, raised, progress, variable, amount, x);
+    }
+    raised[x] = 1;
+    with_due(
+        progress,
+        Due::Raise {
+            variable,
+            amount,
+            left: left - 1,
+            last: LastRaised::Scope(x),
+        },
+    )
+}
+
+// ---- a line in columns
+
+fn move_line(
+    case: Case,
+    table: &mut [i64],
+    best: &mut [i64],
+    raised: &mut [u8],
+    progress: Progress,
+    line: Line,
+) -> Taken
+    requires { ⌜ Handed standard (workingWeight standard) case (now table) ⌝ }
+    requires { ⌜ BestOf case (now table) (now best) ⌝ }
+    requires { ⌜ length (now raised) ≡ 144 ⌝ }
+    requires { ⌜ T (not (ofKind standard case (now table) (goodReplay progress (now raised)) Due.MoveOrBound line .out)) ⌝ }
+    ensures { λ r. ⌜ stepOf r (now (raised .exit)) (now (table .exit)) ≡ stepNext (now (table .entry)) (goodReplay progress (now (raised .entry))) (ofKind standard case (now (table .entry)) (goodReplay progress (now (raised .entry))) Due.MoveOrBound line) ⌝ }
+    ensures { λ r. ⌜ BestOf case (now (table .exit)) (now (best .exit)) ⌝ }
+{
+    if line.kind == 1 {
+        return shift_line(case, table, best, progress, line);
+    }
+    if line.kind == 2 {
+        return press_line(raised, progress, line);
+    }
+    bound_line(case, best, progress, line)
+}
+
+// A line that is due and in range.
+fn take_line(
+    case: Case,
+    table: &mut [i64],
+    best: &mut [i64],
+    raised: &mut [u8],
+    progress: Progress,
+    line: Line,
+) -> Taken
+    requires { ⌜ Handed standard (workingWeight standard) case (now table) ⌝ }
+    requires { ⌜ BestOf case (now table) (now best) ⌝ }
+    requires { ⌜ length (now raised) ≡ 144 ⌝ }
+    requires { ⌜ T (not (recordOut standard case (goodReplay progress (now raised)))) ⌝ }
+    requires { ⌜ T (not (ofKind standard case (now table) (goodReplay progress (now raised)) (progress .due) line .out)) ⌝ }
+    ensures { λ r. ⌜ stepOf r (now (raised .exit)) (now (table .exit)) ≡ stepNext (now (table .entry)) (goodReplay progress (now (raised .entry))) (ofKind standard case (now (table .entry)) (goodReplay progress (now (raised .entry))) (progress .due) line) ⌝ }
+    ensures { λ r. ⌜ BestOf case (now (table .exit)) (now (best .exit)) ⌝ }
+{
+    let due = progress.due;
+    match due {
+        Due::MoveOrBound => move_line(case, table, best, raised, progress, line),
+        Due::Raise {
+            variable,
+            amount,
+            left,
+            last,
+        } => raise_line(
+            case,
+            table,
+            best,
+            raised,
+            progress,
+            variable,
+            amount,
+            left,
+            last,
+            line,
+        ),
+    }
+}
+
+// ---- a line of a record that is good, on a case and a table that were checked
+
+fn good_read(
+    case: Case,
+    table: &mut [i64],
+    best: &mut [i64],
+    raised: &mut [u8],
+    progress: Progress,
+    line: Line,
+) -> Taken
+    requires { ⌜ Handed standard (workingWeight standard) case (now table) ⌝ }
+    requires { ⌜ BestOf case (now table) (now best) ⌝ }
+    requires { ⌜ length (now raised) ≡ 144 ⌝ }
+    requires { ⌜ T (not (recordOut standard case (goodReplay progress (now raised)))) ⌝ }
+    ensures { λ r. ⌜ stepOf r (now (raised .exit)) (now (table .exit)) ≡ stepLine standard case (now (table .entry)) (goodReplay progress (now (raised .entry))) (some line) ⌝ }
+    ensures { λ r. ⌜ BestOf case (now (table .exit)) (now (best .exit)) ⌝ }
+{
+    let due = progress.due;
+    if !is_due(due, line) {
+        return refused(progress, Refusal::NotDue);
+    }
+    if line_out(case, progress.rounds, due, line) {
+        return refused(progress, Refusal::OutOfRange);
+    }
+    take_line(case, table, best, raised, progress, line)
+}
+
+fn good_line(
+    case: Case,
+    table: &mut [i64],
+    best: &mut [i64],
+    raised: &mut [u8],
+    progress: Progress,
+    bytes: &[u8],
+) -> Taken
+    requires { ⌜ Handed standard (workingWeight standard) case (now table) ⌝ }
+    requires { ⌜ BestOf case (now table) (now best) ⌝ }
+    requires { ⌜ length (now raised) ≡ 144 ⌝ }
+    requires { ⌜ T (not (recordOut standard case (goodReplay progress (now raised)))) ⌝ }
+    ensures { λ r. ⌜ stepOf r (now (raised .exit)) (now (table .exit)) ≡ stepReplay standard case (now (table .entry)) (goodReplay progress (now (raised .entry))) (now (bytes .entry)) ⌝ }
+    ensures { λ r. ⌜ BestOf case (now (table .exit)) (now (best .exit)) ⌝ }
+{
+    let read = lines::read_line(bytes);
+    match read {
+        LineRead::Refused(_) => refused(progress, Refusal::NotInColumns),
+        LineRead::Read(line) => good_read(case, table, best, raised, progress, line),
+    }
+}
+
+// The lines of a block after its first, which left a record that is good.
+fn good_lines(replay: Replay, case: Case, table: &mut [i64], bytes: &[u8]) -> Block
+    requires { ⌜ Handed standard (workingWeight standard) case (now table) ⌝ }
+    requires { ⌜ (replay .standing ≡ Standing.Good) × T (not (recordOut standard case replay)) × (27 ≤ length (now bytes)) ⌝ }
+    ensures { λ r. ⌜ (r ≡ moreBy 1 (blockReplay standard case (now (table .entry)) replay (drop 27 (now (bytes .entry)))) .block) × (now (table .exit) ≡ blockReplay standard case (now (table .entry)) replay (drop 27 (now (bytes .entry))) .table) ⌝ }
+{
+    let mut best = [0i64; 144];
+    prepare(case, table, &mut best);
+    let mut raised = replay.raised;
+    let mut progress = progress_of(replay);
+    let mut from: usize = LINE;
+    let mut done: usize = 1;
+    while LINE <= bytes.len() - from {
+        let to = from + LINE;
+        let taken = good_line(
+            case,
+            table,
+            &mut best,
+            &mut raised,
+            progress,
+            &bytes[from..to],
+        );
+        progress = taken.progress;
+        let answer = taken.answer;
+        if let Outcome::Refused(refusal) = answer {
+            return Block {
+                replay: record_of(progress, raised, Standing::Refused(refusal)),
+                lines: done,
+                answer,
+            };
+        }
+        from = to;
+        done += 1;
+    }
+    Block {
+        replay: record_of(progress, raised, Standing::Good),
+        lines: done,
+        answer: Outcome::Done,
+    }
+}
+
+// ---- a line of any record, on any case and table
+
+fn refuse(replay: Replay, refusal: Refusal) -> Stepped
+    ensures { λ r. ⌜ r ≡ record { replay = refusedReplay replay refusal; answer = Outcome.Refused refusal } ⌝ }
+{
+    let raised = replay.raised;
+    Stepped {
+        replay: record_of(progress_of(replay), raised, Standing::Refused(refusal)),
+        answer: Outcome::Refused(refusal),
+    }
+}
+
+// Numbers 2 to 8.
+fn check_line(case: Case, table: &[i64], raised: &[u8], progress: Progress, line: Line) -> Outcome
+    ensures { λ r. ⌜ r ≡ outcomeOf (firstOf (frontTests case (now (table .entry)) (goodReplay progress (now (raised .entry))) line)) ⌝ }
+{
+    let due = progress.due;
+    if !is_due(due, line) {
+        return Outcome::Refused(Refusal::NotDue);
+    }
+    if !figures::within_limits(case) {
+        return Outcome::Refused(Refusal::OutsideLimits);
+    }
+    let rounds = progress.rounds;
+    let out = record_out(case, raised, rounds, due) | line_out(case, rounds, due, line);
+    figures::check_working(case, table, false, out)
+}
+
+fn step_read(replay: Replay, case: Case, table: &mut [i64], line: Line) -> Stepped
+    requires { ⌜ replay .standing ≡ Standing.Good ⌝ }
+    ensures { λ r. ⌜ (r ≡ stepLine standard case (now (table .entry)) replay (some line) .stepped) × (now (table .exit) ≡ stepLine standard case (now (table .entry)) replay (some line) .table) ⌝ }
+{
+    let progress = progress_of(replay);
+    let mut raised = replay.raised;
+    let checked = check_line(case, table, &raised, progress, line);
+    match checked {
+        Outcome::Refused(refusal) => refuse(replay, refusal),
+        Outcome::Done => {
+            let mut best = [0i64; 144];
+            prepare(case, table, &mut best);
+            let taken = take_line(case, table, &mut best, &mut raised, progress, line);
+            let after = taken.progress;
+            let answer = taken.answer;
+            Stepped {
+                replay: record_of(after, raised, stands(answer)),
+                answer,
+            }
+        }
+    }
+}
+
+fn step_good(replay: Replay, case: Case, table: &mut [i64], bytes: &[u8]) -> Stepped
+    requires { ⌜ replay .standing ≡ Standing.Good ⌝ }
+    ensures { λ r. ⌜ (r ≡ stepReplay standard case (now (table .entry)) replay (now (bytes .entry)) .stepped) × (now (table .exit) ≡ stepReplay standard case (now (table .entry)) replay (now (bytes .entry)) .table) ⌝ }
+{
+    let read = lines::read_line(bytes);
+    match read {
+        LineRead::Refused(_) => refuse(replay, Refusal::NotInColumns),
+        LineRead::Read(line) => step_read(replay, case, table, line),
+    }
+}
+
+// ---- the end
+
+fn is_held(due: Due) -> bool
+    ensures { λ r. ⌜ r ≡ isHeld due ⌝ }
+{
+    match due {
+        Due::MoveOrBound => false,
+        Due::Raise {
+            variable: _,
+            amount: _,
+            left: _,
+            last: _,
+        } => true,
+    }
+}
+
+fn end_good(replay: Replay, case: Case) -> Outcome
+    ensures { λ r. ⌜ r ≡ outcomeOf (firstOf (endTests standard case replay)) ⌝ }
+{
+    if !figures::within_limits(case) {
+        return Outcome::Refused(Refusal::OutsideLimits);
+    }
+    let raised = replay.raised;
+    let due = replay.due;
+    let out = record_out(case, &raised, replay.rounds, due);
+    let checked = figures::check_edges(case, out);
+    match checked {
+        Outcome::Refused(refusal) => Outcome::Refused(refusal),
+        Outcome::Done => {
+            if is_held(due) {
+                return Outcome::Refused(Refusal::CutShort);
+            }
+            if replay.moved {
+                return Outcome::Refused(Refusal::CutShort);
+            }
+            Outcome::Done
+        }
+    }
+}
+
+// ---- the calls
+
+impl Replay {
+    pub fn fresh(case: Case, table: &[i64]) -> Replay
+        ensures { λ r. ⌜ r ≡ freshReplay standard case (now (table .entry)) ⌝ }
+    {
+        let checked = figures::check_starting(case, table, false, false);
+        match checked {
+            Outcome::Refused(refusal) => Replay {
+                rounds: 0,
+                start: 0,
+                moved: false,
+                raised: [0u8; 144],
+                due: Due::MoveOrBound,
+                standing: Standing::Refused(refusal),
+            },
+            Outcome::Done => Replay {
+                rounds: 0,
+                start: figures::bound_of(case, table),
+                moved: false,
+                raised: [0u8; 144],
+                due: Due::MoveOrBound,
+                standing: Standing::Good,
+            },
+        }
+    }
+
+    // A line of any bytes.
+    pub fn step(self, case: Case, table: &mut [i64], line: &[u8]) -> Stepped
+        ensures { λ r. ⌜ (r ≡ stepReplay standard case (now (table .entry)) self (now (line .entry)) .stepped) × (now (table .exit) ≡ stepReplay standard case (now (table .entry)) self (now (line .entry)) .table) ⌝ }
+    {
+        let standing = self.standing;
+        match standing {
+            Standing::Refused(refusal) => refuse(self, refusal),
+            Standing::Good => step_good(self, case, table, line),
+        }
+    }
+
+    pub fn end(self, case: Case) -> Outcome
+        ensures { λ r. ⌜ r ≡ endReplay standard case self ⌝ }
+    {
+        let standing = self.standing;
+        match standing {
+            Standing::Refused(refusal) => Outcome::Refused(refusal),
+            Standing::Good => end_good(self, case),
+        }
+    }
+
+    // A block of whole lines; a part line at its end is not looked at.
+    pub fn lines(self, case: Case, table: &mut [i64], bytes: &[u8]) -> Block
+        ensures { λ r. ⌜ (r ≡ blockReplay standard case (now (table .entry)) self (now (bytes .entry)) .block) × (now (table .exit) ≡ blockReplay standard case (now (table .entry)) self (now (bytes .entry)) .table) ⌝ }
+    {
+        if bytes.len() < LINE {
+            return Block {
+                replay: self,
+                lines: 0,
+                answer: Outcome::Done,
+            };
+        }
+        let first = self.step(case, table, &bytes[..LINE]);
+        let replay = first.replay;
+        let answer = first.answer;
+        match answer {
+            Outcome::Refused(_) => Block {
+                replay,
+                lines: 0,
+                answer,
+            },
+            Outcome::Done => good_lines(replay, case, table, bytes),
+        }
+    }
 }

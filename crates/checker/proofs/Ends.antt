@@ -1,0 +1,90 @@
+-- The numbers of a fresh record and of the end, and a record that is whole. Assumes nothing.
+use mathlib.Core.Path.{_≡_, sym, ap, _∙_}
+use mathlib.Core.Bool.{Bool, true, false, _||_}
+use mathlib.Core.Option.{Option, none, some}
+use mathlib.Core.List.{List, [], _∷_}
+use lib.IntN.{ℤ, pos}
+use Rattle.definitions.specs.declared.Case.{Case}
+use Rattle.definitions.specs.declared.Outcome.{Outcome}
+use Rattle.definitions.specs.declared.Refusal.{Refusal}
+use Rattle.definitions.specs.declared.Refusal.the-variants.{CutShort}
+use Rattle.definitions.specs.Rules.{standard, standard-coherent}
+use Rattle.definitions.specs.Refusals.{Test, _when_, firstOf}
+use Rattle.definitions.specs.Answers.{outcomeOf}
+use Rattle.definitions.specs.Case.{upperBound}
+use Rattle.definitions.specs.Valid.{startingWeight, workingWeight, limitTest, edgeTests, handedOver}
+use Rattle.theory.proofs.Validity.{Handed, handed, working-weights}
+use Rattle.theory.proofs.Replays.{none-iff}
+use Rattle.figures.specs.Scopes.{boundOf}
+use Rattle.figures.proofs.Order.{outcome-done, outcome-refused, first-next, first-stops}
+use Rattle.figures.proofs.Answered.{bound-known}
+use Rattle.checker.specs.declared.Standing.{Standing}
+use Rattle.checker.specs.declared.Replay.{Replay}
+use Rattle.checker.specs.declared.Progress.{Progress}
+use Rattle.checker.specs.Checker.{isHeld, freshOf, recordOut, freshReplay, endTests}
+use Rattle.checker.specs.Taken.{goodReplay}
+
+-- ---- a fresh record
+
+module _ (c : Case) (w : List ℤ) where
+  abbrev asked : Option Refusal
+  asked = firstOf (handedOver standard (startingWeight standard) c w false false)
+
+  pub fresh-refused : {x : Refusal} → Outcome.Refused x ≡ outcomeOf asked → freshOf (some x) (pos 0) ≡ freshReplay standard c w
+  unfolding freshReplay
+  fresh-refused {x} e = let d : asked ≡ some x = outcome-refused e in ap (λ (o : Option Refusal). freshOf o (upperBound c w)) (sym d)
+
+  module _ (e : Outcome.Done ≡ outcomeOf asked) where
+    pub fresh-handed : Handed standard (workingWeight standard) c w
+    fresh-handed =
+        let h = handed standard (startingWeight standard) c w false false .0 (none-iff asked .1 (outcome-done e)) .0 in
+        record {
+          variables-most = h .variables-most;
+          values-most = h .values-most;
+          edges-most = h .edges-most;
+          long = h .long;
+          shape = h .shape;
+          apart = h .apart;
+          in-range = working-weights standard-coherent h;
+        }
+
+    pub fresh-good : {b : ℤ} → b ≡ boundOf standard c w → freshOf none b ≡ freshReplay standard c w
+    unfolding freshReplay
+    fresh-good {b} d =
+        let n : asked ≡ none = outcome-done e in
+        ap (freshOf none) (d ∙ bound-known fresh-handed) ∙ ap (λ (o : Option Refusal). freshOf o (upperBound c w)) (sym n)
+
+-- ---- the end
+
+module _ (c : Case) (p : Replay) {out : Bool} {r : Outcome} (o : out ≡ recordOut standard c p) (e : r ≡ outcomeOf (firstOf (limitTest standard c ∷ edgeTests c out))) where
+  abbrev front : List Test
+  front = limitTest standard c ∷ edgeTests c (recordOut standard c p)
+
+  abbrev cut : List Test
+  cut = CutShort when (isHeld (p .due) || p .moved) ∷ []
+
+  answered : r ≡ outcomeOf (firstOf front)
+  answered = e ∙ ap (λ (b : Bool). outcomeOf (firstOf (limitTest standard c ∷ edgeTests c b))) o
+
+  pub end-refused : {x : Refusal} → r ≡ Outcome.Refused x → Outcome.Refused x ≡ outcomeOf (firstOf (endTests standard c p))
+  end-refused d = ap outcomeOf (sym (first-stops cut front (outcome-refused (sym d ∙ answered))))
+
+  module _ (d : r ≡ Outcome.Done) where
+    next : outcomeOf (firstOf cut) ≡ outcomeOf (firstOf (endTests standard c p))
+    next = ap outcomeOf (sym (first-next cut front (outcome-done (sym d ∙ answered))))
+
+    pub end-cut : (isHeld (p .due) || p .moved) ≡ true → Outcome.Refused CutShort ≡ outcomeOf (firstOf (endTests standard c p))
+    end-cut b = ap (λ (k : Bool). outcomeOf (firstOf (CutShort when k ∷ []))) (sym b) ∙ next
+
+    pub end-done : (isHeld (p .due) || p .moved) ≡ false → Outcome.Done ≡ outcomeOf (firstOf (endTests standard c p))
+    end-done b = ap (λ (k : Bool). outcomeOf (firstOf (CutShort when k ∷ []))) (sym b) ∙ next
+
+-- ---- the parts of a record that stands good make it whole
+
+abbrev pub partsOf : Replay → Progress
+partsOf p = record { rounds = p .rounds; start = p .start; moved = p .moved; due = p .due }
+
+pub whole : (p : Replay) {q : Progress} → p .standing ≡ Standing.Good → q ≡ partsOf p → goodReplay q (p .raised) ≡ p
+whole p g e =
+    ap (λ (q : Progress). goodReplay q (p .raised)) e
+    ∙ ap (λ (s : Standing). record { rounds = p .rounds; start = p .start; moved = p .moved; raised = p .raised; due = p .due; standing = s }) (sym g)

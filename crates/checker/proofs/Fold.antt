@@ -1,0 +1,160 @@
+-- A block by its first line: where that is done the block of the other lines follows, where it is refused nothing does. Assumes nothing.
+use mathlib.Core.Path.{_≡_, refl, sym, ap, subst, _∙_}
+use mathlib.Core.Bool.{not}
+use mathlib.Core.Option.{Option, none, some}
+use mathlib.Core.List.{List, [], _∷_}
+use Prim.Native.Nat.{ℕ, suc, _+_, _≤_, _<_}
+use native.Mathlib.Numerals.{add-one}
+use native.Mathlib.Omega.{arith}
+use lib.IntN.{ℤ}
+use lib.Dec.{T}
+use lib.ListN.{length, take, drop, length-drop}
+use Rattle.definitions.specs.declared.Case.{Case}
+use Rattle.definitions.specs.declared.Line.{Line}
+use Rattle.definitions.specs.declared.Outcome.{Outcome}
+use Rattle.definitions.specs.declared.Refusal.{Refusal}
+use Rattle.definitions.specs.Rules.{standard}
+use Rattle.definitions.specs.Refusals.{firstOf}
+use Rattle.definitions.specs.Valid.{workingWeight}
+use Rattle.definitions.specs.Lines.{readLine, linesIn, wholeLines}
+use Rattle.theory.proofs.Validity.{Handed}
+use Rattle.checker.specs.declared.Standing.{Standing}
+use Rattle.checker.specs.declared.Replay.{Replay}
+use Rattle.checker.specs.declared.Stepped.{Stepped}
+use Rattle.checker.specs.declared.Taken.{Taken}
+use Rattle.checker.specs.Checker.{Between, StepCall, BlockCall, Asked, refusedReplay, recordOut, ofKind, stepBy, stepTests, stepLine, stepStanding, stepReplay, stepBetween, takenLines, firstRefused, afterLines, lineAnswers, blockReplay}
+use Rattle.checker.specs.Taken.{standingAfter, replayOf, goodReplay, stepOf, moreBy}
+use Rattle.checker.proofs.Leaves.{Left, step-leaves}
+
+pub more-by : (n : ℕ) (x : BlockCall) → moreBy n (moreBy 1 x) ≡ moreBy (n + 1) x
+more-by n x = ap (λ (k : ℕ). record { block = record { replay = x .block .replay; lines = k; answer = x .block .answer }; table = x .table }) (omega arith)
+
+abbrev block : ℕ → Replay → Outcome → List ℤ → BlockCall
+block n p o w = record { block = record { replay = p; lines = n; answer = o }; table = w }
+
+-- a block that ends with this step
+abbrev pub endsWith : StepCall → BlockCall
+endsWith call = record { block = record { replay = call .stepped .replay; lines = 0; answer = call .stepped .answer }; table = call .table }
+
+ended : (n : ℕ) (p : Replay) (o : Outcome) (w : List ℤ) → record { block = record { replay = p; lines = n + 0; answer = o }; table = w } ≡ block n p o w
+ended n p o w = ap (λ (k : ℕ). block k p o w) (omega arith)
+
+-- ---- lines
+
+no-line : (t : List ℕ) → length t < 27 → linesIn 12 t ≡ []
+no-line t h = let e : wholeLines 12 t ≡ 0 = omega arith in rw e
+
+first-line : (t : List ℕ) → 27 ≤ length t → linesIn 12 t ≡ take 27 t ∷ linesIn 12 (drop 27 t)
+first-line t h =
+    let e : wholeLines 12 t ≡ suc (wholeLines 12 (drop 27 t)) = rw (← (add-one (wholeLines 12 (drop 27 t))), length-drop 27 t) (omega arith) in
+    rw e
+
+-- ---- a record that stands refused answers every line by the same refusal
+
+stands : (p : Replay) {x : Refusal} → p .standing ≡ Standing.Refused x → refusedReplay p x ≡ p
+stands p e = ap (λ (s : Standing). record { rounds = p .rounds; start = p .start; moved = p .moved; raised = p .raised; due = p .due; standing = s }) (sym e)
+
+stays : (b : Between) {x : Refusal} → b .replay .standing ≡ Standing.Refused x → (t : List ℕ) → stepBetween standard b t ≡ b
+unfolding stepReplay
+stays b e t = rw e
+
+all-stay : (b : Between) {x : Refusal} → b .replay .standing ≡ Standing.Refused x → (ts : List (List ℕ)) → afterLines standard b ts ≡ b
+all-stay b e [] = refl
+all-stay b e (t ∷ ts) = ap (λ (d : Between). afterLines standard d ts) (stays b e t) ∙ all-stay b e ts
+
+module _ (c : Case) (w : List ℤ) (p : Replay) (t : List ℕ) where
+  pub block-none : length t < 27 → blockReplay standard c w p t ≡ record { block = record { replay = p; lines = 0; answer = Outcome.Done }; table = w }
+  unfolding blockReplay
+  block-none h = rw (no-line t h)
+
+  pub no-more : (n : ℕ) → length t < 27 → moreBy n (blockReplay standard c w p t) ≡ record { block = record { replay = p; lines = n; answer = Outcome.Done }; table = w }
+  no-more n h = ap (moreBy n) (block-none h) ∙ ended n p Outcome.Done w
+
+  -- the block by the step of its first line
+  abbrev stepped : StepCall → BlockCall
+  stepped call =
+      let b : Between = record { case = c; table = call .table; replay = call .stepped .replay } in
+      let ts = linesIn 12 (drop 27 t) in
+      let os = call .stepped .answer ∷ lineAnswers standard b ts in
+      record {
+        block = record { replay = afterLines standard b ts .replay; lines = takenLines os; answer = firstRefused os };
+        table = afterLines standard b ts .table;
+      }
+
+  module _ (h : 27 ≤ length t) (call : StepCall) (s : stepReplay standard c w p (take 27 t) ≡ call) where
+    first-step : blockReplay standard c w p t ≡ stepped call
+    unfolding blockReplay
+    first-step =
+        ap (λ (ts : List (List ℕ)).
+        let b : Between = record { case = c; table = w; replay = p } in
+        record {
+          block = record { replay = afterLines standard b ts .replay; lines = takenLines (lineAnswers standard b ts); answer = firstRefused (lineAnswers standard b ts) };
+          table = afterLines standard b ts .table;
+        }) (first-line t h)
+        ∙ ap stepped s
+
+    pub block-done : call .stepped .answer ≡ Outcome.Done → blockReplay standard c w p t ≡ moreBy 1 (blockReplay standard c (call .table) (call .stepped .replay) (drop 27 t))
+    unfolding blockReplay
+    block-done e = first-step ∙ rw e
+
+    pub block-refused : {x : Refusal} → call .stepped .answer ≡ Outcome.Refused x → call .stepped .replay .standing ≡ Standing.Refused x → blockReplay standard c w p t ≡ endsWith call
+    block-refused e f = first-step ∙ rw (e, all-stay (record { case = c; table = call .table; replay = call .stepped .replay }) f (linesIn 12 (drop 27 t)))
+
+-- a refused line leaves a record that stands refused
+module _ (c : Case) (w : List ℤ) (p : Replay) {x : Refusal} where
+  by-test : (a : Asked) (o : Option Refusal) → stepBy w p a o .stepped .answer ≡ Outcome.Refused x → stepBy w p a o .stepped .replay .standing ≡ Standing.Refused x
+  by-test a none e = cc
+  by-test a (some y) e = cc
+
+  by-line : (l : Option Line) → stepLine standard c w p l .stepped .answer ≡ Outcome.Refused x → stepLine standard c w p l .stepped .replay .standing ≡ Standing.Refused x
+  by-line none e = cc
+  by-line (some l) e = by-test (ofKind standard c w p (p .due) l) (firstOf (stepTests standard c w p l (ofKind standard c w p (p .due) l))) e
+
+  pub refused-stands : (t : List ℕ) → stepReplay standard c w p t .stepped .answer ≡ Outcome.Refused x → stepReplay standard c w p t .stepped .replay .standing ≡ Standing.Refused x
+  unfolding stepReplay
+  refused-stands t = go (p .standing)
+    where
+      go : (s : Standing) → stepStanding standard c w p t s .stepped .answer ≡ Outcome.Refused x → stepStanding standard c w p t s .stepped .replay .standing ≡ Standing.Refused x
+      go Standing.Good e = by-line (readLine 12 t) e
+      go (Standing.Refused y) e = cc
+
+-- ---- a turn: the block's first line taken with the record in parts
+
+module _ (c : Case) (w : List ℤ) (p : Replay) (t : List ℕ) (h : 27 ≤ length t) (k : Taken) (raised : List ℕ) (v : List ℤ) (s : stepOf k raised v ≡ stepReplay standard c w p (take 27 t)) where
+  pub turn-done : (n : ℕ) → k .answer ≡ Outcome.Done
+      → (moreBy n (blockReplay standard c w p t) ≡ moreBy (n + 1) (blockReplay standard c v (goodReplay (k .progress) raised) (drop 27 t)))
+      × Handed standard (workingWeight standard) c v × T (not (recordOut standard c (goodReplay (k .progress) raised)))
+  turn-done n e =
+      let l = subst (Left c) (sym s) (step-leaves c w p (take 27 t) (ap (λ (x : StepCall). x .stepped .answer) (sym s) ∙ e)) in
+      let g = ap standingAfter e in (
+        ap (moreBy n) (block-done c w p t h (stepOf k raised v) (sym s) e ∙ ap (λ (d : Standing). moreBy 1 (blockReplay standard c v (replayOf (k .progress) raised d) (drop 27 t))) g)
+            ∙ more-by n (blockReplay standard c v (goodReplay (k .progress) raised) (drop 27 t)),
+        l .handed-over,
+        subst (λ (d : Standing). T (not (recordOut standard c (replayOf (k .progress) raised d)))) g (l .record-in),
+      )
+
+  pub turn-refused : (n : ℕ) {x : Refusal} → k .answer ≡ Outcome.Refused x
+      → moreBy n (blockReplay standard c w p t) ≡ record { block = record { replay = replayOf (k .progress) raised (Standing.Refused x); lines = n; answer = Outcome.Refused x }; table = v }
+  turn-refused n e =
+      ap (moreBy n) (block-refused c w p t h (stepOf k raised v) (sym s) e (ap standingAfter e))
+      ∙ ap (λ (o : Outcome). record { block = record { replay = replayOf (k .progress) raised (standingAfter o); lines = n + 0; answer = o }; table = v }) e
+      ∙ ended n _ _ v
+
+-- ---- a block whose first line is a step of the whole record
+
+module _ (c : Case) (w : List ℤ) (p : Replay) (t : List ℕ) (h : 27 ≤ length t) (k : Stepped) (v : List ℤ) (s : k ≡ stepReplay standard c w p (take 27 t) .stepped) (u : v ≡ stepReplay standard c w p (take 27 t) .table) where
+  abbrev call : StepCall
+  call = stepReplay standard c w p (take 27 t)
+
+  pub first-done : k .answer ≡ Outcome.Done
+      → (blockReplay standard c w p t ≡ moreBy 1 (blockReplay standard c v (k .replay) (drop 27 t)))
+      × Handed standard (workingWeight standard) c v × T (not (recordOut standard c (k .replay))) × (k .replay .standing ≡ Standing.Good)
+  first-done e =
+      let d = ap (λ (x : Stepped). x .answer) (sym s) ∙ e in
+      let l = step-leaves c w p (take 27 t) d in
+      rw (s, u) (block-done c w p t h call refl d, l .handed-over, l .record-in, l .good)
+
+  pub first-refused : {x : Refusal} → k .answer ≡ Outcome.Refused x → blockReplay standard c w p t ≡ record { block = record { replay = k .replay; lines = 0; answer = k .answer }; table = v }
+  first-refused e =
+      let d = ap (λ (x : Stepped). x .answer) (sym s) ∙ e in
+      rw (s, u) (block-refused c w p t h call refl d (refused-stands c w p (take 27 t) d))

@@ -1,0 +1,86 @@
+-- Numbers 2 to 8 of a line, and what is left of a step where none of them applies. Assumes nothing.
+use mathlib.Core.Path.{_≡_, sym, ap}
+use mathlib.Core.Bool.{Bool, true, false, not, _||_}
+use mathlib.Core.Option.{Option, none, some}
+use mathlib.Core.List.{List}
+use lib.IntN.{ℤ}
+use lib.Dec.{T}
+use lib.ListN.{length}
+use borrow.Author.Tests.{eq-eqb}
+use Rattle.integers.specs.Words.{if_then_else_}
+use Rattle.integers.specs.Tests.{is-false, not-or-iff}
+use Rattle.integers.specs.Options.{none-some}
+use Rattle.definitions.specs.declared.Case.{Case}
+use Rattle.definitions.specs.declared.Line.{Line}
+use Rattle.definitions.specs.declared.Outcome.{Outcome}
+use Rattle.definitions.specs.declared.Refusal.{Refusal}
+use Rattle.definitions.specs.declared.Refusal.the-variants.{NotDue, OutOfRange}
+use Rattle.definitions.specs.Rules.{standard}
+use Rattle.definitions.specs.Refusals.{firstOf}
+use Rattle.definitions.specs.Answers.{outcomeOf}
+use Rattle.definitions.specs.Case.{lentLength}
+use Rattle.definitions.specs.Valid.{workingWeight, handedOver}
+use Rattle.definitions.specs.Lines.{notDue}
+use Rattle.theory.proofs.Validity.{Handed, handed}
+use Rattle.theory.proofs.Replays.{none-iff}
+use Rattle.figures.proofs.Order.{outcome-done, outcome-refused, first-next, first-stops}
+use Rattle.figures.proofs.Answered.{limits-true}
+use Rattle.checker.specs.declared.Replay.{Replay}
+use Rattle.checker.specs.Checker.{Asked, dueKinds, recordOut, ofKind, stepRefused, stepBy, stepLine}
+use Rattle.checker.specs.Taken.{stepNext, frontTests}
+
+pub neither : {A : Type 0} (b : Bool) (a : A) (o : Option A) → (if b then some a else o) ≡ none → T (not b) × (o ≡ none)
+neither true a o e = absurd (none-some (sym e))
+neither false a o e = (tt, e)
+
+module _ (c : Case) (w : List ℤ) (p : Replay) (t : Line) where
+  abbrev asked : Asked
+  asked = ofKind standard c w p (p .due) t
+
+  abbrev front : Option Refusal
+  front = firstOf (frontTests c w p t)
+
+  -- what is known where none of them applies
+  pub record Fronted : Type 0 where
+    pub handed-over : Handed standard (workingWeight standard) c w
+    pub record-in : T (not (recordOut standard c p))
+    pub line-in : T (not (asked .out))
+
+  first-front : {x : Refusal} → front ≡ some x → stepLine standard c w p (some t) ≡ stepRefused p w x
+  first-front e = ap (stepBy w p asked) (first-stops (asked .later) (frontTests c w p t) e)
+
+  none-front : front ≡ none → stepLine standard c w p (some t) ≡ stepNext w p asked
+  none-front e = ap (stepBy w p asked) (first-next (asked .later) (frontTests c w p t) e)
+
+  pub front-known : front ≡ none → Fronted
+  front-known e =
+      let (u, f) = neither (notDue standard (dueKinds (p .due)) t) NotDue (firstOf (handedOver standard (workingWeight standard) c w false (recordOut standard c p || asked .out))) e in
+      let (h, i, o) = handed standard (workingWeight standard) c w false (recordOut standard c p || asked .out) .0 (none-iff (firstOf (handedOver standard (workingWeight standard) c w false (recordOut standard c p || asked .out))) .1 f) in
+      let (r, l) = not-or-iff (recordOut standard c p) (asked .out) .0 o in
+      record { handed-over = h; record-in = r; line-in = l }
+
+  pub front-refused : {x : Refusal} → Outcome.Refused x ≡ outcomeOf front → stepLine standard c w p (some t) ≡ stepRefused p w x
+  front-refused e = first-front (outcome-refused e)
+
+  pub front-done : Outcome.Done ≡ outcomeOf front → (stepLine standard c w p (some t) ≡ stepNext w p asked) × Fronted
+  front-done e = let d : front ≡ none = outcome-done e in (none-front d, front-known d)
+
+  pub not-due : notDue standard (dueKinds (p .due)) t ≡ true → front ≡ some NotDue
+  not-due e = rw e
+
+  -- a record that is in range, on what was checked before
+  module _ (h : Handed standard (workingWeight standard) c w) (r : T (not (recordOut standard c p))) (d : notDue standard (dueKinds (p .due)) t ≡ false) where
+    line-out : asked .out ≡ true → front ≡ some OutOfRange
+    line-out e = rw (d, is-false (recordOut standard c p) r, e, limits-true h, eq-eqb (length w) (lentLength c) (h .long))
+
+    line-in : asked .out ≡ false → front ≡ none
+    line-in e = rw (d, is-false (recordOut standard c p) r, e) (none-iff (firstOf (handedOver standard (workingWeight standard) c w false false)) .0 (handed standard (workingWeight standard) c w false false .1 (h, tt, tt)))
+
+    pub good-out : asked .out ≡ true → stepLine standard c w p (some t) ≡ stepRefused p w OutOfRange
+    good-out e = first-front (line-out e)
+
+    pub good-next : asked .out ≡ false → stepLine standard c w p (some t) ≡ stepNext w p asked
+    good-next e = none-front (line-in e)
+
+  pub good-not-due : notDue standard (dueKinds (p .due)) t ≡ true → stepLine standard c w p (some t) ≡ stepRefused p w NotDue
+  good-not-due e = first-front (not-due e)

@@ -1,0 +1,167 @@
+-- What a line that is done leaves: a checked case and table, and a record in range. It holds of every record, case and table. Assumes nothing.
+use mathlib.Core.Path.{_≡_, refl, _∙_}
+use mathlib.Core.Bool.{Bool, true, false, not}
+use mathlib.Core.Logic.{⊎-elim}
+use mathlib.Core.Option.{Option, none, some}
+use mathlib.Core.List.{List, [], _∷_, _++_}
+use Prim.Native.Nat.{ℕ, _+_, _-_, _≤_, _<_}
+use native.Mathlib.Omega.{arith}
+use lib.IntN.{ℤ, pos, natAbs}
+use lib.Dec.{T, eqb, ltb, lt→ltb, ltb→lt}
+use lib.ListN.{drop, set, length-drop, length-replicate, getD-replicate}
+use lib.Seq.{getD-drop, drop-set-lt}
+use Rattle.integers.specs.Words.{if_then_else_, all, withinZ}
+use Rattle.integers.specs.Tests.{tests, either, is-true, is-false, and-iff, not-or-iff, not-not-iff, not-eqb-iff, if-false}
+use Rattle.integers.specs.Tables.{all-getD}
+use Rattle.definitions.specs.declared.Case.{Case}
+use Rattle.definitions.specs.declared.Line.{Line}
+use Rattle.definitions.specs.declared.Outcome.{Outcome}
+use Rattle.definitions.specs.declared.Refusal.{Refusal}
+use Rattle.definitions.specs.declared.Refusal.the-variants.{LeavesRange}
+use Rattle.definitions.specs.Rules.{standard, scopePlaces}
+use Rattle.definitions.specs.Refusals.{Test, firstOf}
+use Rattle.definitions.specs.Case.{scopeCount}
+use Rattle.definitions.specs.Valid.{workingWeight, allWeights}
+use Rattle.definitions.specs.Moves.{Difference, plus, shiftBy, pressBy, activeValues, leavesRange, pressAmount}
+use Rattle.definitions.specs.Lines.{readLine, isKind}
+use Rattle.theory.proofs.Places.{all-weights, plus-length}
+use Rattle.theory.proofs.Validity.{Handed}
+use Rattle.theory.proofs.Replays.{inside}
+use Rattle.theory.proofs.CaseTests.{passes}
+use Rattle.checker.specs.declared.LastRaised.{LastRaised}
+use Rattle.checker.specs.declared.Due.{Due}
+use Rattle.checker.specs.declared.Standing.{Standing}
+use Rattle.checker.specs.declared.Replay.{Replay}
+use Rattle.checker.specs.Checker.{StepCall, Asked, isRaised, noneRaised, dueOut, recordOut, ofShift, ofPress, ofBound, ofRaise, ofKind, stepBy, stepTests, stepLine, stepStanding, stepReplay}
+use Rattle.checker.specs.Taken.{frontTests}
+use Rattle.checker.proofs.Numbers.{counted}
+use Rattle.checker.proofs.Front.{neither, front-known}
+
+-- a table that is changed and does not leave the range
+pub handed-plus : {c : Case} {w : List ℤ} (δ : Difference) → Handed standard (workingWeight standard) c w → T (not (leavesRange standard c (plus c δ w))) → Handed standard (workingWeight standard) c (plus c δ w)
+handed-plus {c} {w} δ k t =
+    let e = plus-length c δ w (let e = k .long in omega arith) in
+    record {
+      variables-most = k .variables-most;
+      values-most = k .values-most;
+      edges-most = k .edges-most;
+      long = e ∙ k .long;
+      shape = k .shape;
+      apart = k .apart;
+      in-range = all-weights c (workingWeight standard) (plus c δ w) (let f = k .long in omega arith) .0 (not-not-iff (allWeights (workingWeight standard) c (plus c δ w)) .0 t);
+    }
+
+never : {x : Refusal} → Outcome.Refused x ≡ Outcome.Done → ⊥
+never {x} e = let z : _≡_ {A = ℕ} 0 1 = cc in omega arith
+
+-- no number of two lists applies
+none-both : (ts us : List Test) → firstOf (ts ++ us) ≡ none → (firstOf ts ≡ none) × (firstOf us ≡ none)
+none-both [] us e = (refl, e)
+none-both (t ∷ ts) us e =
+    let (n, f) = neither (t .applies) (t .refusal) (firstOf (ts ++ us)) e in
+    let (g, l) = none-both ts us f in
+    (if-false (some (t .refusal)) (firstOf ts) (t .applies) n ∙ g, l)
+
+-- what stands after it
+pub record Left (c : Case) (call : StepCall) : Type 0 where
+  pub handed-over : Handed standard (workingWeight standard) c (call .table)
+  pub record-in : T (not (recordOut standard c (call .stepped .replay)))
+  pub good : call .stepped .replay .standing ≡ Standing.Good
+
+module _ (c : Case) (w : List ℤ) (p : Replay) (h : Handed standard (workingWeight standard) c w) (r : T (not (recordOut standard c p))) where
+  few : T (not (ltb (standard .rounds) (p .rounds)))
+  few = not-or-iff (ltb (standard .rounds) (p .rounds)) (dueOut standard c (p .raised) (p .due)) .0 r .0
+
+  none-past : T (all (λ b. eqb b 0) (drop (scopeCount c) noneRaised))
+  none-past = all-getD (λ b. eqb b 0) (drop (scopeCount c) noneRaised) 0 .1 (λ i l.
+      rw (
+        getD-drop (scopeCount c) noneRaised i 0,
+        getD-replicate {A = ℕ} scopePlaces (scopeCount c + i) 0 0
+            (omega (arith, length-drop (scopeCount c) noneRaised, length-replicate {A = ℕ} scopePlaces 0)),
+      ) tt)
+
+  abbrev After : Asked → Type 0
+  After a = T (not (a .out)) → firstOf (a .later) ≡ none → Left c (stepBy w p a none)
+
+  after-shift : (t : Line) → After (ofShift standard c w p t)
+  after-shift t o e = record {
+    handed-over = handed-plus (shiftBy c (natAbs (t .a)) (natAbs (t .b)) (natAbs (t .c)) (t .amount)) h (neither (leavesRange standard c (ofShift standard c w p t .table)) LeavesRange none e .0);
+    record-in = not-or-iff (ltb (standard .rounds) (p .rounds)) false .1 (few, tt);
+    good = refl;
+  }
+
+  after-press : (t : Line) → After (ofPress standard c w p t)
+  after-press t o e =
+      let ((a, b), m) = simp not-or-iff at o in
+      let (from-0, least, most) = counted (scopeCount c - 1) (t .b) (not-not-iff (withinZ (pos 1) (pos (scopeCount c - 1)) (t .b)) .0 b) in
+      record {
+        handed-over = h;
+        record-in = simp (not-or-iff, not-not-iff) (few, ((((lt→ltb (natAbs (t .a)) (c .n) (inside (c .n) (t .a) a), not-not-iff (pressAmount standard (t .amount)) .0 m), simp tests (least, most)), tt), none-past));
+        good = refl;
+      }
+
+  after-bound : (t : Line) → After (ofBound standard c w p t)
+  after-bound t o e = record {
+    handed-over = h;
+    record-in = not-or-iff (ltb (standard .rounds) (p .rounds + 1)) false .1 (simp tests (omega (arith, ltb→lt (p .rounds) (standard .rounds) (not-not-iff (ltb (p .rounds) (standard .rounds)) .0 o))), tt);
+    good = refl;
+  }
+
+  module _ (i : ℕ) (a : ℤ) (left : ℕ) (lastOne : LastRaised) (d : p .due ≡ Due.Raise i a left lastOne) where
+    -- what the press begun is known to be
+    pub held : (i < c .n) × T (pressAmount standard a) × (1 ≤ left) × (left ≤ scopeCount c - 1) × T (all (λ b. eqb b 0) (drop (scopeCount c) (p .raised)))
+    held =
+        let u = not-or-iff (ltb (standard .rounds) (p .rounds)) (dueOut standard c (p .raised) (p .due)) .0 r .1 in
+        let ((((x, m), l), o), z) = simp (not-or-iff, not-not-iff) at (rw d at u) in
+        let (least, most) = simp tests at l in
+        (ltb→lt i (c .n) x, m, least, most, z)
+
+    after-raise : (t : Line) → After (ofRaise standard c w p i a left lastOne t)
+    after-raise t o e = ⊎-elim
+        (λ l. rw (is-true (eqb left 1) l) (record {
+          handed-over = handed-plus (pressBy c w i (activeValues c w i) (isRaised (set (p .raised) (natAbs (t .a)) 1)) a) h (rw (is-true (eqb left 1) l) at ((simp and-iff at (passes (ofRaise standard c w p i a left lastOne t .later) .0 e)) .1 .1 .0));
+          record-in = not-or-iff (ltb (standard .rounds) (p .rounds)) false .1 (few, tt);
+          good = refl;
+        }))
+        (λ l. rw (is-false (eqb left 1) l) (
+        let (x, m, least, most, z) = held in
+        let below = inside (scopeCount c) (t .a) o in
+        record {
+          handed-over = h;
+          record-in = simp (not-or-iff, not-not-iff) (few, ((((lt→ltb i (c .n) x, m), simp tests (omega (arith, not-eqb-iff left 1 .0 l), omega arith)), lt→ltb (natAbs (t .a)) (scopeCount c) below), rw (drop-set-lt (scopeCount c) (p .raised) (natAbs (t .a)) 1 below) z));
+          good = refl;
+        }))
+        (either (eqb left 1))
+
+  after-kind : (due : Due) → p .due ≡ due → (t : Line) → After (ofKind standard c w p due t)
+  after-kind (Due.Raise i a left lastOne) d t = after-raise i a left lastOne d t
+  after-kind Due.MoveOrBound d t = go (isKind 1 t) (isKind 2 t)
+    where
+      go : (x y : Bool) → After (if x then ofShift standard c w p t else if y then ofPress standard c w p t else ofBound standard c w p t)
+      go true y = after-shift t
+      go false true = after-press t
+      go false false = after-bound t
+
+-- a line of any bytes that is done
+module _ (c : Case) (w : List ℤ) (p : Replay) where
+  line-leaves : (t : Option Line) → stepLine standard c w p t .stepped .answer ≡ Outcome.Done → Left c (stepLine standard c w p t)
+  line-leaves none e = absurd (never e)
+  line-leaves (some t) e = go (firstOf (stepTests standard c w p t asked)) refl e
+    where
+      asked : Asked
+      asked = ofKind standard c w p (p .due) t
+
+      go : (o : Option Refusal) → firstOf (stepTests standard c w p t asked) ≡ o → stepBy w p asked o .stepped .answer ≡ Outcome.Done → Left c (stepBy w p asked o)
+      go (some x) d e = absurd (never e)
+      go none d e =
+          let (f, l) = none-both (frontTests c w p t) (asked .later) d in
+          let k = front-known c w p t f in
+          after-kind c w p (k .handed-over) (k .record-in) (p .due) refl t (k .line-in) l
+
+  pub step-leaves : (t : List ℕ) → stepReplay standard c w p t .stepped .answer ≡ Outcome.Done → Left c (stepReplay standard c w p t)
+  unfolding stepReplay
+  step-leaves t = go (p .standing)
+    where
+      go : (s : Standing) → stepStanding standard c w p t s .stepped .answer ≡ Outcome.Done → Left c (stepStanding standard c w p t s)
+      go (Standing.Refused x) e = absurd (never e)
+      go Standing.Good e = line-leaves (readLine (standard .amountWidth) t) e

@@ -1,0 +1,50 @@
+-- The kinds of lines that are due in a log. Assumes nothing.
+use mathlib.Core.Path.{_≡_, refl}
+use mathlib.Core.Bool.{Bool, true, false, not, _&&_, _||_}
+use mathlib.Core.List.{List, [], _∷_}
+use Prim.Native.Nat.{ℕ}
+use lib.IntN.{pos}
+use Rattle.integers.specs.Words.{eqZ}
+use Rattle.definitions.specs.declared.Line.{Line}
+use Rattle.definitions.specs.Rules.{standard}
+use Rattle.definitions.specs.Lines.{notDue, isKind}
+
+and-false : (b : Bool) → (b && false) ≡ false
+and-false true = refl
+and-false false = refl
+
+and-true : (b : Bool) → (b && true) ≡ b
+and-true true = refl
+and-true false = refl
+
+or-false : (b : Bool) → (b || false) ≡ b
+or-false true = refl
+or-false false = refl
+
+not-not : (b : Bool) → not (not b) ≡ b
+not-not true = refl
+not-not false = refl
+
+regroup : (a b c d : Bool) → (((a && b) && c) && d) ≡ (a && ((b && c) && d))
+regroup true b c d = refl
+regroup false b c d = refl
+
+-- where a move or a bound line is due
+abbrev moveKinds : List ℕ
+moveKinds = 1 ∷ 2 ∷ 4 ∷ []
+
+module _ (l : Line) where
+  pub shift-due : l .kind ≡ pos 1 → true ≡ not (notDue standard moveKinds l)
+  shift-due e = rw e
+
+  pub press-due : l .kind ≡ pos 2 → eqZ (l .c) (pos 0) ≡ not (notDue standard moveKinds l)
+  press-due e = rw e (simp (or-false, not-not, and-true))
+
+  pub bound-due : l .kind ≡ pos 4 → ((eqZ (l .a) (pos 0) && eqZ (l .b) (pos 0)) && eqZ (l .c) (pos 0)) ≡ not (notDue standard moveKinds l)
+  bound-due e = rw e (simp (or-false, not-not, and-true))
+
+  pub none-due : isKind 1 l ≡ false → isKind 2 l ≡ false → isKind 4 l ≡ false → false ≡ not (notDue standard moveKinds l)
+  none-due d e f = rw (d, e, f) (simp and-false)
+
+  pub raise-due : (((isKind 3 l && eqZ (l .b) (pos 0)) && eqZ (l .c) (pos 0)) && eqZ (l .amount) (pos 0)) ≡ not (notDue standard (3 ∷ []) l)
+  raise-due = simp (or-false, and-false, not-not, and-true) (regroup (isKind 3 l) (eqZ (l .b) (pos 0)) (eqZ (l .c) (pos 0)) (eqZ (l .amount) (pos 0)))

@@ -1,0 +1,56 @@
+use mathlib.Core.Path.{sym, ap, _∙_}
+use lib.Seq.{length-take-le}
+use Rattle.checker.specs.Checker.{BlockCall}
+use Rattle.checker.proofs.Fold.{block-none, first-done, first-refused}
+use borrow.Author.Needs.{needs}
+use Rattle.checker.proofs.Replay.lines.Statement.{statement}
+use Rattle.checker.proofs.Replay.lines.Tie as tie
+
+returns : tie.Need-returns
+returns c = let a = c .before .before .args in let w = a .table .now in
+    let e = block-none (a .case) w (a .self) (a .bytes .now) (c .if1 .taken) in (sym (ap (λ (x : BlockCall). x .block) e), sym (ap (λ (x : BlockCall). x .table) e))
+
+slice-aggregate-step : tie.Need-slice-aggregate-step
+slice-aggregate-step c = sym (length-take-le 27 (c .before .before .before .before .args .bytes .now) (c .before .before .if1 .left))
+
+step-requires : tie.Need-step-requires
+step-requires c κs = search needs
+
+enum-told : tie.Need-enum-told
+enum-told c = search needs
+
+enum-told-2 : tie.Need-enum-told-2
+enum-told-2 c = search needs
+
+good-lines-requires : tie.Need-good-lines-requires
+good-lines-requires c κs = let a = c .before .before .before .before .before .before .before .before .before .before .args in let w = a .table .now in
+    let k = first-done (a .case) w (a .self) (a .bytes .now) (c .before .before .before .before .before .before .before .before .if1 .left) (c .before .before .before .before .before .step .result) _ (c .before .before .before .before .before .step .ensures .0) (c .before .before .before .before .before .step .ensures .1) (c .before .enum-told2 .given .1) in (k .1, (k .3, k .2, c .before .before .before .before .before .before .before .before .if1 .left))
+
+same-length : tie.Need-same-length
+same-length c = search needs
+
+returns-2 : tie.Need-returns-2
+returns-2 c = let a = c .before .before .before .before .before .before .before .before .before .args in let w = a .table .now in
+    let e = first-refused (a .case) w (a .self) (a .bytes .now) (c .before .before .before .before .before .before .before .if1 .left) (c .before .before .before .before .step .result) _ (c .before .before .before .before .step .ensures .0) (c .before .before .before .before .step .ensures .1) (c .enum-told .given .1) in (sym (ap (λ (x : BlockCall). x .block) e), sym (ap (λ (x : BlockCall). x .table) e))
+
+same-length-2 : tie.Need-same-length-2
+same-length-2 c = search needs
+
+returns-3 : tie.Need-returns-3
+returns-3 c = let a = c .before .before .before .before .before .before .before .before .before .before .before .before .args in let w = a .table .now in
+    let e = first-done (a .case) w (a .self) (a .bytes .now) (c .before .before .before .before .before .before .before .before .before .before .if1 .left) (c .before .before .before .before .before .before .before .step .result) _ (c .before .before .before .before .before .before .before .step .ensures .0) (c .before .before .before .before .before .before .before .step .ensures .1) (c .before .before .before .enum-told2 .given .1) .0 in (c .before .good-lines .ensures .0 ∙ sym (ap (λ (x : BlockCall). x .block) e), c .before .good-lines .ensures .1 ∙ sym (ap (λ (x : BlockCall). x .table) e))
+
+pub lines-spec : {M : Type 1} → statement M
+lines-spec =
+    tie.close
+    (tie.spec
+    returns
+    slice-aggregate-step
+    step-requires
+    enum-told
+    enum-told-2
+    good-lines-requires
+    same-length
+    returns-2
+    same-length-2
+    returns-3)

@@ -1,0 +1,61 @@
+use mathlib.Core.Path.{sym, _∙_}
+use borrow.Author.Tests.{not-true, not-false}
+use Rattle.definitions.specs.Rules.{standard}
+use Rattle.figures.proofs.Order.{limited}
+use Rattle.checker.proofs.Ends.{end-refused, end-cut, end-done}
+use borrow.Author.Needs.{needs}
+use Rattle.checker.proofs.end_good.Statement.{statement}
+use Rattle.checker.proofs.end_good.Tie as tie
+
+within-limits-requires : tie.Need-within-limits-requires
+within-limits-requires c κs = search needs
+
+returns : tie.Need-returns
+returns c = rw (sym (c .before .within-limits .ensures) ∙ not-true _ (c .if1 .taken))
+
+slice-aggregate-record-out : tie.Need-slice-aggregate-record-out
+slice-aggregate-record-out c = search needs
+
+record-out-requires : tie.Need-record-out-requires
+record-out-requires c κs = limited standard (c .before .before .before .before .args .case) (sym (c .before .before .before .within-limits .ensures) ∙ not-false _ (c .before .before .if1 .left))
+
+check-edges-requires : tie.Need-check-edges-requires
+check-edges-requires c κs = search needs
+
+enum-known-checked : tie.Need-enum-known-checked
+enum-known-checked c = search needs
+
+enum-told : tie.Need-enum-told
+enum-told c = search needs
+
+is-held-requires : tie.Need-is-held-requires
+is-held-requires c κs = search needs
+
+returns-2 : tie.Need-returns-2
+returns-2 c = let a = c .before .before .before .before .before .before .before .before .before .before .args in end-cut (a .case) (a .replay) (c .before .before .before .before .before .record-out .ensures) (c .before .before .before .before .check-edges .ensures) (c .before .before .enum-told .given .1) (rw (sym (c .before .is-held .ensures) ∙ c .if2 .taken))
+
+returns-3 : tie.Need-returns-3
+returns-3 c = let a = c .before .before .before .before .before .before .before .before .before .before .before .args in end-cut (a .case) (a .replay) (c .before .before .before .before .before .before .record-out .ensures) (c .before .before .before .before .before .check-edges .ensures) (c .before .before .before .enum-told .given .1) (rw (sym (c .before .before .is-held .ensures) ∙ c .before .if2 .left, c .if3 .taken))
+
+returns-4 : tie.Need-returns-4
+returns-4 c = let a = c .before .before .before .before .before .before .before .before .before .args in end-refused (a .case) (a .replay) (c .before .before .before .before .record-out .ensures) (c .before .before .before .check-edges .ensures) (c .before .checked .given .1)
+
+returns-5 : tie.Need-returns-5
+returns-5 c = let a = c .before .before .before .before .before .before .before .before .before .before .before .args in end-done (a .case) (a .replay) (c .before .before .before .before .before .before .record-out .ensures) (c .before .before .before .before .before .check-edges .ensures) (c .before .before .before .enum-told .given .1) (rw (sym (c .before .before .is-held .ensures) ∙ c .before .if2 .left, c .if3 .left))
+
+pub end-good-spec : {M : Type 1} → statement M
+end-good-spec =
+    tie.close
+    (tie.spec
+    within-limits-requires
+    returns
+    slice-aggregate-record-out
+    record-out-requires
+    check-edges-requires
+    enum-known-checked
+    enum-told
+    is-held-requires
+    returns-2
+    returns-3
+    returns-4
+    returns-5)

@@ -1,0 +1,32 @@
+use mathlib.Core.Path.{sym}
+use lib.Dec.{lit<}
+use lib.IntN.{pos}
+use Rattle.figures.proofs.Bounds.{other-bits}
+use Rattle.checker.proofs.Numbers.{same-bits, bits-test}
+use Rattle.checker.proofs.LineKinds.{shift-due, press-due, bound-due, none-due}
+use Rattle.checker.proofs.move_due.Statement.{statement}
+use Rattle.checker.proofs.move_due.Tie as tie
+
+returns : tie.Need-returns
+returns c = let l = c .before .before .before .args .line in
+    shift-due l (same-bits (l .kind) (pos 1) (c .before .struct-told .given .0 .1) (lit< tt) (c .if1 .taken))
+
+returns-2 : tie.Need-returns-2
+returns-2 c = let l = c .before .before .before .before .before .before .before .before .args .line in
+    let s = c .struct-told3 .given in
+    rw (bits-test (l .c) (pos 0) (s .1 .1 .1 .0 .1) (lit< tt)) (press-due l (same-bits (l .kind) (pos 2) (s .0 .1) (lit< tt) (c .before .before .if2 .taken)))
+
+returns-3 : tie.Need-returns-3
+returns-3 c = let l = c .before .before .before .before .before .before .before .before .before .before .before .before .before .before .before .args .line in
+    let s = c .struct-told7 .given in
+    rw (bits-test (l .a) (pos 0) (s .1 .0 .1) (lit< tt), bits-test (l .b) (pos 0) (s .1 .1 .0 .1) (lit< tt), bits-test (l .c) (pos 0) (s .1 .1 .1 .0 .1) (lit< tt))
+    (bound-due l (same-bits (l .kind) (pos 4) (s .0 .1) (lit< tt) (c .before .before .before .before .before .before .if3 .taken)))
+
+returns-4 : tie.Need-returns-4
+returns-4 c = let l = c .before .before .before .before .before .before .before .before .before .args .line in
+    let k = c .before .before .before .before .before .before .before .struct-told .given .0 .1 in
+    none-due l (sym (other-bits (l .kind) (pos 1) k (lit< tt) (c .before .before .before .before .before .before .if1 .left))) (sym (other-bits (l .kind) (pos 2) k (lit< tt) (c .before .before .before .if2 .left)))
+    (sym (other-bits (l .kind) (pos 4) k (lit< tt) (c .if3 .left)))
+
+pub move-due-spec : {M : Type 1} → statement M
+move-due-spec = tie.close (tie.spec returns returns-2 returns-3 returns-4)

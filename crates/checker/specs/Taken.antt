@@ -1,0 +1,84 @@
+-- What the inner functions answer: a line taken with the record in parts, the raised scopes lent and the rest by value. Assumes nothing.
+use mathlib.Core.Bool.{false, not, _||_}
+use mathlib.Core.List.{List, [], _∷_}
+use Prim.Native.Nat.{ℕ, _+_}
+use lib.IntN.{ℤ}
+use lib.ListN.{set}
+use Rattle.definitions.specs.declared.Case.{Case}
+use Rattle.definitions.specs.declared.Line.{Line}
+use Rattle.definitions.specs.declared.Outcome.{Outcome}
+use Rattle.definitions.specs.declared.Refusal.the-variants.{NotDue, NotRefuted, LeavesRange}
+use Rattle.definitions.specs.Rules.{standard}
+use Rattle.definitions.specs.Refusals.{Test, _when_, firstOf}
+use Rattle.definitions.specs.Valid.{workingWeight, handedOver}
+use Rattle.definitions.specs.Consistency.{allRefuted}
+use Rattle.definitions.specs.Moves.{plus, pressBy, activeValues, leavesRange}
+use Rattle.definitions.specs.Lines.{notDue}
+use Rattle.checker.specs.declared.Standing.{Standing}
+use Rattle.checker.specs.declared.Replay.{Replay}
+use Rattle.checker.specs.declared.Progress.{Progress}
+use Rattle.checker.specs.declared.Taken.{Taken}
+use Rattle.checker.specs.Checker.{StepCall, BlockCall, Asked, isRaised, dueKinds, afterPress, recordOut, ofKind, stepBy}
+
+-- a record stands as the last line was answered
+abbrev pub standingAfter : Outcome → Standing
+standingAfter Outcome.Done = Standing.Good
+standingAfter (Outcome.Refused x) = Standing.Refused x
+
+abbrev pub replayOf : Progress → List ℕ → Standing → Replay
+replayOf p raised standing = record {
+  rounds = p .rounds;
+  start = p .start;
+  moved = p .moved;
+  raised = raised;
+  due = p .due;
+  standing = standing;
+}
+
+-- the same record while it stands good
+abbrev pub goodReplay : Progress → List ℕ → Replay
+goodReplay p raised = replayOf p raised Standing.Good
+
+-- the step of a line taken
+abbrev pub stepOf : Taken → List ℕ → List ℤ → StepCall
+stepOf t raised w = record {
+  stepped = record { replay = replayOf (t .progress) raised (standingAfter (t .answer)); answer = t .answer };
+  table = w;
+}
+
+-- a step of which only the numbers after 8 are left to ask
+abbrev pub stepNext : List ℤ → Replay → Asked → StepCall
+stepNext w p asked = stepBy w p asked (firstOf (asked .later))
+
+-- numbers 2 to 8 of a line
+abbrev pub frontTests : Case → List ℤ → Replay → Line → List Test
+frontTests c w p t =
+    NotDue when (notDue standard (dueKinds (p .due)) t)
+    ∷ handedOver standard (workingWeight standard) c w false (recordOut standard c p || ofKind standard c w p (p .due) t .out)
+
+-- ---- a press's last raise line: the table after the press, numbers 10 and 11, and the step
+
+abbrev pub pressed : Case → List ℤ → ℕ → List ℕ → ℤ → List ℤ
+pressed c w i raised a = plus c (pressBy c w i (activeValues c w i) (isRaised raised) a) w
+
+abbrev pub rangeTests : Case → List ℤ → List Test
+rangeTests c v = LeavesRange when (leavesRange standard c v) ∷ []
+
+abbrev pub wholeTests : Case → List ℤ → ℕ → List ℕ → ℤ → List Test
+wholeTests c w i raised a =
+    NotRefuted when (not (allRefuted c w (isRaised raised) i (activeValues c w i))) ∷ rangeTests c (pressed c w i raised a)
+
+abbrev pub lastAsked : Case → List ℤ → Replay → ℕ → ℤ → ℕ → Asked
+lastAsked c w p i a x =
+    let raised = set (p .raised) x 1 in
+    record { out = false; later = wholeTests c w i raised a; table = pressed c w i raised a; next = afterPress p }
+
+abbrev pub lastStep : Case → List ℤ → Replay → ℕ → ℤ → ℕ → StepCall
+lastStep c w p i a x = stepNext w p (lastAsked c w p i a x)
+
+-- ---- a block with so many lines more
+abbrev pub moreBy : ℕ → BlockCall → BlockCall
+moreBy n x = record {
+  block = record { replay = x .block .replay; lines = n + x .block .lines; answer = x .block .answer };
+  table = x .table;
+}
