@@ -24,17 +24,20 @@ use Rattle.definitions.specs.Answers.{outcomeOf, unlessRefused}
 use Rattle.definitions.specs.Case.{scopeCount, ownLength, lentLength, weight, greatest, active}
 use Rattle.definitions.specs.Valid.{workingWeight, withinLimits, handedOver}
 use Rattle.definitions.specs.Moves.{Difference, plus, onlyWhere, pressBy, activeValues, press, moved, pressAmount, activeRefuted, leavesRange}
+use Rattle.definitions.specs.Consistency.{allRefuted}
 use Rattle.definitions.specs.Calls.{isRising, moveCall, pressOut, pressCall}
 use Rattle.theory.proofs.Places.{IsTuple, each-cong, weight-plus, plus-length, plus-cong, plus-plus, plus-zero}
 use Rattle.theory.proofs.Validity.{Handed}
+use Rattle.consistency.specs.Best.{activeRefutedAnswer}
+use Rattle.consistency.proofs.Best.{active-refuted-is}
 use Rattle.figures.specs.Scopes.{partOf, bestAt, BestOf, greatestCall}
 use Rattle.figures.proofs.Best.{over-is, greatest-known}
 use Rattle.moves.specs.Scopes.{Amounts, scopeBy, topOf, restOf, isTouched, scopeLets, pressLets}
 use Rattle.moves.specs.Kept.{isRaised, isBest, Change, pressChange, staysWorking, bestAfter, pressWithCall}
-use Rattle.moves.specs.Marks.{marked, askedOfPress}
+use Rattle.moves.specs.Marks.{marked, saysYes, askedOfRaised, askedOfPress}
 use Rattle.moves.proofs.Answers.{refused-answer, refused-table, next-answer, next-table}
 use Rattle.moves.proofs.ScopeLaws.{part-stays-iff, same-weight, same-part}
-use Rattle.moves.proofs.MarkLaws.{marked-long, raised-is, inside-more}
+use Rattle.moves.proofs.MarkLaws.{marked-long, raised-is, inside-more, marks-refute, says-yes}
 use Rattle.moves.proofs.KeptLaws.{stays-iff, call-answer, call-table, call-best}
 
 -- ---- amounts
@@ -232,9 +235,12 @@ module _ {c : Case} {w best : List ℤ} (h : Handed standard (workingWeight stan
 
 -- ---- the call that checks: number 11 is left
 module _ (c : Case) (w : List ℤ) (i : ℕ) (raised : List ℕ) (a : ℤ) where
-  pub range-left : isRising raised ≡ true → isIn raised i ≡ false → activeRefuted c w i raised ≡ true
-      → firstOf (askedOfPress standard c w i raised a) ≡ firstOf (LeavesRange when (leavesRange standard c (moved c (press i raised a) w)) ∷ [])
-  range-left p q u = rw (p, q, u)
+  pub range-left : activeRefuted c w i raised ≡ true
+      → firstOf (askedOfRaised standard c w i raised a) ≡ firstOf (LeavesRange when (leavesRange standard c (moved c (press i raised a) w)) ∷ [])
+  range-left u = rw u
+
+  pub raised-left : isRising raised ≡ true → isIn raised i ≡ false → firstOf (askedOfPress standard c w i raised a) ≡ firstOf (askedOfRaised standard c w i raised a)
+  raised-left p q = rw (p, q)
 
   -- marks for the raised scopes
   pub press-marked : (marks : List ℕ) → ((x : ℕ) → isRaised marks x ≡ isIn raised x) → plus c (pressBy c w i (activeValues c w i) (isRaised marks) a) w ≡ moved c (press i raised a) w
@@ -284,14 +290,31 @@ module _ (c : Case) (w : List ℤ) (i : ℕ) (raised : List ℕ) (a : ℤ) where
 module _ {c : Case} {w : List ℤ} (h : Handed standard (workingWeight standard) c w) (i : ℕ) (raised : List ℕ) (a : ℤ)
     (variable : i < c .n) (inside : T (all (λ x. ltb x (scopeCount c)) raised)) (amount : T (pressAmount standard a))
     (zeros : List ℕ) (clear : (y : ℕ) → getD zeros y 0 ≡ 0) (room : scopeCount c ≤ length zeros) (out : List ℤ) (space : scopeCount c ≤ length out) where
-  pub press-raised-is : {marks : List ℕ} {best : List ℤ} → marks ≡ marked zeros raised → best ≡ greatestCall standard c w out .best → {o : Outcome} {t : List ℤ}
-      → o ≡ pressWithCall standard c w best marks i a .answer → t ≡ pressWithCall standard c w best marks i a .table
-      → (o ≡ moveCall standard c w (press i raised a) (LeavesRange when (leavesRange standard c (moved c (press i raised a) w)) ∷ []) .answer)
-      × (t ≡ moveCall standard c w (press i raised a) (LeavesRange when (leavesRange standard c (moved c (press i raised a) w)) ∷ []) .table)
-  press-raised-is {marks} {best} e d p q =
-      let b : BestOf c w best = subst (λ (l : List ℤ). BestOf c w l) (sym d) (greatest-known out h space .1) in
-      let k = press-with-known h b marks i a (omega (arith, ap length e, marked-long raised zeros)) variable amount in
-      let g = press-marked c w i raised a marks (λ x. ap (λ (l : List ℕ). isRaised l x) e ∙ raised-is zeros raised (inside-more raised (scopeCount c) (length zeros) room inside) clear x) in (
-        p ∙ k .0 ∙ ap (λ (v : List ℤ). outcomeOf (firstOf (LeavesRange when (leavesRange standard c v) ∷ []))) g,
-        q ∙ k .1 ∙ ap (λ (v : List ℤ). unlessRefused (firstOf (LeavesRange when (leavesRange standard c v) ∷ [])) v w) g,
-      )
+  module _ {marks : List ℕ} {best : List ℤ} (e : marks ≡ marked zeros raised) (d : best ≡ greatestCall standard c w out .best) where
+    pub best-made : BestOf c w best
+    best-made = subst (λ (l : List ℤ). BestOf c w l) (sym d) (greatest-known out h space .1)
+
+    marks-long : scopeCount c ≤ length marks
+    marks-long = omega (arith, ap length e, marked-long raised zeros)
+
+    marks-are : (x : ℕ) → isRaised marks x ≡ isIn raised x
+    marks-are x = ap (λ (l : List ℕ). isRaised l x) e ∙ raised-is zeros raised (inside-more raised (scopeCount c) (length zeros) room inside) clear x
+
+    -- what the search for families answers
+    pub press-refuted : c .m ≤ length (c .lower) → c .m ≤ length (c .upper) → saysYes (activeRefutedAnswer standard c w best marks i) ≡ activeRefuted c w i raised
+    press-refuted lowers uppers =
+        ap saysYes (active-refuted-is c w h best best-made marks marks-long lowers uppers i variable) ∙ says-yes (allRefuted c w (isRaised marks) i (activeValues c w i))
+        ∙ marks-refute c w i marks raised marks-are
+
+    pub press-raised-is : activeRefuted c w i raised ≡ true → {o : Outcome} {t : List ℤ}
+        → o ≡ pressWithCall standard c w best marks i a .answer → t ≡ pressWithCall standard c w best marks i a .table
+        → (o ≡ moveCall standard c w (press i raised a) (askedOfRaised standard c w i raised a) .answer)
+        × (t ≡ moveCall standard c w (press i raised a) (askedOfRaised standard c w i raised a) .table)
+    press-raised-is u p q =
+        let k = press-with-known h best-made marks i a marks-long variable amount in
+        let g = press-marked c w i raised a marks marks-are in
+        let l = range-left c w i raised a u in (
+          p ∙ k .0 ∙ ap (λ (v : List ℤ). outcomeOf (firstOf (LeavesRange when (leavesRange standard c v) ∷ []))) g ∙ ap outcomeOf (sym l),
+          q ∙ k .1 ∙ ap (λ (v : List ℤ). unlessRefused (firstOf (LeavesRange when (leavesRange standard c v) ∷ [])) v w) g
+              ∙ ap (λ o. unlessRefused o (moved c (press i raised a) w) w) (sym l),
+        )

@@ -5,26 +5,24 @@ use definitions::Refusal;
 use definitions::Verdict;
 ghost use mathlib.Core.Path.{_≡_};
 ghost use mathlib.Core.Bool.{not, _||_};
-ghost use mathlib.Core.List.{[], _∷_, map};
+ghost use mathlib.Core.List.{map};
 ghost use Prim.Native.Nat.{ℕ, _+_, _*_, _≤_, _<_};
 ghost use lib.Dec.{T, ltb, eqb};
 ghost use lib.ListN.{length, getD, set};
 ghost use lib.IntN.{pos, _+ℤ_};
-ghost use Rattle.integers.specs.Words.{if_then_else_, _⇒_, all, any, isIn, eqZ, withinZ, minus};
+ghost use Rattle.integers.specs.Words.{if_then_else_, all, any, isIn, eqZ, withinZ, minus};
 ghost use Rattle.definitions.specs.Rules.{standard};
-ghost use Rattle.definitions.specs.Refusals.{_when_};
 ghost use Rattle.definitions.specs.declared.Refusal.the-variants.{LeavesRange};
 ghost use Rattle.definitions.specs.Valid.{workingWeight};
-ghost use Rattle.definitions.specs.Moves.{shift as shiftMove, press as pressMove, shiftAmount, pressAmount, plus, moved, endVariable, shiftBy, activeValues, activeRefuted, leavesRange};
-ghost use Rattle.definitions.specs.Calls.{isMarked, isRising, moveCall, shiftOut, shiftCall, pressOut, pressCall};
+ghost use Rattle.definitions.specs.Moves.{shift as shiftMove, press as pressMove, shiftAmount, pressAmount, plus, moved, endVariable, shiftBy};
+ghost use Rattle.definitions.specs.Calls.{isRising, moveCall, shiftOut, shiftCall, pressOut, pressCall};
 ghost use Rattle.definitions.specs.Case.{scopeCount, place, lentLength, greatest};
-ghost use Rattle.definitions.specs.Consistency.{refuted, allRefuted};
 ghost use Rattle.theory.proofs.Validity.{Handed};
 ghost use Rattle.figures.specs.Scopes.{Limited, sizeOf, partOf, bestAt};
 ghost use Rattle.moves.specs.Spaced.{Inside, spacedStay, spacedAdd, shiftStays, shifted};
 ghost use Rattle.moves.specs.Scopes.{changed, partStays, Amounts, InScope, scopeBy, topOf, restOf, isTouched, scopeLets, pressLets};
 ghost use Rattle.moves.specs.Kept.{shiftChange, pressChange, staysWorking, bestAfter, KeptIs, shiftWithCall, pressWithCall};
-ghost use Rattle.moves.specs.Marks.{marked, Marks, saysYes, askedOfPress};
+ghost use Rattle.moves.specs.Marks.{marked, saysYes, askedOfRaised, askedOfPress};
 
 // The greatest working weight and the greatest amount of a move, on either side of 0.
 const WORKING: i64 = 500_000_000;
@@ -460,7 +458,7 @@ fn press_out(case: Case, variable: usize, raised: &[u16], amount: i64) -> bool
     !is_within(amount, 1, MOVING)
 }
 
-// ---- number 10
+// ---- marks for the raised scopes, and number 10
 
 fn mark_scopes(marks: &mut [u8], raised: &[u16])
     requires { ⌜ T (all (λ x. ltb x (length (now marks))) (now raised)) ⌝ }
@@ -482,64 +480,6 @@ fn is_yes(verdict: Verdict) -> bool
         Verdict::No => false,
         Verdict::Refused(_) => false,
     }
-}
-
-// The value is refuted, if it is active.
-fn lets_press(case: Case, table: &[i64], marks: &[u8], variable: usize, value: usize) -> bool
-    requires { ⌜ Handed standard (workingWeight standard) case (now table) ⌝ }
-    requires { ⌜ Marks case (now marks) ⌝ }
-    requires { ⌜ (variable < case .n) × (value < case .d) ⌝ }
-    ensures { λ r. ⌜ r ≡ (activeValues case (now (table .entry)) variable value ⇒ refuted case (now (table .entry)) (isMarked (now (marks .entry))) variable value) ⌝ }
-{
-    let active = figures::is_active(case, table, variable, value, 0);
-    if !is_yes(active) {
-        return true;
-    }
-    is_yes(consistency::refuted(case, table, marks, variable, value))
-}
-
-fn all_refuted(case: Case, table: &[i64], marks: &[u8], variable: usize) -> bool
-    requires { ⌜ Handed standard (workingWeight standard) case (now table) ⌝ }
-    requires { ⌜ Marks case (now marks) ⌝ }
-    requires { ⌜ variable < case .n ⌝ }
-    ensures { λ r. ⌜ r ≡ allRefuted case (now (table .entry)) (isMarked (now (marks .entry))) variable (activeValues case (now (table .entry)) variable) ⌝ }
-{
-    let d = case.d;
-    let mut k: usize = 0;
-    while k < d {
-        if !lets_press(case, table, marks, variable, k) {
-            return false;
-        }
-        k += 1;
-    }
-    true
-}
-
-// The same, with marks that are 0 before.
-fn refuted_under(
-    case: Case,
-    table: &[i64],
-    variable: usize,
-    raised: &[u16],
-    marks: &mut [u8],
-) -> bool
-    requires { ⌜ Handed standard (workingWeight standard) case (now table) ⌝ }
-    requires { ⌜ (variable < case .n) × T (all (λ x. ltb x (scopeCount case)) (now raised)) ⌝ }
-    requires { ⌜ (144 ≤ length (now marks)) × ((y : ℕ) → getD (now marks) y 0 ≡ 0) ⌝ }
-    ensures { λ r. ⌜ r ≡ activeRefuted case (now (table .entry)) variable (now (raised .entry)) ⌝ }
-{
-    let scopes = case.n + case.m;
-    mark_scopes(&mut marks[..scopes], raised);
-    all_refuted(case, table, &marks[..scopes], variable)
-}
-
-fn active_refuted(case: Case, table: &[i64], variable: usize, raised: &[u16]) -> bool
-    requires { ⌜ Handed standard (workingWeight standard) case (now table) ⌝ }
-    requires { ⌜ (variable < case .n) × T (all (λ x. ltb x (scopeCount case)) (now raised)) ⌝ }
-    ensures { λ r. ⌜ r ≡ activeRefuted case (now (table .entry)) variable (now (raised .entry)) ⌝ }
-{
-    let mut marks = [0u8; 144];
-    refuted_under(case, table, variable, raised, &mut marks)
 }
 
 // ---- the calls on what was checked
@@ -602,7 +542,7 @@ fn press_kept(
 
 // ---- a press of raised scopes that rise
 
-// Number 11 and the press.
+// Numbers 10 and 11, and the press.
 fn press_raised(
     case: Case,
     table: &mut [i64],
@@ -613,13 +553,16 @@ fn press_raised(
     requires { ⌜ Handed standard (workingWeight standard) case (now table) ⌝ }
     requires { ⌜ (variable < case .n) × T (all (λ x. ltb x (scopeCount case)) (now raised)) ⌝ }
     requires { ⌜ T (pressAmount standard amount) ⌝ }
-    ensures { λ r. ⌜ r ≡ moveCall standard case (now (table .entry)) (pressMove variable (now (raised .entry)) amount) (LeavesRange when (leavesRange standard case (moved case (pressMove variable (now (raised .entry)) amount) (now (table .entry)))) ∷ []) .answer ⌝ }
-    ensures { λ r. ⌜ now (table .exit) ≡ moveCall standard case (now (table .entry)) (pressMove variable (now (raised .entry)) amount) (LeavesRange when (leavesRange standard case (moved case (pressMove variable (now (raised .entry)) amount) (now (table .entry)))) ∷ []) .table ⌝ }
+    ensures { λ r. ⌜ r ≡ moveCall standard case (now (table .entry)) (pressMove variable (now (raised .entry)) amount) (askedOfRaised standard case (now (table .entry)) variable (now (raised .entry)) amount) .answer ⌝ }
+    ensures { λ r. ⌜ now (table .exit) ≡ moveCall standard case (now (table .entry)) (pressMove variable (now (raised .entry)) amount) (askedOfRaised standard case (now (table .entry)) variable (now (raised .entry)) amount) .table ⌝ }
 {
     let mut marks = [0u8; 144];
     mark_scopes(&mut marks, raised);
     let mut best = [0i64; 144];
     figures::greatest_weights(case, table, &mut best);
+    if !is_yes(consistency::active_refuted(case, table, &best, &marks, variable)) {
+        return Outcome::Refused(Refusal::NotRefuted);
+    }
     press_with(case, table, &mut best, &marks, variable, amount)
 }
 
@@ -642,9 +585,6 @@ fn press_checked(
     }
     if holds(raised, variable) {
         return Outcome::Refused(Refusal::RaiseNotAscending);
-    }
-    if !active_refuted(case, table, variable, raised) {
-        return Outcome::Refused(Refusal::NotRefuted);
     }
     press_raised(case, table, variable, raised, amount)
 }

@@ -7,7 +7,7 @@ use Rattle.integers.specs.Words.{isIn}
 use Rattle.definitions.specs.Answers.{outcomeOf, unlessRefused}
 use Rattle.definitions.specs.Moves.{press, moved}
 use Rattle.definitions.specs.Calls.{isRising}
-use Rattle.moves.proofs.PressLaws.{range-left}
+use Rattle.moves.proofs.PressLaws.{raised-left}
 use Rattle.moves.proofs.press_checked.Statement.{statement}
 use Rattle.moves.proofs.press_checked.Tie as tie
 
@@ -29,29 +29,17 @@ returns-2 c = let d = sym (c .before .before .before .is-rising .ensures) ∙ no
 allowed : (c : tie.Else2) → let a = c .before .before .before .before .before .args in (isRising (a .raised .now) ≡ true) × (isIn (a .raised .now) (a .variable) ≡ false)
 allowed c = (sym (c .before .before .before .is-rising .ensures) ∙ not-false _ (c .before .before .if1 .left), sym (c .before .holds .ensures) ∙ c .if2 .left)
 
-active-refuted-requires : tie.Need-active-refuted-requires
-active-refuted-requires c κs = search needs
+press-raised-requires : tie.Need-press-raised-requires
+press-raised-requires c κs = search needs
 
 same-length : tie.Need-same-length
 same-length c = search needs
 
 returns-3 : tie.Need-returns-3
-returns-3 c = let (d, e) = allowed (c .before .before .before) in
-    let f = sym (c .before .active-refuted .ensures) ∙ not-true _ (c .if3 .taken) in
-    (rw (d, e, f), rw (d, e, f))
-
-press-raised-requires : tie.Need-press-raised-requires
-press-raised-requires c κs = search needs
-
-same-length-2 : tie.Need-same-length-2
-same-length-2 c = search needs
-
-returns-4 : tie.Need-returns-4
-returns-4 c = let s = c .before .before .before .before .before .before .before .before .before .before .before in
+returns-3 c = let s = c .before .before .before .before .before .before .before .before in
     let a = s .args in
-    let (d, e) = allowed (c .before .before .before .before .before .before) in
-    let f = sym (c .before .before .before .before .active-refuted .ensures) ∙ not-false _ (c .before .before .before .if3 .left) in
-    let g = range-left (a .case) (a .table .now) (a .variable) (a .raised .now) (a .amount) d e f in
+    let (d, e) = allowed (c .before .before .before) in
+    let g = raised-left (a .case) (a .table .now) (a .variable) (a .raised .now) (a .amount) d e in
     let r = rw (toZ-ofZ (s .fits .amount)) at (c .before .press-raised .ensures) in
     (r .0 ∙ ap outcomeOf (sym g), r .1 ∙ ap (λ o. unlessRefused o (moved (a .case) (press (a .variable) (a .raised .now) (a .amount)) (a .table .now)) (a .table .now)) (sym g))
 
@@ -63,9 +51,6 @@ press-checked-spec =
     returns
     holds-requires
     returns-2
-    active-refuted-requires
-    same-length
-    returns-3
     press-raised-requires
-    same-length-2
-    returns-4)
+    same-length
+    returns-3)
