@@ -10,9 +10,9 @@ use native.Mathlib.Nat.{mul-le-mul, mul-le-mul-left, mul-le-mul-right, mul-comm}
 use native.Mathlib.Omega.{arith}
 use lib.IntN.{ℤ}
 use lib.Dec.{eqb}
-use lib.ListN.{length, length-append, length-drop}
+use lib.ListN.{length, drop, length-append, length-drop}
 use lib.Seq.{take-append-le, drop-append-le}
-use borrow.Author.Tests.{le-ltb}
+use borrow.Author.Tests.{le-ltb, ne-eqb}
 use Rattle.integers.specs.Words.{if_then_else_}
 use Rattle.integers.specs.Options.{none-some}
 use Rattle.definitions.specs.declared.Case.{Case}
@@ -25,7 +25,8 @@ use Rattle.definitions.specs.Rules.{Rules}
 use Rattle.definitions.specs.Refusals.{firstOf}
 use Rattle.definitions.specs.Case.{lentLength}
 use Rattle.definitions.specs.Lines.{lineLength}
-use Rattle.definitions.specs.CaseFiles.{CaseDue, dues, dueTests, Reading, took, headTests, headed, CaseCall, caseRefused, isCut, firstLine, afterFirst, readDues, headRefusal, readCase, caseSize}
+use Rattle.definitions.specs.CaseFiles.{CaseDue, dues, dueTests, Reading, took, headTests, headed, CaseCall, caseRefused, isCut, firstLine, afterFirst, readDues, headRefusal, readCase, endTests, restRefusal, nothingAfter, readCaseAlone, caseSize}
+use Rattle.definitions.specs.Programs.{tableFor, pressRead, pressPrints}
 use Rattle.theory.proofs.CaseDues.{run-length, dues-run}
 use Rattle.theory.proofs.CaseTests.{CaseKinds, head-passed}
 use Rattle.judging.specs.Cuts.{longestCase}
@@ -214,3 +215,53 @@ module _ {r : Rules} (kinds : CaseKinds r) where
   case-front front rest (inr e) =
       let n : front ++ rest ≡ front = rw e (append-nil front) in
       (ap (caseSize r) n, λ w. ap (λ (t : List ℕ). readCase r t w) n)
+
+-- ---- a case that is read alone, as by `press`
+module _ (r : Rules) where
+  ending : ℕ → Bool → Option Line → Option Refusal
+  ending n b l = if eqb n 0 then none else if b then some CutShort else firstOf (endTests r l)
+
+  -- a line is left
+  rest-front : (s rest : List ℕ) → lineLength (r .amountWidth) ≤ length s → restRefusal r (s ++ rest) ≡ restRefusal r s
+  unfolding ending
+  rest-front s rest h =
+      let p : eqb (length (s ++ rest)) 0 ≡ eqb (length s) 0 =
+      ne-eqb (length (s ++ rest)) 0 (λ z. omega (arith, length-append s rest)) ∙ sym (ne-eqb (length s) 0 (λ z. omega arith)) in
+      ap₂ (λ (b : Bool) (l : Option Line). ending (length (s ++ rest)) b l) (cut-front r s rest h) (line-front r s rest h)
+      ∙ ap (λ (e : Bool). if e then none else if isCut r s then some CutShort else firstOf (endTests r (firstLine r s))) p
+
+module _ {r : Rules} (kinds : CaseKinds r) (front rest : List ℕ) (h : longestCase r + lineLength (r .amountWidth) ≤ length front) where
+  ended : CaseCall → ℕ → Option Refusal → CaseCall
+  ended call lines o = elim o [
+    | none ↦ call
+    | some x ↦ caseRefused r x lines (call .table)
+  ]
+
+  line-left : (lines : ℕ) → lines ≤ longestLines r → lineLength (r .amountWidth) ≤ length (drop (lines * lineLength (r .amountWidth)) front)
+  line-left lines few =
+      let l : ℕ = lineLength (r .amountWidth) in
+      let m : lines * l ≤ longestLines r * l = mul-le-mul-right l few in
+      rw length-drop (omega (arith, mul-comm (longestLines r) l))
+
+  ends-front : (call : CaseCall) (a : FileAnswer) → lineOf a ≤ longestLines r → nothingAfter r (front ++ rest) call a ≡ nothingAfter r front call a
+  unfolding ended
+  ends-front call (FileAnswer.Refused x at) few = refl
+  ends-front call (FileAnswer.Read lines) few =
+      let k : ℕ = lines * lineLength (r .amountWidth) in
+      let left = line-left lines few in
+      ap (ended call lines) (ap (restRefusal r) (drop-append-le k front rest (omega (arith, length-drop k front))) ∙ rest-front r (drop k front) rest left)
+
+  pub alone-front : (w : List ℤ) → readCaseAlone r (front ++ rest) w ≡ readCaseAlone r front w
+  alone-front w =
+      let long : longestCase r ≤ length front = omega arith in
+      ap (λ (k : CaseCall). nothingAfter r (front ++ rest) k (k .read .answer)) (long-front kinds front rest long w)
+      ∙ ends-front (readCase r front w) (readCase r front w .read .answer) (case-line kinds front w)
+
+-- a front that holds the longest case and a line more, or the whole input, is printed as the whole input is
+pub press-front : {r : Rules} → CaseKinds r → (front rest : List ℕ) → (longestCase r + lineLength (r .amountWidth) ≤ length front) ⊎ (rest ≡ [])
+    → pressPrints r (front ++ rest) ≡ pressPrints r front
+press-front {r} kinds front rest (inr e) = let n : front ++ rest ≡ front = rw e (append-nil front) in ap (pressPrints r) n
+press-front {r} kinds front rest (inl h) =
+    let long : longestCase r ≤ length front = omega arith in
+    ap (λ (k : CaseCall). pressRead r k (k .read .answer))
+    (ap (λ (s : CaseSize). readCaseAlone r (front ++ rest) (tableFor s)) (size-front kinds front rest long) ∙ alone-front kinds front rest h (tableFor (caseSize r front)))

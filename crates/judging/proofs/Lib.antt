@@ -2,3 +2,4 @@
 pub mod Fronts
 pub mod Blocks
 pub mod Prints
+pub mod Calls

@@ -3,6 +3,17 @@
 use checker::Replay;
 use definitions::Case;
 use definitions::FileAnswer;
+use definitions::Outcome;
+use definitions::Refusal;
+use definitions::Written;
+ghost use mathlib.Core.Path.{_≡_};
+ghost use Rattle.definitions.specs.Rules.{standard};
+ghost use Rattle.definitions.specs.Programs.{accepted};
+ghost use Rattle.figures.specs.Scopes.{boundOf};
+ghost use Rattle.judging.specs.Judging.{counted, answerAt, endJudged, writeJudged, startJudging, blockFrom, blockJudging, judgedFrom, finishJudging};
+
+// The greatest count of lines.
+const GREATEST: usize = 9_223_372_036_854_775_807;
 
 // What stands between the blocks of an input: the case, the replay's record, and how far the input was read: no number yet and so many lines
 // passed, or the refusal and its line.
@@ -10,4 +21,119 @@ pub struct Judging {
     pub case: Case,
     pub replay: Replay,
     pub answer: FileAnswer,
+}
+
+// ---- a block
+
+fn count(at: usize, more: usize) -> usize
+    ensures { λ r. ⌜ r ≡ counted at more ⌝ }
+{
+    if GREATEST <= at {
+        return GREATEST;
+    }
+    if GREATEST - at <= more {
+        return GREATEST;
+    }
+    at + more
+}
+
+fn answer_at(at: usize, answer: Outcome) -> FileAnswer
+    ensures { λ r. ⌜ r ≡ answerAt at answer ⌝ }
+{
+    match answer {
+        Outcome::Done => FileAnswer::Read { lines: at },
+        Outcome::Refused(refusal) => FileAnswer::Refused { refusal, line: at },
+    }
+}
+
+// A block after so many lines that got no number.
+fn block_from(judging: Judging, table: &mut [i64], bytes: &[u8], passed: usize) -> Judging
+    ensures { λ r. ⌜ (r ≡ blockFrom standard judging (now (table .entry)) (now (bytes .entry)) (FileAnswer.Read passed) .judging) × (now (table .exit) ≡ blockFrom standard judging (now (table .entry)) (now (bytes .entry)) (FileAnswer.Read passed) .table) ⌝ }
+{
+    let case = judging.case;
+    let replay = judging.replay;
+    let block = replay.lines(case, table, bytes);
+    let after = block.replay;
+    let last = block.answer;
+    let answer = answer_at(count(passed, block.lines), last);
+    Judging {
+        case,
+        replay: after,
+        answer,
+    }
+}
+
+// ---- the end
+
+// The end has no number of its own.
+fn write_good(
+    case: Case,
+    table: &[i64],
+    rounds: u64,
+    part: bool,
+    passed: usize,
+    out: &mut [u8],
+) -> Written
+    ensures { λ r. ⌜ (r ≡ writeJudged (now (out .entry)) (endJudged passed Outcome.Done part (accepted rounds (boundOf standard case (now (table .entry))))) .answer) × (now (out .exit) ≡ writeJudged (now (out .entry)) (endJudged passed Outcome.Done part (accepted rounds (boundOf standard case (now (table .entry))))) .out) ⌝ }
+{
+    if part {
+        texts::write_refused(out, Refusal::CutShort, passed)
+    } else {
+        texts::write_accepted(out, rounds, figures::bound_of(case, table))
+    }
+}
+
+// No line has a number.
+fn write_end(judging: Judging, table: &[i64], part: bool, passed: usize, out: &mut [u8]) -> Written
+    ensures { λ r. ⌜ (r ≡ writeJudged (now (out .entry)) (judgedFrom standard judging (now (table .entry)) part (FileAnswer.Read passed)) .answer) × (now (out .exit) ≡ writeJudged (now (out .entry)) (judgedFrom standard judging (now (table .entry)) part (FileAnswer.Read passed)) .out) ⌝ }
+{
+    let case = judging.case;
+    let replay = judging.replay;
+    let ended = replay.end(case);
+    match ended {
+        Outcome::Refused(refusal) => texts::write_refused(out, refusal, passed),
+        Outcome::Done => write_good(case, table, replay.rounds, part, passed, out),
+    }
+}
+
+// ---- the calls
+
+// Reads the case at the front of the input. The front must hold the longest case or the whole input.
+pub fn start(front: &[u8], table: &mut [i64]) -> Judging
+    ensures { λ r. ⌜ (r ≡ startJudging standard (now (front .entry)) (now (table .entry)) .judging) × (now (table .exit) ≡ startJudging standard (now (front .entry)) (now (table .entry)) .table) ⌝ }
+{
+    let read = casefile::read_case(front, table);
+    let case = read.case;
+    let answer = read.answer;
+    let replay = Replay::fresh(case, table);
+    Judging {
+        case,
+        replay,
+        answer,
+    }
+}
+
+// The next whole lines of the log.
+pub fn block(judging: Judging, table: &mut [i64], bytes: &[u8]) -> Judging
+    ensures { λ r. ⌜ (r ≡ blockJudging standard judging (now (table .entry)) (now (bytes .entry)) .judging) × (now (table .exit) ≡ blockJudging standard judging (now (table .entry)) (now (bytes .entry)) .table) ⌝ }
+{
+    let answer = judging.answer;
+    match answer {
+        FileAnswer::Refused {
+            refusal: _,
+            line: _,
+        } => judging,
+        FileAnswer::Read { lines: passed } => block_from(judging, table, bytes, passed),
+    }
+}
+
+// Writes what `replay` prints where the input ends here; `part`: fewer bytes than a line are left.
+pub fn finish(judging: Judging, table: &[i64], part: bool, out: &mut [u8]) -> Written
+    ensures { λ r. ⌜ (r ≡ finishJudging standard judging (now (table .entry)) part (now (out .entry)) .answer) × (now (out .exit) ≡ finishJudging standard judging (now (table .entry)) part (now (out .entry)) .out) ⌝ }
+{
+    let answer = judging.answer;
+    match answer {
+        FileAnswer::Refused { refusal, line } => texts::write_refused(out, refusal, line),
+        FileAnswer::Read { lines: passed } => write_end(judging, table, part, passed, out),
+    }
 }

@@ -1,0 +1,41 @@
+-- The case, and then a fresh record. Assumes nothing.
+use mathlib.Core.Path.{_≡_, ap₂, _∙_}
+use mathlib.Core.List.{List}
+use lib.IntN.{ℤ}
+use denote.Ref.{now}
+use Rattle.definitions.specs.declared.CaseRead.{CaseRead}
+use Rattle.definitions.specs.Rules.{standard}
+use Rattle.definitions.specs.CaseFiles.{CaseCall, readCase}
+use Rattle.checker.specs.declared.Replay.{Replay}
+use Rattle.checker.specs.Checker.{freshReplay}
+use Rattle.judging.specs.declared.Judging.{Judging}
+use Rattle.judging.specs.Judging.{startJudging}
+use borrow.Author.Needs.{needs}
+use Rattle.judging.proofs.start.Statement.{statement}
+use Rattle.judging.proofs.start.Tie as tie
+
+read-case-requires : tie.Need-read-case-requires
+read-case-requires c κs = search needs
+
+fresh-requires : tie.Need-fresh-requires
+fresh-requires c κs = search needs
+
+same-length : tie.Need-same-length
+same-length c = search needs
+
+toJudging : CaseRead → Replay → Judging
+toJudging x p = record { case = x .case; replay = p; answer = x .answer }
+
+returns : tie.Need-returns
+unfolding startJudging toJudging
+returns c =
+    let k = c .before .before .before .before in
+    let s = k .before .before .before in
+    let call : CaseCall = readCase standard (now (s .args .front)) (now (s .args .table)) in
+    let (p, q) = k .read-case .ensures in
+    let f : c .fresh .result ≡ freshReplay standard (call .read .case) (call .table) =
+    c .fresh .ensures ∙ ap₂ (λ (x : CaseRead) (t : List ℤ). freshReplay standard (x .case) t) p q in
+    (ap₂ toJudging p f, q)
+
+pub start-spec : {M : Type 1} → statement M
+start-spec = tie.close (tie.spec read-case-requires fresh-requires same-length returns)
