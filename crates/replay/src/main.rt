@@ -1,0 +1,180 @@
+// The program `replay`: a case and its log on standard input, the judgement on standard output (document 01). The work is done by `judging` on
+// slices; here the input is cut into blocks of whole lines, and a part line is carried over to the next block. The input ends where a read brings
+// nothing or fails.
+use definitions::CaseSize;
+use definitions::FileAnswer;
+use definitions::Written;
+use judging::Judging;
+use libc::STDIN_FILENO;
+use libc::STDOUT_FILENO;
+ghost use mathlib.Core.Path.{_≡_};
+ghost use Prim.Native.Nat.{_-_, _≤_, _%_};
+ghost use lib.ListN.{length, take, drop};
+
+const LINE: usize = 27;
+
+// The longest table.
+const TABLE: usize = 6_528;
+
+// What stands between two blocks: so many bytes of a part line are held at the buffer's front.
+struct Turned {
+    judging: Judging,
+    held: usize,
+}
+
+// Room for more than the longest case, which has 178,875 bytes.
+fn buffer() -> [u8; 262144]
+    ensures { λ r. ⌜ 262144 ≡ length r ⌝ }
+{
+    [0; 262144]
+}
+
+fn weights() -> [i64; 6528]
+    ensures { λ r. ⌜ 6528 ≡ length r ⌝ }
+{
+    [0; 6528]
+}
+
+// One read to the bytes from `at` on, and where the bytes then end.
+fn read_more(buf: &mut [u8], at: usize) -> usize
+    requires { ⌜ at ≤ length (now buf) ⌝ }
+    ensures { λ r. ⌜ (at ≤ r) × (r ≤ length (now (buf .exit))) ⌝ }
+{
+    let part = &mut buf[at..];
+    let got = libc::read(STDIN_FILENO, part);
+    at + io::count(got, part)
+}
+
+// Reads to the bytes from `from` on until the buffer is full or the input ends, and answers where the bytes end.
+fn fill(buf: &mut [u8], from: usize) -> usize
+    requires { ⌜ from ≤ length (now buf) ⌝ }
+    ensures { λ r. ⌜ (from ≤ r) × (r ≤ length (now (buf .exit))) ⌝ }
+{
+    let mut at = from;
+    while at < buf.len() {
+        let next = read_more(buf, at);
+        if next == at {
+            return at;
+        }
+        at = next;
+    }
+    at
+}
+
+// Moves the bytes from `from` to `to` to the buffer's front.
+fn to_front(buf: &mut [u8], from: usize, to: usize) -> usize
+    requires { ⌜ (from ≤ to) × (to ≤ length (now buf)) ⌝ }
+    ensures { λ r. ⌜ (r ≡ to - from) × (take r (now (buf .exit)) ≡ take r (drop from (now (buf .entry)))) ⌝ }
+{
+    let n = to - from;
+    let mut i: usize = 0;
+    while i < n {
+        buf[i] = buf[from + i];
+        i += 1;
+    }
+    i
+}
+
+// Hands over the whole lines from byte `from` to byte `to`.
+fn turn(judging: Judging, table: &mut [i64], buf: &mut [u8], from: usize, to: usize) -> Turned
+    requires { ⌜ (from ≤ to) × (to ≤ length (now buf)) ⌝ }
+    ensures { λ r. ⌜ r .held ≤ length (now (buf .exit)) ⌝ }
+{
+    let end = to - (to - from) % LINE;
+    let next = judging::block(judging, table, &buf[from..end]);
+    let held = to_front(buf, end, to);
+    Turned {
+        judging: next,
+        held,
+    }
+}
+
+// The bytes of the case at the front of the input's first `most` bytes: all of these where it was refused.
+fn case_bytes(answer: FileAnswer, most: usize) -> usize
+    ensures { λ r. ⌜ r ≤ most ⌝ }
+{
+    match answer {
+        FileAnswer::Refused {
+            refusal: _,
+            line: _,
+        } => most,
+        FileAnswer::Read { lines } => {
+            if lines <= most / LINE {
+                lines * LINE
+            } else {
+                most
+            }
+        }
+    }
+}
+
+// Judges the whole input, whose first `first` bytes stand in the buffer. A buffer that is not full is the last.
+fn judge(buf: &mut [u8], table: &mut [i64], first: usize) -> Turned
+    requires { ⌜ first ≤ length (now buf) ⌝ }
+{
+    let begun = judging::start(&buf[0..first], table);
+    let answer = begun.answer;
+    let from = case_bytes(answer, first);
+    let mut state = turn(begun, table, buf, from, first);
+    let mut to = first;
+    let mut turns = u64::MAX;
+    while turns > 0 {
+        if to < buf.len() {
+            return state;
+        }
+        let held = state.held;
+        let judging = state.judging;
+        to = fill(buf, held);
+        state = turn(judging, table, buf, 0, to);
+        turns -= 1;
+    }
+    state
+}
+
+// The length of the table that the head of the case asks for.
+fn table_length(front: &[u8]) -> usize
+    ensures { λ r. ⌜ r ≤ 6528 ⌝ }
+{
+    let size = casefile::case_size(front);
+    match size {
+        CaseSize::Refused(_) => 0,
+        CaseSize::Size {
+            n: _,
+            d: _,
+            m: _,
+            table,
+        } => { if table < TABLE { table } else { TABLE } }
+    }
+}
+
+fn write_first(text: &[u8], n: usize) {
+    if n <= text.len() {
+        io::write_all(STDOUT_FILENO, &text[0..n]);
+    }
+}
+
+fn print(judging: Judging, table: &[i64], part: bool) {
+    let mut text = [0u8; 64];
+    let written = judging::finish(judging, table, part, &mut text);
+    match written {
+        Written::Refused(_) => {}
+        Written::Bytes(n) => write_first(&text, n),
+    }
+}
+
+fn run(buf: &mut [u8], table: &mut [i64], first: usize)
+    requires { ⌜ first ≤ length (now buf) ⌝ }
+{
+    let state = judge(buf, table, first);
+    let judging = state.judging;
+    print(judging, table, state.held != 0);
+}
+
+fn main() {
+    let mut space = buffer();
+    let buf: &mut [u8] = &mut space;
+    let mut weights = weights();
+    let first = fill(buf, 0);
+    let long = table_length(&buf[0..first]);
+    run(buf, &mut weights[0..long], first);
+}
