@@ -22,9 +22,9 @@ use Rattle.theory.proofs.Replays.{none-iff}
 use Rattle.consistency.specs.Active.{activeSet, activeRow, activeSets, activeRows, tooShort, activeRefusal, setsAfter, rowsAfter}
 use Rattle.consistency.specs.Tried.{triedAnswer}
 use Rattle.consistency.specs.declared.Tried.{Tried}
-use Rattle.consistency.specs.declared.Tried.the-variants.{Malformed, Refuted, Supported}
+use Rattle.consistency.specs.declared.Tried.the-variants.{Refuted, Supported}
 use Rattle.consistency.proofs.Refutation.{Bytes, tried-active}
-use Rattle.engine.specs.Search.{isRaised, Prepared, Allowing, refutesIn}
+use Rattle.engine.specs.Search.{saysRefuted, isRaised, Prepared, Allowing, refutesIn}
 
 -- ---- what `active_marks` leaves
 
@@ -102,14 +102,6 @@ module _ (c : Case) (w : List ℤ) {acts rows : List ℕ} (raised sets : List �
       ∙ tried-active c w (p .handed) (isRaised raised) rows (edgesOf c raised) (take (c .n) sets) bytes i g
 
 -- the answer says it
-pub refuted-says : (b : Bool) → Refuted ≡ (if b then Refuted else Supported) → true ≡ b
-refuted-says true e = refl
-refuted-says false e = cc
-
-pub supported-says : (b : Bool) → Supported ≡ (if b then Refuted else Supported) → false ≡ b
-supported-says true e = cc
-supported-says false e = refl
-
-pub malformed-not : (b : Bool) → Malformed ≡ (if b then Refuted else Supported) → false ≡ b
-malformed-not true e = cc
-malformed-not false e = refl
+pub refuted-says : (b : Bool) → saysRefuted (if b then Refuted else Supported) ≡ b
+refuted-says true = refl
+refuted-says false = refl

@@ -1,5 +1,6 @@
 -- Laws that the functions' proofs share.
 mod Raising
+mod Narrowed
 mod Asking
 mod Choice
 mod Trims

@@ -1,12 +1,13 @@
 -- Raised scopes and sets of values as bytes, and what the search for a press may take as known. Assumes nothing.
 use mathlib.Core.Path.{_≡_}
 use mathlib.Core.Bool.{Bool, true, false, not, _&&_}
+use mathlib.Core.Logic.{_≢_}
 use mathlib.Core.Option.{Option, none, some}
 use mathlib.Core.List.{List}
 use Prim.Native.Nat.{ℕ, _+_, _*_, _≤_, _<_}
 use lib.IntN.{ℤ}
-use lib.Dec.{T, eqb, leb, ltb}
-use lib.ListN.{length, getD}
+use lib.Dec.{T, eqb}
+use lib.ListN.{length, getD, set}
 use Rattle.integers.specs.Words.{if_then_else_, those}
 use Rattle.definitions.specs.declared.Case.{Case}
 use Rattle.definitions.specs.Rules.{standard}
@@ -18,7 +19,13 @@ use Rattle.definitions.specs.Engine.{chosen, keptScopes}
 use Rattle.theory.proofs.Validity.{Handed}
 use Rattle.marks.specs.Marks.{fullOf}
 use Rattle.consistency.specs.Active.{activeSet, activeRow}
+use Rattle.consistency.specs.declared.Tried.{Tried}
 use Rattle.engine.specs.declared.Chosen.{Chosen}
+
+abbrev pub saysRefuted : Tried → Bool
+saysRefuted Tried.Refuted = true
+saysRefuted Tried.Supported = false
+saysRefuted Tried.Malformed = false
 
 -- scope x is raised
 abbrev pub isRaised : List ℕ → ℕ → Bool
@@ -55,14 +62,6 @@ abbrev pub ChosenIn : Case → Chosen → Type 0
 ChosenIn c Chosen.Nothing = T true
 ChosenIn c (Chosen.Variable i) = i < c .n
 
--- y is one of the scopes from x up to `end`
-abbrev pub isBetween : ℕ → ℕ → ℕ → Bool
-isBetween x end y = leb x y && ltb y end
-
--- from x on all others are raised
-abbrev pub OthersFrom : Case → ℕ → ℕ → List ℕ → Type 0
-OthersFrom c i x raised = (y : ℕ) → x ≤ y → y < scopeCount c → isRaised raised y ≡ not (eqb y i)
-
 -- the variable that was chosen, with all other scopes raised
 abbrev pub ChosenIs : Case → List ℤ → List ℕ → List ℕ → Chosen → Type 0
 ChosenIs c w raised sets Chosen.Nothing = chosen c w ≡ none
@@ -73,7 +72,7 @@ abbrev pub FoundIs : Case → List ℤ → List ℕ → Chosen → Type 0
 FoundIs c w raised Chosen.Nothing = chosen c w ≡ none
 FoundIs c w raised (Chosen.Variable i) = (chosen c w ≡ some i) × (those (isRaised raised) (scopes c) ≡ keptScopes c w i)
 
--- the scopes from x up to `end` were dropped, unless the values are not refuted without them
-pub record Dropped (c : Case) (w : List ℤ) (i x end : ℕ) (before after : List ℕ) (dropped : Bool) : Type 0 where
-  pub says : dropped ≡ allRefuted c w (λ y. isRaised before y && not (isBetween x end y)) i (activeValues c w i)
-  pub leaves : (y : ℕ) → y < scopeCount c → isRaised after y ≡ (if dropped then isRaised before y && not (isBetween x end y) else isRaised before y)
+-- scope x was dropped, unless the values are not refuted without it
+pub record Dropped (c : Case) (w : List ℤ) (i x : ℕ) (before after : List ℕ) : Type 0 where
+  pub here : isRaised after x ≡ (isRaised before x && not (refutesIn c w i (set before x 0)))
+  pub elsewhere : (y : ℕ) → y ≢ x → isRaised after y ≡ isRaised before y

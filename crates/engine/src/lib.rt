@@ -9,10 +9,10 @@ use definitions::Run;
 use definitions::RunAnswer;
 ghost use mathlib.Core.Path.{_≡_};
 ghost use mathlib.Core.Option.{some};
-ghost use mathlib.Core.Bool.{false, not, _&&_, _||_};
+ghost use mathlib.Core.Bool.{not};
 ghost use mathlib.Core.List.{List, _++_};
 ghost use Prim.Native.Nat.{ℕ, _+_, _*_, _≤_, _<_};
-ghost use lib.Dec.{T, eqb, ltb};
+ghost use lib.Dec.{T, ltb};
 ghost use lib.IntN.{ℤ, pos};
 ghost use lib.ListN.{length, getD, set};
 ghost use Rattle.integers.specs.Words.{if_then_else_, all};
@@ -26,7 +26,8 @@ ghost use Rattle.definitions.specs.Engine.{chosen, keptScopes, leastGap, roundB
 ghost use Rattle.definitions.specs.EngineCalls.{roundCall, runCall};
 ghost use Rattle.theory.proofs.Validity.{Handed};
 ghost use Rattle.figures.specs.Scopes.{Limited, sizeOf, BestOf};
-ghost use Rattle.engine.specs.Search.{isRaised, isBetween, ActiveIn, Prepared, Allowing, refutesIn, AllRaised, OthersRaised, OthersFrom, ChosenIn, ChosenIs, FoundIs, Dropped};
+ghost use Rattle.consistency.specs.Tried.{triedAnswer};
+ghost use Rattle.engine.specs.Search.{saysRefuted, ActiveIn, Prepared, Allowing, refutesIn, AllRaised, OthersRaised, ChosenIn, ChosenIs, FoundIs, Dropped};
 ghost use Rattle.engine.specs.Gaps.{limits, lesserGap, lessGaps};
 ghost use Rattle.engine.specs.Texts.{raisedFrom, raisedBelow, raiseTexts, pressLine, pressText};
 ghost use Rattle.engine.specs.Rounds.{Pressed, MadeRound, RunIs, limitAnswer, stoppedRun, engineRefusalOf};
@@ -45,6 +46,37 @@ enum Chosen {
 
 // ---- which press
 
+fn is_refuted(tried: Tried) -> bool
+    ensures { λ r. ⌜ r ≡ saysRefuted tried ⌝ }
+{
+    match tried {
+        Tried::Refuted => true,
+        Tried::Supported => false,
+        Tried::Malformed => false,
+    }
+}
+
+// Whether none of these values has a family. The sets are narrowed once in `work`, before a value is fixed.
+fn none_has_family(
+    case: Case,
+    rows: &[u8],
+    edges: &[u8],
+    sets: &[u8],
+    work: &mut [u8],
+    variable: usize,
+    values: u8,
+) -> bool
+    requires { ⌜ (length (now work) ≡ length (now sets)) × (variable < length (now sets)) ⌝ }
+    ensures { λ r. ⌜ r ≡ saysRefuted (triedAnswer (case .lower) (case .upper) (now (rows .entry)) (now (edges .entry)) (now (sets .entry)) variable values) ⌝ }
+{
+    let lower = case.lower;
+    let upper = case.upper;
+    copy_sets(sets, work, sets.len());
+    consistency::closure(&lower, &upper, rows, edges, work);
+    let tried = consistency::all_refuted(&lower, &upper, rows, edges, work, variable, values);
+    is_refuted(tried)
+}
+
 // Whether the active values of the variable are all refuted.
 fn refutes(
     case: Case,
@@ -54,28 +86,22 @@ fn refutes(
     sets: &[u8],
     variable: usize,
 ) -> bool
-    requires { ⌜ (scopeCount case ≤ length (now raised)) × (case .n ≤ length (now sets)) × (case .n ≤ length (now acts)) × (variable < case .n) ⌝ }
+    requires { ⌜ (scopeCount case ≤ length (now raised)) × (case .n ≤ length (now sets)) × (case .n ≤ length (now acts)) × (variable < case .n) × (case .n ≤ 48) ⌝ }
     ensures { λ r. ⌜ ((w : List ℤ) → Prepared case w (now (acts .entry)) (now (rows .entry)) → Allowing case w (now (raised .entry)) (now (sets .entry)) → r ≡ refutesIn case w variable (now (raised .entry))) ⌝ }
 {
     let n = case.n;
     let end = n + case.m;
-    let lower = case.lower;
-    let upper = case.upper;
     let values = acts[variable];
-    let tried = consistency::all_refuted(
-        &lower,
-        &upper,
+    let mut work = [0u8; 48];
+    none_has_family(
+        case,
         rows,
         &raised[n..end],
         &sets[..n],
+        &mut work[..n],
         variable,
         values,
-    );
-    match tried {
-        Tried::Refuted => true,
-        Tried::Supported => false,
-        Tried::Malformed => false,
-    }
+    )
 }
 
 fn lower_scope(case: Case, raised: &mut [u8], sets: &mut [u8], x: usize)
@@ -100,7 +126,7 @@ fn raise_scope(case: Case, acts: &[u8], raised: &mut [u8], sets: &mut [u8], x: u
 
 // The lowest variable whose active values are refuted with all other scopes raised, which are left so.
 fn choose(case: Case, acts: &[u8], rows: &[u8], raised: &mut [u8], sets: &mut [u8]) -> Chosen
-    requires { ⌜ (scopeCount case ≤ length (now raised)) × (case .n ≤ length (now sets)) × (case .n ≤ length (now acts)) × (case .d ≤ 8) ⌝ }
+    requires { ⌜ (scopeCount case ≤ length (now raised)) × (case .n ≤ length (now sets)) × (case .n ≤ length (now acts)) × (case .d ≤ 8) × (case .n ≤ 48) ⌝ }
     ensures { λ r. ⌜ ChosenIn case r × ((w : List ℤ) → Prepared case w (now (acts .entry)) (now (rows .entry)) → AllRaised case (now (raised .entry)) → Allowing case w (now (raised .entry)) (now (sets .entry)) → ChosenIs case w (now (raised .exit)) (now (sets .exit)) r) ⌝ }
 {
     let n = case.n;
@@ -116,57 +142,8 @@ fn choose(case: Case, acts: &[u8], rows: &[u8], raised: &mut [u8], sets: &mut [u
     Chosen::Nothing
 }
 
-// Takes the scopes from x up to `end` out.
-fn lower_scopes(case: Case, raised: &mut [u8], sets: &mut [u8], x: usize, end: usize)
-    requires { ⌜ (x ≤ end) × (end ≤ length (now raised)) × (case .n ≤ length (now sets)) × (case .d ≤ 8) ⌝ }
-    ensures { λ _. ⌜ ((y : ℕ) → isRaised (now (raised .exit)) y ≡ (isRaised (now (raised .entry)) y && not (isBetween x end y))) × ((w : List ℤ) → Allowing case w (now (raised .entry)) (now (sets .entry)) → Allowing case w (now (raised .exit)) (now (sets .exit))) ⌝ }
-{
-    let mut y = x;
-    while y < end {
-        lower_scope(case, raised, sets, y);
-        y += 1;
-    }
-}
-
-fn raise_other(
-    case: Case,
-    acts: &[u8],
-    raised: &mut [u8],
-    sets: &mut [u8],
-    variable: usize,
-    x: usize,
-)
-    requires { ⌜ (x < length (now raised)) × (case .n ≤ length (now sets)) × (case .n ≤ length (now acts)) ⌝ }
-    ensures { λ _. ⌜ ((y : ℕ) → isRaised (now (raised .exit)) y ≡ (isRaised (now (raised .entry)) y || (eqb y x && not (eqb y variable)))) × ((w : List ℤ) → ActiveIn case w (now (acts .entry)) → Allowing case w (now (raised .entry)) (now (sets .entry)) → Allowing case w (now (raised .exit)) (now (sets .exit))) ⌝ }
-{
-    if x == variable {
-        return;
-    }
-    raise_scope(case, acts, raised, sets, x);
-}
-
-// Raises the scopes from x up to `end`, but for the variable's own.
-fn raise_scopes(
-    case: Case,
-    acts: &[u8],
-    raised: &mut [u8],
-    sets: &mut [u8],
-    variable: usize,
-    x: usize,
-    end: usize,
-)
-    requires { ⌜ (x ≤ end) × (end ≤ length (now raised)) × (case .n ≤ length (now sets)) × (case .n ≤ length (now acts)) ⌝ }
-    ensures { λ _. ⌜ ((y : ℕ) → isRaised (now (raised .exit)) y ≡ (isRaised (now (raised .entry)) y || (isBetween x end y && not (eqb y variable)))) × ((w : List ℤ) → ActiveIn case w (now (acts .entry)) → Allowing case w (now (raised .entry)) (now (sets .entry)) → Allowing case w (now (raised .exit)) (now (sets .exit))) ⌝ }
-{
-    let mut y = x;
-    while y < end {
-        raise_other(case, acts, raised, sets, variable, y);
-        y += 1;
-    }
-}
-
-// Drops the scopes from x up to `end`, unless the values are not refuted without them.
-fn drop_scopes(
+// Drops scope x, unless the values are not refuted without it.
+fn drop_scope(
     case: Case,
     acts: &[u8],
     rows: &[u8],
@@ -174,61 +151,22 @@ fn drop_scopes(
     sets: &mut [u8],
     variable: usize,
     x: usize,
-    end: usize,
-) -> bool
+)
     requires { ⌜ (scopeCount case ≤ length (now raised)) × (case .n ≤ length (now sets)) × (case .n ≤ length (now acts)) × (case .d ≤ 8) ⌝ }
-    requires { ⌜ (variable < case .n) × (x ≤ end) × (end ≤ scopeCount case) ⌝ }
-    ensures { λ r. ⌜ ((w : List ℤ) → Prepared case w (now (acts .entry)) (now (rows .entry)) → Allowing case w (now (raised .entry)) (now (sets .entry)) → OthersFrom case variable x (now (raised .entry)) → Allowing case w (now (raised .exit)) (now (sets .exit)) × Dropped case w variable x end (now (raised .entry)) (now (raised .exit)) r) ⌝ }
+    requires { ⌜ (variable < case .n) × (x < scopeCount case) × (case .n ≤ 48) ⌝ }
+    ensures { λ _. ⌜ ((w : List ℤ) → Prepared case w (now (acts .entry)) (now (rows .entry)) → Allowing case w (now (raised .entry)) (now (sets .entry)) → Allowing case w (now (raised .exit)) (now (sets .exit)) × Dropped case w variable x (now (raised .entry)) (now (raised .exit))) ⌝ }
 {
-    lower_scopes(case, raised, sets, x, end);
+    if raised[x] == 0 {
+        return;
+    }
+    lower_scope(case, raised, sets, x);
     if refutes(case, acts, rows, raised, sets, variable) {
-        return true;
+        return;
     }
-    raise_scopes(case, acts, raised, sets, variable, x, end);
-    false
+    raise_scope(case, acts, raised, sets, x);
 }
 
-fn end_of(x: usize, step: usize, scopes: usize) -> usize
-    requires { ⌜ (x < scopes) × (1 ≤ step) ⌝ }
-    ensures { λ r. ⌜ (x < r) × (r ≤ scopes) × (step ≡ 1 → r ≡ x + 1) ⌝ }
-{
-    if scopes - x <= step {
-        return scopes;
-    }
-    x + step
-}
-
-fn next_place(x: usize, end: usize, dropped: bool) -> usize
-    requires { ⌜ x < end ⌝ }
-    ensures { λ r. ⌜ r ≡ (if dropped || eqb end (x + 1) then end else x) ⌝ }
-{
-    if dropped {
-        return end;
-    }
-    if end - x == 1 {
-        return end;
-    }
-    x
-}
-
-// Twice as many scopes are tried next where some were dropped, and half as many where not.
-fn next_step(step: usize, dropped: bool) -> usize
-    requires { ⌜ (1 ≤ step) × (step ≤ 64) ⌝ }
-    ensures { λ r. ⌜ (1 ≤ r) × (r ≤ 64) × (dropped ≡ false → 1 < step → r < step) ⌝ }
-{
-    if dropped {
-        if step <= 32 {
-            return step * 2;
-        }
-        return step;
-    }
-    if 1 < step {
-        return step / 2;
-    }
-    1
-}
-
-// Upwards through the raised scopes, several at a time: scopes that can be dropped together can be dropped one after another.
+// Upwards through the raised scopes.
 fn trim(case: Case, acts: &[u8], rows: &[u8], raised: &mut [u8], sets: &mut [u8], variable: usize)
     requires { ⌜ (scopeCount case ≤ length (now raised)) × (case .n ≤ length (now sets)) × (case .n ≤ length (now acts)) × (case .d ≤ 8) ⌝ }
     requires { ⌜ (variable < case .n) × (case .n ≤ 48) × (case .m ≤ 96) ⌝ }
@@ -236,12 +174,9 @@ fn trim(case: Case, acts: &[u8], rows: &[u8], raised: &mut [u8], sets: &mut [u8]
 {
     let scopes = case.n + case.m;
     let mut x: usize = 0;
-    let mut step: usize = 1;
     while x < scopes {
-        let end = end_of(x, step, scopes);
-        let dropped = drop_scopes(case, acts, rows, raised, sets, variable, x, end);
-        step = next_step(step, dropped);
-        x = next_place(x, end, dropped);
+        drop_scope(case, acts, rows, raised, sets, variable, x);
+        x += 1;
     }
 }
 

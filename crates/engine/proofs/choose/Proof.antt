@@ -38,7 +38,7 @@ refutes-requires c κs =
     let l = c .before .before .before .before .before .before .before .before .before .before in
     let s = c .before .before .before .before .before .before .before .before .before .before .before .before .before .before .before in
     let k = c .before .before .before .before .before .before .lower-scope .kept in
-    (omega (arith, l .loop .inv, s .pre, k .1 .0), omega (arith, l .loop .inv, s .pre, k .1 .1 .0), s .pre .2, c .before .before .before .before .before .before .before .before .before .loop-test .taken)
+    (omega (arith, l .loop .inv, s .pre, k .1 .0), omega (arith, l .loop .inv, s .pre, k .1 .1 .0), s .pre .2, c .before .before .before .before .before .before .before .before .before .loop-test .taken, s .pre .4)
 
 same-length : tie.Need-same-length Inv-loop μ-loop
 same-length c = c .before .before .before .before .before .before .before .before .lower-scope .kept .1 .0 ∙ c .before .before .before .before .before .before .before .before .before .before .before .before .loop .inv .1

@@ -22,7 +22,7 @@ slice-aggregate-choose : tie.Need-slice-aggregate-choose
 slice-aggregate-choose c = search needs
 
 choose-requires : tie.Need-choose-requires
-choose-requires c κs = let s = c .before .before .before .before .before .before .before .before in (s .pre .0, omega (arith, s .pre .2, c .before .before .before .copy-sets .kept .1 .0), s .pre .1, s .pre .3)
+choose-requires c κs = let s = c .before .before .before .before .before .before .before .before in (s .pre .0, omega (arith, s .pre .2, c .before .before .before .copy-sets .kept .1 .0), s .pre .1, s .pre .3, s .pre .2)
 
 -- what was chosen
 chose : (c : tie.After-choose) → let s = c .before .before .before .before .before .before .before .before .before in let a = s .args in (w : List ℤ) → Prepared (a .case) w (now (a .acts)) (now (a .rows)) → AllRaised (a .case) (now (a .raised))
