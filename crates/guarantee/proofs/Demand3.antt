@@ -1,6 +1,7 @@
 -- Demand 3 holds for every valid case: the replay's half from checker_theory, the run's from engine_theory. Assumes nothing.
-use mathlib.Core.Path.{_≡_, refl, sym, ap, _∙_}
+use mathlib.Core.Path.{_≡_, refl, sym, ap, subst, _∙_}
 use mathlib.Core.Bool.{false}
+use mathlib.Core.Option.{Option, none, some}
 use mathlib.Core.List.{List, []}
 use Prim.Native.Nat.{ℕ, _≤_}
 use lib.IntN.{ℤ, pos, _-ℤ_, _+ℤ_}
@@ -8,24 +9,56 @@ use lib.Dec.{T}
 use lib.Signed.{_≤ℤ_}
 use lib.ListN.{length}
 use Rattle.integers.specs.Linear.{flat, zs, _▸_}
+use Rattle.definitions.specs.declared.Refusal.{Refusal}
+use Rattle.definitions.specs.declared.Figure.{Figure}
+use Rattle.definitions.specs.declared.Round.{Round}
+use Rattle.definitions.specs.Refusals.{firstOf}
+use Rattle.definitions.specs.Calls.{figureOf, upperBoundAnswer}
 use Rattle.definitions.specs.declared.Case.{Case}
 use Rattle.definitions.specs.Rules.{Rules, Coherent, standard, standard-coherent}
 use Rattle.definitions.specs.Case.{objective, upperBound}
-use Rattle.definitions.specs.Valid.{workingWeight, valid}
+use Rattle.definitions.specs.Valid.{workingWeight, handedOver, valid}
 use Rattle.definitions.specs.Lines.{linesIn, hasPart}
 use Rattle.definitions.specs.Replay.{State, fresh, after}
-use Rattle.definitions.specs.Engine.{engineNext, roundBytes, RunOf, run}
-use Rattle.definitions.specs.EngineCalls.{RunCall, runCall}
+use Rattle.definitions.specs.Engine.{Made, settled, refused, made, makeNext, engineNext, roundBytes, RunOf, run}
+use Rattle.definitions.specs.EngineCalls.{RoundCall, RunCall, roundMade, engineRefusal, roundCall, runCall}
 use Rattle.definitions.proofs.LineLaws.{no-part}
-use Rattle.theory.proofs.Validity.{Handed}
-use Rattle.theory.proofs.Replays.{keeps-iff, handed-after}
+use Rattle.theory.proofs.Validity.{Handed, handed}
+use Rattle.theory.proofs.Replays.{none-iff, keeps-iff, handed-after}
 use Rattle.theory.proofs.Rounds.{MoveKinds, standard-kinds}
 use Rattle.checker.specs.Checker.{afterLines}
 use Rattle.checker_theory.specs.Lists.{begun}
 use Rattle.checker_theory.proofs.Accepts.{ReplayFold, replay-fold}
 use Rattle.engine_theory.proofs.Runs.{engine-lawful, engine-free, run-settled, run-limit, run-log-taken, run-log-ends, run-never-refused, run-settles, run-tallied, run-ends, ends-within}
-use Rattle.engine_theory.proofs.Calls.{run-made, run-settled-first, run-refused-first, run-no-round, texts-joined, texts-count, taken-iff, same-run, call-lines, call-bound-lines}
-use Rattle.guarantee.specs.Demand3.{LinesTrusted, RunTrusted, RunIterates, Demand3}
+use Rattle.engine_theory.proofs.Calls.{call-taken, call-refused, unmade-keeps, run-made, run-settled-first, run-refused-first, run-no-round, texts-joined, texts-count, taken-iff, same-run, call-lines, call-bound-lines}
+use Rattle.guarantee.specs.Demand3.{LinesTrusted, RunTrusted, RunIterates, Demand3, Guarantee}
+
+-- the library's upper bound of a table that every call takes
+bound-answered : {r : Rules} (c : Case) (v : List ℤ) → Handed r (workingWeight r) c v → upperBoundAnswer r c v ≡ Figure.Value (upperBound c v)
+unfolding upperBoundAnswer
+bound-answered {r} c v h = ap (λ (o : Option Refusal). figureOf o (upperBound c v)) (none-iff (firstOf (handedOver r (workingWeight r) c v false false)) .0 (handed r (workingWeight r) c v false false .1 (h, tt, tt)))
+
+-- what a round that was made hands back
+abbrev statedBound : Round → ℤ
+statedBound Round.Settled = pos 0
+statedBound (Round.Made bytes bound) = bound
+statedBound (Round.Refused x) = pos 0
+
+module _ (r : Rules) (c : Case) (w : List ℤ) (out : List ℕ) (bytes : ℕ) (bound : ℤ) where
+  abbrev Stated : RoundCall → Type 0
+  Stated u = u .answer ≡ Round.Made bytes bound → bound ≡ upperBound c (u .table)
+
+  made-states : (m : Made) → Stated (roundMade r engineNext c w out m)
+  made-states settled e = cc
+  made-states (refused x) e = cc
+  made-states (made v lines) e = sym (ap statedBound e)
+
+  round-states : Stated (roundCall r engineNext c w out)
+  round-states = asked (engineRefusal r engineNext c w out) refl
+    where
+      asked : (o : Option Refusal) → engineRefusal r engineNext c w out ≡ o → Stated (roundCall r engineNext c w out)
+      asked none f = subst Stated (sym (call-taken r engineNext c w out f)) (made-states (makeNext r c w (engineNext c w)))
+      asked (some x) f = subst Stated (sym (call-refused r engineNext c w out f)) (made-states (refused x))
 
 pub engine-iterates : {r : Rules} → Coherent r → (c : Case) → RunIterates r c
 engine-iterates {r} coherent c = record {
@@ -33,6 +66,8 @@ engine-iterates {r} coherent c = record {
   settled = run-settled-first r engineNext c;
   refused = run-refused-first r engineNext c;
   no-round = run-no-round r engineNext c;
+  round-bound = λ w out {bytes} {bound}. round-states r c w out bytes bound;
+  unmade = λ w out. unmade-keeps r engineNext c w out;
   bound-lines = call-bound-lines coherent (engine-lawful coherent c);
 }
 
@@ -45,7 +80,7 @@ module _ {r : Rules} (coherent : Coherent r) (kinds : MoveKinds r) (c : Case) (w
     each-answer = fold .each-answer ts;
     end-answer = fold .end-answer ts;
     weights = fold .weights ts;
-    bound = fold .bound ts;
+    bound = rw (fold .weights ts) (bound-answered c (after r (fresh c w) ts .weights) (handed-after r c w t ts coherent));
     rounds = fold .rounds ts;
     accepted = fold .accepted ts;
     total-least = fold .total-least ts;
@@ -95,5 +130,5 @@ module _ {r : Rules} (coherent : Coherent r) (kinds : MoveKinds r) (c : Case) (w
   demand3 = record { any-lines = lines-trusted; any-run = run-trusted; any-table = engine-iterates coherent c }
 
 -- with document 01's numbers, for every valid case
-pub standard-demand3 : (c : Case) (w : List ℤ) → T (valid standard c w) → Demand3 standard c w
+pub standard-demand3 : Guarantee
 standard-demand3 = demand3 standard-coherent (standard-kinds standard refl)

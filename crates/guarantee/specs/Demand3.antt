@@ -14,9 +14,12 @@ use lib.ListN.{length, take}
 use Rattle.integers.specs.Words.{joined}
 use Rattle.definitions.specs.declared.Case.{Case}
 use Rattle.definitions.specs.declared.Refusal.{Refusal}
+use Rattle.definitions.specs.declared.Figure.{Figure}
+use Rattle.definitions.specs.Calls.{upperBoundAnswer}
 use Rattle.definitions.specs.declared.Round.{Round}
 use Rattle.definitions.specs.declared.RunAnswer.{RunAnswer}
-use Rattle.definitions.specs.Rules.{Rules}
+use Rattle.definitions.specs.Rules.{Rules, standard}
+use Rattle.definitions.specs.Valid.{valid}
 use Rattle.definitions.specs.Answers.{outcomeOf}
 use Rattle.definitions.specs.Case.{isAssignment, objective, upperBound}
 use Rattle.definitions.specs.Lines.{linesIn, hasPart}
@@ -36,7 +39,7 @@ pub record LinesTrusted (r : Rules) (c : Case) (w : List ℤ) (ts : List (List �
   pub end-answer : endReplay r c (b .replay) ≡ outcomeOf (atEnd (after r (fresh c w) ts))
   -- "and then the working weights, their ceiling and the rounds are those of document 01's plain replay,"
   pub weights : b .table ≡ after r (fresh c w) ts .weights
-  pub bound : upperBound c (b .table) ≡ upperBound c (after r (fresh c w) ts .weights)
+  pub bound : upperBoundAnswer r c (b .table) ≡ Figure.Value (upperBound c (after r (fresh c w) ts .weights))
   pub rounds : b .replay .rounds ≡ after r (fresh c w) ts .rounds
   -- "and the list is accepted exactly when it keeps the line rules." (L3)
   pub accepted : Accepted r c w ts ↔ T (keepsRules r c w ts)
@@ -90,6 +93,11 @@ pub record RunIterates (r : Rules) (c : Case) : Type 0 where
   pub refused : (limit : ℕ) (w : List ℤ) (out : List ℕ) {x : Refusal} → roundCall r engineNext c w out .answer ≡ Round.Refused x
       → runCall r engineNext c (suc limit) w out ≡ stopRun r engineNext c (RunAnswer.Refused x) 0 w out []
   pub no-round : (w : List ℤ) (out : List ℕ) → runCall r engineNext c 0 w out ≡ stopRun r engineNext c (answerAtLimit (roundCall r engineNext c w out .answer)) 0 w out []
+  -- a round that was made hands back the upper bound of the table that it left; settled or refused, it leaves table and output as they were
+  pub round-bound : (w : List ℤ) (out : List ℕ) {bytes : ℕ} {bound : ℤ} → roundCall r engineNext c w out .answer ≡ Round.Made bytes bound
+      → bound ≡ upperBound c (roundCall r engineNext c w out .table)
+  pub unmade : (w : List ℤ) (out : List ℕ) → ((bytes : ℕ) (bound : ℤ) → roundCall r engineNext c w out .answer ≡ Round.Made bytes bound → ⊥)
+      → (roundCall r engineNext c w out .table ≡ w) × (roundCall r engineNext c w out .out ≡ out)
   -- its rounds are as many as the bound lines written
   pub bound-lines : (limit : ℕ) (w : List ℤ) (out : List ℕ)
       → length (boundLines r (linesIn (r .amountWidth) (runCall r engineNext c limit w out .log))) ≡ runCall r engineNext c limit w out .run .rounds
@@ -101,3 +109,7 @@ pub record Demand3 (r : Rules) (c : Case) (w : List ℤ) : Type 0 where
   pub any-run : (limit : ℕ) (out : List ℕ) → roundBytes r c ≤ length out
       → RunTrusted r c w limit out (run r engineNext c limit w) (runCall r engineNext c limit w out) (linesIn (r .amountWidth) (runCall r engineNext c limit w out .log))
   pub any-table : RunIterates r c
+
+-- "For every valid case", with document 01's numbers
+abbrev pub Guarantee : Type 0
+Guarantee = (c : Case) (w : List ℤ) → T (valid standard c w) → Demand3 standard c w
