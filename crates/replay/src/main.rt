@@ -8,8 +8,9 @@ use judging::Judging;
 use libc::STDIN_FILENO;
 use libc::STDOUT_FILENO;
 ghost use mathlib.Core.Path.{_≡_};
-ghost use Prim.Native.Nat.{_-_, _≤_, _%_};
+ghost use Prim.Native.Nat.{_-_, _≤_, _<_};
 ghost use lib.ListN.{length, take, drop};
+ghost use Rattle.replay.specs.Turns.{lineBytes, caseBytes, Turns, Goes, Judges};
 
 const LINE: usize = 27;
 
@@ -38,7 +39,7 @@ fn weights() -> [i64; 6528]
 // One read to the bytes from `at` on, and where the bytes then end.
 fn read_more(buf: &mut [u8], at: usize) -> usize
     requires { ⌜ at ≤ length (now buf) ⌝ }
-    ensures { λ r. ⌜ (at ≤ r) × (r ≤ length (now (buf .exit))) ⌝ }
+    ensures { λ r. ⌜ (at ≤ r) × (r ≤ length (now (buf .exit))) × (take at (now (buf .exit)) ≡ take at (now (buf .entry))) ⌝ }
 {
     let part = &mut buf[at..];
     let got = libc::read(STDIN_FILENO, part);
@@ -48,7 +49,7 @@ fn read_more(buf: &mut [u8], at: usize) -> usize
 // Reads to the bytes from `from` on until the buffer is full or the input ends, and answers where the bytes end.
 fn fill(buf: &mut [u8], from: usize) -> usize
     requires { ⌜ from ≤ length (now buf) ⌝ }
-    ensures { λ r. ⌜ (from ≤ r) × (r ≤ length (now (buf .exit))) ⌝ }
+    ensures { λ r. ⌜ (from ≤ r) × (r ≤ length (now (buf .exit))) × (take from (now (buf .exit)) ≡ take from (now (buf .entry))) ⌝ }
 {
     let mut at = from;
     while at < buf.len() {
@@ -78,7 +79,7 @@ fn to_front(buf: &mut [u8], from: usize, to: usize) -> usize
 // Hands over the whole lines from byte `from` to byte `to`.
 fn turn(judging: Judging, table: &mut [i64], buf: &mut [u8], from: usize, to: usize) -> Turned
     requires { ⌜ (from ≤ to) × (to ≤ length (now buf)) ⌝ }
-    ensures { λ r. ⌜ r .held ≤ length (now (buf .exit)) ⌝ }
+    ensures { λ r. ⌜ Turns judging (now (table .entry)) (take (to - from) (drop from (now (buf .entry)))) r (now (table .exit)) (now (buf .exit)) ⌝ }
 {
     let end = to - (to - from) % LINE;
     let next = judging::block(judging, table, &buf[from..end]);
@@ -91,7 +92,7 @@ fn turn(judging: Judging, table: &mut [i64], buf: &mut [u8], from: usize, to: us
 
 // The bytes of the case at the front of the input's first `most` bytes: all of these where it was refused.
 fn case_bytes(answer: FileAnswer, most: usize) -> usize
-    ensures { λ r. ⌜ r ≤ most ⌝ }
+    ensures { λ r. ⌜ (r ≡ caseBytes answer most) × (r ≤ most) ⌝ }
 {
     match answer {
         FileAnswer::Refused {
@@ -108,15 +109,13 @@ fn case_bytes(answer: FileAnswer, most: usize) -> usize
     }
 }
 
-// Judges the whole input, whose first `first` bytes stand in the buffer. A buffer that is not full is the last.
-fn judge(buf: &mut [u8], table: &mut [i64], first: usize) -> Turned
-    requires { ⌜ first ≤ length (now buf) ⌝ }
+// Reads on and judges until the input ends; a buffer that was not filled was the last. The bytes of a part line stand at the buffer's front.
+fn go_on(first: Turned, table: &mut [i64], buf: &mut [u8], filled: usize) -> Turned
+    requires { ⌜ (first .held ≤ length (now buf)) × (first .held < lineBytes) ⌝ }
+    ensures { λ r. ⌜ Goes (record { judging = first .judging; table = now (table .entry) }) (take (first .held) (now (buf .entry))) (filled < length (now (buf .entry))) r (now (table .exit)) (now (buf .exit)) ⌝ }
 {
-    let begun = judging::start(&buf[0..first], table);
-    let answer = begun.answer;
-    let from = case_bytes(answer, first);
-    let mut state = turn(begun, table, buf, from, first);
-    let mut to = first;
+    let mut state = first;
+    let mut to = filled;
     let mut turns = u64::MAX;
     while turns > 0 {
         if to < buf.len() {
@@ -129,6 +128,18 @@ fn judge(buf: &mut [u8], table: &mut [i64], first: usize) -> Turned
         turns -= 1;
     }
     state
+}
+
+// Judges the whole input, whose first bytes stand in the buffer.
+fn judge(buf: &mut [u8], table: &mut [i64], filled: usize) -> Turned
+    requires { ⌜ filled ≤ length (now buf) ⌝ }
+    ensures { λ r. ⌜ Judges (take filled (now (buf .entry))) (now (table .entry)) (filled < length (now (buf .entry))) r (now (table .exit)) ⌝ }
+{
+    let begun = judging::start(&buf[0..filled], table);
+    let answer = begun.answer;
+    let from = case_bytes(answer, filled);
+    let first = turn(begun, table, buf, from, filled);
+    go_on(first, table, buf, filled)
 }
 
 // The length of the table that the head of the case asks for.
@@ -162,10 +173,10 @@ fn print(judging: Judging, table: &[i64], part: bool) {
     }
 }
 
-fn run(buf: &mut [u8], table: &mut [i64], first: usize)
-    requires { ⌜ first ≤ length (now buf) ⌝ }
+fn run(buf: &mut [u8], table: &mut [i64], filled: usize)
+    requires { ⌜ filled ≤ length (now buf) ⌝ }
 {
-    let state = judge(buf, table, first);
+    let state = judge(buf, table, filled);
     let judging = state.judging;
     print(judging, table, state.held != 0);
 }
@@ -174,7 +185,7 @@ fn main() {
     let mut space = buffer();
     let buf: &mut [u8] = &mut space;
     let mut weights = weights();
-    let first = fill(buf, 0);
-    let long = table_length(&buf[0..first]);
-    run(buf, &mut weights[0..long], first);
+    let filled = fill(buf, 0);
+    let long = table_length(&buf[0..filled]);
+    run(buf, &mut weights[0..long], filled);
 }

@@ -1,93 +1,82 @@
--- The part line fits the buffer. The measure is the number of turns that are left. Assumes nothing.
-use mathlib.Core.Path.{_≡_, _∙_}
-use Prim.Native.Nat.{_≤_}
+-- The start, the first turn, and the others. Assumes nothing.
+use mathlib.Core.Path.{_≡_, sym, ap, ap₂, _∙_}
+use mathlib.Core.List.{List}
+use Prim.Native.Nat.{ℕ, _-_}
 use native.Mathlib.Omega.{arith}
+use lib.ListN.{length, take, drop}
+use lib.Seq.{length-take-le}
+use denote.Ref.{now}
+use Rattle.definitions.specs.Rules.{standard}
+use Rattle.judging.specs.declared.Judging.{Judging}
+use Rattle.judging.specs.Judging.{startJudging}
+use Rattle.replay.specs.Turns.{caseBytes}
+use Rattle.replay.proofs.Turning.{part-from, judges-all}
 use borrow.Author.Needs.{needs}
-use lib.ListN.{length}
 use Rattle.replay.proofs.judge.Statement.{statement}
 use Rattle.replay.proofs.judge.Tie as tie
 
-abbrev Inv-loop : tie.InvT-loop
-Inv-loop buf₀ table₀ first from state₀ to₀ turns₀ buf table state to turns = (length buf ≡ length buf₀) × (length table ≡ length table₀) × (state .held ≤ length buf)
-
-abbrev μ-loop : tie.MeasureT-loop
-μ-loop buf₀ table₀ first from state₀ to₀ turns₀ buf table state to turns = turns
-
-sub-start : tie.Need-sub-start Inv-loop μ-loop
+sub-start : tie.Need-sub-start
 sub-start c = search needs
 
-part-start-start : tie.Need-part-start-start Inv-loop μ-loop
+part-start-start : tie.Need-part-start-start
 part-start-start c = search needs
 
-part-start-end : tie.Need-part-start-end Inv-loop μ-loop
+part-start-end : tie.Need-part-start-end
 part-start-end c = search needs
 
-start-requires : tie.Need-start-requires Inv-loop μ-loop
+start-requires : tie.Need-start-requires
 start-requires c κs = search needs
 
-case-bytes-requires : tie.Need-case-bytes-requires Inv-loop μ-loop
+case-bytes-requires : tie.Need-case-bytes-requires
 case-bytes-requires c κs = search needs
 
-turn-requires : tie.Need-turn-requires Inv-loop μ-loop
+turn-requires : tie.Need-turn-requires
 turn-requires c κs = search needs
 
-loop-holds : tie.Need-loop-holds Inv-loop μ-loop
-loop-holds c = search needs
+go-on-requires : tie.Need-go-on-requires
+go-on-requires c κs = search needs
 
-same-length : tie.Need-same-length Inv-loop μ-loop
+same-length : tie.Need-same-length
 same-length c = search needs
 
-same-length-2 : tie.Need-same-length-2 Inv-loop μ-loop
+same-length-2 : tie.Need-same-length-2
 same-length-2 c = search needs
 
-returns : tie.Need-returns Inv-loop μ-loop
-returns c = search needs
-
-fill-requires : tie.Need-fill-requires Inv-loop μ-loop
-fill-requires c κs = search needs
-
-turn-requires-2 : tie.Need-turn-requires-2 Inv-loop μ-loop
-turn-requires-2 c κs = search needs
-
-sub-turns : tie.Need-sub-turns Inv-loop μ-loop
-sub-turns c = search needs
-
-loop-less : tie.Need-loop-less Inv-loop μ-loop
-loop-less c = search needs
-
-loop-again : tie.Need-loop-again Inv-loop μ-loop
-loop-again c = search needs
-
-same-length-3 : tie.Need-same-length-3 Inv-loop μ-loop
-same-length-3 c = search needs
-
-same-length-4 : tie.Need-same-length-4 Inv-loop μ-loop
-same-length-4 c = search needs
-
-returns-2 : tie.Need-returns-2 Inv-loop μ-loop
-returns-2 c = search needs
+returns : tie.Need-returns
+returns c =
+    let o = c .before .before .before in
+    let t = o .before .before .before .before .before .before in
+    let b = t .before .before .before in
+    let k = b .before .before in
+    let s = k .before .before .before .before .before in
+    let old = now (s .args .buf) in
+    let filled = s .args .filled in
+    let input = take filled old in
+    let w = now (s .args .table) in
+    let zero : filled - 0 ≡ filled = omega arith in
+    let whole : take (filled - 0) (drop 0 old) ≡ input = ap (λ (n : ℕ). take n old) zero in
+    let (p, q) = k .start .ensures in
+    let ej : k .start .result ≡ startJudging standard input w .judging = p ∙ ap (λ (l : List ℕ). startJudging standard l w .judging) whole in
+    let ex : k .start .last .1 .0 ≡ startJudging standard input w .table = q ∙ ap (λ (l : List ℕ). startJudging standard l w .table) whole in
+    let (from, most) = b .case-bytes .ensures in
+    let long : length input ≡ filled = length-take-le filled old (s .pre) in
+    let at : b .case-bytes .result ≡ caseBytes (startJudging standard input w .judging .answer) (length input) =
+    from ∙ ap₂ caseBytes (ap (λ (j : Judging). j .answer) ej) (sym long) in
+    let bytes = part-from old (b .case-bytes .result) filled most (s .pre) ∙ ap (λ (n : ℕ). drop n input) at in
+    judges-all input w (k .start .result) (k .start .last .1 .0) (take (filled - b .case-bytes .result) (drop (b .case-bytes .result) old))
+    (λ h. search needs) ej ex bytes (t .turn .ensures) (o .go-on .ensures)
 
 pub judge-spec : {M : Type 1} → statement M
 judge-spec =
     tie.close
     (tie.spec
-    Inv-loop
-    μ-loop
     sub-start
     part-start-start
     part-start-end
     start-requires
     case-bytes-requires
     turn-requires
-    loop-holds
+    go-on-requires
     same-length
     same-length-2
-    returns
-    fill-requires
-    turn-requires-2
-    sub-turns
-    loop-less
-    loop-again
-    same-length-3
-    same-length-4
-    returns-2)
+    returns)

@@ -1,0 +1,135 @@
+-- Turn after turn: the bytes read are blocks of whole lines and a part line. Assumes nothing.
+use mathlib.Core.Path.{_≡_, refl, sym, ap, ap₂, subst, _∙_}
+use mathlib.Core.Bool.{false, not}
+use mathlib.Core.Logic.{⊎-elim}
+use mathlib.Core.List.{List, [], _∷_, _++_, append-assoc, append-nil, List·Memᴰ·head, List·Memᴰ·tail, List·Memᴰ·append-cases, List·Memᴰ·eq-of-singleton, List·Memᴰ·not-nil}
+use Prim.Native.Nat.{ℕ, _+_, _*_, _-_, _/_, _%_, _≤_, _<_}
+use native.Mathlib.Nat.{div-add-mod', mul-mod-left}
+use native.Mathlib.Omega.{arith}
+use lib.IntN.{ℤ}
+use lib.Dec.{eqb}
+use lib.ListN.{length, take, drop, take-append-drop}
+use lib.Seq.{length-take-le, take-add, drop-at}
+use Rattle.integers.specs.Words.{joined}
+use Rattle.integers.specs.Lists.{_∈_, joined-append}
+use Rattle.definitions.specs.Rules.{standard}
+use Rattle.definitions.specs.Lines.{hasPart}
+use Rattle.judging.specs.declared.Judging.{Judging}
+use Rattle.judging.specs.Judging.{JudgingCall, startJudging, blockJudging}
+use Rattle.judging.specs.Cuts.{afterBlocks}
+use Rattle.replay.specs.declared.Turned.{Turned}
+use Rattle.replay.specs.Turns.{lineBytes, wholeBytes, caseBytes, Turns, Goes, Judges}
+
+after-append : (g : JudgingCall) (xs ys : List (List ℕ)) → afterBlocks standard g (xs ++ ys) ≡ afterBlocks standard (afterBlocks standard g xs) ys
+after-append g [] ys = refl
+after-append g (x ∷ xs) ys = after-append (blockJudging standard (g .judging) (g .table) x) xs ys
+
+-- the whole lines of some bytes
+module _ (bytes : List ℕ) where
+  abbrev front : List ℕ
+  front = take (wholeBytes bytes) bytes
+
+  abbrev rest : List ℕ
+  rest = drop (wholeBytes bytes) bytes
+
+  front-rest : front ++ rest ≡ bytes
+  front-rest = take-append-drop (wholeBytes bytes) bytes
+
+  front-whole : hasPart (standard .amountWidth) front ≡ false
+  front-whole =
+      let n : ℕ = length bytes in
+      let e : length front ≡ n / lineBytes * lineBytes = length-take-le (wholeBytes bytes) bytes (omega arith) ∙ omega (arith, div-add-mod' n lineBytes) in
+      ap (λ (k : ℕ). not (eqb (k % lineBytes) 0)) e ∙ ap (λ (k : ℕ). not (eqb k 0)) (mul-mod-left (n / lineBytes) lineBytes)
+
+-- no turn
+pub goes-none : (ended : Type 0) (r : Turned) (v : List ℤ) (buf : List ℕ) → r .held ≤ length buf → r .held < lineBytes
+    → Goes (record { judging = r .judging; table = v }) (take (r .held) buf) ended r v buf
+goes-none ended r v buf h s = record {
+  more = [];
+  blocks = [];
+  lines-whole = λ x i. absurd (List·Memᴰ·not-nil i);
+  all = append-nil (take (r .held) buf);
+  ends = λ e. refl;
+  judging = refl;
+  table = refl;
+  fits = h;
+  short = s;
+}
+
+-- one turn more
+module _ {g : JudgingCall} {held : List ℕ} {ended : Type 0} {r : Turned} {v : List ℤ} {buf : List ℕ} (o : Goes g held ended r v buf) (on : ended → ⊥)
+    (bytes : List ℕ) (kept : take (r .held) bytes ≡ take (r .held) buf) {q : Turned} {u : List ℤ} {next : List ℕ} (t : Turns (r .judging) v bytes q u next) where
+  new : List ℕ
+  new = drop (r .held) bytes
+
+  all-next : held ++ (o .more ++ new) ≡ joined (o .blocks ++ (front bytes ∷ [])) ++ take (q .held) next
+  unfolding new
+  all-next =
+      sym (append-assoc held (o .more) new) ∙ ap (λ (l : List ℕ). l ++ new) (o .all) ∙ append-assoc (joined (o .blocks)) (take (r .held) buf) new
+      ∙ ap (λ (l : List ℕ). joined (o .blocks) ++ l)
+      (ap (λ (l : List ℕ). l ++ new) (sym kept) ∙ take-append-drop (r .held) bytes ∙ sym (front-rest bytes) ∙ ap (λ (l : List ℕ). front bytes ++ l) (sym (t .part)))
+      ∙ sym (append-assoc (joined (o .blocks)) (front bytes) (take (q .held) next))
+      ∙ ap (λ (l : List ℕ). l ++ take (q .held) next) (sym (joined-append (o .blocks) (front bytes ∷ []) ∙ ap (λ (l : List ℕ). joined (o .blocks) ++ l) (append-nil (front bytes))))
+
+  whole-next : (x : List ℕ) → x ∈ (o .blocks ++ (front bytes ∷ [])) → hasPart (standard .amountWidth) x ≡ false
+  whole-next x i = ⊎-elim (o .lines-whole x) (λ k. subst (λ (y : List ℕ). hasPart (standard .amountWidth) y ≡ false) (sym (List·Memᴰ·eq-of-singleton k)) (front-whole bytes)) (List·Memᴰ·append-cases (o .blocks) i)
+
+  same : blockJudging standard (r .judging) v (front bytes) ≡ afterBlocks standard g (o .blocks ++ (front bytes ∷ []))
+  same =
+      let a : JudgingCall = afterBlocks standard g (o .blocks) in
+      rw (o .judging, o .table) (sym (after-append g (o .blocks) (front bytes ∷ [])))
+
+  pub goes-next : Goes g held ended q u next
+  goes-next = record {
+    more = o .more ++ new;
+    blocks = o .blocks ++ (front bytes ∷ []);
+    lines-whole = whole-next;
+    all = all-next;
+    ends = λ e. absurd (on e);
+    judging = t .judging ∙ ap (λ (k : JudgingCall). k .judging) same;
+    table = t .table ∙ ap (λ (k : JudgingCall). k .table) same;
+    fits = t .fits;
+    short = t .short;
+  }
+
+call : Judging → List ℤ → JudgingCall
+call j w = record { judging = j; table = w }
+
+in-cons : (bytes : List ℕ) (xs : List (List ℕ)) → ((x : List ℕ) → x ∈ xs → hasPart (standard .amountWidth) x ≡ false)
+    → (x : List ℕ) → x ∈ (front bytes ∷ xs) → hasPart (standard .amountWidth) x ≡ false
+in-cons bytes xs h x (List·Memᴰ·head e) = subst (λ (y : List ℕ). hasPart (standard .amountWidth) y ≡ false) (sym e) (front-whole bytes)
+in-cons bytes xs h x (List·Memᴰ·tail i) = h x i
+
+-- the bytes from `from` to `to`
+pub part-from : (l : List ℕ) (from to : ℕ) → from ≤ to → to ≤ length l → take (to - from) (drop from l) ≡ drop from (take to l)
+part-from l from to h g =
+    let e : from + (to - from) ≡ to = omega arith in
+    sym (ap (λ (n : ℕ). drop from (take n l)) (sym e) ∙ ap (drop from) (take-add from (to - from) l)
+    ∙ drop-at (take from l) (take (to - from) (drop from l)) from (length-take-le from l (omega arith)))
+
+-- the first turn, and then the others
+pub judges-all : (input : List ℕ) (w : List ℤ) {ended over : Type 0} {r : Turned} {v : List ℤ} {buf : List ℕ} {q : Turned} {u : List ℤ} {next : List ℕ} (j : Judging) (x : List ℤ) (bytes : List ℕ)
+    → (over → ended) → j ≡ startJudging standard input w .judging → x ≡ startJudging standard input w .table
+    → bytes ≡ drop (caseBytes (startJudging standard input w .judging .answer) (length input)) input
+    → Turns j x bytes r v buf
+    → Goes (record { judging = r .judging; table = v }) (take (r .held) buf) ended q u next → Judges input w over q u
+unfolding call
+judges-all input w {ended} {over} {r} {v} {buf} {q} {u} {next} j x bytes back ej ex eb t o =
+    let begun : JudgingCall = startJudging standard input w in
+    let first : blockJudging standard (begun .judging) (begun .table) (front bytes) ≡ call (r .judging) v =
+    ap₂ (λ (a : Judging) (b : List ℤ). blockJudging standard a b (front bytes)) (sym ej) (sym ex) ∙ sym (ap₂ call (t .judging) (t .table)) in
+    record {
+      more = o .more;
+      blocks = front bytes ∷ o .blocks;
+      tail = take (q .held) next;
+      lines-whole = λ x i. in-cons bytes (o .blocks) (o .lines-whole) x i;
+      all =
+          ap (λ (l : List ℕ). l ++ o .more) (sym eb ∙ sym (front-rest bytes) ∙ ap (λ (l : List ℕ). front bytes ++ l) (sym (t .part)))
+          ∙ append-assoc (front bytes) (take (r .held) buf) (o .more) ∙ ap (λ (l : List ℕ). front bytes ++ l) (o .all)
+          ∙ sym (append-assoc (front bytes) (joined (o .blocks)) (take (q .held) next));
+      ends = λ h. o .ends (back h);
+      judging = o .judging ∙ ap (λ (k : JudgingCall). afterBlocks standard k (o .blocks) .judging) (sym first);
+      table = o .table ∙ ap (λ (k : JudgingCall). afterBlocks standard k (o .blocks) .table) (sym first);
+      held = sym (length-take-le (q .held) next (o .fits));
+      short = omega (arith, length-take-le (q .held) next (o .fits), o .short);
+    }

@@ -1,0 +1,110 @@
+-- The whole lines go to the block, and the part line to the buffer's front. Assumes nothing.
+use mathlib.Core.Path.{_≡_, sym, ap, _∙_}
+use mathlib.Core.List.{List}
+use Prim.Native.Nat.{ℕ, _+_, _-_, _≤_, _%_}
+use native.Mathlib.Nat.{mod-le, mod-lt}
+use native.Mathlib.Omega.{arith}
+use lib.Dec.{lit<}
+use lib.ListN.{length, take, drop, length-drop}
+use lib.Seq.{length-take-le, take-take, take-add, drop-at, drop-drop}
+use denote.Ref.{now}
+use Rattle.definitions.specs.Rules.{standard}
+use Rattle.judging.specs.Judging.{JudgingCall, blockJudging}
+use Rattle.replay.specs.Turns.{wholeBytes}
+use borrow.Author.Needs.{needs}
+use Rattle.replay.proofs.turn.Statement.{statement}
+use Rattle.replay.proofs.turn.Tie as tie
+
+-- the bytes from `from` to `to` of the buffer
+module _ (old : List ℕ) (from to : ℕ) (h : from ≤ to) (g : to ≤ length old) where
+  abbrev bytes : List ℕ
+  bytes = take (to - from) (drop from old)
+
+  abbrev end : ℕ
+  end = to - (to - from) % 27
+
+  pub long : length bytes ≡ to - from
+  long = length-take-le (to - from) (drop from old) (rw length-drop (omega arith))
+
+  whole-count : wholeBytes bytes ≡ end - from
+  whole-count = rw long (omega (arith, mod-le (to - from) 27))
+
+  pub whole-is : take (end - from) (drop from old) ≡ take (wholeBytes bytes) bytes
+  whole-is = rw whole-count (sym (take-take (end - from) (to - from) (drop from old) (omega arith)))
+
+  pub part-is : take (to - end) (drop end old) ≡ drop (wholeBytes bytes) bytes
+  part-is =
+      let l : List ℕ = drop from old in
+      let m = mod-le (to - from) 27 in
+      let split : end - from + (to - end) ≡ to - from = omega arith in
+      let at : from + (end - from) ≡ end = omega arith in
+      let front : length (take (end - from) l) ≡ end - from = length-take-le (end - from) l (rw length-drop (omega arith)) in
+      sym (rw whole-count
+      (ap (λ (k : ℕ). drop (end - from) (take k l)) (sym split) ∙ ap (drop (end - from)) (take-add (end - from) (to - end) l)
+      ∙ drop-at (take (end - from) l) (take (to - end) (drop (end - from) l)) (end - from) front
+      ∙ ap (take (to - end)) (drop-drop (end - from) from old ∙ ap (λ (k : ℕ). drop k old) at)))
+
+sub-end : tie.Need-sub-end
+sub-end c = search needs
+
+sub-end-2 : tie.Need-sub-end-2
+sub-end-2 c = search needs
+
+sub-block : tie.Need-sub-block
+sub-block c = search needs
+
+part-block-start : tie.Need-part-block-start
+part-block-start c = search needs
+
+part-block-end : tie.Need-part-block-end
+part-block-end c = search needs
+
+block-requires : tie.Need-block-requires
+block-requires c κs = search needs
+
+to-front-requires : tie.Need-to-front-requires
+to-front-requires c κs = search needs
+
+same-length : tie.Need-same-length
+same-length c = search needs
+
+same-length-2 : tie.Need-same-length-2
+same-length-2 c = search needs
+
+returns : tie.Need-returns
+returns c =
+    let f = c .before .before in
+    let b = f .before .before .before in
+    let s = b .before .before .before .before .before in
+    let old = now (s .args .buf) in
+    let from = s .args .from in
+    let to = s .args .to in
+    let (h, g) = s .pre in
+    let (p, q) = b .block .ensures in
+    let (count, part) = f .to-front .ensures in
+    let m = mod-le (to - from) 27 in
+    let call : JudgingCall = blockJudging standard (s .args .judging) (now (s .args .table)) (take (wholeBytes (bytes old from to h g)) (bytes old from to h g)) in
+    let same : blockJudging standard (s .args .judging) (now (s .args .table)) (take (end old from to h g - from) (drop from old)) ≡ call =
+    ap (blockJudging standard (s .args .judging) (now (s .args .table))) (whole-is old from to h g) in
+    record {
+      judging = p ∙ ap (λ (k : JudgingCall). k .judging) same;
+      table = q ∙ ap (λ (k : JudgingCall). k .table) same;
+      part = part ∙ rw count (part-is old from to h g);
+      fits = omega (arith, f .to-front .kept .0);
+      short = omega (arith, mod-lt (to - from) {m = 27} (lit< tt));
+    }
+
+pub turn-spec : {M : Type 1} → statement M
+turn-spec =
+    tie.close
+    (tie.spec
+    sub-end
+    sub-end-2
+    sub-block
+    part-block-start
+    part-block-end
+    block-requires
+    to-front-requires
+    same-length
+    same-length-2
+    returns)

@@ -1,0 +1,2 @@
+-- What the functions of `replay` do between reads.
+pub mod Turns
