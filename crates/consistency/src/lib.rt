@@ -56,7 +56,7 @@ fn supported(rows: &[u8], at: usize, set: u8, other: u8) -> u8
 {
     let mut kept = set;
     let mut left = set;
-    while left != 0 {
+    'values: while left != 0 {
         let k = marks::lowest(left);
         left = marks::strike(left, k);
         let mut rest = rows[at + k as usize];
