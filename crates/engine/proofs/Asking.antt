@@ -1,13 +1,13 @@
 -- What is prepared of a table, and what is asked of `all_refuted` over it. Assumes nothing.
-use mathlib.Core.Path.{_≡_, refl, sym, ap, _∙_}
-use mathlib.Core.Bool.{Bool, true, false, not, _||_}
+use mathlib.Core.Path.{_≡_, refl, ap, _∙_}
+use mathlib.Core.Bool.{Bool, true, false, not}
 use mathlib.Core.Option.{none}
 use mathlib.Core.List.{List, map}
 use Prim.Native.Nat.{ℕ, _+_, _*_, _-_, _≤_, _<_}
 use native.Mathlib.Omega.{arith}
 use borrow.Author.Tests.{le-ltb}
 use lib.IntN.{ℤ}
-use lib.Dec.{T, eqb}
+use lib.Dec.{eqb}
 use lib.ListN.{length, getD, take, drop, length-append, length-take, length-drop, List·getD-append}
 use lib.Seq.{getD-take, getD-drop, length-take-le}
 use Rattle.integers.specs.Words.{if_then_else_, below}
@@ -16,12 +16,10 @@ use Rattle.definitions.specs.declared.Case.{Case}
 use Rattle.definitions.specs.Rules.{standard}
 use Rattle.definitions.specs.Case.{scopeCount}
 use Rattle.definitions.specs.Valid.{workingWeight}
-use Rattle.definitions.specs.Lines.{overwritten}
 use Rattle.theory.proofs.Validity.{Handed, handed}
 use Rattle.theory.proofs.Replays.{none-iff}
 use Rattle.consistency.specs.Active.{activeSet, activeRow, activeSets, activeRows, tooShort, activeRefusal, setsAfter, rowsAfter}
 use Rattle.consistency.specs.Tried.{triedAnswer}
-use Rattle.consistency.specs.declared.Tried.{Tried}
 use Rattle.consistency.specs.declared.Tried.the-variants.{Refuted, Supported}
 use Rattle.consistency.proofs.Refutation.{Bytes, tried-active}
 use Rattle.engine.specs.Search.{saysRefuted, isRaised, Prepared, Allowing, refutesIn}

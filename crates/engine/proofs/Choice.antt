@@ -1,17 +1,17 @@
 -- Which variable is chosen, where those below it were tried. Assumes nothing.
-use mathlib.Core.Path.{_≡_, refl, sym, ap, subst, _∙_}
+use mathlib.Core.Path.{_≡_, sym, ap, subst, _∙_}
 use mathlib.Core.Bool.{Bool, true, false, not}
 use mathlib.Core.Option.{some, none}
 use mathlib.Core.Logic.{⊎-elim}
-use mathlib.Core.List.{List, [], _∷_, _++_}
-use Prim.Native.Nat.{ℕ, suc, _+_, _-_, _≤_, _<_}
+use mathlib.Core.List.{List, _∷_, _++_}
+use Prim.Native.Nat.{ℕ, suc, _+_, _-_, _<_}
 use native.Mathlib.Omega.{arith}
 use lib.IntN.{ℤ}
-use lib.Dec.{T, T-not, not-T, eqb, eqb→eq}
+use lib.Dec.{T, not-T, eqb, eqb→eq}
 use lib.ListN.{length, set}
 use Rattle.integers.specs.Words.{if_then_else_, from, below, any, those, first, isIn}
 use Rattle.integers.specs.Tests.{either, is-true, is-false, same-test, not-eqb-iff}
-use Rattle.integers.specs.Lists.{_∈_, from-split, those-append, those-none, any-at, in-those, those-in, below-in, in-below, isIn-in}
+use Rattle.integers.specs.Lists.{from-split, those-append, those-none, any-at, in-those, those-in, below-in, isIn-in}
 use Rattle.definitions.specs.declared.Case.{Case}
 use Rattle.definitions.specs.Case.{scopes, scopeCount}
 use Rattle.definitions.specs.Moves.{activeRefuted}

@@ -3,13 +3,13 @@ use mathlib.Core.Path.{_≡_, refl, sym, ap, ap₂, subst, _∙_}
 use mathlib.Core.Bool.{Bool, true, false, not, _&&_, _||_}
 use mathlib.Core.Logic.{⊎-elim}
 use mathlib.Core.List.{List, map}
-use Prim.Native.Nat.{ℕ, _≤_, _<_}
+use Prim.Native.Nat.{ℕ, _<_}
 use native.Mathlib.Omega.{arith}
 use lib.Dec.{T, eqb, ltb, eqb→eq}
-use lib.ListN.{length, getD, set, take, drop}
-use lib.Seq.{getD-set-same, getD-set-other, getD-take, ext-getD, length-take-le}
-use Rattle.integers.specs.Words.{if_then_else_, below, all, any, _⇒_}
-use Rattle.integers.specs.Tests.{either, is-true, is-false, true-is, false-is, same-test, and-left, and-right, and-intro, not-eqb-iff, if-false}
+use lib.ListN.{length, getD, set}
+use lib.Seq.{getD-set-same, getD-set-other, ext-getD}
+use Rattle.integers.specs.Words.{if_then_else_, below, all, _⇒_}
+use Rattle.integers.specs.Tests.{either, is-true, is-false, true-is, same-test, and-left, and-right, and-intro, not-eqb-iff}
 use Rattle.integers.specs.Lists.{any-in, all-same}
 use Rattle.integers.specs.Tables.{length-tab, getD-tab}
 use Rattle.definitions.specs.Rules.{standard}
@@ -21,7 +21,6 @@ use Rattle.marks.proofs.Laws.{mark-byteOf}
 use Rattle.consistency.specs.Closure.{networkOfBytes, setsOf, isMalformed, someFamily, closureSets}
 use Rattle.consistency.proofs.Results.{well-formed}
 use Rattle.consistency.specs.Tried.{hasFamily, noneHas, triedAnswer}
-use Rattle.consistency.specs.declared.Tried.{Tried}
 use Rattle.consistency.specs.declared.Tried.the-variants.{Malformed, Refuted, Supported}
 
 -- families inside G and inside narrower sets H that hold all of the largest family

@@ -1,15 +1,15 @@
 -- What a call of the engine's round answers and leaves, by what its press did. Assumes nothing.
 use mathlib.Core.Path.{_≡_, refl, sym, ap, ap₂, subst, _∙_}
 use mathlib.Core.Bool.{Bool, true, false, not, _&&_}
-use mathlib.Core.Option.{Option, none, some}
+use mathlib.Core.Option.{none, some}
 use mathlib.Core.List.{List, [], _∷_, _++_, map, append-nil, append-assoc, List·Memᴰ·head, Memᴰ·append-right}
 use Prim.Native.Nat.{ℕ, _+_, _*_, _≤_, _<_}
 use native.Mathlib.Omega.{arith}
-use lib.IntN.{ℤ, pos, negℤ, _+ℤ_}
+use lib.IntN.{ℤ, negℤ, _+ℤ_}
 use lib.Dec.{T, eqb}
 use lib.ListN.{length}
-use Rattle.integers.specs.Words.{if_then_else_, below, those, joined, isIn}
-use Rattle.integers.specs.Tests.{is-true, is-false, false-is, same-test}
+use Rattle.integers.specs.Words.{if_then_else_, joined, isIn}
+use Rattle.integers.specs.Tests.{false-is, same-test}
 use Rattle.integers.specs.Linear.{flat, zs, _▸_}
 use Rattle.integers.specs.Lists.{map-append, map-map, joined-append, those-in, in-those, below-in, isIn-in}
 use Rattle.definitions.specs.declared.Case.{Case}

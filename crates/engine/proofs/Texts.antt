@@ -1,14 +1,13 @@
 -- Lines put one after the other. Assumes nothing.
-use mathlib.Core.Path.{_≡_, refl, sym, ap, ap₂, _∙_}
+use mathlib.Core.Path.{_≡_, refl, sym, ap, _∙_}
 use mathlib.Core.Bool.{Bool, true, false, not}
 use mathlib.Core.List.{List, [], _∷_, _++_, map, append-nil, append-assoc}
 use Prim.Native.Nat.{ℕ, zero, suc, _+_, _*_, _-_, _≤_, _<_}
 use native.Mathlib.Omega.{arith}
-use lib.IntN.{ℤ, pos}
+use lib.IntN.{pos}
 use lib.Dec.{T, lit<}
-use lib.ListN.{length, take, drop, length-append, length-drop, drop-of-length-le}
-use lib.Seq.{length-take-le, drop-drop}
-use Rattle.integers.specs.Words.{if_then_else_, from, below, those, joined}
+use lib.ListN.{length, take, drop, length-append, drop-of-length-le}
+use Rattle.integers.specs.Words.{if_then_else_, from, those, joined}
 use Rattle.integers.specs.Tests.{is-false, if-cases}
 use Rattle.integers.specs.Lists.{joined-append, map-append}
 use Rattle.definitions.specs.declared.Line.{Line}

@@ -1,6 +1,6 @@
 -- Trimming, over the bytes of raised scopes: the scopes below x that are still raised were kept, and the others are still to be tried.
 -- Assumes nothing.
-use mathlib.Core.Path.{_≡_, refl, sym, ap, ap₂, subst, _∙_}
+use mathlib.Core.Path.{_≡_, sym, ap, ap₂, subst, _∙_}
 use mathlib.Core.Bool.{Bool, true, false, not, _&&_}
 use mathlib.Core.Logic.{_≢_, ⊎-elim}
 use mathlib.Core.List.{List, [], _∷_, _++_, append-nil, List·Memᴰ·append-cases, Memᴰ·append-left, Memᴰ·append-right}
@@ -9,10 +9,10 @@ use native.Mathlib.Numerals.{add-one}
 use native.Mathlib.Omega.{arith}
 use lib.IntN.{ℤ}
 use lib.Dec.{T, eqb, ltb, ltb→lt, nltb→le, eqb→eq}
-use lib.ListN.{length, set, length-append, length-set}
+use lib.ListN.{length, set, length-set}
 use Rattle.integers.specs.Words.{if_then_else_, from, below, those, isIn}
 use Rattle.integers.specs.Tests.{either, same-test, not-eqb-iff}
-use Rattle.integers.specs.Lists.{_∈_, from-split, from-suc, from-in, in-from, those-append, those-cong, those-same, in-those, those-in, below-in, in-below, isIn-in}
+use Rattle.integers.specs.Lists.{from-split, from-suc, from-in, in-from, those-append, those-cong, those-same, in-those, those-in, below-in, in-below, isIn-in}
 use Rattle.definitions.specs.declared.Case.{Case}
 use Rattle.definitions.specs.Case.{scopes, scopeCount}
 use Rattle.definitions.specs.Moves.{activeRefuted}

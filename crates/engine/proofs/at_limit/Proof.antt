@@ -1,6 +1,5 @@
-use mathlib.Core.Path.{_≡_, sym, ap, subst, _∙_}
+use mathlib.Core.Path.{sym, ap, subst}
 use native.Mathlib.Omega.{arith}
-use lib.ListN.{length}
 use denote.Ref.{now}
 use Rattle.engine.specs.declared.Chosen.{Chosen}
 use Rattle.engine.specs.Search.{FoundIs}

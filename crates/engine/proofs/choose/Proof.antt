@@ -1,13 +1,10 @@
 use mathlib.Core.Path.{_≡_, refl, sym, _∙_}
 use mathlib.Core.Bool.{false}
-use mathlib.Core.Logic.{⊎-elim}
 use mathlib.Core.List.{List}
-use Prim.Native.Nat.{ℕ, _+_, _-_, _≤_, _<_}
+use Prim.Native.Nat.{ℕ, _-_, _≤_, _<_}
 use native.Mathlib.Omega.{arith}
 use lib.IntN.{ℤ}
 use lib.ListN.{length}
-use denote.Ref.{now}
-use Rattle.definitions.specs.Case.{scopeCount}
 use Rattle.definitions.specs.Moves.{activeRefuted}
 use Rattle.definitions.specs.Engine.{others}
 use Rattle.engine.specs.Search.{Prepared, Allowing, AllRaised}

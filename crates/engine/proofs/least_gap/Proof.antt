@@ -1,9 +1,9 @@
 use mathlib.Core.Path.{_≡_, subst, _∙_}
-use Prim.Native.Nat.{ℕ, _+_, _-_, _≤_}
+use Prim.Native.Nat.{ℕ, _-_, _≤_}
 use native.Mathlib.Omega.{arith}
 use lib.IntN.{pos}
 use mir.Syntax.{w64}
-use mir.Val.{toZ, ofZ}
+use mir.Val.{toZ}
 use denote.Ref.{now}
 use Rattle.integers.specs.Linear.{read-back}
 use Rattle.definitions.specs.Case.{scopeCount}

@@ -1,4 +1,4 @@
-use mathlib.Core.Path.{_≡_, _∙_}
+use mathlib.Core.Path.{_∙_}
 use mir.Facts.{toZ-ofZ}
 use Rattle.figures.proofs.Bounds.{same-bits, other-bits}
 use Rattle.engine.proofs.Amounts.{gap-fits, gap-same, gap-more, gap-less}

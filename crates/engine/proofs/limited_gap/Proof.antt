@@ -1,17 +1,12 @@
-use mathlib.Core.Path.{_≡_, sym, ap, _∙_}
-use mathlib.Core.Bool.{Bool, _||_}
-use native.Mathlib.Omega.{arith}
-use lib.IntN.{ℤ, pos}
+use mathlib.Core.Path.{_∙_}
+use lib.IntN.{pos}
 use lib.ListN.{getD}
 use mir.Syntax.{w64}
-use mir.Val.{toZ, ofZ}
 use mir.Facts.{toZ-ofZ}
 use borrow.Author.Needs.{needs}
 use borrow.Author.Tests.{eq-eqb, ne-eqb}
 use denote.Ref.{now}
 use Rattle.integers.specs.Linear.{read-back}
-use Rattle.definitions.specs.Case.{greatest, eachTuple, weight}
-use Rattle.engine.specs.Gaps.{lessGaps}
 use Rattle.engine.proofs.limited_gap.Statement.{statement}
 use Rattle.engine.proofs.limited_gap.Tie as tie
 

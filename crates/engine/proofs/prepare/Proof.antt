@@ -1,11 +1,5 @@
-use mathlib.Core.Path.{_≡_, sym, ap₂, subst}
-use mathlib.Core.List.{List}
-use Prim.Native.Nat.{ℕ}
-use lib.IntN.{ℤ}
 use denote.Ref.{now}
-use Rattle.figures.specs.Scopes.{BestOf}
 use Rattle.figures.proofs.Best.{greatest-known}
-use Rattle.engine.specs.Search.{Prepared}
 use Rattle.engine.proofs.Asking.{marks-known}
 use borrow.Author.Needs.{needs}
 use Rattle.engine.proofs.prepare.Statement.{statement}

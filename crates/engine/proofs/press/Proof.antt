@@ -1,4 +1,3 @@
-use mathlib.Core.Path.{_≡_}
 use mir.Facts.{toZ-ofZ}
 use denote.Ref.{now}
 use Rattle.engine.proofs.Rounds.{pressed-by}

@@ -1,9 +1,8 @@
-use mathlib.Core.Path.{_≡_, sym, subst, _∙_}
+use mathlib.Core.Path.{_≡_, subst, _∙_}
 use mathlib.Core.Option.{some}
 use native.Mathlib.Omega.{arith}
 use mir.Syntax.{w64}
 use mir.Val.{toZ, ofZ}
-use lib.ListN.{length}
 use denote.Ref.{now}
 use Rattle.integers.specs.Linear.{read-back}
 use Rattle.definitions.specs.declared.Outcome.{Outcome}

@@ -1,9 +1,6 @@
-use mathlib.Core.Path.{_≡_, subst, _∙_}
-use Prim.Native.Nat.{_≤_}
+use mathlib.Core.Path.{subst}
 use native.Mathlib.Omega.{arith}
-use lib.ListN.{length}
 use denote.Ref.{now}
-use Rattle.definitions.specs.Case.{scopeCount}
 use Rattle.engine.specs.declared.Chosen.{Chosen}
 use Rattle.engine.specs.Search.{FoundIs}
 use Rattle.engine.proofs.Raising.{ones-raised}

@@ -1,16 +1,14 @@
-use mathlib.Core.Path.{_≡_, refl, sym, ap, subst, _∙_}
-use Prim.Native.Nat.{_+_, _-_, _≤_}
+use mathlib.Core.Path.{_≡_, refl, subst, _∙_}
+use Prim.Native.Nat.{_-_, _≤_}
 use native.Mathlib.Omega.{arith}
 use lib.ListN.{length}
 use denote.Ref.{now}
 use Rattle.definitions.specs.declared.Round.{Round}
-use Rattle.definitions.specs.declared.Run.{Run}
-use Rattle.definitions.specs.declared.RunAnswer.{RunAnswer}
 use Rattle.definitions.specs.Rules.{standard}
 use Rattle.definitions.specs.Valid.{workingWeight}
 use Rattle.definitions.specs.Engine.{roundBytes}
 use Rattle.theory.proofs.Validity.{Handed}
-use Rattle.engine.specs.Rounds.{MadeRound, RunIs, stoppedRun}
+use Rattle.engine.specs.Rounds.{MadeRound}
 use Rattle.engine.proofs.Runs.{Going, run-starts, run-goes-on, run-settles, run-leaves, run-limits, still-settled, still-refused, still-made}
 use borrow.Author.Needs.{needs}
 use Rattle.engine.proofs.run_checked.Statement.{statement}

@@ -10,7 +10,7 @@ use mir.Facts.{toZ-ofZ}
 use borrow.Author.Needs.{needs}
 use denote.Ref.{now}
 use Rattle.integers.specs.Linear.{read-back}
-use Rattle.definitions.specs.Case.{place, greatest, eachTuple, weight}
+use Rattle.definitions.specs.Case.{place, eachTuple, weight}
 use Rattle.figures.specs.Scopes.{sizeOf}
 use Rattle.figures.proofs.Parts.{part-own, scope-part}
 use Rattle.figures.proofs.Answered.{greatest-working}

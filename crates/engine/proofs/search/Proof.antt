@@ -1,9 +1,7 @@
-use mathlib.Core.Path.{_≡_, subst, _∙_}
+use mathlib.Core.Path.{subst}
 use mathlib.Core.List.{List}
-use Prim.Native.Nat.{_≤_, _<_}
 use native.Mathlib.Omega.{arith}
 use lib.IntN.{ℤ}
-use lib.ListN.{length}
 use denote.Ref.{now}
 use Rattle.engine.specs.declared.Chosen.{Chosen}
 use Rattle.engine.specs.Search.{Prepared, AllRaised, ChosenIn, ChosenIs}

@@ -1,5 +1,4 @@
 use mathlib.Core.Path.{ap, _∙_}
-use lib.IntN.{ℤ}
 use mir.Syntax.{w64}
 use Rattle.integers.specs.Linear.{read-back}
 use Rattle.figures.proofs.Answered.{bound-known}
