@@ -1,0 +1,354 @@
+// Rounds and runs of the engine. Standard input holds lines of 27 bytes. One that is not in columns names what is tried and is printed. Kinds 10
+// to 13 are a case, taken as it stands: none of its numbers is asked, and each weight goes to the next place of the table.
+// Kind 20: a run with limit amount; kind 21: one round; both with an output of a dots, which is printed after it.
+// Kind 22: at most amount rounds with an output of a dots; how many were made, the bound and a checksum of their log are printed.
+// Kind 23: the table's first a weights are printed.
+// The file `stdout` was worked out from document 01 by a second engine; the peer writes the same log of each case that a case file can hold.
+use definitions::Case;
+use definitions::Line;
+use definitions::LineRead;
+use definitions::Refusal;
+use definitions::Round;
+use definitions::Run;
+use definitions::RunAnswer;
+use definitions::Written;
+ghost use Prim.Native.Nat.{_<_};
+
+// A case, and how many weights of its table there are.
+struct Held {
+    case: Case,
+    places: usize,
+}
+
+// What rounds made: a checksum of their lines, the bound after the last, and whether another may follow.
+struct Log {
+    sum: u64,
+    bound: i64,
+    more: bool,
+}
+
+// Document 01's number.
+fn number_of(refusal: Refusal) -> u64 {
+    match refusal {
+        Refusal::NotInColumns => 1,
+        Refusal::NotDue => 2,
+        Refusal::OutsideLimits => 3,
+        Refusal::WrongLength => 4,
+        Refusal::OutOfRange => 5,
+        Refusal::EndsNotAscending => 6,
+        Refusal::EdgeRepeated => 7,
+        Refusal::WeightOutOfRange => 8,
+        Refusal::RaiseNotAscending => 9,
+        Refusal::NotRefuted => 10,
+        Refusal::LeavesRange => 11,
+        Refusal::OtherBound => 12,
+        Refusal::BoundNotLower => 13,
+        Refusal::CutShort => 14,
+    }
+}
+
+// ---- what is printed
+
+fn print(text: &[u8]) {
+    io::write_all(1, text);
+}
+
+fn print_count(n: u64) {
+    print(b" ");
+    io::print_decimal(1, n);
+}
+
+fn print_first(text: &[u8], n: usize) {
+    if n <= text.len() {
+        print(&text[0..n]);
+    }
+}
+
+fn print_weight(z: i64) {
+    print(b" ");
+    let mut text = [0u8; 20];
+    let written = lines::write_number(&mut text, z);
+    match written {
+        Written::Bytes(n) => print_first(&text, n),
+        Written::Refused(_) => print(b"?"),
+    }
+}
+
+fn print_each(table: &[i64]) {
+    let mut i: usize = 0;
+    while i < table.len() {
+        print_weight(table[i]);
+        i += 1;
+    }
+}
+
+fn print_refusal(refusal: Refusal) {
+    print(b" refused");
+    print_count(number_of(refusal));
+}
+
+fn wide(x: u8) -> u64
+    ensures { λ r. ⌜ r < 256 ⌝ }
+{
+    x as u64
+}
+
+// A checksum that goes on from an earlier one.
+fn digest(earlier: u64, bytes: &[u8]) -> u64 {
+    let mut sum: u64 = earlier % 1_000_000_007;
+    let mut i: usize = 0;
+    while i < bytes.len() {
+        sum = (sum * 31 + wide(bytes[i])) % 1_000_000_007;
+        i += 1;
+    }
+    sum
+}
+
+// ---- the calls
+
+fn print_run(run: Run) {
+    let answer = run.answer;
+    match answer {
+        RunAnswer::Settled => print(b" settled"),
+        RunAnswer::Limit => print(b" limit"),
+        RunAnswer::Refused(refusal) => print_refusal(refusal),
+    }
+    print_count(run.rounds);
+    print_weight(run.bound);
+    print(b"\n");
+}
+
+fn run(case: Case, table: &mut [i64], out: &mut [u8], limit: u64) {
+    print(b"run");
+    print_count(limit);
+    print_run(engine::run(case, table, out, limit));
+    print(out);
+    print(b"\n");
+}
+
+fn print_round(round: Round) {
+    match round {
+        Round::Settled => print(b" settled"),
+        Round::Refused(refusal) => print_refusal(refusal),
+        Round::Made { bytes, bound } => {
+            print(b" made");
+            print_count(bytes as u64);
+            print_weight(bound);
+        }
+    }
+    print(b"\n");
+}
+
+fn round(case: Case, table: &mut [i64], out: &mut [u8]) {
+    print(b"round");
+    print_round(engine::round(case, table, out));
+    print(out);
+    print(b"\n");
+}
+
+fn sum_of_first(earlier: u64, text: &[u8], n: usize) -> u64 {
+    if n <= text.len() {
+        digest(earlier, &text[0..n])
+    } else {
+        0
+    }
+}
+
+fn next(case: Case, table: &mut [i64], out: &mut [u8], log: Log) -> Log {
+    let round = engine::round(case, table, out);
+    match round {
+        Round::Made { bytes, bound } => Log {
+            sum: sum_of_first(log.sum, out, bytes),
+            bound: bound,
+            more: true,
+        },
+        Round::Settled => Log {
+            sum: log.sum,
+            bound: log.bound,
+            more: false,
+        },
+        Round::Refused(_) => Log {
+            sum: log.sum,
+            bound: log.bound,
+            more: false,
+        },
+    }
+}
+
+fn print_log(rounds: u64, log: Log) {
+    print(b"rounds");
+    print_count(rounds);
+    print_weight(log.bound);
+    print_count(log.sum);
+    print(b"\n");
+}
+
+fn rounds(case: Case, table: &mut [i64], out: &mut [u8], most: u64) {
+    let mut log = Log {
+        sum: 0,
+        bound: 0,
+        more: true,
+    };
+    let mut made: u64 = 0;
+    while made < most {
+        log = next(case, table, out, log);
+        if !log.more {
+            print_log(made, log);
+            return;
+        }
+        made += 1;
+    }
+    print_log(made, log);
+}
+
+// ---- a case, line by line
+
+fn count(z: i64) -> usize {
+    if z < 0 { 0 } else { z as usize }
+}
+
+fn byte(z: i64) -> u8 {
+    let n = count(z);
+    if 255 < n { 255 } else { n as u8 }
+}
+
+fn head(n: usize, d: usize, m: usize) -> Case {
+    Case {
+        n: n,
+        d: d,
+        m: m,
+        lower: [0; 96],
+        upper: [0; 96],
+    }
+}
+
+fn joined(case: Case, e: usize, i: u8, j: u8) -> Case {
+    let mut lower = case.lower;
+    let mut upper = case.upper;
+    if e < 96 {
+        lower[e] = i;
+        upper[e] = j;
+    }
+    Case {
+        n: case.n,
+        d: case.d,
+        m: case.m,
+        lower: lower,
+        upper: upper,
+    }
+}
+
+fn put(table: &mut [i64], places: usize, z: i64) -> usize {
+    if places < table.len() {
+        table[places] = z;
+        places + 1
+    } else {
+        places
+    }
+}
+
+// ---- the vectors
+
+fn weights(table: &[i64], n: usize) {
+    print(b"weights");
+    if n <= table.len() {
+        print_each(&table[0..n]);
+    }
+    print(b"\n");
+}
+
+fn call(case: Case, table: &mut [i64], out: &mut [u8], line: Line) {
+    let most = count(line.amount) as u64;
+    if line.kind == 20 {
+        run(case, table, out, most);
+    } else if line.kind == 21 {
+        round(case, table, out);
+    } else {
+        rounds(case, table, out, most);
+    }
+}
+
+fn with_output(case: Case, table: &mut [i64], line: Line) {
+    let room = count(line.a);
+    let mut out = [46u8; 4000];
+    if room <= 4000 {
+        call(case, table, &mut out[0..room], line);
+    }
+}
+
+fn command(case: Case, table: &mut [i64], line: Line) {
+    if line.kind == 23 {
+        weights(table, count(line.a));
+    } else {
+        with_output(case, table, line);
+    }
+}
+
+fn execute(held: Held, table: &mut [i64], line: Line) {
+    let places = held.places;
+    let case = held.case;
+    if places <= table.len() {
+        command(case, &mut table[0..places], line);
+    }
+}
+
+// Kinds 10 to 13.
+fn taken(held: Held, table: &mut [i64], line: Line) -> Held {
+    let case = held.case;
+    if line.kind == 10 {
+        Held {
+            case: head(count(line.a), count(line.b), count(line.c)),
+            places: 0,
+        }
+    } else if line.kind == 12 {
+        Held {
+            case: joined(case, count(line.a), byte(line.b), byte(line.c)),
+            places: held.places,
+        }
+    } else {
+        Held {
+            case: case,
+            places: put(table, held.places, line.amount),
+        }
+    }
+}
+
+fn step(held: Held, table: &mut [i64], line: Line) -> Held {
+    if line.kind < 20 {
+        taken(held, table, line)
+    } else {
+        execute(held, table, line);
+        held
+    }
+}
+
+fn one(held: Held, table: &mut [i64], text: &[u8]) -> Held {
+    let read = lines::read_line(text);
+    match read {
+        LineRead::Refused(_) => {
+            print(text);
+            held
+        }
+        LineRead::Read(line) => step(held, table, line),
+    }
+}
+
+fn vectors(input: &[u8], table: &mut [i64]) {
+    let mut held = Held {
+        case: head(0, 0, 0),
+        places: 0,
+    };
+    let mut at: usize = 0;
+    while 27 <= input.len() - at {
+        let to = at + 27;
+        held = one(held, table, &input[at..to]);
+        at = to;
+    }
+}
+
+fn main() {
+    let mut input = [0u8; 240000];
+    let mut table = [0i64; 6528];
+    let n = io::read_full(0, &mut input);
+    vectors(&input[..n], &mut table);
+}
