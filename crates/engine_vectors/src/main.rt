@@ -1,9 +1,10 @@
 // Rounds and runs of the engine. Standard input holds lines of 27 bytes. One that is not in columns names what is tried and is printed. Kinds 10
 // to 13 are a case, taken as it stands: none of its numbers is asked, and each weight goes to the next place of the table.
 // Kind 20: a run with limit amount; kind 21: one round; both with an output of a dots, which is printed after it.
-// Kind 22: at most amount rounds with an output of a dots; how many were made, the bound and a checksum of their log are printed.
+// Kind 22: amount rounds with an output of a dots; the bound after them and a checksum of their log are printed.
 // Kind 23: the table's first a weights are printed.
-// The file `stdout` was worked out from document 01 by a second engine; the peer writes the same log of each case that a case file can hold.
+// The file `stdout` was worked out from document 01 by a small engine of its own; the peer writes the same log of each case that a case file can
+// hold. The largest case's log is the peer's.
 use definitions::Case;
 use definitions::Line;
 use definitions::LineRead;
@@ -20,11 +21,10 @@ struct Held {
     places: usize,
 }
 
-// What rounds made: a checksum of their lines, the bound after the last, and whether another may follow.
+// A checksum of the lines of all rounds so far, and the bound after the last.
 struct Log {
     sum: u64,
     bound: i64,
-    more: bool,
 }
 
 // Document 01's number.
@@ -160,45 +160,28 @@ fn next(case: Case, table: &mut [i64], out: &mut [u8], log: Log) -> Log {
         Round::Made { bytes, bound } => Log {
             sum: sum_of_first(log.sum, out, bytes),
             bound: bound,
-            more: true,
         },
-        Round::Settled => Log {
-            sum: log.sum,
-            bound: log.bound,
-            more: false,
-        },
-        Round::Refused(_) => Log {
-            sum: log.sum,
-            bound: log.bound,
-            more: false,
-        },
+        Round::Settled => log,
+        Round::Refused(_) => log,
     }
 }
 
-fn print_log(rounds: u64, log: Log) {
-    print(b"rounds");
-    print_count(rounds);
+fn print_log(log: Log) {
     print_weight(log.bound);
     print_count(log.sum);
     print(b"\n");
 }
 
 fn rounds(case: Case, table: &mut [i64], out: &mut [u8], most: u64) {
-    let mut log = Log {
-        sum: 0,
-        bound: 0,
-        more: true,
-    };
-    let mut made: u64 = 0;
-    while made < most {
+    print(b"rounds");
+    print_count(most);
+    let mut log = Log { sum: 0, bound: 0 };
+    let mut left = most;
+    while left > 0 {
         log = next(case, table, out, log);
-        if !log.more {
-            print_log(made, log);
-            return;
-        }
-        made += 1;
+        left -= 1;
     }
-    print_log(made, log);
+    print_log(log);
 }
 
 // ---- a case, line by line
@@ -333,11 +316,15 @@ fn one(held: Held, table: &mut [i64], text: &[u8]) -> Held {
     }
 }
 
-fn vectors(input: &[u8], table: &mut [i64]) {
-    let mut held = Held {
+fn empty() -> Held {
+    Held {
         case: head(0, 0, 0),
         places: 0,
-    };
+    }
+}
+
+fn vectors(input: &[u8], table: &mut [i64]) {
+    let mut held = empty();
     let mut at: usize = 0;
     while 27 <= input.len() - at {
         let to = at + 27;

@@ -12,8 +12,8 @@ Inv-loop input table₀ held₀ at₀ table held at = (at ≤ length input) × (
 abbrev μ-loop : tie.MeasureT-loop
 μ-loop input table₀ held₀ at₀ table held at = length input - at
 
-head-requires : tie.Need-head-requires Inv-loop μ-loop
-head-requires c κs = search needs
+empty-requires : tie.Need-empty-requires Inv-loop μ-loop
+empty-requires c κs = search needs
 
 loop-holds : tie.Need-loop-holds Inv-loop μ-loop
 loop-holds c = (omega arith, refl)
@@ -54,7 +54,7 @@ vectors-spec =
     (tie.spec
     Inv-loop
     μ-loop
-    head-requires
+    empty-requires
     loop-holds
     sub-loop
     add-to
