@@ -317,19 +317,6 @@ fn has_greatest(case: Case, table: &[i64], x: usize, k: usize, l: usize) -> Verd
 
 // ---- the objective
 
-fn some_beyond(values: &[u8], d: usize) -> bool
-    ensures { λ r. ⌜ r ≡ any (λ k. not (ltb k d)) (now (values .entry)) ⌝ }
-{
-    let mut i: usize = 0;
-    while i < values.len() {
-        if d <= wide(values[i]) {
-            return true;
-        }
-        i += 1;
-    }
-    false
-}
-
 fn wide(value: u8) -> usize
     ensures { λ r. ⌜ r ≡ value ⌝ }
 {
@@ -460,6 +447,20 @@ pub fn bound_with(case: Case, best: &[i64]) -> i64
         return 0;
     }
     sum_of_best(case, best)
+}
+
+// Some value is d or more.
+pub fn some_beyond(values: &[u8], d: usize) -> bool
+    ensures { λ r. ⌜ r ≡ any (λ k. not (ltb k d)) (now (values .entry)) ⌝ }
+{
+    let mut i: usize = 0;
+    while i < values.len() {
+        if d <= wide(values[i]) {
+            return true;
+        }
+        i += 1;
+    }
+    false
 }
 
 // The upper bound of a case and a table that were checked before; what it is of any others, `boundOf` says.

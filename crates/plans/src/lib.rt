@@ -4,36 +4,16 @@ use definitions::Choice;
 use definitions::Figure;
 use definitions::Outcome;
 ghost use mathlib.Core.Path.{_≡_};
-ghost use mathlib.Core.Bool.{not};
-ghost use lib.Dec.{T, ltb};
+ghost use lib.Dec.{T};
 ghost use lib.Signed.{ltZ};
-ghost use Rattle.integers.specs.Words.{if_then_else_, any};
+ghost use Rattle.integers.specs.Words.{if_then_else_};
 ghost use Rattle.definitions.specs.Rules.{standard};
 ghost use Rattle.definitions.specs.Case.{objective, isAssignment};
 ghost use Rattle.definitions.specs.Scoring.{betterOf, better as betterPart};
 ghost use Rattle.theory.proofs.Validity.{Valid};
 ghost use Rattle.plans.specs.Values.{valueIn};
 
-fn wide(value: u8) -> usize
-    ensures { λ r. ⌜ r ≡ value ⌝ }
-{
-    value as usize
-}
-
-fn some_beyond(values: &[u8], d: usize) -> bool
-    ensures { λ r. ⌜ r ≡ any (λ k. not (ltb k d)) (now (values .entry)) ⌝ }
-{
-    let mut i: usize = 0;
-    while i < values.len() {
-        if d <= wide(values[i]) {
-            return true;
-        }
-        i += 1;
-    }
-    false
-}
-
-// 0 where there is none.
+// The figure's value; 0 where it was refused.
 fn value_in(figure: Figure) -> i64
     ensures { λ r. ⌜ r ≡ valueIn figure ⌝ }
 {
@@ -68,7 +48,7 @@ pub fn better_of(case: Case, table: &[i64], first: &[u8], second: &[u8]) -> Choi
     ensures { λ r. ⌜ r ≡ betterOf standard case (now (table .entry)) (now (first .entry)) (now (second .entry)) ⌝ }
 {
     let wrong = (first.len() != case.n) | (second.len() != case.n);
-    let out = some_beyond(first, case.d) | some_beyond(second, case.d);
+    let out = figures::some_beyond(first, case.d) | figures::some_beyond(second, case.d);
     let checked = figures::check_starting(case, table, wrong, out);
     match checked {
         Outcome::Refused(refusal) => Choice::Refused(refusal),
