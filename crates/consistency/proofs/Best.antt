@@ -7,7 +7,7 @@ use native.Mathlib.Omega.{arith}
 use borrow.Author.Tests.{lt-ltb, le-ltb, eq-eqb, ne-eqb, eqb-true}
 use lib.IntN.{ℤ}
 use lib.Dec.{T, ltb, eqb, eqb→eq}
-use lib.ListN.{length, getD, take, drop, replicate, length-take, length-drop}
+use lib.ListN.{length, getD, take, drop, length-take, length-drop}
 use lib.Seq.{getD-take, getD-drop}
 use Rattle.integers.specs.Words.{if_then_else_, _⇒_}
 use Rattle.integers.specs.Tests.{tests, is-true, true-is, imp-intro, imp-elim, same-test}
@@ -178,8 +178,3 @@ marked-raised raised x h = by (getD raised x 0) h
     by zero h = refl
     by (suc zero) h = refl
     by (suc (suc b)) h = absurd (omega arith)
-
-pub zeros-at : (n q : ℕ) → getD {A = ℕ} (replicate n 0) q 0 ≡ 0
-zeros-at zero q = refl
-zeros-at (suc n) zero = refl
-zeros-at (suc n) (suc q) = zeros-at n q

@@ -2,6 +2,7 @@
 -- cited of `all_refuted`: `tried-active` and `tried-refuted`; Best has what is cited of `active_refuted`: `active-refuted-is`.
 pub mod Search
 pub mod Steps
+pub mod Seen
 pub mod Results
 pub mod Marked
 pub mod Scopes

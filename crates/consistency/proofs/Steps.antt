@@ -224,18 +224,24 @@ module _ (n : ℕ) (lower upper rows raised : List ℕ) (good : WellFormed n low
       pub swept-end : Swept N (λ f q. (f ≡ e) × (q ≡ up)) S (set S i kept) (changeOf (getD S i 0) kept)
       swept-end = record { fewer = revised-fewer; said = revised-said }
 
+  lower-place : (e : ℕ) → 8 * (2 * e) ≡ 16 * e
+  lower-place e = omega arith
+
+  upper-place : (e : ℕ) → 8 * (2 * e + 1) ≡ 16 * e + 8
+  upper-place e = omega arith
+
   -- both ends, one after the other
   pub swept-edge : (S : List ℕ) → length S ≡ n → ((j : ℕ) → getD S j 0 < 256) → (e : ℕ) → e < length raised → (S₁ S₂ : List ℕ) (r q : Change) → ((j : ℕ) → getD S₁ j 0 < 256) → (getD raised e 0 ≡ 0 → ⊥)
-      → S₁ ≡ set S (getD lower e 0) (keptOf rows (16 * e) (getD lower e 0) (getD upper e 0) S)
-      → r ≡ changeOf (getD S (getD lower e 0) 0) (keptOf rows (16 * e) (getD lower e 0) (getD upper e 0) S)
-      → S₂ ≡ set S₁ (getD upper e 0) (keptOf rows (16 * e + 8) (getD upper e 0) (getD lower e 0) S₁)
-      → q ≡ changeOf (getD S₁ (getD upper e 0) 0) (keptOf rows (16 * e + 8) (getD upper e 0) (getD lower e 0) S₁)
+      → S₁ ≡ set S (getD lower e 0) (keptOf rows (8 * (2 * e)) (getD lower e 0) (getD upper e 0) S)
+      → r ≡ changeOf (getD S (getD lower e 0) 0) (keptOf rows (8 * (2 * e)) (getD lower e 0) (getD upper e 0) S)
+      → S₂ ≡ set S₁ (getD upper e 0) (keptOf rows (8 * (2 * e + 1)) (getD upper e 0) (getD lower e 0) S₁)
+      → q ≡ changeOf (getD S₁ (getD upper e 0) 0) (keptOf rows (8 * (2 * e + 1)) (getD upper e 0) (getD lower e 0) S₁)
       → (z : Change) → z ≡ bothOf r q → Swept N (λ f up. f ≡ e) S S₂ z
   swept-edge S len bytes e h S₁ S₂ r q bytes₁ ne es er et eq z ez =
       let len₁ : length S₁ ≡ n = ap length es ∙ length-set S (getD lower e 0) _ ∙ len in
       rw ez
       (swept-then N (λ f up. (f ≡ e) × (up ≡ false)) (λ f up. (f ≡ e) × (up ≡ true)) (λ f up. f ≡ e) cover S S₁ S₂ r q
-      (rw (es, er) (swept-end S len bytes e h false ne)) (rw (et, eq) (swept-end S₁ len₁ bytes₁ e h true ne)))
+      (rw (es, er, lower-place e) (swept-end S len bytes e h false ne)) (rw (et, eq, upper-place e) (swept-end S₁ len₁ bytes₁ e h true ne)))
     where
       cover : (f : ℕ) (up : Bool) → f ≡ e → ((f ≡ e) × (up ≡ false)) ⊎ ((f ≡ e) × (up ≡ true))
       cover f false k = inl (k, refl)

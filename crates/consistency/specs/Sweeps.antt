@@ -36,6 +36,10 @@ bothOf Struck Emptied = Emptied
 abbrev pub keptOf : List ℕ → ℕ → ℕ → ℕ → List ℕ → ℕ
 keptOf rows at i j S = supportedValues rows at (getD S i 0) (getD S j 0)
 
+-- each pair of sets is one from which nothing is struck: the arc's rows stand from place 8 · x on
+pub record Seen (rows seen : List ℕ) : Type 0 where
+  pub known : (x a b : ℕ) → a < 256 → b < 256 → getD seen x 0 ≡ a + 256 * b → supportedValues rows (8 * x) a b ≡ a
+
 -- the sum of the bytes, which falls with every strike
 unfoldable pub total : List ℕ → ℕ
 total [] = 0

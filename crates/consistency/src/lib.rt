@@ -6,7 +6,7 @@ use definitions::Verdict;
 ghost use mathlib.Core.Path.{_≡_};
 ghost use mathlib.Core.Bool.{not, _&&_, _||_};
 ghost use Prim.Native.Nat.{ℕ, _+_, _*_, _≤_, _<_};
-ghost use lib.Dec.{ltb, eqb};
+ghost use lib.Dec.{T, ltb, eqb};
 ghost use lib.ListN.{length, getD, set, replicate};
 ghost use Rattle.integers.specs.Words.{if_then_else_, below, any, eqZ};
 ghost use Rattle.definitions.specs.Rules.{standard};
@@ -15,12 +15,12 @@ ghost use Rattle.definitions.specs.Calls.{refutedAnswer};
 ghost use Rattle.definitions.specs.Valid.{someEdge, endOutside as edgeOutside};
 ghost use Rattle.definitions.specs.Lines.{overwritten};
 ghost use Rattle.figures.specs.Scopes.{Limited};
-ghost use Rattle.marks.specs.Marks.{without};
+ghost use Rattle.marks.specs.Marks.{mark, without};
 ghost use Rattle.consistency.specs.Partners.{lowestPartner, supportedValues};
 ghost use Rattle.consistency.specs.Closure.{networkOfBytes, setsOf, endOutside, isMalformed, closureAnswer, closureSets};
 ghost use Rattle.consistency.specs.Tried.{hasFamily, noneHas, triedAnswer};
 ghost use Rattle.consistency.specs.declared.Tried.{Tried};
-ghost use Rattle.consistency.specs.Sweeps.{WellFormed, Filled, Swept, Settled, changeOf, bothOf, keptOf};
+ghost use Rattle.consistency.specs.Sweeps.{WellFormed, Filled, Swept, Settled, changeOf, bothOf, keptOf, Seen};
 ghost use Rattle.consistency.specs.Active.{bestValues, setWhere, rowWhere, hasWeight, Sized, activeSet, activeSets, activeRows, Written, activeAnswer, setsAfter, rowsAfter};
 ghost use Rattle.consistency.specs.Best.{allowedBest, partnersBest, bestRows, isRefuted, bestRefuted, activeRefutedAnswer};
 ghost use Rattle.consistency.specs.Refuted.{argumentsOut};
@@ -112,14 +112,40 @@ fn both(first: Change, second: Change) -> Change
     }
 }
 
+fn pair(own: u8, other: u8) -> u16
+    ensures { λ r. ⌜ r ≡ own + 256 * other ⌝ }
+{
+    own as u16 + 256 * (other as u16)
+}
+
+// The values of `own` that have a partner in `other`. The partners of an arc's values stand from rows[8 * arc] on; seen[arc] is a pair of sets
+// from which nothing is struck.
+fn kept_values(rows: &[u8], arc: usize, own: u8, other: u8, seen: &mut [u16]) -> u8
+    requires { ⌜ (8 * arc + 8 ≤ length (now rows)) × Seen (now rows) (now seen) ⌝ }
+    ensures { λ r. ⌜ r ≡ supportedValues (now (rows .entry)) (8 * arc) own other ⌝ }
+    ensures { λ r. ⌜ Seen (now (rows .entry)) (now (seen .exit)) ⌝ }
+{
+    if seen.len() <= arc {
+        return supported(rows, 8 * arc, own, other);
+    }
+    if seen[arc] == pair(own, other) {
+        return own;
+    }
+    let kept = supported(rows, 8 * arc, own, other);
+    seen[arc] = pair(kept, other);
+    kept
+}
+
 // Strikes the values of variable i that have no partner in variable j's set.
-fn revise(rows: &[u8], at: usize, sets: &mut [u8], i: usize, j: usize) -> Change
-    requires { ⌜ (at + 8 ≤ length (now rows)) × (i < length (now sets)) × (j < length (now sets)) ⌝ }
-    ensures { λ r. ⌜ now (sets .exit) ≡ set (now (sets .entry)) i (keptOf (now (rows .entry)) at i j (now (sets .entry))) ⌝ }
-    ensures { λ r. ⌜ r ≡ changeOf (getD (now (sets .entry)) i 0) (keptOf (now (rows .entry)) at i j (now (sets .entry))) ⌝ }
+fn revise(rows: &[u8], arc: usize, sets: &mut [u8], i: usize, j: usize, seen: &mut [u16]) -> Change
+    requires { ⌜ (8 * arc + 8 ≤ length (now rows)) × Seen (now rows) (now seen) ⌝ }
+    requires { ⌜ (i < length (now sets)) × (j < length (now sets)) ⌝ }
+    ensures { λ r. ⌜ now (sets .exit) ≡ set (now (sets .entry)) i (keptOf (now (rows .entry)) (8 * arc) i j (now (sets .entry))) ⌝ }
+    ensures { λ r. ⌜ r ≡ changeOf (getD (now (sets .entry)) i 0) (keptOf (now (rows .entry)) (8 * arc) i j (now (sets .entry))) ⌝ }
+    ensures { λ r. ⌜ Seen (now (rows .entry)) (now (seen .exit)) ⌝ }
 {
     let own = sets[i];
-    let kept = supported(rows, at, own, sets[j]);
+    let kept = kept_values(rows, arc, own, sets[j], seen);
     sets[i] = kept;
     change_of(own, kept)
 }
@@ -132,30 +158,41 @@ fn revise_edge(
     raised: &[u8],
     e: usize,
     sets: &mut [u8],
+    seen: &mut [u16],
 ) -> Change
     requires { ⌜ WellFormed (length (now sets)) (now lower) (now upper) (now rows) (now raised) ⌝ }
-    requires { ⌜ e < length (now raised) ⌝ }
+    requires { ⌜ (e < length (now raised)) × Seen (now rows) (now seen) ⌝ }
     ensures { λ r. ⌜ Swept (networkOfBytes (length (now (sets .entry))) (now (lower .entry)) (now (upper .entry)) (now (rows .entry)) (now (raised .entry))) (λ f up. f ≡ e) (now (sets .entry)) (now (sets .exit)) r ⌝ }
+    ensures { λ r. ⌜ Seen (now (rows .entry)) (now (seen .exit)) ⌝ }
 {
     if raised[e] == 0 {
         return Change::Still;
     }
     let i = lower[e] as usize;
     let j = upper[e] as usize;
-    let first = revise(rows, 16 * e, sets, i, j);
-    let second = revise(rows, 16 * e + 8, sets, j, i);
+    let first = revise(rows, 2 * e, sets, i, j, seen);
+    let second = revise(rows, 2 * e + 1, sets, j, i, seen);
     both(first, second)
 }
 
 // All edges once, or up to the first set that is empty.
-fn sweep(lower: &[u8], upper: &[u8], rows: &[u8], raised: &[u8], sets: &mut [u8]) -> Change
+fn sweep(
+    lower: &[u8],
+    upper: &[u8],
+    rows: &[u8],
+    raised: &[u8],
+    sets: &mut [u8],
+    seen: &mut [u16],
+) -> Change
     requires { ⌜ WellFormed (length (now sets)) (now lower) (now upper) (now rows) (now raised) ⌝ }
+    requires { ⌜ Seen (now rows) (now seen) ⌝ }
     ensures { λ r. ⌜ Swept (networkOfBytes (length (now (sets .entry))) (now (lower .entry)) (now (upper .entry)) (now (rows .entry)) (now (raised .entry))) (λ f up. f < length (now (raised .entry))) (now (sets .entry)) (now (sets .exit)) r ⌝ }
+    ensures { λ r. ⌜ Seen (now (rows .entry)) (now (seen .exit)) ⌝ }
 {
     let mut change = Change::Still;
     let mut e: usize = 0;
     while e < raised.len() {
-        let next = revise_edge(lower, upper, rows, raised, e, sets);
+        let next = revise_edge(lower, upper, rows, raised, e, sets, seen);
         change = both(change, next);
         if let Change::Emptied = change {
             return Change::Emptied;
@@ -166,13 +203,21 @@ fn sweep(lower: &[u8], upper: &[u8], rows: &[u8], raised: &[u8], sets: &mut [u8]
 }
 
 // Sweeps until nothing changes or a set is empty. Whether a family is left.
-fn settle(lower: &[u8], upper: &[u8], rows: &[u8], raised: &[u8], sets: &mut [u8]) -> bool
+fn settle(
+    lower: &[u8],
+    upper: &[u8],
+    rows: &[u8],
+    raised: &[u8],
+    sets: &mut [u8],
+    seen: &mut [u16],
+) -> bool
     requires { ⌜ WellFormed (length (now sets)) (now lower) (now upper) (now rows) (now raised) ⌝ }
-    requires { ⌜ Filled (now sets) ⌝ }
+    requires { ⌜ Filled (now sets) × Seen (now rows) (now seen) ⌝ }
     ensures { λ r. ⌜ Settled (networkOfBytes (length (now (sets .entry))) (now (lower .entry)) (now (upper .entry)) (now (rows .entry)) (now (raised .entry))) (setsOf (now (sets .entry))) (now (sets .exit)) r ⌝ }
+    ensures { λ r. ⌜ Seen (now (rows .entry)) (now (seen .exit)) ⌝ }
 {
     loop {
-        let change = sweep(lower, upper, rows, raised, sets);
+        let change = sweep(lower, upper, rows, raised, sets, seen);
         match change {
             Change::Still => return true,
             Change::Emptied => return false,
@@ -201,7 +246,8 @@ fn narrow(lower: &[u8], upper: &[u8], rows: &[u8], raised: &[u8], sets: &mut [u8
     if has_empty(sets) {
         return false;
     }
-    settle(lower, upper, rows, raised, sets)
+    let mut seen = [0u16; 192];
+    settle(lower, upper, rows, raised, sets, &mut seen)
 }
 
 fn clear(sets: &mut [u8])
@@ -266,7 +312,30 @@ fn copy_sets(sets: &[u8], work: &mut [u8])
     }
 }
 
-// Whether none of `values` has a family. The sets are narrowed in `work`.
+// Whether value k of `variable`, fixed alone, leaves a family. The sets are narrowed in `work`.
+fn has_family(
+    lower: &[u8],
+    upper: &[u8],
+    rows: &[u8],
+    raised: &[u8],
+    sets: &[u8],
+    variable: usize,
+    k: u8,
+    seen: [u16; 192],
+    work: &mut [u8],
+) -> bool
+    requires { ⌜ WellFormed (length (now sets)) (now lower) (now upper) (now rows) (now raised) ⌝ }
+    requires { ⌜ Filled (now sets) × (variable < length (now sets)) × (length (now work) ≡ length (now sets)) ⌝ }
+    requires { ⌜ T (mark (getD (now sets) variable 0) k) × Seen (now rows) seen ⌝ }
+    ensures { λ r. ⌜ r ≡ hasFamily (networkOfBytes (length (now (sets .entry))) (now (lower .entry)) (now (upper .entry)) (now (rows .entry)) (now (raised .entry))) (now (sets .entry)) variable k ⌝ }
+{
+    let mut known = seen;
+    copy_sets(sets, work);
+    work[variable] = marks::only(k);
+    settle(lower, upper, rows, raised, work, &mut known)
+}
+
+// Whether none of `values` has a family, each tried alone.
 fn none_has(
     lower: &[u8],
     upper: &[u8],
@@ -275,18 +344,17 @@ fn none_has(
     sets: &[u8],
     variable: usize,
     values: u8,
+    seen: [u16; 192],
     work: &mut [u8],
 ) -> bool
     requires { ⌜ WellFormed (length (now sets)) (now lower) (now upper) (now rows) (now raised) ⌝ }
-    requires { ⌜ Filled (now sets) × (variable < length (now sets)) × (length (now work) ≡ length (now sets)) ⌝ }
+    requires { ⌜ Filled (now sets) × (variable < length (now sets)) × (length (now work) ≡ length (now sets)) × Seen (now rows) seen ⌝ }
     ensures { λ r. ⌜ r ≡ noneHas (hasFamily (networkOfBytes (length (now (sets .entry))) (now (lower .entry)) (now (upper .entry)) (now (rows .entry)) (now (raised .entry))) (now (sets .entry)) variable) values ⌝ }
 {
     let mut left = marks::common(values, sets[variable]);
     while left != 0 {
         let k = marks::lowest(left);
-        copy_sets(sets, work);
-        work[variable] = marks::only(k);
-        if settle(lower, upper, rows, raised, work) {
+        if has_family(lower, upper, rows, raised, sets, variable, k, seen, work) {
             return false;
         }
         left = marks::strike(left, k);
@@ -665,6 +733,7 @@ pub fn all_refuted(
         return Tried::Refuted;
     }
     let mut work = [0u8; 48];
+    let seen = [0u16; 192];
     tried_of(none_has(
         lower,
         upper,
@@ -673,6 +742,7 @@ pub fn all_refuted(
         sets,
         variable,
         values,
+        seen,
         &mut work[..n],
     ))
 }

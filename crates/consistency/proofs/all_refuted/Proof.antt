@@ -12,6 +12,7 @@ use Rattle.definitions.specs.Rules.{standard}
 use Rattle.consistency.specs.Closure.{isMalformed}
 use Rattle.consistency.specs.Sweeps.{Filled}
 use Rattle.consistency.proofs.Results.{well-formed, none-empty}
+use Rattle.consistency.proofs.Seen.{seen-none}
 use Rattle.consistency.proofs.Trying.{empty-none}
 use Rattle.consistency.proofs.Refutation.{too-many, no-variable, malformed, tried-known}
 use borrow.Author.Needs.{needs}
@@ -73,7 +74,7 @@ none-has-requires c κs =
     let q = c .before in
     let a = c .before .before .before .before .before .before .before .before .before .before .before .before .args in (
       well-formed (now (a .lower)) (now (a .upper)) (now (a .rows)) (now (a .raised)) (now (a .sets)) (known q .well),
-      (known q .filled, known q .in-range, length-take-le _ _ (omega (arith, known q .few))),
+      (known q .filled, known q .in-range, length-take-le _ _ (omega (arith, known q .few)), seen-none _ 192),
     )
 
 tried-of-requires : tie.Need-tried-of-requires

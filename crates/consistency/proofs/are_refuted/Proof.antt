@@ -5,7 +5,8 @@ use native.Mathlib.Omega.{arith}
 use denote.Ref.{now}
 use lib.Seq.{length-take-le}
 use Rattle.consistency.specs.Best.{isRefuted}
-use Rattle.consistency.proofs.Best.{zeros-at, prepared-answer}
+use Rattle.consistency.proofs.Seen.{zeros-at}
+use Rattle.consistency.proofs.Best.{prepared-answer}
 use borrow.Author.Needs.{needs}
 use Rattle.consistency.proofs.are_refuted.Statement.{statement}
 use Rattle.consistency.proofs.are_refuted.Tie as tie

@@ -2,6 +2,7 @@
 use mathlib.Core.Path.{sym, _∙_}
 use denote.Ref.{now}
 use Rattle.consistency.proofs.Results.{some-empty, none-empty}
+use Rattle.consistency.proofs.Seen.{seen-none}
 use borrow.Author.Needs.{needs}
 use Rattle.consistency.proofs.narrow.Statement.{statement}
 use Rattle.consistency.proofs.narrow.Tie as tie
@@ -17,8 +18,13 @@ returns c =
     let s = c .before .before .before .before .before .before .before .before .args in
     some-empty (now (s .sets)) (sym (c .before .has-empty .ensures) ∙ c .if1 .taken) (now (s .lower)) (now (s .upper)) (now (s .rows)) (now (s .raised))
 
+slice-aggregate-settle : tie.Need-slice-aggregate-settle
+slice-aggregate-settle c = search needs
+
 settle-requires : tie.Need-settle-requires
-settle-requires c κs = (c .before .before .before .before .before .before .before .before .before .pre, none-empty (now (c .before .before .before .before .before .before .before .before .before .args .sets)) (sym (c .before .before .has-empty .ensures) ∙ c .before .if1 .left))
+settle-requires c κs =
+    let s = c .before .before .before .before .before .before .before .before .before .before in
+    (s .pre, (none-empty (now (s .args .sets)) (sym (c .before .before .before .has-empty .ensures) ∙ c .before .before .if1 .left), seen-none _ 192))
 
 same-length-2 : tie.Need-same-length-2
 same-length-2 c = search needs
@@ -29,4 +35,4 @@ returns-2 c = search needs
 pub narrow-spec : {M : Type 1} → statement M
 narrow-spec =
     tie.close
-    (tie.spec has-empty-requires same-length returns settle-requires same-length-2 returns-2)
+    (tie.spec has-empty-requires same-length returns slice-aggregate-settle settle-requires same-length-2 returns-2)

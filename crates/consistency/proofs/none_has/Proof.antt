@@ -1,35 +1,19 @@
 -- `consistency::none_has` meets its contract. Assumes nothing.
-use mathlib.Core.Path.{_≡_, ap, sym, _∙_}
-use native.Mathlib.Omega.{arith}
+use mathlib.Core.Path.{_≡_, sym, _∙_}
 use denote.Ref.{now}
 use lib.ListN.{length, getD}
 use Rattle.consistency.specs.Closure.{networkOfBytes}
 use Rattle.consistency.specs.Tried.{hasFamily}
 use Rattle.consistency.proofs.Search.{lowest-struck}
-use Rattle.consistency.proofs.Trying.{Trying, trying-start, trying-end, tried-small, tried-own, trying-found, trying-next, outside-none, alone-length, alone-filled, alone-well, alone-family}
+use Rattle.consistency.proofs.Trying.{Trying, trying-start, trying-end, tried-own, trying-found, trying-next, outside-none}
 use Rattle.consistency.proofs.none_has.Statement.{statement}
 use Rattle.consistency.proofs.none_has.Tie as tie
 
 abbrev Inv-loop : tie.InvT-loop
-Inv-loop lower upper rows raised sets variable values work₀ left₀ work left = Trying (hasFamily (networkOfBytes (length sets) lower upper rows raised) sets variable) (getD sets variable 0) values left × (length work ≡ length sets)
+Inv-loop lower upper rows raised sets variable values seen work₀ left₀ work left = Trying (hasFamily (networkOfBytes (length sets) lower upper rows raised) sets variable) (getD sets variable 0) values left × (length work ≡ length sets)
 
 abbrev μ-loop : tie.MeasureT-loop
-μ-loop lower upper rows raised sets variable values work₀ left₀ work left = left
-
--- the sets after the sweeps
-longer : (c : tie.After-settle Inv-loop μ-loop) → length (c .settle .last .1 .1 .1 .1 .0) ≡ length (now (c .before .before .before .before .before .before .before .before .before .before .before .before .before .before .before .before .before .before .args .sets))
-longer c =
-    let s = c .before .before .before .before .before .before .before .before .before .before .before .before .before .before .before .before .before .before in
-    c .settle .kept .1 .1 .1 .1 .0 ∙ alone-length (now (s .args .sets)) (s .args .variable) (s .pre .1 .1) _ _ _ (c .before .before .only .ensures) (c .before .before .before .before .before .copy-sets .ensures)
-
-family : (c : tie.After-settle Inv-loop μ-loop) → let a = c .before .before .before .before .before .before .before .before .before .before .before .before .before .before .before .before .before .before .args in
-    hasFamily (networkOfBytes (length (now (a .sets))) (now (a .lower)) (now (a .upper)) (now (a .rows)) (now (a .raised))) (now (a .sets)) (a .variable) (c .before .before .before .before .before .before .before .lowest .result)
-    ≡ c .settle .result
-family c =
-    let s = c .before .before .before .before .before .before .before .before .before .before .before .before .before .before .before .before .before .before in
-    let at = c .before .before .before .before .before .before .before .before .before in
-    alone-family _ _ _ _ (now (s .args .sets)) (s .args .variable) (s .pre .1 .1) _ _ _ (c .before .before .only .ensures) (c .before .before .before .before .before .copy-sets .ensures) (s .pre .0)
-    (tried-own _ _ _ _ (at .loop .inv .0) _ (c .before .before .before .before .before .before .before .before .loop-test .taken) (c .before .before .before .before .before .before .before .lowest .ensures)) _ _ (c .settle .ensures)
+μ-loop lower upper rows raised sets variable values seen work₀ left₀ work left = left
 
 shared-slice-read-common : tie.Need-shared-slice-read-common Inv-loop μ-loop
 shared-slice-read-common c = c .before .before .before .before .before .before .before .pre .1 .1
@@ -45,47 +29,29 @@ loop-holds c =
 lowest-requires : tie.Need-lowest-requires Inv-loop μ-loop
 lowest-requires c κs = tt
 
-copy-sets-requires : tie.Need-copy-sets-requires Inv-loop μ-loop
-copy-sets-requires c κs = c .before .before .before .loop .inv .1
-
-only-requires : tie.Need-only-requires Inv-loop μ-loop
-only-requires c κs = tt
-
-slice-write-work : tie.Need-slice-write-work Inv-loop μ-loop
-slice-write-work c = omega (arith, ap length (c .before .before .before .copy-sets .ensures), c .before .before .before .before .before .before .before .before .before .before .before .before .before .before .before .before .pre .1 .1)
-
-settle-requires : tie.Need-settle-requires Inv-loop μ-loop
-settle-requires c κs =
-    let s = c .before .before .before .before .before .before .before .before .before .before .before .before .before .before .before .before .before in
-    let at = c .before .before .before .before .before .before .before .before in
-    let k = tried-small _ _ _ _ (at .loop .inv .0) _ (c .before .before .before .before .before .before .before .loop-test .taken) (c .before .before .before .before .before .before .lowest .ensures) in
-    let o = c .before .only .ensures in
-    let e = c .before .before .before .before .copy-sets .ensures in (
-      alone-well _ _ _ _ (now (s .args .sets)) (s .args .variable) (s .pre .1 .1) _ _ _ o e (s .pre .0),
-      alone-filled (now (s .args .sets)) (s .args .variable) (s .pre .1 .1) _ _ _ o e k (s .pre .1 .0),
-    )
+has-family-requires : tie.Need-has-family-requires Inv-loop μ-loop
+has-family-requires c κs =
+    let s = c .before .before .before .before .before .before .before .before .before .before .before .before in
+    let l = c .before .before .before .loop in
+    (s .pre .0, ((s .pre .1 .0, s .pre .1 .1, l .inv .1), (tried-own _ _ _ _ (l .inv .0) _ (c .before .before .loop-test .taken) (c .before .lowest .ensures), s .pre .1 .3)))
 
 same-length : tie.Need-same-length Inv-loop μ-loop
-same-length c = longer (c .before .before .before) ∙ sym (c .before .before .before .before .before .before .before .before .before .before .before .before .before .before .before .before .before .before .before .before .before .pre .1 .2)
+same-length c = c .before .before .before .has-family .kept .1 .1 .1 .1 .1 .1 .1 .1 .0 ∙ c .before .before .before .before .before .before .before .loop .inv .1 ∙ sym (c .before .before .before .before .before .before .before .before .before .before .before .before .before .before .before .before .pre .1 .2)
 
 returns : tie.Need-returns Inv-loop μ-loop
-returns c =
-    let q = c .before .before .before in
-    let at = q .before .before .before .before .before .before .before .before .before in
-    trying-found _ _ _ _ (at .loop .inv .0) _ (q .before .before .before .before .before .before .before .before .loop-test .taken) (q .before .before .before .before .before .before .before .lowest .ensures) (family q ∙ c .if1 .taken)
+returns c = trying-found _ _ _ _ (c .before .before .before .before .before .before .before .loop .inv .0) _ (c .before .before .before .before .before .before .loop-test .taken) (c .before .before .before .before .before .lowest .ensures) (sym (c .before .before .before .has-family .ensures) ∙ c .if1 .taken)
 
 strike-requires : tie.Need-strike-requires Inv-loop μ-loop
 strike-requires c κs = tt
 
 loop-less : tie.Need-loop-less Inv-loop μ-loop
-loop-less c =
-    let q = c .before .before .before .before in
-    lowest-struck _ _ _ (q .before .before .before .before .before .before .before .before .before .loop .inv .0 .small) (q .before .before .before .before .before .before .before .before .loop-test .taken) (q .before .before .before .before .before .before .before .lowest .ensures) (c .strike .ensures) .1
+loop-less c = lowest-struck _ _ _ (c .before .before .before .before .before .before .before .before .loop .inv .0 .small) (c .before .before .before .before .before .before .before .loop-test .taken) (c .before .before .before .before .before .before .lowest .ensures) (c .strike .ensures) .1
 
 loop-again : tie.Need-loop-again Inv-loop μ-loop
-loop-again c =
-    let q = c .before .before .before .before in
-    (trying-next _ _ _ _ (q .before .before .before .before .before .before .before .before .before .loop .inv .0) _ (q .before .before .before .before .before .before .before .before .loop-test .taken) (q .before .before .before .before .before .before .before .lowest .ensures) (family q ∙ c .before .if1 .left) _ (c .strike .ensures), longer q)
+loop-again c = (
+  trying-next _ _ _ _ (c .before .before .before .before .before .before .before .before .loop .inv .0) _ (c .before .before .before .before .before .before .before .loop-test .taken) (c .before .before .before .before .before .before .lowest .ensures) (sym (c .before .before .before .before .has-family .ensures) ∙ c .before .if1 .left) _ (c .strike .ensures),
+  c .before .before .before .before .has-family .kept .1 .1 .1 .1 .1 .1 .1 .1 .0 ∙ c .before .before .before .before .before .before .before .before .loop .inv .1,
+)
 
 same-length-2 : tie.Need-same-length-2 Inv-loop μ-loop
 same-length-2 c = c .before .loop .inv .1 ∙ sym (c .before .before .before .before .before .before .before .before .before .before .pre .1 .2)
@@ -103,10 +69,7 @@ none-has-spec =
     common-requires
     loop-holds
     lowest-requires
-    copy-sets-requires
-    only-requires
-    slice-write-work
-    settle-requires
+    has-family-requires
     same-length
     returns
     strike-requires
