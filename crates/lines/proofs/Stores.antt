@@ -5,9 +5,10 @@ use Prim.Native.Nat.{ℕ, suc, _+_, _-_, _/_, _%_, _≤_, _<_}
 use native.Mathlib.Numerals.{add-one}
 use native.Mathlib.Omega.{arith}
 use lib.ListN.{length, take, drop, set, getD, replicate, length-append, length-drop, length-replicate, take-append-drop, replicate-append-replicate}
-use lib.Seq.{append-snoc, set-split, drop-at, take-at, drop-drop, set-at, drop-cons, length-take-le, take-set-le, take-suc-set, take-take}
+use lib.Seq.{append-snoc, sets-eq, set-split, drop-at, take-at, drop-drop, set-at, drop-cons, length-take-le, take-set-le, take-suc-set, take-take}
 use Rattle.definitions.specs.Lines.{decimal, overwritten}
 use Rattle.definitions.proofs.ColumnLaws.{by-digit, decimal-digit, decimal-last}
+use Rattle.lines.specs.Digits.{fourDigits}
 
 -- a byte stored before the text
 pub before : (l : List ℕ) (i v : ℕ) → 0 < i → i ≤ length l → drop (i - 1) (set l (i - 1) v) ≡ v ∷ drop i l
@@ -67,6 +68,47 @@ module _ (rest n i : ℕ) (l : List ℕ) (h : i ≤ length l) (most : length (de
 
   pub digits-last : rest < 10 → drop (i - 1) (set l (i - 1) (48 + rest)) ≡ decimal n
   digits-last g = before l i (48 + rest) digits-room h ∙ ap (λ t. t ++ drop i l) (sym (decimal-digit rest g)) ∙ e
+
+-- ---- digits four at a time
+
+pub four-stored : (l : List ℕ) (i a b c d : ℕ) → i + 4 ≤ length l
+    → set (set (set (set l i a) (i + 1) b) (i + 2) c) (i + 3) d ≡ take i l ++ (a ∷ b ∷ c ∷ d ∷ drop (i + 4) l)
+four-stored l i a b c d h =
+    let e1 : suc i ≡ i + 1 = omega arith in
+    let e2 : suc (i + 1) ≡ i + 2 = omega arith in
+    let e3 : suc (i + 2) ≡ i + 3 = omega arith in
+    rw (e1, e2, e3) at (sets-eq (a ∷ b ∷ c ∷ d ∷ []) l i h) ∙ append-assoc (take i l) (a ∷ b ∷ c ∷ d ∷ []) (drop (i + 4) l)
+
+decimal-four : (n : ℕ) → 10000 ≤ n → decimal n ≡ decimal (n / 10000) ++ fourDigits (n % 10000)
+decimal-four n h =
+    let d1 : n / 10 / 10 / 10 / 10 ≡ n / 10000 = omega arith in
+    let a : n / 10 / 10 / 10 % 10 ≡ n % 10000 / 1000 = omega arith in
+    let b : n / 10 / 10 % 10 ≡ n % 10000 / 100 % 10 = omega arith in
+    let c : n / 10 % 10 ≡ n % 10000 / 10 % 10 = omega arith in
+    let d : n % 10 ≡ n % 10000 % 10 = omega arith in
+    rw (decimal-last n (omega arith), decimal-last (n / 10) (omega arith), decimal-last (n / 10 / 10) (omega arith), decimal-last (n / 10 / 10 / 10) (omega arith), d1, a, b, c, d)
+    (simp append-assoc)
+
+-- the digits of `rest` are still to be stored before i
+module _ (rest n i : ℕ) (l : List ℕ) (h : i ≤ length l) (most : length (decimal n) ≤ length l) (e : decimal rest ++ drop i l ≡ decimal n) where
+  pub rest-room : length (decimal rest) ≤ i
+  rest-room = omega (arith, simp (length-append, length-drop) at (ap length e))
+
+  pub four-room : 10000 ≤ rest → 4 ≤ i
+  four-room g = omega (arith, rest-room, simp length-append at (ap length (decimal-four rest g)))
+
+  pub four-next : 10000 ≤ rest → (j : ℕ) → j + 4 ≡ i → (o : List ℕ) → o ≡ take j l ++ (fourDigits (rest % 10000) ++ drop (j + 4) l) → decimal (rest / 10000) ++ drop j o ≡ decimal n
+  four-next g j q o f =
+      rw (f, drop-at (take j l) (fourDigits (rest % 10000) ++ drop (j + 4) l) j (length-take-le j l (omega arith)), q)
+      (sym (append-assoc (decimal (rest / 10000)) (fourDigits (rest % 10000)) (drop i l)) ∙ ap (λ t. t ++ drop i l) (sym (decimal-four rest g)) ∙ e)
+
+  pub four-kept : (o p : List ℕ) (j : ℕ) (t : List ℕ) → j + 4 ≡ i → take i l ≡ take i p → o ≡ take j l ++ t → take j o ≡ take j p
+  four-kept o p j t q f g =
+      ap (take j) g ∙ take-at (take j l) t j (length-take-le j l (omega arith)) ∙ sym (take-take j i l (omega arith)) ∙ ap (take j) f ∙ take-take j i p (omega arith)
+
+  pub few-stored : (o p : List ℕ) (r : ℕ) → r ≤ i → take i l ≡ take i p → o ≡ take r (take i l) ++ decimal rest → o ++ drop i l ≡ take r p ++ decimal n
+  few-stored o p r k f g =
+      rw (g, append-assoc (take r (take i l)) (decimal rest) (drop i l), e, f, take-take r i p k)
 
 -- ---- columns one after the other
 

@@ -2,3 +2,4 @@
 pub mod Found
 pub mod WriteNumber
 pub mod Words
+pub mod Digits

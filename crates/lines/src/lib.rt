@@ -9,7 +9,7 @@ ghost use mathlib.Core.Path.{_≡_};
 ghost use mathlib.Core.Bool.{false};
 ghost use mathlib.Core.List.{_++_};
 ghost use Prim.Native.Nat.{_+_, _-_, _≤_, _<_, _^_};
-ghost use lib.IntN.{natAbs};
+ghost use lib.IntN.{pos, natAbs};
 ghost use lib.ListN.{length, take, drop, replicate};
 ghost use Rattle.definitions.specs.Rules.{Rules, standard};
 ghost use Rattle.definitions.specs.Lines.{decimal, numberText, tooWide, columnText, readPositive, readNumber, readColumn, columnAt, lineLength, lineText, lineTooWide, overwritten};
@@ -17,6 +17,7 @@ ghost use Rattle.definitions.specs.Calls.{readLineAnswer, writeLineCall};
 ghost use Rattle.lines.specs.Found.{digitsFound, digitsValue, plainFound, negativeFound, columnFound, lineFound, lineAnswer};
 ghost use Rattle.lines.specs.WriteNumber.{writeNumberCall};
 ghost use Rattle.lines.specs.Words.{Word};
+ghost use Rattle.lines.specs.Digits.{fourDigits, signByte};
 
 // The width of the amount column today.
 const AMOUNT: usize = 12;
@@ -272,14 +273,21 @@ fn power(k: usize) -> u64
     p
 }
 
+fn signed(n: u64) -> i64
+    requires { ⌜ n ≤ 10 ^ 18 ⌝ }
+    ensures { λ r. ⌜ r ≡ pos n ⌝ }
+{
+    n as i64
+}
+
+// A minus takes a byte.
 fn too_wide(width: usize, z: i64) -> bool
     requires { ⌜ (1 ≤ width) × (width ≤ 18) ⌝ }
     ensures { λ r. ⌜ r ≡ tooWide width z ⌝ }
 {
-    if z < 0 {
-        return power(width - 1) <= magnitude(z);
-    }
-    power(width) <= magnitude(z)
+    let most = signed(power(width));
+    let least = 0 - signed(power(width - 1));
+    (z <= least) | (most <= z)
 }
 
 fn line_too_wide(line: Line, width: usize) -> bool
@@ -293,8 +301,8 @@ fn line_too_wide(line: Line, width: usize) -> bool
         | too_wide(width, line.amount)
 }
 
-// Puts n's digits at the end of out, and answers where they begin.
-fn put_digits(out: &mut [u8], n: u64) -> usize
+// Puts n's digits at the end of out, one at a time, and answers where they begin.
+fn put_few(out: &mut [u8], n: u64) -> usize
     requires { ⌜ length (decimal n) ≤ length (now out) ⌝ }
     ensures { λ r. ⌜ (r + length (decimal n) ≡ length (now (out .entry))) × (now (out .exit) ≡ take r (now (out .entry)) ++ decimal n) ⌝ }
 {
@@ -310,16 +318,37 @@ fn put_digits(out: &mut [u8], n: u64) -> usize
     i
 }
 
-// Puts z at the end of out.
-fn put_number(out: &mut [u8], z: i64)
-    requires { ⌜ length (numberText z) ≤ length (now out) ⌝ }
-    ensures { λ _. ⌜ now (out .exit) ≡ take (length (now (out .entry)) - length (numberText z)) (now (out .entry)) ++ numberText z ⌝ }
+// Puts n's four digits at byte i.
+fn put_four(out: &mut [u8], i: usize, n: u64)
+    requires { ⌜ (i + 4 ≤ length (now out)) × (n < 10000) ⌝ }
+    ensures { λ _. ⌜ now (out .exit) ≡ take i (now (out .entry)) ++ (fourDigits n ++ drop (i + 4) (now (out .entry))) ⌝ }
 {
-    let i = put_digits(out, magnitude(z));
-    if z < 0 {
-        let m = i - 1;
-        out[m] = 45;
+    out[i] = 48 + (n / 1000) as u8;
+    out[i + 1] = 48 + (n / 100 % 10) as u8;
+    out[i + 2] = 48 + (n / 10 % 10) as u8;
+    out[i + 3] = 48 + (n % 10) as u8;
+}
+
+// Puts n's digits at the end of out, four at a time, and answers where they begin.
+fn put_digits(out: &mut [u8], n: u64) -> usize
+    requires { ⌜ length (decimal n) ≤ length (now out) ⌝ }
+    ensures { λ r. ⌜ (r + length (decimal n) ≡ length (now (out .entry))) × (now (out .exit) ≡ take r (now (out .entry)) ++ decimal n) ⌝ }
+{
+    let mut i = out.len();
+    let mut rest = n;
+    while 10000 <= rest {
+        i -= 4;
+        put_four(out, i, rest % 10000);
+        rest /= 10000;
     }
+    put_few(&mut out[..i], rest)
+}
+
+// A minus, or a space.
+fn sign(z: i64) -> u8
+    ensures { λ r. ⌜ r ≡ signByte z ⌝ }
+{
+    if z < 0 { 45 } else { 32 }
 }
 
 // Fills out with spaces.
@@ -339,7 +368,11 @@ fn put_column(out: &mut [u8], z: i64)
     ensures { λ _. ⌜ now (out .exit) ≡ columnText (length (now (out .entry))) z ⌝ }
 {
     clear(out);
-    put_number(out, z);
+    let i = put_digits(out, magnitude(z));
+    if 0 < i {
+        let m = i - 1;
+        out[m] = sign(z);
+    }
 }
 
 // Puts z into the column at byte `from`.
