@@ -1,0 +1,214 @@
+-- What was written is read back, for every case and every record that the types can hold. Assumes nothing.
+use mathlib.Core.Path.{_≡_, refl, ap, _∙_}
+use mathlib.Core.Bool.{Bool, true, false}
+use mathlib.Core.List.{List}
+use Prim.Native.Nat.{ℕ, _^_, _<_}
+use native.Mathlib.Omega.{arith}
+use lib.Dec.{leb, eqb}
+use lib.IntN.{ℤ}
+use lib.ListN.{length, take, drop, getD}
+use lib.Seq.{take-at, drop-at, take-all}
+use mir.Syntax.{w64}
+use mir.Val.{SFits}
+use Rattle.definitions.specs.declared.Case.{Case}
+use Rattle.definitions.specs.declared.Refusal.the-variants.{
+  NotInColumns,
+  NotDue,
+  OutsideLimits,
+  WrongLength,
+  OutOfRange,
+  EndsNotAscending,
+  EdgeRepeated,
+  WeightOutOfRange,
+  RaiseNotAscending,
+  NotRefuted,
+  LeavesRange,
+  OtherBound,
+  BoundNotLower,
+  CutShort,
+}
+use Rattle.checker.specs.declared.LastRaised.{LastRaised}
+use Rattle.checker.specs.declared.Due.{Due}
+use Rattle.checker.specs.declared.Standing.{Standing}
+use Rattle.checker.specs.declared.Replay.{Replay}
+use Rattle.encoding.specs.declared.Press.{Press}
+use Rattle.encoding.specs.Numbers.{numberBytes, numberAt, bitsOf, signedOf}
+use Rattle.encoding.specs.CaseBytes.{caseBytes, caseOf}
+use Rattle.encoding.specs.RecordBytes.{pressOf, dueOf, standingNumber, standingOf, flag, recordNumbers, recordTags, recordBytes, isRecord, pressAt, recordOf}
+use Rattle.encoding.proofs.Signed.{signed-back, bits-fit}
+use Rattle.encoding.proofs.Values.{number-back}
+
+-- ---- the case
+
+pub record CaseHeld (c : Case) : Type 0 where
+  pub n : c .n < 2 ^ 64
+  pub d : c .d < 2 ^ 64
+  pub m : c .m < 2 ^ 64
+  pub lower : length (c .lower) ≡ 96
+  pub upper : length (c .upper) ≡ 96
+
+module _ (c : Case) (h : CaseHeld c) where
+  n-is : numberAt (caseBytes c) 0 ≡ c .n
+  unfolding numberAt numberBytes caseBytes
+  n-is = number-back (c .n) (h .n)
+
+  d-is : numberAt (caseBytes c) 8 ≡ c .d
+  unfolding numberAt numberBytes caseBytes
+  d-is = number-back (c .d) (h .d)
+
+  m-is : numberAt (caseBytes c) 16 ≡ c .m
+  unfolding numberAt numberBytes caseBytes
+  m-is = number-back (c .m) (h .m)
+
+  lower-is : take 96 (drop 24 (caseBytes c)) ≡ c .lower
+  unfolding numberBytes caseBytes
+  lower-is = take-at (c .lower) (c .upper) 96 (h .lower)
+
+  upper-is : take 96 (drop 120 (caseBytes c)) ≡ c .upper
+  unfolding numberBytes caseBytes
+  upper-is = ap (take 96) (drop-at (c .lower) (c .upper) 96 (h .lower)) ∙ take-all 96 (c .upper) (omega (arith, h .upper))
+
+  pub case-back : caseOf (caseBytes c) ≡ c
+  unfolding caseOf
+  case-back = rw (n-is, d-is, m-is, lower-is, upper-is)
+
+-- ---- what is due and what stands
+
+due-back : (due : Due) → dueOf (pressOf due) ≡ due
+due-back Due.MoveOrBound = refl
+due-back (Due.Raise i a left LastRaised.Nothing) = refl
+due-back (Due.Raise i a left (LastRaised.Scope x)) = refl
+
+begun-is : (due : Due) → leb (pressOf due .begun) 1 ≡ true
+begun-is Due.MoveOrBound = refl
+begun-is (Due.Raise i a left lastOne) = refl
+
+known-is : (due : Due) → leb (pressOf due .last .known) 1 ≡ true
+known-is Due.MoveOrBound = refl
+known-is (Due.Raise i a left LastRaised.Nothing) = refl
+known-is (Due.Raise i a left (LastRaised.Scope x)) = refl
+
+flag-back : (b : Bool) → eqb (flag b) 1 ≡ b
+flag-back true = refl
+flag-back false = refl
+
+flag-is : (b : Bool) → leb (flag b) 1 ≡ true
+flag-is true = refl
+flag-is false = refl
+
+record Stands (s : Standing) : Type 0 where
+  back : standingOf (standingNumber s) ≡ s
+  least : leb (standingNumber s) 14 ≡ true
+
+stands : (s : Standing) → Stands s
+stands Standing.Good = record { back = refl; least = refl }
+stands (Standing.Refused NotInColumns) = record { back = refl; least = refl }
+stands (Standing.Refused NotDue) = record { back = refl; least = refl }
+stands (Standing.Refused OutsideLimits) = record { back = refl; least = refl }
+stands (Standing.Refused WrongLength) = record { back = refl; least = refl }
+stands (Standing.Refused OutOfRange) = record { back = refl; least = refl }
+stands (Standing.Refused EndsNotAscending) = record { back = refl; least = refl }
+stands (Standing.Refused EdgeRepeated) = record { back = refl; least = refl }
+stands (Standing.Refused WeightOutOfRange) = record { back = refl; least = refl }
+stands (Standing.Refused RaiseNotAscending) = record { back = refl; least = refl }
+stands (Standing.Refused NotRefuted) = record { back = refl; least = refl }
+stands (Standing.Refused LeavesRange) = record { back = refl; least = refl }
+stands (Standing.Refused OtherBound) = record { back = refl; least = refl }
+stands (Standing.Refused BoundNotLower) = record { back = refl; least = refl }
+stands (Standing.Refused CutShort) = record { back = refl; least = refl }
+
+-- ---- the record
+
+pub record RecordHeld (p : Replay) : Type 0 where
+  pub rounds : p .rounds < 2 ^ 64
+  pub start : SFits w64 (p .start)
+  pub raised : length (p .raised) ≡ 144
+  pub variable : pressOf (p .due) .variable < 2 ^ 64
+  pub amount : SFits w64 (pressOf (p .due) .amount)
+  pub left : pressOf (p .due) .left < 2 ^ 64
+  pub scope : pressOf (p .due) .last .scope < 2 ^ 64
+
+signed : (z : ℤ) → SFits w64 z → {x : ℕ} → x ≡ bitsOf z → signedOf x ≡ z
+signed z f e = ap signedOf e ∙ signed-back z f
+
+same-press :
+    (q : Press) {b v l k s : ℕ} {a : ℤ}
+    → b ≡ q .begun
+    → v ≡ q .variable
+    → a ≡ q .amount
+    → l ≡ q .left
+    → k ≡ q .last .known
+    → s ≡ q .last .scope
+    → _≡_ {A = Press} (record { begun = b; variable = v; amount = a; left = l; last = record { known = k; scope = s } }) q
+same-press q e f g i j k = rw (e, f, g, i, j, k)
+
+same-record :
+    (p : Replay) {n : ℕ} {z : ℤ} {b : Bool} {l : List ℕ} {d : Due} {s : Standing}
+    → n ≡ p .rounds
+    → z ≡ p .start
+    → b ≡ p .moved
+    → l ≡ p .raised
+    → d ≡ p .due
+    → s ≡ p .standing
+    → _≡_ {A = Replay} (record { rounds = n; start = z; moved = b; raised = l; due = d; standing = s }) p
+same-record p e f g i j k = rw (e, f, g, i, j, k)
+
+module _ (p : Replay) where
+  pub is-record : isRecord (recordBytes p) ≡ true
+  unfolding isRecord numberBytes recordNumbers recordTags recordBytes
+  is-record = rw (flag-is (p .moved), begun-is (p .due), known-is (p .due), stands (p .standing) .least)
+
+  moved-at : getD (recordBytes p) 48 0 ≡ flag (p .moved)
+  unfolding numberBytes recordNumbers recordTags recordBytes
+  moved-at = refl
+
+  begun-at : getD (recordBytes p) 49 0 ≡ pressOf (p .due) .begun
+  unfolding numberBytes recordNumbers recordTags recordBytes
+  begun-at = refl
+
+  known-at : getD (recordBytes p) 50 0 ≡ pressOf (p .due) .last .known
+  unfolding numberBytes recordNumbers recordTags recordBytes
+  known-at = refl
+
+  standing-at : getD (recordBytes p) 51 0 ≡ standingNumber (p .standing)
+  unfolding numberBytes recordNumbers recordTags recordBytes
+  standing-at = refl
+
+  module _ (h : RecordHeld p) where
+    rounds-is : numberAt (recordBytes p) 0 ≡ p .rounds
+    unfolding numberAt numberBytes recordNumbers recordTags recordBytes
+    rounds-is = number-back (p .rounds) (h .rounds)
+
+    start-is : numberAt (recordBytes p) 8 ≡ bitsOf (p .start)
+    unfolding numberAt numberBytes recordNumbers recordTags recordBytes
+    start-is = number-back (bitsOf (p .start)) (bits-fit (p .start) (h .start))
+
+    variable-is : numberAt (recordBytes p) 16 ≡ pressOf (p .due) .variable
+    unfolding numberAt numberBytes recordNumbers recordTags recordBytes
+    variable-is = number-back (pressOf (p .due) .variable) (h .variable)
+
+    amount-is : numberAt (recordBytes p) 24 ≡ bitsOf (pressOf (p .due) .amount)
+    unfolding numberAt numberBytes recordNumbers recordTags recordBytes
+    amount-is = number-back (bitsOf (pressOf (p .due) .amount)) (bits-fit (pressOf (p .due) .amount) (h .amount))
+
+    left-is : numberAt (recordBytes p) 32 ≡ pressOf (p .due) .left
+    unfolding numberAt numberBytes recordNumbers recordTags recordBytes
+    left-is = number-back (pressOf (p .due) .left) (h .left)
+
+    scope-is : numberAt (recordBytes p) 40 ≡ pressOf (p .due) .last .scope
+    unfolding numberAt numberBytes recordNumbers recordTags recordBytes
+    scope-is = number-back (pressOf (p .due) .last .scope) (h .scope)
+
+    raised-is : take 144 (drop 52 (recordBytes p)) ≡ p .raised
+    unfolding numberBytes recordNumbers recordTags recordBytes
+    raised-is = take-all 144 (p .raised) (omega (arith, h .raised))
+
+    press-is : pressAt (recordBytes p) ≡ pressOf (p .due)
+    press-is =
+        same-press (pressOf (p .due)) begun-at variable-is (signed (pressOf (p .due) .amount) (h .amount) amount-is) left-is known-at scope-is
+
+    pub record-back : recordOf (recordBytes p) ≡ p
+    unfolding recordOf
+    record-back =
+        same-record p rounds-is (signed (p .start) (h .start) start-is) (ap (λ (b : ℕ). eqb b 1) moved-at ∙ flag-back (p .moved)) raised-is
+        (ap dueOf press-is ∙ due-back (p .due)) (ap standingOf standing-at ∙ stands (p .standing) .back)

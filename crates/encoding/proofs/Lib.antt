@@ -1,0 +1,5 @@
+-- What several proofs cite.
+pub mod Signed
+pub mod Values
+pub mod Parts
+pub mod Back

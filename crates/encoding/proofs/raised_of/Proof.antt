@@ -1,0 +1,13 @@
+-- By the byte. Assumes nothing.
+use borrow.Author.Tests.{eq-eqb, ne-eqb}
+use Rattle.encoding.proofs.raised_of.Statement.{statement}
+use Rattle.encoding.proofs.raised_of.Tie as tie
+
+returns : tie.Need-returns
+returns c = simp (eq-eqb _ 1 (c .if1 .taken))
+
+returns-2 : tie.Need-returns-2
+returns-2 c = simp (ne-eqb _ 1 (c .if1 .left))
+
+pub raised-of-spec : {M : Type 1} → statement M
+raised-of-spec = tie.close (tie.spec returns returns-2)

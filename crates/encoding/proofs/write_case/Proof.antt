@@ -1,0 +1,46 @@
+-- Part after part. Assumes nothing.
+use native.Mathlib.Omega.{arith}
+use Rattle.encoding.specs.CaseBytes.{caseBytes}
+use Rattle.encoding.proofs.Parts.{first-number, next-number, next-part, full}
+use borrow.Author.Needs.{needs}
+use Rattle.encoding.proofs.write_case.Statement.{statement}
+use Rattle.encoding.proofs.write_case.Tie as tie
+
+put-number-requires : tie.Need-put-number-requires
+put-number-requires c κs = search needs
+
+put-number-requires-2 : tie.Need-put-number-requires-2
+put-number-requires-2 c κs = search needs
+
+put-number-requires-3 : tie.Need-put-number-requires-3
+put-number-requires-3 c κs = search needs
+
+put-ends-requires : tie.Need-put-ends-requires
+put-ends-requires c κs = search needs
+
+put-ends-requires-2 : tie.Need-put-ends-requires-2
+put-ends-requires-2 c κs = search needs
+
+returns : tie.Need-returns
+unfolding caseBytes
+returns c =
+    let e = c .before .before .before .before in
+    let m = e .before .before .before .before in
+    let d = m .before .before in
+    let n = d .before .before in
+    let s = n .before .before in
+    let t = s .args .t1 in
+    let numbers = next-number (next-number (first-number (t .n) (n .put-number .ensures)) (t .d) (d .put-number2 .ensures)) (t .m) (m .put-number3 .ensures) in
+    let ends = next-part numbers (t .lower) 96 (e .put-ends .ensures .1) (e .put-ends .ensures .0) in
+    full (next-part ends (t .upper) 96 (c .put-ends2 .ensures .1) (c .put-ends2 .ensures .0)) (omega arith)
+
+pub write-case-spec : {M : Type 1} → statement M
+write-case-spec =
+    tie.close
+    (tie.spec
+    put-number-requires
+    put-number-requires-2
+    put-number-requires-3
+    put-ends-requires
+    put-ends-requires-2
+    returns)

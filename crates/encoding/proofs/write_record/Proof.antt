@@ -1,0 +1,43 @@
+-- Part after part. Assumes nothing.
+use native.Mathlib.Omega.{arith}
+use mathlib.Core.Path.{sym}
+use Rattle.texts.proofs.Placed.{Printed}
+use mir.Syntax.{w64}
+use Rattle.integers.specs.Linear.{read-back}
+use Rattle.encoding.specs.RecordBytes.{pressOf, recordNumbers, recordTags, recordBytes}
+use Rattle.encoding.proofs.Parts.{next-part, full, numbers-length, tags-length}
+use borrow.Author.Needs.{needs}
+use Rattle.encoding.proofs.write_record.Statement.{statement}
+use Rattle.encoding.proofs.write_record.Tie as tie
+
+press-of-requires : tie.Need-press-of-requires
+press-of-requires c κs = search needs
+
+put-numbers-requires : tie.Need-put-numbers-requires
+put-numbers-requires c κs = search needs
+
+put-tags-requires : tie.Need-put-tags-requires
+put-tags-requires c κs = search needs
+
+put-marks-requires : tie.Need-put-marks-requires
+put-marks-requires c κs = search needs
+
+returns : tie.Need-returns
+unfolding recordBytes
+returns c =
+    let tags = c .before .before .before .before in
+    let numbers = tags .before .before in
+    let press = numbers .before .before .before in
+    let s = press .before in
+    let t = s .args .t1 in
+    let q = press .press-of .ensures in
+    let a = rw (read-back w64 (t .start) (numbers .before .struct-told .given .1 .0 .1), q) at (numbers .put-numbers .ensures) in
+    let b = rw q at (tags .put-tags .ensures) in
+    let one : Printed (recordNumbers (t .rounds) (t .start) (pressOf (t .due))) (s .args .out .now) (numbers .put-numbers .last .0) 48 =
+    record { bytes = a; count = sym (numbers-length (t .rounds) (t .start) (pressOf (t .due))) } in
+    full (next-part (next-part one (recordTags (t .moved) (pressOf (t .due)) (t .standing)) 4 (tags-length (t .moved) (pressOf (t .due)) (t .standing)) b) (t .raised) 144 (c .put-marks .ensures .1) (c .put-marks .ensures .0)) (omega arith)
+
+pub write-record-spec : {M : Type 1} → statement M
+write-record-spec =
+    tie.close
+    (tie.spec press-of-requires put-numbers-requires put-tags-requires put-marks-requires returns)

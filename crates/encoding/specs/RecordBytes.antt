@@ -1,0 +1,126 @@
+-- The replay's record as 196 bytes: its count of rounds, its bound at the round's start, the variable, amount, lines left and last scope of a press
+-- begun (0 where there is none), then a byte each for: moved, a press begun, a last scope, the standing; then the 144 marks of raised scopes.
+-- Assumes nothing.
+use mathlib.Core.Bool.{Bool, _&&_}
+use mathlib.Core.List.{List, [], _∷_, _++_}
+use Prim.Native.Nat.{ℕ}
+use lib.IntN.{ℤ, pos}
+use lib.Dec.{leb, eqb}
+use lib.ListN.{getD, take, drop}
+use Rattle.integers.specs.Words.{if_then_else_}
+use Rattle.definitions.specs.declared.Refusal.{Refusal}
+use Rattle.definitions.specs.declared.Refusal.the-variants.{
+  NotInColumns,
+  NotDue,
+  OutsideLimits,
+  WrongLength,
+  OutOfRange,
+  EndsNotAscending,
+  EdgeRepeated,
+  WeightOutOfRange,
+  RaiseNotAscending,
+  NotRefuted,
+  LeavesRange,
+  OtherBound,
+  BoundNotLower,
+  CutShort,
+}
+use Rattle.definitions.specs.Refusals.{number}
+use Rattle.checker.specs.declared.LastRaised.{LastRaised}
+use Rattle.checker.specs.declared.Due.{Due}
+use Rattle.checker.specs.declared.Standing.{Standing}
+use Rattle.checker.specs.declared.Replay.{Replay}
+use Rattle.encoding.specs.declared.Last.{Last}
+use Rattle.encoding.specs.declared.Press.{Press}
+use Rattle.encoding.specs.Numbers.{numberBytes, numberAt, bitsOf, signedOf}
+
+abbrev pub refusals : List Refusal
+refusals =
+    NotInColumns
+    ∷ NotDue
+    ∷ OutsideLimits
+    ∷ WrongLength
+    ∷ OutOfRange
+    ∷ EndsNotAscending
+    ∷ EdgeRepeated
+    ∷ WeightOutOfRange
+    ∷ RaiseNotAscending
+    ∷ NotRefuted
+    ∷ LeavesRange
+    ∷ OtherBound
+    ∷ BoundNotLower
+    ∷ CutShort
+    ∷ []
+
+-- ---- what is due and what stands, as numbers
+
+-- 1 and the scope, or 0
+abbrev pub lastOf : LastRaised → Last
+lastOf LastRaised.Nothing = record { known = 0; scope = 0 }
+lastOf (LastRaised.Scope x) = record { known = 1; scope = x }
+
+abbrev pub raisedOf : Last → LastRaised
+raisedOf q = if eqb (q .known) 1 then LastRaised.Scope (q .scope) else LastRaised.Nothing
+
+abbrev pub pressOf : Due → Press
+pressOf Due.MoveOrBound = record { begun = 0; variable = 0; amount = pos 0; left = 0; last = lastOf LastRaised.Nothing }
+pressOf (Due.Raise i a left lastOne) = record { begun = 1; variable = i; amount = a; left = left; last = lastOf lastOne }
+
+abbrev pub dueOf : Press → Due
+dueOf q = if eqb (q .begun) 1 then Due.Raise (q .variable) (q .amount) (q .left) (raisedOf (q .last)) else Due.MoveOrBound
+
+-- document 01's number, or 0
+abbrev pub standingNumber : Standing → ℕ
+standingNumber Standing.Good = 0
+standingNumber (Standing.Refused x) = number x
+
+-- the refusal that has this number
+abbrev pub standingAmong : ℕ → List Refusal → Standing
+standingAmong n [] = Standing.Good
+standingAmong n (x ∷ xs) = if eqb n (number x) then Standing.Refused x else standingAmong n xs
+
+abbrev pub standingOf : ℕ → Standing
+standingOf n = standingAmong n refusals
+
+abbrev pub flag : Bool → ℕ
+flag b = if b then 1 else 0
+
+-- ---- the record
+
+unfoldable pub recordNumbers : ℕ → ℤ → Press → List ℕ
+recordNumbers rounds start q =
+    numberBytes rounds ++ numberBytes (bitsOf start) ++ numberBytes (q .variable) ++ numberBytes (bitsOf (q .amount)) ++ numberBytes (q .left)
+    ++ numberBytes (q .last .scope)
+
+unfoldable pub recordTags : Bool → Press → Standing → List ℕ
+recordTags moved q standing = flag moved ∷ q .begun ∷ q .last .known ∷ standingNumber standing ∷ []
+
+unfoldable pub recordBytes : Replay → List ℕ
+recordBytes p =
+    let q = pressOf (p .due) in
+    recordNumbers (p .rounds) (p .start) q ++ recordTags (p .moved) q (p .standing) ++ p .raised
+
+-- the bytes that say moved, a press begun, a last scope and the standing encode something
+unfoldable pub isRecord : List ℕ → Bool
+isRecord bytes = leb (getD bytes 48 0) 1 && leb (getD bytes 49 0) 1 && leb (getD bytes 50 0) 1 && leb (getD bytes 51 0) 14
+
+-- the press that the bytes hold
+abbrev pub pressAt : List ℕ → Press
+pressAt bytes = record {
+  begun = getD bytes 49 0;
+  variable = numberAt bytes 16;
+  amount = signedOf (numberAt bytes 24);
+  left = numberAt bytes 32;
+  last = record { known = getD bytes 50 0; scope = numberAt bytes 40 };
+}
+
+-- the record of such bytes; what a press would hold is not looked at where none is begun
+unfoldable pub recordOf : List ℕ → Replay
+recordOf bytes = record {
+  rounds = numberAt bytes 0;
+  start = signedOf (numberAt bytes 8);
+  moved = eqb (getD bytes 48 0) 1;
+  raised = take 144 (drop 52 bytes);
+  due = dueOf (pressAt bytes);
+  standing = standingOf (getD bytes 51 0);
+}

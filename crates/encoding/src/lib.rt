@@ -1,0 +1,413 @@
+// The case and the replay's record as bytes of fixed size, in which they cross to other languages. What each byte says is defined in specs/.
+use checker::Due;
+use checker::LastRaised;
+use checker::Replay;
+use checker::Standing;
+use definitions::Case;
+use definitions::Refusal;
+ghost use mathlib.Core.Path.{_≡_};
+ghost use Prim.Native.Nat.{_+_, _%_, _≤_, _<_};
+ghost use lib.ListN.{length, take, drop};
+ghost use Rattle.definitions.specs.Refusals.{number};
+ghost use Rattle.definitions.specs.Lines.{overwritten};
+ghost use Rattle.texts.specs.Texts.{placed};
+ghost use Rattle.encoding.specs.Numbers.{valueOf, numberBytes, numberAt, bitsOf, signedOf};
+ghost use Rattle.encoding.specs.CaseBytes.{caseBytes, caseOf};
+ghost use Rattle.encoding.specs.RecordBytes.{lastOf, raisedOf, pressOf, dueOf, standingNumber, standingOf, pressAt, recordNumbers, recordTags, recordBytes, isRecord, recordOf};
+
+// The greatest number of eight bytes, and the least that says a number below 0.
+const GREATEST: u64 = 18_446_744_073_709_551_615;
+
+const BELOW: u64 = 9_223_372_036_854_775_808;
+
+// The last scope that a press has raised, if any, as numbers.
+struct Last {
+    known: u8,
+    scope: usize,
+}
+
+// What is due, as numbers: whether a press is begun, and what it holds.
+struct Press {
+    begun: u8,
+    variable: usize,
+    amount: i64,
+    left: usize,
+    last: Last,
+}
+
+// ---- numbers
+
+fn wide(x: u8) -> u64
+    ensures { λ r. ⌜ (r ≡ x) × (r < 256) ⌝ }
+{
+    x as u64
+}
+
+fn low(x: u64) -> u8
+    ensures { λ r. ⌜ r ≡ x % 256 ⌝ }
+{
+    (x % 256) as u8
+}
+
+// The number of four bytes.
+fn half_at(bytes: &[u8], at: usize) -> u64
+    requires { ⌜ at + 4 ≤ length (now bytes) ⌝ }
+    ensures { λ r. ⌜ (r ≡ valueOf (take 4 (drop at (now (bytes .entry))))) × (r < 4294967296) ⌝ }
+{
+    let a = wide(bytes[at]);
+    let b = wide(bytes[at + 1]);
+    let c = wide(bytes[at + 2]);
+    let d = wide(bytes[at + 3]);
+    a + b * 256 + c * 65536 + d * 16777216
+}
+
+fn number_at(bytes: &[u8], at: usize) -> u64
+    requires { ⌜ at + 8 ≤ length (now bytes) ⌝ }
+    ensures { λ r. ⌜ r ≡ numberAt (now (bytes .entry)) at ⌝ }
+{
+    half_at(bytes, at) + half_at(bytes, at + 4) * 4294967296
+}
+
+fn number_bytes(x: u64) -> [u8; 8]
+    ensures { λ r. ⌜ r ≡ numberBytes x ⌝ }
+{
+    let b = x / 256;
+    let c = b / 256;
+    let d = c / 256;
+    let e = d / 256;
+    let f = e / 256;
+    let g = f / 256;
+    let h = g / 256;
+    [
+        low(x),
+        low(b),
+        low(c),
+        low(d),
+        low(e),
+        low(f),
+        low(g),
+        low(h),
+    ]
+}
+
+fn bits_of(z: i64) -> u64
+    ensures { λ r. ⌜ r ≡ bitsOf z ⌝ }
+{
+    if z < 0 {
+        let y = z + 1;
+        let m = 0 - y;
+        GREATEST - (m as u64)
+    } else {
+        z as u64
+    }
+}
+
+fn signed_of(x: u64) -> i64
+    ensures { λ r. ⌜ r ≡ signedOf x ⌝ }
+{
+    if x < BELOW {
+        x as i64
+    } else {
+        let m = (GREATEST - x) as i64;
+        0 - m - 1
+    }
+}
+
+// ---- parts of the bytes
+
+// Puts the bytes at byte `at`.
+fn put(out: &mut [u8], at: usize, bytes: &[u8])
+    requires { ⌜ at + length (now bytes) ≤ length (now out) ⌝ }
+    ensures { λ _. ⌜ now (out .exit) ≡ placed at (now (bytes .entry)) (now (out .entry)) ⌝ }
+{
+    bytes::copy(bytes, &mut out[at..]);
+}
+
+fn put_number(out: &mut [u8], at: usize, x: u64)
+    requires { ⌜ at + 8 ≤ length (now out) ⌝ }
+    ensures { λ _. ⌜ now (out .exit) ≡ placed at (numberBytes x) (now (out .entry)) ⌝ }
+{
+    let word = number_bytes(x);
+    put(out, at, &word);
+}
+
+fn put_ends(out: &mut [u8], at: usize, ends: &[u8; 96])
+    requires { ⌜ at + 96 ≤ length (now out) ⌝ }
+    ensures { λ _. ⌜ (now (out .exit) ≡ placed at (now (ends .entry)) (now (out .entry))) × (length (now (ends .entry)) ≡ 96) ⌝ }
+{
+    put(out, at, ends);
+}
+
+fn put_marks(out: &mut [u8], at: usize, marks: &[u8; 144])
+    requires { ⌜ at + 144 ≤ length (now out) ⌝ }
+    ensures { λ _. ⌜ (now (out .exit) ≡ placed at (now (marks .entry)) (now (out .entry))) × (length (now (marks .entry)) ≡ 144) ⌝ }
+{
+    put(out, at, marks);
+}
+
+// The 96 bytes from byte `at` on.
+fn ends_at(bytes: &[u8], at: usize) -> [u8; 96]
+    requires { ⌜ at + 96 ≤ length (now bytes) ⌝ }
+    ensures { λ r. ⌜ r ≡ take 96 (drop at (now (bytes .entry))) ⌝ }
+{
+    let mut part = [0u8; 96];
+    let end = at + 96;
+    bytes::copy(&bytes[at..end], &mut part);
+    part
+}
+
+// The 144 bytes from byte `at` on.
+fn marks_at(bytes: &[u8], at: usize) -> [u8; 144]
+    requires { ⌜ at + 144 ≤ length (now bytes) ⌝ }
+    ensures { λ r. ⌜ r ≡ take 144 (drop at (now (bytes .entry))) ⌝ }
+{
+    let mut part = [0u8; 144];
+    let end = at + 144;
+    bytes::copy(&bytes[at..end], &mut part);
+    part
+}
+
+// ---- what is due and what stands, as numbers
+
+fn last_of(last: LastRaised) -> Last
+    ensures { λ r. ⌜ r ≡ lastOf last ⌝ }
+{
+    match last {
+        LastRaised::Nothing => Last { known: 0, scope: 0 },
+        LastRaised::Scope(x) => Last { known: 1, scope: x },
+    }
+}
+
+fn press_of(due: Due) -> Press
+    ensures { λ r. ⌜ r ≡ pressOf due ⌝ }
+{
+    match due {
+        Due::MoveOrBound => Press {
+            begun: 0,
+            variable: 0,
+            amount: 0,
+            left: 0,
+            last: Last { known: 0, scope: 0 },
+        },
+        Due::Raise {
+            variable,
+            amount,
+            left,
+            last,
+        } => {
+            let scope = last_of(last);
+            Press {
+                begun: 1,
+                variable,
+                amount,
+                left,
+                last: scope,
+            }
+        }
+    }
+}
+
+fn raised_of(last: Last) -> LastRaised
+    ensures { λ r. ⌜ r ≡ raisedOf last ⌝ }
+{
+    if last.known == 1 {
+        LastRaised::Scope(last.scope)
+    } else {
+        LastRaised::Nothing
+    }
+}
+
+fn due_of(press: Press) -> Due
+    ensures { λ r. ⌜ r ≡ dueOf press ⌝ }
+{
+    if press.begun == 1 {
+        let last = press.last;
+        Due::Raise {
+            variable: press.variable,
+            amount: press.amount,
+            left: press.left,
+            last: raised_of(last),
+        }
+    } else {
+        Due::MoveOrBound
+    }
+}
+
+fn standing_of(b: u8) -> Standing
+    ensures { λ r. ⌜ r ≡ standingOf b ⌝ }
+{
+    match b {
+        1 => Standing::Refused(Refusal::NotInColumns),
+        2 => Standing::Refused(Refusal::NotDue),
+        3 => Standing::Refused(Refusal::OutsideLimits),
+        4 => Standing::Refused(Refusal::WrongLength),
+        5 => Standing::Refused(Refusal::OutOfRange),
+        6 => Standing::Refused(Refusal::EndsNotAscending),
+        7 => Standing::Refused(Refusal::EdgeRepeated),
+        8 => Standing::Refused(Refusal::WeightOutOfRange),
+        9 => Standing::Refused(Refusal::RaiseNotAscending),
+        10 => Standing::Refused(Refusal::NotRefuted),
+        11 => Standing::Refused(Refusal::LeavesRange),
+        12 => Standing::Refused(Refusal::OtherBound),
+        13 => Standing::Refused(Refusal::BoundNotLower),
+        14 => Standing::Refused(Refusal::CutShort),
+        _ => Standing::Good,
+    }
+}
+
+fn standing_number(standing: Standing) -> u8
+    ensures { λ r. ⌜ r ≡ standingNumber standing ⌝ }
+{
+    match standing {
+        Standing::Good => 0,
+        Standing::Refused(refusal) => number_of(refusal),
+    }
+}
+
+// The record's numbers, from the first byte on.
+fn put_numbers(out: &mut [u8], rounds: u64, start: i64, press: Press)
+    requires { ⌜ 48 ≤ length (now out) ⌝ }
+    ensures { λ _. ⌜ now (out .exit) ≡ overwritten (recordNumbers rounds start press) (now (out .entry)) ⌝ }
+{
+    let last = press.last;
+    put_number(out, 0, rounds);
+    put_number(out, 8, bits_of(start));
+    put_number(out, 16, press.variable as u64);
+    put_number(out, 24, bits_of(press.amount));
+    put_number(out, 32, press.left as u64);
+    put_number(out, 40, last.scope as u64);
+}
+
+fn tags_of(moved: bool, press: Press, standing: Standing) -> [u8; 4]
+    ensures { λ r. ⌜ r ≡ recordTags moved press standing ⌝ }
+{
+    let last = press.last;
+    [
+        moved as u8,
+        press.begun,
+        last.known,
+        standing_number(standing),
+    ]
+}
+
+// The bytes after its numbers.
+fn put_tags(out: &mut [u8], moved: bool, press: Press, standing: Standing)
+    requires { ⌜ 52 ≤ length (now out) ⌝ }
+    ensures { λ _. ⌜ now (out .exit) ≡ placed 48 (recordTags moved press standing) (now (out .entry)) ⌝ }
+{
+    let tags = tags_of(moved, press, standing);
+    put(out, 48, &tags);
+}
+
+// The press that the record's bytes hold.
+fn press_at(bytes: &[u8]) -> Press
+    requires { ⌜ 52 ≤ length (now bytes) ⌝ }
+    ensures { λ r. ⌜ r ≡ pressAt (now (bytes .entry)) ⌝ }
+{
+    let variable = number_at(bytes, 16);
+    let amount = signed_of(number_at(bytes, 24));
+    let left = number_at(bytes, 32);
+    let scope = number_at(bytes, 40);
+    Press {
+        begun: bytes[49],
+        variable: variable as usize,
+        amount,
+        left: left as usize,
+        last: Last {
+            known: bytes[50],
+            scope: scope as usize,
+        },
+    }
+}
+
+// ---- the calls
+
+// Document 01's number.
+pub fn number_of(refusal: Refusal) -> u8
+    ensures { λ r. ⌜ r ≡ number refusal ⌝ }
+{
+    match refusal {
+        Refusal::NotInColumns => 1,
+        Refusal::NotDue => 2,
+        Refusal::OutsideLimits => 3,
+        Refusal::WrongLength => 4,
+        Refusal::OutOfRange => 5,
+        Refusal::EndsNotAscending => 6,
+        Refusal::EdgeRepeated => 7,
+        Refusal::WeightOutOfRange => 8,
+        Refusal::RaiseNotAscending => 9,
+        Refusal::NotRefuted => 10,
+        Refusal::LeavesRange => 11,
+        Refusal::OtherBound => 12,
+        Refusal::BoundNotLower => 13,
+        Refusal::CutShort => 14,
+    }
+}
+
+// The case that the bytes say.
+pub fn case_of(bytes: &[u8; 216]) -> Case
+    ensures { λ r. ⌜ r ≡ caseOf (now (bytes .entry)) ⌝ }
+{
+    let n = number_at(bytes, 0);
+    let d = number_at(bytes, 8);
+    let m = number_at(bytes, 16);
+    let lower = ends_at(bytes, 24);
+    let upper = ends_at(bytes, 120);
+    Case {
+        n: n as usize,
+        d: d as usize,
+        m: m as usize,
+        lower,
+        upper,
+    }
+}
+
+// The bytes that say the case.
+pub fn write_case(case: Case, out: &mut [u8; 216])
+    ensures { λ _. ⌜ now (out .exit) ≡ caseBytes case ⌝ }
+{
+    put_number(out, 0, case.n as u64);
+    put_number(out, 8, case.d as u64);
+    put_number(out, 16, case.m as u64);
+    put_ends(out, 24, &case.lower);
+    put_ends(out, 120, &case.upper);
+}
+
+// Whether the bytes say a record.
+pub fn is_record(bytes: &[u8; 196]) -> bool
+    ensures { λ r. ⌜ r ≡ isRecord (now (bytes .entry)) ⌝ }
+{
+    (bytes[48] <= 1) & (bytes[49] <= 1) & (bytes[50] <= 1) & (bytes[51] <= 14)
+}
+
+// The record that they say.
+pub fn record_of(bytes: &[u8; 196]) -> Replay
+    ensures { λ r. ⌜ r ≡ recordOf (now (bytes .entry)) ⌝ }
+{
+    let press = press_at(bytes);
+    let due = due_of(press);
+    let rounds = number_at(bytes, 0);
+    let start = signed_of(number_at(bytes, 8));
+    let raised = marks_at(bytes, 52);
+    let standing = standing_of(bytes[51]);
+    Replay {
+        rounds,
+        start,
+        moved: bytes[48] == 1,
+        raised,
+        due,
+        standing,
+    }
+}
+
+// The bytes that say the record.
+pub fn write_record(replay: Replay, out: &mut [u8; 196])
+    ensures { λ _. ⌜ now (out .exit) ≡ recordBytes replay ⌝ }
+{
+    let due = replay.due;
+    let standing = replay.standing;
+    let press = press_of(due);
+    put_numbers(out, replay.rounds, replay.start, press);
+    put_tags(out, replay.moved, press, standing);
+    put_marks(out, 52, &replay.raised);
+}
