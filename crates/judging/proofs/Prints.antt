@@ -28,14 +28,13 @@ use Rattle.theory.proofs.Replays.{sound-fresh, sound-after, handed-after}
 use Rattle.theory.proofs.CaseTests.{CaseKinds, standard-case-kinds}
 use Rattle.theory.proofs.CaseTexts.{IsText, written-read, text-length, lineCount}
 use Rattle.checker_theory.proofs.Logs.{logJudged, log-judged, log-table, log-rounds}
-use Rattle.figures.specs.Scopes.{boundOf}
-use Rattle.figures.proofs.Answered.{bound-known}
 use Rattle.texts.specs.Texts.{textRoom, greatestCount, writeRefusedCall, writeAcceptedCall}
 use Rattle.texts.proofs.Answers.{text-done}
-use Rattle.judging.specs.Judging.{JudgingCall, answerAt, endJudged, writeJudged, startJudging, judgedFrom, finishJudging}
+use Rattle.judging.specs.Judging.{JudgingCall, answerAt, writeJudged, startJudging, judgedFrom, finishJudging}
 use Rattle.judging.specs.Cuts.{Cut, afterBlocks, printedOf}
 use Rattle.judging.proofs.Fronts.{longestLines, case-line, case-front}
 use Rattle.judging.proofs.Blocks.{counted-few, block-most, Stands, stays, blocks-stand}
+use Rattle.judging.proofs.Ends.{finish-judged}
 
 -- ---- the part line of whole lines and a tail
 module _ (width : ℕ) where
@@ -86,20 +85,15 @@ log-count k at Outcome.Done (Outcome.Refused x) part rounds bound p q = p
 log-count k at Outcome.Done Outcome.Done true rounds bound p q = p
 log-count k at Outcome.Done Outcome.Done false rounds bound p q = q
 
-end-same : (at : ℕ) (end : Outcome) (part : Bool) (good : Judged) → endJudged at end part good ≡ logJudged at Outcome.Done end part good
-end-same at Outcome.Done part good = refl
-end-same at (Outcome.Refused x) part good = refl
-
--- ---- any rules under which the bound of a table that a call takes is the upper bound
-module _ {r : Rules} (coherent : Coherent r) (kinds : CaseKinds r) (few : longestLines r ≤ greatestCount)
-    (bound-is : (c : Case) (w : List ℤ) → Handed r (workingWeight r) c w → boundOf r c w ≡ upperBound c w) where
+-- ---- any rules
+module _ {r : Rules} (coherent : Coherent r) (kinds : CaseKinds r) (few : longestLines r ≤ greatestCount) where
   -- a valid case and its log: whole lines and a tail
   module _ (c : Case) (w : List ℤ) (v : T (valid r c w)) (log : List ℕ) where
     abbrev all : BlockCall
     all = blockReplay r c w (freshReplay r c w) log
 
-    bound-after : boundOf r c (all .table) ≡ upperBound c (all .table)
-    bound-after = bound-is c (all .table) (rw (log-table coherent c w v log) (handed-after r c w v (linesIn (r .amountWidth) log) coherent))
+    handed-all : Handed r (workingWeight r) c (all .table)
+    handed-all = rw (log-table coherent c w v log) (handed-after r c w v (linesIn (r .amountWidth) log) coherent)
 
     rounds-few : all .block .replay .rounds ≤ greatestCount
     rounds-few =
@@ -121,8 +115,8 @@ module _ {r : Rules} (coherent : Coherent r) (kinds : CaseKinds r) (few : longes
         go (Outcome.Refused x) d e = ap (judgedFrom r (g .judging) (g .table) part) e
         go Outcome.Done d e =
             ap (judgedFrom r (g .judging) (g .table) part) e
-            ∙ rw (s .case-kept d, s .replay d, s .table d, bound-after)
-            (end-same (lines + all .block .lines) (endReplay r c (all .block .replay)) part (accepted (all .block .replay .rounds) (upperBound c (all .table))))
+            ∙ rw (s .case-kept d, s .replay d, s .table d)
+            (finish-judged r c (all .table) (all .block .replay) handed-all (lines + all .block .lines) part (accepted (all .block .replay .rounds) (upperBound c (all .table))) (all .block .replay .standing) refl)
 
   module _ (t : List ℕ) (cut : Cut r t) (short : wholeLines (r .amountWidth) t ≤ greatestCount) where
     abbrev call : CaseCall
@@ -224,4 +218,4 @@ module _ {r : Rules} (coherent : Coherent r) (kinds : CaseKinds r) (few : longes
 pub replay-printed : (t : List ℕ) (cut : Cut standard t) → wholeLines (standard .amountWidth) t ≤ greatestCount → (out : List ℕ) → textRoom ≤ length out
     → printedOf standard (cut .front) (cut .blocks) (cut .tail) out
     ≡ record { answer = Written.Bytes (length (replayPrints standard t)); out = overwritten (replayPrints standard t) out }
-replay-printed = prints standard-coherent (standard-case-kinds standard refl) (lit≤ tt) (λ c w h. bound-known h)
+replay-printed = prints standard-coherent (standard-case-kinds standard refl) (lit≤ tt)

@@ -1,18 +1,23 @@
 -- The program `replay` as a start, a block and a finish, on all input. Assumes nothing.
-use mathlib.Core.Bool.{Bool}
-use mathlib.Core.List.{List}
+use mathlib.Core.Bool.{Bool, false, _||_}
+use mathlib.Core.List.{List, [], _∷_, _++_}
 use Prim.Native.Nat.{ℕ, _+_, min}
 use lib.IntN.{ℤ}
-use Rattle.integers.specs.Words.{if_then_else_}
+use Rattle.definitions.specs.declared.Case.{Case}
 use Rattle.definitions.specs.declared.FileAnswer.{FileAnswer}
 use Rattle.definitions.specs.declared.Outcome.{Outcome}
 use Rattle.definitions.specs.declared.Refusal.the-variants.{CutShort}
 use Rattle.definitions.specs.Rules.{Rules}
+use Rattle.definitions.specs.Refusals.{Test, _when_, firstOf}
+use Rattle.definitions.specs.Answers.{outcomeOf}
+use Rattle.definitions.specs.Case.{upperBound}
+use Rattle.definitions.specs.Valid.{workingWeight, handedOver}
 use Rattle.definitions.specs.Calls.{WriteCall}
 use Rattle.definitions.specs.CaseFiles.{readCase}
 use Rattle.definitions.specs.Programs.{Judged, accepted, refused}
-use Rattle.checker.specs.Checker.{freshReplay, endReplay, blockReplay}
-use Rattle.figures.specs.Scopes.{boundOf}
+use Rattle.checker.specs.declared.Replay.{Replay}
+use Rattle.checker.specs.declared.Standing.{Standing}
+use Rattle.checker.specs.Checker.{isHeld, recordOut, freshReplay, blockReplay}
 use Rattle.texts.specs.Texts.{greatestCount, writeRefusedCall, writeAcceptedCall}
 use Rattle.judging.specs.declared.Judging.{Judging}
 
@@ -30,10 +35,10 @@ abbrev pub answerAt : ℕ → Outcome → FileAnswer
 answerAt at Outcome.Done = FileAnswer.Read at
 answerAt at (Outcome.Refused x) = FileAnswer.Refused x at
 
--- the end's number belongs to the line after the last; 14 also where a part line is left
-abbrev pub endJudged : ℕ → Outcome → Bool → Judged → Judged
-endJudged at (Outcome.Refused x) part good = refused x at
-endJudged at Outcome.Done part good = if part then refused CutShort at else good
+-- the end's number belongs to the line after the last
+abbrev pub endJudged : ℕ → Outcome → Judged → Judged
+endJudged at (Outcome.Refused x) good = refused x at
+endJudged at Outcome.Done good = good
 
 abbrev pub writeJudged : List ℕ → Judged → WriteCall
 writeJudged out (accepted rounds bound) = writeAcceptedCall out rounds bound
@@ -70,11 +75,21 @@ module _ (r : Rules) where
   unfoldable pub blockJudging : Judging → List ℤ → List ℕ → JudgingCall
   blockJudging j w bytes = blockFrom j w bytes (j .answer)
 
-  -- the judgement where the input ends here
+  -- where the input ends here: the number that stands, else 3 to 8 of everything handed over, else 14 if a press is held, a move has no bound
+  -- line after it, or a part line is left
+  abbrev pub finishTests : Case → List ℤ → Replay → Bool → List Test
+  finishTests c w p part =
+      handedOver r (workingWeight r) c w false (recordOut r c p)
+      ++ (CutShort when (isHeld (p .due) || p .moved || part) ∷ [])
+
+  abbrev pub finishStanding : Case → List ℤ → Replay → Bool → Standing → Outcome
+  finishStanding c w p part (Standing.Refused x) = Outcome.Refused x
+  finishStanding c w p part Standing.Good = outcomeOf (firstOf (finishTests c w p part))
+
   abbrev pub judgedFrom : Judging → List ℤ → Bool → FileAnswer → Judged
   judgedFrom j w part (FileAnswer.Refused x at) = refused x at
   judgedFrom j w part (FileAnswer.Read lines) =
-      endJudged lines (endReplay r (j .case) (j .replay)) part (accepted (j .replay .rounds) (boundOf r (j .case) w))
+      endJudged lines (finishStanding (j .case) w (j .replay) part (j .replay .standing)) (accepted (j .replay .rounds) (upperBound (j .case) w))
 
   unfoldable pub finishJudging : Judging → List ℤ → Bool → List ℕ → WriteCall
   finishJudging j w part out = writeJudged out (judgedFrom j w part (j .answer))

@@ -1,16 +1,19 @@
 // The program `replay` as a start, a block and a finish (document 01, on `replay`): each block of an input is handed over once, and what stands
 // between blocks is a record by value and the lent table.
 use checker::Replay;
+use checker::Standing;
 use definitions::Case;
 use definitions::FileAnswer;
 use definitions::Outcome;
 use definitions::Refusal;
 use definitions::Written;
 ghost use mathlib.Core.Path.{_≡_};
+ghost use mathlib.Core.Logic.{_↔_};
+ghost use lib.Dec.{T};
 ghost use Rattle.definitions.specs.Rules.{standard};
-ghost use Rattle.definitions.specs.Programs.{accepted};
-ghost use Rattle.figures.specs.Scopes.{boundOf};
-ghost use Rattle.judging.specs.Judging.{counted, answerAt, endJudged, writeJudged, startJudging, blockFrom, blockJudging, judgedFrom, finishJudging};
+ghost use Rattle.definitions.specs.Refusals.{firstOf};
+ghost use Rattle.definitions.specs.Answers.{outcomeOf};
+ghost use Rattle.judging.specs.Judging.{counted, answerAt, writeJudged, startJudging, blockFrom, blockJudging, finishTests, finishStanding, judgedFrom, finishJudging};
 
 // The greatest count of lines.
 const GREATEST: usize = 9_223_372_036_854_775_807;
@@ -65,21 +68,42 @@ fn block_from(judging: Judging, table: &mut [i64], bytes: &[u8], passed: usize) 
 
 // ---- the end
 
-// The end has no number of its own.
-fn write_good(
-    case: Case,
-    table: &[i64],
-    rounds: u64,
-    part: bool,
-    passed: usize,
-    out: &mut [u8],
-) -> Written
-    ensures { λ r. ⌜ (r ≡ writeJudged (now (out .entry)) (endJudged passed Outcome.Done part (accepted rounds (boundOf standard case (now (table .entry))))) .answer) × (now (out .exit) ≡ writeJudged (now (out .entry)) (endJudged passed Outcome.Done part (accepted rounds (boundOf standard case (now (table .entry))))) .out) ⌝ }
+// Whether the end's number is 5.
+fn is_out(ended: Outcome) -> bool
+    ensures { λ r. ⌜ T r ↔ (ended ≡ Outcome.Refused Refusal.OutOfRange) ⌝ }
 {
+    match ended {
+        Outcome::Done => false,
+        Outcome::Refused(refusal) => match refusal {
+            Refusal::OutOfRange => true,
+            _ => false,
+        },
+    }
+}
+
+// A record that is good. The end asks 5 of the record and of the edges, which are asked here again with the table.
+fn end_good(case: Case, table: &[i64], replay: Replay, part: bool) -> Outcome
+    requires { ⌜ replay .standing ≡ Standing.Good ⌝ }
+    ensures { λ r. ⌜ r ≡ outcomeOf (firstOf (finishTests standard case (now (table .entry)) replay part)) ⌝ }
+{
+    let ended = replay.end(case);
+    let checked = figures::check_working(case, table, false, is_out(ended));
+    if let Outcome::Refused(refusal) = checked {
+        return Outcome::Refused(refusal);
+    }
     if part {
-        texts::write_refused(out, Refusal::CutShort, passed)
-    } else {
-        texts::write_accepted(out, rounds, figures::bound_of(case, table))
+        return Outcome::Refused(Refusal::CutShort);
+    }
+    ended
+}
+
+fn end(case: Case, table: &[i64], replay: Replay, part: bool) -> Outcome
+    ensures { λ r. ⌜ r ≡ finishStanding standard case (now (table .entry)) replay part (replay .standing) ⌝ }
+{
+    let standing = replay.standing;
+    match standing {
+        Standing::Refused(refusal) => Outcome::Refused(refusal),
+        Standing::Good => end_good(case, table, replay, part),
     }
 }
 
@@ -89,10 +113,12 @@ fn write_end(judging: Judging, table: &[i64], part: bool, passed: usize, out: &m
 {
     let case = judging.case;
     let replay = judging.replay;
-    let ended = replay.end(case);
+    let ended = end(case, table, replay, part);
     match ended {
         Outcome::Refused(refusal) => texts::write_refused(out, refusal, passed),
-        Outcome::Done => write_good(case, table, replay.rounds, part, passed, out),
+        Outcome::Done => {
+            texts::write_accepted(out, replay.rounds, figures::bound_of(case, table))
+        }
     }
 }
 
