@@ -66,6 +66,17 @@ module _ (width : ℕ) where
       let d : length t / k ≡ (length t - lines * k) / k + lines = ap (λ (n : ℕ). n / k) e ∙ add-mul-div-right (length t - lines * k) lines {z = k} (omega arith) in
       rw length-drop (omega arith)
 
+-- the lines of a case that is read lie in the input's front
+case-within : {r : Rules} → Coherent r → CaseKinds r → (front : List ℕ) (w : List ℤ) {lines : ℕ} → readCase r front w .read .answer ≡ FileAnswer.Read lines
+    → lines * lineLength (r .amountWidth) ≤ length front
+case-within {r} coherent kinds front w {lines} e =
+    let call : CaseCall = readCase r front w in
+    let k : ℕ = lineLength (r .amountWidth) in
+    let text = written-read coherent kinds front w e in
+    let same : lines * k ≡ length (take (lines * k) front) =
+    ap (λ (n : ℕ). n * k) (text .same-count) ∙ mul-comm (lineCount (call .read .case)) k ∙ sym (text-length coherent (call .read .case) (call .table) (text .accepted)) ∙ ap length (text .same-text) in
+    omega (arith, length-take (lines * k) front)
+
 -- ---- the text of a judgement
 
 -- the count in it
@@ -176,10 +187,7 @@ module _ {r : Rules} (coherent : Coherent r) (kinds : CaseKinds r) (few : longes
 
       case-fits : lines * lineLength (r .amountWidth) ≤ length t
       case-fits =
-          let k : ℕ = lineLength (r .amountWidth) in
-          let same : lines * k ≡ length (take (lines * k) (cut .front)) =
-          ap (λ (n : ℕ). n * k) (text .same-count) ∙ mul-comm (lineCount c) k ∙ sym (text-length coherent c w (text .accepted)) ∙ ap length (text .same-text) in
-          omega (arith, length-take (lines * k) (cut .front), ap length (cut .whole), length-append (cut .front) (cut .rest))
+          omega (arith, case-within coherent kinds (cut .front) (tableFor (caseSize r (cut .front))) e, ap length (cut .whole), length-append (cut .front) (cut .rest))
 
       lines-few : lines + all c w (text .accepted) log .block .lines ≤ greatestCount
       lines-few =
@@ -214,7 +222,13 @@ module _ {r : Rules} (coherent : Coherent r) (kinds : CaseKinds r) (few : longes
         let (p, q) = right (call .read .answer) refl in
         ap (writeJudged out) p ∙ judged-written out (judge r t) room q
 
--- with the numbers of document 01: for every input of at most so many lines and every cut of it, what is written is what `replay` prints
+-- ---- with the numbers of document 01
+
+pub lines-within : (front : List ℕ) (w : List ℤ) {lines : ℕ} → readCase standard front w .read .answer ≡ FileAnswer.Read lines
+    → lines * lineLength (standard .amountWidth) ≤ length front
+lines-within = case-within standard-coherent (standard-case-kinds standard refl)
+
+-- for every input of at most so many lines and every cut of it, what is written is what `replay` prints
 pub replay-printed : (t : List ℕ) (cut : Cut standard t) → wholeLines (standard .amountWidth) t ≤ greatestCount → (out : List ℕ) → textRoom ≤ length out
     → printedOf standard (cut .front) (cut .blocks) (cut .tail) out
     ≡ record { answer = Written.Bytes (length (replayPrints standard t)); out = overwritten (replayPrints standard t) out }

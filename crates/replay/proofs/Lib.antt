@@ -1,2 +1,3 @@
 -- What several proofs cite.
 pub mod Turning
+pub mod Printing

@@ -1,4 +1,5 @@
--- What the loop of `replay` makes of its input: bytes are handed over as blocks of whole lines, and a part line is kept. Assumes nothing.
+-- What the loop of `replay` makes of its input: bytes are handed over as blocks of whole lines, and a part line is kept; and what is printed of it.
+-- Assumes nothing.
 use mathlib.Core.Path.{_≡_}
 use mathlib.Core.Bool.{false}
 use mathlib.Core.List.{List, [], _++_}
@@ -10,7 +11,10 @@ use Rattle.integers.specs.Words.{if_then_else_, joined}
 use Rattle.integers.specs.Lists.{_∈_}
 use Rattle.definitions.specs.declared.FileAnswer.{FileAnswer}
 use Rattle.definitions.specs.Rules.{standard}
-use Rattle.definitions.specs.Lines.{lineLength, hasPart}
+use Rattle.definitions.specs.declared.Written.{Written}
+use Rattle.definitions.specs.Lines.{lineLength, wholeLines, hasPart, overwritten}
+use Rattle.definitions.specs.Programs.{replayPrints}
+use Rattle.texts.specs.Texts.{greatestCount}
 use Rattle.judging.specs.declared.Judging.{Judging}
 use Rattle.judging.specs.Judging.{JudgingCall, startJudging, blockJudging}
 use Rattle.judging.specs.Cuts.{afterBlocks}
@@ -60,3 +64,10 @@ pub record Judges (front : List ℕ) (w : List ℤ) (ended : Type 0) (r : Turned
   pub table : v ≡ afterBlocks standard (startJudging standard front w) blocks .table
   pub held : r .held ≡ length tail
   pub short : length tail < lineBytes
+
+-- the text of the judgement: what `replay` prints of the input's front and what is read then
+pub record Prints (front : List ℕ) (ended : Type 0) (text : List ℕ) (r : Written) (after : List ℕ) : Type 0 where
+  pub more : List ℕ
+  pub ends : ended → more ≡ []
+  pub says : wholeLines (standard .amountWidth) (front ++ more) ≤ greatestCount
+      → (r ≡ Written.Bytes (length (replayPrints standard (front ++ more)))) × (after ≡ overwritten (replayPrints standard (front ++ more)) text)

@@ -9,13 +9,15 @@ use libc::STDIN_FILENO;
 use libc::STDOUT_FILENO;
 ghost use mathlib.Core.Path.{_≡_};
 ghost use Prim.Native.Nat.{_-_, _≤_, _<_};
-ghost use lib.ListN.{length, take, drop};
-ghost use Rattle.replay.specs.Turns.{lineBytes, caseBytes, Turns, Goes, Judges};
+ghost use lib.IntN.{pos};
+ghost use lib.ListN.{length, take, drop, replicate};
+ghost use Rattle.definitions.specs.Rules.{standard};
+ghost use Rattle.definitions.specs.CaseFiles.{caseSize};
+ghost use Rattle.definitions.specs.Programs.{tableFor};
+ghost use Rattle.texts.specs.Texts.{textRoom};
+ghost use Rattle.replay.specs.Turns.{lineBytes, caseBytes, Turns, Goes, Judges, Prints};
 
 const LINE: usize = 27;
-
-// The longest table.
-const TABLE: usize = 6_528;
 
 // What stands between two blocks: so many bytes of a part line are held at the buffer's front.
 struct Turned {
@@ -31,7 +33,7 @@ fn buffer() -> [u8; 262144]
 }
 
 fn weights() -> [i64; 6528]
-    ensures { λ r. ⌜ 6528 ≡ length r ⌝ }
+    ensures { λ r. ⌜ r ≡ replicate 6528 (pos 0) ⌝ }
 {
     [0; 6528]
 }
@@ -142,9 +144,20 @@ fn judge(buf: &mut [u8], table: &mut [i64], filled: usize) -> Turned
     go_on(first, table, buf, filled)
 }
 
+// The text of the judgement of the whole input, whose first bytes stand in the buffer.
+fn write_judgement(buf: &mut [u8], table: &mut [i64], filled: usize, text: &mut [u8]) -> Written
+    requires { ⌜ (filled ≤ length (now buf)) × (length (now buf) ≡ 262144) × (textRoom ≤ length (now text)) ⌝ }
+    requires { ⌜ now table ≡ tableFor (caseSize standard (take filled (now buf))) ⌝ }
+    ensures { λ r. ⌜ Prints (take filled (now (buf .entry))) (filled < length (now (buf .entry))) (now (text .entry)) r (now (text .exit)) ⌝ }
+{
+    let state = judge(buf, table, filled);
+    let judging = state.judging;
+    judging::finish(judging, table, state.held != 0, text)
+}
+
 // The length of the table that the head of the case asks for.
 fn table_length(front: &[u8]) -> usize
-    ensures { λ r. ⌜ r ≤ 6528 ⌝ }
+    ensures { λ r. ⌜ (r ≡ length (tableFor (caseSize standard (now (front .entry))))) × (r ≤ 6528) ⌝ }
 {
     let size = casefile::case_size(front);
     match size {
@@ -154,7 +167,7 @@ fn table_length(front: &[u8]) -> usize
             d: _,
             m: _,
             table,
-        } => { if table < TABLE { table } else { TABLE } }
+        } => table,
     }
 }
 
@@ -164,21 +177,16 @@ fn write_first(text: &[u8], n: usize) {
     }
 }
 
-fn print(judging: Judging, table: &[i64], part: bool) {
+fn run(buf: &mut [u8], table: &mut [i64], filled: usize)
+    requires { ⌜ (filled ≤ length (now buf)) × (length (now buf) ≡ 262144) ⌝ }
+    requires { ⌜ now table ≡ tableFor (caseSize standard (take filled (now buf))) ⌝ }
+{
     let mut text = [0u8; 64];
-    let written = judging::finish(judging, table, part, &mut text);
+    let written = write_judgement(buf, table, filled, &mut text);
     match written {
         Written::Refused(_) => {}
         Written::Bytes(n) => write_first(&text, n),
     }
-}
-
-fn run(buf: &mut [u8], table: &mut [i64], filled: usize)
-    requires { ⌜ filled ≤ length (now buf) ⌝ }
-{
-    let state = judge(buf, table, filled);
-    let judging = state.judging;
-    print(judging, table, state.held != 0);
 }
 
 fn main() {

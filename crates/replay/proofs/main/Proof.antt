@@ -1,0 +1,84 @@
+-- The table that is lent has as many zeros as the head asks for. Assumes nothing.
+use mathlib.Core.Path.{_≡_, ap, _∙_}
+use Prim.Native.Nat.{ℕ, _-_}
+use native.Mathlib.Omega.{arith}
+use lib.ListN.{length, take}
+use Rattle.definitions.specs.declared.CaseSize.{CaseSize}
+use Rattle.definitions.specs.Rules.{standard}
+use Rattle.definitions.specs.CaseFiles.{caseSize}
+use Rattle.definitions.specs.Programs.{tableFor}
+use Rattle.replay.proofs.Printing.{table-lent}
+use borrow.Author.Needs.{needs}
+use Rattle.replay.proofs.main.Statement.{statement}
+use Rattle.replay.proofs.main.Tie as tie
+
+buffer-requires : tie.Need-buffer-requires
+buffer-requires c κs = search needs
+
+slice-aggregate-buf : tie.Need-slice-aggregate-buf
+slice-aggregate-buf c = search needs
+
+weights-requires : tie.Need-weights-requires
+weights-requires c κs = search needs
+
+fill-requires : tie.Need-fill-requires
+fill-requires c κs = search needs
+
+sub-table-length : tie.Need-sub-table-length
+sub-table-length c = search needs
+
+part-table-length-start : tie.Need-part-table-length-start
+part-table-length-start c = search needs
+
+part-table-length-end : tie.Need-part-table-length-end
+part-table-length-end c = search needs
+
+table-length-requires : tie.Need-table-length-requires
+table-length-requires c κs = search needs
+
+sub-run : tie.Need-sub-run
+sub-run c = search needs
+
+part-weights-start : tie.Need-part-weights-start
+part-weights-start c = search needs
+
+part-weights-end : tie.Need-part-weights-end
+part-weights-end c = search needs
+
+run-requires : tie.Need-run-requires
+run-requires c κs =
+    let t = c .before in
+    let f = t .before .before .before .before .before in
+    let w = f .before .before in
+    let long = t .table-length .result in
+    let filled = f .fill .result in
+    let buf = f .fill .last .0 in
+    let size : CaseSize = caseSize standard (take filled buf) in
+    let (is, most) = t .table-length .ensures in
+    let all : filled - 0 ≡ filled = omega arith in
+    let same : long ≡ length (tableFor size) = is ∙ ap (λ (n : ℕ). length (tableFor (caseSize standard (take n buf)))) all in
+    let so-many : long - 0 ≡ length (tableFor size) = omega arith in (
+      (search needs, search needs),
+      ap (λ (n : ℕ). take n (w .weights .result)) so-many ∙ ap (take (length (tableFor size))) (w .weights .ensures) ∙ table-lent size 6528 (omega arith),
+    )
+
+returns : tie.Need-returns
+returns c = search needs
+
+pub main-spec : {M : Type 1} → statement M
+main-spec =
+    tie.close
+    (tie.spec
+    buffer-requires
+    slice-aggregate-buf
+    weights-requires
+    fill-requires
+    sub-table-length
+    part-table-length-start
+    part-table-length-end
+    table-length-requires
+    sub-run
+    part-weights-start
+    part-weights-end
+    run-requires
+    returns)
