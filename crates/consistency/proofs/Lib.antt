@@ -9,5 +9,6 @@ pub mod Scopes
 pub mod Prepared
 pub mod Fixed
 pub mod Trying
+pub mod Narrowed
 pub mod Refutation
 pub mod Best

@@ -104,17 +104,20 @@ only-own own k t = byteOf-cong (λ v h. ap (λ (b : Bool). mark own v && b) (mar
         and-false true = refl
         and-false false = refl
 
--- the sets in which value k stands alone, as they are written
-module _ (S : List ℕ) (i : ℕ) (g : i < length S) (k o : ℕ) (work : List ℕ) (eo : o ≡ onlyOf k) (same : work ≡ S) where
-  pub alone-length : length (set work i o) ≡ length S
-  alone-length = length-set work i o ∙ ap length same
+pub only-filled : (k o : ℕ) → o ≡ onlyOf k → k < 8 → o ≡ 0 → ⊥
+only-filled k o eo l z = T-not false tt (subst T (sym (mark-byteOf (λ j. eqb j k) k l ∙ eq-eqb k k refl) ∙ ap (λ (s : ℕ). mark s k) (sym eo ∙ z) ∙ mark-zero k) tt)
 
-  pub alone-filled : k < 8 → Filled S → Filled (set work i o)
-  alone-filled l filled j h z =
-      after-set (λ (s : ℕ). s ≡ 0 → ⊥) work i o j (rw same g) (λ e q. some (sym eo ∙ q)) (λ ne. rw same (filled j (rw alone-length at h))) z
-    where
-      some : onlyOf k ≡ 0 → ⊥
-      some e = T-not false tt (subst T (sym (mark-byteOf (λ j. eqb j k) k l ∙ eq-eqb k k refl) ∙ ap (λ (s : ℕ). mark s k) e ∙ mark-zero k) tt)
+-- a copy of the sets, with another set for variable i
+module _ (S : List ℕ) (i : ℕ) (g : i < length S) (o : ℕ) (work : List ℕ) (same : work ≡ S) where
+  pub copy-length : length (set work i o) ≡ length S
+  copy-length = length-set work i o ∙ ap length same
+
+  pub copy-filled : (o ≡ 0 → ⊥) → Filled S → Filled (set work i o)
+  copy-filled ne filled j h z =
+      after-set (λ (s : ℕ). s ≡ 0 → ⊥) work i o j (rw same g) (λ e. ne) (λ ne. rw same (filled j (rw copy-length at h))) z
+
+  pub copy-well : (lower upper rows raised : List ℕ) → WellFormed (length S) lower upper rows raised → WellFormed (length (set work i o)) lower upper rows raised
+  copy-well lower upper rows raised well = rw copy-length well
 
 module _ (lower upper rows raised S : List ℕ) (i : ℕ) (g : i < length S) where
   abbrev N : Network
@@ -129,16 +132,13 @@ module _ (lower upper rows raised S : List ℕ) (i : ℕ) (g : i < length S) whe
       T-not (mark (getD S i 0) k) (rw lacks tt) (subst (λ (x : ℕ). T (mark (getD S i 0) x)) e (and-left (mark (getD S i 0) v) (mark (onlyOf k) v) t)))
 
   module _ (k o : ℕ) (work : List ℕ) (eo : o ≡ onlyOf k) (same : work ≡ S) where
-    pub alone-well : WellFormed (length S) lower upper rows raised → WellFormed (length (set work i o)) lower upper rows raised
-    alone-well well = rw (alone-length S i g k o work eo same) well
-
     -- what the sweeps leave says whether there is a family
     pub alone-family : WellFormed (length S) lower upper rows raised → T (mark (getD S i 0) k) → (S′ : List ℕ) (left : Bool)
         → Settled (networkOfBytes (length (set work i o)) lower upper rows raised) (setsOf (set work i o)) S′ left → hasFamily N S i k ≡ left
     alone-family well t S′ left p =
         let e : set S i (inBoth (getD S i 0) (onlyOf k)) ≡ set work i o = ap₂ (λ (l : List ℕ) (s : ℕ). set l i s) (sym same) (only-own (getD S i 0) k t ∙ sym eo) in
-        ap₂ (λ (n : ℕ) (l : List ℕ). someFamily (networkOfBytes n lower upper rows raised) (setsOf l)) (sym (alone-length S i g k o work eo same)) e
-        ∙ settled-family (networkOfBytes (length (set work i o)) lower upper rows raised) (setsOf (set work i o)) (alone-well well .ends) S′ left p
+        ap₂ (λ (n : ℕ) (l : List ℕ). someFamily (networkOfBytes n lower upper rows raised) (setsOf l)) (sym (copy-length S i g o work same)) e
+        ∙ settled-family (networkOfBytes (length (set work i o)) lower upper rows raised) (setsOf (set work i o)) (copy-well S i g o work same lower upper rows raised well .ends) S′ left p
 
   -- where a set is empty, no value has a family
   pub empty-none : any (λ s. eqb s 0) S ≡ true → (values : ℕ) → noneHas (hasFamily N S i) values ≡ true

@@ -336,7 +336,7 @@ fn has_family(
 }
 
 // Whether none of `values` has a family, each tried alone.
-fn none_has(
+fn none_alone(
     lower: &[u8],
     upper: &[u8],
     rows: &[u8],
@@ -358,6 +358,58 @@ fn none_has(
             return false;
         }
         left = marks::strike(left, k);
+    }
+    true
+}
+
+// Whether none of `values` has a family. Where there are several to try, what no family has is struck first, in `near`.
+fn none_has(
+    lower: &[u8],
+    upper: &[u8],
+    rows: &[u8],
+    raised: &[u8],
+    sets: &[u8],
+    variable: usize,
+    values: u8,
+    near: &mut [u8],
+    work: &mut [u8],
+) -> bool
+    requires { ⌜ WellFormed (length (now sets)) (now lower) (now upper) (now rows) (now raised) ⌝ }
+    requires { ⌜ Filled (now sets) × (variable < length (now sets)) × (length (now near) ≡ length (now sets)) × (length (now work) ≡ length (now sets)) ⌝ }
+    ensures { λ r. ⌜ r ≡ noneHas (hasFamily (networkOfBytes (length (now (sets .entry))) (now (lower .entry)) (now (upper .entry)) (now (rows .entry)) (now (raised .entry))) (now (sets .entry)) variable) values ⌝ }
+{
+    let mut seen = [0u16; 192];
+    let left = marks::common(sets[variable], values);
+    if left == 0 {
+        return true;
+    }
+    if marks::is_single(left) {
+        return none_alone(
+            lower,
+            upper,
+            rows,
+            raised,
+            sets,
+            variable,
+            values,
+            seen,
+            work,
+        );
+    }
+    copy_sets(sets, near);
+    near[variable] = left;
+    if settle(lower, upper, rows, raised, near, &mut seen) {
+        return none_alone(
+            lower,
+            upper,
+            rows,
+            raised,
+            near,
+            variable,
+            values,
+            seen,
+            work,
+        );
     }
     true
 }
@@ -732,8 +784,8 @@ pub fn all_refuted(
     if has_empty(sets) {
         return Tried::Refuted;
     }
+    let mut near = [0u8; 48];
     let mut work = [0u8; 48];
-    let seen = [0u16; 192];
     tried_of(none_has(
         lower,
         upper,
@@ -742,7 +794,7 @@ pub fn all_refuted(
         sets,
         variable,
         values,
-        seen,
+        &mut near[..n],
         &mut work[..n],
     ))
 }

@@ -12,7 +12,6 @@ use Rattle.definitions.specs.Rules.{standard}
 use Rattle.consistency.specs.Closure.{isMalformed}
 use Rattle.consistency.specs.Sweeps.{Filled}
 use Rattle.consistency.proofs.Results.{well-formed, none-empty}
-use Rattle.consistency.proofs.Seen.{seen-none}
 use Rattle.consistency.proofs.Trying.{empty-none}
 use Rattle.consistency.proofs.Refutation.{too-many, no-variable, malformed, tried-known}
 use borrow.Author.Needs.{needs}
@@ -63,18 +62,24 @@ returns-4 c =
     ∙ ap (λ (b : Bool). if b then Tried.Refuted else Tried.Supported)
     (empty-none (now (a .lower)) (now (a .upper)) (now (a .rows)) (now (a .raised)) (now (a .sets)) (a .variable) (omega (arith, c .before .before .before .before .if2 .left)) (sym (c .before .has-empty .ensures) ∙ c .if4 .taken) (a .values)))
 
-array-borrow-prefix-work : tie.Need-array-borrow-prefix-work
-array-borrow-prefix-work c = search needs
+array-borrow-prefix-near : tie.Need-array-borrow-prefix-near
+array-borrow-prefix-near c = search needs
 
 slice-aggregate-none-has : tie.Need-slice-aggregate-none-has
 slice-aggregate-none-has c = sym (length-take-le _ _ (omega (arith, known (c .before) .few)))
 
+array-borrow-prefix-work : tie.Need-array-borrow-prefix-work
+array-borrow-prefix-work c = search needs
+
+slice-aggregate-none-has-2 : tie.Need-slice-aggregate-none-has-2
+slice-aggregate-none-has-2 c = sym (length-take-le _ _ (omega (arith, known (c .before .before) .few)))
+
 none-has-requires : tie.Need-none-has-requires
 none-has-requires c κs =
-    let q = c .before in
-    let a = c .before .before .before .before .before .before .before .before .before .before .before .before .args in (
+    let q = c .before .before in
+    let a = c .before .before .before .before .before .before .before .before .before .before .before .before .before .args in (
       well-formed (now (a .lower)) (now (a .upper)) (now (a .rows)) (now (a .raised)) (now (a .sets)) (known q .well),
-      (known q .filled, known q .in-range, length-take-le _ _ (omega (arith, known q .few)), seen-none _ 192),
+      (known q .filled, known q .in-range, length-take-le _ _ (omega (arith, known q .few)), length-take-le _ _ (omega (arith, known q .few))),
     )
 
 tried-of-requires : tie.Need-tried-of-requires
@@ -82,10 +87,10 @@ tried-of-requires c κs = search needs
 
 returns-5 : tie.Need-returns-5
 returns-5 c =
-    let q = c .before .before .before .before in
-    let a = c .before .before .before .before .before .before .before .before .before .before .before .before .before .before .before .args in
+    let q = c .before .before .before .before .before .before in
+    let a = c .before .before .before .before .before .before .before .before .before .before .before .before .before .before .before .before .before .args in
     c .tried-of .ensures
-    ∙ ap (λ (b : Bool). if b then Tried.Refuted else Tried.Supported) (c .before .before .none-has .ensures)
+    ∙ ap (λ (b : Bool). if b then Tried.Refuted else Tried.Supported) (c .before .before .before .none-has .ensures)
     ∙ sym (tried-known (now (a .lower)) (now (a .upper)) (now (a .rows)) (now (a .raised)) (now (a .sets)) (a .variable) (a .values) (known q .few) (known q .in-range) (known q .well))
 
 pub all-refuted-spec : {M : Type 1} → statement M
@@ -98,8 +103,10 @@ all-refuted-spec =
     returns-3
     has-empty-requires
     returns-4
-    array-borrow-prefix-work
+    array-borrow-prefix-near
     slice-aggregate-none-has
+    array-borrow-prefix-work
+    slice-aggregate-none-has-2
     none-has-requires
     tried-of-requires
     returns-5)

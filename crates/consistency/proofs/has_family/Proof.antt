@@ -5,7 +5,7 @@ use native.Mathlib.Omega.{arith}
 use denote.Ref.{now}
 use lib.ListN.{length, getD}
 use Rattle.marks.proofs.Laws.{mark-small}
-use Rattle.consistency.proofs.Trying.{alone-length, alone-filled, alone-well, alone-family}
+use Rattle.consistency.proofs.Trying.{only-filled, copy-length, copy-filled, copy-well, alone-family}
 use borrow.Author.Needs.{needs}
 use Rattle.consistency.proofs.has_family.Statement.{statement}
 use Rattle.consistency.proofs.has_family.Tie as tie
@@ -28,14 +28,14 @@ settle-requires c κs =
     let k = mark-small _ _ (omega (arith, c .before .before .before .before .before .before .before .before .shared-slice-known5 .given (s .args .variable))) (s .pre .1 .1 .0) in
     let o = c .before .before .only .ensures in
     let e = c .before .before .before .before .before .copy-sets .ensures in (
-      alone-well _ _ _ _ (now (s .args .sets)) (s .args .variable) (s .pre .1 .0 .1) _ _ _ o e (s .pre .0),
-      (alone-filled (now (s .args .sets)) (s .args .variable) (s .pre .1 .0 .1) _ _ _ o e k (s .pre .1 .0 .0), s .pre .1 .1 .1),
+      copy-well (now (s .args .sets)) (s .args .variable) (s .pre .1 .0 .1) _ _ e _ _ _ _ (s .pre .0),
+      (copy-filled (now (s .args .sets)) (s .args .variable) (s .pre .1 .0 .1) _ _ e (only-filled _ _ o k) (s .pre .1 .0 .0), s .pre .1 .1 .1),
     )
 
 same-length : tie.Need-same-length
 same-length c =
     let s = c .before .before .before .before .before .before .before .before .before .before .before .before .before .before .before .before .before in
-    c .before .before .before .settle .kept .1 .1 .1 .1 .0 ∙ alone-length (now (s .args .sets)) (s .args .variable) (s .pre .1 .0 .1) _ _ _ (c .before .before .before .before .before .before .only .ensures) (c .before .before .before .before .before .before .before .before .before .copy-sets .ensures) ∙ sym (s .pre .1 .0 .2)
+    c .before .before .before .settle .kept .1 .1 .1 .1 .0 ∙ copy-length (now (s .args .sets)) (s .args .variable) (s .pre .1 .0 .1) _ _ (c .before .before .before .before .before .before .before .before .before .copy-sets .ensures) ∙ sym (s .pre .1 .0 .2)
 
 returns : tie.Need-returns
 returns c =

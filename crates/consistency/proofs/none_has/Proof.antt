@@ -1,79 +1,134 @@
 -- `consistency::none_has` meets its contract. Assumes nothing.
-use mathlib.Core.Path.{_≡_, sym, _∙_}
+use mathlib.Core.Path.{_≡_, ap, sym, _∙_}
+use mathlib.Core.Bool.{Bool, true, false}
+use mathlib.Core.List.{List}
+use Prim.Native.Nat.{ℕ}
+use native.Mathlib.Omega.{arith}
 use denote.Ref.{now}
 use lib.ListN.{length, getD}
-use Rattle.consistency.specs.Closure.{networkOfBytes}
-use Rattle.consistency.specs.Tried.{hasFamily}
-use Rattle.consistency.proofs.Search.{lowest-struck}
-use Rattle.consistency.proofs.Trying.{Trying, trying-start, trying-end, tried-own, trying-found, trying-next, outside-none}
+use Rattle.consistency.specs.Closure.{networkOfBytes, setsOf}
+use Rattle.consistency.specs.Sweeps.{Settled}
+use Rattle.consistency.proofs.Seen.{seen-none}
+use Rattle.consistency.proofs.Steps.{well-same}
+use Rattle.consistency.proofs.Trying.{copy-length, copy-filled, copy-well}
+use Rattle.consistency.proofs.Narrowed.{near, near-empty, near-none, near-filled, near-same, near-settled}
+use borrow.Author.Needs.{needs}
 use Rattle.consistency.proofs.none_has.Statement.{statement}
 use Rattle.consistency.proofs.none_has.Tie as tie
 
-abbrev Inv-loop : tie.InvT-loop
-Inv-loop lower upper rows raised sets variable values seen work₀ left₀ work left = Trying (hasFamily (networkOfBytes (length sets) lower upper rows raised) sets variable) (getD sets variable 0) values left × (length work ≡ length sets)
+-- after the sweeps
+module _ (c : tie.After-settle) where
+  abbrev sets : List ℕ
+  sets = now (c .before .before .before .before .before .before .before .before .before .before .before .before .before .before .before .before .before .before .before .args .sets)
 
-abbrev μ-loop : tie.MeasureT-loop
-μ-loop lower upper rows raised sets variable values seen work₀ left₀ work left = left
+  abbrev left : List ℕ
+  left = c .settle .last .1 .1 .1 .1 .0
 
-shared-slice-read-common : tie.Need-shared-slice-read-common Inv-loop μ-loop
-shared-slice-read-common c = c .before .before .before .before .before .before .before .pre .1 .1
+  left-length : length left ≡ length sets
+  left-length = c .settle .kept .1 .1 .1 .1 .0 ∙ copy-length sets (c .before .before .before .before .before .before .before .before .before .before .before .before .before .before .before .before .before .before .before .args .variable) (c .before .before .before .before .before .before .before .before .before .before .before .before .before .before .before .before .before .before .before .pre .1 .1) _ _ (c .before .before .before .before .before .copy-sets .ensures)
 
-common-requires : tie.Need-common-requires Inv-loop μ-loop
-common-requires c κs = tt
+  settled : (b : Bool) → c .settle .result ≡ b
+      → Settled (networkOfBytes (length sets) (now (c .before .before .before .before .before .before .before .before .before .before .before .before .before .before .before .before .before .before .before .args .lower)) (now (c .before .before .before .before .before .before .before .before .before .before .before .before .before .before .before .before .before .before .before .args .upper)) (now (c .before .before .before .before .before .before .before .before .before .before .before .before .before .before .before .before .before .before .before .args .rows)) (now (c .before .before .before .before .before .before .before .before .before .before .before .before .before .before .before .before .before .before .before .args .raised)))
+      (setsOf (near sets (c .before .before .before .before .before .before .before .before .before .before .before .before .before .before .before .before .before .before .before .args .variable) (c .before .before .before .before .before .before .before .before .before .before .before .before .before .before .before .before .before .before .before .args .values))) left b
+  settled b q = near-settled (now (c .before .before .before .before .before .before .before .before .before .before .before .before .before .before .before .before .before .before .before .args .lower)) (now (c .before .before .before .before .before .before .before .before .before .before .before .before .before .before .before .before .before .before .before .args .upper)) (now (c .before .before .before .before .before .before .before .before .before .before .before .before .before .before .before .before .before .before .before .args .rows)) (now (c .before .before .before .before .before .before .before .before .before .before .before .before .before .before .before .before .before .before .before .args .raised)) sets (c .before .before .before .before .before .before .before .before .before .before .before .before .before .before .before .before .before .before .before .args .variable) (c .before .before .before .before .before .before .before .before .before .before .before .before .before .before .before .before .before .before .before .pre .1 .1) (c .before .before .before .before .before .before .before .before .before .before .before .before .before .before .before .before .before .before .before .args .values) _ _ (c .before .before .before .before .before .before .before .before .before .before .common .ensures) (c .before .before .before .before .before .copy-sets .ensures) left _ b q (c .settle .ensures .0)
 
-loop-holds : tie.Need-loop-holds Inv-loop μ-loop
-loop-holds c =
-    let s = c .before .before .before .before .before .before .before .before in
-    (trying-start _ _ _ (outside-none (now (s .args .lower)) (now (s .args .upper)) (now (s .args .rows)) (now (s .args .raised)) (now (s .args .sets)) (s .args .variable) (s .pre .1 .1)) _ (c .common .ensures), s .pre .1 .2)
+shared-slice-read-common : tie.Need-shared-slice-read-common
+shared-slice-read-common c = search needs
 
-lowest-requires : tie.Need-lowest-requires Inv-loop μ-loop
-lowest-requires c κs = tt
+common-requires : tie.Need-common-requires
+common-requires c κs = search needs
 
-has-family-requires : tie.Need-has-family-requires Inv-loop μ-loop
-has-family-requires c κs =
-    let s = c .before .before .before .before .before .before .before .before .before .before .before .before in
-    let l = c .before .before .before .loop in
-    (s .pre .0, ((s .pre .1 .0, s .pre .1 .1, l .inv .1), (tried-own _ _ _ _ (l .inv .0) _ (c .before .before .loop-test .taken) (c .before .lowest .ensures), s .pre .1 .3)))
+returns : tie.Need-returns
+returns c =
+    let s = c .before .before .before .before .before .before .before .before .before .before in
+    let a = s .args in
+    near-none (now (a .lower)) (now (a .upper)) (now (a .rows)) (now (a .raised)) (now (a .sets)) (a .variable) (s .pre .1 .1) (a .values)
+    (near-empty (now (a .lower)) (now (a .upper)) (now (a .rows)) (now (a .raised)) (now (a .sets)) (a .variable) (s .pre .1 .1) (a .values) (sym (c .before .common .ensures) ∙ c .if1 .taken))
 
-same-length : tie.Need-same-length Inv-loop μ-loop
-same-length c = c .before .before .before .has-family .kept .1 .1 .1 .1 .1 .1 .1 .1 .0 ∙ c .before .before .before .before .before .before .before .loop .inv .1 ∙ sym (c .before .before .before .before .before .before .before .before .before .before .before .before .before .before .before .before .pre .1 .2)
+is-single-requires : tie.Need-is-single-requires
+is-single-requires c κs = search needs
 
-returns : tie.Need-returns Inv-loop μ-loop
-returns c = trying-found _ _ _ _ (c .before .before .before .before .before .before .before .loop .inv .0) _ (c .before .before .before .before .before .before .loop-test .taken) (c .before .before .before .before .before .lowest .ensures) (sym (c .before .before .before .has-family .ensures) ∙ c .if1 .taken)
+none-alone-requires : tie.Need-none-alone-requires
+none-alone-requires c κs = let s = c .before .before .before .before .before .before .before .before .before .before .before .before .before in (s .pre .0, (s .pre .1 .0, s .pre .1 .1, s .pre .1 .3, seen-none _ 192))
 
-strike-requires : tie.Need-strike-requires Inv-loop μ-loop
-strike-requires c κs = tt
+same-length : tie.Need-same-length
+same-length c = search needs
 
-loop-less : tie.Need-loop-less Inv-loop μ-loop
-loop-less c = lowest-struck _ _ _ (c .before .before .before .before .before .before .before .before .loop .inv .0 .small) (c .before .before .before .before .before .before .before .loop-test .taken) (c .before .before .before .before .before .before .lowest .ensures) (c .strike .ensures) .1
+returns-2 : tie.Need-returns-2
+returns-2 c = search needs
 
-loop-again : tie.Need-loop-again Inv-loop μ-loop
-loop-again c = (
-  trying-next _ _ _ _ (c .before .before .before .before .before .before .before .before .loop .inv .0) _ (c .before .before .before .before .before .before .before .loop-test .taken) (c .before .before .before .before .before .before .lowest .ensures) (sym (c .before .before .before .before .has-family .ensures) ∙ c .before .if1 .left) _ (c .strike .ensures),
-  c .before .before .before .before .has-family .kept .1 .1 .1 .1 .1 .1 .1 .1 .0 ∙ c .before .before .before .before .before .before .before .before .loop .inv .1,
-)
+copy-sets-requires : tie.Need-copy-sets-requires
+copy-sets-requires c κs = search needs
 
-same-length-2 : tie.Need-same-length-2 Inv-loop μ-loop
-same-length-2 c = c .before .loop .inv .1 ∙ sym (c .before .before .before .before .before .before .before .before .before .before .pre .1 .2)
+slice-write-near : tie.Need-slice-write-near
+slice-write-near c = omega (arith, ap length (c .before .before .copy-sets .ensures), c .before .before .before .before .before .before .before .before .before .before .before .before .before .before .before .before .pre .1 .1)
 
-returns-2 : tie.Need-returns-2 Inv-loop μ-loop
-returns-2 c = trying-end _ _ _ _ (c .before .loop .inv .0) (c .loop-test .left)
+slice-aggregate-settle : tie.Need-slice-aggregate-settle
+slice-aggregate-settle c = search needs
+
+settle-requires : tie.Need-settle-requires
+settle-requires c κs =
+    let s = c .before .before .before .before .before .before .before .before .before .before .before .before .before .before .before .before .before .before in
+    let e = c .before .before .before .before .copy-sets .ensures in (
+      copy-well (now (s .args .sets)) (s .args .variable) (s .pre .1 .1) _ _ e _ _ _ _ (s .pre .0),
+      (copy-filled (now (s .args .sets)) (s .args .variable) (s .pre .1 .1) _ _ e (c .before .before .before .before .before .before .before .before .if1 .left) (s .pre .1 .0), seen-none _ 192),
+    )
+
+none-alone-requires-2 : tie.Need-none-alone-requires-2
+none-alone-requires-2 c κs =
+    let s = c .before .before .before .before .before .before .before .before .before .before .before .before .before .before .before .before .before .before .before .before .before .before .before .before .before in
+    let a = s .args in
+    let q = c .before .before .before .before .before .before in (
+      well-same _ _ _ _ (now (a .sets)) (left q) (left-length q) (s .pre .0),
+      (
+        near-filled (now (a .lower)) (now (a .upper)) (now (a .rows)) (now (a .raised)) (now (a .sets)) (a .variable) (s .pre .1 .1) (a .values) (left q) (left-length q) (settled q true (c .before .before .if3 .taken)),
+        omega (arith, left-length q, s .pre .1 .1),
+        s .pre .1 .3 ∙ sym (left-length q),
+        q .settle .ensures .1,
+      ),
+    )
+
+same-length-2 : tie.Need-same-length-2
+same-length-2 c = left-length (c .before .before .before .before .before .before .before .before .before) ∙ sym (c .before .before .before .before .before .before .before .before .before .before .before .before .before .before .before .before .before .before .before .before .before .before .before .before .before .before .before .before .pre .1 .2)
+
+same-length-3 : tie.Need-same-length-3
+same-length-3 c = search needs
+
+returns-3 : tie.Need-returns-3
+returns-3 c =
+    let s = c .before .before .before .before .before .before .before .before .before .before .before .before .before .before .before .before .before .before .before .before .before .before .before .before .before .before .before .before in
+    let a = s .args in
+    let q = c .before .before .before .before .before .before .before .before .before in
+    c .before .before .none-alone2 .ensures
+    ∙ near-same (now (a .lower)) (now (a .upper)) (now (a .rows)) (now (a .raised)) (now (a .sets)) (a .variable) (s .pre .1 .1) (a .values) (left q) (left-length q) (settled q true (c .before .before .before .before .before .if3 .taken)) (s .pre .0 .ends)
+
+same-length-4 : tie.Need-same-length-4
+same-length-4 c = left-length (c .before .before .before .before) ∙ sym (c .before .before .before .before .before .before .before .before .before .before .before .before .before .before .before .before .before .before .before .before .before .before .before .pre .1 .2)
+
+returns-4 : tie.Need-returns-4
+returns-4 c =
+    let s = c .before .before .before .before .before .before .before .before .before .before .before .before .before .before .before .before .before .before .before .before .before .before .before in
+    let a = s .args in
+    near-none (now (a .lower)) (now (a .upper)) (now (a .rows)) (now (a .raised)) (now (a .sets)) (a .variable) (s .pre .1 .1) (a .values) (settled (c .before .before .before .before) false (c .if3 .left))
 
 pub none-has-spec : {M : Type 1} → statement M
 none-has-spec =
     tie.close
     (tie.spec
-    Inv-loop
-    μ-loop
     shared-slice-read-common
     common-requires
-    loop-holds
-    lowest-requires
-    has-family-requires
-    same-length
     returns
-    strike-requires
-    loop-less
-    loop-again
+    is-single-requires
+    none-alone-requires
+    same-length
+    returns-2
+    copy-sets-requires
+    slice-write-near
+    slice-aggregate-settle
+    settle-requires
+    none-alone-requires-2
     same-length-2
-    returns-2)
+    same-length-3
+    returns-3
+    same-length-4
+    returns-4)
