@@ -303,6 +303,22 @@ fn lengths() {
     compare(clash(2, 0, 1), &table, &two, &three);
 }
 
+// Two pairs of the same ends.
+fn repeated() {
+    let case = Case {
+        n: 2,
+        d: 2,
+        m: 2,
+        lower: [0u8; 96],
+        upper: [1u8; 96],
+    };
+    let table = [0i64; 12];
+    let first = [0u8, 0];
+    let second = [0u8, 1];
+    print(b"twice");
+    compare(case, &table, &first, &second);
+}
+
 fn main() {
     puts();
     rounds();
@@ -310,4 +326,5 @@ fn main() {
     scores();
     cases();
     lengths();
+    repeated();
 }
