@@ -1,11 +1,12 @@
 -- What is prepared of a table, and what is asked of `all_refuted` over it. Assumes nothing.
-use mathlib.Core.Path.{_≡_, refl, ap, _∙_}
-use mathlib.Core.Bool.{Bool, true, false, not}
+use mathlib.Core.Path.{_≡_, refl, sym, ap, _∙_}
+use mathlib.Core.Bool.{Bool, true, false, not, _||_}
+use mathlib.Core.Logic.{_≢_}
 use mathlib.Core.Option.{none}
 use mathlib.Core.List.{List, map}
 use Prim.Native.Nat.{ℕ, _+_, _*_, _-_, _≤_, _<_}
 use native.Mathlib.Omega.{arith}
-use borrow.Author.Tests.{le-ltb}
+use borrow.Author.Tests.{le-ltb, ne-eqb}
 use lib.IntN.{ℤ}
 use lib.Dec.{eqb}
 use lib.ListN.{length, getD, take, drop, length-append, length-take, length-drop, List·getD-append}
@@ -16,13 +17,16 @@ use Rattle.definitions.specs.declared.Case.{Case}
 use Rattle.definitions.specs.Rules.{standard}
 use Rattle.definitions.specs.Case.{scopeCount}
 use Rattle.definitions.specs.Valid.{workingWeight}
+use Rattle.definitions.specs.Consistency.{allRefuted}
+use Rattle.definitions.specs.Moves.{activeValues}
 use Rattle.theory.proofs.Validity.{Handed, handed}
 use Rattle.theory.proofs.Replays.{none-iff}
+use Rattle.engine_theory.proofs.Raised.{own-scope}
 use Rattle.consistency.specs.Active.{activeSet, activeRow, activeSets, activeRows, tooShort, activeRefusal, setsAfter, rowsAfter}
 use Rattle.consistency.specs.Tried.{triedAnswer}
 use Rattle.consistency.specs.declared.Tried.the-variants.{Refuted, Supported}
 use Rattle.consistency.proofs.Refutation.{Bytes, tried-active}
-use Rattle.engine.specs.Search.{saysRefuted, isRaised, Prepared, Allowing, refutesIn}
+use Rattle.engine.specs.Search.{saysRefuted, isRaised, Prepared, Allowing, ownOrRaised, refutesIn}
 
 -- ---- what `active_marks` leaves
 
@@ -69,16 +73,22 @@ not-not : (b : Bool) → b ≡ not (not b)
 not-not true = refl
 not-not false = refl
 
+-- the answer says it
+refuted-says : (b : Bool) → saysRefuted (if b then Refuted else Supported) ≡ b
+refuted-says true = refl
+refuted-says false = refl
+
 -- the bytes of the edges
-abbrev edgesOf : Case → List ℕ → List ℕ
+abbrev pub edgesOf : Case → List ℕ → List ℕ
 edgesOf c raised = take ((c .n + c .m) - c .n) (drop (c .n) raised)
 
-module _ (c : Case) (w : List ℤ) {acts rows : List ℕ} (raised sets : List ℕ) (p : Prepared c w acts rows) (a : Allowing c w raised sets)
+module _ (c : Case) (w : List ℤ) {acts rows : List ℕ} (raised sets : List ℕ) (R : ℕ → Bool) (p : Prepared c w acts rows) (a : Allowing c w R sets)
+    (edges-same : (e : ℕ) → e < c .m → isRaised raised (c .n + e) ≡ R (c .n + e))
     (lowers : length (c .lower) ≡ 96) (uppers : length (c .upper) ≡ 96) (long : scopeCount c ≤ length raised) (room : c .n ≤ length sets) where
   edges-length : length (edgesOf c raised) ≡ c .m
   edges-length = simp (length-take, length-drop) (omega arith)
 
-  bytes : Bytes c w (isRaised raised) rows (edgesOf c raised) (take (c .n) sets)
+  bytes : Bytes c w R rows (edgesOf c raised) (take (c .n) sets)
   bytes =
       let few : c .m ≤ 96 = p .handed .edges-most in record {
         lowers = omega arith;
@@ -86,20 +96,28 @@ module _ (c : Case) (w : List ℤ) {acts rows : List ℕ} (raised sets : List �
         room = p .rows-long;
         edges = record {
           count = edges-length;
-          raised = λ e g. ap (λ (b : ℕ). eqb b 0) (getD-take ((c .n + c .m) - c .n) (drop (c .n) raised) e 0 (omega arith) ∙ getD-drop (c .n) raised e 0) ∙ not-not (eqb (getD raised (c .n + e) 0) 0);
+          raised = λ e g. ap (λ (b : ℕ). eqb b 0) (getD-take ((c .n + c .m) - c .n) (drop (c .n) raised) e 0 (omega arith) ∙ getD-drop (c .n) raised e 0)
+              ∙ not-not (eqb (getD raised (c .n + e) 0) 0) ∙ ap not (edges-same e g);
           partners = λ e q g l t. p .rows-are e q g l;
         };
         sets-length = length-take-le (c .n) sets room;
         sets = λ j g. getD-take (c .n) sets j 0 g ∙ a j g;
       }
 
-  pub asked-says : (i values : ℕ) → i < c .n → values ≡ getD acts i 0
-      → triedAnswer (c .lower) (c .upper) rows (edgesOf c raised) (take (c .n) sets) i values ≡ (if refutesIn c w i raised then Refuted else Supported)
-  asked-says i values g e =
-      ap (triedAnswer (c .lower) (c .upper) rows (edgesOf c raised) (take (c .n) sets) i) (e ∙ p .acts-are i g)
-      ∙ tried-active c w (p .handed) (isRaised raised) rows (edgesOf c raised) (take (c .n) sets) bytes i g
+  pub asked-says : (i : ℕ) → i < c .n
+      → saysRefuted (triedAnswer (c .lower) (c .upper) rows (edgesOf c raised) (take (c .n) sets) i (getD acts i 0)) ≡ allRefuted c w R i (activeValues c w i)
+  asked-says i g =
+      ap (λ (values : ℕ). saysRefuted (triedAnswer (c .lower) (c .upper) rows (edgesOf c raised) (take (c .n) sets) i values)) (p .acts-are i g)
+      ∙ ap saysRefuted (tried-active c w (p .handed) R rows (edgesOf c raised) (take (c .n) sets) bytes i g)
+      ∙ refuted-says (allRefuted c w R i (activeValues c w i))
 
--- the answer says it
-pub refuted-says : (b : Bool) → saysRefuted (if b then Refuted else Supported) ≡ b
-refuted-says true = refl
-refuted-says false = refl
+-- asked of one variable, whose own scope makes no difference
+pub refutes-says : (c : Case) (w : List ℤ) {acts rows : List ℕ} (raised sets : List ℕ) (i : ℕ) (p : Prepared c w acts rows) → Allowing c w (ownOrRaised raised i) sets
+    → length (c .lower) ≡ 96 → length (c .upper) ≡ 96 → scopeCount c ≤ length raised → c .n ≤ length sets → i < c .n
+    → saysRefuted (triedAnswer (c .lower) (c .upper) rows (edgesOf c raised) (take (c .n) sets) i (getD acts i 0)) ≡ refutesIn c w i raised
+refutes-says c w raised sets i p a lowers uppers long room g =
+    asked-says c w raised sets (ownOrRaised raised i) p a (λ e h. sym (elsewhere (c .n + e) (λ q. absurd (omega arith)))) lowers uppers long room i g
+    ∙ own-scope c w i g (p .handed .shape) (ownOrRaised raised i) (isRaised raised) (λ x h ne. elsewhere x ne)
+  where
+    elsewhere : (x : ℕ) → x ≢ i → ownOrRaised raised i x ≡ isRaised raised x
+    elsewhere x ne = ap (λ (b : Bool). b || isRaised raised x) (ne-eqb x i ne)

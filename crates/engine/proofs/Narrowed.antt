@@ -7,9 +7,9 @@ use Prim.Native.Nat.{ℕ, _<_}
 use native.Mathlib.Omega.{arith}
 use lib.Dec.{T, eqb, ltb, eqb→eq}
 use lib.ListN.{length, getD, set}
-use lib.Seq.{getD-set-same, getD-set-other, ext-getD}
+use lib.Seq.{getD-set-same, getD-set-other}
 use Rattle.integers.specs.Words.{if_then_else_, below, all, _⇒_}
-use Rattle.integers.specs.Tests.{either, is-true, is-false, true-is, same-test, and-left, and-right, and-intro, not-eqb-iff}
+use Rattle.integers.specs.Tests.{either, if-cases, is-true, is-false, true-is, same-test, and-left, and-right, and-intro, not-eqb-iff}
 use Rattle.integers.specs.Lists.{any-in, all-same}
 use Rattle.integers.specs.Tables.{length-tab, getD-tab}
 use Rattle.definitions.specs.Rules.{standard}
@@ -103,6 +103,8 @@ tried-narrowed lower upper rows edges S i values g = by (isMalformed (length S) 
     by true e = refl
     by false e = tried-same lower upper rows edges S i g (well-formed lower upper rows edges S e .ends) values
 
--- sets that were copied
-pub copied-all : (sets work : List ℕ) → length work ≡ length sets → ((j : ℕ) → j < length sets → getD work j 0 ≡ getD sets j 0) → work ≡ sets
-copied-all sets work e f = ext-getD 0 work sets e (λ j h. f j (omega arith))
+pub narrowed-length : (lower upper rows edges S : List ℕ) → length (closureSets lower upper rows edges S) ≡ length S
+unfolding closureSets
+narrowed-length lower upper rows edges S =
+    if-cases (λ l. length l ≡ length S) (isMalformed (length S) lower upper rows edges) S (map (λ j. byteOf (largest (networkOfBytes (length S) lower upper rows edges) (setsOf S) j)) (below (length S)))
+    (λ t. refl) (λ t. length-tab (λ j. byteOf (largest (networkOfBytes (length S) lower upper rows edges) (setsOf S) j)) 0 (length S))

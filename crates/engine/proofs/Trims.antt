@@ -1,6 +1,6 @@
 -- Trimming, over the bytes of raised scopes: the scopes below x that are still raised were kept, and the others are still to be tried.
 -- Assumes nothing.
-use mathlib.Core.Path.{_≡_, sym, ap, ap₂, subst, _∙_}
+use mathlib.Core.Path.{_≡_, refl, sym, ap, ap₂, subst, _∙_}
 use mathlib.Core.Bool.{Bool, true, false, not, _&&_}
 use mathlib.Core.Logic.{_≢_, ⊎-elim}
 use mathlib.Core.List.{List, [], _∷_, _++_, append-nil, List·Memᴰ·append-cases, Memᴰ·append-left, Memᴰ·append-right}
@@ -9,15 +9,16 @@ use native.Mathlib.Numerals.{add-one}
 use native.Mathlib.Omega.{arith}
 use lib.IntN.{ℤ}
 use lib.Dec.{T, eqb, ltb, ltb→lt, nltb→le, eqb→eq}
-use lib.ListN.{length, set, length-set}
+use lib.ListN.{length, getD, set, length-set}
 use Rattle.integers.specs.Words.{if_then_else_, from, below, those, isIn}
-use Rattle.integers.specs.Tests.{either, same-test, not-eqb-iff}
+use Rattle.integers.specs.Tests.{either, is-true, true-is, same-test, not-eqb-iff}
 use Rattle.integers.specs.Lists.{from-split, from-suc, from-in, in-from, those-append, those-cong, those-same, in-those, those-in, below-in, in-below, isIn-in}
 use Rattle.definitions.specs.declared.Case.{Case}
 use Rattle.definitions.specs.Case.{scopes, scopeCount}
 use Rattle.definitions.specs.Moves.{activeRefuted}
 use Rattle.definitions.specs.Engine.{others, trimmed, keptScopes}
-use Rattle.engine.specs.Search.{isRaised, refutesIn, OthersRaised, Dropped}
+use Rattle.engine_theory.proofs.Raised.{refuted-more}
+use Rattle.engine.specs.Search.{isRaised, refutesIn, OthersRaised, Enough, Dropped}
 use Rattle.engine.specs.Texts.{raisedBelow}
 use Rattle.engine.proofs.Raising.{raised-here, raised-elsewhere, refuted-alike}
 
@@ -119,16 +120,61 @@ module _ (c : Case) (w : List ℤ) (i : ℕ) where
       let z : scopeCount c - x ≡ 0 = omega arith in
       rw (z, e)
 
--- ---- what was done to scope x, which was raised
-module _ (c : Case) (w : List ℤ) (i x : ℕ) {before after : List ℕ} (long : x < length before) (r : isRaised before x ≡ true) where
-  pub dropped-out : after ≡ set before x 0 → refutesIn c w i after ≡ true → Dropped c w i x before after
-  dropped-out e t = rw e (record {
-    here = raised-here before x 0 long ∙ sym (ap₂ (λ (a b : Bool). a && not b) r (ap (refutesIn c w i) (sym e) ∙ t));
-    elsewhere = λ y ne. raised-elsewhere before x 0 y ne;
-  })
+-- ---- scopes that are enough
 
-  pub dropped-not : {lowered : List ℕ} → lowered ≡ set before x 0 → after ≡ set lowered x 1 → refutesIn c w i lowered ≡ false → Dropped c w i x before after
-  dropped-not {lowered} e f t = rw (f, e) (record {
-    here = raised-here (set before x 0) x 1 (omega (arith, length-set before x 0)) ∙ sym (ap₂ (λ (a b : Bool). a && not b) r (ap (refutesIn c w i) (sym e) ∙ t));
+module _ (c : Case) (w : List ℤ) (i : ℕ) where
+  refutes-more : (raised enough : List ℕ) → Enough c w i raised enough → refutesIn c w i raised ≡ true
+  refutes-more raised enough n = is-true (refutesIn c w i raised) (refuted-more c w i (isRaised enough) (isRaised raised) (n .inside) (true-is (refutesIn c w i enough) (n .refutes)))
+
+  -- all that are raised
+  pub copied-enough : (raised enough : List ℕ) → ((y : ℕ) → y < scopeCount c → getD enough y 0 ≡ getD raised y 0) → refutesIn c w i raised ≡ true → Enough c w i raised enough
+  copied-enough raised enough e t = record {
+    inside = λ y h. subst T (same y h);
+    refutes = refuted-alike c w same i ∙ t;
+  }
+    where
+      same : (y : ℕ) → y < scopeCount c → isRaised enough y ≡ isRaised raised y
+      same y h = ap (λ (b : ℕ). not (eqb b 0)) (e y h)
+
+  module _ (x : ℕ) {before enough : List ℕ} (long : x < length before) (n : Enough c w i before enough) where
+    -- x is not among them
+    pub enough-without : getD enough x 0 ≡ 0 → Enough c w i (set before x 0) enough
+    enough-without e = record {
+      inside = λ y h t. ⊎-elim
+          (λ s. absurd (subst (λ (b : ℕ). T (not (eqb b 0))) e (subst (λ (k : ℕ). T (isRaised enough k)) (eqb→eq y x s) t)))
+          (λ s. subst T (sym (raised-elsewhere before x 0 y (not-eqb-iff y x .0 s))) (n .inside y h t))
+          (either (eqb y x));
+      refutes = n .refutes;
+    }
+
+    -- x is kept
+    pub enough-kept : Enough c w i (set (set before x 0) x 1) enough
+    enough-kept = record {
+      inside = λ y h t. ⊎-elim
+          (λ s. subst (λ (k : ℕ). T (isRaised (set (set before x 0) x 1) k)) (sym (eqb→eq y x s)) (subst T (sym (raised-here (set before x 0) x 1 (omega (arith, length-set before x 0)))) tt))
+          (λ s. let ne = not-eqb-iff y x .0 s in subst T (sym (raised-elsewhere (set before x 0) x 1 y ne ∙ raised-elsewhere before x 0 y ne)) (n .inside y h t))
+          (either (eqb y x));
+      refutes = n .refutes;
+    }
+
+-- ---- what was done to scope x
+
+and-not : (b : Bool) → (b && false) ≡ false
+and-not true = refl
+and-not false = refl
+
+module _ (c : Case) (w : List ℤ) (i x : ℕ) {before : List ℕ} (long : x < length before) where
+  pub dropped-out : refutesIn c w i (set before x 0) ≡ true → Dropped c w i x before (set before x 0)
+  dropped-out t = record {
+    here = raised-here before x 0 long ∙ sym (ap (λ (b : Bool). isRaised before x && not b) t ∙ and-not (isRaised before x));
+    elsewhere = λ y ne. raised-elsewhere before x 0 y ne;
+  }
+
+  pub dropped-free : {enough : List ℕ} → Enough c w i (set before x 0) enough → Dropped c w i x before (set before x 0)
+  dropped-free {enough} n = dropped-out (refutes-more c w i (set before x 0) enough n)
+
+  pub dropped-not : T (isRaised before x) → refutesIn c w i (set before x 0) ≡ false → Dropped c w i x before (set (set before x 0) x 1)
+  dropped-not r t = record {
+    here = raised-here (set before x 0) x 1 (omega (arith, length-set before x 0)) ∙ sym (ap₂ (λ (a b : Bool). a && not b) (is-true (isRaised before x) r) t);
     elsewhere = λ y ne. raised-elsewhere (set before x 0) x 1 y ne ∙ raised-elsewhere before x 0 y ne;
-  })
+  }

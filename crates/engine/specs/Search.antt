@@ -1,14 +1,14 @@
 -- Raised scopes and sets of values as bytes, and what the search for a press may take as known. Assumes nothing.
 use mathlib.Core.Path.{_≡_}
-use mathlib.Core.Bool.{Bool, true, false, not, _&&_}
+use mathlib.Core.Bool.{Bool, true, false, not, _&&_, _||_}
 use mathlib.Core.Logic.{_≢_}
-use mathlib.Core.Option.{none, some}
+use mathlib.Core.Option.{Option, none, some}
 use mathlib.Core.List.{List}
 use Prim.Native.Nat.{ℕ, _+_, _*_, _≤_, _<_}
 use lib.IntN.{ℤ}
 use lib.Dec.{T, eqb}
 use lib.ListN.{length, getD, set}
-use Rattle.integers.specs.Words.{if_then_else_, those}
+use Rattle.integers.specs.Words.{if_then_else_, below, those, first}
 use Rattle.definitions.specs.declared.Case.{Case}
 use Rattle.definitions.specs.Rules.{standard}
 use Rattle.definitions.specs.Case.{scopes, scopeCount}
@@ -19,6 +19,7 @@ use Rattle.definitions.specs.Engine.{chosen, keptScopes}
 use Rattle.theory.proofs.Validity.{Handed}
 use Rattle.marks.specs.Marks.{fullOf}
 use Rattle.consistency.specs.Active.{activeSet, activeRow}
+use Rattle.consistency.specs.Tried.{triedAnswer}
 use Rattle.consistency.specs.declared.Tried.{Tried}
 use Rattle.engine.specs.declared.Chosen.{Chosen}
 
@@ -43,8 +44,12 @@ pub record Prepared (c : Case) (w : List ℤ) (acts rows : List ℕ) : Type 0 wh
   pub rows-are : (e p : ℕ) → e < c .m → p < 16 → getD rows (16 * e + p) 0 ≡ activeRow c w e p
 
 -- sets holds the allowed values of each variable: the active ones if its scope is raised, else all
-abbrev pub Allowing : Case → List ℤ → List ℕ → List ℕ → Type 0
-Allowing c w raised sets = (j : ℕ) → j < c .n → getD sets j 0 ≡ (if isRaised raised j then activeSet c w j else fullOf (c .d))
+abbrev pub Allowing : Case → List ℤ → (ℕ → Bool) → List ℕ → Type 0
+Allowing c w R sets = (j : ℕ) → j < c .n → getD sets j 0 ≡ (if R j then activeSet c w j else fullOf (c .d))
+
+-- scope x is variable i's own, or raised
+abbrev pub ownOrRaised : List ℕ → ℕ → ℕ → Bool
+ownOrRaised raised i x = eqb x i || isRaised raised x
 
 -- the active values of variable i are all refuted with these scopes raised
 abbrev pub refutesIn : Case → List ℤ → ℕ → List ℕ → Bool
@@ -62,15 +67,27 @@ abbrev pub ChosenIn : Case → Chosen → Type 0
 ChosenIn c Chosen.Nothing = T true
 ChosenIn c (Chosen.Variable i) = i < c .n
 
--- the variable that was chosen, with all other scopes raised
-abbrev pub ChosenIs : Case → List ℤ → List ℕ → List ℕ → Chosen → Type 0
-ChosenIs c w raised sets Chosen.Nothing = chosen c w ≡ none
-ChosenIs c w raised sets (Chosen.Variable i) = (chosen c w ≡ some i) × (Allowing c w raised sets × OthersRaised c i raised)
+abbrev pub ChosenIs : Case → List ℤ → Chosen → Type 0
+ChosenIs c w Chosen.Nothing = chosen c w ≡ none
+ChosenIs c w (Chosen.Variable i) = chosen c w ≡ some i
+
+abbrev pub chosenOf : Option ℕ → Chosen
+chosenOf none = Chosen.Nothing
+chosenOf (some i) = Chosen.Variable i
+
+-- the lowest variable whose values `acts` are all refuted inside the sets
+abbrev pub lowestRefuted : List ℕ → List ℕ → List ℕ → List ℕ → List ℕ → List ℕ → Option ℕ
+lowestRefuted lower upper acts rows edges sets = first (those (λ i. saysRefuted (triedAnswer lower upper rows edges sets i (getD acts i 0))) (below (length sets)))
 
 -- the variable that was chosen, with the scopes raised that are kept
 abbrev pub FoundIs : Case → List ℤ → List ℕ → Chosen → Type 0
 FoundIs c w raised Chosen.Nothing = chosen c w ≡ none
 FoundIs c w raised (Chosen.Variable i) = (chosen c w ≡ some i) × (those (isRaised raised) (scopes c) ≡ keptScopes c w i)
+
+-- `enough` are raised scopes with which the active values of variable i are refuted
+pub record Enough (c : Case) (w : List ℤ) (i : ℕ) (raised enough : List ℕ) : Type 0 where
+  pub inside : (y : ℕ) → y < scopeCount c → T (isRaised enough y) → T (isRaised raised y)
+  pub refutes : refutesIn c w i enough ≡ true
 
 -- scope x was dropped, unless the values are not refuted without it
 pub record Dropped (c : Case) (w : List ℤ) (i x : ℕ) (before after : List ℕ) : Type 0 where

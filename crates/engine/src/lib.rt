@@ -12,9 +12,9 @@ ghost use mathlib.Core.Option.{some};
 ghost use mathlib.Core.Bool.{not};
 ghost use mathlib.Core.List.{List, _++_};
 ghost use Prim.Native.Nat.{ℕ, _+_, _*_, _≤_, _<_};
-ghost use lib.Dec.{T, ltb};
+ghost use lib.Dec.{T, ltb, eqb};
 ghost use lib.IntN.{ℤ, pos};
-ghost use lib.ListN.{length, getD, set};
+ghost use lib.ListN.{length, getD};
 ghost use Rattle.integers.specs.Words.{if_then_else_, all};
 ghost use Rattle.definitions.specs.Rules.{standard};
 ghost use Rattle.definitions.specs.Answers.{outcomeOf};
@@ -27,7 +27,7 @@ ghost use Rattle.definitions.specs.EngineCalls.{roundCall, runCall};
 ghost use Rattle.theory.proofs.Validity.{Handed};
 ghost use Rattle.figures.specs.Scopes.{Limited, sizeOf, BestOf};
 ghost use Rattle.consistency.specs.Tried.{triedAnswer};
-ghost use Rattle.engine.specs.Search.{saysRefuted, ActiveIn, Prepared, Allowing, refutesIn, AllRaised, OthersRaised, ChosenIn, ChosenIs, FoundIs, Dropped};
+ghost use Rattle.engine.specs.Search.{saysRefuted, isRaised, Prepared, refutesIn, AllRaised, OthersRaised, ChosenIn, ChosenIs, chosenOf, lowestRefuted, FoundIs, Enough, Dropped};
 ghost use Rattle.engine.specs.Gaps.{limits, lesserGap, lessGaps};
 ghost use Rattle.engine.specs.Texts.{raisedFrom, raisedBelow, raiseTexts, pressLine, pressText};
 ghost use Rattle.engine.specs.Rounds.{Pressed, MadeRound, RunIs, limitAnswer, stoppedRun, engineRefusalOf};
@@ -56,128 +56,188 @@ fn is_refuted(tried: Tried) -> bool
     }
 }
 
-// Whether none of these values has a family. The sets are narrowed once in `work`, before a value is fixed.
+fn copy_bytes(from: &[u8], to: &mut [u8], n: usize)
+    requires { ⌜ (n ≤ length (now from)) × (n ≤ length (now to)) ⌝ }
+    ensures { λ _. ⌜ ((j : ℕ) → j < n → getD (now (to .exit)) j 0 ≡ getD (now (from .entry)) j 0) ⌝ }
+{
+    let mut j: usize = 0;
+    while j < n {
+        to[j] = from[j];
+        j += 1;
+    }
+}
+
+// Whether none of these values has a family. The sets are narrowed once, before a value is fixed.
 fn none_has_family(
     case: Case,
     rows: &[u8],
     edges: &[u8],
-    sets: &[u8],
-    work: &mut [u8],
+    sets: &mut [u8],
     variable: usize,
     values: u8,
 ) -> bool
-    requires { ⌜ (length (now work) ≡ length (now sets)) × (variable < length (now sets)) ⌝ }
+    requires { ⌜ variable < length (now sets) ⌝ }
     ensures { λ r. ⌜ r ≡ saysRefuted (triedAnswer (case .lower) (case .upper) (now (rows .entry)) (now (edges .entry)) (now (sets .entry)) variable values) ⌝ }
 {
     let lower = case.lower;
     let upper = case.upper;
-    copy_sets(sets, work, sets.len());
-    consistency::closure(&lower, &upper, rows, edges, work);
-    let tried = consistency::all_refuted(&lower, &upper, rows, edges, work, variable, values);
+    consistency::closure(&lower, &upper, rows, edges, sets);
+    let tried = consistency::all_refuted(&lower, &upper, rows, edges, sets, variable, values);
     is_refuted(tried)
 }
 
-// Whether the active values of the variable are all refuted.
-fn refutes(
-    case: Case,
-    acts: &[u8],
-    rows: &[u8],
-    raised: &[u8],
-    sets: &[u8],
-    variable: usize,
-) -> bool
-    requires { ⌜ (scopeCount case ≤ length (now raised)) × (case .n ≤ length (now sets)) × (case .n ≤ length (now acts)) × (variable < case .n) × (case .n ≤ 48) ⌝ }
-    ensures { λ r. ⌜ ((w : List ℤ) → Prepared case w (now (acts .entry)) (now (rows .entry)) → Allowing case w (now (raised .entry)) (now (sets .entry)) → r ≡ refutesIn case w variable (now (raised .entry))) ⌝ }
+fn allowed_values(raised: u8, active: u8, full: u8) -> u8
+    ensures { λ r. ⌜ r ≡ (if not (eqb raised 0) then active else full) ⌝ }
+{
+    if raised == 0 {
+        return full;
+    }
+    active
+}
+
+// The allowed values of each variable: the active ones if its scope is raised, else all.
+fn allow(acts: &[u8], raised: &[u8], full: u8, sets: &mut [u8], n: usize)
+    requires { ⌜ (n ≤ length (now acts)) × (n ≤ length (now raised)) × (n ≤ length (now sets)) ⌝ }
+    ensures { λ _. ⌜ ((j : ℕ) → j < n → getD (now (sets .exit)) j 0 ≡ (if isRaised (now (raised .entry)) j then getD (now (acts .entry)) j 0 else full)) ⌝ }
+{
+    let mut j: usize = 0;
+    while j < n {
+        sets[j] = allowed_values(raised[j], acts[j], full);
+        j += 1;
+    }
+}
+
+// Whether the active values of the variable are all refuted. Only these stand in its own set, raised or not.
+fn refutes(case: Case, acts: &[u8], rows: &[u8], raised: &[u8], variable: usize) -> bool
+    requires { ⌜ (scopeCount case ≤ length (now raised)) × (case .n ≤ length (now acts)) × (variable < case .n) × (case .n ≤ 48) × (case .d ≤ 8) ⌝ }
+    ensures { λ r. ⌜ ((w : List ℤ) → Prepared case w (now (acts .entry)) (now (rows .entry)) → r ≡ refutesIn case w variable (now (raised .entry))) ⌝ }
 {
     let n = case.n;
     let end = n + case.m;
     let values = acts[variable];
-    let mut work = [0u8; 48];
+    let mut sets = [0u8; 48];
+    allow(acts, raised, marks::full(case.d as u8), &mut sets, n);
+    sets[variable] = values;
     none_has_family(
         case,
         rows,
         &raised[n..end],
-        &sets[..n],
-        &mut work[..n],
+        &mut sets[..n],
         variable,
         values,
     )
 }
 
-fn lower_scope(case: Case, raised: &mut [u8], sets: &mut [u8], x: usize)
-    requires { ⌜ (x < length (now raised)) × (case .n ≤ length (now sets)) × (case .d ≤ 8) ⌝ }
-    ensures { λ _. ⌜ (now (raised .exit) ≡ set (now (raised .entry)) x 0) × ((w : List ℤ) → Allowing case w (now (raised .entry)) (now (sets .entry)) → Allowing case w (now (raised .exit)) (now (sets .exit))) ⌝ }
+// The lowest variable whose values `acts` are all refuted inside the sets.
+fn lowest_in(
+    lower: &[u8],
+    upper: &[u8],
+    acts: &[u8],
+    rows: &[u8],
+    edges: &[u8],
+    sets: &[u8],
+) -> Chosen
+    requires { ⌜ length (now sets) ≤ length (now acts) ⌝ }
+    ensures { λ r. ⌜ r ≡ chosenOf (lowestRefuted (now (lower .entry)) (now (upper .entry)) (now (acts .entry)) (now (rows .entry)) (now (edges .entry)) (now (sets .entry))) ⌝ }
 {
-    raised[x] = 0;
-    if x < case.n {
-        sets[x] = marks::full(case.d as u8);
-    }
-}
-
-fn raise_scope(case: Case, acts: &[u8], raised: &mut [u8], sets: &mut [u8], x: usize)
-    requires { ⌜ (x < length (now raised)) × (case .n ≤ length (now sets)) × (case .n ≤ length (now acts)) ⌝ }
-    ensures { λ _. ⌜ (now (raised .exit) ≡ set (now (raised .entry)) x 1) × ((w : List ℤ) → ActiveIn case w (now (acts .entry)) → Allowing case w (now (raised .entry)) (now (sets .entry)) → Allowing case w (now (raised .exit)) (now (sets .exit))) ⌝ }
-{
-    raised[x] = 1;
-    if x < case.n {
-        sets[x] = acts[x];
-    }
-}
-
-// The lowest variable whose active values are refuted with all other scopes raised, which are left so.
-fn choose(case: Case, acts: &[u8], rows: &[u8], raised: &mut [u8], sets: &mut [u8]) -> Chosen
-    requires { ⌜ (scopeCount case ≤ length (now raised)) × (case .n ≤ length (now sets)) × (case .n ≤ length (now acts)) × (case .d ≤ 8) × (case .n ≤ 48) ⌝ }
-    ensures { λ r. ⌜ ChosenIn case r × ((w : List ℤ) → Prepared case w (now (acts .entry)) (now (rows .entry)) → AllRaised case (now (raised .entry)) → Allowing case w (now (raised .entry)) (now (sets .entry)) → ChosenIs case w (now (raised .exit)) (now (sets .exit)) r) ⌝ }
-{
-    let n = case.n;
     let mut i: usize = 0;
-    while i < n {
-        lower_scope(case, raised, sets, i);
-        if refutes(case, acts, rows, raised, sets, i) {
+    while i < sets.len() {
+        let tried = consistency::all_refuted(lower, upper, rows, edges, sets, i, acts[i]);
+        if is_refuted(tried) {
             return Chosen::Variable(i);
         }
-        raise_scope(case, acts, raised, sets, i);
         i += 1;
     }
     Chosen::Nothing
 }
 
-// Drops scope x, unless the values are not refuted without it.
+// The same. The sets are narrowed once, before a value is fixed.
+fn lowest_refuted(
+    lower: &[u8],
+    upper: &[u8],
+    acts: &[u8],
+    rows: &[u8],
+    edges: &[u8],
+    sets: &mut [u8],
+) -> Chosen
+    requires { ⌜ length (now sets) ≤ length (now acts) ⌝ }
+    ensures { λ r. ⌜ r ≡ chosenOf (lowestRefuted (now (lower .entry)) (now (upper .entry)) (now (acts .entry)) (now (rows .entry)) (now (edges .entry)) (now (sets .entry))) ⌝ }
+{
+    consistency::closure(lower, upper, rows, edges, sets);
+    lowest_in(lower, upper, acts, rows, edges, sets)
+}
+
+// The lowest variable whose active values are refuted with all other scopes raised. To a variable's active values its own scope makes no
+// difference, so that all scopes may be raised at once.
+fn choose(case: Case, acts: &[u8], rows: &[u8], raised: &[u8]) -> Chosen
+    requires { ⌜ (scopeCount case ≤ length (now raised)) × (case .n ≤ length (now acts)) × (case .n ≤ 48) ⌝ }
+    ensures { λ r. ⌜ ChosenIn case r × ((w : List ℤ) → Prepared case w (now (acts .entry)) (now (rows .entry)) → AllRaised case (now (raised .entry)) → ChosenIs case w r) ⌝ }
+{
+    let n = case.n;
+    let end = n + case.m;
+    let lower = case.lower;
+    let upper = case.upper;
+    let mut sets = [0u8; 48];
+    copy_bytes(acts, &mut sets, n);
+    lowest_refuted(&lower, &upper, acts, rows, &raised[n..end], &mut sets[..n])
+}
+
+// Drops scope x, unless the values are not refuted without it. With the scopes `enough` they are refuted.
 fn drop_scope(
     case: Case,
     acts: &[u8],
     rows: &[u8],
     raised: &mut [u8],
-    sets: &mut [u8],
+    enough: &mut [u8],
     variable: usize,
     x: usize,
 )
-    requires { ⌜ (scopeCount case ≤ length (now raised)) × (case .n ≤ length (now sets)) × (case .n ≤ length (now acts)) × (case .d ≤ 8) ⌝ }
+    requires { ⌜ (scopeCount case ≤ length (now raised)) × (scopeCount case ≤ length (now enough)) × (case .n ≤ length (now acts)) × (case .d ≤ 8) ⌝ }
     requires { ⌜ (variable < case .n) × (x < scopeCount case) × (case .n ≤ 48) ⌝ }
-    ensures { λ _. ⌜ ((w : List ℤ) → Prepared case w (now (acts .entry)) (now (rows .entry)) → Allowing case w (now (raised .entry)) (now (sets .entry)) → Allowing case w (now (raised .exit)) (now (sets .exit)) × Dropped case w variable x (now (raised .entry)) (now (raised .exit))) ⌝ }
+    ensures { λ _. ⌜ ((w : List ℤ) → Prepared case w (now (acts .entry)) (now (rows .entry)) → Enough case w variable (now (raised .entry)) (now (enough .entry)) → Enough case w variable (now (raised .exit)) (now (enough .exit)) × Dropped case w variable x (now (raised .entry)) (now (raised .exit))) ⌝ }
 {
-    if raised[x] == 0 {
+    raised[x] = 0;
+    if enough[x] == 0 {
         return;
     }
-    lower_scope(case, raised, sets, x);
-    if refutes(case, acts, rows, raised, sets, variable) {
+    if refutes(case, acts, rows, raised, variable) {
+        copy_bytes(raised, enough, case.n + case.m);
         return;
     }
-    raise_scope(case, acts, raised, sets, x);
+    raised[x] = 1;
 }
 
-// Upwards through the raised scopes.
-fn trim(case: Case, acts: &[u8], rows: &[u8], raised: &mut [u8], sets: &mut [u8], variable: usize)
-    requires { ⌜ (scopeCount case ≤ length (now raised)) × (case .n ≤ length (now sets)) × (case .n ≤ length (now acts)) × (case .d ≤ 8) ⌝ }
+// Upwards through the raised scopes. With the scopes `enough` the values are refuted.
+fn drop_scopes(
+    case: Case,
+    acts: &[u8],
+    rows: &[u8],
+    raised: &mut [u8],
+    enough: &mut [u8],
+    variable: usize,
+)
+    requires { ⌜ (scopeCount case ≤ length (now raised)) × (scopeCount case ≤ length (now enough)) × (case .n ≤ length (now acts)) × (case .d ≤ 8) ⌝ }
     requires { ⌜ (variable < case .n) × (case .n ≤ 48) × (case .m ≤ 96) ⌝ }
-    ensures { λ _. ⌜ ((w : List ℤ) → Prepared case w (now (acts .entry)) (now (rows .entry)) → OthersRaised case variable (now (raised .entry)) → Allowing case w (now (raised .entry)) (now (sets .entry)) → raisedBelow (now (raised .exit)) (scopeCount case) ≡ keptScopes case w variable) ⌝ }
+    ensures { λ _. ⌜ ((w : List ℤ) → Prepared case w (now (acts .entry)) (now (rows .entry)) → OthersRaised case variable (now (raised .entry)) → Enough case w variable (now (raised .entry)) (now (enough .entry)) → raisedBelow (now (raised .exit)) (scopeCount case) ≡ keptScopes case w variable) ⌝ }
 {
     let scopes = case.n + case.m;
     let mut x: usize = 0;
     while x < scopes {
-        drop_scope(case, acts, rows, raised, sets, variable, x);
+        drop_scope(case, acts, rows, raised, enough, variable, x);
         x += 1;
     }
+}
+
+// Lowers the variable's own scope and those that are dropped.
+fn trim(case: Case, acts: &[u8], rows: &[u8], raised: &mut [u8], variable: usize)
+    requires { ⌜ (scopeCount case ≤ length (now raised)) × (case .n ≤ length (now acts)) × (case .d ≤ 8) ⌝ }
+    requires { ⌜ (variable < case .n) × (case .n ≤ 48) × (case .m ≤ 96) ⌝ }
+    ensures { λ _. ⌜ ((w : List ℤ) → Prepared case w (now (acts .entry)) (now (rows .entry)) → AllRaised case (now (raised .entry)) → chosen case w ≡ some variable → raisedBelow (now (raised .exit)) (scopeCount case) ≡ keptScopes case w variable) ⌝ }
+{
+    let mut enough = [0u8; 144];
+    raised[variable] = 0;
+    copy_bytes(raised, &mut enough, case.n + case.m);
+    drop_scopes(case, acts, rows, raised, &mut enough, variable);
 }
 
 // ---- the amount
@@ -459,29 +519,16 @@ fn press_round(
     }
 }
 
-fn copy_sets(acts: &[u8], sets: &mut [u8], n: usize)
-    requires { ⌜ (n ≤ length (now acts)) × (n ≤ length (now sets)) ⌝ }
-    ensures { λ _. ⌜ ((j : ℕ) → j < n → getD (now (sets .exit)) j 0 ≡ getD (now (acts .entry)) j 0) ⌝ }
-{
-    let mut j: usize = 0;
-    while j < n {
-        sets[j] = acts[j];
-        j += 1;
-    }
-}
-
 // The variable to press, and the scopes to raise.
 fn search(case: Case, acts: &[u8], rows: &[u8], raised: &mut [u8]) -> Chosen
     requires { ⌜ (scopeCount case ≤ length (now raised)) × (case .n ≤ length (now acts)) × (case .n ≤ 48) × (case .d ≤ 8) × (case .m ≤ 96) ⌝ }
     ensures { λ r. ⌜ ((w : List ℤ) → Prepared case w (now (acts .entry)) (now (rows .entry)) → AllRaised case (now (raised .entry)) → FoundIs case w (now (raised .exit)) r) ⌝ }
 {
-    let mut sets = [0u8; 48];
-    copy_sets(acts, &mut sets, case.n);
-    let found = choose(case, acts, rows, raised, &mut sets);
+    let found = choose(case, acts, rows, raised);
     match found {
         Chosen::Nothing => Chosen::Nothing,
         Chosen::Variable(i) => {
-            trim(case, acts, rows, raised, &mut sets, i);
+            trim(case, acts, rows, raised, i);
             Chosen::Variable(i)
         }
     }
@@ -515,9 +562,9 @@ fn at_limit(case: Case, table: &[i64]) -> RunAnswer
     let mut acts = [0u8; 48];
     let mut rows = [0u8; 1536];
     let mut best = [0i64; 144];
-    let mut raised = [1u8; 144];
+    let raised = [1u8; 144];
     prepare(case, table, &mut acts, &mut rows, &mut best);
-    let found = search(case, &acts, &rows, &mut raised);
+    let found = choose(case, &acts, &rows, &raised);
     match found {
         Chosen::Nothing => RunAnswer::Settled,
         Chosen::Variable(_) => RunAnswer::Limit,

@@ -1,4 +1,5 @@
 -- Laws of the engine's definitions, and demand 3 over them.
+pub mod Raised
 pub mod Trim
 pub mod Gaps
 pub mod Own

@@ -13,7 +13,7 @@ use lib.IntN.{ℤ}
 use lib.Dec.{T, T-not, not-T, ltb, ltb→lt, eqb}
 use lib.ListN.{length, length-append}
 use Rattle.integers.specs.Words.{from, below, all, any, those, first, isIn, _⇒_}
-use Rattle.integers.specs.Tests.{tests, either, and-intro, and-left, and-right, imp-intro, imp-elim, if-false, if-cases}
+use Rattle.integers.specs.Tests.{tests, either, and-intro, and-left, and-right, if-false, if-cases}
 use Rattle.integers.specs.Lists.{_∈_, any-in, all-at, all-of, any-at, any-of, in-those, those-in, isIn-in, those-none, first-none, first-least, in-below, below-in, length-from}
 use Rattle.definitions.specs.declared.Case.{Case}
 use Rattle.definitions.specs.Case.{scopes, scopeCount, lowerEnd, upperEnd, active}
@@ -21,8 +21,9 @@ use Rattle.definitions.specs.Calls.{isRising}
 use Rattle.definitions.specs.Consistency.{Family, Supported, allowed, supported, families, marks, refuted}
 use Rattle.definitions.specs.Engine.{others, chosen, Settled, trimmed, keptScopes}
 use Rattle.definitions.specs.Moves.{activeRefuted}
-use Rattle.definitions.proofs.Refutation.{supported-holds, refuted-sound, refuted-raised}
+use Rattle.definitions.proofs.Refutation.{supported-holds, refuted-sound}
 use Rattle.theory.proofs.Shape.{Shape}
+use Rattle.engine_theory.proofs.Raised.{refuted-more}
 use Rattle.theory.proofs.Places.{IsTuple, variable-tuple, edge-tuple, some-active-value}
 
 -- ---- tests that fail somewhere
@@ -205,10 +206,7 @@ without x l = those (λ y. not (eqb y x)) l
 module _ (c : Case) (w : List ℤ) (i : ℕ) where
   -- with more scopes raised the values stay refuted
   pub activeRefuted-more : (l m : List ℕ) → ((y : ℕ) → y ∈ l → y ∈ m) → T (activeRefuted c w i l) → T (activeRefuted c w i m)
-  activeRefuted-more l m sub t =
-      all-of (λ k. active c w i k 0 ⇒ refuted c w (isIn m) i k) (c .d) (λ k h. imp-intro (active c w i k 0) (refuted c w (isIn m) i k) (λ a.
-      refuted-raised c w (isIn l) (isIn m) i k (λ x g q. isIn-in m x .1 (sub x (isIn-in l x .0 q)))
-      (imp-elim (active c w i k 0) (refuted c w (isIn l) i k) (all-at (λ k. active c w i k 0 ⇒ refuted c w (isIn l) i k) (c .d) t k h) a)))
+  activeRefuted-more l m sub = refuted-more c w i (isIn l) (isIn m) (λ x g q. isIn-in m x .1 (sub x (isIn-in l x .0 q)))
 
   trimmed-from : (kept rest : List ℕ) {y : ℕ} → y ∈ trimmed c w i kept rest → y ∈ (kept ++ rest)
   trimmed-from kept rest {y} = trimmed-has c w i (λ l. y ∈ l → y ∈ (kept ++ rest))

@@ -1,17 +1,13 @@
-use mathlib.Core.Path.{_≡_, ap, _∙_}
+use mathlib.Core.Path.{ap, _∙_}
 use mathlib.Core.List.{List}
 use Prim.Native.Nat.{ℕ}
 use denote.Ref.{now}
-use Rattle.consistency.specs.Closure.{closureSets}
 use Rattle.consistency.specs.Tried.{triedAnswer}
 use Rattle.engine.specs.Search.{saysRefuted}
-use Rattle.engine.proofs.Narrowed.{tried-narrowed, copied-all}
+use Rattle.engine.proofs.Narrowed.{tried-narrowed}
 use borrow.Author.Needs.{needs}
 use Rattle.engine.proofs.none_has_family.Statement.{statement}
 use Rattle.engine.proofs.none_has_family.Tie as tie
-
-copy-sets-requires : tie.Need-copy-sets-requires
-copy-sets-requires c κs = search needs
 
 slice-aggregate-closure : tie.Need-slice-aggregate-closure
 slice-aggregate-closure c = search needs
@@ -37,25 +33,18 @@ is-refuted-requires c κs = search needs
 same-length : tie.Need-same-length
 same-length c = search needs
 
--- the sets were copied
-copied : (c : tie.After-copy-sets) → c .copy-sets .last .1 .0 ≡ now (c .before .before .before .before .before .before .before .before .args .sets)
-copied c = let s = c .before .before .before .before .before .before .before .before in copied-all (now (s .args .sets)) (c .copy-sets .last .1 .0) (c .copy-sets .kept .1 .0 ∙ s .pre .0) (c .copy-sets .ensures)
-
 returns : tie.Need-returns
 returns c =
-    let s = c .before .before .before .before .before .before .before .before .before .before .before .before .before .before .before .before .before .before .before .before .before in
+    let s = c .before .before .before .before .before .before .before .before .before .before .before .before .before .before .before .before in
     let a = s .args in
-    let e : c .before .before .before .before .before .before .before .closure .last .1 .1 .1 .1 .0 ≡ closureSets (a .case .lower) (a .case .upper) (now (a .rows)) (now (a .edges)) (now (a .sets)) =
-    rw (copied (c .before .before .before .before .before .before .before .before .before .before .before .before .before)) at (c .before .before .before .before .before .before .before .closure .ensures .1) in
     c .is-refuted .ensures ∙ ap saysRefuted (c .before .all-refuted .ensures
-    ∙ ap (λ (l : List ℕ). triedAnswer (a .case .lower) (a .case .upper) (now (a .rows)) (now (a .edges)) l (a .variable) (a .values)) e
-    ∙ tried-narrowed (a .case .lower) (a .case .upper) (now (a .rows)) (now (a .edges)) (now (a .sets)) (a .variable) (a .values) (s .pre .1))
+    ∙ ap (λ (l : List ℕ). triedAnswer (a .case .lower) (a .case .upper) (now (a .rows)) (now (a .edges)) l (a .variable) (a .values)) (c .before .before .before .before .before .before .before .closure .ensures .1)
+    ∙ tried-narrowed (a .case .lower) (a .case .upper) (now (a .rows)) (now (a .edges)) (now (a .sets)) (a .variable) (a .values) (s .pre))
 
 pub none-has-family-spec : {M : Type 1} → statement M
 none-has-family-spec =
     tie.close
     (tie.spec
-    copy-sets-requires
     slice-aggregate-closure
     slice-aggregate-closure-2
     closure-requires

@@ -1,85 +1,58 @@
-use mathlib.Core.Path.{_≡_, refl, sym, _∙_}
-use mathlib.Core.List.{List}
-use Prim.Native.Nat.{_-_, _≤_}
+use mathlib.Core.Path.{refl, _∙_}
+use Prim.Native.Nat.{_<_}
 use native.Mathlib.Omega.{arith}
-use lib.IntN.{ℤ}
-use lib.ListN.{length}
+use lib.ListN.{length, set, length-set}
 use denote.Ref.{now}
-use Rattle.definitions.specs.Case.{scopeCount}
-use Rattle.definitions.specs.Engine.{keptScopes}
-use Rattle.engine.specs.Search.{Prepared, Allowing, OthersRaised}
-use Rattle.engine.proofs.Trims.{trimmedAt, trim-next, trim-first, trim-last}
+use Rattle.integers.specs.Tests.{is-true}
+use Rattle.engine_theory.proofs.Trim.{chosen-some}
+use Rattle.engine.proofs.Choice.{lowered-one, others-refuted}
+use Rattle.engine.proofs.Trims.{copied-enough}
+use borrow.Author.Needs.{needs}
 use Rattle.engine.proofs.trim.Statement.{statement}
 use Rattle.engine.proofs.trim.Tie as tie
 
-abbrev Inv-loop : tie.InvT-loop
-Inv-loop case acts rows raised₀ sets₀ variable scopes x₀ raised sets x =
-    (x ≤ scopeCount case) × (length raised ≡ length raised₀) × (length sets ≡ length sets₀)
-    × ((w : List ℤ) → Prepared case w acts rows → OthersRaised case variable raised₀ → Allowing case w raised₀ sets₀
-    → Allowing case w raised sets × (trimmedAt case w variable raised x ≡ keptScopes case w variable))
+slice-write-raised : tie.Need-slice-write-raised
+slice-write-raised c = search needs
 
-abbrev μ-loop : tie.MeasureT-loop
-μ-loop case acts rows raised₀ sets₀ variable scopes x₀ raised sets x = scopeCount case - x
+slice-aggregate-copy-bytes : tie.Need-slice-aggregate-copy-bytes
+slice-aggregate-copy-bytes c = search needs
 
-add-scopes : tie.Need-add-scopes Inv-loop μ-loop
-add-scopes c = omega (arith, c .before .before .before .before .before .pre)
+add-copy-bytes : tie.Need-add-copy-bytes
+add-copy-bytes c = search needs
 
-loop-holds : tie.Need-loop-holds Inv-loop μ-loop
-loop-holds c =
-    let a = c .before .before .before .before .before .args in
-    (omega arith, refl, refl, λ w p o q. (q, trim-first (a .case) w (a .variable) (now (a .raised)) o))
+copy-bytes-requires : tie.Need-copy-bytes-requires
+copy-bytes-requires c κs = search needs
 
-drop-scope-requires : tie.Need-drop-scope-requires Inv-loop μ-loop
-drop-scope-requires c κs =
-    let l = c .before .before .before in
-    let s = c .before .before .before .before .before .before .before .before .before in
-    ((omega (arith, l .loop .inv, s .pre), omega (arith, l .loop .inv, s .pre), s .pre .0 .2, s .pre .0 .3), (s .pre .1 .0, omega (arith, c .before .before .loop-test .taken), s .pre .1 .1))
+slice-aggregate-drop-scopes : tie.Need-slice-aggregate-drop-scopes
+slice-aggregate-drop-scopes c = search needs
 
-add-x : tie.Need-add-x Inv-loop μ-loop
-add-x c = omega arith
+drop-scopes-requires : tie.Need-drop-scopes-requires
+drop-scopes-requires c κs =
+    let s = c .before .before .before .before .before .before .before .before .before .before in
+    ((simp length-set (omega (arith, s .pre)), omega (arith, s .pre, c .before .before .before .copy-bytes .kept .1 .0), s .pre .0 .1, s .pre .0 .2), s .pre .1)
 
-loop-less : tie.Need-loop-less Inv-loop μ-loop
-loop-less c = omega (arith, c .before .before .before .before .before .before .before .loop-test .taken)
+same-length : tie.Need-same-length
+same-length c = c .before .before .before .drop-scopes .kept .1 .1 .1 .0 ∙ simp length-set
 
-loop-again : tie.Need-loop-again Inv-loop μ-loop
-loop-again c =
-    let l = c .before .before .before .before .before .before .before .before in
+returns : tie.Need-returns
+returns c = λ w p all e.
     let s = c .before .before .before .before .before .before .before .before .before .before .before .before .before .before in
     let a = s .args in
-    let d = c .before .before .before .before .drop-scope in (
-      omega (arith, c .before .before .before .before .before .before .before .loop-test .taken),
-      d .kept .1 .1 .1 .0 ∙ l .loop .inv .1,
-      d .kept .1 .1 .1 .1 .0 ∙ l .loop .inv .2,
-      λ w p o q.
-          let (b, e) = l .loop .inv .3 w p o q in
-          let (f, g) = d .ensures w p b in
-          (f, trim-next (a .case) w (a .variable) (omega (arith, c .before .before .before .before .before .before .before .loop-test .taken)) (omega (arith, l .loop .inv, s .pre, c .before .before .before .before .before .before .before .loop-test .taken)) g ∙ e),
-    )
-
-same-length : tie.Need-same-length Inv-loop μ-loop
-same-length c = c .before .loop .inv .1
-
-same-length-2 : tie.Need-same-length-2 Inv-loop μ-loop
-same-length-2 c = c .before .loop .inv .2
-
-returns : tie.Need-returns Inv-loop μ-loop
-returns c = λ w p o q.
-    let l = c .before in
-    let a = c .before .before .before .before .before .before .before .args in
-    sym (trim-last (a .case) w (a .variable) (l .loop .raised) (l .loop .x) (omega (arith, l .loop .inv, c .loop-test .left))) ∙ l .loop .inv .3 w p o q .1
+    let long : a .variable < length (now (a .raised)) = omega (arith, s .pre) in
+    let o = lowered-one (a .case) (now (a .raised)) all (a .variable) long {after = set (now (a .raised)) (a .variable) 0} refl in
+    c .before .before .before .drop-scopes .ensures w p o
+    (copied-enough (a .case) w (a .variable) (set (now (a .raised)) (a .variable) 0) (c .before .before .before .before .before .before .before .copy-bytes .last .1 .0) (c .before .before .before .before .before .before .before .copy-bytes .ensures)
+    (others-refuted (a .case) w (a .variable) (set (now (a .raised)) (a .variable) 0) o ∙ is-true _ (chosen-some (a .case) w e .1)))
 
 pub trim-spec : {M : Type 1} → statement M
 trim-spec =
     tie.close
     (tie.spec
-    Inv-loop
-    μ-loop
-    add-scopes
-    loop-holds
-    drop-scope-requires
-    add-x
-    loop-less
-    loop-again
+    slice-write-raised
+    slice-aggregate-copy-bytes
+    add-copy-bytes
+    copy-bytes-requires
+    slice-aggregate-drop-scopes
+    drop-scopes-requires
     same-length
-    same-length-2
     returns)
