@@ -15,6 +15,7 @@ mod line;
 mod options;
 mod outside;
 mod plain;
+mod plain_replay;
 mod programs;
 mod random;
 mod refusals;
@@ -36,7 +37,7 @@ use types::*;
 
 const USAGE: &str = "usage: peer COMMAND [OPTIONS]
   press [--limit ROUNDS] [--plain]  case file in, log out (by the plain engine)
-  replay                      case file and log in, accepted or refused out
+  replay [--plain]            case file and log in, accepted or refused out
   slow-press, slow-replay     the same by the slow reading
   view ROUND                  log in, the round's lines out
   score FIRST SECOND          case file in, first or second out (plans like 0,1,0)
@@ -72,6 +73,7 @@ fn usage(message: &str) -> ExitCode {
 fn run(command: &str, options: &mut Options) -> Result<ExitCode, String> {
     match command {
         "press" => press(options),
+        "replay" if options.flag("plain") => print_after(options, programs::plain_replay),
         "replay" => print_after(options, programs::replay),
         "slow-press" => print_after(options, slow::programs::press),
         "slow-replay" => print_after(options, slow::programs::replay),

@@ -7,14 +7,14 @@ use crate::types::*;
 
 /// What a round reads of its table: each scope's greatest weight, the active values of
 /// each variable, the active partners of each value at either end of each edge.
-struct Active {
-    greatest: Vec<i64>,
+pub struct Active {
+    pub greatest: Vec<i64>,
     sets: Vec<u8>,
     above: Vec<[u8; MAX_VALUES]>,
     below: Vec<[u8; MAX_VALUES]>,
 }
 
-fn part(case: &Case, scope: usize) -> std::ops::Range<usize> {
+pub fn part(case: &Case, scope: usize) -> std::ops::Range<usize> {
     let (n, d) = (case.variables, case.values);
     if scope < n {
         scope * d..(scope + 1) * d
@@ -24,10 +24,9 @@ fn part(case: &Case, scope: usize) -> std::ops::Range<usize> {
     }
 }
 
-fn read(case: &Case, weights: &[i64]) -> Active {
+pub fn read(case: &Case, weights: &[i64]) -> Active {
     let (n, d) = (case.variables, case.values);
-    let scopes = n + case.edges.len();
-    let greatest: Vec<i64> = (0..scopes)
+    let greatest: Vec<i64> = (0..scopes(case))
         .map(|scope| *weights[part(case, scope)].iter().max().unwrap())
         .collect();
     let sets = (0..n)
@@ -46,6 +45,15 @@ fn read(case: &Case, weights: &[i64]) -> Active {
         }
     }
     Active { greatest, sets, above, below }
+}
+
+pub fn scopes(case: &Case) -> usize {
+    case.variables + case.edges.len()
+}
+
+pub fn upper_bound(case: &Case, weights: &[i64]) -> i64 {
+    let greatest = |scope| weights[part(case, scope)].iter().max().unwrap();
+    (0..scopes(case)).map(greatest).sum()
 }
 
 fn supported(partners: &[u8; MAX_VALUES], own: u8, other: u8) -> u8 {
@@ -82,7 +90,7 @@ fn empties(case: &Case, active: &Active, raised: &[bool], mut sets: [u8; MAX_VAR
     }
 }
 
-fn all_refuted(case: &Case, active: &Active, raised: &[bool], variable: usize) -> bool {
+pub fn all_refuted(case: &Case, active: &Active, raised: &[bool], variable: usize) -> bool {
     let full = (((1u16 << case.values) - 1) & 255) as u8;
     let mut sets = [full; MAX_VARIABLES];
     for j in 0..case.variables {
@@ -147,7 +155,7 @@ fn round(case: &Case, weights: &mut [i64], log: &mut Vec<u8>) -> Option<Result<i
     for &x in touched.iter().filter(|&&x| x != variable) {
         line::write(log, 3, x as i64, 0, 0, 0);
     }
-    let bound = read(case, weights).greatest.iter().sum();
+    let bound = upper_bound(case, weights);
     line::write(log, 4, 0, 0, 0, bound);
     Some(Ok(bound))
 }
@@ -155,7 +163,7 @@ fn round(case: &Case, weights: &mut [i64], log: &mut Vec<u8>) -> Option<Result<i
 pub fn run_case(case: &Case, limit: u64) -> Run {
     let mut weights: Vec<i64> = case.weights.iter().map(|&w| i64::from(w)).collect();
     let mut log = Vec::new();
-    let (mut rounds, mut upper_bound) = (0, read(case, &weights).greatest.iter().sum());
+    let (mut rounds, mut upper_bound) = (0, upper_bound(case, &weights));
     let stop = loop {
         if rounds == limit {
             let settled = choose(case, &read(case, &weights)).is_none();

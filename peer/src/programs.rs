@@ -2,6 +2,7 @@
 
 use crate::case;
 use crate::engine;
+use crate::plain_replay;
 use crate::replay::replay_file;
 use crate::types::*;
 
@@ -37,9 +38,18 @@ pub fn replay_answer(input: &[u8]) -> Result<(u64, i64), Refusal> {
     Ok((replay.rounds, replay.state.upper_bound))
 }
 
-pub fn replay(input: &[u8]) -> Vec<u8> {
-    match replay_answer(input) {
+fn judgement(answer: Result<(u64, i64), Refusal>) -> Vec<u8> {
+    match answer {
         Ok((rounds, bound)) => format!("accepted {rounds} {bound}\n").into_bytes(),
         Err(refusal) => refusal_text(refusal),
     }
+}
+
+pub fn replay(input: &[u8]) -> Vec<u8> {
+    judgement(replay_answer(input))
+}
+
+/// The same by the plain replay.
+pub fn plain_replay(input: &[u8]) -> Vec<u8> {
+    judgement(plain_replay::answer(input))
 }

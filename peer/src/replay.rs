@@ -153,7 +153,7 @@ impl Replay {
 }
 
 #[inline]
-fn below(number: i64, end: usize) -> Result<usize, u8> {
+pub fn below(number: i64, end: usize) -> Result<usize, u8> {
     match usize::try_from(number) {
         Ok(number) if number < end => Ok(number),
         _ => Err(5),

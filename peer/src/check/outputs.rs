@@ -19,7 +19,7 @@ impl Check {
             &input,
         )?;
         self.figures.programs += 1;
-        Ok(())
+        self.plain_replay(&answer, &input)
     }
 
     pub fn programs(&mut self, random: &mut Random, case: &Case) -> Result<(), Difference> {
@@ -37,7 +37,17 @@ impl Check {
         };
         let what = format!("program {:?}", input.program);
         same(&what, &text(&fast), &text(&slow), &input.bytes)?;
+        if let Program::Replay = input.program {
+            self.plain_replay(&fast, &input.bytes)?;
+        }
         self.counts.note_output(&input.bytes, &fast);
+        self.figures.programs += 1;
+        Ok(())
+    }
+
+    pub fn plain_replay(&mut self, fast: &[u8], input: &[u8]) -> Result<(), Difference> {
+        let plain = programs::plain_replay(input);
+        same("plain replay", &text(fast), &text(&plain), input)?;
         self.figures.programs += 1;
         Ok(())
     }

@@ -1,0 +1,150 @@
+//! The replay as one writes it at the first go: byte sets, every press and every bound
+//! line from the table alone. It is the yardstick of speed beside the plain engine.
+
+use crate::case;
+use crate::line;
+use crate::plain::{all_refuted, part, read, scopes, upper_bound};
+use crate::replay::below;
+use crate::types::*;
+
+struct Held {
+    variable: usize,
+    amount: i64,
+    left: usize,
+    last: Option<usize>,
+    raised: Vec<bool>,
+}
+
+struct Replay<'a> {
+    case: &'a Case,
+    weights: Vec<i64>,
+    rounds: u64,
+    round_start: i64,
+    open_moves: bool,
+    held: Option<Held>,
+}
+
+impl Replay<'_> {
+    fn take(&mut self, bytes: &[u8]) -> Result<(), u8> {
+        let line = line::parse(bytes).ok_or(1)?;
+        match (line.kind, self.held.take()) {
+            (3, Some(held)) => self.raise(line, held),
+            (1, None) => self.shift(line),
+            (2, None) => self.press(line),
+            (4, None) => self.bound(line),
+            _ => Err(2),
+        }
+    }
+
+    /// The weights of some scopes, changed in a copy first.
+    fn change(&mut self, touched: &[usize], to: impl Fn(usize, usize, i64) -> i64) -> Result<(), u8> {
+        let mut parts = vec![];
+        for &scope in touched {
+            let old = self.weights[part(self.case, scope)].iter().enumerate();
+            let new: Vec<i64> = old.map(|(at, &weight)| to(scope, at, weight)).collect();
+            if new.iter().any(|weight| weight.abs() > WORK_LIMIT) {
+                return Err(11);
+            }
+            parts.push(new);
+        }
+        for (&scope, new) in touched.iter().zip(&parts) {
+            self.weights[part(self.case, scope)].copy_from_slice(new);
+        }
+        self.open_moves = true;
+        Ok(())
+    }
+
+    fn shift(&mut self, line: Line) -> Result<(), u8> {
+        let (n, d) = (self.case.variables, self.case.values);
+        let edge = below(line.a, self.case.edges.len())?;
+        let end = below(line.b, 2)?;
+        let value = below(line.c, d)?;
+        if line.amount == 0 || line.amount.abs() > MOVE_LIMIT {
+            return Err(5);
+        }
+        let (i, j) = self.case.edges[edge];
+        let variable = [i, j][end];
+        self.change(&[variable, n + edge], |scope, at, weight| {
+            let own = line.amount * i64::from(scope == variable && at == value);
+            let used = scope != variable && [at / d, at % d][end] == value;
+            weight + own - line.amount * i64::from(used)
+        })
+    }
+
+    fn press(&mut self, line: Line) -> Result<(), u8> {
+        if line.c != 0 {
+            return Err(2);
+        }
+        let variable = below(line.a, self.case.variables)?;
+        let left = below(line.b, scopes(self.case))?;
+        if left == 0 || !(1..=MOVE_LIMIT).contains(&line.amount) {
+            return Err(5);
+        }
+        let (raised, amount) = (vec![false; scopes(self.case)], line.amount);
+        self.held = Some(Held { variable, amount, left, last: None, raised });
+        Ok(())
+    }
+
+    fn raise(&mut self, line: Line, mut held: Held) -> Result<(), u8> {
+        if (line.b | line.c | line.amount) != 0 {
+            return Err(2);
+        }
+        let scope = below(line.a, scopes(self.case))?;
+        if held.last.is_some_and(|last| scope <= last) || scope == held.variable {
+            return Err(9);
+        }
+        held.raised[scope] = true;
+        held.last = Some(scope);
+        held.left -= 1;
+        if held.left > 0 {
+            self.held = Some(held);
+            return Ok(());
+        }
+        let active = read(self.case, &self.weights);
+        if !all_refuted(self.case, &active, &held.raised, held.variable) {
+            return Err(10);
+        }
+        held.raised[held.variable] = true;
+        let touched: Vec<usize> = (0..held.raised.len()).filter(|&x| held.raised[x]).collect();
+        self.change(&touched, |scope, _, weight| {
+            match (scope == held.variable, weight == active.greatest[scope]) {
+                (true, true) => weight - held.amount,
+                (false, false) => weight + held.amount,
+                _ => weight,
+            }
+        })
+    }
+
+    fn bound(&mut self, line: Line) -> Result<(), u8> {
+        if (line.a | line.b | line.c) != 0 {
+            return Err(2);
+        }
+        let bound = upper_bound(self.case, &self.weights);
+        if self.rounds >= ROUND_LIMIT {
+            return Err(5);
+        }
+        if line.amount != bound || bound >= self.round_start {
+            return Err(if line.amount != bound { 12 } else { 13 });
+        }
+        (self.rounds, self.round_start, self.open_moves) = (self.rounds + 1, bound, false);
+        Ok(())
+    }
+}
+
+/// Rounds and upper bound of an accepted case and log, or the refusal.
+pub fn answer(input: &[u8]) -> Result<(u64, i64), Refusal> {
+    let (case, used) = case::read_front(input)?;
+    let weights: Vec<i64> = case.weights.iter().map(|&w| i64::from(w)).collect();
+    let round_start = upper_bound(&case, &weights);
+    let (rounds, open_moves, held) = (0, false, None);
+    let mut replay = Replay { case: &case, weights, rounds, round_start, open_moves, held };
+    let lines = input[used * LINE_BYTES..].chunks_exact(LINE_BYTES);
+    let (end, whole) = (used + lines.len(), lines.remainder().is_empty());
+    for (line, bytes) in (used..).zip(lines) {
+        replay.take(bytes).map_err(|number| Refusal { number, line })?;
+    }
+    if !whole || replay.held.is_some() || replay.open_moves {
+        return Err(Refusal { number: 14, line: end });
+    }
+    Ok((replay.rounds, upper_bound(&case, &replay.weights)))
+}
