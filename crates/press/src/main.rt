@@ -1,5 +1,5 @@
 // The program `press`: a case on standard input, the log of up to 100,000 rounds on standard output, or a refusal (document 01). Of an input that
-// is longer than a case and a line more, only the front is read, and it is printed as the whole is (judging, Fronts.press-front). The input ends
+// is longer than a case and a line more, only the front is read, and it is printed as the whole is (proofs/Printing). The input ends
 // where a read brings nothing or fails; the rounds end where a write fails.
 use definitions::Case;
 use definitions::CaseSize;
