@@ -2,16 +2,17 @@
 use mathlib.Core.Path.{_≡_, _∙_}
 use mathlib.Core.Logic.{_≢_}
 use mathlib.Core.Option.{none, some}
-use mathlib.Core.List.{List, _∷_}
-use Prim.Native.Nat.{ℕ, _+_, _*_, _-_, _^_, _≤_, _<_}
+use mathlib.Core.List.{List, [], _∷_}
+use Prim.Native.Nat.{ℕ, _+_, _*_, _-_, _/_, _%_, _^_, _≤_, _<_}
 use native.Mathlib.Nat.{pow-suc, pow-le-pow-right}
 use native.Mathlib.Numerals.{add-one}
 use native.Mathlib.Omega.{arith}
 use lib.IntN.{pos}
-use lib.ListN.{length, getD, drop, length-drop, drop-of-length-le}
+use lib.ListN.{length, getD, take, drop, length-drop, drop-of-length-le}
 use lib.Seq.{drop-cons}
 use borrow.Author.Tests.{le-leb, lt-leb, eq-eqb, ne-eqb}
 use Rattle.definitions.specs.Lines.{readDigits, readPositive, readNumber, readColumn, columnAt}
+use Rattle.definitions.proofs.ColumnLaws.{decimal-digit, decimal-last, column-read}
 use Rattle.lines.specs.Found.{plainFound, negativeFound}
 use Rattle.lines.specs.Words.{Word}
 
@@ -80,15 +81,36 @@ module _ (t : List ℕ) (i r : ℕ) (w : Word t i r) (h : i + 4 ≤ length t) wh
       column-space t i (omega arith) a ∙ (column-space t (i + 1) (omega arith) b
       ∙ (rw e2 (column-space t (i + 2) (omega arith) c ∙ (rw e3 (column-space t (i + 3) (omega arith) d ∙ (rw e4))))))
 
-  pub column-zero : r ≡ 807411744 → columnAt i 4 t ≡ some (pos 0)
-  column-zero e =
-      let e2 : i + 1 + 1 ≡ i + 2 = omega arith in
-      let e3 : i + 2 + 1 ≡ i + 3 = omega arith in
-      let d : getD t (i + 3) 0 ≡ 48 = omega arith in
-      let c : getD t (i + 2) 0 ≡ 32 = omega arith in
-      let b : getD t (i + 1) 0 ≡ 32 = omega arith in
-      let a : getD t i 0 ≡ 32 = omega arith in
-      rw (at-drop t i (omega arith), at-drop t (i + 1) (omega arith), e2, at-drop t (i + 2) (omega arith), e3, at-drop t (i + 3) (omega arith), a, b, c, d)
+-- ---- two bytes
+
+digit-read : (d : ℕ) → 48 ≤ d → d ≤ 57 → readColumn (32 ∷ d ∷ []) ≡ some (pos (d - 48))
+digit-read d l u =
+    let e : 48 + (d - 48) ≡ d = omega arith in
+    rw (decimal-digit (d - 48) (omega arith), e) at (column-read 2 (pos (d - 48)))
+
+digits-read : (c d : ℕ) → 49 ≤ c → c ≤ 57 → 48 ≤ d → d ≤ 57 → readColumn (c ∷ d ∷ []) ≡ some (pos ((c - 48) * 10 + (d - 48)))
+digits-read c d k m l u =
+    let n : ℕ = (c - 48) * 10 + (d - 48) in
+    let front : n / 10 ≡ c - 48 = omega arith in
+    let first : 48 + (c - 48) ≡ c = omega arith in
+    let last : 48 + n % 10 ≡ d = omega arith in
+    rw (decimal-last n (omega arith), front, last, decimal-digit (c - 48) (omega arith), first) at (column-read 2 (pos n))
+
+module _ (t : List ℕ) (i : ℕ) where
+  pair-at : i + 2 ≤ length t → take 2 (drop i t) ≡ getD t i 0 ∷ getD t (i + 1) 0 ∷ []
+  pair-at h = rw (at-drop t i (omega arith), at-drop t (i + 1) (omega arith))
+
+  pub one-digit : i + 2 ≤ length t → getD t i 0 ≡ 32 → 48 ≤ getD t (i + 1) 0 → getD t (i + 1) 0 ≤ 57 → columnAt i 2 t ≡ some (pos (getD t (i + 1) 0 - 48))
+  one-digit h s l u = rw (pair-at h, s) (digit-read (getD t (i + 1) 0) l u)
+
+  pub two-digits : i + 2 ≤ length t → 49 ≤ getD t i 0 → getD t i 0 ≤ 57 → 48 ≤ getD t (i + 1) 0 → getD t (i + 1) 0 ≤ 57
+      → columnAt i 2 t ≡ some (pos ((getD t i 0 - 48) * 10 + (getD t (i + 1) 0 - 48)))
+  two-digits h k m l u = rw (pair-at h) (digits-read (getD t i 0) (getD t (i + 1) 0) k m l u)
+
+  pub two-spaces : i + 4 ≤ length t → getD t i 0 ≡ 32 → getD t (i + 1) 0 ≡ 32 → columnAt i 4 t ≡ columnAt (i + 2) 2 t
+  two-spaces h a b =
+      let e : i + 1 + 1 ≡ i + 2 = omega arith in
+      rw (at-drop t i (omega arith), at-drop t (i + 1) (omega arith), e, a, b)
 
 -- ---- i digits make a number below 10 ^ i
 

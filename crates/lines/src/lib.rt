@@ -10,6 +10,7 @@ ghost use mathlib.Core.Bool.{false};
 ghost use mathlib.Core.List.{_++_};
 ghost use Prim.Native.Nat.{_+_, _-_, _≤_, _<_, _^_};
 ghost use lib.IntN.{pos, natAbs};
+ghost use Rattle.integers.specs.Words.{within};
 ghost use lib.ListN.{length, take, drop, replicate};
 ghost use Rattle.definitions.specs.Rules.{Rules, standard};
 ghost use Rattle.definitions.specs.Lines.{decimal, numberText, tooWide, columnText, readPositive, readNumber, readColumn, columnAt, lineLength, lineText, lineTooWide, overwritten};
@@ -22,10 +23,8 @@ ghost use Rattle.lines.specs.Digits.{fourDigits, signByte};
 // The width of the amount column today.
 const AMOUNT: usize = 12;
 
-// Four spaces, and three spaces and a 0, as words.
+// Four spaces as a word.
 const BLANKS: u64 = 538976288;
-
-const ZERO: u64 = 807411744;
 
 // Digits, or something else.
 enum Digits {
@@ -166,15 +165,49 @@ fn read_column_at(bytes: &[u8], from: usize, width: usize) -> Column
     read_column(&bytes[from..to])
 }
 
-// A column of four bytes, which mostly holds 0.
+fn is_digit(b: u64, least: u64) -> bool
+    ensures { λ r. ⌜ r ≡ within least 57 b ⌝ }
+{
+    (least <= b) & (b <= 57)
+}
+
+// A column of two bytes, which mostly holds one digit or two.
+fn read_pair(bytes: &[u8], from: usize) -> Column
+    requires { ⌜ from + 2 ≤ length (now bytes) ⌝ }
+    ensures { λ r. ⌜ columnFound r ≡ columnAt from 2 (now (bytes .entry)) ⌝ }
+{
+    let c = wide(bytes[from]);
+    let d = wide(bytes[from + 1]);
+    if c == 32 && is_digit(d, 48) {
+        return plain(Digits::Are(d - 48));
+    }
+    if is_digit(c, 49) && is_digit(d, 48) {
+        return plain(Digits::Are((c - 48) * 10 + (d - 48)));
+    }
+    read_column_at(bytes, from, 2)
+}
+
+// A column of four bytes, which mostly begins with two spaces.
 fn read_narrow(bytes: &[u8], from: usize) -> Column
     requires { ⌜ from + 4 ≤ length (now bytes) ⌝ }
     ensures { λ r. ⌜ columnFound r ≡ columnAt from 4 (now (bytes .entry)) ⌝ }
 {
-    if word(bytes, from) == ZERO {
-        return Column::Number(0);
+    if (bytes[from] == 32) & (bytes[from + 1] == 32) {
+        return read_pair(bytes, from + 2);
     }
     read_column_at(bytes, from, 4)
+}
+
+// A column of any width, which mostly begins with many spaces.
+fn read_wide(t: &[u8]) -> Column
+    requires { ⌜ length (now t) ≤ 18 ⌝ }
+    ensures { λ r. ⌜ columnFound r ≡ readColumn (now (t .entry)) ⌝ }
+{
+    let i = blank_words(t);
+    if t.len() - i == 4 {
+        return read_narrow(t, i);
+    }
+    read_column(&t[i..])
 }
 
 // The line of five columns, if each is a number.
@@ -217,11 +250,11 @@ fn read_line_in(bytes: &[u8], width: usize) -> LineRead
     if bytes[end] != 10 {
         return LineRead::Refused(Refusal::NotInColumns);
     }
-    let kind = read_column_at(bytes, 0, 2);
+    let kind = read_pair(bytes, 0);
     let a = read_narrow(bytes, 2);
     let b = read_narrow(bytes, 6);
     let c = read_narrow(bytes, 10);
-    let amount = read_column_at(bytes, 14, width);
+    let amount = read_wide(&bytes[14..end]);
     line_of(kind, a, b, c, amount)
 }
 

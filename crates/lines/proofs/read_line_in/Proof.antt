@@ -1,4 +1,7 @@
 -- The length, the line feed, and then the five columns. Assumes nothing.
+use mathlib.Core.Path.{_≡_}
+use Prim.Native.Nat.{_+_, _-_}
+use native.Mathlib.Omega.{arith}
 use borrow.Author.Needs.{needs}
 use denote.Ref.{now}
 use Rattle.lines.proofs.Answers.{read-length, read-feed, read-columns}
@@ -24,8 +27,8 @@ returns-2 c s e =
     let a = c .before .before .before .before .args in
     read-feed (a .width) s e (now (a .bytes)) (c .before .before .if1 .left) (c .if2 .taken)
 
-read-column-at-requires : tie.Need-read-column-at-requires
-read-column-at-requires c κs = search needs
+read-pair-requires : tie.Need-read-pair-requires
+read-pair-requires c κs = search needs
 
 read-narrow-requires : tie.Need-read-narrow-requires
 read-narrow-requires c κs = search needs
@@ -36,8 +39,17 @@ read-narrow-requires-2 c κs = search needs
 read-narrow-requires-3 : tie.Need-read-narrow-requires-3
 read-narrow-requires-3 c κs = search needs
 
-read-column-at-requires-2 : tie.Need-read-column-at-requires-2
-read-column-at-requires-2 c κs = search needs
+sub-read-wide : tie.Need-sub-read-wide
+sub-read-wide c = search needs
+
+part-read-wide-start : tie.Need-part-read-wide-start
+part-read-wide-start c = search needs
+
+part-read-wide-end : tie.Need-part-read-wide-end
+part-read-wide-end c = search needs
+
+read-wide-requires : tie.Need-read-wide-requires
+read-wide-requires c κs = search needs
 
 line-of-requires : tie.Need-line-of-requires
 line-of-requires c κs = search needs
@@ -45,14 +57,15 @@ line-of-requires c κs = search needs
 returns-3 : tie.Need-returns-3
 returns-3 c s e =
     let k5 = c .before in
-    let k4 = k5 .before in
+    let k4 = k5 .before .before in
     let k3 = k4 .before in
     let k2 = k3 .before in
     let k1 = k2 .before in
     let f = k1 .before in
     let a = f .before .before .before .before .args in
+    let n : 14 + a .width - 14 ≡ a .width = omega arith in
     read-columns (a .width) s e (now (a .bytes)) (f .before .before .if1 .left) (f .if2 .left)
-    (k1 .read-column-at .ensures) (k2 .read-narrow .ensures) (k3 .read-narrow2 .ensures) (k4 .read-narrow3 .ensures) (k5 .read-column-at2 .ensures) (c .line-of .ensures)
+    (k1 .read-pair .ensures) (k2 .read-narrow .ensures) (k3 .read-narrow2 .ensures) (k4 .read-narrow3 .ensures) (rw n at (k5 .read-wide .ensures)) (c .line-of .ensures)
 
 pub read-line-in-spec : {M : Type 1} → statement M
 read-line-in-spec =
@@ -63,10 +76,13 @@ read-line-in-spec =
     returns
     shared-slice-read-if2
     returns-2
-    read-column-at-requires
+    read-pair-requires
     read-narrow-requires
     read-narrow-requires-2
     read-narrow-requires-3
-    read-column-at-requires-2
+    sub-read-wide
+    part-read-wide-start
+    part-read-wide-end
+    read-wide-requires
     line-of-requires
     returns-3)
