@@ -1,19 +1,24 @@
 -- A line at a position, from a line at the first byte of the rest. Assumes nothing.
 use mathlib.Core.Path.{_≡_, refl, sym, ap, _∙_}
+use mathlib.Core.Bool.{Bool, true, false}
 use mathlib.Core.Option.{Option, none, some}
-use mathlib.Core.List.{List, _++_, append-nil}
+use mathlib.Core.List.{List, [], _∷_, _++_, append-nil}
 use Prim.Native.Nat.{ℕ, _+_, _-_, _<_, _≤_}
 use native.Mathlib.Omega.{arith}
-use lib.ListN.{length, take, drop, length-drop, take-append-drop, drop-of-length-le}
-use lib.Seq.{take-all}
+use lib.Dec.{ltb}
+use lib.ListN.{length, take, drop, length-append, length-drop, take-append-drop, drop-of-length-le}
+use lib.Seq.{length-take-le, take-all}
+use borrow.Author.Tests.{ltb-false}
 use Rattle.definitions.specs.declared.Line.{Line}
 use Rattle.definitions.specs.declared.Outcome.{Outcome}
 use Rattle.definitions.specs.declared.Refusal.{Refusal}
-use Rattle.definitions.specs.declared.Refusal.the-variants.{WrongLength}
+use Rattle.definitions.specs.declared.Refusal.the-variants.{WrongLength, OutOfRange}
 use Rattle.definitions.specs.Rules.{standard}
+use Rattle.definitions.specs.Refusals.{_when_, firstOf}
 use Rattle.definitions.specs.Answers.{outcomeOf, unlessRefused}
-use Rattle.definitions.specs.Lines.{lineLength, lineText, overwritten}
+use Rattle.definitions.specs.Lines.{lineLength, lineText, lineTooWide, overwritten}
 use Rattle.definitions.specs.Calls.{LineCall, WriterCall, writeRefusal, writeLineCall, putLineCall}
+use Rattle.definitions.proofs.LineLaws.{line-length}
 use Rattle.log_writer.specs.declared.Put.{Put}
 use Rattle.log_writer.specs.Writers.{putOf}
 
@@ -87,3 +92,19 @@ module _ (out : List ℕ) (at : ℕ) (l : Line) where
       → Put-so-code (record { answer = Outcome.Done; at = at + lineLength (standard .amountWidth) }) last
   put-done h last e f =
       so (record { answer = Outcome.Done; at = at + lineLength (standard .amountWidth) }) last h f (done-by (writeRefusal standard (length out - at) l) (e ∙ ap (λ c. c .answer) (rest-by h)))
+
+-- bytes put over others leave the length
+over-length : (out text : List ℕ) (at : ℕ) → at + length text ≤ length out → length (take at out ++ overwritten text (drop at out)) ≡ length out
+over-length out text at h = simp (length-append, length-drop) (omega (arith, length-take-le at out (omega arith)))
+
+-- a line that is put leaves the slice's length
+pub put-same-length : (out : List ℕ) (at : ℕ) (l : Line) → length (putLineCall standard out at l .out) ≡ length out
+put-same-length out at l =
+    ap (λ (k : WriterCall). length (k .out)) (put-by out at l) ∙ go (ltb (length out - at) (lineLength (standard .amountWidth))) (lineTooWide (standard .amountWidth) l) refl refl
+  where
+    go : (a b : Bool) → ltb (length out - at) (lineLength (standard .amountWidth)) ≡ a → lineTooWide (standard .amountWidth) l ≡ b
+        → length (putBy out at l (firstOf (WrongLength when a ∷ OutOfRange when b ∷ [])) .out) ≡ length out
+    go true b e f = refl
+    go false true e f = refl
+    go false false e f =
+        over-length out (lineText (standard .amountWidth) l) at (omega (arith, line-length (standard .amountWidth) l f, ltb-false (length out - at) (lineLength (standard .amountWidth)) e))

@@ -1,5 +1,5 @@
-// The log writer: it borrows a lent slice and holds the position of the next line (document 01, "Lines"). The functions that make, take or are
-// lent one are proved by a walk of their MIR, by hand; `put_line_at`, which does the work, is covered.
+// The log writer: it borrows a lent slice and holds the position of the next line (document 01, "Lines"). The functions that make, take,
+// hold or are lent one are proved by a walk of their MIR, by hand; `put_line_at`, which does the work, is covered.
 use definitions::Line;
 use definitions::Outcome;
 use definitions::Refusal;
@@ -69,4 +69,12 @@ pub fn position<'a>(w: LogWriter<'a>) -> usize
     ensures { λ r. ⌜ (r ≡ w .entry .at) × (now (w .exit .0) ≡ now (w .entry .out)) ⌝ }
 {
     w.at
+}
+
+// Puts the line at byte `at`, through a writer of its own.
+pub fn put_through(out: &mut [u8], at: usize, line: Line) -> Put
+    ensures { λ r. ⌜ (r ≡ putOf (putLineCall standard (now (out .entry)) at line)) × (now (out .exit) ≡ putLineCall standard (now (out .entry)) at line .out) ⌝ }
+{
+    let mut w = LogWriter { out: out, at: at };
+    put_line(&mut w, line)
 }

@@ -115,6 +115,31 @@ fn puts() {
     put(31, 4, 0, 0, 1_000_000_000_000);
 }
 
+// The same through a writer that holds the bytes.
+fn put_held(at: usize, kind: i64, b: i64, c: i64, amount: i64) {
+    let mut out = [46u8; 57];
+    let line = Line {
+        kind,
+        a: 0,
+        b,
+        c,
+        amount,
+    };
+    print(b"through a writer, ");
+    print_line(at, line);
+    show_put(log_writer::put_through(&mut out, at, line));
+    print(&out);
+    print(b"\n");
+}
+
+fn held_puts() {
+    put_held(0, 2, 2, 0, 1);
+    put_held(30, 4, 0, 0, -1);
+    put_held(31, 4, 0, 0, -1);
+    put_held(58, 4, 0, 0, -1);
+    put_held(0, 4, 0, -1000, 0);
+}
+
 // ---- the view of a round
 
 fn print_span(span: Span) {
@@ -321,6 +346,7 @@ fn repeated() {
 
 fn main() {
     puts();
+    held_puts();
     rounds();
     short_logs();
     scores();
