@@ -6,3 +6,5 @@ pub mod Leaves
 pub mod Fold
 pub mod Taking
 pub mod Ends
+pub mod RaiseTexts
+pub mod Raising

@@ -2,3 +2,4 @@
 pub mod Checker
 pub mod CheckerSamples
 pub mod Taken
+pub mod Raising

@@ -10,7 +10,7 @@ ghost use mathlib.Core.Path.{_≡_};
 ghost use mathlib.Core.Bool.{not, _||_, true, false};
 ghost use mathlib.Core.Option.{some};
 ghost use mathlib.Core.List.{List, [], _∷_};
-ghost use Prim.Native.Nat.{ℕ, _+_, _≤_, _<_};
+ghost use Prim.Native.Nat.{ℕ, _+_, _-_, _≤_, _<_};
 ghost use lib.IntN.{ℤ, pos, natAbs};
 ghost use lib.Dec.{T, ltb, eqb};
 ghost use lib.Signed.{ltZ};
@@ -23,11 +23,13 @@ ghost use Rattle.definitions.specs.Case.{scopeCount};
 ghost use Rattle.definitions.specs.Valid.{workingWeight};
 ghost use Rattle.definitions.specs.Consistency.{allRefuted};
 ghost use Rattle.definitions.specs.Moves.{shiftAmount, pressAmount, activeValues};
-ghost use Rattle.definitions.specs.Lines.{outside, notDue};
+ghost use Rattle.definitions.specs.Lines.{readLine, outside, notDue};
 ghost use Rattle.theory.proofs.Validity.{Handed};
 ghost use Rattle.figures.specs.Scopes.{Limited, BestOf};
+ghost use Rattle.lines.specs.Words.{Word};
 ghost use Rattle.checker.specs.Checker.{isRaised, lastOut, notAboveLast, dueKinds, isHeld, refusedReplay, dueOut, recordOut, freshReplay, ofShift, ofPress, ofBound, ofRaise, ofKind, stepLine, stepReplay, endTests, endReplay, blockReplay};
 ghost use Rattle.checker.specs.Taken.{standingAfter, replayOf, goodReplay, stepOf, stepNext, pressed, rangeTests, wholeTests, lastStep, frontTests, moreBy};
+ghost use Rattle.checker.specs.Raising.{raiseLine, Digit, Small, RaiseText, lastOf, holding, raising, Onward};
 
 // The last scope that a press has raised.
 pub enum LastRaised {
@@ -89,6 +91,20 @@ struct Taken {
     answer: Outcome,
 }
 
+// What is left of a press after some of its raise lines: lines, the lowest scope above the raised ones, and where the next line begins.
+struct Raises {
+    left: usize,
+    next: usize,
+    from: usize,
+}
+
+// Where a block stands between two lines: the record, where the next line begins, and how many lines are done.
+struct Place {
+    progress: Progress,
+    from: usize,
+    done: usize,
+}
+
 // The greatest count of rounds, and the greatest amount of a move.
 const ROUNDS: u64 = 999_999_999_999_999_999;
 
@@ -96,6 +112,14 @@ const MOVING: i64 = 1_000_000_000;
 
 // The length of a line.
 const LINE: usize = 27;
+
+// Four spaces, and three spaces and a 0, as words.
+const BLANKS: usize = 538976288;
+
+const ZERO: usize = 807411744;
+
+// No scope.
+const NONE: usize = 1000;
 
 // ---- numbers in columns
 
@@ -602,6 +626,240 @@ fn raise_line(
     )
 }
 
+// ---- raise lines that are not a press's last, by their bytes
+
+fn wide(x: u8) -> usize
+    ensures { λ r. ⌜ (r ≡ x) × (r < 256) ⌝ }
+{
+    x as usize
+}
+
+// Four bytes as one number, so that they are compared at once.
+fn word(t: &[u8], i: usize) -> usize
+    requires { ⌜ i + 4 ≤ length (now t) ⌝ }
+    ensures { λ r. ⌜ Word (now (t .entry)) i r ⌝ }
+{
+    let a = wide(t[i]);
+    let b = wide(t[i + 1]);
+    let c = wide(t[i + 2]);
+    let d = wide(t[i + 3]);
+    a + b * 256 + c * 65536 + d * 16777216
+}
+
+// Whether a line is a raise of a scope of at most three digits, but for these digits.
+fn is_raise(t: &[u8]) -> bool
+    requires { ⌜ length (now t) ≡ 27 ⌝ }
+    ensures { λ r. ⌜ (r ≡ true → RaiseText (now (t .entry))) ⌝ }
+{
+    (t[0] == 32)
+        & (t[1] == 51)
+        & (t[2] == 32)
+        & (word(t, 6) == ZERO)
+        & (word(t, 10) == ZERO)
+        & (word(t, 14) == BLANKS)
+        & (word(t, 18) == BLANKS)
+        & (word(t, 22) == ZERO)
+        & (t[26] == 10)
+}
+
+// A digit's number, or 1000.
+fn digit(b: u8) -> usize
+    ensures { λ r. ⌜ Digit b r ⌝ }
+{
+    if b < 48 {
+        return NONE;
+    }
+    if 57 < b {
+        return NONE;
+    }
+    wide(b) - 48
+}
+
+fn two_digits(b: u8, c: u8) -> usize
+    ensures { λ r. ⌜ Small (32 ∷ 32 ∷ b ∷ c ∷ []) r ⌝ }
+{
+    if b == 48 {
+        return NONE;
+    }
+    digit(b) * 10 + digit(c)
+}
+
+fn three_digits(a: u8, b: u8, c: u8) -> usize
+    ensures { λ r. ⌜ Small (32 ∷ a ∷ b ∷ c ∷ []) r ⌝ }
+{
+    if a == 48 {
+        return NONE;
+    }
+    digit(a) * 100 + digit(b) * 10 + digit(c)
+}
+
+// The number of at most three digits in a column, or 1000 or more.
+fn small_number(a: u8, b: u8, c: u8) -> usize
+    ensures { λ r. ⌜ Small (32 ∷ a ∷ b ∷ c ∷ []) r ⌝ }
+{
+    if a != 32 {
+        return three_digits(a, b, c);
+    }
+    if b != 32 {
+        return two_digits(b, c);
+    }
+    digit(c)
+}
+
+// The scope of a raise line, or 1000 or more.
+fn raise_scope(t: &[u8]) -> usize
+    requires { ⌜ length (now t) ≡ 27 ⌝ }
+    ensures { λ r. ⌜ (r < 1000 → readLine 12 (now (t .entry)) ≡ some (raiseLine r)) ⌝ }
+{
+    if !is_raise(t) {
+        return NONE;
+    }
+    small_number(t[3], t[4], t[5])
+}
+
+// Takes raise lines from the front of a block while more than one is left and they are in order.
+fn raise_lines(
+    raised: &mut [u8],
+    scopes: usize,
+    variable: usize,
+    left: usize,
+    next: usize,
+    bytes: &[u8],
+    from: usize,
+) -> Raises
+    requires { ⌜ (length (now raised) ≡ 144) × (scopes ≤ 144) × (from ≤ length (now bytes)) ⌝ }
+    ensures { λ r. ⌜ (r .left ≤ left) × (left + from ≤ r .left + r .from) × (r .from ≤ length (now (bytes .entry))) ⌝ }
+    ensures { λ r. ⌜ ((q : Progress) (a : ℤ) (n : ℕ) → Onward scopes n (raising q variable a left next) (now (raised .entry)) (drop from (now (bytes .entry))) (n + (left - r .left)) (raising q variable a (r .left) (r .next)) (now (raised .exit)) (drop (r .from) (now (bytes .entry)))) ⌝ }
+{
+    let mut more = left;
+    let mut above = next;
+    let mut at = from;
+    while 1 < more {
+        if bytes.len() - at < LINE {
+            return Raises {
+                left: more,
+                next: above,
+                from: at,
+            };
+        }
+        let to = at + LINE;
+        let x = raise_scope(&bytes[at..to]);
+        if !((x < scopes) & (above <= x) & (x != variable)) {
+            return Raises {
+                left: more,
+                next: above,
+                from: at,
+            };
+        }
+        raised[x] = 1;
+        more -= 1;
+        above = x + 1;
+        at = to;
+    }
+    Raises {
+        left: more,
+        next: above,
+        from: at,
+    }
+}
+
+fn next_of(last: LastRaised) -> usize
+    requires { ⌜ ((x : ℕ) → last ≡ LastRaised.Scope x → x < 144) ⌝ }
+    ensures { λ r. ⌜ lastOf r ≡ last ⌝ }
+{
+    match last {
+        LastRaised::Nothing => 0,
+        LastRaised::Scope(x) => x + 1,
+    }
+}
+
+fn last_of(next: usize) -> LastRaised
+    ensures { λ r. ⌜ r ≡ lastOf next ⌝ }
+{
+    if next == 0 {
+        return LastRaised::Nothing;
+    }
+    LastRaised::Scope(next - 1)
+}
+
+// The raise lines of a press begun, its last excepted.
+fn press_on(
+    case: Case,
+    raised: &mut [u8],
+    progress: Progress,
+    variable: usize,
+    amount: i64,
+    left: usize,
+    last: LastRaised,
+    bytes: &[u8],
+    from: usize,
+    done: usize,
+) -> Place
+    requires { ⌜ Limited standard case ⌝ }
+    requires { ⌜ (length (now raised) ≡ 144) × (done ≤ from) × (from ≤ length (now bytes)) × T (not (recordOut standard case (goodReplay (holding progress variable amount left last) (now raised)))) ⌝ }
+    ensures { λ r. ⌜ (r .done ≤ r .from) × (from ≤ r .from) × (r .from ≤ length (now (bytes .entry))) ⌝ }
+    ensures { λ r. ⌜ Onward (scopeCount case) done (holding progress variable amount left last) (now (raised .entry)) (drop from (now (bytes .entry))) (r .done) (r .progress) (now (raised .exit)) (drop (r .from) (now (bytes .entry))) ⌝ }
+{
+    let scopes = case.n + case.m;
+    let next = next_of(last);
+    let rest = raise_lines(raised, scopes, variable, left, next, bytes, from);
+    let taken = with_due(
+        progress,
+        Due::Raise {
+            variable,
+            amount,
+            left: rest.left,
+            last: last_of(rest.next),
+        },
+    );
+    let after = taken.progress;
+    Place {
+        progress: after,
+        from: rest.from,
+        done: done + (left - rest.left),
+    }
+}
+
+fn raise_on(
+    case: Case,
+    raised: &mut [u8],
+    progress: Progress,
+    bytes: &[u8],
+    from: usize,
+    done: usize,
+) -> Place
+    requires { ⌜ Limited standard case ⌝ }
+    requires { ⌜ (length (now raised) ≡ 144) × (done ≤ from) × (from ≤ length (now bytes)) × T (not (recordOut standard case (goodReplay progress (now raised)))) ⌝ }
+    ensures { λ r. ⌜ (r .done ≤ r .from) × (from ≤ r .from) × (r .from ≤ length (now (bytes .entry))) ⌝ }
+    ensures { λ r. ⌜ Onward (scopeCount case) done progress (now (raised .entry)) (drop from (now (bytes .entry))) (r .done) (r .progress) (now (raised .exit)) (drop (r .from) (now (bytes .entry))) ⌝ }
+{
+    let due = progress.due;
+    match due {
+        Due::MoveOrBound => Place {
+            progress,
+            from,
+            done,
+        },
+        Due::Raise {
+            variable,
+            amount,
+            left,
+            last,
+        } => press_on(
+            case,
+            raised,
+            progress,
+            variable,
+            amount,
+            left,
+            last,
+            bytes,
+            from,
+            done,
+        ),
+    }
+}
+
 // ---- a line in columns
 
 fn move_line(
@@ -739,17 +997,19 @@ fn good_lines(replay: Replay, case: Case, table: &mut [i64], bytes: &[u8]) -> Bl
             progress,
             &bytes[from..to],
         );
-        progress = taken.progress;
+        let next = taken.progress;
         let answer = taken.answer;
         if let Outcome::Refused(refusal) = answer {
             return Block {
-                replay: record_of(progress, raised, Standing::Refused(refusal)),
+                replay: record_of(next, raised, Standing::Refused(refusal)),
                 lines: done,
                 answer,
             };
         }
-        from = to;
-        done += 1;
+        let on = raise_on(case, &mut raised, next, bytes, to, done + 1);
+        progress = on.progress;
+        from = on.from;
+        done = on.done;
     }
     Block {
         replay: record_of(progress, raised, Standing::Good),

@@ -11,6 +11,7 @@ use Rattle.definitions.specs.Rules.{standard}
 use Rattle.definitions.specs.Valid.{workingWeight}
 use Rattle.theory.proofs.Validity.{Handed}
 use Rattle.figures.specs.Scopes.{BestOf}
+use Rattle.figures.proofs.Answered.{limits-known}
 use Rattle.checker.specs.declared.Replay.{Replay}
 use Rattle.checker.specs.Checker.{BlockCall, recordOut, blockReplay}
 use Rattle.checker.specs.Taken.{goodReplay, moreBy}
@@ -101,29 +102,45 @@ returns c = let a = c .before .before .before .before .before .before .before .b
 enum-told : tie.Need-enum-told Inv-loop μ-loop
 enum-told c = search needs
 
-add-done : tie.Need-add-done Inv-loop μ-loop
-add-done c = omega (arith, c .before .before .before .before .before .before .before .before .before .before .before .before .loop .inv, c .before .before .before .before .before .before .before .before .before .before .before .loop-test .taken, c .before .before .before .before .before .before .before .before .before .before .before .before .before .before .before .before .before .before .before .before .good)
+slice-aggregate-raise-on : tie.Need-slice-aggregate-raise-on Inv-loop μ-loop
+slice-aggregate-raise-on c = omega (arith, c .before .before .before .before .before .before .before .good-line .kept, c .before .before .before .before .before .before .before .before .before .before .before .before .before .loop .inv .3)
+
+add-raise-on : tie.Need-add-raise-on Inv-loop μ-loop
+add-raise-on c = omega (arith, c .before .before .before .before .before .before .before .before .before .before .before .before .before .loop .inv, c .before .before .before .before .before .before .before .before .before .before .before .before .loop-test .taken, c .before .before .before .before .before .before .before .before .before .before .before .before .before .before .before .before .before .before .before .before .before .good)
+
+raise-on-requires : tie.Need-raise-on-requires Inv-loop μ-loop
+raise-on-requires c κs = let a = c .before .before .before .before .before .before .before .before .before .before .before .before .before .before .before .before .before .before .before .before .before .args in let l = c .before .before .before .before .before .before .before .before .before .before .before .before .before .loop in let i = l .inv in let p = goodReplay (l .progress) (l .raised) in let t = drop (l .from) (a .bytes .now) in
+    let long : 27 ≤ length t = omega (arith, length-drop (l .from) (a .bytes .now), c .before .before .before .before .before .before .before .before .before .before .before .before .loop-test .taken) in
+    let z : (l .from + 27) - l .from ≡ 27 = omega arith in
+    let s = rw z at (c .before .before .before .before .before .before .before .good-line .ensures .0) in
+    let k = c .before .before .before .before .before .before .before .good-line .result in
+    let v = c .before .before .before .before .before .before .before .good-line .last .1 .0 in
+    let r = c .before .before .before .before .before .before .before .good-line .last .1 .1 .1 .0 in
+    let (e, g, f) = turn-done (a .case) (l .table) p t long k r v s (l .done) (c .before .enum-told .given .1) in
+    (limits-known g, (omega (arith, c .before .before .before .before .before .before .before .good-line .kept, i .3), omega (arith, i), omega (arith, i, c .before .before .before .before .before .before .before .before .before .before .before .before .loop-test .taken), f))
 
 loop-less : tie.Need-loop-less Inv-loop μ-loop
-loop-less c = omega (arith, c .before .before .before .before .before .before .before .before .before .before .before .before .loop .inv, c .before .before .before .before .before .before .before .before .before .before .before .loop-test .taken)
+loop-less c = omega (arith, c .before .before .before .before .before .before .before .before .before .before .before .before .before .before .before .before .loop .inv, c .before .before .before .before .before .before .before .before .before .before .before .before .before .before .before .loop-test .taken, c .before .before .raise-on .ensures .0)
 
 loop-again : tie.Need-loop-again Inv-loop μ-loop
-loop-again c = let a = c .before .before .before .before .before .before .before .before .before .before .before .before .before .before .before .before .before .before .before .before .args in let l = c .before .before .before .before .before .before .before .before .before .before .before .before .loop in let i = l .inv in let p = goodReplay (l .progress) (l .raised) in let t = drop (l .from) (a .bytes .now) in
-    let long : 27 ≤ length t = omega (arith, length-drop (l .from) (a .bytes .now), c .before .before .before .before .before .before .before .before .before .before .before .loop-test .taken) in
+loop-again c = let a = c .before .before .before .before .before .before .before .before .before .before .before .before .before .before .before .before .before .before .before .before .before .before .before .before .args in let l = c .before .before .before .before .before .before .before .before .before .before .before .before .before .before .before .before .loop in let i = l .inv in let p = goodReplay (l .progress) (l .raised) in let t = drop (l .from) (a .bytes .now) in
+    let long : 27 ≤ length t = omega (arith, length-drop (l .from) (a .bytes .now), c .before .before .before .before .before .before .before .before .before .before .before .before .before .before .before .loop-test .taken) in
     let z : (l .from + 27) - l .from ≡ 27 = omega arith in
-    let s = rw z at (c .before .before .before .before .before .before .good-line .ensures .0) in
-    let k = c .before .before .before .before .before .before .good-line .result in
-    let v = c .before .before .before .before .before .before .good-line .last .1 .0 in
-    let r = c .before .before .before .before .before .before .good-line .last .1 .1 .1 .0 in
-    let (e, g, f) = turn-done (a .case) (l .table) p t long k r v s (l .done) (c .enum-told .given .1) in (
-      omega arith,
-      omega (arith, c .before .before .before .before .before .before .before .before .before .before .before .loop-test .taken),
-      omega (arith, c .before .before .before .before .before .before .good-line .kept, i),
-      omega (arith, c .before .before .before .before .before .before .good-line .kept, i),
+    let s = rw z at (c .before .before .before .before .before .before .before .before .before .before .good-line .ensures .0) in
+    let k = c .before .before .before .before .before .before .before .before .before .before .good-line .result in
+    let v = c .before .before .before .before .before .before .before .before .before .before .good-line .last .1 .0 in
+    let r = c .before .before .before .before .before .before .before .before .before .before .good-line .last .1 .1 .1 .0 in
+    let (e, g, f) = turn-done (a .case) (l .table) p t long k r v s (l .done) (c .before .before .before .before .enum-told .given .1) in
+    let n = c .before .before .raise-on in
+    let (o, u) = n .ensures .1 .goes (a .case) v g refl f in (
+      n .ensures .0 .0,
+      n .ensures .0 .2,
+      omega (arith, c .before .before .before .before .before .before .before .before .before .before .good-line .kept, i),
+      omega (arith, n .kept, c .before .before .before .before .before .before .before .before .before .before .good-line .kept, i),
       g,
-      c .before .before .before .before .before .before .good-line .ensures .1,
-      f,
-      ap (λ (b : List ℕ). moreBy (l .done + 1) (blockReplay standard (a .case) v (goodReplay (k .progress) r) b)) (sym (drop-drop 27 (l .from) (a .bytes .now))) ∙ sym e ∙ i .7,
+      c .before .before .before .before .before .before .before .before .before .before .good-line .ensures .1,
+      u,
+      sym o ∙ ap (λ (b : List ℕ). moreBy (l .done + 1) (blockReplay standard (a .case) v (goodReplay (k .progress) r) b)) (sym (drop-drop 27 (l .from) (a .bytes .now))) ∙ sym e ∙ i .7,
     )
 
 record-of-requires-2 : tie.Need-record-of-requires-2 Inv-loop μ-loop
@@ -162,7 +179,9 @@ good-lines-spec =
     same-length
     returns
     enum-told
-    add-done
+    slice-aggregate-raise-on
+    add-raise-on
+    raise-on-requires
     loop-less
     loop-again
     record-of-requires-2

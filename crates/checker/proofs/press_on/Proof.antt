@@ -1,0 +1,56 @@
+use mathlib.Core.Path.{refl, ap}
+use native.Mathlib.Omega.{arith}
+use mir.Facts.{toZ-ofZ}
+use Rattle.checker.specs.declared.Taken.{Taken}
+use Rattle.checker.specs.Taken.{goodReplay}
+use Rattle.checker.specs.Raising.{holding}
+use Rattle.checker.proofs.Raising.{last-below, held-on}
+use borrow.Author.Needs.{needs}
+use Rattle.checker.proofs.press_on.Statement.{statement}
+use Rattle.checker.proofs.press_on.Tie as tie
+
+add-scopes : tie.Need-add-scopes
+add-scopes c = search needs
+
+next-of-requires : tie.Need-next-of-requires
+next-of-requires c κs = λ x e. let a = c .before .before .before in let p = goodReplay (holding (a .args .progress) (a .args .variable) (a .args .amount) (a .args .left) (a .args .last)) (a .args .raised .now) in
+    omega (arith, last-below (a .args .case) p (a .args .variable) (a .args .amount) (a .args .left) (a .args .last) refl (a .pre .1 .3) x e, a .pre .0 .variables, a .pre .0 .edges)
+
+raise-lines-requires : tie.Need-raise-lines-requires
+raise-lines-requires c κs = search needs
+
+last-of-requires : tie.Need-last-of-requires
+last-of-requires c κs = search needs
+
+with-due-requires : tie.Need-with-due-requires
+with-due-requires c κs = search needs
+
+sub-t20 : tie.Need-sub-t20
+sub-t20 c = search needs
+
+add-t21 : tie.Need-add-t21
+add-t21 c = search needs
+
+same-length : tie.Need-same-length
+same-length c = search needs
+
+returns : tie.Need-returns
+returns c = let a = c .before .before .before .before .before .before .before .before .before .before .before .before in let k = c .before .before .before .before .before .before .raise-lines in (
+  (omega (arith, k .ensures .0, a .pre .1), omega (arith, k .ensures .0), k .ensures .0 .2),
+  held-on (c .before .before .before .before .before .before .before .before .next-of .result) (k .result .next) (a .args .progress) (c .before .before .before .before .before .before .before .before .next-of .ensures) (c .before .before .before .last-of .ensures) (toZ-ofZ (a .fits .amount)) (ap (λ (t : Taken). t .progress) (c .before .before .with-due .ensures))
+      (k .ensures .1 (a .args .progress) (a .args .amount) (a .args .done)),
+)
+
+pub press-on-spec : {M : Type 1} → statement M
+press-on-spec =
+    tie.close
+    (tie.spec
+    add-scopes
+    next-of-requires
+    raise-lines-requires
+    last-of-requires
+    with-due-requires
+    sub-t20
+    add-t21
+    same-length
+    returns)
