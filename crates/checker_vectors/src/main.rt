@@ -1,10 +1,17 @@
 // Logs replayed line by line and as one block. Standard input holds vectors: a line that names what is tried, a line in columns whose amount is
 // the number of bytes that follow, and these bytes, a case file and then a log. The first line in columns also gives the table's places (a).
 // Each is printed with the number of every line, the number at the end, the rounds, the weights, and what the log is as one block.
+// Where b is 2, two lines before the log tell the record that is handed over in place of a fresh one: the press begun, if its kind is 3
+// (variable, lines left, last scope or -1, amount); the number that stands, a scope that is marked or -1, whether a move has no bound line
+// after it, and the rounds (c: 0, 1 for the greatest count, 2 for one more). Then the number at its end and the record after it are printed too.
 // The file `stdout` was worked out from document 01; the peer gives each log the same answer.
+use checker::Due;
+use checker::LastRaised;
 use checker::Replay;
+use checker::Standing;
 use definitions::Case;
 use definitions::FileAnswer;
+use definitions::Line;
 use definitions::LineRead;
 use definitions::Outcome;
 use definitions::Refusal;
@@ -79,6 +86,167 @@ fn print_weights(table: &[i64]) {
     print(b"\n");
 }
 
+// ---- a record handed over
+
+fn count(z: i64) -> usize {
+    if z < 0 { 0 } else { z as usize }
+}
+
+fn rounds_of(c: i64) -> u64 {
+    if c == 0 {
+        return 0;
+    }
+    if c == 1 {
+        return 999_999_999_999_999_999;
+    }
+    1_000_000_000_000_000_000
+}
+
+fn marks_of(scope: i64) -> [u8; 144] {
+    let mut raised = [0u8; 144];
+    let x = count(scope);
+    if scope < 0 {
+        return raised;
+    }
+    if x < 144 {
+        raised[x] = 1;
+    }
+    raised
+}
+
+fn last_of(scope: i64) -> LastRaised {
+    if scope < 0 {
+        return LastRaised::Nothing;
+    }
+    LastRaised::Scope(count(scope))
+}
+
+fn due_of(line: Line) -> Due {
+    if line.kind == 3 {
+        return Due::Raise {
+            variable: count(line.a),
+            amount: line.amount,
+            left: count(line.b),
+            last: last_of(line.c),
+        };
+    }
+    Due::MoveOrBound
+}
+
+fn standing_of(number: i64) -> Standing {
+    if number == 0 {
+        return Standing::Good;
+    }
+    Standing::Refused(Refusal::NotRefuted)
+}
+
+fn handed_over(fresh: Replay, press: Line, rest: Line) -> Replay {
+    Replay {
+        rounds: rounds_of(rest.c),
+        start: fresh.start,
+        moved: rest.b != 0,
+        raised: marks_of(rest.a),
+        due: due_of(press),
+        standing: standing_of(rest.kind),
+    }
+}
+
+// The record told by two lines, or the fresh one where there are none.
+fn begun(fresh: Replay, given: &[u8]) -> Replay {
+    if given.len() < 54 {
+        return fresh;
+    }
+    let first = lines::read_line(&given[0..27]);
+    let second = lines::read_line(&given[27..54]);
+    let LineRead::Read(press) = first else {
+        return fresh;
+    };
+    let LineRead::Read(rest) = second else {
+        return fresh;
+    };
+    handed_over(fresh, press, rest)
+}
+
+fn print_last(last: LastRaised) {
+    match last {
+        LastRaised::Nothing => print(b" none"),
+        LastRaised::Scope(x) => print_count(x as u64),
+    }
+}
+
+fn print_due(due: Due) {
+    match due {
+        Due::MoveOrBound => print(b" 0"),
+        Due::Raise {
+            variable,
+            amount,
+            left,
+            last,
+        } => {
+            print_count(variable as u64);
+            print_weight(amount);
+            print_count(left as u64);
+            print_last(last);
+        }
+    }
+}
+
+fn print_mark(scope: usize, mark: u8) {
+    if mark != 0 {
+        print_count(scope as u64);
+    }
+}
+
+fn print_marks(raised: &[u8]) {
+    let mut x: usize = 0;
+    while x < raised.len() {
+        print_mark(x, raised[x]);
+        x += 1;
+    }
+}
+
+fn print_flag(flag: bool) {
+    if flag {
+        print(b" 1");
+    } else {
+        print(b" 0");
+    }
+}
+
+fn standing_number(standing: Standing) -> u64 {
+    match standing {
+        Standing::Good => 0,
+        Standing::Refused(refusal) => number_of(refusal),
+    }
+}
+
+fn print_record(given: &[u8], replay: Replay) {
+    if given.len() < 54 {
+        return;
+    }
+    let due = replay.due;
+    let raised = replay.raised;
+    let standing = replay.standing;
+    print(b"  record moved");
+    print_flag(replay.moved);
+    print(b" due");
+    print_due(due);
+    print(b" raised");
+    print_marks(&raised);
+    print(b" stands");
+    print_count(standing_number(standing));
+    print(b"\n");
+}
+
+fn print_given(given: &[u8], replay: Replay, case: Case) {
+    if given.len() < 54 {
+        return;
+    }
+    print(b"  given end");
+    print_count(number(replay.end(case)));
+    print(b"\n");
+}
+
 // ---- a log
 
 // Where the line at byte `at` ends.
@@ -104,22 +272,24 @@ fn by_lines(replay: Replay, case: Case, table: &mut [i64], log: &[u8]) -> Replay
     after
 }
 
-fn single(case: Case, table: &mut [i64], log: &[u8]) {
+fn single(case: Case, table: &mut [i64], given: &[u8], log: &[u8]) {
+    let before = begun(Replay::fresh(case, table), given);
+    print_given(given, before, case);
     print(b"  lines");
-    let fresh = Replay::fresh(case, table);
-    let after = by_lines(fresh, case, table, log);
+    let after = by_lines(before, case, table, log);
     print(b" end");
     print_count(number(after.end(case)));
     print(b" rounds");
     print_count(after.rounds);
     print(b" weights");
     print_weights(table);
+    print_record(given, after);
 }
 
-fn whole(case: Case, table: &mut [i64], log: &[u8]) {
+fn whole(case: Case, table: &mut [i64], given: &[u8], log: &[u8]) {
     print(b"  block");
-    let fresh = Replay::fresh(case, table);
-    let block = fresh.lines(case, table, log);
+    let before = begun(Replay::fresh(case, table), given);
+    let block = before.lines(case, table, log);
     print_count(block.lines as u64);
     let answer = block.answer;
     print_count(number(answer));
@@ -130,12 +300,19 @@ fn whole(case: Case, table: &mut [i64], log: &[u8]) {
     print_count(after.rounds);
     print(b" weights");
     print_weights(table);
+    print_record(given, after);
 }
 
 // ---- the vectors
 
-fn count(z: i64) -> usize {
-    if z < 0 { 0 } else { z as usize }
+fn first_lines(bytes: &[u8], n: usize) -> &[u8] {
+    if n <= 1000 {
+        let to = n * 27;
+        if to <= bytes.len() {
+            return &bytes[0..to];
+        }
+    }
+    &bytes[0..0]
 }
 
 fn log_after(bytes: &[u8], used: usize) -> &[u8] {
@@ -158,24 +335,36 @@ fn lines_of(answer: FileAnswer) -> usize {
     }
 }
 
-fn line_by_line(bytes: &[u8], table: &mut [i64]) {
+fn line_by_line(bytes: &[u8], table: &mut [i64], told: usize) {
     let read = casefile::read_case(bytes, table);
     let answer = read.answer;
-    single(read.case, table, log_after(bytes, lines_of(answer)));
+    let rest = log_after(bytes, lines_of(answer));
+    single(
+        read.case,
+        table,
+        first_lines(rest, told),
+        log_after(rest, told),
+    );
 }
 
-fn as_a_block(bytes: &[u8], table: &mut [i64]) {
+fn as_a_block(bytes: &[u8], table: &mut [i64], told: usize) {
     let read = casefile::read_case(bytes, table);
     let answer = read.answer;
-    whole(read.case, table, log_after(bytes, lines_of(answer)));
+    let rest = log_after(bytes, lines_of(answer));
+    whole(
+        read.case,
+        table,
+        first_lines(rest, told),
+        log_after(rest, told),
+    );
 }
 
-fn replay(bytes: &[u8], places: usize) {
+fn replay(bytes: &[u8], places: usize, told: usize) {
     if places <= 20 {
         let mut one = [0i64; 20];
-        line_by_line(bytes, &mut one[0..places]);
+        line_by_line(bytes, &mut one[0..places], told);
         let mut other = [0i64; 20];
-        as_a_block(bytes, &mut other[0..places]);
+        as_a_block(bytes, &mut other[0..places], told);
     }
 }
 
@@ -194,7 +383,7 @@ fn vector(input: &[u8]) -> usize {
                 return 0;
             }
             let to = 54 + size;
-            replay(&input[54..to], count(line.a));
+            replay(&input[54..to], count(line.a), count(line.b));
             to
         }
     }
