@@ -12,7 +12,7 @@ use lib.ListN.{length, getD, take, drop}
 use borrow.Author.Tests.{eqb-true, le-leb, ne-eqb}
 use Rattle.definitions.specs.Lines.{isDigit, readColumn, columnAt}
 use Rattle.lines.specs.Words.{Word}
-use Rattle.lines.proofs.Steps.{at-drop, column-zero}
+use Rattle.lines.proofs.Steps.{at-drop}
 use Rattle.checker.specs.Raising.{Digit, Small, RaiseText}
 
 -- ---- the scope
@@ -70,6 +70,13 @@ module _ (t : List ℕ) (long : length t ≡ 27) where
       let b : getD t (i + 1) 0 ≡ 32 = omega arith in
       (omega arith, b, c, d)
 
+  zero-column : {i u : ℕ} → Word t i u → i + 4 ≤ length t → u ≡ 807411744 → columnAt i 4 t ≡ some (pos 0)
+  zero-column {i} w h e =
+      let e2 : i + 1 + 1 ≡ i + 2 = omega arith in
+      let e3 : i + 2 + 1 ≡ i + 3 = omega arith in
+      let (a, b, c, d) = zero-word w e in
+      rw (at-drop t i (omega arith), at-drop t (i + 1) (omega arith), e2, at-drop t (i + 2) (omega arith), e3, at-drop t (i + 3) (omega arith), a, b, c, d)
+
   module _ {u v w : ℕ} (p : Word t 14 u) (q : Word t 18 v) (r : Word t 22 w) where
     no-amount : u ≡ 538976288 → v ≡ 538976288 → w ≡ 807411744 → columnAt 14 12 t ≡ some (pos 0)
     no-amount d e f =
@@ -111,7 +118,7 @@ module _ (t : List ℕ) (long : length t ≡ 27) where
           n,
           kind-three k l,
           scope-column m ∙ s,
-          column-zero t 6 g wb (omega arith) b,
-          column-zero t 10 h wc (omega arith) c,
+          zero-column wb (omega arith) b,
+          zero-column wc (omega arith) c,
           no-amount p q r d e f,
         )
