@@ -5,7 +5,7 @@ from collections import namedtuple
 LINE = 27
 KINDS = ("uniform", "small")
 ENGINES = ("ours", "fast", "plain")
-REPLAYS = ("ours", "fast")
+REPLAYS = ("ours", "fast", "plain")
 UNTRIMMED_BYTES = 8_000_000
 SHORTEST_LOG = 100_000
 

@@ -54,11 +54,11 @@ def engine_table(rows):
 
 
 def replay_table(rows):
-    head = ["log", "weights", "links", "values", "pairs", "MB of log", "ours", "peer fast"]
-    head += ["ours / fast"]
+    head = ["log", "weights", "links", "values", "pairs", "MB of log", "ours", "peer fast", "peer plain"]
+    head += ["ours / fast", "ours / plain"]
     lines = []
     for row in sorted(rows, key=lambda row: row.log, reverse=True):
         cells = [row.log, row.kind, *map(str, row.size), f"{row.bytes / 1e6:.2f}"]
-        cells += [rate(row.seconds.get(name), 1e-6) for name in ("ours", "fast")]
-        lines.append(cells + [ratio(row, "ours", "fast")])
+        cells += [rate(row.seconds.get(name), 1e-6) for name in ("ours", "fast", "plain")]
+        lines.append(cells + [ratio(row, "ours", "fast"), ratio(row, "ours", "plain")])
     return "Replay, megabytes of log a second (logs of 0.1 MB or more):\n\n" + table(head, lines)

@@ -1,50 +1,40 @@
--- The replay's half of demand 3, for every valid case and every list of byte strings, whoever wrote them: one statement. The whole of it is in
--- the crate guarantee. Assumes nothing.
+-- The checker's promise holds for every valid case and every list of byte strings, whoever wrote them. Assumes nothing.
 use mathlib.Core.Path.{_≡_, refl, sym, ap, subst, _∙_}
+use mathlib.Core.Bool.{false}
 use mathlib.Core.Logic.{_↔_}
 use mathlib.Core.Option.{Option, none, some}
 use mathlib.Core.List.{List, map}
 use Prim.Native.Nat.{ℕ}
-use lib.IntN.{ℤ, pos, _-ℤ_}
+use lib.IntN.{ℤ}
 use lib.Dec.{T}
-use lib.Signed.{_≤ℤ_}
 use Rattle.integers.specs.Linear.{flat, zs, _▸_}
-use Rattle.integers.specs.Lists.{map-map}
+use Rattle.integers.specs.Lists.{map-map, map-cong}
 use Rattle.definitions.specs.declared.Case.{Case}
 use Rattle.definitions.specs.declared.Refusal.{Refusal}
 use Rattle.definitions.specs.declared.Outcome.{Outcome}
+use Rattle.definitions.specs.declared.Figure.{Figure}
 use Rattle.definitions.specs.Rules.{Rules, Coherent, standard, standard-coherent}
-use Rattle.definitions.specs.Answers.{outcomeOf}
-use Rattle.definitions.specs.Case.{isAssignment, objective, upperBound}
-use Rattle.definitions.specs.Valid.{valid}
+use Rattle.definitions.specs.Refusals.{firstOf}
+use Rattle.definitions.specs.Answers.{outcomeOf, outcomeSays, figureSays}
+use Rattle.definitions.specs.Case.{upperBound}
+use Rattle.definitions.specs.Valid.{workingWeight, handedOver, valid}
+use Rattle.definitions.specs.Calls.{figureOf, upperBoundAnswer}
 use Rattle.definitions.specs.Replay.{fresh, after, answers, atEnd, keepsRules}
 use Rattle.checker.specs.Checker.{Between, endReplay, afterLines, lineAnswers}
-use Rattle.theory.proofs.Replays.{case-after, total-kept, bound-sound, rounds-few, accepted-iff, keeps-iff}
-use Rattle.checker_theory.specs.Lists.{begun, Accepted}
+use Rattle.theory.proofs.Validity.{Handed, handed}
+use Rattle.theory.proofs.Replays.{none-iff, handed-after, case-after, total-kept, bound-sound, rounds-few, accepted-iff, keeps-iff}
+use Rattle.checker_theory.specs.Lists.{begun, Accepted, numberSays, ReplayTrusted}
 use Rattle.checker_theory.proofs.Agrees.{Agrees}
 use Rattle.checker_theory.proofs.Folds.{agrees-fresh, fold-agrees, answers-agree, end-agrees}
 
--- The half of demand 3 that is about the replay, in the tender's words; what the tender goes on to say of a run is not in it. Lines are handed
--- over one after another, the first with the starting weights and a fresh record, each later one with the table and the record that the last
--- one left.
-pub record ReplayFold (r : Rules) (c : Case) (w : List ℤ) : Type 0 where
-  -- "for .. every list of lines, whoever wrote them, refused ones included, handed to the replay from the starting weights: each line's answer,"
-  pub each-answer : (ts : List (List ℕ)) → lineAnswers r (begun r c w) ts ≡ map outcomeOf (answers r (fresh c w) ts)
-  -- "the end's,"
-  pub end-answer : (ts : List (List ℕ)) → endReplay r c (afterLines r (begun r c w) ts .replay) ≡ outcomeOf (atEnd (after r (fresh c w) ts))
-  -- "and then the working weights, their ceiling and the rounds are those of document 01's plain replay,"
-  pub weights : (ts : List (List ℕ)) → afterLines r (begun r c w) ts .table ≡ after r (fresh c w) ts .weights
-  pub bound : (ts : List (List ℕ)) → upperBound c (afterLines r (begun r c w) ts .table) ≡ upperBound c (after r (fresh c w) ts .weights)
-  pub rounds : (ts : List (List ℕ)) → afterLines r (begun r c w) ts .replay .rounds ≡ after r (fresh c w) ts .rounds
-  -- "and the list is accepted exactly when it keeps the line rules."
-  pub accepted : (ts : List (List ℕ)) → Accepted r c w ts ↔ T (keepsRules r c w ts)
-  -- "Accepted or not, after it each plan's working total is at least its starting total,"
-  pub total-least : (ts : List (List ℕ)) (p : List ℕ) → T (isAssignment c p) → objective c w p ≤ℤ objective c (afterLines r (begun r c w) ts .table) p
-  -- "the ceiling is at least every plan's starting total,"
-  pub bound-least : (ts : List (List ℕ)) (p : List ℕ) → T (isAssignment c p) → objective c w p ≤ℤ upperBound c (afterLines r (begun r c w) ts .table)
-  -- "and the rounds number no more than the starting ceiling minus any plan's starting total."
-  pub rounds-most : (ts : List (List ℕ)) (p : List ℕ) → T (isAssignment c p)
-      → pos (afterLines r (begun r c w) ts .replay .rounds) ≤ℤ (upperBound c w -ℤ objective c w p)
+-- the library's upper bound of a table that every call takes
+bound-answered : {r : Rules} (c : Case) (v : List ℤ) → Handed r (workingWeight r) c v → upperBoundAnswer r c v ≡ Figure.Value (upperBound c v)
+unfolding upperBoundAnswer
+bound-answered {r} c v h = ap (λ (o : Option Refusal). figureOf o (upperBound c v)) (none-iff (firstOf (handedOver r (workingWeight r) c v false false)) .0 (handed r (workingWeight r) c v false false .1 (h, tt, tt)))
+
+outcome-says : (o : Option Refusal) → outcomeSays (outcomeOf o) ≡ numberSays o
+outcome-says none = refl
+outcome-says (some x) = refl
 
 done-none : (o : Option Refusal) → outcomeOf o ≡ Outcome.Done → o ≡ none
 done-none none e = refl
@@ -55,18 +45,18 @@ module _ {r : Rules} (coherent : Coherent r) (c : Case) (w : List ℤ) (t : T (v
     there : Agrees r (after r (fresh c w) ts) (afterLines r (begun r c w) ts)
     there = fold-agrees (agrees-fresh coherent c w t) ts
 
-    answers-are : lineAnswers r (begun r c w) ts ≡ map outcomeOf (answers r (fresh c w) ts)
+    pub answers-are : lineAnswers r (begun r c w) ts ≡ map outcomeOf (answers r (fresh c w) ts)
     answers-are = answers-agree (agrees-fresh coherent c w t) ts
 
-    end-is : endReplay r c (afterLines r (begun r c w) ts .replay) ≡ outcomeOf (atEnd (after r (fresh c w) ts))
+    pub end-is : endReplay r c (afterLines r (begun r c w) ts .replay) ≡ outcomeOf (atEnd (after r (fresh c w) ts))
     end-is =
         subst (λ (d : Case). endReplay r d (afterLines r (begun r c w) ts .replay) ≡ outcomeOf (atEnd (after r (fresh c w) ts)))
         (ap (λ (b : Between). b .case) (there .same) ∙ case-after r (fresh c w) ts) (end-agrees there)
 
-    weights-are : afterLines r (begun r c w) ts .table ≡ after r (fresh c w) ts .weights
+    pub weights-are : afterLines r (begun r c w) ts .table ≡ after r (fresh c w) ts .weights
     weights-are = ap (λ (b : Between). b .table) (there .same)
 
-    rounds-are : afterLines r (begun r c w) ts .replay .rounds ≡ after r (fresh c w) ts .rounds
+    pub rounds-are : afterLines r (begun r c w) ts .replay .rounds ≡ after r (fresh c w) ts .rounds
     rounds-are = ap (λ (b : Between). b .replay .rounds) (there .same)
 
     accepts : Accepted r c w ts ↔ T (keepsRules r c w ts)
@@ -80,19 +70,26 @@ module _ {r : Rules} (coherent : Coherent r) (c : Case) (w : List ℤ) (t : T (v
           },
     )
 
-  pub replay-fold : ReplayFold r c w
-  replay-fold = record {
-    each-answer = answers-are;
-    end-answer = end-is;
-    weights = weights-are;
-    bound = λ ts. ap (upperBound c) (weights-are ts);
-    rounds = rounds-are;
-    accepted = accepts;
-    total-least = λ ts p a. rw (weights-are ts) (total-kept r c w t ts p a);
-    bound-least = λ ts p a. rw (weights-are ts) (bound-sound r c w t ts p a);
-    rounds-most = λ ts p a. rw (rounds-are ts) (rounds-few r c w t ts p a ▸ simp flat (omega zs));
+    says-are : map outcomeSays (lineAnswers r (begun r c w) ts) ≡ map numberSays (answers r (fresh c w) ts)
+    says-are =
+        ap (map outcomeSays) answers-are ∙ map-map outcomeSays outcomeOf (answers r (fresh c w) ts)
+        ∙ map-cong (answers r (fresh c w) ts) (λ o m. outcome-says o)
+
+  pub replay-trusted : ReplayTrusted r c w
+  replay-trusted ts = record {
+    each-answer = says-are ts;
+    end-answer = ap outcomeSays (end-is ts) ∙ outcome-says (atEnd (after r (fresh c w) ts));
+    weights = weights-are ts;
+    bound =
+        ap (λ (v : List ℤ). figureSays (upperBoundAnswer r c v)) (weights-are ts)
+        ∙ ap figureSays (bound-answered c (after r (fresh c w) ts .weights) (handed-after r c w t ts coherent));
+    rounds = rounds-are ts;
+    accepted = accepts ts;
+    total-least = λ p a. rw (weights-are ts) (total-kept r c w t ts p a);
+    bound-least = λ p a. rw (weights-are ts) (bound-sound r c w t ts p a);
+    rounds-most = λ p a. rw (rounds-are ts) (rounds-few r c w t ts p a ▸ simp flat (omega zs));
   }
 
 -- with the numbers of document 01
-pub standard-fold : (c : Case) (w : List ℤ) → T (valid standard c w) → ReplayFold standard c w
-standard-fold = replay-fold standard-coherent
+pub standard-trusted : (c : Case) (w : List ℤ) → T (valid standard c w) → ReplayTrusted standard c w
+standard-trusted = replay-trusted standard-coherent

@@ -23,7 +23,7 @@ use Rattle.definitions.specs.Replay.{State, fresh, step, after, answers, atEnd}
 use Rattle.checker.specs.Checker.{BlockCall, freshReplay, takenLines, firstRefused, endReplay, blockReplay}
 use Rattle.definitions.specs.Programs.{Judged, accepted, refused, firstNumber, judgeLog}
 use Rattle.theory.proofs.Replays.{after-stands}
-use Rattle.checker_theory.proofs.Accepts.{ReplayFold, replay-fold}
+use Rattle.checker_theory.proofs.Accepts.{answers-are, end-is, weights-are, rounds-are}
 
 -- the judgement of a log whose lines, but for those taken, begin at `at`: the first refusal, else the end's, else 14 where a part line is left
 abbrev pub logJudged : ℕ → Outcome → Outcome → Bool → Judged → Judged
@@ -58,31 +58,28 @@ module _ (r : Rules) (c : Case) (w : List ℤ) (log : List ℕ) where
   logState = after r (fresh c w) (linesIn (r .amountWidth) log)
 
 module _ {r : Rules} (coherent : Coherent r) (c : Case) (w : List ℤ) (t : T (valid r c w)) (log : List ℕ) where
-  abbrev fold : ReplayFold r c w
-  fold = replay-fold coherent c w t
-
   abbrev lines : List (List ℕ)
   lines = linesIn (r .amountWidth) log
 
   pub log-table : logBlock r c w log .table ≡ logState r c w log .weights
   unfolding blockReplay
-  log-table = fold .weights lines
+  log-table = weights-are coherent c w t lines
 
   pub log-rounds : logBlock r c w log .block .replay .rounds ≡ logState r c w log .rounds
   unfolding blockReplay
-  log-rounds = fold .rounds lines
+  log-rounds = rounds-are coherent c w t lines
 
   pub log-answer : logBlock r c w log .block .answer ≡ outcomeOf (logState r c w log .refusal)
   unfolding blockReplay
-  log-answer = ap firstRefused (fold .each-answer lines) ∙ first-number r (fresh c w) refl lines
+  log-answer = ap firstRefused (answers-are coherent c w t lines) ∙ first-number r (fresh c w) refl lines
 
   pub log-lines : logBlock r c w log .block .lines ≡ takenLines (map outcomeOf (answers r (fresh c w) lines))
   unfolding blockReplay
-  log-lines = ap takenLines (fold .each-answer lines)
+  log-lines = ap takenLines (answers-are coherent c w t lines)
 
   pub log-end : endReplay r c (logBlock r c w log .block .replay) ≡ outcomeOf (atEnd (logState r c w log))
   unfolding blockReplay
-  log-end = fold .end-answer lines
+  log-end = end-is coherent c w t lines
 
   -- the judgement of a log that begins at line `at`
   pub log-judged : (at : ℕ) → judgeLog r c w at log
@@ -91,7 +88,7 @@ module _ {r : Rules} (coherent : Coherent r) (c : Case) (w : List ℤ) (t : T (v
   unfolding blockReplay
   log-judged at =
       number-judged r at (answers r (fresh c w) lines) (atEnd (logState r c w log)) (hasPart (r .amountWidth) log) (accepted (logState r c w log .rounds) (upperBound c (logState r c w log .weights)))
-      ∙ sym (ap₂ (λ (os : List Outcome) (end : Outcome). judged os end (logBlock r c w log .block .replay .rounds) (logBlock r c w log .table)) (fold .each-answer lines) log-end
+      ∙ sym (ap₂ (λ (os : List Outcome) (end : Outcome). judged os end (logBlock r c w log .block .replay .rounds) (logBlock r c w log .table)) (answers-are coherent c w t lines) log-end
       ∙ ap₂ (judged (map outcomeOf (answers r (fresh c w) lines)) (outcomeOf (atEnd (logState r c w log)))) log-rounds log-table)
     where
       judged : List Outcome → Outcome → ℕ → List ℤ → Judged

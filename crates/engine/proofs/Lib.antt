@@ -8,3 +8,4 @@ mod Amounts
 mod Texts
 mod Rounds
 mod Runs
+pub mod Demand3

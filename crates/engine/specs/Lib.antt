@@ -3,3 +3,4 @@ pub mod Search
 pub mod Gaps
 pub mod Texts
 pub mod Rounds
+pub mod Demand3

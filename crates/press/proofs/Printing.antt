@@ -25,7 +25,7 @@ use Rattle.theory.proofs.CaseTests.{CaseKinds, standard-case-kinds}
 use Rattle.theory.proofs.CaseTexts.{written-read}
 use Rattle.judging.specs.Cuts.{longestCase}
 use Rattle.judging.proofs.Fronts.{press-front}
-use Rattle.guarantee.proofs.Demand3.{standard-demand3}
+use Rattle.engine.proofs.Demand3.{standard-demand3}
 
 kinds : CaseKinds standard
 kinds = standard-case-kinds standard refl

@@ -1,11 +1,11 @@
--- Demand 3 of the tender as one statement, clause by clause, in the tender's order, each clause quoted above what says it. The tender's plan,
--- total and ceiling are assignment, objective and upper bound. The statement is about the definitions that the contracts of the library's
--- functions name: `freshReplay`, `stepReplay` (folded by `lineAnswers` and `afterLines`) and `endReplay` of Replay::fresh, step and end;
--- `roundCall` and `runCall` at `engineNext` of the engine's round and run. proofs/Demand3 proves it for every valid case. Assumes nothing.
+-- Demand 3 of the tender as one statement, clause by clause, in the tender's order, each clause quoted above what says it. Its first half is
+-- the checker's promise (checker_theory, Lists.LinesTrusted), over which the engine's stands. The statement is about the definitions that the
+-- contracts of the library's functions name: those of Replay::fresh, step and end; `roundCall` and `runCall` at `engineNext` of the engine's
+-- round and run. proofs/Demand3 proves it for every valid case. Assumes nothing.
 use mathlib.Core.Path.{_≡_}
 use mathlib.Core.Bool.{false}
 use mathlib.Core.Logic.{_↔_, _⊎_}
-use mathlib.Core.List.{List, [], _∷_, map}
+use mathlib.Core.List.{List, []}
 use Prim.Native.Nat.{ℕ, suc, _≤_}
 use lib.IntN.{ℤ, pos, _-ℤ_}
 use lib.Dec.{T}
@@ -14,41 +14,18 @@ use lib.ListN.{length, take}
 use Rattle.integers.specs.Words.{joined}
 use Rattle.definitions.specs.declared.Case.{Case}
 use Rattle.definitions.specs.declared.Refusal.{Refusal}
-use Rattle.definitions.specs.declared.Figure.{Figure}
-use Rattle.definitions.specs.Calls.{upperBoundAnswer}
 use Rattle.definitions.specs.declared.Round.{Round}
 use Rattle.definitions.specs.declared.RunAnswer.{RunAnswer}
 use Rattle.definitions.specs.Rules.{Rules, standard}
 use Rattle.definitions.specs.Valid.{valid}
-use Rattle.definitions.specs.Answers.{outcomeOf}
+use Rattle.definitions.specs.Answers.{runSays}
 use Rattle.definitions.specs.Case.{isAssignment, objective, upperBound}
 use Rattle.definitions.specs.Lines.{linesIn, hasPart}
-use Rattle.definitions.specs.Replay.{fresh, after, answers, atEnd, keepsRules}
 use Rattle.definitions.specs.Engine.{Settled, engineNext, roundBytes, RunOf, run}
 use Rattle.definitions.specs.EngineCalls.{RunCall, answerAtLimit, roundCall, stopRun, runCall}
-use Rattle.checker.specs.Checker.{Between, endReplay, afterLines, lineAnswers}
-use Rattle.checker_theory.specs.Lists.{begun, Accepted}
+use Rattle.checker.specs.Checker.{afterLines}
+use Rattle.checker_theory.specs.Lists.{begun, Accepted, ReplayTrusted}
 use Rattle.engine_theory.specs.Runs.{boundLines, roundTexts, writtenOver, preceded}
-
--- "For every valid case and every list of lines, whoever wrote them, refused ones included, handed to the replay from the starting weights":
--- the lines `ts` are any byte strings, and b is what stands after them
-pub record LinesTrusted (r : Rules) (c : Case) (w : List ℤ) (ts : List (List ℕ)) (b : Between) : Type 0 where
-  -- "each line's answer," (L2)
-  pub each-answer : lineAnswers r (begun r c w) ts ≡ map outcomeOf (answers r (fresh c w) ts)
-  -- "the end's,"
-  pub end-answer : endReplay r c (b .replay) ≡ outcomeOf (atEnd (after r (fresh c w) ts))
-  -- "and then the working weights, their ceiling and the rounds are those of document 01's plain replay,"
-  pub weights : b .table ≡ after r (fresh c w) ts .weights
-  pub bound : upperBoundAnswer r c (b .table) ≡ Figure.Value (upperBound c (after r (fresh c w) ts .weights))
-  pub rounds : b .replay .rounds ≡ after r (fresh c w) ts .rounds
-  -- "and the list is accepted exactly when it keeps the line rules." (L3)
-  pub accepted : Accepted r c w ts ↔ T (keepsRules r c w ts)
-  -- "Accepted or not, after it each plan's working total is at least its starting total," (L4)
-  pub total-least : (p : List ℕ) → T (isAssignment c p) → objective c w p ≤ℤ objective c (b .table) p
-  -- "the ceiling is at least every plan's starting total," (L5)
-  pub bound-least : (p : List ℕ) → T (isAssignment c p) → objective c w p ≤ℤ upperBound c (b .table)
-  -- "and the rounds number no more than the starting ceiling minus any plan's starting total." (L6)
-  pub rounds-most : (p : List ℕ) → T (isAssignment c p) → pos (b .replay .rounds) ≤ℤ (upperBound c w -ℤ objective c w p)
 
 -- "For every limit, a run from the starting weights": q is document 01's run, u the library's on a lent output, `log` the lines of its log
 pub record RunTrusted (r : Rules) (c : Case) (w : List ℤ) (limit : ℕ) (out : List ℕ) (q : RunOf) (u : RunCall) (log : List (List ℕ)) : Type 0 where
@@ -61,7 +38,7 @@ pub record RunTrusted (r : Rules) (c : Case) (w : List ℤ) (limit : ℕ) (out :
   pub round-count : length (roundTexts r engineNext c limit w) ≡ u .run .rounds
   pub output : u .out ≡ writtenOver (roundTexts r engineNext c limit w) out
   -- "and gives the answer of document 01's run," (L7)
-  pub answer : u .run .answer ≡ q .answer
+  pub answer : runSays (u .run .answer) ≡ runSays (q .answer)
   -- which is settled exactly where every variable has an active value with a supported family, and limit exactly where as many rounds as the
   -- limit were made and it is not settled (L9a); it is never refused (L10)
   pub settled : u .run .answer ≡ RunAnswer.Settled ↔ Settled c (u .table)
@@ -104,7 +81,7 @@ pub record RunIterates (r : Rules) (c : Case) : Type 0 where
 
 -- demand 3 whole (L11)
 pub record Demand3 (r : Rules) (c : Case) (w : List ℤ) : Type 0 where
-  pub any-lines : (ts : List (List ℕ)) → LinesTrusted r c w ts (afterLines r (begun r c w) ts)
+  pub any-lines : ReplayTrusted r c w
   -- "In demand 3 a run is lent what number 4 asks" (document 01)
   pub any-run : (limit : ℕ) (out : List ℕ) → roundBytes r c ≤ length out
       → RunTrusted r c w limit out (run r engineNext c limit w) (runCall r engineNext c limit w out) (linesIn (r .amountWidth) (runCall r engineNext c limit w out .log))

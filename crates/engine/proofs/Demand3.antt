@@ -1,6 +1,5 @@
 -- Demand 3 holds for every valid case: the replay's half from checker_theory, the run's from engine_theory. Assumes nothing.
 use mathlib.Core.Path.{_≡_, refl, sym, ap, subst, _∙_}
-use mathlib.Core.Bool.{false}
 use mathlib.Core.Option.{Option, none, some}
 use mathlib.Core.List.{List, []}
 use Prim.Native.Nat.{ℕ, _≤_}
@@ -10,33 +9,25 @@ use lib.Signed.{_≤ℤ_}
 use lib.ListN.{length}
 use Rattle.integers.specs.Linear.{flat, zs, _▸_}
 use Rattle.definitions.specs.declared.Refusal.{Refusal}
-use Rattle.definitions.specs.declared.Figure.{Figure}
 use Rattle.definitions.specs.declared.Round.{Round}
-use Rattle.definitions.specs.Refusals.{firstOf}
-use Rattle.definitions.specs.Calls.{figureOf, upperBoundAnswer}
+use Rattle.definitions.specs.Answers.{runSays}
 use Rattle.definitions.specs.declared.Case.{Case}
 use Rattle.definitions.specs.Rules.{Rules, Coherent, standard, standard-coherent}
 use Rattle.definitions.specs.Case.{objective, upperBound}
-use Rattle.definitions.specs.Valid.{workingWeight, handedOver, valid}
+use Rattle.definitions.specs.Valid.{workingWeight, valid}
 use Rattle.definitions.specs.Lines.{linesIn, hasPart}
 use Rattle.definitions.specs.Replay.{State, fresh, after}
 use Rattle.definitions.specs.Engine.{Made, settled, refused, made, makeNext, engineNext, roundBytes, RunOf, run}
 use Rattle.definitions.specs.EngineCalls.{RoundCall, RunCall, roundMade, engineRefusal, roundCall, runCall}
 use Rattle.definitions.proofs.LineLaws.{no-part}
-use Rattle.theory.proofs.Validity.{Handed, handed}
-use Rattle.theory.proofs.Replays.{none-iff, keeps-iff, handed-after}
+use Rattle.theory.proofs.Validity.{Handed}
+use Rattle.theory.proofs.Replays.{keeps-iff, handed-after}
 use Rattle.theory.proofs.Rounds.{MoveKinds, standard-kinds}
-use Rattle.checker.specs.Checker.{afterLines}
-use Rattle.checker_theory.specs.Lists.{begun}
-use Rattle.checker_theory.proofs.Accepts.{ReplayFold, replay-fold}
+use Rattle.checker_theory.specs.Lists.{ReplayTrusted}
+use Rattle.checker_theory.proofs.Accepts.{replay-trusted}
 use Rattle.engine_theory.proofs.Runs.{engine-lawful, engine-free, run-settled, run-limit, run-log-taken, run-log-ends, run-never-refused, run-settles, run-tallied, run-ends, ends-within}
 use Rattle.engine_theory.proofs.Calls.{call-taken, call-refused, unmade-keeps, run-made, run-settled-first, run-refused-first, run-no-round, texts-joined, texts-count, taken-iff, same-run, call-lines, call-bound-lines}
-use Rattle.guarantee.specs.Demand3.{LinesTrusted, RunTrusted, RunIterates, Demand3, Guarantee}
-
--- the library's upper bound of a table that every call takes
-bound-answered : {r : Rules} (c : Case) (v : List ℤ) → Handed r (workingWeight r) c v → upperBoundAnswer r c v ≡ Figure.Value (upperBound c v)
-unfolding upperBoundAnswer
-bound-answered {r} c v h = ap (λ (o : Option Refusal). figureOf o (upperBound c v)) (none-iff (firstOf (handedOver r (workingWeight r) c v false false)) .0 (handed r (workingWeight r) c v false false .1 (h, tt, tt)))
+use Rattle.engine.specs.Demand3.{RunTrusted, RunIterates, Demand3, Guarantee}
 
 -- what a round that was made hands back
 abbrev statedBound : Round → ℤ
@@ -72,21 +63,8 @@ engine-iterates {r} coherent c = record {
 }
 
 module _ {r : Rules} (coherent : Coherent r) (kinds : MoveKinds r) (c : Case) (w : List ℤ) (t : T (valid r c w)) where
-  fold : ReplayFold r c w
-  fold = replay-fold coherent c w t
-
-  lines-trusted : (ts : List (List ℕ)) → LinesTrusted r c w ts (afterLines r (begun r c w) ts)
-  lines-trusted ts = record {
-    each-answer = fold .each-answer ts;
-    end-answer = fold .end-answer ts;
-    weights = fold .weights ts;
-    bound = rw (fold .weights ts) (bound-answered c (after r (fresh c w) ts .weights) (handed-after r c w t ts coherent));
-    rounds = fold .rounds ts;
-    accepted = fold .accepted ts;
-    total-least = fold .total-least ts;
-    bound-least = fold .bound-least ts;
-    rounds-most = fold .rounds-most ts;
-  }
+  trusted : ReplayTrusted r c w
+  trusted = replay-trusted coherent c w t
 
   run-trusted : (limit : ℕ) (out : List ℕ) → roundBytes r c ≤ length out
       → RunTrusted r c w limit out (run r engineNext c limit w) (runCall r engineNext c limit w out) (linesIn (r .amountWidth) (runCall r engineNext c limit w out .log))
@@ -112,22 +90,22 @@ module _ {r : Rules} (coherent : Coherent r) (kinds : MoveKinds r) (c : Case) (w
         round-lines = sym (texts-joined r engineNext c limit w);
         round-count = texts-count r engineNext c limit w ∙ sym (same .rounds);
         output = same .out;
-        answer = same .answer;
+        answer = ap runSays (same .answer);
         settled = rw (same .answer, same .table) (run-settled r c (h .shape) limit w);
         limited = rw (same .answer, same .rounds, same .table) (run-limit r c (h .shape) limit w);
         unrefused = rw (same .answer) (run-never-refused coherent kinds lawful w t free limit);
         within = rw (same .rounds) (ends-within r engineNext c (run-ends r engineNext c limit w));
         log-whole = ap (hasPart (r .amountWidth)) (same .log) ∙ no-part (r .amountWidth) (run r engineNext c limit w .log) (run-tallied coherent lawful limit w h .kept .whole);
-        log-accepted = fold .accepted log .1 (keeps-iff r c w log .1 (rw lines (run-log-ends coherent kinds lawful w t limit)));
-        log-rounds = fold .rounds log ∙ rounds;
-        log-bound = fold .bound log ∙ ap (upperBound c) weights ∙ sym bound;
-        log-weights = fold .weights log ∙ weights;
-        bound-least = λ p a. rw (bound, ← weights, ← fold .weights log) (fold .bound-least log p a);
+        log-accepted = trusted log .accepted .1 (keeps-iff r c w log .1 (rw lines (run-log-ends coherent kinds lawful w t limit)));
+        log-rounds = trusted log .rounds ∙ rounds;
+        log-bound = ap (upperBound c) (trusted log .weights ∙ weights) ∙ sym bound;
+        log-weights = trusted log .weights ∙ weights;
+        bound-least = λ p a. rw (bound, ← weights, ← trusted log .weights) (trusted log .bound-least p a);
         settles = λ p a l. same .answer ∙ run-settles coherent kinds lawful w t free limit p a (l ▸ simp flat (omega zs));
       }
 
   pub demand3 : Demand3 r c w
-  demand3 = record { any-lines = lines-trusted; any-run = run-trusted; any-table = engine-iterates coherent c }
+  demand3 = record { any-lines = trusted; any-run = run-trusted; any-table = engine-iterates coherent c }
 
 -- with document 01's numbers, for every valid case
 pub standard-demand3 : Guarantee

@@ -1,2 +1,0 @@
--- Its proof.
-pub mod Demand3
