@@ -62,6 +62,7 @@ pub fn better_of(case: Case, table: &[i64], first: &[u8], second: &[u8]) -> Choi
 // That one itself; an empty part where it is refused.
 pub fn better<'a>(case: Case, table: &[i64], first: &'a [u8], second: &'a [u8]) -> &'a [u8]
     ensures { λ r. ⌜ now r ≡ betterPart standard case (now (table .entry)) (now (first .entry)) (now (second .entry)) ⌝ }
+    ensures { λ r. ⌜ (betterOf standard case (now (table .entry)) (now (first .entry)) (now (second .entry)) ≡ Choice.First → r ≡ first .entry) × (betterOf standard case (now (table .entry)) (now (first .entry)) (now (second .entry)) ≡ Choice.Second → r ≡ second .entry) ⌝ }
 {
     let choice = better_of(case, table, first, second);
     match choice {

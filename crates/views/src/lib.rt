@@ -5,7 +5,7 @@ use definitions::LineRead;
 use definitions::Refusal;
 use definitions::Span;
 ghost use mathlib.Core.Path.{_≡_};
-ghost use Prim.Native.Nat.{_+_, _*_, _≤_};
+ghost use Prim.Native.Nat.{ℕ, _+_, _*_, _≤_};
 ghost use lib.ListN.{length, take, drop};
 ghost use Rattle.integers.specs.Words.{if_then_else_};
 ghost use Rattle.definitions.specs.Rules.{standard};
@@ -119,6 +119,7 @@ pub fn round_span(log: &[u8], round: u64) -> Span
 // That part of the log itself; empty where it is refused.
 pub fn round_view(log: &[u8], round: u64) -> &[u8]
     ensures { λ r. ⌜ now r ≡ roundView standard (now (log .entry)) round ⌝ }
+    ensures { λ r. ⌜ ((from to : ℕ) → roundSpan standard (now (log .entry)) round ≡ Span.Part from to → r .ptr ≡ (log .entry .ptr .0, from + log .entry .ptr .1)) ⌝ }
 {
     let span = round_span(log, round);
     match span {
