@@ -5,6 +5,7 @@ pub mod Steps
 pub mod Seen
 pub mod Results
 pub mod Marked
+pub mod Crossing
 pub mod Scopes
 pub mod Prepared
 pub mod Fixed

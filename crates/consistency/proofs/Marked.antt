@@ -1,75 +1,84 @@
 -- Marks that are found value by value, and bytes that are written place by place. Assumes nothing.
 use mathlib.Core.Path.{_≡_, refl, sym, ap, subst, _∙_}
-use mathlib.Core.Bool.{Bool, true, false, not, _&&_, and-false}
+use mathlib.Core.Bool.{Bool, true, false, not, _&&_, _||_, and-false}
 use mathlib.Core.Logic.{_⊎_, inl, inr}
 use mathlib.Core.List.{List, map}
-use Prim.Native.Nat.{ℕ, _+_, _*_, _-_, _≤_, _<_}
+use Prim.Native.Nat.{ℕ, zero, suc, _+_, _*_, _-_, _≤_, _<_}
 use lib.IntN.{ℤ}
 use native.Mathlib.Omega.{arith}
-use borrow.Author.Tests.{lt-ltb, le-ltb}
+use borrow.Author.Tests.{lt-ltb, le-ltb, ne-eqb}
 use lib.Dec.{T, ltb, eqb, eqb→eq, ltb→lt, lt→ltb, nltb→le}
 use lib.ListN.{length, getD, set, take, drop, length-append, length-drop, length-set, List·getD-append}
 use lib.Seq.{ext-getD, getD-append-add, getD-drop, take-at}
-use Rattle.integers.specs.Words.{if_then_else_, below, joined, _⇒_}
+use Rattle.integers.specs.Words.{if_then_else_, below, joined}
 use Rattle.integers.specs.Tests.{either, is-true, is-false, not-eqb-iff, same-test}
 use Rattle.integers.specs.Tables.{length-tab, getD-tab, length-rows, getD-rows}
 use Rattle.definitions.specs.declared.Case.{Case}
 use Rattle.definitions.specs.Lines.{overwritten}
-use Rattle.marks.specs.Marks.{mark, byteOf, without, fullOf}
-use Rattle.marks.proofs.Laws.{mark-byteOf, byteOf-cong}
+use Rattle.marks.specs.Marks.{mark, byteOf, added, pushed}
+use Rattle.marks.proofs.Laws.{mark-byteOf, mark-zero, byteOf-cong, byte-is}
 use Rattle.consistency.specs.Active.{activeSet, activeRow, activeSets, activeRows, Written}
 use Rattle.consistency.proofs.Steps.{after-set}
 
--- ---- the values below d at which f passes, where only those below j were asked
+-- ---- the values from j on, below d, at which f passes, each less by j
 unfoldable pub asked : (ℕ → Bool) → ℕ → ℕ → ℕ
-asked f d j = byteOf (λ v. ltb v d && (ltb v j ⇒ f v))
+asked f d j = byteOf (λ v. ltb (j + v) d && f (j + v))
 
 module _ (f : ℕ → Bool) (d : ℕ) where
-  pub asked-none : fullOf d ≡ asked f d 0
+  pub asked-none : 0 ≡ asked f d d
   unfolding asked
-  asked-none = byteOf-cong (λ v h. simp (le-ltb v 0 (omega arith), and-all (ltb v d)))
-    where
-      and-all : (a : Bool) → (a && true) ≡ a
-      and-all true = refl
-      and-all false = refl
+  asked-none = byte-is 0 _ (omega arith) (λ v h. mark-zero v ∙ sym (ap (λ (b : Bool). b && f (d + v)) (le-ltb (d + v) d (omega arith))))
 
-  pub asked-all : (j : ℕ) → d ≤ j → asked f d j ≡ byteOf (λ v. ltb v d && f v)
+  pub asked-all : asked f d 0 ≡ byteOf (λ v. ltb v d && f v)
   unfolding asked
-  asked-all j h = byteOf-cong (λ v g. by v (either (ltb v d)))
+  asked-all = byteOf-cong (λ v h. let e : 0 + v ≡ v = omega arith in ap (λ (x : ℕ). ltb x d && f x) e)
+
+  pub asked-next : (i j : ℕ) → i ≡ j + 1 → j < d → (s r : ℕ) (low : Bool) → s ≡ asked f d i → low ≡ f j → r ≡ pushed s low → r ≡ asked f d j
+  unfolding asked
+  asked-next i j ei h s r low es el er = er ∙ byteOf-cong at
     where
-      by : (v : ℕ) → T (ltb v d) ⊎ T (not (ltb v d)) → (ltb v d && (ltb v j ⇒ f v)) ≡ (ltb v d && f v)
-      by v (inl t) = let l = ltb→lt v d t in simp (lt-ltb v j (omega arith))
-      by v (inr t) = simp (is-false (ltb v d) t)
+      at : (v : ℕ) → v < 8 → (if eqb v 0 then low else mark s (v - 1)) ≡ (ltb (j + v) d && f (j + v))
+      at zero g = let e : j + 0 ≡ j = omega arith in el ∙ sym (ap (λ (x : ℕ). ltb x d && f x) e ∙ ap (λ (b : Bool). b && f j) (lt-ltb j d h))
+      at (suc u) g =
+          let e : i + u ≡ j + suc u = omega arith in
+          let z : suc u - 1 ≡ u = omega arith in
+          ap (λ (b : Bool). if b then low else mark s (suc u - 1)) (ne-eqb (suc u) 0 (λ e. omega arith)) ∙ ap (mark s) z ∙ ap (λ (x : ℕ). mark x u) es ∙ mark-byteOf (λ v. ltb (i + v) d && f (i + v)) u (omega arith) ∙ ap (λ (x : ℕ). ltb x d && f x) e
 
-  module _ (j : ℕ) where
-    next : (v : ℕ) → (v ≡ j → ⊥) → ltb v (j + 1) ≡ ltb v j
-    next v ne =
-        same-test (ltb v (j + 1)) (ltb v j) (λ t. lt→ltb v j (let h = ltb→lt v (j + 1) t in omega arith))
-        (λ t. lt→ltb v (j + 1) (let h = ltb→lt v j t in omega arith))
+-- ---- one value more is asked
+module _ (f : ℕ → Bool) (k : ℕ) where
+  below-next : (v : ℕ) → (v ≡ k → ⊥) → ltb v (k + 1) ≡ ltb v k
+  below-next v ne =
+      same-test (ltb v (k + 1)) (ltb v k) (λ t. lt→ltb v k (let h = ltb→lt v (k + 1) t in omega arith))
+      (λ t. lt→ltb v (k + 1) (let h = ltb→lt v k t in omega arith))
 
-    kept-at : f j ≡ true → (v : ℕ) → T (eqb v j) ⊎ T (not (eqb v j)) → (ltb v d && (ltb v j ⇒ f v)) ≡ (ltb v d && (ltb v (j + 1) ⇒ f v))
-    kept-at y v (inl t) =
-        let e = eqb→eq v j t in
-        let yes : f v ≡ true = ap f e ∙ y in
-        simp (le-ltb v j (omega arith), lt-ltb v (j + 1) (omega arith), yes)
-    kept-at y v (inr t) = simp (next v (not-eqb-iff v j .0 t))
+  more-at : f k ≡ true → (v : ℕ) → T (eqb v k) ⊎ T (not (eqb v k)) → ((ltb v k && f v) || eqb v k) ≡ (ltb v (k + 1) && f v)
+  more-at y v (inl t) =
+      let e = eqb→eq v k t in
+      let yes : f v ≡ true = ap f e ∙ y in
+      simp (is-true (eqb v k) t, lt-ltb v (k + 1) (omega arith), yes, or-all)
+    where
+      or-all : (a : Bool) → (a || true) ≡ true
+      or-all true = refl
+      or-all false = refl
+  more-at y v (inr t) = simp (below-next v (not-eqb-iff v k .0 t), is-false (eqb v k) t, or-none)
+    where
+      or-none : (a : Bool) → (a || false) ≡ a
+      or-none true = refl
+      or-none false = refl
 
-    struck-at : f j ≡ false → (v : ℕ) → T (eqb v j) ⊎ T (not (eqb v j)) → ((ltb v d && (ltb v j ⇒ f v)) && not (eqb v j)) ≡ (ltb v d && (ltb v (j + 1) ⇒ f v))
-    struck-at n v (inl t) =
-        let e = eqb→eq v j t in
-        let no : f v ≡ false = ap f e ∙ n in
-        simp (is-true (eqb v j) t, lt-ltb v (j + 1) (omega arith), no, and-false)
-    struck-at n v (inr t) = simp (next v (not-eqb-iff v j .0 t), is-false (eqb v j) t, and-all)
-      where
-        and-all : (a : Bool) → (a && true) ≡ a
-        and-all true = refl
-        and-all false = refl
+  same-at : f k ≡ false → (v : ℕ) → T (eqb v k) ⊎ T (not (eqb v k)) → (ltb v k && f v) ≡ (ltb v (k + 1) && f v)
+  same-at n v (inl t) =
+      let e = eqb→eq v k t in
+      let no : f v ≡ false = ap f e ∙ n in
+      simp (no, and-false)
+  same-at n v (inr t) = simp (below-next v (not-eqb-iff v k .0 t))
 
-    pub asked-next : (set r : ℕ) (keep : Bool) → set ≡ asked f d j → keep ≡ f j → r ≡ (if keep then set else without set j) → r ≡ asked f d (j + 1)
-    unfolding asked
-    asked-next set r true e q p = p ∙ e ∙ byteOf-cong (λ v h. kept-at (sym q) v (either (eqb v j)))
-    asked-next set r false e q p =
-        p ∙ byteOf-cong (λ v h. ap (λ (b : Bool). b && not (eqb v j)) (ap (λ (s : ℕ). mark s v) e ∙ mark-byteOf (λ v. ltb v d && (ltb v j ⇒ f v)) v h) ∙ struck-at (sym q) v (either (eqb v j)))
+  pub found-next : (s : ℕ) → s ≡ byteOf (λ v. ltb v k && f v) → (if f k then added s k else s) ≡ byteOf (λ v. ltb v (k + 1) && f v)
+  found-next s e = by (f k) refl
+    where
+      by : (b : Bool) → f k ≡ b → (if b then added s k else s) ≡ byteOf (λ v. ltb v (k + 1) && f v)
+      by true y = byteOf-cong (λ v h. ap (λ (b : Bool). b || eqb v k) (ap (λ (x : ℕ). mark x v) e ∙ mark-byteOf (λ v. ltb v k && f v) v h) ∙ more-at y v (either (eqb v k)))
+      by false n = e ∙ byteOf-cong (λ v h. same-at n v (either (eqb v k)))
 
 -- ---- bytes that are written
 

@@ -18,7 +18,7 @@ use Rattle.definitions.specs.Case.{lentLength, weight, active}
 use Rattle.definitions.specs.Valid.{workingWeight, handedOver}
 use Rattle.definitions.specs.Lines.{overwritten}
 use Rattle.figures.specs.Scopes.{Limited}
-use Rattle.marks.specs.Marks.{byteOf}
+use Rattle.marks.specs.Marks.{mark, byteOf, added}
 
 -- ---- the tuples that pass a test, as marks
 
@@ -80,9 +80,21 @@ pub record Sized (c : Case) (w : List ℤ) : Type 0 where
 abbrev pub hasWeight : Case → List ℤ → ℤ → ℕ → ℕ → ℕ → Bool
 hasWeight c w best x k l = eqZ (weight c w x k l) best
 
--- the values below d whose weight is `best`; the weight of value j stands at from + j · step
-abbrev pub bestValues : List ℤ → ℕ → ℕ → ℕ → ℤ → ℕ
-bestValues w from step d best = byteOf (λ j. ltb j d && eqZ (getD w (from + j * step) (pos 0)) best)
+-- the values below d whose weight is `best`; the weight of value j stands at from + j
+abbrev pub bestValues : List ℤ → ℕ → ℕ → ℤ → ℕ
+bestValues w from d best = byteOf (λ j. ltb j d && eqZ (getD w (from + j) (pos 0)) best)
+
+-- value k is added to byte 8 + l for each value l of a row
+pub record AddedBelow (row k : ℕ) (S S′ : List ℕ) : Type 0 where
+  pub same-length : length S′ ≡ length S
+  pub above : (p : ℕ) → p < 8 → getD S′ p 0 ≡ getD S p 0
+  pub below : (l : ℕ) → l < 8 → getD S′ (8 + l) 0 ≡ (if mark row l then added (getD S (8 + l) 0) k else getD S (8 + l) 0)
+
+-- bytes 0 to k − 1 are the rows of the values below k, and byte 8 + l holds those of them whose rows have l
+pub record Crossed (row : ℕ → ℕ) (k : ℕ) (S : List ℕ) : Type 0 where
+  pub rows : (p : ℕ) → p < k → getD S p 0 ≡ row p
+  pub rest : (p : ℕ) → k ≤ p → p < 8 → getD S p 0 ≡ 0
+  pub columns : (l : ℕ) → l < 8 → getD S (8 + l) 0 ≡ byteOf (λ j. ltb j k && mark (row j) l)
 
 -- bytes `at` to `at` + n − 1 hold f 0 to f (n − 1), and the others what they held
 pub record Written (f : ℕ → ℕ) (at n : ℕ) (S S′ : List ℕ) : Type 0 where

@@ -15,13 +15,13 @@ ghost use Rattle.definitions.specs.Calls.{refutedAnswer};
 ghost use Rattle.definitions.specs.Valid.{someEdge, endOutside as edgeOutside};
 ghost use Rattle.definitions.specs.Lines.{overwritten};
 ghost use Rattle.figures.specs.Scopes.{Limited};
-ghost use Rattle.marks.specs.Marks.{mark, without};
+ghost use Rattle.marks.specs.Marks.{mark};
 ghost use Rattle.consistency.specs.Partners.{lowestPartner, supportedValues};
 ghost use Rattle.consistency.specs.Closure.{networkOfBytes, setsOf, endOutside, isMalformed, closureAnswer, closureSets};
 ghost use Rattle.consistency.specs.Tried.{hasFamily, noneHas, triedAnswer};
 ghost use Rattle.consistency.specs.declared.Tried.{Tried};
 ghost use Rattle.consistency.specs.Sweeps.{WellFormed, Filled, Swept, Settled, changeOf, bothOf, keptOf, Seen};
-ghost use Rattle.consistency.specs.Active.{bestValues, setWhere, rowWhere, hasWeight, Sized, activeSet, activeSets, activeRows, Written, activeAnswer, setsAfter, rowsAfter};
+ghost use Rattle.consistency.specs.Active.{bestValues, setWhere, rowWhere, hasWeight, Sized, AddedBelow, Crossed, activeSet, activeSets, activeRows, Written, activeAnswer, setsAfter, rowsAfter};
 ghost use Rattle.consistency.specs.Best.{allowedBest, partnersBest, bestRows, isRefuted, bestRefuted, activeRefutedAnswer};
 ghost use Rattle.consistency.specs.Refuted.{argumentsOut};
 
@@ -434,26 +434,17 @@ fn same(a: i64, b: i64) -> bool
     false
 }
 
-fn keep_if(set: u8, value: u8, keep: bool) -> u8
-    ensures { λ r. ⌜ r ≡ (if keep then set else without set value) ⌝ }
+// The values below d whose weight is `best`. The weight of value j stands at table[from + j].
+fn best_values(table: &[i64], from: usize, d: usize, best: i64) -> u8
+    requires { ⌜ (d ≤ 8) × (from + d ≤ length (now table)) ⌝ }
+    ensures { λ r. ⌜ r ≡ bestValues (now (table .entry)) from d best ⌝ }
 {
-    if keep {
-        return set;
-    }
-    marks::strike(set, value)
-}
-
-// The values below d whose weight is `best`. The weight of value j stands at table[from + j * step].
-fn best_values(table: &[i64], from: usize, step: usize, d: usize, best: i64) -> u8
-    requires { ⌜ (d ≤ 8) × ((j : ℕ) → j < d → from + j * step < length (now table)) ⌝ }
-    ensures { λ r. ⌜ r ≡ bestValues (now (table .entry)) from step d best ⌝ }
-{
-    let mut set = marks::full(d as u8);
-    let mut j: usize = 0;
-    while j < d {
-        let weight = table[from + j * step];
-        set = keep_if(set, j as u8, same(weight, best));
-        j += 1;
+    let mut set: u8 = 0;
+    let mut j = d;
+    while j > 0 {
+        j -= 1;
+        let weight = table[from + j];
+        set = marks::push(set, same(weight, best));
     }
     set
 }
@@ -465,7 +456,7 @@ fn set_with(case: Case, table: &[i64], j: usize, best: i64) -> u8
     ensures { λ r. ⌜ r ≡ setWhere case (hasWeight case (now (table .entry)) best) j ⌝ }
 {
     let d = case.d;
-    best_values(table, j * d, 1, d, best)
+    best_values(table, j * d, d, best)
 }
 
 fn active_values(case: Case, table: &[i64], j: usize) -> u8
@@ -491,22 +482,45 @@ fn edge_greatest(case: Case, table: &[i64], e: usize) -> i64
     figures::greatest(&table[first..end])
 }
 
-// Byte p of the sixteen of edge e: the partners whose weight is `best`.
-fn partners_with(case: Case, table: &[i64], e: usize, best: i64, p: usize) -> u8
-    requires { ⌜ Sized case (now table) ⌝ }
-    requires { ⌜ (e < case .m) × (p < 16) ⌝ }
-    ensures { λ r. ⌜ r ≡ rowWhere case (hasWeight case (now (table .entry)) best) e p ⌝ }
+// Adds value k to byte 8 + l for each value l of `row`.
+fn add_below(bytes: &mut [u8; 16], row: u8, k: u8)
+    requires { ⌜ length (now bytes) ≡ 16 ⌝ }
+    ensures { λ _. ⌜ AddedBelow row k (now (bytes .entry)) (now (bytes .exit)) ⌝ }
 {
-    let d = case.d;
-    let first = case.n * d + e * (d * d);
-    let k = p % 8;
-    if d <= k {
-        return 0;
+    let mut left = row;
+    while left != 0 {
+        let l = marks::lowest(left);
+        let at = 8 + l as usize;
+        bytes[at] = marks::add(bytes[at], k);
+        left = marks::strike(left, l);
     }
-    if p < 8 {
-        return best_values(table, first + k * d, 1, d, best);
+}
+
+// The sixteen bytes of the d · d weights from table[first] on: the partners whose weight is `best`.
+fn edge_bytes(table: &[i64], first: usize, d: usize, best: i64) -> [u8; 16]
+    requires { ⌜ (d ≤ 8) × (first + d * d ≤ length (now table)) ⌝ }
+    ensures { λ r. ⌜ Crossed (λ k. bestValues (now (table .entry)) (first + k * d) d best) d r ⌝ }
+{
+    let mut bytes = [0u8; 16];
+    let mut k: usize = 0;
+    while k < d {
+        let row = best_values(table, first + k * d, d, best);
+        bytes[k] = row;
+        add_below(&mut bytes, row, k as u8);
+        k += 1;
     }
-    best_values(table, first + k, d, d, best)
+    bytes
+}
+
+fn put_bytes(bytes: &[u8; 16], rows: &mut [u8], at: usize)
+    requires { ⌜ at + 16 ≤ length (now rows) ⌝ }
+    ensures { λ _. ⌜ Written (λ p. getD (now (bytes .entry)) p 0) at 16 (now (rows .entry)) (now (rows .exit)) ⌝ }
+{
+    let mut p: usize = 0;
+    while p < 16 {
+        rows[at + p] = bytes[p];
+        p += 1;
+    }
 }
 
 fn write_sets(case: Case, table: &[i64], sets: &mut [u8])
@@ -527,11 +541,10 @@ fn write_edge(case: Case, table: &[i64], e: usize, best: i64, rows: &mut [u8])
     requires { ⌜ (e < case .m) × (16 * e + 16 ≤ length (now rows)) ⌝ }
     ensures { λ r. ⌜ Written (rowWhere case (hasWeight case (now (table .entry)) best) e) (16 * e) 16 (now (rows .entry)) (now (rows .exit)) ⌝ }
 {
-    let mut p: usize = 0;
-    while p < 16 {
-        rows[16 * e + p] = partners_with(case, table, e, best, p);
-        p += 1;
-    }
+    let d = case.d;
+    let first = case.n * d + e * (d * d);
+    let bytes = edge_bytes(table, first, d, best);
+    put_bytes(&bytes, rows, 16 * e);
 }
 
 fn write_rows(case: Case, table: &[i64], rows: &mut [u8])

@@ -1,20 +1,20 @@
 -- Laws of marks. Those of a single byte are tests that antt computes over all of them. Assumes nothing.
 use mathlib.Core.Path.{_≡_, refl, sym, ap, ap₂, subst, _∙_}
-use mathlib.Core.Bool.{Bool, true, false, not, _&&_}
+use mathlib.Core.Bool.{Bool, true, false, not, _&&_, _||_}
 use mathlib.Core.Logic.{⊎-elim}
 use Prim.Native.Nat.{ℕ, zero, suc, _+_, _-_, _*_, _/_, _%_, _^_, _<_, _≤_}
 use native.Mathlib.Nat.{div-eq-of-lt, div-div-eq-div-mul, div-one, pow-succ', lt-of-lt-of-le}
 use native.Mathlib.Omega.{arith}
 use lib.Dec.{T, T-not, ltb, eqb, eqb→eq, ltb→lt, lt→ltb, nltb→le}
 use borrow.Author.Tests.{ne-eqb}
-use lib.Bits.{bitAnd, and-shr, and-mod, and-lt}
+use lib.Bits.{bitAnd, bitOr, and-shr, and-mod, and-lt}
 use lib.Count.{ones, onesIn, trailingZeros}
 use lib.ListN.{length}
 use lib.Pow.{pow-mono, pow-pos}
 use Rattle.integers.specs.Words.{if_then_else_, below, all, _⇒_}
 use Rattle.integers.specs.Tests.{either, is-true, eqb-iff, and-left, and-right, imp-elim, if-cases}
 use Rattle.integers.specs.Lists.{all-at}
-use Rattle.marks.specs.Marks.{mark, bitsOf, byteOf, members, lowestOf, isSingle, without, onlyOf, fullOf, inBoth}
+use Rattle.marks.specs.Marks.{mark, bitsOf, byteOf, members, lowestOf, isSingle, without, added, pushed, onlyOf, fullOf, inBoth}
 
 -- ---- the lowest mark, and the others
 mark-first : (s : ℕ) → mark s 0 ≡ eqb (s % 2) 1
@@ -181,6 +181,40 @@ pub strike-less : (s v : ℕ) → s < 256 → T (mark s v) → without s v < s
 unfolding byteOf fewer-test
 strike-less s v h t =
     ltb→lt _ s (imp-elim (mark s v) _ (all-at (fewer-test s) 8 (all-at (λ s. all (fewer-test s) (below 8)) 256 fewer-all s h) v (mark-small s v h t)) t)
+
+-- ---- a value added, and all one higher
+added-test : ℕ → ℕ → Bool
+added-test s v = eqb (bitOr s ((1 * 2 ^ v) % 256)) (bitsOf 8 (λ j. mark s j || eqb j v))
+
+added-all : T (all (λ s. all (added-test s) (below 8)) (below 256))
+unfolding mark bitsOf added-test
+added-all = tt
+
+pub add-is : (s v : ℕ) → s < 256 → v < 8 → bitOr s ((1 * 2 ^ v) % 256) ≡ added s v
+unfolding byteOf added-test
+add-is s v h g = eqb→eq _ _ (all-at (added-test s) 8 (all-at (λ s. all (added-test s) (below 8)) 256 added-all s h) v g)
+
+pub add-none : (s v : ℕ) → s < 256 → 8 ≤ v → s ≡ added s v
+add-none s v h g = byte-is s _ h (λ k l. sym (or-false (mark s k) (eqb k v) (ne-eqb k v (λ e. omega arith))))
+  where
+    or-false : (b c : Bool) → c ≡ false → (b || c) ≡ b
+    or-false true c e = refl
+    or-false false c e = e
+
+pushed-test : Bool → ℕ → ℕ → Bool
+pushed-test low s r = eqb r (bitsOf 8 (λ j. if eqb j 0 then low else mark s (j - 1)))
+
+pushed-all : T (all (λ s. pushed-test true s (bitOr ((s * 2 ^ 1) % 256) 1)) (below 256)) × T (all (λ s. pushed-test false s ((s * 2 ^ 1) % 256)) (below 256))
+unfolding mark bitsOf pushed-test
+pushed-all = (tt, tt)
+
+pub push-low : (s : ℕ) → s < 256 → bitOr ((s * 2 ^ 1) % 256) 1 ≡ pushed s true
+unfolding byteOf pushed-test
+push-low s h = eqb→eq _ _ (all-at (λ s. pushed-test true s (bitOr ((s * 2 ^ 1) % 256) 1)) 256 (pushed-all .0) s h)
+
+pub push-only : (s : ℕ) → s < 256 → (s * 2 ^ 1) % 256 ≡ pushed s false
+unfolding byteOf pushed-test
+push-only s h = eqb→eq _ _ (all-at (λ s. pushed-test false s ((s * 2 ^ 1) % 256)) 256 (pushed-all .1) s h)
 
 -- ---- one value, the values below d, the lowest, a count of one
 only-all : T (all (λ v. eqb ((1 * 2 ^ v) % 256) (bitsOf 8 (λ j. eqb j v))) (below 8))

@@ -1,8 +1,8 @@
 -- Sets of at most eight values, as marks in a byte. Assumes nothing.
-use mathlib.Core.Bool.{Bool, not, _&&_}
+use mathlib.Core.Bool.{Bool, not, _&&_, _||_}
 use mathlib.Core.Option.{none, some}
 use mathlib.Core.List.{List}
-use Prim.Native.Nat.{ℕ, zero, suc, _+_, _*_, _/_, _%_, _^_}
+use Prim.Native.Nat.{ℕ, zero, suc, _+_, _*_, _-_, _/_, _%_, _^_}
 use lib.Dec.{ltb, eqb}
 use lib.ListN.{length}
 use Rattle.integers.specs.Words.{if_then_else_, below, those, first}
@@ -34,9 +34,15 @@ lowestOf s = elim (first (members s)) [
 unfoldable pub isSingle : ℕ → Bool
 isSingle s = eqb (length (members s)) 1
 
--- a set without a value; a value alone; the values below d; the values of both sets
+-- a set without a value, and with one; every value one higher, and 0 or not; a value alone; the values below d; the values of both sets
 abbrev pub without : ℕ → ℕ → ℕ
 without s v = byteOf (λ j. mark s j && not (eqb j v))
+
+abbrev pub added : ℕ → ℕ → ℕ
+added s v = byteOf (λ j. mark s j || eqb j v)
+
+abbrev pub pushed : ℕ → Bool → ℕ
+pushed s low = byteOf (λ j. if eqb j 0 then low else mark s (j - 1))
 
 abbrev pub onlyOf : ℕ → ℕ
 onlyOf v = byteOf (λ j. eqb j v)

@@ -1,6 +1,6 @@
 // Sets of at most eight values, as marks in a byte: value k is in the set where bit k is set.
 ghost use mathlib.Core.Path.{_≡_};
-ghost use Rattle.marks.specs.Marks.{mark, lowestOf, isSingle, without, onlyOf, fullOf, inBoth};
+ghost use Rattle.marks.specs.Marks.{mark, lowestOf, isSingle, without, added, pushed, onlyOf, fullOf, inBoth};
 
 pub fn has(set: u8, value: u8) -> bool
     ensures { λ r. ⌜ r ≡ mark set value ⌝ }
@@ -32,6 +32,26 @@ pub fn strike(set: u8, value: u8) -> u8
         return set;
     }
     set & !(1u8 << value)
+}
+
+// The set with a value.
+pub fn add(set: u8, value: u8) -> u8
+    ensures { λ r. ⌜ r ≡ added set value ⌝ }
+{
+    if value >= 8 {
+        return set;
+    }
+    set | (1u8 << value)
+}
+
+// Every value one higher, and value 0 if `low`.
+pub fn push(set: u8, low: bool) -> u8
+    ensures { λ r. ⌜ r ≡ pushed set low ⌝ }
+{
+    if low {
+        return (set << 1) | 1;
+    }
+    set << 1
 }
 
 // The set of one value; the empty set for a value from 8 on.

@@ -1,6 +1,6 @@
 -- `consistency::best_values` meets its contract. Assumes nothing.
 use mathlib.Core.Path.{_≡_, ap, _∙_}
-use Prim.Native.Nat.{_+_, _*_, _-_, _≤_, _<_}
+use Prim.Native.Nat.{_+_, _-_, _≤_, _<_}
 use native.Mathlib.Omega.{arith}
 use denote.Ref.{now}
 use lib.IntN.{ℤ, pos}
@@ -15,67 +15,51 @@ use Rattle.consistency.proofs.best_values.Statement.{statement}
 use Rattle.consistency.proofs.best_values.Tie as tie
 
 abbrev Inv-loop : tie.InvT-loop
-Inv-loop table from step d best set₀ j₀ set j = (j ≤ d) × (set ≡ asked (λ v. eqZ (getD table (from + v * step) (pos 0)) (toZ w64 best)) d j)
+Inv-loop table from d best set₀ j₀ set j = (j ≤ d) × (set ≡ asked (λ v. eqZ (getD table (from + v) (pos 0)) (toZ w64 best)) d j)
 
 abbrev μ-loop : tie.MeasureT-loop
-μ-loop table from step d best set₀ j₀ set j = d - j
-
--- the place that is read
-inside : (c : tie.In-loop Inv-loop μ-loop)
-    → c .before .before .before .args .from + c .before .loop .j * c .before .before .before .args .step < length (now (c .before .before .before .args .table))
-inside c = c .before .before .before .pre .1 (c .before .loop .j) (c .loop-test .taken)
-
-cast-full : tie.Need-cast-full Inv-loop μ-loop
-cast-full c = omega arith
-
-full-requires : tie.Need-full-requires Inv-loop μ-loop
-full-requires c κs = tt
+μ-loop table from d best set₀ j₀ set j = j
 
 loop-holds : tie.Need-loop-holds Inv-loop μ-loop
-loop-holds c = (omega arith, c .full .ensures ∙ asked-none _ _)
+loop-holds c = (omega arith, asked-none _ _)
 
-mul-weight : tie.Need-mul-weight Inv-loop μ-loop
-mul-weight c = omega (arith, inside c)
+sub-j : tie.Need-sub-j Inv-loop μ-loop
+sub-j c = omega (arith, c .loop-test .taken)
 
 add-weight : tie.Need-add-weight Inv-loop μ-loop
-add-weight c = omega (arith, inside c)
+add-weight c = omega (arith, c .loop-test .taken, c .before .loop .inv .0, c .before .before .pre, c .before .before .good)
 
-mul-weight-2 : tie.Need-mul-weight-2 Inv-loop μ-loop
-mul-weight-2 c = omega (arith, inside c, c .before .before .before .good)
+mul-weight : tie.Need-mul-weight Inv-loop μ-loop
+mul-weight c = omega (arith, c .loop-test .taken, c .before .loop .inv .0, c .before .before .pre, c .before .before .good)
 
 shared-slice-copy-out-weight : tie.Need-shared-slice-copy-out-weight Inv-loop μ-loop
-shared-slice-copy-out-weight c = inside c
-
-cast-keep-if : tie.Need-cast-keep-if Inv-loop μ-loop
-cast-keep-if c = omega (arith, c .before .loop-test .taken, c .before .before .before .before .pre .0)
+shared-slice-copy-out-weight c = omega (arith, c .loop-test .taken, c .before .loop .inv .0, c .before .before .pre)
 
 same-requires : tie.Need-same-requires Inv-loop μ-loop
 same-requires c κs = tt
 
-keep-if-requires : tie.Need-keep-if-requires Inv-loop μ-loop
-keep-if-requires c κs = tt
-
-add-j : tie.Need-add-j Inv-loop μ-loop
-add-j c = omega (arith, c .before .before .before .loop-test .taken, c .before .before .before .before .before .before .pre .0)
+push-requires : tie.Need-push-requires Inv-loop μ-loop
+push-requires c κs = tt
 
 loop-less : tie.Need-loop-less Inv-loop μ-loop
 loop-less c = omega (arith, c .before .before .before .loop-test .taken)
 
 loop-again : tie.Need-loop-again Inv-loop μ-loop
 loop-again c =
-    let a = c .before .before .before .before .before .before .args in
+    let a = c .before .before .before .before .before .args in
     let l = c .before .before .before .before .loop in
-    let read = read-back w64 (getD (now (a .table)) (a .from + l .j * a .step) (pos 0)) (c .before .before .weight .given) in (
-      omega (arith, c .before .before .before .loop-test .taken),
-      asked-next _ _ _ _ _ _ (l .inv .1) (c .before .same .ensures ∙ ap (λ (z : ℤ). eqZ z (toZ w64 (ofZ w64 (a .best)))) read) (c .keep-if .ensures),
+    let read = read-back w64 (getD (now (a .table)) (a .from + (l .j - 1)) (pos 0)) (c .before .before .weight .given) in (
+      omega (arith, l .inv .0),
+      asked-next _ (a .d) (l .j) (l .j - 1) (omega (arith, c .before .before .before .loop-test .taken)) (omega (arith, c .before .before .before .loop-test .taken, l .inv .0)) _ _ _ (l .inv .1)
+          (c .before .same .ensures ∙ ap (λ (z : ℤ). eqZ z (toZ w64 (ofZ w64 (a .best)))) read) (c .push .ensures),
     )
 
 returns : tie.Need-returns Inv-loop μ-loop
 returns c =
-    let s = c .before .before .before in
+    let s = c .before .before in
     let a = s .args in
-    c .before .loop .inv .1 ∙ asked-all _ (a .d) _ (omega (arith, c .loop-test .left))
-    ∙ ap (bestValues (now (a .table)) (a .from) (a .step) (a .d)) (read-back w64 (a .best) (s .fits .best .sfits))
+    let z : c .before .loop .j ≡ 0 = omega (arith, c .loop-test .left) in
+    c .before .loop .inv .1 ∙ ap (asked _ (a .d)) z ∙ asked-all _ (a .d) ∙ ap (bestValues (now (a .table)) (a .from) (a .d)) (read-back w64 (a .best) (s .fits .best .sfits))
 
 pub best-values-spec : {M : Type 1} → statement M
 best-values-spec =
@@ -83,17 +67,13 @@ best-values-spec =
     (tie.spec
     Inv-loop
     μ-loop
-    cast-full
-    full-requires
     loop-holds
-    mul-weight
+    sub-j
     add-weight
-    mul-weight-2
+    mul-weight
     shared-slice-copy-out-weight
-    cast-keep-if
     same-requires
-    keep-if-requires
-    add-j
+    push-requires
     loop-less
     loop-again
     returns)

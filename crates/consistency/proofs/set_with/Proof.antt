@@ -5,7 +5,7 @@ use denote.Ref.{now}
 use lib.IntN.{ℤ}
 use mir.Syntax.{w64}
 use Rattle.integers.specs.Linear.{read-back}
-use Rattle.consistency.proofs.Scopes.{few, variable-room, variable-in, variable-with}
+use Rattle.consistency.proofs.Scopes.{few, variable-room, variable-with}
 use Rattle.consistency.specs.Active.{setWhere, hasWeight}
 use Rattle.consistency.proofs.set_with.Statement.{statement}
 use Rattle.consistency.proofs.set_with.Tie as tie
@@ -14,7 +14,7 @@ mul-best-values : tie.Need-mul-best-values
 mul-best-values c = omega (arith, few _ _ (c .pre .0), variable-room _ _ (c .pre .0) _ (c .pre .1))
 
 best-values-requires : tie.Need-best-values-requires
-best-values-requires c κs = (few _ _ (c .pre .0) .one, λ v g. variable-in _ _ (c .pre .0) _ (c .pre .1) v g)
+best-values-requires c κs = (few _ _ (c .pre .0) .one, variable-room _ _ (c .pre .0) _ (c .pre .1))
 
 returns : tie.Need-returns
 returns c =

@@ -1,78 +1,60 @@
 -- `consistency::write_edge` meets its contract. Assumes nothing.
-use mathlib.Core.Path.{_≡_, ap, subst}
-use Prim.Native.Nat.{ℕ, _+_, _*_, _-_, _≤_}
+use mathlib.Core.Path.{_≡_, ap, _∙_}
 use native.Mathlib.Omega.{arith}
 use denote.Ref.{now}
 use lib.IntN.{ℤ}
-use lib.ListN.{length}
 use mir.Syntax.{w64}
-use mir.Val.{toZ, ofZ}
 use Rattle.integers.specs.Linear.{read-back}
-use Rattle.consistency.specs.Active.{rowWhere, hasWeight, Written}
-use Rattle.consistency.proofs.Marked.{written-none, written-more, written-same}
+use Rattle.consistency.specs.Active.{rowWhere, hasWeight}
+use Rattle.consistency.proofs.Marked.{written-same}
+use Rattle.consistency.proofs.Scopes.{few, edge-room, crossed-row}
+use borrow.Author.Needs.{needs}
 use Rattle.consistency.proofs.write_edge.Statement.{statement}
 use Rattle.consistency.proofs.write_edge.Tie as tie
 
-abbrev Inv-loop : tie.InvT-loop
-Inv-loop case table e best rows₀ p₀ rows p = (p ≤ 16) × Written (rowWhere case (hasWeight case table (toZ w64 best)) e) (16 * e) p rows₀ rows
+mul-first : tie.Need-mul-first
+mul-first c = search needs
 
-abbrev μ-loop : tie.MeasureT-loop
-μ-loop case table e best rows₀ p₀ rows p = 16 - p
+mul-first-2 : tie.Need-mul-first-2
+mul-first-2 c = let s = c .before .before in omega (arith, few _ _ (s .pre .0), edge-room _ _ (s .pre .0) _ (s .pre .1 .0))
 
-room : (c : tie.After-partners-with Inv-loop μ-loop) → (16 * c .before .before .before .before .args .e + 16 ≤ length (c .before .before .loop .rows)) × (c .before .before .before .before .args .e ≤ 96)
-room c =
-    let s = c .before .before .before .before in
-    omega (arith, s .pre .1, s .pre .0 .limits .edges, c .before .before .loop .inv .1 .same-length)
+mul-first-3 : tie.Need-mul-first-3
+mul-first-3 c = let s = c .before .before in omega (arith, few _ _ (s .pre .0), edge-room _ _ (s .pre .0) _ (s .pre .1 .0))
 
-loop-holds : tie.Need-loop-holds Inv-loop μ-loop
-loop-holds c = (omega arith, written-none _ _ _)
+add-first : tie.Need-add-first
+add-first c = let s = c .before .before in omega (arith, few _ _ (s .pre .0), edge-room _ _ (s .pre .0) _ (s .pre .1 .0))
 
-partners-with-requires : tie.Need-partners-with-requires Inv-loop μ-loop
-partners-with-requires c κs = let s = c .before .before .before in (s .pre .0, (s .pre .1 .0, c .loop-test .taken))
+edge-bytes-requires : tie.Need-edge-bytes-requires
+edge-bytes-requires c κs = let s = c .before .before in (few _ _ (s .pre .0) .one, edge-room _ _ (s .pre .0) _ (s .pre .1 .0))
 
-mul-rows : tie.Need-mul-rows Inv-loop μ-loop
-mul-rows c = omega (arith, room c)
+mul-put-bytes : tie.Need-mul-put-bytes
+mul-put-bytes c = let s = c .before .before .before .before .before in omega (arith, s .pre .1 .0, s .pre .0 .limits .edges)
 
-add-rows : tie.Need-add-rows Inv-loop μ-loop
-add-rows c = omega (arith, room c)
+put-bytes-requires : tie.Need-put-bytes-requires
+put-bytes-requires c κs = c .before .before .before .before .before .pre .1 .1
 
-slice-write-rows : tie.Need-slice-write-rows Inv-loop μ-loop
-slice-write-rows c = omega (arith, room c, c .before .loop-test .taken)
+same-length : tie.Need-same-length
+same-length c = search needs
 
-add-p : tie.Need-add-p Inv-loop μ-loop
-add-p c = omega (arith, c .before .loop-test .taken)
-
-loop-less : tie.Need-loop-less Inv-loop μ-loop
-loop-less c = omega (arith, c .before .loop-test .taken)
-
-loop-again : tie.Need-loop-again Inv-loop μ-loop
-loop-again c = (omega (arith, c .before .loop-test .taken), written-more _ _ _ _ _ _ (c .before .before .loop .inv .1) (slice-write-rows c) (c .partners-with .ensures))
-
-same-length : tie.Need-same-length Inv-loop μ-loop
-same-length c = c .before .loop .inv .1 .same-length
-
-returns : tie.Need-returns Inv-loop μ-loop
+returns : tie.Need-returns
 returns c =
-    let s = c .before .before .before in
-    let l = c .before .loop in
-    let all : l .p ≡ 16 = omega (arith, c .loop-test .left, l .inv .0) in
+    let s = c .before .before .before .before .before .before .before .before in
+    let a = s .args in
     written-same _ _ _ _ _ _
-    (λ p h. ap (λ (b : ℤ). rowWhere (s .args .case) (hasWeight (s .args .case) (now (s .args .table)) b) (s .args .e) p) (read-back w64 (s .args .best) (s .fits .best .sfits)))
-    (subst (λ (n : ℕ). Written (rowWhere (s .args .case) (hasWeight (s .args .case) (now (s .args .table)) (toZ w64 (ofZ w64 (s .args .best)))) (s .args .e)) (16 * s .args .e) n (now (s .args .rows)) (l .rows)) all (l .inv .1))
+    (λ p h. crossed-row _ _ (s .pre .0) _ (s .pre .1 .0) _ _ (c .before .before .before .before .before .edge-bytes .ensures) p h
+    ∙ ap (λ (b : ℤ). rowWhere (a .case) (hasWeight (a .case) (now (a .table)) b) (a .e) p) (read-back w64 (a .best) (s .fits .best .sfits)))
+    (c .before .before .put-bytes .ensures)
 
 pub write-edge-spec : {M : Type 1} → statement M
 write-edge-spec =
     tie.close
     (tie.spec
-    Inv-loop
-    μ-loop
-    loop-holds
-    partners-with-requires
-    mul-rows
-    add-rows
-    slice-write-rows
-    add-p
-    loop-less
-    loop-again
+    mul-first
+    mul-first-2
+    mul-first-3
+    add-first
+    edge-bytes-requires
+    mul-put-bytes
+    put-bytes-requires
     same-length
     returns)
