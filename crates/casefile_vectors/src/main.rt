@@ -10,134 +10,59 @@ use definitions::CaseRead;
 use definitions::CaseSize;
 use definitions::FileAnswer;
 use definitions::Line;
-use definitions::LineRead;
-use definitions::Refusal;
 use definitions::Written;
 ghost use Prim.Native.Nat.{_<_};
 
-// Document 01's number.
-fn number_of(refusal: Refusal) -> u64 {
-    match refusal {
-        Refusal::NotInColumns => 1,
-        Refusal::NotDue => 2,
-        Refusal::OutsideLimits => 3,
-        Refusal::WrongLength => 4,
-        Refusal::OutOfRange => 5,
-        Refusal::EndsNotAscending => 6,
-        Refusal::EdgeRepeated => 7,
-        Refusal::WeightOutOfRange => 8,
-        Refusal::RaiseNotAscending => 9,
-        Refusal::NotRefuted => 10,
-        Refusal::LeavesRange => 11,
-        Refusal::OtherBound => 12,
-        Refusal::BoundNotLower => 13,
-        Refusal::CutShort => 14,
-    }
-}
-
 // ---- what is printed
 
-fn print(text: &[u8]) {
-    io::write_all(1, text);
-}
-
-fn print_count(n: u64) {
-    print(b" ");
-    io::print_decimal(1, n);
-}
-
-fn print_first(text: &[u8], n: usize) {
-    if n <= text.len() {
-        print(&text[0..n]);
-    }
-}
-
-fn print_weight(z: i64) {
-    print(b" ");
-    let mut text = [0u8; 20];
-    let written = lines::write_number(&mut text, z);
-    match written {
-        Written::Bytes(n) => print_first(&text, n),
-        Written::Refused(_) => print(b"?"),
-    }
-}
-
-fn print_each(table: &[i64]) {
-    let mut i: usize = 0;
-    while i < table.len() {
-        print_weight(table[i]);
-        i += 1;
-    }
-}
-
 fn print_weights(table: &[i64]) {
-    print(b":");
-    print_each(table);
-    print(b"\n");
-}
-
-fn print_refusal(refusal: Refusal) {
-    print(b" refused");
-    print_count(number_of(refusal));
-}
-
-fn wide(x: u8) -> u64
-    ensures { λ r. ⌜ r < 256 ⌝ }
-{
-    x as u64
-}
-
-// A checksum.
-fn digest(bytes: &[u8]) -> u64 {
-    let mut sum: u64 = 0;
-    let mut i: usize = 0;
-    while i < bytes.len() {
-        sum = (sum * 31 + wide(bytes[i])) % 1_000_000_007;
-        i += 1;
-    }
-    sum
+    drivers::print(b":");
+    drivers::print_numbers(table);
+    drivers::print(b"\n");
 }
 
 // How many bytes, and their checksum.
 fn print_bytes(bytes: &[u8]) {
-    print_count(bytes.len() as u64);
-    print_count(digest(bytes));
-    print(b"\n");
+    drivers::print_count(bytes.len() as u64);
+    drivers::print_count(drivers::digest(0, bytes));
+    drivers::print(b"\n");
 }
 
 // ---- a vector
 
 fn size(bytes: &[u8]) {
-    print(b"  size");
+    drivers::print(b"  size");
     let answer = casefile::case_size(bytes);
     match answer {
         CaseSize::Size { n, d, m, table } => {
-            print_count(n as u64);
-            print_count(d as u64);
-            print_count(m as u64);
-            print_count(table as u64);
+            drivers::print_count(n as u64);
+            drivers::print_count(d as u64);
+            drivers::print_count(m as u64);
+            drivers::print_count(table as u64);
         }
-        CaseSize::Refused(refusal) => print_refusal(refusal),
+        CaseSize::Refused(refusal) => {
+            drivers::print_refusal(refusal);
+        }
     }
-    print(b"\n");
+    drivers::print(b"\n");
 }
 
 fn answer(read: CaseRead) {
     let answer = read.answer;
     match answer {
         FileAnswer::Read { lines } => {
-            print(b" read");
-            print_count(lines as u64);
+            drivers::print(b" read");
+            drivers::print_count(lines as u64);
         }
         FileAnswer::Refused { refusal, line } => {
-            print_refusal(refusal);
-            print_count(line as u64);
+            drivers::print_refusal(refusal);
+            drivers::print_count(line as u64);
         }
     }
 }
 
 fn front(bytes: &[u8], table: &mut [i64]) {
-    print(b"  front");
+    drivers::print(b"  front");
     answer(casefile::read_case(bytes, table));
     print_weights(table);
 }
@@ -147,29 +72,31 @@ fn write(case: Case, table: &[i64], out: &mut [u8]) {
     let written = casefile::write_case(case, table, out);
     match written {
         Written::Bytes(n) => {
-            print(b" written");
-            print_count(n as u64);
+            drivers::print(b" written");
+            drivers::print_count(n as u64);
         }
-        Written::Refused(refusal) => print_refusal(refusal),
+        Written::Refused(refusal) => {
+            drivers::print_refusal(refusal);
+        }
     }
-    print(b" of");
+    drivers::print(b" of");
     print_bytes(out);
 }
 
 // The bytes, and the case of them that was read alone, written to as many.
 fn again(bytes: &[u8], case: Case, table: &[i64]) {
-    print(b"  bytes");
+    drivers::print(b"  bytes");
     print_bytes(bytes);
     let n = bytes.len();
     if n <= 500 {
         let mut out = [46u8; 500];
-        print(b"  again");
+        drivers::print(b"  again");
         write(case, table, &mut out[0..n]);
     }
 }
 
 fn alone(bytes: &[u8], table: &mut [i64]) {
-    print(b"  alone");
+    drivers::print(b"  alone");
     let read = casefile::read_case_alone(bytes, table);
     answer(read);
     print_weights(table);
@@ -191,12 +118,11 @@ fn read(bytes: &[u8], places: usize) {
 // ---- a case that no file gives
 
 fn count(z: i64) -> usize {
-    if z < 0 { 0 } else { z as usize }
+    drivers::count_or(z, 0)
 }
 
 fn byte(z: i64) -> u8 {
-    let n = count(z);
-    if 255 < n { 255 } else { n as u8 }
+    drivers::byte(count(z))
 }
 
 fn two(n: usize, m: usize, line: Line) -> Case {
@@ -219,16 +145,8 @@ fn put(n: usize, m: usize, line: Line, room: usize) {
     let table = [1, 2, 3, 4, line.amount];
     if room <= 500 {
         let mut out = [46u8; 500];
-        print(b" ");
+        drivers::print(b" ");
         write(two(n, m, line), &table, &mut out[0..room]);
-    }
-}
-
-fn put_line(n: usize, m: usize, bytes: &[u8], room: usize) {
-    let ends = lines::read_line(bytes);
-    match ends {
-        LineRead::Refused(_) => print(b"?"),
-        LineRead::Read(line) => put(n, m, line, room),
     }
 }
 
@@ -238,7 +156,8 @@ fn run(control: Line, bytes: &[u8]) {
     if control.kind == 0 {
         read(bytes, count(control.a));
     } else {
-        put_line(count(control.a), count(control.b), bytes, count(control.c));
+        let ends = drivers::line_of(bytes);
+        put(count(control.a), count(control.b), ends, count(control.c));
     }
 }
 
@@ -247,20 +166,15 @@ fn vector(input: &[u8]) -> usize {
     if input.len() < 54 {
         return 0;
     }
-    print(&input[0..27]);
-    let control = lines::read_line(&input[27..54]);
-    match control {
-        LineRead::Refused(_) => 0,
-        LineRead::Read(line) => {
-            let size = count(line.amount);
-            if input.len() - 54 < size {
-                return 0;
-            }
-            let to = 54 + size;
-            run(line, &input[54..to]);
-            to
-        }
+    drivers::print(&input[0..27]);
+    let control = drivers::line_of(&input[27..54]);
+    let size = count(control.amount);
+    if input.len() - 54 < size {
+        return 0;
     }
+    let to = 54 + size;
+    run(control, &input[54..to]);
+    to
 }
 
 fn vectors(input: &[u8]) {
@@ -319,9 +233,9 @@ fn full() -> Case {
 fn back(bytes: &[u8]) {
     let mut table = [7i64; 6528];
     let read = casefile::read_case_alone(bytes, &mut table);
-    print(b"  alone");
+    drivers::print(b"  alone");
     answer(read);
-    print(b"\n  again");
+    drivers::print(b"\n  again");
     let mut out = [46u8; 178875];
     write(read.case, &table, &mut out);
 }
@@ -330,7 +244,7 @@ fn largest() {
     let mut table = [0i64; 6528];
     fill(&mut table);
     let mut out = [46u8; 178875];
-    print(b"largest");
+    drivers::print(b"largest");
     write(full(), &table, &mut out);
     back(&out);
 }

@@ -7,13 +7,9 @@
 // hold. The largest case's log is the peer's.
 use definitions::Case;
 use definitions::Line;
-use definitions::LineRead;
-use definitions::Refusal;
 use definitions::Round;
 use definitions::Run;
 use definitions::RunAnswer;
-use definitions::Written;
-ghost use Prim.Native.Nat.{_<_};
 
 // A case, and how many weights of its table there are.
 struct Held {
@@ -27,128 +23,61 @@ struct Log {
     bound: i64,
 }
 
-// Document 01's number.
-fn number_of(refusal: Refusal) -> u64 {
-    match refusal {
-        Refusal::NotInColumns => 1,
-        Refusal::NotDue => 2,
-        Refusal::OutsideLimits => 3,
-        Refusal::WrongLength => 4,
-        Refusal::OutOfRange => 5,
-        Refusal::EndsNotAscending => 6,
-        Refusal::EdgeRepeated => 7,
-        Refusal::WeightOutOfRange => 8,
-        Refusal::RaiseNotAscending => 9,
-        Refusal::NotRefuted => 10,
-        Refusal::LeavesRange => 11,
-        Refusal::OtherBound => 12,
-        Refusal::BoundNotLower => 13,
-        Refusal::CutShort => 14,
-    }
-}
-
-// ---- what is printed
-
-fn print(text: &[u8]) {
-    io::write_all(1, text);
-}
-
-fn print_count(n: u64) {
-    print(b" ");
-    io::print_decimal(1, n);
-}
-
-fn print_first(text: &[u8], n: usize) {
-    if n <= text.len() {
-        print(&text[0..n]);
-    }
-}
-
-fn print_weight(z: i64) {
-    print(b" ");
-    let mut text = [0u8; 20];
-    let written = lines::write_number(&mut text, z);
-    match written {
-        Written::Bytes(n) => print_first(&text, n),
-        Written::Refused(_) => print(b"?"),
-    }
-}
-
-fn print_each(table: &[i64]) {
-    let mut i: usize = 0;
-    while i < table.len() {
-        print_weight(table[i]);
-        i += 1;
-    }
-}
-
-fn print_refusal(refusal: Refusal) {
-    print(b" refused");
-    print_count(number_of(refusal));
-}
-
-fn wide(x: u8) -> u64
-    ensures { λ r. ⌜ r < 256 ⌝ }
-{
-    x as u64
-}
-
-// A checksum that goes on from an earlier one.
-fn digest(earlier: u64, bytes: &[u8]) -> u64 {
-    let mut sum: u64 = earlier % 1_000_000_007;
-    let mut i: usize = 0;
-    while i < bytes.len() {
-        sum = (sum * 31 + wide(bytes[i])) % 1_000_000_007;
-        i += 1;
-    }
-    sum
-}
-
 // ---- the calls
 
 fn print_run(run: Run) {
     let answer = run.answer;
     match answer {
-        RunAnswer::Settled => print(b" settled"),
-        RunAnswer::Limit => print(b" limit"),
-        RunAnswer::Refused(refusal) => print_refusal(refusal),
+        RunAnswer::Settled => {
+            drivers::print(b" settled");
+        }
+        RunAnswer::Limit => {
+            drivers::print(b" limit");
+        }
+        RunAnswer::Refused(refusal) => {
+            drivers::print_refusal(refusal);
+        }
     }
-    print_count(run.rounds);
-    print_weight(run.bound);
-    print(b"\n");
+    drivers::print_count(run.rounds);
+    drivers::print_number(run.bound);
+    drivers::print(b"\n");
 }
 
 fn run(case: Case, table: &mut [i64], out: &mut [u8], limit: u64) {
-    print(b"run");
-    print_count(limit);
+    drivers::print(b"run");
+    drivers::print_count(limit);
     print_run(engine::run(case, table, out, limit));
-    print(out);
-    print(b"\n");
+    drivers::print(out);
+    drivers::print(b"\n");
 }
 
 fn print_round(round: Round) {
     match round {
-        Round::Settled => print(b" settled"),
-        Round::Refused(refusal) => print_refusal(refusal),
+        Round::Settled => {
+            drivers::print(b" settled");
+        }
+        Round::Refused(refusal) => {
+            drivers::print_refusal(refusal);
+        }
         Round::Made { bytes, bound } => {
-            print(b" made");
-            print_count(bytes as u64);
-            print_weight(bound);
+            drivers::print(b" made");
+            drivers::print_count(bytes as u64);
+            drivers::print_number(bound);
         }
     }
-    print(b"\n");
+    drivers::print(b"\n");
 }
 
 fn round(case: Case, table: &mut [i64], out: &mut [u8]) {
-    print(b"round");
+    drivers::print(b"round");
     print_round(engine::round(case, table, out));
-    print(out);
-    print(b"\n");
+    drivers::print(out);
+    drivers::print(b"\n");
 }
 
 fn sum_of_first(earlier: u64, text: &[u8], n: usize) -> u64 {
     if n <= text.len() {
-        digest(earlier, &text[0..n])
+        drivers::digest(earlier, &text[0..n])
     } else {
         0
     }
@@ -167,14 +96,14 @@ fn next(case: Case, table: &mut [i64], out: &mut [u8], log: Log) -> Log {
 }
 
 fn print_log(log: Log) {
-    print_weight(log.bound);
-    print_count(log.sum);
-    print(b"\n");
+    drivers::print_number(log.bound);
+    drivers::print_count(log.sum);
+    drivers::print(b"\n");
 }
 
 fn rounds(case: Case, table: &mut [i64], out: &mut [u8], most: u64) {
-    print(b"rounds");
-    print_count(most);
+    drivers::print(b"rounds");
+    drivers::print_count(most);
     let mut log = Log { sum: 0, bound: 0 };
     let mut left = most;
     while left > 0 {
@@ -187,12 +116,7 @@ fn rounds(case: Case, table: &mut [i64], out: &mut [u8], most: u64) {
 // ---- a case, line by line
 
 fn count(z: i64) -> usize {
-    if z < 0 { 0 } else { z as usize }
-}
-
-fn byte(z: i64) -> u8 {
-    let n = count(z);
-    if 255 < n { 255 } else { n as u8 }
+    drivers::count_or(z, 0)
 }
 
 fn head(n: usize, d: usize, m: usize) -> Case {
@@ -233,11 +157,11 @@ fn put(table: &mut [i64], places: usize, z: i64) -> usize {
 // ---- the vectors
 
 fn weights(table: &[i64], n: usize) {
-    print(b"weights");
+    drivers::print(b"weights");
     if n <= table.len() {
-        print_each(&table[0..n]);
+        drivers::print_numbers(&table[0..n]);
     }
-    print(b"\n");
+    drivers::print(b"\n");
 }
 
 fn call(case: Case, table: &mut [i64], out: &mut [u8], line: Line) {
@@ -285,7 +209,12 @@ fn taken(held: Held, table: &mut [i64], line: Line) -> Held {
         }
     } else if line.kind == 12 {
         Held {
-            case: joined(case, count(line.a), byte(line.b), byte(line.c)),
+            case: joined(
+                case,
+                count(line.a),
+                drivers::byte(count(line.b)),
+                drivers::byte(count(line.c)),
+            ),
             places: held.places,
         }
     } else {
@@ -297,22 +226,13 @@ fn taken(held: Held, table: &mut [i64], line: Line) -> Held {
 }
 
 fn step(held: Held, table: &mut [i64], line: Line) -> Held {
-    if line.kind < 20 {
+    if line.kind < 10 {
+        held
+    } else if line.kind < 20 {
         taken(held, table, line)
     } else {
         execute(held, table, line);
         held
-    }
-}
-
-fn one(held: Held, table: &mut [i64], text: &[u8]) -> Held {
-    let read = lines::read_line(text);
-    match read {
-        LineRead::Refused(_) => {
-            print(text);
-            held
-        }
-        LineRead::Read(line) => step(held, table, line),
     }
 }
 
@@ -328,7 +248,7 @@ fn vectors(input: &[u8], table: &mut [i64]) {
     let mut at: usize = 0;
     while 27 <= input.len() - at {
         let to = at + 27;
-        held = one(held, table, &input[at..to]);
+        held = step(held, table, drivers::line_of(&input[at..to]));
         at = to;
     }
 }

@@ -24,17 +24,20 @@ sub-loop c = search needs
 add-to : tie.Need-add-to Inv-loop μ-loop
 add-to c = search needs
 
-sub-one : tie.Need-sub-one Inv-loop μ-loop
-sub-one c = search needs
+sub-line-of : tie.Need-sub-line-of Inv-loop μ-loop
+sub-line-of c = search needs
 
-part-one-start : tie.Need-part-one-start Inv-loop μ-loop
-part-one-start c = search needs
+part-line-of-start : tie.Need-part-line-of-start Inv-loop μ-loop
+part-line-of-start c = search needs
 
-part-one-end : tie.Need-part-one-end Inv-loop μ-loop
-part-one-end c = search needs
+part-line-of-end : tie.Need-part-line-of-end Inv-loop μ-loop
+part-line-of-end c = search needs
 
-one-requires : tie.Need-one-requires Inv-loop μ-loop
-one-requires c κs = search needs
+line-of-requires : tie.Need-line-of-requires Inv-loop μ-loop
+line-of-requires c κs = search needs
+
+step-requires : tie.Need-step-requires Inv-loop μ-loop
+step-requires c κs = search needs
 
 loop-less : tie.Need-loop-less Inv-loop μ-loop
 loop-less c = search needs
@@ -58,10 +61,11 @@ vectors-spec =
     loop-holds
     sub-loop
     add-to
-    sub-one
-    part-one-start
-    part-one-end
-    one-requires
+    sub-line-of
+    part-line-of-start
+    part-line-of-end
+    line-of-requires
+    step-requires
     loop-less
     loop-again
     same-length

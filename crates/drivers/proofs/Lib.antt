@@ -1,0 +1,2 @@
+-- Laws of the definitions of `drivers`.
+pub mod Laws

@@ -1,0 +1,2 @@
+-- The definitions that the contracts of `drivers` cite beside those of `definitions`.
+pub mod Drivers

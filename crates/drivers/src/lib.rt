@@ -1,0 +1,154 @@
+// What the programs that execute vectors share: numbers of their input, and what they print. A function that prints answers what it printed,
+// since no contract can say what is written.
+use definitions::Line;
+use definitions::LineRead;
+use definitions::Refusal;
+use definitions::Written;
+ghost use mathlib.Core.Path.{_≡_};
+ghost use Prim.Native.Nat.{_<_, _%_, min};
+ghost use lib.ListN.{length};
+ghost use Rattle.definitions.specs.Refusals.{number};
+ghost use Rattle.definitions.specs.Rules.{standard};
+ghost use Rattle.definitions.specs.Calls.{readLineAnswer};
+ghost use Rattle.drivers.specs.Drivers.{lineOf, countOr, digestFrom};
+
+fn print_first(text: &[u8], n: usize) {
+    if n <= text.len() {
+        io::write_all(1, &text[0..n]);
+    }
+}
+
+fn wide(x: u8) -> u64
+    ensures { λ r. ⌜ (r ≡ x) × (r < 256) ⌝ }
+{
+    x as u64
+}
+
+// ---- the calls
+
+// Document 01's number.
+pub fn number_of(refusal: Refusal) -> u64
+    ensures { λ r. ⌜ r ≡ number refusal ⌝ }
+{
+    match refusal {
+        Refusal::NotInColumns => 1,
+        Refusal::NotDue => 2,
+        Refusal::OutsideLimits => 3,
+        Refusal::WrongLength => 4,
+        Refusal::OutOfRange => 5,
+        Refusal::EndsNotAscending => 6,
+        Refusal::EdgeRepeated => 7,
+        Refusal::WeightOutOfRange => 8,
+        Refusal::RaiseNotAscending => 9,
+        Refusal::NotRefuted => 10,
+        Refusal::LeavesRange => 11,
+        Refusal::OtherBound => 12,
+        Refusal::BoundNotLower => 13,
+        Refusal::CutShort => 14,
+    }
+}
+
+// The line that the text is, or zeros; a text that is not in columns is a title and is printed.
+pub fn line_of(text: &[u8]) -> Line
+    ensures { λ r. ⌜ r ≡ lineOf (readLineAnswer standard (now (text .entry))) ⌝ }
+{
+    let read = lines::read_line(text);
+    match read {
+        LineRead::Read(line) => line,
+        LineRead::Refused(_) => {
+            io::write_all(1, text);
+            Line {
+                kind: 0,
+                a: 0,
+                b: 0,
+                c: 0,
+                amount: 0,
+            }
+        }
+    }
+}
+
+// A number that is meant as a count, or `other` where it is negative.
+pub fn count_or(z: i64, other: usize) -> usize
+    ensures { λ r. ⌜ r ≡ countOr other z ⌝ }
+{
+    if z < 0 { other } else { z as usize }
+}
+
+// At most 255.
+pub fn byte(n: usize) -> u8
+    ensures { λ r. ⌜ r ≡ min n 255 ⌝ }
+{
+    if 255 < n { 255 } else { n as u8 }
+}
+
+// A checksum that goes on from an earlier one.
+pub fn digest(earlier: u64, bytes: &[u8]) -> u64
+    ensures { λ r. ⌜ r ≡ digestFrom (earlier % 1_000_000_007) (now (bytes .entry)) ⌝ }
+{
+    let mut sum: u64 = earlier % 1_000_000_007;
+    let mut i: usize = 0;
+    while i < bytes.len() {
+        sum = (sum * 31 + wide(bytes[i])) % 1_000_000_007;
+        i += 1;
+    }
+    sum
+}
+
+// Prints the bytes, and answers how many.
+pub fn print(text: &[u8]) -> usize
+    ensures { λ r. ⌜ r ≡ length (now (text .entry)) ⌝ }
+{
+    io::write_all(1, text);
+    text.len()
+}
+
+// Prints a space and the count, and answers the count.
+pub fn print_count(n: u64) -> u64
+    ensures { λ r. ⌜ r ≡ n ⌝ }
+{
+    io::write_all(1, b" ");
+    io::print_decimal(1, n);
+    n
+}
+
+// Prints the number, and answers it.
+pub fn print_alone(z: i64) -> i64
+    ensures { λ r. ⌜ r ≡ z ⌝ }
+{
+    let mut text = [0u8; 20];
+    let written = lines::write_number(&mut text, z);
+    if let Written::Bytes(n) = written {
+        print_first(&text, n);
+    }
+    z
+}
+
+// Prints a space and the number, and answers the number.
+pub fn print_number(z: i64) -> i64
+    ensures { λ r. ⌜ r ≡ z ⌝ }
+{
+    io::write_all(1, b" ");
+    print_alone(z);
+    z
+}
+
+// Prints each number after a space, and answers how many.
+pub fn print_numbers(numbers: &[i64]) -> usize
+    ensures { λ r. ⌜ r ≡ length (now (numbers .entry)) ⌝ }
+{
+    let mut i: usize = 0;
+    while i < numbers.len() {
+        print_number(numbers[i]);
+        i += 1;
+    }
+    i
+}
+
+// Prints the word and the number of a refusal, and answers the number.
+pub fn print_refusal(refusal: Refusal) -> u64
+    ensures { λ r. ⌜ r ≡ number refusal ⌝ }
+{
+    io::write_all(1, b" refused");
+    print_count(number_of(refusal))
+}
