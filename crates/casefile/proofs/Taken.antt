@@ -24,7 +24,7 @@ use Rattle.theory.proofs.Validity.{none-applies}
 use Rattle.theory.proofs.Places.{place-variable, place-edge}
 use Rattle.casefile.specs.declared.Sizes.{Sizes}
 use Rattle.casefile.specs.Reads.{ofKind, lineBytes}
-use Rattle.casefile.specs.Steps.{weightTests, endsTests, repeatTest, caseWith, reading, lineRefusal, dueRefusal, Stepped, SteppedAt}
+use Rattle.casefile.specs.Steps.{isDone, weightTests, endsTests, repeatTest, caseWith, reading, lineRefusal, dueRefusal, Stepped, SteppedAt}
 use Rattle.casefile.proofs.Heads.{Front, cut, bad, good}
 use Rattle.casefile.proofs.Tests.{due-11, due-13}
 use Rattle.definitions.specs.declared.Refusal.{Refusal}
@@ -41,11 +41,15 @@ module _ {A : Type 0} (o : Option Refusal) (a b : A) where
   pub changed : o ≡ none → a ≡ unlessRefused o a b
   changed e = rw e
 
-  pub answered-refused : {x : Refusal} → Outcome.Refused x ≡ outcomeOf o → (Outcome.Refused x ≡ outcomeOf o) × (b ≡ unlessRefused o a b)
-  answered-refused e = (e, kept (outcome-refused e))
+-- what was checked, by whether it is done
+module _ {A : Type 0} (a b : A) where
+  pub if-done : (o : Option Refusal) → isDone (outcomeOf o) ≡ true → a ≡ unlessRefused o a b
+  if-done none e = refl
+  if-done (some x) e = let z : _≡_ {A = ℕ} 0 1 = cc in absurd (omega arith)
 
-  pub answered-done : Outcome.Done ≡ outcomeOf o → (Outcome.Done ≡ outcomeOf o) × (a ≡ unlessRefused o a b)
-  answered-done e = (e, changed (outcome-done e))
+  pub if-not-done : (o : Option Refusal) → isDone (outcomeOf o) ≡ false → b ≡ unlessRefused o a b
+  if-not-done none e = let z : _≡_ {A = ℕ} 0 1 = cc in absurd (omega arith)
+  if-not-done (some x) e = refl
 
 -- ---- the tests of each line
 

@@ -1,5 +1,5 @@
 -- A case file line by line: what is due at each line, and what is left to read. Assumes nothing.
-use mathlib.Core.Bool.{Bool, not, _&&_, _||_}
+use mathlib.Core.Bool.{Bool, true, false, not, _&&_, _||_}
 use mathlib.Core.Option.{Option, some}
 use mathlib.Core.List.{List, [], _∷_}
 use Prim.Native.Nat.{ℕ, _+_, _*_, _-_, _/_, _%_, _≤_, _<_}
@@ -71,6 +71,10 @@ abbrev pub tableOf : Sizes → ℕ
 tableOf s = s .n * s .d + s .m * (s .d * s .d)
 
 -- ---- one line
+
+abbrev pub isDone : Outcome → Bool
+isDone Outcome.Done = true
+isDone (Outcome.Refused x) = false
 
 abbrev pub weightTests : Bool → ℕ → ℕ → ℕ → Line → List Test
 weightTests due a b c l =

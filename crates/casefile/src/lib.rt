@@ -27,7 +27,7 @@ ghost use Rattle.definitions.specs.CaseFiles.{headTests, caseSize, caseRefused,
 ghost use Rattle.definitions.specs.Calls.{writeCaseCall};
 ghost use Rattle.theory.proofs.Validity.{Valid};
 ghost use Rattle.theory.proofs.CaseDues.{lineOf};
-ghost use Rattle.casefile.specs.Steps.{Limited, dueOf, InCase, AtLine, linesDue, weightTests, endsTests, joinedBefore, repeatTest, caseWith, reading, lineRefusal, tableOf, Stepped, SteppedAt, leftFrom, callOf, noEnds};
+ghost use Rattle.casefile.specs.Steps.{isDone, Limited, dueOf, InCase, AtLine, linesDue, weightTests, endsTests, joinedBefore, repeatTest, caseWith, reading, lineRefusal, tableOf, Stepped, SteppedAt, leftFrom, callOf, noEnds};
 ghost use Rattle.casefile.specs.Reads.{lineBytes, lineFrom, ofKind, limitsZ, sizeOf};
 
 // The length of a line.
@@ -39,6 +39,9 @@ const VARIABLES: i64 = 48;
 const VALUES: i64 = 8;
 
 const EDGES: i64 = 96;
+
+// The places for edges in a case's record.
+const EDGE_PLACES: usize = 96;
 
 // The greatest starting weight on either side of 0.
 const STARTING: i64 = 1_000_000;
@@ -251,6 +254,15 @@ fn weigh(line: Line, due: bool, a: usize, b: usize, c: usize) -> Outcome
     Outcome::Done
 }
 
+fn is_done(checked: Outcome) -> bool
+    ensures { λ r. ⌜ r ≡ isDone checked ⌝ }
+{
+    match checked {
+        Outcome::Done => true,
+        Outcome::Refused(_) => false,
+    }
+}
+
 // Puts the weight at its place, if nothing refuses the line.
 fn take_weight(
     line: Line,
@@ -266,14 +278,11 @@ fn take_weight(
     ensures { λ r. ⌜ (r ≡ outcomeOf (firstOf (weightTests due a b c line))) × (now (table .exit) ≡ unlessRefused (firstOf (weightTests due a b c line)) (set (now (table .entry)) place (line .amount)) (now (table .entry))) ⌝ }
 {
     let checked = weigh(line, due, a, b, c);
-    match checked {
-        Outcome::Refused(refusal) => Outcome::Refused(refusal),
-        Outcome::Done => {
-            let weight = line.amount;
-            table[place] = weight;
-            Outcome::Done
-        }
+    if is_done(checked) {
+        let weight = line.amount;
+        table[place] = weight;
     }
+    checked
 }
 
 // ---- an edge's line
@@ -314,30 +323,47 @@ fn check_ends(line: Line, n: usize, e: usize) -> Outcome
     Outcome::Done
 }
 
-fn has_ends<'a>(lower: &'a [u8; 96], upper: &'a [u8; 96], f: usize, i: u8, j: u8) -> bool
+fn has_ends<'a>(
+    lower: &'a [u8; EDGE_PLACES],
+    upper: &'a [u8; EDGE_PLACES],
+    f: usize,
+    i: u8,
+    j: u8,
+) -> bool
     requires { ⌜ f < edgePlaces ⌝ }
     ensures { λ r. ⌜ r ≡ (eqb (getD (now (lower .entry)) f 0) i && eqb (getD (now (upper .entry)) f 0) j) ⌝ }
 {
-    lower[f] == i && upper[f] == j
+    (lower[f] == i) & (upper[f] == j)
 }
 
-// An edge before e joins i and j.
-fn joined_before<'a>(lower: &'a [u8; 96], upper: &'a [u8; 96], e: usize, i: u8, j: u8) -> bool
+// An edge before e joins i and j. All are looked at, so that many are at once.
+fn joined_before<'a>(
+    lower: &'a [u8; EDGE_PLACES],
+    upper: &'a [u8; EDGE_PLACES],
+    e: usize,
+    i: u8,
+    j: u8,
+) -> bool
     requires { ⌜ e < edgePlaces ⌝ }
     ensures { λ r. ⌜ r ≡ joinedBefore (now (lower .entry)) (now (upper .entry)) e i j ⌝ }
 {
+    let mut found = false;
     let mut f: usize = 0;
     while f < e {
-        if has_ends(lower, upper, f, i, j) {
-            return true;
-        }
+        found |= has_ends(lower, upper, f, i, j);
         f += 1;
     }
-    false
+    found
 }
 
 // Joins i and j by edge e, if no edge before e does.
-fn join(i: u8, j: u8, e: usize, lower: &mut [u8; 96], upper: &mut [u8; 96]) -> Outcome
+fn join(
+    i: u8,
+    j: u8,
+    e: usize,
+    lower: &mut [u8; EDGE_PLACES],
+    upper: &mut [u8; EDGE_PLACES],
+) -> Outcome
     requires { ⌜ e < edgePlaces ⌝ }
     ensures { λ r. ⌜ (r ≡ outcomeOf (firstOf (repeatTest (now (lower .entry)) (now (upper .entry)) e i j))) × (now (lower .exit) ≡ unlessRefused (firstOf (repeatTest (now (lower .entry)) (now (upper .entry)) e i j)) (set (now (lower .entry)) e i) (now (lower .entry))) × (now (upper .exit) ≡ unlessRefused (firstOf (repeatTest (now (lower .entry)) (now (upper .entry)) e i j)) (set (now (upper .entry)) e j) (now (upper .entry))) ⌝ }
 {
@@ -360,8 +386,8 @@ fn take_ends(
     line: Line,
     sizes: Sizes,
     e: usize,
-    lower: &mut [u8; 96],
-    upper: &mut [u8; 96],
+    lower: &mut [u8; EDGE_PLACES],
+    upper: &mut [u8; EDGE_PLACES],
 ) -> Outcome
     requires { ⌜ Limited sizes ⌝ }
     requires { ⌜ e < edgePlaces ⌝ }
@@ -398,8 +424,8 @@ fn take(
     line: Line,
     sizes: Sizes,
     due: Awaited,
-    lower: &mut [u8; 96],
-    upper: &mut [u8; 96],
+    lower: &mut [u8; EDGE_PLACES],
+    upper: &mut [u8; EDGE_PLACES],
     table: &mut [i64],
 ) -> Outcome
     requires { ⌜ Limited sizes ⌝ }
@@ -435,8 +461,8 @@ fn take_at(
     sizes: Sizes,
     q: usize,
     due: Awaited,
-    lower: &mut [u8; 96],
-    upper: &mut [u8; 96],
+    lower: &mut [u8; EDGE_PLACES],
+    upper: &mut [u8; EDGE_PLACES],
     table: &mut [i64],
 ) -> Outcome
     requires { ⌜ Limited sizes ⌝ }
@@ -463,8 +489,8 @@ fn lines_due(sizes: Sizes) -> usize
 fn read_lines(
     bytes: &[u8],
     sizes: Sizes,
-    lower: &mut [u8; 96],
-    upper: &mut [u8; 96],
+    lower: &mut [u8; EDGE_PLACES],
+    upper: &mut [u8; EDGE_PLACES],
     table: &mut [i64],
 ) -> FileAnswer
     requires { ⌜ Limited sizes ⌝ }
@@ -499,8 +525,8 @@ fn refused(refusal: Refusal, line: usize) -> CaseRead
     ensures { λ r. ⌜ ((w : List ℤ) → r ≡ caseRefused standard refusal line w .read) ⌝ }
 {
     let answer = FileAnswer::Refused { refusal, line };
-    let lower = [0u8; 96];
-    let upper = [0u8; 96];
+    let lower = [0u8; EDGE_PLACES];
+    let upper = [0u8; EDGE_PLACES];
     let case = Case {
         n: 0,
         d: 0,
@@ -511,7 +537,12 @@ fn refused(refusal: Refusal, line: usize) -> CaseRead
     CaseRead { answer, case }
 }
 
-fn accepted(lines: usize, sizes: Sizes, lower: [u8; 96], upper: [u8; 96]) -> CaseRead
+fn accepted(
+    lines: usize,
+    sizes: Sizes,
+    lower: [u8; EDGE_PLACES],
+    upper: [u8; EDGE_PLACES],
+) -> CaseRead
     ensures { λ r. ⌜ ((w : List ℤ) → r ≡ caseTaken standard (reading sizes lower upper w) lines .read) ⌝ }
 {
     let answer = FileAnswer::Read { lines };
@@ -531,8 +562,8 @@ fn read_body(bytes: &[u8], sizes: Sizes, table: &mut [i64]) -> CaseRead
     requires { ⌜ length (now table) ≡ tableOf sizes ⌝ }
     ensures { λ r. ⌜ (r ≡ leftFrom sizes (reading sizes noEnds noEnds (now (table .entry))) 0 (now (bytes .entry)) .read) × (now (table .exit) ≡ leftFrom sizes (reading sizes noEnds noEnds (now (table .entry))) 0 (now (bytes .entry)) .table) ⌝ }
 {
-    let mut lower = [0u8; 96];
-    let mut upper = [0u8; 96];
+    let mut lower = [0u8; EDGE_PLACES];
+    let mut upper = [0u8; EDGE_PLACES];
     let answer = read_lines(bytes, sizes, &mut lower, &mut upper, table);
     match answer {
         FileAnswer::Refused { refusal, line } => refused(refusal, line),
@@ -588,8 +619,8 @@ fn head_line(sizes: Sizes) -> Line
 // The line at which `due` is due.
 fn line_after<'a>(
     sizes: Sizes,
-    lower: &'a [u8; 96],
-    upper: &'a [u8; 96],
+    lower: &'a [u8; EDGE_PLACES],
+    upper: &'a [u8; EDGE_PLACES],
     table: &[i64],
     due: Awaited,
 ) -> Line
@@ -622,8 +653,8 @@ fn put_at(out: &mut [u8], from: usize, line: Line)
 
 fn put_lines<'a>(
     sizes: Sizes,
-    lower: &'a [u8; 96],
-    upper: &'a [u8; 96],
+    lower: &'a [u8; EDGE_PLACES],
+    upper: &'a [u8; EDGE_PLACES],
     table: &[i64],
     out: &mut [u8],
 )

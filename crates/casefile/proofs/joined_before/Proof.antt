@@ -1,31 +1,31 @@
-use Prim.Native.Nat.{ℕ, _≤_, _<_, _-_}
-use mathlib.Core.Path.{_≡_, sym, _∙_}
-use mathlib.Core.Bool.{false, _&&_}
+-- Whether an edge before f has these ends. Assumes nothing.
+use Prim.Native.Nat.{ℕ, _+_, _≤_, _-_}
+use mathlib.Core.Path.{_≡_, refl, sym, ap, ap₂, _∙_}
+use mathlib.Core.Bool.{Bool, _&&_, _||_, or-false}
+use native.Mathlib.Nat.{zero-add}
 use native.Mathlib.Omega.{arith}
 use lib.Dec.{eqb}
 use lib.ListN.{getD}
-use borrow.Author.Count.{below-more}
-use Rattle.figures.proofs.Search.{found, not-found}
+use Rattle.integers.specs.Words.{any, from, below}
+use Rattle.integers.specs.Lists.{any-append, from-split}
+use Rattle.casefile.specs.Steps.{joinedBefore}
 use Rattle.casefile.proofs.joined_before.Statement.{statement}
 use Rattle.casefile.proofs.joined_before.Tie as tie
 
+any-next : (p : ℕ → Bool) (n : ℕ) → any p (below (n + 1)) ≡ (any p (below n) || p n)
+any-next p n = ap (any p) (from-split 0 n 1) ∙ any-append p (below n) (from (0 + n) 1) ∙ rw (zero-add, or-false)
+
 abbrev Inv-loop : tie.InvT-loop
-Inv-loop lower upper e i j f₀ f = (f ≤ e) × ((k : ℕ) → k < f → (eqb (getD lower k 0) i && eqb (getD upper k 0) j) ≡ false)
+Inv-loop lower upper e i j found₀ f₀ found f = (f ≤ e) × (found ≡ joinedBefore lower upper f i j)
 
 abbrev μ-loop : tie.MeasureT-loop
-μ-loop lower upper e i j f₀ f = e - f
+μ-loop lower upper e i j found₀ f₀ found f = e - f
 
 loop-holds : tie.Need-loop-holds Inv-loop μ-loop
-loop-holds c = (omega arith, λ k h. absurd (omega arith))
+loop-holds c = (omega arith, refl)
 
 has-ends-requires : tie.Need-has-ends-requires Inv-loop μ-loop
 has-ends-requires c κs = omega arith
-
-returns : tie.Need-returns Inv-loop μ-loop
-returns c =
-    let a = c .before .before .before .before .args in
-    found (λ f. eqb (getD (a .lower .now) f 0) (a .i) && eqb (getD (a .upper .now) f 0) (a .j)) (a .e) (c .before .before .before .loop .f) (omega arith)
-    (sym (c .before .has-ends .ensures) ∙ c .if1 .taken)
 
 add-f : tie.Need-add-f Inv-loop μ-loop
 add-f c = omega arith
@@ -34,23 +34,21 @@ loop-less : tie.Need-loop-less Inv-loop μ-loop
 loop-less c = omega arith
 
 loop-again : tie.Need-loop-again Inv-loop μ-loop
-loop-again c = (omega arith, below-more _ _ (c .before .before .before .loop .inv .1) (sym (c .before .has-ends .ensures) ∙ c .if1 .left))
+loop-again c =
+    let l = c .before .before in
+    let a = l .before .args in (
+      omega arith,
+      ap₂ (λ a b. a || b) (l .loop .inv .1) (c .has-ends .ensures) ∙ sym (any-next (λ f. eqb (getD (a .lower .now) f 0) (a .i) && eqb (getD (a .upper .now) f 0) (a .j)) (l .loop .f)),
+    )
 
-returns-2 : tie.Need-returns-2 Inv-loop μ-loop
-returns-2 c =
-    let a = c .before .before .args in
-    not-found (λ f. eqb (getD (a .lower .now) f 0) (a .i) && eqb (getD (a .upper .now) f 0) (a .j)) (a .e) (λ k h. c .before .loop .inv .1 k (omega arith))
+returns : tie.Need-returns Inv-loop μ-loop
+returns c =
+    let l = c .before in
+    let a = l .before .args in
+    let n : l .loop .f ≡ a .e = omega arith in
+    l .loop .inv .1 ∙ ap (λ f. joinedBefore (a .lower .now) (a .upper .now) f (a .i) (a .j)) n
 
 pub joined-before-spec : {M : Type 1} → statement M
 joined-before-spec =
     tie.close
-    (tie.spec
-    Inv-loop
-    μ-loop
-    loop-holds
-    has-ends-requires
-    returns
-    add-f
-    loop-less
-    loop-again
-    returns-2)
+    (tie.spec Inv-loop μ-loop loop-holds has-ends-requires add-f loop-less loop-again returns)
