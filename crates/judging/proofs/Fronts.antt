@@ -8,9 +8,9 @@ use mathlib.Core.List.{List, [], _∷_, _++_, append-nil}
 use Prim.Native.Nat.{ℕ, suc, _+_, _*_, _≤_}
 use native.Mathlib.Nat.{mul-le-mul, mul-le-mul-left, mul-le-mul-right, mul-comm}
 use native.Mathlib.Omega.{arith}
-use lib.IntN.{ℤ, pos}
+use lib.IntN.{ℤ}
 use lib.Dec.{eqb}
-use lib.ListN.{length, drop, length-append, length-drop, length-replicate}
+use lib.ListN.{length, drop, length-append, length-drop}
 use lib.Seq.{take-append-le, drop-append-le}
 use borrow.Author.Tests.{le-ltb, ne-eqb}
 use Rattle.integers.specs.Words.{if_then_else_}
@@ -21,14 +21,14 @@ use Rattle.definitions.specs.declared.FileAnswer.{FileAnswer}
 use Rattle.definitions.specs.declared.CaseSize.{CaseSize}
 use Rattle.definitions.specs.declared.Refusal.{Refusal}
 use Rattle.definitions.specs.declared.Refusal.the-variants.{WrongLength, CutShort}
-use Rattle.definitions.specs.Rules.{Rules, standard}
+use Rattle.definitions.specs.Rules.{Rules}
 use Rattle.definitions.specs.Refusals.{firstOf}
 use Rattle.definitions.specs.Case.{lentLength}
 use Rattle.definitions.specs.Lines.{lineLength}
 use Rattle.definitions.specs.CaseFiles.{CaseDue, dues, dueTests, Reading, took, headTests, headed, CaseCall, caseRefused, isCut, firstLine, afterFirst, readDues, headRefusal, readCase, endTests, restRefusal, nothingAfter, readCaseAlone, caseSize}
 use Rattle.definitions.specs.Programs.{tableFor, pressRead, pressPrints}
 use Rattle.theory.proofs.CaseDues.{run-length, dues-run}
-use Rattle.theory.proofs.CaseTests.{CaseKinds, standard-case-kinds, head-passed}
+use Rattle.theory.proofs.CaseTests.{CaseKinds, head-passed}
 use Rattle.judging.specs.Cuts.{longestCase}
 
 -- the line of a refusal, or the lines used
@@ -147,12 +147,8 @@ module _ (r : Rules) where
 abbrev pub longestLines : Rules → ℕ
 longestLines r = 1 + r .variables * r .values + r .edges * (1 + r .values * r .values)
 
--- the longest table
-abbrev longestTable : Rules → ℕ
-longestTable r = r .variables * r .values + r .edges * (r .values * r .values)
-
 -- the size by the head's refusal and its line
-sized : Rules → Option Refusal → Option Line → CaseSize
+unfoldable pub sized : Rules → Option Refusal → Option Line → CaseSize
 sized r o l =
     elim o [
       | none ↦ CaseSize.Size (headed r l .n) (headed r l .d) (headed r l .m) (lentLength (headed r l))
@@ -173,26 +169,6 @@ module _ {r : Rules} (kinds : CaseKinds r) where
       let v : suc (c .d * c .d) ≡ 1 + c .d * c .d = omega arith in
       let k = run-length (dues-run c) in
       omega (arith, ap (λ (i : ℕ). c .m * i) v)
-
-  -- and for no longer table
-  head-long : (b : Bool) (l : Option Line) → (if b then some CutShort else firstOf (headTests r l)) ≡ none → lentLength (headed r l) ≤ longestTable r
-  head-long true l e = absurd (none-some (sym e))
-  head-long false none e = absurd (none-some (sym e))
-  head-long false (some l) e =
-      let (same, limits) = head-passed kinds l e in
-      let c : Case = headed r (some l) in
-      let p : c .n * c .d ≤ r .variables * r .values = mul-le-mul (limits .variables-most) (limits .values-most) in
-      let q : c .d * c .d ≤ r .values * r .values = mul-le-mul (limits .values-most) (limits .values-most) in
-      let u : c .m * (c .d * c .d) ≤ r .edges * (r .values * r .values) = mul-le-mul {m₁ = c .d * c .d} (limits .edges-most) q in
-      omega arith
-
-  table-long : (t : List ℕ) → length (tableFor (caseSize r t)) ≤ longestTable r
-  unfolding sized
-  table-long t = go (headRefusal r t) refl
-    where
-      go : (o : Option Refusal) → headRefusal r t ≡ o → length (tableFor (sized r o (firstLine r t))) ≤ longestTable r
-      go none e = let c : Case = headed r (firstLine r t) in omega (arith, length-replicate (lentLength c) (pos 0), head-long (isCut r t) (firstLine r t) e)
-      go (some x) e = omega arith
 
   pub case-line : (t : List ℕ) (w : List ℤ) → lineOf (readCase r t w .read .answer) ≤ longestLines r
   case-line t w = rw (opens r w t) (go (headRefusal r t) refl)
@@ -292,7 +268,3 @@ press-front {r} kinds front rest (inl h) =
     let long : longestCase r ≤ length front = omega arith in
     ap (λ (k : CaseCall). pressRead r k (k .read .answer))
     (ap (λ (s : CaseSize). readCaseAlone r (front ++ rest) (tableFor s)) (size-front kinds front rest long) ∙ alone-front kinds front rest h (tableFor (caseSize r front)))
-
--- with the numbers of document 01: no program needs a longer table
-pub table-most : (t : List ℕ) → length (tableFor (caseSize standard t)) ≤ 6528
-table-most t = table-long (standard-case-kinds standard refl) t

@@ -11,10 +11,11 @@ use libc::STDIN_FILENO;
 use libc::STDOUT_FILENO;
 ghost use mathlib.Core.Path.{_≡_};
 ghost use Prim.Native.Nat.{_≤_};
-ghost use lib.ListN.{length};
-
-// The longest table.
-const TABLE: usize = 6_528;
+ghost use lib.IntN.{pos};
+ghost use lib.ListN.{length, replicate};
+ghost use Rattle.definitions.specs.Rules.{standard};
+ghost use Rattle.definitions.specs.CaseFiles.{caseSize};
+ghost use Rattle.definitions.specs.Programs.{tableFor};
 
 // The most rounds that are made.
 const ROUNDS: u64 = 100_000;
@@ -27,14 +28,14 @@ fn buffer() -> [u8; 262144]
 }
 
 fn weights() -> [i64; 6528]
-    ensures { λ r. ⌜ 6528 ≡ length r ⌝ }
+    ensures { λ r. ⌜ r ≡ replicate 6528 (pos 0) ⌝ }
 {
     [0; 6528]
 }
 
 // The length of the table that the head of the case asks for.
 fn table_length(front: &[u8]) -> usize
-    ensures { λ r. ⌜ r ≤ 6528 ⌝ }
+    ensures { λ r. ⌜ (r ≡ length (tableFor (caseSize standard (now (front .entry))))) × (r ≤ 6528) ⌝ }
 {
     let size = casefile::case_size(front);
     match size {
@@ -44,7 +45,7 @@ fn table_length(front: &[u8]) -> usize
             d: _,
             m: _,
             table,
-        } => { if table < TABLE { table } else { TABLE } }
+        } => table,
     }
 }
 
@@ -93,7 +94,9 @@ fn print_rounds(case: Case, table: &mut [i64], lines: usize) {
     }
 }
 
-fn run(input: &[u8], table: &mut [i64]) {
+fn run(input: &[u8], table: &mut [i64])
+    requires { ⌜ now table ≡ tableFor (caseSize standard (now input)) ⌝ }
+{
     let read = casefile::read_case_alone(input, table);
     let answer = read.answer;
     let case = read.case;

@@ -2,19 +2,17 @@
 use mathlib.Core.Path.{_≡_, refl, sym, ap, _∙_}
 use mathlib.Core.Bool.{not}
 use mathlib.Core.Logic.{_⊎_, inl, inr}
-use mathlib.Core.List.{List, [], _∷_, _++_}
-use Prim.Native.Nat.{ℕ, zero, suc, _*_, _/_, _≤_, _<_}
+use mathlib.Core.List.{List, [], _++_}
+use Prim.Native.Nat.{ℕ, _*_, _/_, _≤_, _<_}
 use native.Mathlib.Omega.{arith}
-use lib.IntN.{ℤ, pos}
+use lib.IntN.{ℤ}
 use lib.Dec.{T, ltb, eqb, ltb→lt, nltb→le}
-use lib.ListN.{length, take, drop, replicate, length-replicate}
+use lib.ListN.{length, take, drop}
 use lib.Seq.{length-take-le, drop-append-le}
 use borrow.Author.Tests.{le-leb}
 use Rattle.integers.specs.Tests.{either}
 use Rattle.integers.specs.Words.{joined}
-use Rattle.definitions.specs.declared.CaseSize.{CaseSize}
 use Rattle.definitions.specs.declared.FileAnswer.{FileAnswer}
-use Rattle.definitions.specs.declared.Refusal.{Refusal}
 use Rattle.definitions.specs.declared.Written.{Written}
 use Rattle.definitions.specs.Rules.{standard}
 use Rattle.definitions.specs.Lines.{wholeLines, overwritten}
@@ -87,24 +85,3 @@ enough-read buf filled h e = go (either (ltb filled (length buf)))
     go : T (ltb filled (length buf)) ⊎ T (not (ltb filled (length buf))) → (longestCase standard ≤ length (take filled buf)) ⊎ (filled < length buf)
     go (inl t) = inr (ltb→lt filled (length buf) t)
     go (inr t) = inl (omega (arith, nltb→le filled (length buf) t, length-take-le filled buf h))
-
--- ---- the table that is lent
-
-pub size-refused : {s : CaseSize} {x : Refusal} → s ≡ CaseSize.Refused x → 0 ≡ length (tableFor s)
-size-refused e = rw e
-
-pub size-given : {s : CaseSize} {n d m long : ℕ} → s ≡ CaseSize.Size n d m long → long ≡ length (tableFor s)
-size-given {long = long} e = rw e (sym (length-replicate long (pos 0)))
-
--- so many of the zeros
-zeros : (k n : ℕ) → k ≤ n → take k (replicate n (pos 0)) ≡ replicate k (pos 0)
-zeros zero n h = refl
-zeros (suc k) zero h = absurd (omega arith)
-zeros (suc k) (suc n) h = ap (λ (l : List ℤ). pos 0 ∷ l) (zeros k n (omega arith))
-
-table-zeros : (s : CaseSize) → replicate (length (tableFor s)) (pos 0) ≡ tableFor s
-table-zeros (CaseSize.Refused x) = refl
-table-zeros (CaseSize.Size n d m long) = ap (λ (k : ℕ). replicate k (pos 0)) (length-replicate long (pos 0))
-
-pub table-lent : (s : CaseSize) (most : ℕ) → length (tableFor s) ≤ most → take (length (tableFor s)) (replicate most (pos 0)) ≡ tableFor s
-table-lent s most h = zeros (length (tableFor s)) most h ∙ table-zeros s

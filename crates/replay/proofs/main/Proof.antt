@@ -7,7 +7,7 @@ use Rattle.definitions.specs.declared.CaseSize.{CaseSize}
 use Rattle.definitions.specs.Rules.{standard}
 use Rattle.definitions.specs.CaseFiles.{caseSize}
 use Rattle.definitions.specs.Programs.{tableFor}
-use Rattle.replay.proofs.Printing.{table-lent}
+use Rattle.judging.proofs.Tables.{table-lent}
 use borrow.Author.Needs.{needs}
 use Rattle.replay.proofs.main.Statement.{statement}
 use Rattle.replay.proofs.main.Tie as tie

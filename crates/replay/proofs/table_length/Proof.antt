@@ -2,8 +2,7 @@
 use mathlib.Core.Path.{sym, _∙_}
 use native.Mathlib.Omega.{arith}
 use denote.Ref.{now}
-use Rattle.judging.proofs.Fronts.{table-most}
-use Rattle.replay.proofs.Printing.{size-refused, size-given}
+use Rattle.judging.proofs.Tables.{table-most, size-refused, size-given}
 use borrow.Author.Needs.{needs}
 use Rattle.replay.proofs.table_length.Statement.{statement}
 use Rattle.replay.proofs.table_length.Tie as tie
