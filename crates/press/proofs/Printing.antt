@@ -14,6 +14,7 @@ use Rattle.definitions.specs.declared.FileAnswer.{FileAnswer}
 use Rattle.definitions.specs.declared.Refusal.{Refusal}
 use Rattle.definitions.specs.declared.RunAnswer.{RunAnswer}
 use Rattle.definitions.specs.Rules.{standard, standard-coherent}
+use Rattle.definitions.specs.Answers.{Says, runSays}
 use Rattle.definitions.specs.Valid.{valid}
 use Rattle.definitions.specs.Lines.{lineLength}
 use Rattle.definitions.specs.CaseFiles.{CaseCall, caseRefused, restRefusal, nothingAfter, readCase, readCaseAlone, caseSize}
@@ -75,9 +76,12 @@ module _ (front rest : List ℕ) (enough : (longestCase standard + lineLength (s
   pub press-refused : {x : Refusal} {at : ℕ} → call .read .answer ≡ FileAnswer.Refused x at → pressPrints standard (front ++ rest) ≡ refusedText x at
   press-refused e = press-front kinds front rest enough ∙ ap (pressRead standard call) e
 
-  ended : (at : ℕ) (a : RunAnswer) → (a ≡ RunAnswer.Settled) ⊎ (a ≡ RunAnswer.Limit) → pressEnd standard at a ≡ []
-  ended at a (inl e) = ap (pressEnd standard at) e
-  ended at a (inr e) = ap (pressEnd standard at) e
+  -- a run that says what one says that was not refused prints nothing after its log
+  none-left : (at : ℕ) {a : RunAnswer} (b : RunAnswer) → (a ≡ RunAnswer.Settled) ⊎ (a ≡ RunAnswer.Limit) → runSays a ≡ runSays b → pressEnd standard at b ≡ []
+  none-left at RunAnswer.Settled h e = refl
+  none-left at RunAnswer.Limit h e = refl
+  none-left at (RunAnswer.Refused x) (inl s) e = let z : _≡_ {A = ℕ} 1 0 = ap (λ (k : Says). length (k .values)) (sym (ap runSays s) ∙ e) in absurd (omega arith)
+  none-left at (RunAnswer.Refused x) (inr s) e = let z : _≡_ {A = ℕ} 1 0 = ap (λ (k : Says). length (k .values)) (sym (ap runSays s) ∙ e) in absurd (omega arith)
 
   pub press-printed : {lines : ℕ} → call .read .answer ≡ FileAnswer.Read lines → (out : List ℕ) → 3915 ≤ length out
       → pressPrints standard (front ++ rest) ≡ runCall standard engineNext (call .read .case) pressLimit (call .table) out .log
@@ -88,7 +92,6 @@ module _ (front rest : List ℕ) (enough : (longestCase standard + lineLength (s
       let q = run standard engineNext c pressLimit w in
       let u : RunCall = runCall standard engineNext c pressLimit w out in
       let t = standard-demand3 c w v .any-run pressLimit out (room c w v out h) in
-      let none-left : pressEnd standard lines (u .run .answer) ≡ [] = ended lines (u .run .answer) (t .unrefused) in
+      let says : runSays (u .run .answer) ≡ runSays (q .answer) = t .answer in
       press-front kinds front rest enough ∙ ap (pressRead standard call) e
-      ∙ ap₂ (λ (log : List ℕ) (a : RunAnswer). log ++ pressEnd standard lines a) (sym (t .lines)) (sym (t .answer))
-      ∙ ap (λ (l : List ℕ). u .log ++ l) none-left ∙ append-nil (u .log)
+      ∙ ap₂ (λ (log end : List ℕ). log ++ end) (sym (t .lines)) (none-left lines (q .answer) (t .unrefused) says) ∙ append-nil (u .log)
