@@ -12,84 +12,33 @@ use checker::Standing;
 use definitions::Case;
 use definitions::FileAnswer;
 use definitions::Line;
-use definitions::LineRead;
 use definitions::Outcome;
 use definitions::Refusal;
-use definitions::Written;
 ghost use Prim.Native.Nat.{_≤_, _<_};
-
-// Document 01's number.
-fn number_of(refusal: Refusal) -> u64 {
-    match refusal {
-        Refusal::NotInColumns => 1,
-        Refusal::NotDue => 2,
-        Refusal::OutsideLimits => 3,
-        Refusal::WrongLength => 4,
-        Refusal::OutOfRange => 5,
-        Refusal::EndsNotAscending => 6,
-        Refusal::EdgeRepeated => 7,
-        Refusal::WeightOutOfRange => 8,
-        Refusal::RaiseNotAscending => 9,
-        Refusal::NotRefuted => 10,
-        Refusal::LeavesRange => 11,
-        Refusal::OtherBound => 12,
-        Refusal::BoundNotLower => 13,
-        Refusal::CutShort => 14,
-    }
-}
 
 // 0 where there is none.
 fn number(answer: Outcome) -> u64 {
     match answer {
         Outcome::Done => 0,
-        Outcome::Refused(refusal) => number_of(refusal),
+        Outcome::Refused(refusal) => drivers::number_of(refusal),
     }
 }
 
 // ---- what is printed
 
 fn print(text: &[u8]) {
-    io::write_all(1, text);
-}
-
-fn print_count(n: u64) {
-    print(b" ");
-    io::print_decimal(1, n);
-}
-
-fn print_first(text: &[u8], n: usize) {
-    if n <= text.len() {
-        print(&text[0..n]);
-    }
-}
-
-fn print_weight(z: i64) {
-    print(b" ");
-    let mut text = [0u8; 20];
-    let written = lines::write_number(&mut text, z);
-    match written {
-        Written::Bytes(n) => print_first(&text, n),
-        Written::Refused(_) => print(b"?"),
-    }
-}
-
-fn print_each(table: &[i64]) {
-    let mut i: usize = 0;
-    while i < table.len() {
-        print_weight(table[i]);
-        i += 1;
-    }
+    drivers::print(text);
 }
 
 fn print_weights(table: &[i64]) {
-    print_each(table);
+    drivers::print_numbers(table);
     print(b"\n");
 }
 
 // ---- a record handed over
 
 fn count(z: i64) -> usize {
-    if z < 0 { 0 } else { z as usize }
+    drivers::count_or(z, 0)
 }
 
 fn rounds_of(c: i64) -> u64 {
@@ -156,21 +105,17 @@ fn begun(fresh: Replay, given: &[u8]) -> Replay {
     if given.len() < 54 {
         return fresh;
     }
-    let first = lines::read_line(&given[0..27]);
-    let second = lines::read_line(&given[27..54]);
-    let LineRead::Read(press) = first else {
-        return fresh;
-    };
-    let LineRead::Read(rest) = second else {
-        return fresh;
-    };
+    let press = drivers::line_of(&given[0..27]);
+    let rest = drivers::line_of(&given[27..54]);
     handed_over(fresh, press, rest)
 }
 
 fn print_last(last: LastRaised) {
     match last {
         LastRaised::Nothing => print(b" none"),
-        LastRaised::Scope(x) => print_count(x as u64),
+        LastRaised::Scope(x) => {
+            drivers::print_count(x as u64);
+        }
     }
 }
 
@@ -183,9 +128,9 @@ fn print_due(due: Due) {
             left,
             last,
         } => {
-            print_count(variable as u64);
-            print_weight(amount);
-            print_count(left as u64);
+            drivers::print_count(variable as u64);
+            drivers::print_number(amount);
+            drivers::print_count(left as u64);
             print_last(last);
         }
     }
@@ -193,7 +138,7 @@ fn print_due(due: Due) {
 
 fn print_mark(scope: usize, mark: u8) {
     if mark != 0 {
-        print_count(scope as u64);
+        drivers::print_count(scope as u64);
     }
 }
 
@@ -216,7 +161,7 @@ fn print_flag(flag: bool) {
 fn standing_number(standing: Standing) -> u64 {
     match standing {
         Standing::Good => 0,
-        Standing::Refused(refusal) => number_of(refusal),
+        Standing::Refused(refusal) => drivers::number_of(refusal),
     }
 }
 
@@ -234,7 +179,7 @@ fn print_record(given: &[u8], replay: Replay) {
     print(b" raised");
     print_marks(&raised);
     print(b" stands");
-    print_count(standing_number(standing));
+    drivers::print_count(standing_number(standing));
     print(b"\n");
 }
 
@@ -243,7 +188,7 @@ fn print_given(given: &[u8], replay: Replay, case: Case) {
         return;
     }
     print(b"  given end");
-    print_count(number(replay.end(case)));
+    drivers::print_count(number(replay.end(case)));
     print(b"\n");
 }
 
@@ -266,10 +211,21 @@ fn by_lines(replay: Replay, case: Case, table: &mut [i64], log: &[u8]) -> Replay
         let stepped = after.step(case, table, &log[at..to]);
         after = stepped.replay;
         let answer = stepped.answer;
-        print_count(number(answer));
+        drivers::print_count(number(answer));
         at = to;
     }
     after
+}
+
+// The number at the end, the rounds, the weights, and a record handed over as it is now.
+fn finish(given: &[u8], after: Replay, case: Case, table: &[i64]) {
+    print(b" end");
+    drivers::print_count(number(after.end(case)));
+    print(b" rounds");
+    drivers::print_count(after.rounds);
+    print(b" weights");
+    print_weights(table);
+    print_record(given, after);
 }
 
 fn single(case: Case, table: &mut [i64], given: &[u8], log: &[u8]) {
@@ -277,30 +233,18 @@ fn single(case: Case, table: &mut [i64], given: &[u8], log: &[u8]) {
     print_given(given, before, case);
     print(b"  lines");
     let after = by_lines(before, case, table, log);
-    print(b" end");
-    print_count(number(after.end(case)));
-    print(b" rounds");
-    print_count(after.rounds);
-    print(b" weights");
-    print_weights(table);
-    print_record(given, after);
+    finish(given, after, case, table);
 }
 
 fn whole(case: Case, table: &mut [i64], given: &[u8], log: &[u8]) {
     print(b"  block");
     let before = begun(Replay::fresh(case, table), given);
     let block = before.lines(case, table, log);
-    print_count(block.lines as u64);
+    drivers::print_count(block.lines as u64);
     let answer = block.answer;
-    print_count(number(answer));
+    drivers::print_count(number(answer));
     let after = block.replay;
-    print(b" end");
-    print_count(number(after.end(case)));
-    print(b" rounds");
-    print_count(after.rounds);
-    print(b" weights");
-    print_weights(table);
-    print_record(given, after);
+    finish(given, after, case, table);
 }
 
 // ---- the vectors
@@ -374,19 +318,14 @@ fn vector(input: &[u8]) -> usize {
         return 0;
     }
     print(&input[0..27]);
-    let control = lines::read_line(&input[27..54]);
-    match control {
-        LineRead::Refused(_) => 0,
-        LineRead::Read(line) => {
-            let size = count(line.amount);
-            if input.len() - 54 < size {
-                return 0;
-            }
-            let to = 54 + size;
-            replay(&input[54..to], count(line.a), count(line.b));
-            to
-        }
+    let control = drivers::line_of(&input[27..54]);
+    let size = count(control.amount);
+    if input.len() - 54 < size {
+        return 0;
     }
+    let to = 54 + size;
+    replay(&input[54..to], count(control.a), count(control.b));
+    to
 }
 
 fn vectors(input: &[u8]) {
