@@ -1,12 +1,11 @@
 -- What is prepared of a table, and what is asked of `all_refuted` over it. Assumes nothing.
-use mathlib.Core.Path.{_≡_, refl, sym, ap, _∙_}
-use mathlib.Core.Bool.{Bool, true, false, not, _||_}
-use mathlib.Core.Logic.{_≢_}
+use mathlib.Core.Path.{_≡_, refl, ap, _∙_}
+use mathlib.Core.Bool.{Bool, true, false, not}
 use mathlib.Core.Option.{none}
 use mathlib.Core.List.{List, map}
 use Prim.Native.Nat.{ℕ, _+_, _*_, _-_, _≤_, _<_}
 use native.Mathlib.Omega.{arith}
-use borrow.Author.Tests.{le-ltb, ne-eqb}
+use borrow.Author.Tests.{le-ltb}
 use lib.IntN.{ℤ}
 use lib.Dec.{eqb}
 use lib.ListN.{length, getD, take, drop, length-append, length-take, length-drop, List·getD-append}
@@ -21,12 +20,11 @@ use Rattle.definitions.specs.Consistency.{allRefuted}
 use Rattle.definitions.specs.Moves.{activeValues}
 use Rattle.theory.proofs.Validity.{Handed, handed}
 use Rattle.theory.proofs.Replays.{none-iff}
-use Rattle.engine_theory.proofs.Raised.{own-scope}
 use Rattle.consistency.specs.Active.{activeSet, activeRow, activeSets, activeRows, tooShort, activeRefusal, setsAfter, rowsAfter}
 use Rattle.consistency.specs.Tried.{triedAnswer}
 use Rattle.consistency.specs.declared.Tried.the-variants.{Refuted, Supported}
 use Rattle.consistency.proofs.Refutation.{Bytes, tried-active}
-use Rattle.engine.specs.Search.{saysRefuted, isRaised, Prepared, Allowing, ownOrRaised, refutesIn}
+use Rattle.engine.specs.Search.{saysRefuted, isRaised, Prepared, Allowing}
 
 -- ---- what `active_marks` leaves
 
@@ -110,14 +108,3 @@ module _ (c : Case) (w : List ℤ) {acts rows : List ℕ} (raised sets : List �
       ap (λ (values : ℕ). saysRefuted (triedAnswer (c .lower) (c .upper) rows (edgesOf c raised) (take (c .n) sets) i values)) (p .acts-are i g)
       ∙ ap saysRefuted (tried-active c w (p .handed) R rows (edgesOf c raised) (take (c .n) sets) bytes i g)
       ∙ refuted-says (allRefuted c w R i (activeValues c w i))
-
--- asked of one variable, whose own scope makes no difference
-pub refutes-says : (c : Case) (w : List ℤ) {acts rows : List ℕ} (raised sets : List ℕ) (i : ℕ) (p : Prepared c w acts rows) → Allowing c w (ownOrRaised raised i) sets
-    → length (c .lower) ≡ 96 → length (c .upper) ≡ 96 → scopeCount c ≤ length raised → c .n ≤ length sets → i < c .n
-    → saysRefuted (triedAnswer (c .lower) (c .upper) rows (edgesOf c raised) (take (c .n) sets) i (getD acts i 0)) ≡ refutesIn c w i raised
-refutes-says c w raised sets i p a lowers uppers long room g =
-    asked-says c w raised sets (ownOrRaised raised i) p a (λ e h. sym (elsewhere (c .n + e) (λ q. absurd (omega arith)))) lowers uppers long room i g
-    ∙ own-scope c w i g (p .handed .shape) (ownOrRaised raised i) (isRaised raised) (λ x h ne. elsewhere x ne)
-  where
-    elsewhere : (x : ℕ) → x ≢ i → ownOrRaised raised i x ≡ isRaised raised x
-    elsewhere x ne = ap (λ (b : Bool). b || isRaised raised x) (ne-eqb x i ne)

@@ -1,6 +1,6 @@
 -- Bytes for raised scopes and allowed values: one scope raised or lowered, and raised scopes that are alike. Assumes nothing.
 use mathlib.Core.Path.{_≡_, refl, sym, ap, subst, _∙_}
-use mathlib.Core.Bool.{Bool, true, not, _||_}
+use mathlib.Core.Bool.{Bool, not}
 use mathlib.Core.Logic.{_≢_, ⊎-elim}
 use mathlib.Core.List.{List}
 use Prim.Native.Nat.{ℕ, _+_, _≤_, _<_}
@@ -10,7 +10,7 @@ use lib.Dec.{eqb, eqb→eq}
 use lib.ListN.{length, getD, set, replicate, getD-replicate}
 use lib.Seq.{getD-set-same, getD-set-other}
 use Rattle.integers.specs.Words.{if_then_else_, _⇒_}
-use Rattle.integers.specs.Tests.{either, is-true, is-false, eqb-iff, not-eqb-iff}
+use Rattle.integers.specs.Tests.{either, not-eqb-iff}
 use Rattle.integers.specs.Lists.{all-same}
 use Rattle.definitions.specs.declared.Case.{Case}
 use Rattle.definitions.specs.Case.{scopeCount}
@@ -19,7 +19,7 @@ use Rattle.definitions.specs.Moves.{activeValues}
 use Rattle.definitions.proofs.Refutation.{refuted-same}
 use Rattle.marks.specs.Marks.{fullOf}
 use Rattle.consistency.specs.Active.{activeSet}
-use Rattle.engine.specs.Search.{isRaised, ActiveIn, Allowing, ownOrRaised, AllRaised}
+use Rattle.engine.specs.Search.{isRaised, ActiveIn, Allowing, AllRaised}
 
 module _ (raised : List ℕ) (x b : ℕ) where
   pub raised-here : x < length raised → isRaised (set raised x b) x ≡ not (eqb b 0)
@@ -46,20 +46,15 @@ filled-more f S j h e k g = ⊎-elim
 pub allowing-all : (c : Case) (w : List ℤ) (acts raised sets : List ℕ) → ActiveIn c w acts → ((j : ℕ) → j < c .n → getD sets j 0 ≡ getD acts j 0) → AllRaised c raised → Allowing c w (isRaised raised) sets
 allowing-all c w acts raised sets a f all j h = f j h ∙ a j h ∙ sym (ap (λ (b : Bool). if b then activeSet c w j else fullOf (c .d)) (all j (omega arith)))
 
--- with the active values of variable i in its own set, raised or not
-pub allowing-own : (c : Case) (w : List ℤ) (acts raised sets : List ℕ) (i : ℕ) → ActiveIn c w acts → i < c .n → i < length sets
-    → ((j : ℕ) → j < c .n → getD sets j 0 ≡ (if isRaised raised j then getD acts j 0 else fullOf (c .d))) → Allowing c w (ownOrRaised raised i) (set sets i (getD acts i 0))
-allowing-own c w acts raised sets i a g long f j h = ⊎-elim
+-- what is not raised is left out
+pub lowered-more : (raised S : List ℕ) (j v : ℕ) → j < length S → ((y : ℕ) → y < j → getD raised y 0 ≡ 0 → getD S y 0 ≡ 0) → (getD raised j 0 ≡ 0 → v ≡ 0)
+    → (y : ℕ) → y < j + 1 → getD raised y 0 ≡ 0 → getD (set S j v) y 0 ≡ 0
+lowered-more raised S j v h f e y g z = ⊎-elim
     (λ t.
-    subst (λ (k : ℕ). getD (set sets i (getD acts i 0)) k 0 ≡ (if ownOrRaised raised i k then activeSet c w k else fullOf (c .d))) (sym (eqb→eq j i t))
-    (getD-set-same sets i (getD acts i 0) 0 long ∙ a i g ∙ sym (ap (λ (b : Bool). if b || isRaised raised i then activeSet c w i else fullOf (c .d)) (eqb-same i))))
-    (λ t.
-    getD-set-other sets i j (getD acts i 0) 0 (not-eqb-iff j i .0 t) ∙ f j h ∙ ap (λ (s : ℕ). if isRaised raised j then s else fullOf (c .d)) (a j h)
-    ∙ sym (ap (λ (b : Bool). if b || isRaised raised j then activeSet c w j else fullOf (c .d)) (is-false (eqb j i) t)))
-    (either (eqb j i))
-  where
-    eqb-same : (x : ℕ) → eqb x x ≡ true
-    eqb-same x = is-true (eqb x x) (eqb-iff x x .1 refl)
+    let q : y ≡ j = eqb→eq y j t in
+    subst (λ (k : ℕ). getD (set S j v) k 0 ≡ 0) (sym q) (getD-set-same S j v 0 h ∙ e (subst (λ (k : ℕ). getD raised k 0 ≡ 0) q z)))
+    (λ t. let ne = not-eqb-iff y j .0 t in getD-set-other S j y v 0 ne ∙ f y (omega arith) z)
+    (either (eqb y j))
 
 pub ones-raised : (c : Case) → scopeCount c ≤ 144 → AllRaised c (replicate 144 1)
 ones-raised c h y g = ap (λ (n : ℕ). not (eqb n 0)) (getD-replicate 144 y 1 0 (omega arith))

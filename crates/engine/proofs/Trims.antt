@@ -122,6 +122,13 @@ module _ (c : Case) (w : List ℤ) (i : ℕ) where
 
 -- ---- scopes that are enough
 
+-- nothing was left but what is raised
+pub raised-kept : (raised enough : List ℕ) (n : ℕ) → ((y : ℕ) → y < n → getD raised y 0 ≡ 0 → getD enough y 0 ≡ 0) → (y : ℕ) → y < n → T (isRaised enough y) → T (isRaised raised y)
+raised-kept raised enough n f y h t = ⊎-elim
+    (λ s. absurd (subst (λ (b : ℕ). T (not (eqb b 0))) (f y h (eqb→eq (getD raised y 0) 0 s)) t))
+    (λ s. s)
+    (either (eqb (getD raised y 0) 0))
+
 module _ (c : Case) (w : List ℤ) (i : ℕ) where
   refutes-more : (raised enough : List ℕ) → Enough c w i raised enough → refutesIn c w i raised ≡ true
   refutes-more raised enough n = is-true (refutesIn c w i raised) (refuted-more c w i (isRaised enough) (isRaised raised) (n .inside) (true-is (refutesIn c w i enough) (n .refutes)))

@@ -1,14 +1,15 @@
 -- The least gap, scope by scope. Assumes nothing.
-use mathlib.Core.Bool.{Bool}
+use mathlib.Core.Bool.{Bool, _||_}
 use mathlib.Core.List.{List, [], _∷_}
 use Prim.Native.Nat.{ℕ}
 use lib.IntN.{ℤ, _-ℤ_}
+use lib.Dec.{eqb}
 use Rattle.integers.specs.Words.{if_then_else_, eqZ, minZ}
-use Rattle.engine.specs.Search.{ownOrRaised}
+use Rattle.engine.specs.Search.{isRaised}
 
--- the scopes that limit the amount
+-- scope x limits the amount: it is variable i's own, or raised
 abbrev pub limits : List ℕ → ℕ → ℕ → Bool
-limits = ownOrRaised
+limits raised i x = eqb x i || isRaised raised x
 
 -- the lesser of `least` and the gap of a weight below `best`; a weight that is `best` sets no limit
 abbrev pub lesserGap : ℤ → ℤ → ℤ → ℤ

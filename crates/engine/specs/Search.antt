@@ -1,6 +1,6 @@
 -- Raised scopes and sets of values as bytes, and what the search for a press may take as known. Assumes nothing.
 use mathlib.Core.Path.{_≡_}
-use mathlib.Core.Bool.{Bool, true, false, not, _&&_, _||_}
+use mathlib.Core.Bool.{Bool, true, false, not, _&&_}
 use mathlib.Core.Logic.{_≢_}
 use mathlib.Core.Option.{Option, none, some}
 use mathlib.Core.List.{List}
@@ -46,10 +46,6 @@ pub record Prepared (c : Case) (w : List ℤ) (acts rows : List ℕ) : Type 0 wh
 -- sets holds the allowed values of each variable: the active ones if its scope is raised, else all
 abbrev pub Allowing : Case → List ℤ → (ℕ → Bool) → List ℕ → Type 0
 Allowing c w R sets = (j : ℕ) → j < c .n → getD sets j 0 ≡ (if R j then activeSet c w j else fullOf (c .d))
-
--- scope x is variable i's own, or raised
-abbrev pub ownOrRaised : List ℕ → ℕ → ℕ → Bool
-ownOrRaised raised i x = eqb x i || isRaised raised x
 
 -- the active values of variable i are all refuted with these scopes raised
 abbrev pub refutesIn : Case → List ℤ → ℕ → List ℕ → Bool

@@ -9,9 +9,9 @@ use definitions::Run;
 use definitions::RunAnswer;
 ghost use mathlib.Core.Path.{_≡_};
 ghost use mathlib.Core.Option.{some};
-ghost use mathlib.Core.Bool.{not};
+ghost use mathlib.Core.Bool.{true, not};
 ghost use mathlib.Core.List.{List, _++_};
-ghost use Prim.Native.Nat.{ℕ, _+_, _*_, _≤_, _<_};
+ghost use Prim.Native.Nat.{ℕ, _+_, _*_, _-_, _≤_, _<_};
 ghost use lib.Dec.{T, ltb, eqb};
 ghost use lib.IntN.{ℤ, pos};
 ghost use lib.ListN.{length, getD};
@@ -26,7 +26,6 @@ ghost use Rattle.definitions.specs.Engine.{chosen, keptScopes, leastGap, roundB
 ghost use Rattle.definitions.specs.EngineCalls.{roundCall, runCall};
 ghost use Rattle.theory.proofs.Validity.{Handed};
 ghost use Rattle.figures.specs.Scopes.{Limited, sizeOf, BestOf};
-ghost use Rattle.consistency.specs.Tried.{triedAnswer};
 ghost use Rattle.engine.specs.Search.{saysRefuted, isRaised, Prepared, refutesIn, AllRaised, OthersRaised, ChosenIn, ChosenIs, chosenOf, lowestRefuted, FoundIs, Enough, Dropped};
 ghost use Rattle.engine.specs.Gaps.{limits, lesserGap, lessGaps};
 ghost use Rattle.engine.specs.Texts.{raisedFrom, raisedBelow, raiseTexts, pressLine, pressText};
@@ -67,25 +66,6 @@ fn copy_bytes(from: &[u8], to: &mut [u8], n: usize)
     }
 }
 
-// Whether none of these values has a family. The sets are narrowed once, before a value is fixed.
-fn none_has_family(
-    case: Case,
-    rows: &[u8],
-    edges: &[u8],
-    sets: &mut [u8],
-    variable: usize,
-    values: u8,
-) -> bool
-    requires { ⌜ variable < length (now sets) ⌝ }
-    ensures { λ r. ⌜ r ≡ saysRefuted (triedAnswer (case .lower) (case .upper) (now (rows .entry)) (now (edges .entry)) (now (sets .entry)) variable values) ⌝ }
-{
-    let lower = case.lower;
-    let upper = case.upper;
-    consistency::closure(&lower, &upper, rows, edges, sets);
-    let tried = consistency::all_refuted(&lower, &upper, rows, edges, sets, variable, values);
-    is_refuted(tried)
-}
-
 fn allowed_values(raised: u8, active: u8, full: u8) -> u8
     ensures { λ r. ⌜ r ≡ (if not (eqb raised 0) then active else full) ⌝ }
 {
@@ -107,25 +87,26 @@ fn allow(acts: &[u8], raised: &[u8], full: u8, sets: &mut [u8], n: usize)
     }
 }
 
-// Whether the active values of the variable are all refuted. Only these stand in its own set, raised or not.
+// Whether the active values of the variable are all refuted.
 fn refutes(case: Case, acts: &[u8], rows: &[u8], raised: &[u8], variable: usize) -> bool
     requires { ⌜ (scopeCount case ≤ length (now raised)) × (case .n ≤ length (now acts)) × (variable < case .n) × (case .n ≤ 48) × (case .d ≤ 8) ⌝ }
     ensures { λ r. ⌜ ((w : List ℤ) → Prepared case w (now (acts .entry)) (now (rows .entry)) → r ≡ refutesIn case w variable (now (raised .entry))) ⌝ }
 {
     let n = case.n;
     let end = n + case.m;
-    let values = acts[variable];
+    let lower = case.lower;
+    let upper = case.upper;
     let mut sets = [0u8; 48];
     allow(acts, raised, marks::full(case.d as u8), &mut sets, n);
-    sets[variable] = values;
-    none_has_family(
-        case,
+    is_refuted(consistency::all_refuted(
+        &lower,
+        &upper,
         rows,
         &raised[n..end],
-        &mut sets[..n],
+        &sets[..n],
         variable,
-        values,
-    )
+        acts[variable],
+    ))
 }
 
 // The lowest variable whose values `acts` are all refuted inside the sets.
@@ -182,6 +163,358 @@ fn choose(case: Case, acts: &[u8], rows: &[u8], raised: &[u8]) -> Chosen
     lowest_refuted(&lower, &upper, acts, rows, &raised[n..end], &mut sets[..n])
 }
 
+// ---- a guess at scopes that are enough: those that struck values, back from a set that ran empty
+
+fn wide(x: u8) -> usize
+    ensures { λ r. ⌜ r ≡ x ⌝ }
+{
+    x as usize
+}
+
+fn keep_value(kept: u8, k: usize, partners: u8) -> u8 {
+    if partners != 0 {
+        return kept;
+    }
+    if k < 8 {
+        return marks::strike(kept, k as u8);
+    }
+    kept
+}
+
+// The values of `own` that have a partner in `other`. The partners of value k stand at rows[at + k].
+fn with_partners(rows: &[u8], at: usize, own: u8, other: u8) -> u8
+    requires { ⌜ at + 8 ≤ length (now rows) ⌝ }
+{
+    let mut kept = own;
+    let mut k: usize = 0;
+    while k < 8 {
+        kept = keep_value(kept, k, marks::common(rows[at + k], other));
+        k += 1;
+    }
+    kept
+}
+
+// Strikes what has no partner over an arc, and notes the arc if it struck something.
+fn note_arc(
+    rows: &[u8],
+    arc: usize,
+    i: usize,
+    j: usize,
+    sets: &mut [u8],
+    noted: &mut [u8],
+    count: usize,
+) -> usize
+    requires { ⌜ (8 * arc + 8 ≤ length (now rows)) × (arc < 256) × (i < length (now sets)) × (j < length (now sets)) × (count ≤ length (now noted)) ⌝ }
+    ensures { λ r. ⌜ (count ≤ r) × (r ≤ length (now (noted .entry))) ⌝ }
+{
+    let own = sets[i];
+    let kept = with_partners(rows, 8 * arc, own, sets[j]);
+    sets[i] = kept;
+    if kept == own {
+        return count;
+    }
+    if noted.len() <= count {
+        return count;
+    }
+    noted[count] = arc as u8;
+    count + 1
+}
+
+// Both arcs of an edge, if it is raised.
+fn note_edge(
+    rows: &[u8],
+    raised: u8,
+    e: usize,
+    i: usize,
+    j: usize,
+    sets: &mut [u8],
+    noted: &mut [u8],
+    count: usize,
+) -> usize
+    requires { ⌜ (16 * e + 16 ≤ length (now rows)) × (e < 96) × (i < length (now sets)) × (j < length (now sets)) × (count ≤ length (now noted)) ⌝ }
+    ensures { λ r. ⌜ (count ≤ r) × (r ≤ length (now (noted .entry))) ⌝ }
+{
+    if raised == 0 {
+        return count;
+    }
+    let next = note_arc(rows, 2 * e, i, j, sets, noted, count);
+    note_arc(rows, 2 * e + 1, j, i, sets, noted, next)
+}
+
+// The edges without a strike since the last one.
+fn quiet_after(quiet: usize, before: usize, count: usize) -> usize
+    requires { ⌜ (quiet < 96) × (before ≤ count) ⌝ }
+    ensures { λ r. ⌜ (r ≤ quiet + 1) × (quiet + 1 ≤ r + 97 * (count - before)) ⌝ }
+{
+    if count == before {
+        return quiet + 1;
+    }
+    0
+}
+
+fn edge_after(e: usize, edges: usize) -> usize
+    requires { ⌜ e < edges ⌝ }
+    ensures { λ r. ⌜ r < edges ⌝ }
+{
+    if e + 1 < edges {
+        return e + 1;
+    }
+    0
+}
+
+// How many strikes were noted, and the variable whose set ran empty, 48 if none did.
+struct Strikes {
+    count: usize,
+    emptied: usize,
+}
+
+// Strikes values, edge by edge, until a set is empty or nothing is left to strike.
+fn note_strikes(
+    lower: &[u8],
+    upper: &[u8],
+    rows: &[u8],
+    edges: &[u8],
+    sets: &mut [u8],
+    noted: &mut [u8],
+) -> Strikes
+    requires { ⌜ (length (now edges) ≤ length (now lower)) × (length (now edges) ≤ length (now upper)) × (16 * length (now edges) ≤ length (now rows)) × (length (now edges) ≤ 96) ⌝ }
+    ensures { λ r. ⌜ r .count ≤ length (now (noted .entry)) ⌝ }
+{
+    let mut count: usize = 0;
+    let mut quiet: usize = 0;
+    let mut e: usize = 0;
+    while quiet < edges.len() {
+        let i = wide(lower[e]);
+        let j = wide(upper[e]);
+        if sets.len() <= i {
+            break;
+        }
+        if sets.len() <= j {
+            break;
+        }
+        let next = note_edge(rows, edges[e], e, i, j, sets, noted, count);
+        if sets[i] == 0 {
+            return Strikes {
+                count: next,
+                emptied: i,
+            };
+        }
+        if sets[j] == 0 {
+            return Strikes {
+                count: next,
+                emptied: j,
+            };
+        }
+        quiet = quiet_after(quiet, count, next);
+        count = next;
+        e = edge_after(e, edges.len());
+    }
+    Strikes { count, emptied: 48 }
+}
+
+// A strike in the set of `own` over scope x counts if that set does, and then the set of `other` does too.
+fn count_strike(own: usize, other: usize, x: usize, counts: &mut [u8], used: &mut [u8]) {
+    if counts.len() <= own {
+        return;
+    }
+    if counts.len() <= other {
+        return;
+    }
+    if used.len() <= x {
+        return;
+    }
+    if counts[own] == 0 {
+        return;
+    }
+    counts[other] = 1;
+    used[x] = 1;
+}
+
+fn count_arc(lower: &[u8], upper: &[u8], n: usize, arc: u8, counts: &mut [u8], used: &mut [u8])
+    requires { ⌜ n ≤ 48 ⌝ }
+{
+    let e = wide(arc / 2);
+    if lower.len() <= e {
+        return;
+    }
+    if upper.len() <= e {
+        return;
+    }
+    let i = wide(lower[e]);
+    let j = wide(upper[e]);
+    if arc % 2 == 0 {
+        count_strike(i, j, n + e, counts, used);
+    } else {
+        count_strike(j, i, n + e, counts, used);
+    }
+}
+
+// Back through the strikes.
+fn count_back(
+    lower: &[u8],
+    upper: &[u8],
+    n: usize,
+    noted: &[u8],
+    counts: &mut [u8],
+    used: &mut [u8],
+)
+    requires { ⌜ n ≤ 48 ⌝ }
+{
+    let mut left = noted.len();
+    while 0 < left {
+        left -= 1;
+        count_arc(lower, upper, n, noted[left], counts, used);
+    }
+}
+
+fn own_use(counts: u8, active: u8, full: u8, used: u8) -> u8 {
+    if counts == 0 {
+        return used;
+    }
+    if active == full {
+        return used;
+    }
+    1
+}
+
+// The variables' own scopes.
+fn use_variables(acts: &[u8], full: u8, counts: &[u8], used: &mut [u8], n: usize)
+    requires { ⌜ (n ≤ length (now acts)) × (n ≤ length (now counts)) × (n ≤ length (now used)) ⌝ }
+{
+    let mut j: usize = 0;
+    while j < n {
+        used[j] = own_use(counts[j], acts[j], full, used[j]);
+        j += 1;
+    }
+}
+
+// Marks scopes with which these values of the variable run out of partners. Whether a set ran empty.
+fn explain(
+    case: Case,
+    acts: &[u8],
+    rows: &[u8],
+    raised: &[u8],
+    used: &mut [u8],
+    variable: usize,
+    values: u8,
+) -> bool
+    requires { ⌜ (scopeCount case ≤ length (now raised)) × (scopeCount case ≤ length (now used)) × (case .n ≤ length (now acts)) × (case .d ≤ 8) ⌝ }
+    requires { ⌜ (variable < case .n) × (case .n ≤ 48) × (case .m ≤ 96) × (16 * case .m ≤ length (now rows)) ⌝ }
+{
+    let n = case.n;
+    let end = n + case.m;
+    let full = marks::full(case.d as u8);
+    let lower = case.lower;
+    let upper = case.upper;
+    let mut sets = [0u8; 48];
+    let mut noted = [0u8; 384];
+    let mut counts = [0u8; 48];
+    allow(acts, raised, full, &mut sets, n);
+    sets[variable] = values;
+    let strikes = note_strikes(&lower, &upper, rows, &raised[n..end], &mut sets, &mut noted);
+    let count = strikes.count;
+    let emptied = strikes.emptied;
+    if 48 <= emptied {
+        return false;
+    }
+    counts[emptied] = 1;
+    count_back(&lower, &upper, n, &noted[..count], &mut counts, used);
+    use_variables(acts, full, &counts, used, n);
+    true
+}
+
+// Value k by itself, if it is active.
+fn explain_value(
+    case: Case,
+    acts: &[u8],
+    rows: &[u8],
+    raised: &[u8],
+    used: &mut [u8],
+    variable: usize,
+    k: u8,
+)
+    requires { ⌜ (scopeCount case ≤ length (now raised)) × (scopeCount case ≤ length (now used)) × (case .n ≤ length (now acts)) × (case .d ≤ 8) ⌝ }
+    requires { ⌜ (variable < case .n) × (case .n ≤ 48) × (case .m ≤ 96) × (16 * case .m ≤ length (now rows)) ⌝ }
+{
+    let value = marks::common(acts[variable], marks::only(k));
+    if value == 0 {
+        return;
+    }
+    explain(case, acts, rows, raised, used, variable, value);
+}
+
+fn explain_each(
+    case: Case,
+    acts: &[u8],
+    rows: &[u8],
+    raised: &[u8],
+    used: &mut [u8],
+    variable: usize,
+)
+    requires { ⌜ (scopeCount case ≤ length (now raised)) × (scopeCount case ≤ length (now used)) × (case .n ≤ length (now acts)) × (case .d ≤ 8) ⌝ }
+    requires { ⌜ (variable < case .n) × (case .n ≤ 48) × (case .m ≤ 96) × (16 * case .m ≤ length (now rows)) ⌝ }
+{
+    let mut k: u8 = 0;
+    while k < 8 {
+        explain_value(case, acts, rows, raised, used, variable, k);
+        k += 1;
+    }
+}
+
+// All values at once, if a set runs empty then.
+fn guess(case: Case, acts: &[u8], rows: &[u8], raised: &[u8], used: &mut [u8], variable: usize)
+    requires { ⌜ (scopeCount case ≤ length (now raised)) × (scopeCount case ≤ length (now used)) × (case .n ≤ length (now acts)) × (case .d ≤ 8) ⌝ }
+    requires { ⌜ (variable < case .n) × (case .n ≤ 48) × (case .m ≤ 96) ⌝ }
+{
+    if rows.len() < 16 * case.m {
+        return;
+    }
+    if explain(case, acts, rows, raised, used, variable, acts[variable]) {
+        return;
+    }
+    explain_each(case, acts, rows, raised, used, variable);
+}
+
+// ---- which scopes are kept
+
+fn unless_lowered(raised: u8, byte: u8) -> u8
+    ensures { λ r. ⌜ (raised ≡ 0 → r ≡ 0) ⌝ }
+{
+    if raised == 0 {
+        return 0;
+    }
+    byte
+}
+
+// Leaves out what is not raised.
+fn keep_raised(raised: &[u8], enough: &mut [u8], n: usize)
+    requires { ⌜ (n ≤ length (now raised)) × (n ≤ length (now enough)) ⌝ }
+    ensures { λ _. ⌜ ((y : ℕ) → y < n → getD (now (raised .entry)) y 0 ≡ 0 → getD (now (enough .exit)) y 0 ≡ 0) ⌝ }
+{
+    let mut j: usize = 0;
+    while j < n {
+        enough[j] = unless_lowered(raised[j], enough[j]);
+        j += 1;
+    }
+}
+
+// Raised scopes with which the values are refuted: fewer, if the guess is right, else all.
+fn renew(case: Case, acts: &[u8], rows: &[u8], raised: &[u8], enough: &mut [u8], variable: usize)
+    requires { ⌜ (scopeCount case ≤ length (now raised)) × (scopeCount case ≤ length (now enough)) × (case .n ≤ length (now acts)) × (case .d ≤ 8) ⌝ }
+    requires { ⌜ (variable < case .n) × (case .n ≤ 48) × (case .m ≤ 96) ⌝ }
+    ensures { λ _. ⌜ ((w : List ℤ) → Prepared case w (now (acts .entry)) (now (rows .entry)) → refutesIn case w variable (now (raised .entry)) ≡ true → Enough case w variable (now (raised .entry)) (now (enough .exit))) ⌝ }
+{
+    let scopes = case.n + case.m;
+    let none = [0u8; 144];
+    copy_bytes(&none, enough, scopes);
+    guess(case, acts, rows, raised, enough, variable);
+    keep_raised(raised, enough, scopes);
+    if refutes(case, acts, rows, enough, variable) {
+        return;
+    }
+    copy_bytes(raised, enough, scopes);
+}
+
 // Drops scope x, unless the values are not refuted without it. With the scopes `enough` they are refuted.
 fn drop_scope(
     case: Case,
@@ -193,7 +526,7 @@ fn drop_scope(
     x: usize,
 )
     requires { ⌜ (scopeCount case ≤ length (now raised)) × (scopeCount case ≤ length (now enough)) × (case .n ≤ length (now acts)) × (case .d ≤ 8) ⌝ }
-    requires { ⌜ (variable < case .n) × (x < scopeCount case) × (case .n ≤ 48) ⌝ }
+    requires { ⌜ (variable < case .n) × (x < scopeCount case) × (case .n ≤ 48) × (case .m ≤ 96) ⌝ }
     ensures { λ _. ⌜ ((w : List ℤ) → Prepared case w (now (acts .entry)) (now (rows .entry)) → Enough case w variable (now (raised .entry)) (now (enough .entry)) → Enough case w variable (now (raised .exit)) (now (enough .exit)) × Dropped case w variable x (now (raised .entry)) (now (raised .exit))) ⌝ }
 {
     raised[x] = 0;
@@ -201,7 +534,7 @@ fn drop_scope(
         return;
     }
     if refutes(case, acts, rows, raised, variable) {
-        copy_bytes(raised, enough, case.n + case.m);
+        renew(case, acts, rows, raised, enough, variable);
         return;
     }
     raised[x] = 1;
@@ -236,7 +569,7 @@ fn trim(case: Case, acts: &[u8], rows: &[u8], raised: &mut [u8], variable: usize
 {
     let mut enough = [0u8; 144];
     raised[variable] = 0;
-    copy_bytes(raised, &mut enough, case.n + case.m);
+    renew(case, acts, rows, raised, &mut enough, variable);
     drop_scopes(case, acts, rows, raised, &mut enough, variable);
 }
 

@@ -1,13 +1,13 @@
+use borrow.Author.Needs.{needs}
 use mathlib.Core.Path.{sym, ap, _∙_}
 use mathlib.Core.Bool.{not}
-use native.Mathlib.Omega.{arith}
 use Prim.Native.Nat.{_<_}
-use lib.ListN.{length, set, length-set}
+use native.Mathlib.Omega.{arith}
+use lib.ListN.{length, length-set}
 use denote.Ref.{now}
 use borrow.Author.Tests.{ne-eqb}
 use Rattle.integers.specs.Tests.{true-is}
-use Rattle.engine.proofs.Trims.{copied-enough, enough-without, enough-kept, dropped-out, dropped-free, dropped-not}
-use borrow.Author.Needs.{needs}
+use Rattle.engine.proofs.Trims.{enough-without, enough-kept, dropped-out, dropped-free, dropped-not}
 use Rattle.engine.proofs.drop_scope.Statement.{statement}
 use Rattle.engine.proofs.drop_scope.Tie as tie
 
@@ -31,11 +31,8 @@ returns c = λ w p n.
 refutes-requires : tie.Need-refutes-requires
 refutes-requires c κs = search needs
 
-add-copy-bytes : tie.Need-add-copy-bytes
-add-copy-bytes c = search needs
-
-copy-bytes-requires : tie.Need-copy-bytes-requires
-copy-bytes-requires c κs = search needs
+renew-requires : tie.Need-renew-requires
+renew-requires c κs = search needs
 
 same-length-2 : tie.Need-same-length-2
 same-length-2 c = search needs
@@ -45,10 +42,10 @@ same-length-3 c = search needs
 
 returns-2 : tie.Need-returns-2
 returns-2 c = λ w p n.
-    let s = c .before .before .before .before .before .before .before .before .before .before .before .before .before .before .before in
+    let s = c .before .before .before .before .before .before .before .before .before .before .before .before .before .before in
     let a = s .args in
-    let t = sym (c .before .before .before .before .before .before .before .refutes .ensures w p) ∙ c .before .before .before .before .before .before .if2 .taken in
-    (copied-enough (a .case) w (a .variable) (set (now (a .raised)) (a .x) 0) (c .before .before .copy-bytes .last .1 .0) (c .before .before .copy-bytes .ensures) t, dropped-out (a .case) w (a .variable) (a .x) (omega (arith, s .pre)) t)
+    let t = sym (c .before .before .before .before .before .before .refutes .ensures w p) ∙ c .before .before .before .before .before .if2 .taken in
+    (c .before .before .renew .ensures w p t, dropped-out (a .case) w (a .variable) (a .x) (omega (arith, s .pre)) t)
 
 slice-write-raised-2 : tie.Need-slice-write-raised-2
 slice-write-raised-2 c = simp length-set (omega (arith, c .before .before .before .before .before .before .before .before .before .pre))
@@ -74,8 +71,7 @@ drop-scope-spec =
     same-length
     returns
     refutes-requires
-    add-copy-bytes
-    copy-bytes-requires
+    renew-requires
     same-length-2
     same-length-3
     returns-2

@@ -33,7 +33,7 @@ drop-scope-requires : tie.Need-drop-scope-requires Inv-loop μ-loop
 drop-scope-requires c κs =
     let l = c .before .before .before in
     let s = c .before .before .before .before .before .before .before .before .before in
-    ((omega (arith, l .loop .inv, s .pre), omega (arith, l .loop .inv, s .pre), s .pre .0 .2, s .pre .0 .3), (s .pre .1 .0, omega (arith, c .before .before .loop-test .taken), s .pre .1 .1))
+    ((omega (arith, l .loop .inv, s .pre), omega (arith, l .loop .inv, s .pre), s .pre .0 .2, s .pre .0 .3), (s .pre .1 .0, omega (arith, c .before .before .loop-test .taken), s .pre .1 .1, s .pre .1 .2))
 
 add-x : tie.Need-add-x Inv-loop μ-loop
 add-x c = omega arith

@@ -1,23 +1,18 @@
-use mathlib.Core.Path.{_≡_, sym, ap, _∙_}
-use mathlib.Core.List.{List}
+use borrow.Author.Needs.{needs}
+use mathlib.Core.Path.{_≡_, refl, sym, ap, ap₂, _∙_}
 use Prim.Native.Nat.{ℕ, _≤_}
 use native.Mathlib.Omega.{arith}
-use lib.ListN.{length, getD, set, take, length-set}
+use lib.ListN.{length}
 use lib.Seq.{length-take-le}
 use denote.Ref.{now}
 use Rattle.integers.specs.Words.{if_then_else_}
-use Rattle.engine.specs.Search.{isRaised}
-use Rattle.engine.proofs.Asking.{refutes-says}
-use Rattle.engine.proofs.Raising.{allowing-own}
-use borrow.Author.Needs.{needs}
+use Rattle.engine.specs.Search.{saysRefuted, isRaised}
+use Rattle.engine.proofs.Asking.{asked-says}
 use Rattle.engine.proofs.refutes.Statement.{statement}
 use Rattle.engine.proofs.refutes.Tie as tie
 
 add-end : tie.Need-add-end
 add-end c = search needs
-
-shared-slice-read-values : tie.Need-shared-slice-read-values
-shared-slice-read-values c = search needs
 
 cast-full : tie.Need-cast-full
 cast-full c = search needs
@@ -31,66 +26,69 @@ slice-aggregate-allow c = search needs
 allow-requires : tie.Need-allow-requires
 allow-requires c κs = search needs
 
-array-write-sets : tie.Need-array-write-sets
-array-write-sets c = search needs
+slice-aggregate-all-refuted : tie.Need-slice-aggregate-all-refuted
+slice-aggregate-all-refuted c = search needs
 
-sub-none-has-family : tie.Need-sub-none-has-family
-sub-none-has-family c = search needs
+slice-aggregate-all-refuted-2 : tie.Need-slice-aggregate-all-refuted-2
+slice-aggregate-all-refuted-2 c = search needs
 
-part-none-has-family-start : tie.Need-part-none-has-family-start
-part-none-has-family-start c = search needs
+sub-all-refuted : tie.Need-sub-all-refuted
+sub-all-refuted c = search needs
 
-part-none-has-family-end : tie.Need-part-none-has-family-end
-part-none-has-family-end c = search needs
+part-all-refuted-start : tie.Need-part-all-refuted-start
+part-all-refuted-start c = search needs
 
--- the allowed values, with the active ones in the own set
-abbrev sets : (c : tie.After-allow) → List ℕ
-sets c = let a = c .before .before .before .before .before .before .before .before .before .args in set (c .allow .last .1 .1 .1 .0) (a .variable) (getD (now (a .acts)) (a .variable) 0)
+part-all-refuted-end : tie.Need-part-all-refuted-end
+part-all-refuted-end c = search needs
 
-room : (c : tie.After-allow) → c .before .before .before .before .before .before .before .before .before .args .case .n ≤ length (sets c)
-room c = simp length-set (omega (arith, c .before .before .before .before .before .before .before .before .before .pre .3, c .allow .kept .1 .1 .1 .0))
+array-share-prefix-sets : tie.Need-array-share-prefix-sets
+array-share-prefix-sets c = search needs
 
-prefix-length : (c : tie.After-allow) → length (take (c .before .before .before .before .before .before .before .before .before .args .case .n) (sets c)) ≡ c .before .before .before .before .before .before .before .before .before .args .case .n
-prefix-length c = length-take-le (c .before .before .before .before .before .before .before .before .before .args .case .n) (sets c) (room c)
+room : (c : tie.After-allow) → c .before .before .before .before .before .before .before .before .before .before .args .case .n ≤ length (c .allow .last .1 .1 .1 .0)
+room c = omega (arith, c .before .before .before .before .before .before .before .before .before .before .pre .3, c .allow .kept .1 .1 .1 .0)
 
 ends : (c : tie.Start) → (length (c .args .case .lower) ≡ 96) × (length (c .args .case .upper) ≡ 96)
 ends c = (search needs, search needs)
 
-array-borrow-prefix-sets : tie.Need-array-borrow-prefix-sets
-array-borrow-prefix-sets c = room (c .before .before)
+slice-aggregate-all-refuted-3 : tie.Need-slice-aggregate-all-refuted-3
+slice-aggregate-all-refuted-3 c = sym (length-take-le (c .before .before .before .before .before .before .before .before .before .before .before .before .before .before .before .args .case .n) (c .before .before .before .before .before .allow .last .1 .1 .1 .0) (room (c .before .before .before .before .before)))
 
-slice-aggregate-none-has-family : tie.Need-slice-aggregate-none-has-family
-slice-aggregate-none-has-family c = sym (prefix-length (c .before .before .before))
+shared-slice-read-all-refuted : tie.Need-shared-slice-read-all-refuted
+shared-slice-read-all-refuted c = search needs
 
-none-has-family-requires : tie.Need-none-has-family-requires
-none-has-family-requires c κs = omega (arith, prefix-length (c .before .before .before), c .before .before .before .before .before .before .before .before .before .before .before .before .pre .2)
+all-refuted-requires : tie.Need-all-refuted-requires
+all-refuted-requires c κs = search needs
+
+is-refuted-requires : tie.Need-is-refuted-requires
+is-refuted-requires c κs = search needs
 
 returns : tie.Need-returns
 returns c = λ w p.
-    let s = c .before .before .before .before .before .before .before .before .before .before .before .before .before .before in
+    let s = c .before .before .before .before .before .before .before .before .before .before .before .before .before .before .before .before .before .before in
     let a = s .args in
-    let q = c .before .before .before .before .before .allow in
-    c .before .none-has-family .ensures
-    ∙ refutes-says (a .case) w (now (a .raised)) (sets (c .before .before .before .before .before)) (a .variable) p
-    (allowing-own (a .case) w (now (a .acts)) (now (a .raised)) (q .last .1 .1 .1 .0) (a .variable) (p .acts-are) (s .pre .2) (omega (arith, s .pre .2, s .pre .3, q .kept .1 .1 .1 .0))
-    (λ j h. q .ensures j h ∙ ap (λ (full : ℕ). if isRaised (now (a .raised)) j then getD (now (a .acts)) j 0 else full) (c .before .before .before .before .before .before .before .full .ensures)))
-    (ends s .0) (ends s .1) (s .pre .0) (room (c .before .before .before .before .before)) (s .pre .2)
+    let q = c .before .before .before .before .before .before .before .before .allow in
+    c .is-refuted .ensures ∙ ap saysRefuted (c .before .all-refuted .ensures)
+    ∙ asked-says (a .case) w (now (a .raised)) (q .last .1 .1 .1 .0) (isRaised (now (a .raised))) p
+    (λ j h. q .ensures j h ∙ ap₂ (λ (v full : ℕ). if isRaised (now (a .raised)) j then v else full) (p .acts-are j h) (c .before .before .before .before .before .before .before .before .before .before .full .ensures))
+    (λ e g. refl) (ends s .0) (ends s .1) (s .pre .0) (room (c .before .before .before .before .before .before .before .before)) (a .variable) (s .pre .2)
 
 pub refutes-spec : {M : Type 1} → statement M
 refutes-spec =
     tie.close
     (tie.spec
     add-end
-    shared-slice-read-values
     cast-full
     full-requires
     slice-aggregate-allow
     allow-requires
-    array-write-sets
-    sub-none-has-family
-    part-none-has-family-start
-    part-none-has-family-end
-    array-borrow-prefix-sets
-    slice-aggregate-none-has-family
-    none-has-family-requires
+    slice-aggregate-all-refuted
+    slice-aggregate-all-refuted-2
+    sub-all-refuted
+    part-all-refuted-start
+    part-all-refuted-end
+    array-share-prefix-sets
+    slice-aggregate-all-refuted-3
+    shared-slice-read-all-refuted
+    all-refuted-requires
+    is-refuted-requires
     returns)
