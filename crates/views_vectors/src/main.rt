@@ -5,63 +5,17 @@ use definitions::Line;
 use definitions::Outcome;
 use definitions::Refusal;
 use definitions::Span;
-use definitions::Written;
 use log_writer::Put;
-
-// Document 01's number.
-fn number_of(refusal: Refusal) -> i64 {
-    match refusal {
-        Refusal::NotInColumns => 1,
-        Refusal::NotDue => 2,
-        Refusal::OutsideLimits => 3,
-        Refusal::WrongLength => 4,
-        Refusal::OutOfRange => 5,
-        Refusal::EndsNotAscending => 6,
-        Refusal::EdgeRepeated => 7,
-        Refusal::WeightOutOfRange => 8,
-        Refusal::RaiseNotAscending => 9,
-        Refusal::NotRefuted => 10,
-        Refusal::LeavesRange => 11,
-        Refusal::OtherBound => 12,
-        Refusal::BoundNotLower => 13,
-        Refusal::CutShort => 14,
-    }
-}
 
 // ---- lines
 
 fn print(text: &[u8]) {
-    io::write_all(1, text);
-}
-
-fn print_first(text: &[u8], n: usize) {
-    if n <= text.len() {
-        print(&text[0..n]);
-    }
-}
-
-fn print_number(z: i64) {
-    print(b" ");
-    let mut text = [0u8; 20];
-    let written = lines::write_number(&mut text, z);
-    match written {
-        Written::Bytes(n) => print_first(&text, n),
-        Written::Refused(_) => print(b"?"),
-    }
-}
-
-// A number below a million, or the word many.
-fn print_count(n: usize) {
-    if n < 1_000_000 {
-        print_number(n as i64);
-    } else {
-        print(b" many");
-    }
+    drivers::print(text);
 }
 
 fn print_refusal(refusal: Refusal) {
-    print(b": refused");
-    print_number(number_of(refusal));
+    print(b":");
+    drivers::print_refusal(refusal);
 }
 
 // ---- the log writer
@@ -72,17 +26,15 @@ fn show_put(put: Put) {
         Outcome::Done => print(b": done"),
         Outcome::Refused(refusal) => print_refusal(refusal),
     }
-    print_count(put.at);
+    drivers::print_count(put.at as u64);
     print(b"\n");
 }
 
 fn print_line(at: usize, line: Line) {
     print(b"put at");
-    print_count(at);
-    print_number(line.kind);
-    print_number(line.b);
-    print_number(line.c);
-    print_number(line.amount);
+    drivers::print_count(at as u64);
+    let numbers = [line.kind, line.b, line.c, line.amount];
+    drivers::print_numbers(&numbers);
 }
 
 // A line at byte `at` of 57 dots, and the bytes after it.
@@ -146,12 +98,12 @@ fn print_span(span: Span) {
     match span {
         Span::Part { from, to } => {
             print(b":");
-            print_count(from);
-            print_count(to);
+            drivers::print_count(from as u64);
+            drivers::print_count(to as u64);
         }
         Span::Refused { refusal, line } => {
             print_refusal(refusal);
-            print_count(line);
+            drivers::print_count(line as u64);
         }
     }
     print(b"\n");
@@ -197,8 +149,8 @@ fn log_with(byte: u8) -> [u8; 219] {
 fn view_part(byte: u8, from: usize, to: usize, round: u64) {
     let log = log_with(byte);
     print(b"view");
-    print_count(from);
-    print_count(to);
+    drivers::print_count(from as u64);
+    drivers::print_count(to as u64);
     if from <= to {
         if to <= 219 {
             view(&log[from..to], round);
@@ -257,10 +209,10 @@ fn wide(value: u8) -> i64 {
 
 fn print_plan(plan: &[u8]) {
     if plan.len() == 2 {
-        print_number(wide(plan[0]));
-        print_number(wide(plan[1]));
+        drivers::print_number(wide(plan[0]));
+        drivers::print_number(wide(plan[1]));
     } else {
-        print_count(plan.len());
+        drivers::print_count(plan.len() as u64);
     }
 }
 
@@ -277,7 +229,7 @@ fn score_in(n: usize, lower: u8, upper: u8, weight: i64, a: u8, b: u8, c: u8, d:
     let second = [c, d];
     print_plan(&first);
     print_plan(&second);
-    print_number(weight);
+    drivers::print_number(weight);
     compare(clash(n, lower, upper), &table, &first, &second);
 }
 
@@ -288,9 +240,9 @@ fn score(weight: i64, a: u8, b: u8, c: u8, d: u8) {
 
 fn score_case(n: usize, lower: u8, upper: u8) {
     print(b"case");
-    print_count(n);
-    print_number(wide(lower));
-    print_number(wide(upper));
+    drivers::print_count(n as u64);
+    drivers::print_number(wide(lower));
+    drivers::print_number(wide(upper));
     score_in(n, lower, upper, 0, 0, 0, 0, 1);
 }
 
