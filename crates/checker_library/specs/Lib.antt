@@ -1,0 +1,3 @@
+-- What the functions that other languages call answer, on all input.
+pub mod Answers
+pub mod Calls

@@ -1,0 +1,344 @@
+// The checker's functions for programs in other languages: a case file read, totals, the replay of a log, the view of a round, scoring. A case
+// and the replay's record cross as bytes (crate encoding). What each function answers is defined in specs/.
+use checker::Replay;
+use checker::Standing;
+use definitions::Case;
+use definitions::CaseRead;
+use definitions::CaseSize;
+use definitions::Choice;
+use definitions::Figure;
+use definitions::FileAnswer;
+use definitions::Outcome;
+use definitions::Refusal;
+use definitions::Span;
+ghost use mathlib.Core.Path.{_≡_};
+ghost use Rattle.definitions.specs.Rules.{standard};
+ghost use Rattle.definitions.specs.Refusals.{number};
+ghost use Rattle.definitions.specs.CaseFiles.{caseSize};
+ghost use Rattle.definitions.specs.Calls.{upperBoundAnswer, objectiveAnswer};
+ghost use Rattle.definitions.specs.Views.{roundSpan};
+ghost use Rattle.definitions.specs.Scoring.{betterOf};
+ghost use Rattle.checker.specs.Checker.{blockReplay};
+ghost use Rattle.encoding.specs.CaseBytes.{caseOf};
+ghost use Rattle.encoding.specs.RecordBytes.{standingNumber, recordBytes};
+ghost use Rattle.checker_library.specs.Answers.{sizeOf, linesOf, totalOf, outcomeNumber, roundsOf, spanOf, choiceOf};
+ghost use Rattle.checker_library.specs.Calls.{caseAfter, readCall, startRecord, blockAnswer, replayCall, endCall};
+
+// What the head of a case file says, with the length of the table to lend.
+#[repr(C)]
+pub struct CeilingSize {
+    pub number: u64,
+    pub n: usize,
+    pub d: usize,
+    pub m: usize,
+    pub table: usize,
+}
+
+// Lines used, or the refusal's line.
+#[repr(C)]
+pub struct CeilingLines {
+    pub number: u64,
+    pub lines: usize,
+}
+
+#[repr(C)]
+pub struct CeilingTotal {
+    pub number: u64,
+    pub total: i64,
+}
+
+#[repr(C)]
+pub struct CeilingRounds {
+    pub number: u64,
+    pub rounds: u64,
+}
+
+// A stretch of a log, or the refusal's line.
+#[repr(C)]
+pub struct CeilingSpan {
+    pub number: u64,
+    pub from: usize,
+    pub to: usize,
+    pub line: usize,
+}
+
+// 0 is the first plan, 1 the second.
+#[repr(C)]
+pub struct CeilingChoice {
+    pub number: u64,
+    pub choice: u64,
+}
+
+// ---- answers as numbers
+
+fn wide(x: u8) -> u64
+    ensures { λ r. ⌜ r ≡ x ⌝ }
+{
+    x as u64
+}
+
+fn number_of(refusal: Refusal) -> u64
+    ensures { λ r. ⌜ r ≡ number refusal ⌝ }
+{
+    wide(encoding::number_of(refusal))
+}
+
+fn size_of(size: CaseSize) -> CeilingSize
+    ensures { λ r. ⌜ r ≡ sizeOf size ⌝ }
+{
+    match size {
+        CaseSize::Size { n, d, m, table } => CeilingSize {
+            number: 0,
+            n,
+            d,
+            m,
+            table,
+        },
+        CaseSize::Refused(refusal) => CeilingSize {
+            number: number_of(refusal),
+            n: 0,
+            d: 0,
+            m: 0,
+            table: 0,
+        },
+    }
+}
+
+fn lines_of(answer: FileAnswer) -> CeilingLines
+    ensures { λ r. ⌜ r ≡ linesOf answer ⌝ }
+{
+    match answer {
+        FileAnswer::Read { lines } => CeilingLines { number: 0, lines },
+        FileAnswer::Refused { refusal, line } => CeilingLines {
+            number: number_of(refusal),
+            lines: line,
+        },
+    }
+}
+
+fn total_of(figure: Figure) -> CeilingTotal
+    ensures { λ r. ⌜ r ≡ totalOf figure ⌝ }
+{
+    match figure {
+        Figure::Value(total) => CeilingTotal { number: 0, total },
+        Figure::Refused(refusal) => CeilingTotal {
+            number: number_of(refusal),
+            total: 0,
+        },
+    }
+}
+
+fn outcome_number(outcome: Outcome) -> u64
+    ensures { λ r. ⌜ r ≡ outcomeNumber outcome ⌝ }
+{
+    match outcome {
+        Outcome::Done => 0,
+        Outcome::Refused(refusal) => number_of(refusal),
+    }
+}
+
+fn standing_number(standing: Standing) -> u64
+    ensures { λ r. ⌜ r ≡ standingNumber standing ⌝ }
+{
+    match standing {
+        Standing::Good => 0,
+        Standing::Refused(refusal) => number_of(refusal),
+    }
+}
+
+fn rounds_of(rounds: u64, outcome: Outcome) -> CeilingRounds
+    ensures { λ r. ⌜ r ≡ roundsOf rounds outcome ⌝ }
+{
+    match outcome {
+        Outcome::Done => CeilingRounds { number: 0, rounds },
+        Outcome::Refused(refusal) => CeilingRounds {
+            number: number_of(refusal),
+            rounds: 0,
+        },
+    }
+}
+
+fn span_of(span: Span) -> CeilingSpan
+    ensures { λ r. ⌜ r ≡ spanOf span ⌝ }
+{
+    match span {
+        Span::Part { from, to } => CeilingSpan {
+            number: 0,
+            from,
+            to,
+            line: 0,
+        },
+        Span::Refused { refusal, line } => CeilingSpan {
+            number: number_of(refusal),
+            from: 0,
+            to: 0,
+            line,
+        },
+    }
+}
+
+fn choice_of(choice: Choice) -> CeilingChoice
+    ensures { λ r. ⌜ r ≡ choiceOf choice ⌝ }
+{
+    match choice {
+        Choice::First => CeilingChoice {
+            number: 0,
+            choice: 0,
+        },
+        Choice::Second => CeilingChoice {
+            number: 0,
+            choice: 1,
+        },
+        Choice::Refused(refusal) => CeilingChoice {
+            number: number_of(refusal),
+            choice: 0,
+        },
+    }
+}
+
+// ---- a case that was read
+
+// Its bytes, where it is not refused.
+fn keep_case(read: CaseRead, case: &mut [u8; 216])
+    ensures { λ _. ⌜ now (case .exit) ≡ caseAfter (read .answer) read (now (case .entry)) ⌝ }
+{
+    let answer = read.answer;
+    match answer {
+        FileAnswer::Read { lines: _ } => encoding::write_case(read.case, case),
+        FileAnswer::Refused {
+            refusal: _,
+            line: _,
+        } => {}
+    }
+}
+
+// ---- the replay
+
+fn replay_block(
+    case: Case,
+    table: &mut [i64],
+    state: &mut [u8; 196],
+    replay: Replay,
+    lines: &[u8],
+) -> CeilingLines
+    ensures { λ r. ⌜ (r ≡ blockAnswer (blockReplay standard case (now (table .entry)) replay (now (lines .entry)) .block)) × (now (state .exit) ≡ recordBytes (blockReplay standard case (now (table .entry)) replay (now (lines .entry)) .block .replay)) × (now (table .exit) ≡ blockReplay standard case (now (table .entry)) replay (now (lines .entry)) .table) ⌝ }
+{
+    let block = replay.lines(case, table, lines);
+    let after = block.replay;
+    let answer = block.answer;
+    encoding::write_record(after, state);
+    CeilingLines {
+        number: outcome_number(answer),
+        lines: block.lines,
+    }
+}
+
+// ---- the calls
+
+#[no_mangle]
+pub extern "C" fn ceiling_case_size(text: &[u8]) -> CeilingSize
+    ensures { λ r. ⌜ r ≡ sizeOf (caseSize standard (now (text .entry))) ⌝ }
+{
+    size_of(casefile::case_size(text))
+}
+
+#[no_mangle]
+pub extern "C" fn ceiling_upper_bound(case: &[u8; 216], table: &[i64]) -> CeilingTotal
+    ensures { λ r. ⌜ r ≡ totalOf (upperBoundAnswer standard (caseOf (now (case .entry))) (now (table .entry))) ⌝ }
+{
+    total_of(figures::upper_bound(encoding::case_of(case), table))
+}
+
+#[no_mangle]
+pub extern "C" fn ceiling_objective(case: &[u8; 216], table: &[i64], plan: &[u8]) -> CeilingTotal
+    ensures { λ r. ⌜ r ≡ totalOf (objectiveAnswer standard (caseOf (now (case .entry))) (now (table .entry)) (now (plan .entry))) ⌝ }
+{
+    total_of(figures::objective(encoding::case_of(case), table, plan))
+}
+
+// The plan with the greater total, the first on a tie.
+#[no_mangle]
+pub extern "C" fn ceiling_better_of(
+    case: &[u8; 216],
+    table: &[i64],
+    first: &[u8],
+    second: &[u8],
+) -> CeilingChoice
+    ensures { λ r. ⌜ r ≡ choiceOf (betterOf standard (caseOf (now (case .entry))) (now (table .entry)) (now (first .entry)) (now (second .entry))) ⌝ }
+{
+    choice_of(plans::better_of(encoding::case_of(case), table, first, second))
+}
+
+#[no_mangle]
+pub extern "C" fn ceiling_round_span(log: &[u8], round: u64) -> CeilingSpan
+    ensures { λ r. ⌜ r ≡ spanOf (roundSpan standard (now (log .entry)) round) ⌝ }
+{
+    span_of(views::round_span(log, round))
+}
+
+// A case with nothing after it: its bytes and its starting weights. A refusal leaves the weights as after the last good line.
+#[no_mangle]
+pub extern "C" fn ceiling_read_case(
+    text: &[u8],
+    case: &mut [u8; 216],
+    table: &mut [i64],
+) -> CeilingLines
+    ensures { λ r. ⌜ (r ≡ readCall standard (now (text .entry)) (now (case .entry)) (now (table .entry)) .answer) × (now (case .exit) ≡ readCall standard (now (text .entry)) (now (case .entry)) (now (table .entry)) .case) × (now (table .exit) ≡ readCall standard (now (text .entry)) (now (case .entry)) (now (table .entry)) .table) ⌝ }
+{
+    let read = casefile::read_case_alone(text, table);
+    let answer = read.answer;
+    keep_case(read, case);
+    lines_of(answer)
+}
+
+// A fresh record; refused, it stands so.
+#[no_mangle]
+pub extern "C" fn ceiling_replay_start(
+    case: &[u8; 216],
+    table: &[i64],
+    state: &mut [u8; 196],
+) -> u64
+    ensures { λ r. ⌜ (r ≡ standingNumber (startRecord standard (now (case .entry)) (now (table .entry)) .standing)) × (now (state .exit) ≡ recordBytes (startRecord standard (now (case .entry)) (now (table .entry)))) ⌝ }
+{
+    let replay = Replay::fresh(encoding::case_of(case), table);
+    let standing = replay.standing;
+    encoding::write_record(replay, state);
+    standing_number(standing)
+}
+
+// A block of whole lines; a part line at its end is not looked at.
+#[no_mangle]
+pub extern "C" fn ceiling_replay_lines(
+    case: &[u8; 216],
+    table: &mut [i64],
+    state: &mut [u8; 196],
+    lines: &[u8],
+) -> CeilingLines
+    ensures { λ r. ⌜ (r ≡ replayCall standard (now (case .entry)) (now (table .entry)) (now (state .entry)) (now (lines .entry)) .answer) × (now (state .exit) ≡ replayCall standard (now (case .entry)) (now (table .entry)) (now (state .entry)) (now (lines .entry)) .state) × (now (table .exit) ≡ replayCall standard (now (case .entry)) (now (table .entry)) (now (state .entry)) (now (lines .entry)) .table) ⌝ }
+{
+    if encoding::is_record(state) {
+        let replay = encoding::record_of(state);
+        replay_block(encoding::case_of(case), table, state, replay, lines)
+    } else {
+        CeilingLines {
+            number: 5,
+            lines: 0,
+        }
+    }
+}
+
+// The end of the log: its rounds, where it is accepted.
+#[no_mangle]
+pub extern "C" fn ceiling_replay_end(case: &[u8; 216], state: &[u8; 196]) -> CeilingRounds
+    ensures { λ r. ⌜ r ≡ endCall standard (now (case .entry)) (now (state .entry)) ⌝ }
+{
+    if encoding::is_record(state) {
+        let replay = encoding::record_of(state);
+        rounds_of(replay.rounds, replay.end(encoding::case_of(case)))
+    } else {
+        CeilingRounds {
+            number: 5,
+            rounds: 0,
+        }
+    }
+}

@@ -1,0 +1,121 @@
+// The engine's functions for programs in other languages. A case crosses as bytes (crate encoding). What each function answers is defined in
+// specs/.
+use definitions::Refusal;
+use definitions::Round;
+use definitions::Run;
+use definitions::RunAnswer;
+ghost use mathlib.Core.Path.{_≡_};
+ghost use Rattle.definitions.specs.Rules.{standard};
+ghost use Rattle.definitions.specs.Refusals.{number};
+ghost use Rattle.definitions.specs.Engine.{engineNext};
+ghost use Rattle.definitions.specs.EngineCalls.{roundCall, runCall};
+ghost use Rattle.encoding.specs.CaseBytes.{caseOf};
+ghost use Rattle.engine_library.specs.Answers.{roundOf, answerNumber, limitOf, runOf};
+
+// The bytes written and the bound; no bytes where it is settled.
+#[repr(C)]
+pub struct CeilingRound {
+    pub number: u64,
+    pub bytes: usize,
+    pub bound: i64,
+}
+
+// limit is 0 where the run is settled, and 1 where it ended by its limit.
+#[repr(C)]
+pub struct CeilingRun {
+    pub number: u64,
+    pub limit: u64,
+    pub rounds: u64,
+    pub bound: i64,
+}
+
+// ---- answers as numbers
+
+fn wide(x: u8) -> u64
+    ensures { λ r. ⌜ r ≡ x ⌝ }
+{
+    x as u64
+}
+
+fn number_of(refusal: Refusal) -> u64
+    ensures { λ r. ⌜ r ≡ number refusal ⌝ }
+{
+    wide(encoding::number_of(refusal))
+}
+
+fn round_of(round: Round) -> CeilingRound
+    ensures { λ r. ⌜ r ≡ roundOf round ⌝ }
+{
+    match round {
+        Round::Settled => CeilingRound {
+            number: 0,
+            bytes: 0,
+            bound: 0,
+        },
+        Round::Made { bytes, bound } => CeilingRound {
+            number: 0,
+            bytes,
+            bound,
+        },
+        Round::Refused(refusal) => CeilingRound {
+            number: number_of(refusal),
+            bytes: 0,
+            bound: 0,
+        },
+    }
+}
+
+fn answer_number(answer: RunAnswer) -> u64
+    ensures { λ r. ⌜ r ≡ answerNumber answer ⌝ }
+{
+    match answer {
+        RunAnswer::Settled => 0,
+        RunAnswer::Limit => 0,
+        RunAnswer::Refused(refusal) => number_of(refusal),
+    }
+}
+
+fn limit_of(answer: RunAnswer) -> u64
+    ensures { λ r. ⌜ r ≡ limitOf answer ⌝ }
+{
+    match answer {
+        RunAnswer::Settled => 0,
+        RunAnswer::Limit => 1,
+        RunAnswer::Refused(_) => 0,
+    }
+}
+
+fn run_of(run: Run) -> CeilingRun
+    ensures { λ r. ⌜ r ≡ runOf run ⌝ }
+{
+    let answer = run.answer;
+    CeilingRun {
+        number: answer_number(answer),
+        limit: limit_of(answer),
+        rounds: run.rounds,
+        bound: run.bound,
+    }
+}
+
+// ---- the calls
+
+// One round: its lines from the output's first byte.
+#[no_mangle]
+pub extern "C" fn ceiling_round(case: &[u8; 216], table: &mut [i64], out: &mut [u8]) -> CeilingRound
+    ensures { λ r. ⌜ (r ≡ roundOf (roundCall standard engineNext (caseOf (now (case .entry))) (now (table .entry)) (now (out .entry)) .answer)) × (now (table .exit) ≡ roundCall standard engineNext (caseOf (now (case .entry))) (now (table .entry)) (now (out .entry)) .table) × (now (out .exit) ≡ roundCall standard engineNext (caseOf (now (case .entry))) (now (table .entry)) (now (out .entry)) .out) ⌝ }
+{
+    round_of(engine::round(encoding::case_of(case), table, out))
+}
+
+// Rounds one after another, at most `limit`.
+#[no_mangle]
+pub extern "C" fn ceiling_run(
+    case: &[u8; 216],
+    table: &mut [i64],
+    out: &mut [u8],
+    limit: u64,
+) -> CeilingRun
+    ensures { λ r. ⌜ (r ≡ runOf (runCall standard engineNext (caseOf (now (case .entry))) limit (now (table .entry)) (now (out .entry)) .run)) × (now (table .exit) ≡ runCall standard engineNext (caseOf (now (case .entry))) limit (now (table .entry)) (now (out .entry)) .table) × (now (out .exit) ≡ runCall standard engineNext (caseOf (now (case .entry))) limit (now (table .entry)) (now (out .entry)) .out) ⌝ }
+{
+    run_of(engine::run(encoding::case_of(case), table, out, limit))
+}
