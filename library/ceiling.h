@@ -1,0 +1,87 @@
+/* The ceiling library: a checker and an engine for channel plans. docs/LIBRARY.md has the layouts and the numbers.
+ *
+ * Every answer has a number: 0, or why the call was refused, 1 to 14. Every function returns on all contents; of its pointers it asks that
+ * none is null, also where the length is 0, that each points to as many elements as its length or its array says, and that nothing a call
+ * writes overlaps another argument.
+ *
+ * The checker's functions are in libchecker_library.a, the engine's in libengine_library.a. The checker's need nothing of the engine's.
+ */
+#ifndef CEILING_H
+#define CEILING_H
+
+#include <stddef.h>
+#include <stdint.h>
+
+#ifdef __cplusplus
+extern "C" {
+#endif
+
+/* A case and the replay's record as bytes. */
+#define CEILING_CASE 216
+#define CEILING_RECORD 196
+
+/* The bytes of a line, and room for the lines of any round. */
+#define CEILING_LINE 27
+#define CEILING_ROOM 3915
+
+struct ceiling_size_answer { uint64_t number; size_t n, d, m, table; };
+struct ceiling_lines_answer { uint64_t number; size_t lines; };
+struct ceiling_total_answer { uint64_t number; int64_t total; };
+struct ceiling_rounds_answer { uint64_t number, rounds; };
+struct ceiling_span_answer { uint64_t number; size_t from, to, line; };
+struct ceiling_choice_answer { uint64_t number, choice; };
+struct ceiling_round_answer { uint64_t number; size_t bytes; int64_t bound; };
+struct ceiling_run_answer { uint64_t number, limit, rounds; int64_t bound; };
+
+/* ---- the checker */
+
+/* What the head of a case file says: links, channels, pairs, and how many weights the case's table has. */
+struct ceiling_size_answer ceiling_case_size(const uint8_t *text, size_t text_length);
+
+/* Reads a case file with nothing after it: the case's bytes, its starting weights, and the lines used, or the line that was refused.
+ * Refused, the case's bytes stay, and the weights are as after the last good line. */
+struct ceiling_lines_answer ceiling_read_case(const uint8_t *text, size_t text_length, uint8_t case_bytes[CEILING_CASE],
+                                              int64_t *table, size_t table_length);
+
+/* The ceiling: the sum over scopes of the greatest weight. */
+struct ceiling_total_answer ceiling_upper_bound(const uint8_t case_bytes[CEILING_CASE], const int64_t *table, size_t table_length);
+
+/* A plan's total; a plan is one channel, a byte, for each link. */
+struct ceiling_total_answer ceiling_objective(const uint8_t case_bytes[CEILING_CASE], const int64_t *table, size_t table_length,
+                                              const uint8_t *plan, size_t plan_length);
+
+/* Which plan has the greater total on starting weights: 0 the first, 1 the second, the first on a tie. */
+struct ceiling_choice_answer ceiling_better_of(const uint8_t case_bytes[CEILING_CASE], const int64_t *table, size_t table_length,
+                                               const uint8_t *first, size_t first_length, const uint8_t *second, size_t second_length);
+
+/* Writes a fresh record for a replay that begins with these starting weights, and answers its number.
+ * Refused, the record stands refused: later lines get the same number. */
+uint64_t ceiling_replay_start(const uint8_t case_bytes[CEILING_CASE], const int64_t *table, size_t table_length,
+                              uint8_t record[CEILING_RECORD]);
+
+/* Replays whole lines on the table and the record that the last call left: the first refusal's number, and how many lines got none.
+ * A part line at the end is not looked at. */
+struct ceiling_lines_answer ceiling_replay_lines(const uint8_t case_bytes[CEILING_CASE], int64_t *table, size_t table_length,
+                                                 uint8_t record[CEILING_RECORD], const uint8_t *lines, size_t lines_length);
+
+/* The end of the log: its rounds, or the number that stands, or 14 inside a round. */
+struct ceiling_rounds_answer ceiling_replay_end(const uint8_t case_bytes[CEILING_CASE], const uint8_t record[CEILING_RECORD]);
+
+/* Where a round's lines lie in a log, from the first byte to before `to`; or the refusal and its line. */
+struct ceiling_span_answer ceiling_round_span(const uint8_t *log, size_t log_length, uint64_t round);
+
+/* ---- the engine */
+
+/* One round: its lines from the output's first byte, how many bytes, and the ceiling. No bytes and number 0: settled. */
+struct ceiling_round_answer ceiling_round(const uint8_t case_bytes[CEILING_CASE], int64_t *table, size_t table_length,
+                                          uint8_t *out, size_t out_length);
+
+/* At most `limit` rounds, each writing from the output's first byte: rounds, ceiling, and limit 1 if it is not settled, 0 if it is. */
+struct ceiling_run_answer ceiling_run(const uint8_t case_bytes[CEILING_CASE], int64_t *table, size_t table_length,
+                                      uint8_t *out, size_t out_length, uint64_t limit);
+
+#ifdef __cplusplus
+}
+#endif
+
+#endif

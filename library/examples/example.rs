@@ -1,0 +1,67 @@
+//! Reads a case file, lets the engine lower its ceiling, replays the log in blocks, and prints what the checker says, the first round's
+//! lines, and which of two simple plans is better.
+
+#[path = "../rust/ceiling.rs"]
+mod ceiling;
+
+use ceiling::{case_size, read_case, view, Refused, Replay, ROOM};
+use std::io::Write;
+
+const ROUNDS: u64 = 100_000;
+const LINE: usize = 27;
+
+fn main() {
+    let path = std::env::args().nth(1).expect("the path of a case file");
+    let text = std::fs::read(path).expect("a file that can be read");
+    match example(&text) {
+        Ok(printed) => std::io::stdout().write_all(&printed).expect("an output"),
+        Err(refused) => println!("refused {} {}", refused.number, refused.line),
+    }
+}
+
+fn example(text: &[u8]) -> Result<Vec<u8>, Refused> {
+    let (case, start) = read_case(text)?;
+    let lines = text.len() / LINE;
+    let later = |refused: Refused| Refused { line: refused.line + lines, ..refused };
+
+    // The engine's rounds, one after another, and their lines joined.
+    let mut table = start.clone();
+    let mut out = vec![0; ROOM];
+    let mut log = Vec::new();
+    for _ in 0..ROUNDS {
+        match case.round(&mut table, &mut out).map_err(later)? {
+            None => break,
+            Some(made) => log.extend_from_slice(&out[..made.bytes]),
+        }
+    }
+
+    // The same in one run.
+    let mut again = start.clone();
+    let run = case.run(&mut again, &mut out, ROUNDS);
+    assert!(run.refused.is_none() && again == table);
+
+    // The replay of the log in blocks, on the starting weights.
+    let mut table = start.clone();
+    let mut replay = Replay::start(&case, &table).map_err(later)?;
+    let mut passed = lines;
+    for block in log.chunks(100 * LINE) {
+        passed += replay.lines(&case, &mut table, block).map_err(|r| Refused { line: r.line + passed, ..r })?;
+    }
+    let rounds = replay.end(&case).map_err(|r| Refused { line: passed, ..r })?;
+    let ceiling = case.upper_bound(&table)?;
+    assert!(rounds == run.rounds && ceiling == run.bound);
+
+    let mut printed = format!("accepted {rounds} {ceiling}\n").into_bytes();
+    if rounds > 0 {
+        printed.extend_from_slice(view(&log, 0)?);
+    }
+
+    // Every link on channel 0, or the channels in turn.
+    let size = case_size(text)?;
+    let first = vec![0; size.n];
+    let second: Vec<u8> = (0..size.n).map(|i| (i % size.d) as u8).collect();
+    let better = case.better(&start, &first, &second)?;
+    let choice = if std::ptr::eq(better.as_ptr(), first.as_ptr()) { 0 } else { 1 };
+    printed.extend_from_slice(format!("plan {choice} {}\n", case.objective(&start, better)?).as_bytes());
+    Ok(printed)
+}
