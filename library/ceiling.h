@@ -76,7 +76,8 @@ struct ceiling_span_answer ceiling_round_span(const uint8_t *log, size_t log_len
 struct ceiling_round_answer ceiling_round(const uint8_t case_bytes[CEILING_CASE], int64_t *table, size_t table_length,
                                           uint8_t *out, size_t out_length);
 
-/* At most `limit` rounds, each writing from the output's first byte: rounds, ceiling, and limit 1 if it is not settled, 0 if it is. */
+/* At most `limit` rounds, each writing from the output's first byte: rounds, ceiling, and limit 1 if it is not settled, 0 if it is.
+ * Refused by 11, the earlier rounds stand. */
 struct ceiling_run_answer ceiling_run(const uint8_t case_bytes[CEILING_CASE], int64_t *table, size_t table_length,
                                       uint8_t *out, size_t out_length, uint64_t limit);
 
