@@ -1,14 +1,10 @@
-// The program `press`: a case on standard input, the log of up to 100,000 rounds on standard output, or a refusal (document 01). Of an input that
-// is longer than a case and a line more, only the front is read, and it is printed as the whole is (proofs/Printing). The input ends
-// where a read brings nothing or fails; the rounds end where a write fails.
-use definitions::Case;
-use definitions::CaseSize;
-use definitions::FileAnswer;
-use definitions::Refusal;
-use definitions::Round;
+// The program `press`: a case on standard input, the log of up to 100,000 rounds on standard output, or a refusal (document 01). The work is done
+// by `pressing` on slices. Of an input that is longer than a case and a line more, only the front is read, and it is printed as the whole is
+// (pressing, Prints.press-printed). Where a read fails nothing is printed; the rounds end where a write fails.
 use definitions::Written;
 use libc::STDIN_FILENO;
 use libc::STDOUT_FILENO;
+use pressing::Pressing;
 ghost use mathlib.Core.Path.{_≡_};
 ghost use Prim.Native.Nat.{_≤_};
 ghost use lib.IntN.{pos};
@@ -17,8 +13,11 @@ ghost use Rattle.definitions.specs.Rules.{standard};
 ghost use Rattle.definitions.specs.CaseFiles.{caseSize};
 ghost use Rattle.definitions.specs.Programs.{tableFor};
 
-// The most rounds that are made.
-const ROUNDS: u64 = 100_000;
+// How far the buffer was filled, and whether a read failed.
+struct Filled {
+    to: usize,
+    failed: bool,
+}
 
 // Room for more than the longest case, which has 178,875 bytes, and a line.
 fn buffer() -> [u8; 262144]
@@ -33,19 +32,34 @@ fn weights() -> [i64; 6528]
     [0; 6528]
 }
 
-// The length of the table that the head of the case asks for.
-fn table_length(front: &[u8]) -> usize
-    ensures { λ r. ⌜ (r ≡ length (tableFor (caseSize standard (now (front .entry))))) × (r ≤ 6528) ⌝ }
+fn read_at(buf: &mut [u8], at: usize) -> isize
+    requires { ⌜ at ≤ length (now buf) ⌝ }
 {
-    let size = casefile::case_size(front);
-    match size {
-        CaseSize::Refused(_) => 0,
-        CaseSize::Size {
-            n: _,
-            d: _,
-            m: _,
-            table,
-        } => table,
+    libc::read(STDIN_FILENO, &mut buf[at..])
+}
+
+// Reads until the buffer is full, the input ends or a read fails.
+fn fill(buf: &mut [u8]) -> Filled
+    ensures { λ r. ⌜ r .to ≤ length (now (buf .exit)) ⌝ }
+{
+    let mut at: usize = 0;
+    while at < buf.len() {
+        let got = read_at(buf, at);
+        if got < 0 {
+            return Filled {
+                to: 0,
+                failed: true,
+            };
+        }
+        let more = io::count(got, &buf[at..]);
+        if more == 0 {
+            break;
+        }
+        at += more;
+    }
+    Filled {
+        to: at,
+        failed: false,
     }
 }
 
@@ -57,60 +71,54 @@ fn write_first(text: &[u8], n: usize) -> bool {
     }
 }
 
-fn print_refused(refusal: Refusal, line: usize) {
-    let mut text = [0u8; 64];
-    let written = texts::write_refused(&mut text, refusal, line);
+// Prints what a call wrote, and answers whether it was printed.
+fn print(written: Written, out: &[u8]) -> bool {
     match written {
-        Written::Refused(_) => {}
-        Written::Bytes(n) => {
-            write_first(&text, n);
-        }
+        Written::Refused(_) => false,
+        Written::Bytes(n) => write_first(out, n),
     }
 }
 
-// One round, and whether another may follow. A refusal by the engine counts as met at the line after the input's last.
-fn print_round(case: Case, table: &mut [i64], out: &mut [u8], lines: usize) -> bool {
-    let round = engine::round(case, table, out);
-    match round {
-        Round::Settled => false,
-        Round::Refused(refusal) => {
-            print_refused(refusal, lines);
-            false
+fn print_rounds(first: Pressing, table: &mut [i64], out: &mut [u8]) {
+    let mut pressing = first;
+    let mut turns = u64::MAX;
+    while turns > 0 {
+        if pressing.left == 0 {
+            return;
         }
-        Round::Made { bytes, bound: _ } => write_first(out, bytes),
+        let pressed = pressing::next(pressing, table, out);
+        let written = pressed.written;
+        if !print(written, out) {
+            return;
+        }
+        pressing = pressed.pressing;
+        turns -= 1;
     }
 }
 
 // The output has room for the lines of a round: a press, 143 raises and a bound at most.
-fn print_rounds(case: Case, table: &mut [i64], lines: usize) {
-    let mut space = [0u8; 3915];
-    let out: &mut [u8] = &mut space;
-    let mut left = ROUNDS;
-    while left > 0 {
-        if !print_round(case, table, out, lines) {
-            return;
-        }
-        left -= 1;
-    }
-}
-
 fn run(input: &[u8], table: &mut [i64])
     requires { ⌜ now table ≡ tableFor (caseSize standard (now input)) ⌝ }
 {
-    let read = casefile::read_case_alone(input, table);
-    let answer = read.answer;
-    let case = read.case;
-    match answer {
-        FileAnswer::Refused { refusal, line } => print_refused(refusal, line),
-        FileAnswer::Read { lines } => print_rounds(case, table, lines),
+    let mut space = [0u8; 3915];
+    let out: &mut [u8] = &mut space;
+    let begun = pressing::start(input, table, out);
+    let written = begun.written;
+    if print(written, out) {
+        let pressing = begun.pressing;
+        print_rounds(pressing, table, out);
     }
 }
 
 fn main() {
     let mut space = buffer();
     let mut weights = weights();
-    let n = io::read_full(STDIN_FILENO, &mut space);
-    let input = &space[..n];
-    let long = table_length(input);
+    let filled = fill(&mut space);
+    if filled.failed {
+        return;
+    }
+    let to = filled.to;
+    let input = &space[..to];
+    let long = pressing::table_length(input);
     run(input, &mut weights[0..long]);
 }

@@ -1,13 +1,16 @@
 -- The table that is lent has as many zeros as the head asks for. Assumes nothing.
-use mathlib.Core.Path.{_≡_, ap, _∙_}
+use mathlib.Core.Path.{_≡_, sym, ap, _∙_}
+use mathlib.Core.List.{List}
 use Prim.Native.Nat.{ℕ, _-_}
 use native.Mathlib.Omega.{arith}
-use lib.ListN.{length, take}
+use lib.IntN.{pos}
+use lib.ListN.{length, take, length-replicate}
+use lib.Seq.{length-take-le}
 use Rattle.definitions.specs.declared.CaseSize.{CaseSize}
 use Rattle.definitions.specs.Rules.{standard}
 use Rattle.definitions.specs.CaseFiles.{caseSize}
 use Rattle.definitions.specs.Programs.{tableFor}
-use Rattle.judging.proofs.Tables.{table-lent}
+use Rattle.judging.proofs.Tables.{table-most, table-lent}
 use borrow.Author.Needs.{needs}
 use Rattle.press.proofs.main.Statement.{statement}
 use Rattle.press.proofs.main.Tie as tie
@@ -18,17 +21,22 @@ buffer-requires c κs = search needs
 weights-requires : tie.Need-weights-requires
 weights-requires c κs = search needs
 
-slice-aggregate-read-full : tie.Need-slice-aggregate-read-full
-slice-aggregate-read-full c = search needs
+slice-aggregate-fill : tie.Need-slice-aggregate-fill
+slice-aggregate-fill c = search needs
 
-read-full-requires : tie.Need-read-full-requires
-read-full-requires c κs = search needs
+fill-requires : tie.Need-fill-requires
+fill-requires c κs = search needs
+
+returns : tie.Need-returns
+returns c = search needs
 
 array-share-prefix-space : tie.Need-array-share-prefix-space
 array-share-prefix-space c = search needs
 
 slice-aggregate-input : tie.Need-slice-aggregate-input
-slice-aggregate-input c = search needs
+slice-aggregate-input c =
+    let f = c .before .before .before in
+    sym (length-take-le (f .fill .result .to) (f .fill .last .0) (f .fill .ensures))
 
 table-length-requires : tie.Need-table-length-requires
 table-length-requires c κs = search needs
@@ -40,20 +48,23 @@ part-weights-start : tie.Need-part-weights-start
 part-weights-start c = search needs
 
 part-weights-end : tie.Need-part-weights-end
-part-weights-end c = search needs
+part-weights-end c =
+    let f = c .before .before .before .before in
+    let w = f .before .before in
+    omega (arith, c .table-length .ensures, table-most (take (f .fill .result .to) (f .fill .last .0)), ap length (w .weights .ensures), length-replicate 6528 (pos 0))
 
 run-requires : tie.Need-run-requires
 run-requires c κs =
     let t = c .before in
-    let f = t .before .before .before in
+    let f = t .before .before .before .before in
     let w = f .before .before in
-    let size : CaseSize = caseSize standard (take (f .read-full .result) (f .read-full .last .1 .0)) in
-    let (is, most) = t .table-length .ensures in
-    let so-many : t .table-length .result - 0 ≡ length (tableFor size) = omega arith in
-    ap (λ (n : ℕ). take n (w .weights .result)) so-many ∙ ap (take (length (tableFor size))) (w .weights .ensures) ∙ table-lent size 6528 (omega arith)
+    let input : List ℕ = take (f .fill .result .to) (f .fill .last .0) in
+    let size : CaseSize = caseSize standard input in
+    let long : t .table-length .result - 0 ≡ length (tableFor size) = omega (arith, t .table-length .ensures) in
+    ap (λ (n : ℕ). take n (w .weights .result)) long ∙ ap (take (length (tableFor size))) (w .weights .ensures) ∙ table-lent size 6528 (table-most input)
 
-returns : tie.Need-returns
-returns c = search needs
+returns-2 : tie.Need-returns-2
+returns-2 c = search needs
 
 pub main-spec : {M : Type 1} → statement M
 main-spec =
@@ -61,8 +72,9 @@ main-spec =
     (tie.spec
     buffer-requires
     weights-requires
-    slice-aggregate-read-full
-    read-full-requires
+    slice-aggregate-fill
+    fill-requires
+    returns
     array-share-prefix-space
     slice-aggregate-input
     table-length-requires
@@ -70,4 +82,4 @@ main-spec =
     part-weights-start
     part-weights-end
     run-requires
-    returns)
+    returns-2)

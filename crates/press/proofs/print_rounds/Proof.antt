@@ -1,33 +1,45 @@
--- The measure is the number of rounds that are left. Assumes nothing.
+-- The measure is the number of turns that are left. Assumes nothing.
 use mathlib.Core.Path.{_≡_}
-use borrow.Author.Needs.{needs}
 use lib.ListN.{length}
+use borrow.Author.Needs.{needs}
 use Rattle.press.proofs.print_rounds.Statement.{statement}
 use Rattle.press.proofs.print_rounds.Tie as tie
 
 abbrev Inv-loop : tie.InvT-loop
-Inv-loop case table₀ lines out₀ left₀ table out left = length table ≡ length table₀
+Inv-loop table₀ out₀ pressing₀ turns₀ table out pressing turns = (length table ≡ length table₀) × (length out ≡ length out₀)
 
 abbrev μ-loop : tie.MeasureT-loop
-μ-loop case table₀ lines out₀ left₀ table out left = left
-
-slice-aggregate-out : tie.Need-slice-aggregate-out Inv-loop μ-loop
-slice-aggregate-out c = search needs
+μ-loop table₀ out₀ pressing₀ turns₀ table out pressing turns = turns
 
 loop-holds : tie.Need-loop-holds Inv-loop μ-loop
 loop-holds c = search needs
 
-print-round-requires : tie.Need-print-round-requires Inv-loop μ-loop
-print-round-requires c κs = search needs
-
 same-length : tie.Need-same-length Inv-loop μ-loop
 same-length c = search needs
+
+same-length-2 : tie.Need-same-length-2 Inv-loop μ-loop
+same-length-2 c = search needs
 
 returns : tie.Need-returns Inv-loop μ-loop
 returns c = search needs
 
-sub-left : tie.Need-sub-left Inv-loop μ-loop
-sub-left c = search needs
+next-requires : tie.Need-next-requires Inv-loop μ-loop
+next-requires c κs = search needs
+
+print-requires : tie.Need-print-requires Inv-loop μ-loop
+print-requires c κs = search needs
+
+same-length-3 : tie.Need-same-length-3 Inv-loop μ-loop
+same-length-3 c = search needs
+
+same-length-4 : tie.Need-same-length-4 Inv-loop μ-loop
+same-length-4 c = search needs
+
+returns-2 : tie.Need-returns-2 Inv-loop μ-loop
+returns-2 c = search needs
+
+sub-turns : tie.Need-sub-turns Inv-loop μ-loop
+sub-turns c = search needs
 
 loop-less : tie.Need-loop-less Inv-loop μ-loop
 loop-less c = search needs
@@ -35,11 +47,14 @@ loop-less c = search needs
 loop-again : tie.Need-loop-again Inv-loop μ-loop
 loop-again c = search needs
 
-same-length-2 : tie.Need-same-length-2 Inv-loop μ-loop
-same-length-2 c = search needs
+same-length-5 : tie.Need-same-length-5 Inv-loop μ-loop
+same-length-5 c = search needs
 
-returns-2 : tie.Need-returns-2 Inv-loop μ-loop
-returns-2 c = search needs
+same-length-6 : tie.Need-same-length-6 Inv-loop μ-loop
+same-length-6 c = search needs
+
+returns-3 : tie.Need-returns-3 Inv-loop μ-loop
+returns-3 c = search needs
 
 pub print-rounds-spec : {M : Type 1} → statement M
 print-rounds-spec =
@@ -47,13 +62,18 @@ print-rounds-spec =
     (tie.spec
     Inv-loop
     μ-loop
-    slice-aggregate-out
     loop-holds
-    print-round-requires
     same-length
+    same-length-2
     returns
-    sub-left
+    next-requires
+    print-requires
+    same-length-3
+    same-length-4
+    returns-2
+    sub-turns
     loop-less
     loop-again
-    same-length-2
-    returns-2)
+    same-length-5
+    same-length-6
+    returns-3)

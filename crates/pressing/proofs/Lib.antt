@@ -1,0 +1,3 @@
+-- Laws of the definitions, and the promise of the start and the rounds together.
+pub mod Calls
+pub mod Prints

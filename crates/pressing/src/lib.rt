@@ -1,0 +1,204 @@
+// The program `press` as a start and rounds one after another (document 01, on `press`): the case is handed over once, each call writes what is
+// to be printed next to a lent output, and what stands between the calls is a record by value and the lent table.
+use definitions::Case;
+use definitions::CaseSize;
+use definitions::FileAnswer;
+use definitions::Refusal;
+use definitions::Round;
+use definitions::Written;
+ghost use mathlib.Core.Path.{_≡_};
+ghost use Prim.Native.Nat.{_<_};
+ghost use lib.ListN.{length};
+ghost use Rattle.definitions.specs.Rules.{standard};
+ghost use Rattle.definitions.specs.CaseFiles.{caseOf, caseSize};
+ghost use Rattle.definitions.specs.EngineCalls.{isLeaving};
+ghost use Rattle.definitions.specs.Programs.{tableFor};
+ghost use Rattle.pressing.specs.Pressing.{withLeft, afterText, writeRefusal, startPressing, roundNext, nextPressing};
+
+// An output must have so many bytes for a text.
+const ROOM: usize = 64;
+
+// The most rounds that are made.
+const ROUNDS: u64 = 100_000;
+
+// What stands between the calls: the case, the lines of the input, and how many rounds may follow. With none, nothing more is due.
+pub struct Pressing {
+    pub case: Case,
+    pub lines: usize,
+    pub left: u64,
+}
+
+// What a call leaves, and how many of the output's first bytes are to be printed.
+pub struct Pressed {
+    pub pressing: Pressing,
+    pub written: Written,
+}
+
+fn no_case() -> Case
+    ensures { λ r. ⌜ r ≡ caseOf standard 0 0 0 ⌝ }
+{
+    let lower = [0u8; 96];
+    let upper = [0u8; 96];
+    Case {
+        n: 0,
+        d: 0,
+        m: 0,
+        lower,
+        upper,
+    }
+}
+
+fn with_left(pressing: Pressing, left: u64) -> Pressing
+    ensures { λ r. ⌜ r ≡ withLeft pressing left ⌝ }
+{
+    let case = pressing.case;
+    Pressing {
+        case,
+        lines: pressing.lines,
+        left,
+    }
+}
+
+// A move would take a working weight outside its range: number 11.
+fn is_leaving(refusal: Refusal) -> bool
+    ensures { λ r. ⌜ r ≡ isLeaving refusal ⌝ }
+{
+    match refusal {
+        Refusal::NotInColumns => false,
+        Refusal::NotDue => false,
+        Refusal::OutsideLimits => false,
+        Refusal::WrongLength => false,
+        Refusal::OutOfRange => false,
+        Refusal::EndsNotAscending => false,
+        Refusal::EdgeRepeated => false,
+        Refusal::WeightOutOfRange => false,
+        Refusal::RaiseNotAscending => false,
+        Refusal::NotRefuted => false,
+        Refusal::LeavesRange => true,
+        Refusal::OtherBound => false,
+        Refusal::BoundNotLower => false,
+        Refusal::CutShort => false,
+    }
+}
+
+fn write_refusal(refusal: Refusal, lines: usize, out: &mut [u8]) -> Written
+    ensures { λ r. ⌜ (r ≡ writeRefusal refusal lines (now (out .entry)) .answer) × (now (out .exit) ≡ writeRefusal refusal lines (now (out .entry)) .out) ⌝ }
+{
+    if is_leaving(refusal) {
+        texts::write_refused(out, refusal, lines)
+    } else {
+        Written::Refused(refusal)
+    }
+}
+
+// Nothing more is due after a text.
+fn after_text(pressing: Pressing, written: Written) -> Pressed
+    ensures { λ r. ⌜ r ≡ afterText pressing written ⌝ }
+{
+    match written {
+        Written::Bytes(n) => {
+            let over = with_left(pressing, 0);
+            Pressed {
+                pressing: over,
+                written: Written::Bytes(n),
+            }
+        }
+        Written::Refused(refusal) => Pressed {
+            pressing,
+            written: Written::Refused(refusal),
+        },
+    }
+}
+
+fn one_round(pressing: Pressing, table: &mut [i64], out: &mut [u8]) -> Pressed
+    requires { ⌜ 0 < pressing .left ⌝ }
+    ensures { λ r. ⌜ (r ≡ roundNext standard pressing (now (table .entry)) (now (out .entry)) .pressed) × (now (table .exit) ≡ roundNext standard pressing (now (table .entry)) (now (out .entry)) .table) × (now (out .exit) ≡ roundNext standard pressing (now (table .entry)) (now (out .entry)) .out) ⌝ }
+{
+    let case = pressing.case;
+    let round = engine::round(case, table, out);
+    match round {
+        Round::Settled => after_text(pressing, Written::Bytes(0)),
+        Round::Made { bytes, bound: _ } => {
+            let next = with_left(pressing, pressing.left - 1);
+            Pressed {
+                pressing: next,
+                written: Written::Bytes(bytes),
+            }
+        }
+        Round::Refused(refusal) => {
+            let written = write_refusal(refusal, pressing.lines, out);
+            after_text(pressing, written)
+        }
+    }
+}
+
+// ---- the calls
+
+// The length of the table to lend: what the head of the case asks for.
+pub fn table_length(bytes: &[u8]) -> usize
+    ensures { λ r. ⌜ r ≡ length (tableFor (caseSize standard (now (bytes .entry)))) ⌝ }
+{
+    let size = casefile::case_size(bytes);
+    match size {
+        CaseSize::Refused(_) => 0,
+        CaseSize::Size {
+            n: _,
+            d: _,
+            m: _,
+            table,
+        } => table,
+    }
+}
+
+// Reads the case. Refused, its text is written and nothing more is due.
+pub fn start(bytes: &[u8], table: &mut [i64], out: &mut [u8]) -> Pressed
+    ensures { λ r. ⌜ (r ≡ startPressing standard (now (bytes .entry)) (now (table .entry)) (now (out .entry)) .pressed) × (now (table .exit) ≡ startPressing standard (now (bytes .entry)) (now (table .entry)) (now (out .entry)) .table) × (now (out .exit) ≡ startPressing standard (now (bytes .entry)) (now (table .entry)) (now (out .entry)) .out) ⌝ }
+{
+    if out.len() < ROOM {
+        return Pressed {
+            pressing: Pressing {
+                case: no_case(),
+                lines: 0,
+                left: 0,
+            },
+            written: Written::Refused(Refusal::WrongLength),
+        };
+    }
+    let read = casefile::read_case_alone(bytes, table);
+    let case = read.case;
+    let answer = read.answer;
+    match answer {
+        FileAnswer::Refused { refusal, line } => {
+            let written = texts::write_refused(out, refusal, line);
+            Pressed {
+                pressing: Pressing {
+                    case,
+                    lines: line,
+                    left: 0,
+                },
+                written,
+            }
+        }
+        FileAnswer::Read { lines } => Pressed {
+            pressing: Pressing {
+                case,
+                lines,
+                left: ROUNDS,
+            },
+            written: Written::Bytes(0),
+        },
+    }
+}
+
+// The next round, if one may follow: its lines, or the text of a refusal by the engine.
+pub fn next(pressing: Pressing, table: &mut [i64], out: &mut [u8]) -> Pressed
+    ensures { λ r. ⌜ (r ≡ nextPressing standard pressing (now (table .entry)) (now (out .entry)) .pressed) × (now (table .exit) ≡ nextPressing standard pressing (now (table .entry)) (now (out .entry)) .table) × (now (out .exit) ≡ nextPressing standard pressing (now (table .entry)) (now (out .entry)) .out) ⌝ }
+{
+    if pressing.left == 0 {
+        return Pressed {
+            pressing,
+            written: Written::Bytes(0),
+        };
+    }
+    one_round(pressing, table, out)
+}
