@@ -1,0 +1,188 @@
+// What the programs print, by the calls that they are made of. Standard input holds lines of 27 bytes. One that is not in columns names what is
+// tried and is printed. Of kinds 20 and 21, a is the table's places, c the output's bytes and amount the number of bytes that follow and are the
+// program's input. Kind 20: judged by `judging`, the log in blocks of b lines, and printed. Kind 21: pressed by `pressing`, each call's text
+// printed, and then the calls of `next` and the rounds that may still follow.
+// The file `stdout` has what the peer's programs print of these inputs; where a table or an output is too short it was worked out from document 01.
+use definitions::FileAnswer;
+use definitions::Line;
+use definitions::Written;
+use judging::Judging;
+use pressing::Pressing;
+ghost use Prim.Native.Nat.{_-_, _≤_, _<_};
+ghost use lib.ListN.{length};
+
+// The calls of `next`, and the rounds that may still follow.
+struct Tally {
+    calls: u64,
+    left: u64,
+}
+
+// ---- what is printed
+
+fn print_first(text: &[u8], n: usize) {
+    if n <= text.len() {
+        drivers::print(&text[0..n]);
+    }
+}
+
+// Prints what a call wrote, and answers whether it was refused.
+fn print_written(written: Written, out: &[u8]) -> bool {
+    match written {
+        Written::Bytes(n) => {
+            print_first(out, n);
+            false
+        }
+        Written::Refused(refusal) => {
+            drivers::print_refusal(refusal);
+            drivers::print(b"\n");
+            true
+        }
+    }
+}
+
+// ---- kind 20
+
+// Where the case ends.
+fn case_end(answer: FileAnswer, most: usize) -> usize
+    ensures { λ r. ⌜ r ≤ most ⌝ }
+{
+    match answer {
+        FileAnswer::Refused {
+            refusal: _,
+            line: _,
+        } => most,
+        FileAnswer::Read { lines } => { if lines <= most / 27 { lines * 27 } else { most } }
+    }
+}
+
+// Where a block of so many bytes ends that begins at byte `at`.
+fn block_end(at: usize, long: usize, bytes: usize) -> usize
+    requires { ⌜ (at ≤ long) × (27 ≤ long - at) ⌝ }
+    ensures { λ r. ⌜ (at < r) × (r ≤ long) ⌝ }
+{
+    let left = long - at;
+    let whole = left - left % 27;
+    if bytes == 0 {
+        at + whole
+    } else if bytes < whole {
+        at + bytes
+    } else {
+        at + whole
+    }
+}
+
+fn judge_blocks(begun: Judging, table: &mut [i64], log: &[u8], bytes: usize) -> Judging {
+    let mut judging = begun;
+    let mut at: usize = 0;
+    while 27 <= log.len() - at {
+        let to = block_end(at, log.len(), bytes);
+        judging = judging::block(judging, table, &log[at..to]);
+        at = to;
+    }
+    judging
+}
+
+fn judge(input: &[u8], table: &mut [i64], out: &mut [u8], bytes: usize) {
+    let begun = judging::start(input, table);
+    let answer = begun.answer;
+    let from = case_end(answer, input.len());
+    let log = &input[from..];
+    let judging = judge_blocks(begun, table, log, bytes);
+    let written = judging::finish(judging, table, log.len() % 27 != 0, out);
+    print_written(written, out);
+}
+
+// ---- kind 21
+
+fn print_tally(tally: Tally) {
+    drivers::print_count(tally.calls);
+    drivers::print_count(tally.left);
+    drivers::print(b"\n");
+}
+
+// Calls `next` until nothing more is due or a call is refused.
+fn press_on(first: Pressing, table: &mut [i64], out: &mut [u8]) -> Tally {
+    let mut pressing = first;
+    let mut calls: u64 = 0;
+    while calls < 1000 {
+        let left = pressing.left;
+        if left == 0 {
+            return Tally { calls, left };
+        }
+        let pressed = pressing::next(pressing, table, out);
+        pressing = pressed.pressing;
+        let written = pressed.written;
+        calls += 1;
+        if print_written(written, out) {
+            return Tally { calls, left };
+        }
+    }
+    Tally {
+        calls,
+        left: pressing.left,
+    }
+}
+
+fn press(input: &[u8], table: &mut [i64], out: &mut [u8]) {
+    let begun = pressing::start(input, table, out);
+    let written = begun.written;
+    print_written(written, out);
+    let pressing = begun.pressing;
+    print_tally(press_on(pressing, table, out));
+}
+
+// ---- the vectors
+
+fn count(z: i64) -> usize {
+    drivers::count_or(z, 0)
+}
+
+fn call(input: &[u8], table: &mut [i64], out: &mut [u8], line: Line) {
+    if line.kind == 20 {
+        let lines = count(line.b);
+        if lines <= 1000 {
+            judge(input, table, out, lines * 27);
+        }
+    } else if line.kind == 21 {
+        press(input, table, out);
+    }
+}
+
+fn lend(input: &[u8], line: Line) {
+    let places = count(line.a);
+    let room = count(line.c);
+    let mut table = [0i64; 64];
+    let mut out = [46u8; 256];
+    if places <= 64 {
+        if room <= 256 {
+            call(input, &mut table[0..places], &mut out[0..room], line);
+        }
+    }
+}
+
+// Answers how many bytes were the input.
+fn execute(rest: &[u8], line: Line) -> usize
+    ensures { λ r. ⌜ r ≤ length (now (rest .entry)) ⌝ }
+{
+    let size = count(line.amount);
+    if rest.len() < size {
+        return 0;
+    }
+    lend(&rest[0..size], line);
+    size
+}
+
+fn vectors(input: &[u8]) {
+    let mut at: usize = 0;
+    while 27 <= input.len() - at {
+        let to = at + 27;
+        let line = drivers::line_of(&input[at..to]);
+        at = to + execute(&input[to..], line);
+    }
+}
+
+fn main() {
+    let mut input = [0u8; 60000];
+    let n = io::read_full(0, &mut input);
+    vectors(&input[..n]);
+}
