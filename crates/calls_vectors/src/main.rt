@@ -25,151 +25,135 @@ use consistency::Tried;
 use definitions::Case;
 use definitions::Figure;
 use definitions::Line;
-use definitions::LineRead;
 use definitions::Outcome;
 use definitions::Refusal;
 use definitions::Verdict;
-use definitions::Written;
 ghost use Prim.Native.Nat.{_≤_};
+ghost use lib.ListN.{length};
 
-// Document 01's number.
-fn number_of(refusal: Refusal) -> i64 {
-    match refusal {
-        Refusal::NotInColumns => 1,
-        Refusal::NotDue => 2,
-        Refusal::OutsideLimits => 3,
-        Refusal::WrongLength => 4,
-        Refusal::OutOfRange => 5,
-        Refusal::EndsNotAscending => 6,
-        Refusal::EdgeRepeated => 7,
-        Refusal::WeightOutOfRange => 8,
-        Refusal::RaiseNotAscending => 9,
-        Refusal::NotRefuted => 10,
-        Refusal::LeavesRange => 11,
-        Refusal::OtherBound => 12,
-        Refusal::BoundNotLower => 13,
-        Refusal::CutShort => 14,
-    }
+// A line's kind, its numbers as counts, and its amount as a weight.
+struct Call {
+    kind: usize,
+    a: usize,
+    b: usize,
+    c: usize,
+    amount: i64,
 }
 
-// ---- numbers of a line
+// ---- what is printed
 
-fn count(z: i64) -> usize {
-    if z < 0 {
-        18446744073709551615
-    } else {
-        z as usize
-    }
-}
-
-fn byte(z: i64) -> u8 {
-    let n = count(z);
-    if 255 < n { 255 } else { n as u8 }
-}
-
-fn weight(z: i64) -> i64 {
-    if z == 999_999_999_999 {
-        return 9223372036854775807;
-    }
-    if z == -99_999_999_999 {
-        return -9223372036854775808;
-    }
-    z
-}
-
-fn least(n: usize, most: usize) -> usize
-    ensures { λ r. ⌜ r ≤ most ⌝ }
+// How many bytes there are up to the last that is no space.
+fn kept(text: &[u8]) -> usize
+    ensures { λ r. ⌜ r ≤ length (now (text .entry)) ⌝ }
 {
-    if n < most { n } else { most }
+    let mut n = text.len();
+    while 0 < n {
+        if text[n - 1] != 32 {
+            return n;
+        }
+        n -= 1;
+    }
+    0
 }
 
-fn wide(x: u8) -> u16 {
-    x as u16
+// False where there is no name.
+fn print_kept(name: &[u8]) -> bool {
+    let n = kept(name);
+    if n == 0 {
+        return false;
+    }
+    drivers::print(b"  ");
+    drivers::print(&name[0..n]);
+    true
+}
+
+fn print_slot(names: &[u8], from: usize) -> bool {
+    if names.len() < 16 {
+        return false;
+    }
+    if names.len() - 16 < from {
+        return false;
+    }
+    let to = from + 16;
+    print_kept(&names[from..to])
+}
+
+// Prints the name of a call, by its kind; false where there is no such call. Each name has 16 bytes.
+fn print_name(kind: usize) -> bool {
+    if kind < 10 {
+        return false;
+    }
+    if 33 < kind {
+        return false;
+    }
+    print_slot(
+        b"check_starting  check_working   check_edges     upper_bound     bound_of        is_active       objective       greatest        greatest_weights                refuted         active_refuted  lowest_partner  closure         all_refuted     active_marks                                                                    shift           press           shift_with      press_with      ",
+        (kind - 10) * 16,
+    )
+}
+
+fn print(word: &[u8]) {
+    drivers::print(word);
 }
 
 fn signed(x: u8) -> i64 {
     x as i64
 }
 
-// ---- what is printed
-
-fn print(text: &[u8]) {
-    io::write_all(1, text);
-}
-
-fn print_first(text: &[u8], n: usize) {
-    if n <= text.len() {
-        print(&text[0..n]);
-    }
-}
-
-fn print_number(z: i64) {
-    print(b" ");
-    let mut text = [0u8; 20];
-    let written = lines::write_number(&mut text, z);
-    match written {
-        Written::Bytes(n) => print_first(&text, n),
-        Written::Refused(_) => print(b"?"),
-    }
-}
-
-fn print_numbers(numbers: &[i64]) {
+fn print_each(bytes: &[u8]) {
     let mut i: usize = 0;
-    while i < numbers.len() {
-        print_number(numbers[i]);
+    while i < bytes.len() {
+        drivers::print_number(signed(bytes[i]));
         i += 1;
     }
 }
 
 fn print_bytes(label: &[u8], bytes: &[u8]) {
-    print(label);
-    let mut i: usize = 0;
-    while i < bytes.len() {
-        print_number(signed(bytes[i]));
-        i += 1;
-    }
-    print(b"\n");
+    drivers::print(label);
+    print_each(bytes);
+    drivers::print(b"\n");
 }
 
 fn print_weights(label: &[u8], weights: &[i64]) {
-    print(label);
-    print_numbers(weights);
-    print(b"\n");
+    drivers::print(label);
+    drivers::print_numbers(weights);
+    drivers::print(b"\n");
 }
 
-// The call and the numbers of its line.
-fn print_call(name: &[u8], line: Line) {
-    print(name);
-    print_number(line.a);
-    print_number(line.b);
-    print_number(line.c);
-    print_number(line.amount);
-    print(b":");
+fn print_table(t: &[i64]) {
+    print_weights(b"    table", t);
 }
 
-fn print_refusal(refusal: Refusal) {
-    print(b" refused");
-    print_number(number_of(refusal));
-    print(b"\n");
+fn print_best(best: &[i64]) {
+    print_weights(b"    best", best);
+}
+
+fn print_sets(sets: &[u8]) {
+    print_bytes(b"    sets", sets);
+}
+
+fn refused(refusal: Refusal) {
+    drivers::print_refusal(refusal);
+    drivers::print(b"\n");
 }
 
 fn outcome(answer: Outcome) {
     match answer {
         Outcome::Done => print(b" done\n"),
-        Outcome::Refused(refusal) => print_refusal(refusal),
+        Outcome::Refused(refusal) => refused(refusal),
     }
 }
 
 fn value(z: i64) {
-    print(b" value");
-    print_number(z);
-    print(b"\n");
+    drivers::print(b" value");
+    drivers::print_number(z);
+    drivers::print(b"\n");
 }
 
 fn figure(answer: Figure) {
     match answer {
         Figure::Value(z) => value(z),
-        Figure::Refused(refusal) => print_refusal(refusal),
+        Figure::Refused(refusal) => refused(refusal),
     }
 }
 
@@ -177,7 +161,7 @@ fn verdict(answer: Verdict) {
     match answer {
         Verdict::Yes => print(b" yes\n"),
         Verdict::No => print(b" no\n"),
-        Verdict::Refused(refusal) => print_refusal(refusal),
+        Verdict::Refused(refusal) => refused(refusal),
     }
 }
 
@@ -204,218 +188,290 @@ fn partner(answer: Partner) {
     }
 }
 
+// ---- a line
+
+fn count(z: i64) -> usize {
+    drivers::count_or(z, 18446744073709551615)
+}
+
+fn weight(z: i64) -> i64 {
+    if z == 999_999_999_999 {
+        return 9223372036854775807;
+    }
+    if z == -99_999_999_999 {
+        return -9223372036854775808;
+    }
+    z
+}
+
+fn print_arguments(line: Line) {
+    let numbers = [line.a, line.b, line.c, line.amount];
+    drivers::print_numbers(&numbers);
+    drivers::print(b":");
+}
+
+// The kind, or 0 where there is no such call; a call is printed with the numbers of its line.
+fn announced(kind: usize, line: Line) -> usize {
+    if kind < 9 {
+        return kind;
+    }
+    if print_name(kind) {
+        print_arguments(line);
+        return kind;
+    }
+    drivers::print(b"?\n");
+    0
+}
+
+fn call_of(line: Line) -> Call {
+    Call {
+        kind: announced(count(line.kind), line),
+        a: count(line.a),
+        b: count(line.b),
+        c: count(line.c),
+        amount: weight(line.amount),
+    }
+}
+
 // ---- what is handed over
 
-fn fill_weights(list: &mut [i64], from: usize, n: usize, value: i64) {
-    let mut i = least(from, list.len());
-    let to = i + least(n, list.len() - i);
-    while i < to {
-        list[i] = value;
-        i += 1;
-    }
-}
-
-fn fill_bytes(list: &mut [u8], from: usize, n: usize, value: u8) {
-    let mut i = least(from, list.len());
-    let to = i + least(n, list.len() - i);
-    while i < to {
-        list[i] = value;
-        i += 1;
-    }
-}
-
-fn put_weights(line: Line, weights: &mut [i64], best: &mut [i64]) {
-    let kind = line.kind;
-    let value = weight(line.amount);
-    match kind {
-        4 => fill_weights(weights, count(line.a), count(line.b), value),
-        5 => fill_weights(best, count(line.a), count(line.b), value),
-        _ => {}
-    }
-}
-
-fn put_bytes(line: Line, bytes: &mut [u8], sets: &mut [u8], rows: &mut [u8]) {
-    let kind = line.kind;
-    let value = byte(line.amount);
-    match kind {
-        6 => fill_bytes(bytes, count(line.a), count(line.b), value),
-        7 => fill_bytes(sets, count(line.a), count(line.b), value),
-        8 => fill_bytes(rows, count(line.a), count(line.b), value),
-        _ => {}
-    }
-}
-
-fn put_length(line: Line, lengths: &mut [usize]) {
-    let kind = count(line.kind);
-    if kind < lengths.len() {
-        lengths[kind] = count(line.c);
-    }
-}
-
-fn length_of(lengths: &[usize], kind: usize, most: usize) -> usize
+fn least(n: usize, most: usize) -> usize
     ensures { λ r. ⌜ r ≤ most ⌝ }
 {
-    if kind < lengths.len() {
+    if n < most { n } else { most }
+}
+
+fn fill_weights(list: &mut [i64; 160], from: usize, n: usize, value: i64) {
+    let mut i = least(from, 160);
+    let to = i + least(n, 160 - i);
+    while i < to {
+        list[i] = value;
+        i += 1;
+    }
+}
+
+fn fill_bytes(list: &mut [u8; 160], from: usize, n: usize, value: u8) {
+    let mut i = least(from, 160);
+    let to = i + least(n, 160 - i);
+    while i < to {
+        list[i] = value;
+        i += 1;
+    }
+}
+
+fn put_weights(call: Call, t: &mut [i64; 160], best: &mut [i64; 160]) {
+    let kind = call.kind;
+    match kind {
+        4 => fill_weights(t, call.a, call.b, call.amount),
+        5 => fill_weights(best, call.a, call.b, call.amount),
+        _ => {}
+    }
+}
+
+fn put_bytes(call: Call, bytes: &mut [u8; 160], sets: &mut [u8; 160], rows: &mut [u8; 160]) {
+    let kind = call.kind;
+    let value = drivers::byte(count(call.amount));
+    match kind {
+        6 => fill_bytes(bytes, call.a, call.b, value),
+        7 => fill_bytes(sets, call.a, call.b, value),
+        8 => fill_bytes(rows, call.a, call.b, value),
+        _ => {}
+    }
+}
+
+fn put_length(call: Call, lengths: &mut [usize; 9]) {
+    let kind = call.kind;
+    if kind < 9 {
+        lengths[kind] = call.c;
+    }
+}
+
+fn length_of(lengths: &[usize; 9], kind: usize, most: usize) -> usize
+    ensures { λ r. ⌜ r ≤ most ⌝ }
+{
+    if kind < 9 {
         least(lengths[kind], most)
     } else {
         0
     }
 }
 
-fn sized(line: Line, case: Case) -> Case {
+fn sized(call: Call, case: Case) -> Case {
     let mut c = case;
-    c.n = count(line.a);
-    c.d = count(line.b);
-    c.m = count(line.c);
+    c.n = call.a;
+    c.d = call.b;
+    c.m = call.c;
     c
 }
 
-fn joined(line: Line, case: Case) -> Case {
-    let e = count(line.a);
+fn joined(call: Call, case: Case) -> Case {
+    let e = call.a;
     let mut c = case;
     if e < 96 {
-        c.lower[e] = byte(line.b);
-        c.upper[e] = byte(line.c);
+        c.lower[e] = drivers::byte(call.b);
+        c.upper[e] = drivers::byte(call.c);
     }
     c
 }
 
-fn case_after(line: Line, case: Case) -> Case {
-    let kind = line.kind;
+fn case_after(call: Call, case: Case) -> Case {
+    let kind = call.kind;
     match kind {
-        1 => sized(line, case),
-        2 => joined(line, case),
+        1 => sized(call, case),
+        2 => joined(call, case),
         _ => case,
     }
 }
 
-// ---- calls of figures
+// ---- calls that change nothing
 
-fn starting(line: Line, case: Case, t: &[i64]) {
-    print_call(b"  check_starting", line);
-    outcome(figures::check_starting(case, t, line.a != 0, line.b != 0));
+fn starting(call: Call, case: Case, t: &[i64]) {
+    outcome(figures::check_starting(case, t, call.a != 0, call.b != 0));
 }
 
-fn working(line: Line, case: Case, t: &[i64]) {
-    print_call(b"  check_working", line);
-    outcome(figures::check_working(case, t, line.a != 0, line.b != 0));
+fn working(call: Call, case: Case, t: &[i64]) {
+    outcome(figures::check_working(case, t, call.a != 0, call.b != 0));
 }
 
-fn edges(line: Line, case: Case) {
-    print_call(b"  check_edges", line);
-    outcome(figures::check_edges(case, line.a != 0));
+fn edges(call: Call, case: Case) {
+    outcome(figures::check_edges(case, call.a != 0));
 }
 
-fn bound(line: Line, case: Case, t: &[i64]) {
-    print_call(b"  upper_bound", line);
+fn bound(case: Case, t: &[i64]) {
     figure(figures::upper_bound(case, t));
 }
 
-fn bound_of(line: Line, case: Case, t: &[i64]) {
-    print_call(b"  bound_of", line);
+fn bound_of(case: Case, t: &[i64]) {
     value(figures::bound_of(case, t));
 }
 
-fn active(line: Line, case: Case, t: &[i64]) {
-    print_call(b"  is_active", line);
-    verdict(figures::is_active(case, t, count(line.a), count(line.b), count(line.c)));
+fn active(call: Call, case: Case, t: &[i64]) {
+    verdict(figures::is_active(case, t, call.a, call.b, call.c));
 }
 
-fn objective(line: Line, case: Case, t: &[i64], plan: &[u8]) {
-    print_call(b"  objective", line);
+fn objective(case: Case, t: &[i64], plan: &[u8]) {
     figure(figures::objective(case, t, plan));
 }
 
-fn greatest(line: Line, t: &[i64]) {
-    print_call(b"  greatest", line);
+fn greatest(t: &[i64]) {
     value(figures::greatest(t));
 }
 
-fn greatest_weights(line: Line, case: Case, t: &[i64], best: &mut [i64]) {
-    print_call(b"  greatest_weights", line);
-    outcome(figures::greatest_weights(case, t, best));
-    print_weights(b"    best", best);
+fn refuted(call: Call, case: Case, t: &[i64], raised: &[u8]) {
+    verdict(consistency::refuted(case, t, raised, call.a, call.b));
 }
 
-fn totals(line: Line, case: Case, t: &[i64], best: &mut [i64], bytes: &[u8]) {
-    let kind = line.kind;
+fn active_refuted(call: Call, case: Case, t: &[i64], best: &[i64], raised: &[u8]) {
+    verdict(consistency::active_refuted(case, t, best, raised, call.a));
+}
+
+fn lowest_partner(call: Call) {
+    partner(consistency::lowest_partner(drivers::byte(call.a), drivers::byte(call.b)));
+}
+
+fn question(call: Call, case: Case, t: &[i64], best: &[i64], bytes: &[u8]) {
+    let kind = call.kind;
     match kind {
-        10 => starting(line, case, t),
-        11 => working(line, case, t),
-        12 => edges(line, case),
-        13 => bound(line, case, t),
-        14 => bound_of(line, case, t),
-        15 => active(line, case, t),
-        16 => objective(line, case, t, bytes),
-        17 => greatest(line, t),
-        18 => greatest_weights(line, case, t, best),
-        _ => print(b"?\n"),
-    }
-}
-
-// ---- calls of consistency
-
-fn refuted(line: Line, case: Case, t: &[i64], raised: &[u8]) {
-    print_call(b"  refuted", line);
-    verdict(consistency::refuted(case, t, raised, count(line.a), count(line.b)));
-}
-
-fn active_refuted(line: Line, case: Case, t: &[i64], best: &[i64], raised: &[u8]) {
-    print_call(b"  active_refuted", line);
-    verdict(consistency::active_refuted(case, t, best, raised, count(line.a)));
-}
-
-fn lowest_partner(line: Line) {
-    print_call(b"  lowest_partner", line);
-    partner(consistency::lowest_partner(byte(line.a), byte(line.b)));
-}
-
-fn closure(line: Line, lower: &[u8], upper: &[u8], rows: &[u8], raised: &[u8], sets: &mut [u8]) {
-    print_call(b"  closure", line);
-    closed(consistency::closure(lower, upper, rows, raised, sets));
-    print_bytes(b"    sets", sets);
-}
-
-fn all_refuted(line: Line, lower: &[u8], upper: &[u8], rows: &[u8], raised: &[u8], sets: &[u8]) {
-    print_call(b"  all_refuted", line);
-    tried(consistency::all_refuted(
-        lower,
-        upper,
-        rows,
-        raised,
-        sets,
-        count(line.a),
-        byte(line.b),
-    ));
-}
-
-fn active_marks(line: Line, case: Case, t: &[i64], sets: &mut [u8], rows: &mut [u8]) {
-    print_call(b"  active_marks", line);
-    outcome(consistency::active_marks(case, t, sets, rows));
-    print_bytes(b"    sets", sets);
-    print_bytes(b"    rows", rows);
-}
-
-fn questions(line: Line, case: Case, t: &[i64], best: &[i64], raised: &[u8]) {
-    let kind = line.kind;
-    match kind {
-        20 => refuted(line, case, t, raised),
-        21 => active_refuted(line, case, t, best, raised),
-        22 => lowest_partner(line),
+        10 => starting(call, case, t),
+        11 => working(call, case, t),
+        12 => edges(call, case),
+        13 => bound(case, t),
+        14 => bound_of(case, t),
+        15 => active(call, case, t),
+        16 => objective(case, t, bytes),
+        17 => greatest(t),
+        20 => refuted(call, case, t, bytes),
+        21 => active_refuted(call, case, t, best, bytes),
+        22 => lowest_partner(call),
         _ => {}
     }
 }
 
-fn networks(line: Line, lower: &[u8], upper: &[u8], raised: &[u8], sets: &mut [u8], rows: &[u8]) {
-    let kind = line.kind;
+// ---- calls that write weights
+
+fn greatest_weights(case: Case, t: &[i64], best: &mut [i64]) {
+    outcome(figures::greatest_weights(case, t, best));
+    print_best(best);
+}
+
+fn shift(call: Call, case: Case, t: &mut [i64]) {
+    outcome(moves::shift(case, t, call.a, call.b, call.c, call.amount));
+    print_table(t);
+}
+
+fn wide(x: u8) -> u16 {
+    x as u16
+}
+
+fn scope_at(list: &[u8], i: usize) -> u16 {
+    if i < list.len() { wide(list[i]) } else { 0 }
+}
+
+fn press_list(call: Call, case: Case, t: &mut [i64], list: &[u16]) {
+    outcome(moves::press(case, t, call.a, list, call.amount));
+    print_table(t);
+}
+
+fn press(call: Call, case: Case, t: &mut [i64], raised: &[u8]) {
+    let n = least(raised.len(), 4);
+    let list = [
+        scope_at(raised, 0),
+        scope_at(raised, 1),
+        scope_at(raised, 2),
+        scope_at(raised, 3),
+    ];
+    press_list(call, case, t, &list[0..n]);
+}
+
+fn print_both(t: &[i64], best: &[i64]) {
+    print_table(t);
+    print_best(best);
+}
+
+fn shift_with(call: Call, case: Case, t: &mut [i64], best: &mut [i64]) {
+    outcome(moves::shift_with(case, t, best, call.a, call.b, call.c, call.amount));
+    print_both(t, best);
+}
+
+fn press_with(call: Call, case: Case, t: &mut [i64], best: &mut [i64], raised: &[u8]) {
+    outcome(moves::press_with(case, t, best, raised, call.a, call.amount));
+    print_both(t, best);
+}
+
+fn weighed(call: Call, case: Case, t: &mut [i64], best: &mut [i64], bytes: &[u8]) {
+    let kind = call.kind;
     match kind {
-        23 => closure(line, lower, upper, rows, raised, sets),
-        _ => all_refuted(line, lower, upper, rows, raised, sets),
+        18 => greatest_weights(case, t, best),
+        30 => shift(call, case, t),
+        31 => press(call, case, t, bytes),
+        32 => shift_with(call, case, t, best),
+        33 => press_with(call, case, t, best, bytes),
+        _ => question(call, case, t, best, bytes),
     }
 }
 
-fn parts(
-    line: Line,
+// ---- calls that write marks
+
+fn closure(lower: &[u8], upper: &[u8], rows: &[u8], raised: &[u8], sets: &mut [u8]) {
+    closed(consistency::closure(lower, upper, rows, raised, sets));
+    print_sets(sets);
+}
+
+fn all_refuted(call: Call, lower: &[u8], upper: &[u8], rows: &[u8], raised: &[u8], sets: &[u8]) {
+    let marks = drivers::byte(call.b);
+    tried(consistency::all_refuted(lower, upper, rows, raised, sets, call.a, marks));
+}
+
+fn network(call: Call, lower: &[u8], upper: &[u8], raised: &[u8], sets: &mut [u8], rows: &[u8]) {
+    if call.kind == 23 {
+        closure(lower, upper, rows, raised, sets);
+    } else {
+        all_refuted(call, lower, upper, rows, raised, sets);
+    }
+}
+
+fn ends_lent(
+    call: Call,
     lower: &[u8],
     upper: &[u8],
     ends: usize,
@@ -425,8 +481,8 @@ fn parts(
 ) {
     let lower_to = least(ends, lower.len());
     let upper_to = least(ends, upper.len());
-    networks(
-        line,
+    network(
+        call,
         &lower[0..lower_to],
         &upper[0..upper_to],
         raised,
@@ -435,144 +491,104 @@ fn parts(
     );
 }
 
-fn network(line: Line, case: Case, ends: usize, raised: &[u8], sets: &mut [u8], rows: &[u8]) {
+fn of_case(call: Call, case: Case, ends: usize, raised: &[u8], sets: &mut [u8], rows: &[u8]) {
     let lower = case.lower;
     let upper = case.upper;
-    parts(line, &lower, &upper, ends, raised, sets, rows);
+    ends_lent(call, &lower, &upper, ends, raised, sets, rows);
 }
 
-// ---- calls of moves
-
-fn shift(line: Line, case: Case, t: &mut [i64]) {
-    print_call(b"  shift", line);
-    outcome(moves::shift(
-        case,
-        t,
-        count(line.a),
-        count(line.b),
-        count(line.c),
-        weight(line.amount),
-    ));
-    print_weights(b"    table", t);
+fn active_marks(case: Case, t: &[i64], sets: &mut [u8], rows: &mut [u8]) {
+    outcome(consistency::active_marks(case, t, sets, rows));
+    print_sets(sets);
+    print_bytes(b"    rows", rows);
 }
 
-fn scope_at(list: &[u8], i: usize) -> u16 {
-    if i < list.len() { wide(list[i]) } else { 0 }
-}
+// ---- the calls on as much of each list as is lent
 
-fn press(line: Line, case: Case, t: &mut [i64], raised: &[u8]) {
-    print_call(b"  press", line);
-    let n = least(raised.len(), 4);
-    let list = [
-        scope_at(raised, 0),
-        scope_at(raised, 1),
-        scope_at(raised, 2),
-        scope_at(raised, 3),
-    ];
-    outcome(moves::press(case, t, count(line.a), &list[0..n], weight(line.amount)));
-    print_weights(b"    table", t);
-}
-
-fn shift_with(line: Line, case: Case, t: &mut [i64], best: &mut [i64]) {
-    print_call(b"  shift_with", line);
-    outcome(moves::shift_with(
-        case,
-        t,
-        best,
-        count(line.a),
-        count(line.b),
-        count(line.c),
-        weight(line.amount),
-    ));
-    print_weights(b"    table", t);
-    print_weights(b"    best", best);
-}
-
-fn press_with(line: Line, case: Case, t: &mut [i64], best: &mut [i64], raised: &[u8]) {
-    print_call(b"  press_with", line);
-    outcome(moves::press_with(case, t, best, raised, count(line.a), weight(line.amount)));
-    print_weights(b"    table", t);
-    print_weights(b"    best", best);
-}
-
-fn make_move(line: Line, case: Case, t: &mut [i64], best: &mut [i64], raised: &[u8]) {
-    let kind = line.kind;
-    match kind {
-        30 => shift(line, case, t),
-        31 => press(line, case, t, raised),
-        32 => shift_with(line, case, t, best),
-        33 => press_with(line, case, t, best, raised),
-        _ => print(b"?\n"),
-    }
-}
-
-// ---- the lines
-
-// A title stands for kind 0.
-fn line_of(bytes: &[u8]) -> Line {
-    let read = lines::read_line(bytes);
-    match read {
-        LineRead::Read(line) => line,
-        LineRead::Refused(_) => {
-            print(bytes);
-            Line {
-                kind: 0,
-                a: 0,
-                b: 0,
-                c: 0,
-                amount: 0,
-            }
-        }
-    }
-}
-
-fn call(
-    line: Line,
+fn weigh(
+    call: Call,
     case: Case,
-    ends: usize,
+    lengths: &[usize; 9],
     t: &mut [i64],
     best: &mut [i64],
     bytes: &[u8],
-    sets: &mut [u8],
-    rows: &mut [u8],
-) {
-    let kind = line.kind;
-    match kind {
-        0..=8 => {}
-        9..=19 => totals(line, case, t, best, bytes),
-        20..=22 => questions(line, case, t, best, bytes),
-        23..=24 => network(line, case, ends, bytes, sets, rows),
-        25 => active_marks(line, case, t, sets, rows),
-        _ => make_move(line, case, t, best, bytes),
-    }
-}
-
-// The call on as much of each list as is lent.
-fn call_on_parts(
-    line: Line,
-    case: Case,
-    lengths: &[usize],
-    t: &mut [i64],
-    best: &mut [i64],
-    bytes: &[u8],
-    sets: &mut [u8],
-    rows: &mut [u8],
 ) {
     let t_to = length_of(lengths, 4, t.len());
     let best_to = length_of(lengths, 5, best.len());
     let bytes_to = length_of(lengths, 6, bytes.len());
-    let sets_to = length_of(lengths, 7, sets.len());
-    let rows_to = length_of(lengths, 8, rows.len());
-    call(
-        line,
+    weighed(
+        call,
         case,
-        length_of(lengths, 3, 96),
         &mut t[0..t_to],
         &mut best[0..best_to],
         &bytes[0..bytes_to],
+    );
+}
+
+fn mark(case: Case, lengths: &[usize; 9], t: &[i64], sets: &mut [u8], rows: &mut [u8]) {
+    let t_to = length_of(lengths, 4, t.len());
+    let sets_to = length_of(lengths, 7, sets.len());
+    let rows_to = length_of(lengths, 8, rows.len());
+    active_marks(
+        case,
+        &t[0..t_to],
         &mut sets[0..sets_to],
         &mut rows[0..rows_to],
     );
+}
+
+fn close(
+    call: Call,
+    case: Case,
+    lengths: &[usize; 9],
+    raised: &[u8],
+    sets: &mut [u8],
+    rows: &[u8],
+) {
+    let raised_to = length_of(lengths, 6, raised.len());
+    let sets_to = length_of(lengths, 7, sets.len());
+    let rows_to = length_of(lengths, 8, rows.len());
+    let ends = length_of(lengths, 3, 96);
+    of_case(
+        call,
+        case,
+        ends,
+        &raised[0..raised_to],
+        &mut sets[0..sets_to],
+        &rows[0..rows_to],
+    );
+}
+
+// ---- the lines
+
+fn call_weights(
+    call: Call,
+    case: Case,
+    lengths: &[usize; 9],
+    t: &mut [i64; 160],
+    best: &mut [i64; 160],
+    bytes: &[u8; 160],
+) {
+    if 9 < call.kind {
+        weigh(call, case, lengths, t, best, bytes);
+    }
+}
+
+fn call_marks(
+    call: Call,
+    case: Case,
+    lengths: &[usize; 9],
+    t: &[i64; 160],
+    bytes: &[u8; 160],
+    sets: &mut [u8; 160],
+    rows: &mut [u8; 160],
+) {
+    let kind = call.kind;
+    match kind {
+        23..=24 => close(call, case, lengths, bytes, sets, rows),
+        25 => mark(case, lengths, t, sets, rows),
+        _ => {}
+    }
 }
 
 fn no_case() -> Case {
@@ -585,29 +601,24 @@ fn no_case() -> Case {
     }
 }
 
-fn vectors(
-    input: &[u8],
-    lengths: &mut [usize],
-    t: &mut [i64],
-    best: &mut [i64],
-    bytes: &mut [u8],
-    sets: &mut [u8],
-    rows: &mut [u8],
-) {
+fn vectors(input: &[u8]) {
+    let mut lengths = [0usize; 9];
+    let mut t = [0i64; 160];
+    let mut best = [0i64; 160];
+    let mut bytes = [0u8; 160];
+    let mut sets = [0u8; 160];
+    let mut rows = [0u8; 160];
     let mut case = no_case();
     let mut at: usize = 0;
-    while at < input.len() {
-        if input.len() - at < 27 {
-            return;
-        }
+    while 27 <= input.len() - at {
         let to = at + 27;
-        let line = line_of(&input[at..to]);
-        let next = case_after(line, case);
-        case = next;
-        put_length(line, lengths);
-        put_weights(line, t, best);
-        put_bytes(line, bytes, sets, rows);
-        call_on_parts(line, case, lengths, t, best, bytes, sets, rows);
+        let call = call_of(drivers::line_of(&input[at..to]));
+        case = case_after(call, case);
+        put_length(call, &mut lengths);
+        put_weights(call, &mut t, &mut best);
+        put_bytes(call, &mut bytes, &mut sets, &mut rows);
+        call_weights(call, case, &lengths, &mut t, &mut best, &bytes);
+        call_marks(call, case, &lengths, &t, &bytes, &mut sets, &mut rows);
         at = to;
     }
 }
@@ -615,19 +626,5 @@ fn vectors(
 fn main() {
     let mut input = [0u8; 40000];
     let n = io::read_full(0, &mut input);
-    let mut lengths = [0usize; 9];
-    let mut t = [0i64; 160];
-    let mut best = [0i64; 160];
-    let mut bytes = [0u8; 160];
-    let mut sets = [0u8; 160];
-    let mut rows = [0u8; 160];
-    vectors(
-        &input[..n],
-        &mut lengths,
-        &mut t,
-        &mut best,
-        &mut bytes,
-        &mut sets,
-        &mut rows,
-    );
+    vectors(&input[..n]);
 }

@@ -1,13 +1,11 @@
 use Prim.Native.Nat.{_≤_, _-_}
-use mathlib.Core.Path.{_≡_}
-use lib.ListN.{length, length-set}
 use native.Mathlib.Omega.{arith}
 use borrow.Author.Needs.{needs}
 use Rattle.calls_vectors.proofs.fill_bytes.Statement.{statement}
 use Rattle.calls_vectors.proofs.fill_bytes.Tie as tie
 
 abbrev Inv-loop : tie.InvT-loop
-Inv-loop list₀ from n value i₀ to list i = (to ≤ length list) × (length list ≡ length list₀)
+Inv-loop list₀ from n value i₀ to list i = to ≤ 160
 
 abbrev μ-loop : tie.MeasureT-loop
 μ-loop list₀ from n value i₀ to list i = to - i
@@ -27,8 +25,8 @@ add-to c = search needs
 loop-holds : tie.Need-loop-holds Inv-loop μ-loop
 loop-holds c = search needs
 
-slice-write-list : tie.Need-slice-write-list Inv-loop μ-loop
-slice-write-list c = search needs
+element-write-list : tie.Need-element-write-list Inv-loop μ-loop
+element-write-list c = search needs
 
 add-i : tie.Need-add-i Inv-loop μ-loop
 add-i c = search needs
@@ -37,10 +35,7 @@ loop-less : tie.Need-loop-less Inv-loop μ-loop
 loop-less c = search needs
 
 loop-again : tie.Need-loop-again Inv-loop μ-loop
-loop-again c = simp length-set (omega arith)
-
-same-length : tie.Need-same-length Inv-loop μ-loop
-same-length c = search needs
+loop-again c = search needs
 
 returns : tie.Need-returns Inv-loop μ-loop
 returns c = search needs
@@ -56,9 +51,8 @@ fill-bytes-spec =
     least-requires-2
     add-to
     loop-holds
-    slice-write-list
+    element-write-list
     add-i
     loop-less
     loop-again
-    same-length
     returns)

@@ -1,13 +1,11 @@
 use Prim.Native.Nat.{_≤_, _-_}
-use mathlib.Core.Path.{_≡_}
-use lib.ListN.{length, length-set}
 use native.Mathlib.Omega.{arith}
 use borrow.Author.Needs.{needs}
 use Rattle.calls_vectors.proofs.fill_weights.Statement.{statement}
 use Rattle.calls_vectors.proofs.fill_weights.Tie as tie
 
 abbrev Inv-loop : tie.InvT-loop
-Inv-loop list₀ from n value i₀ to list i = (to ≤ length list) × (length list ≡ length list₀)
+Inv-loop list₀ from n value i₀ to list i = to ≤ 160
 
 abbrev μ-loop : tie.MeasureT-loop
 μ-loop list₀ from n value i₀ to list i = to - i
@@ -30,8 +28,8 @@ loop-holds c = search needs
 mul-value : tie.Need-mul-value Inv-loop μ-loop
 mul-value c = search needs
 
-slice-set-from-value : tie.Need-slice-set-from-value Inv-loop μ-loop
-slice-set-from-value c = search needs
+element-set-from-value : tie.Need-element-set-from-value Inv-loop μ-loop
+element-set-from-value c = search needs
 
 add-i : tie.Need-add-i Inv-loop μ-loop
 add-i c = search needs
@@ -40,10 +38,7 @@ loop-less : tie.Need-loop-less Inv-loop μ-loop
 loop-less c = search needs
 
 loop-again : tie.Need-loop-again Inv-loop μ-loop
-loop-again c = simp length-set (omega arith)
-
-same-length : tie.Need-same-length Inv-loop μ-loop
-same-length c = search needs
+loop-again c = search needs
 
 returns : tie.Need-returns Inv-loop μ-loop
 returns c = search needs
@@ -60,9 +55,8 @@ fill-weights-spec =
     add-to
     loop-holds
     mul-value
-    slice-set-from-value
+    element-set-from-value
     add-i
     loop-less
     loop-again
-    same-length
     returns)

@@ -1,19 +1,15 @@
-use mathlib.Core.Path.{refl}
-use Prim.Native.Nat.{_≤_, _-_, _<_}
+use Prim.Native.Nat.{_≤_, _-_}
 use lib.ListN.{length}
 use native.Mathlib.Omega.{arith}
 use borrow.Author.Needs.{needs}
-use Rattle.calls_vectors.proofs.print_bytes.Statement.{statement}
-use Rattle.calls_vectors.proofs.print_bytes.Tie as tie
+use Rattle.calls_vectors.proofs.print_each.Statement.{statement}
+use Rattle.calls_vectors.proofs.print_each.Tie as tie
 
 abbrev Inv-loop : tie.InvT-loop
-Inv-loop label bytes i₀ t4 i = i ≤ length bytes
+Inv-loop bytes i₀ i = i ≤ length bytes
 
 abbrev μ-loop : tie.MeasureT-loop
-μ-loop label bytes i₀ t4 i = length bytes - i
-
-print-requires : tie.Need-print-requires Inv-loop μ-loop
-print-requires c κs = search needs
+μ-loop bytes i₀ i = length bytes - i
 
 loop-holds : tie.Need-loop-holds Inv-loop μ-loop
 loop-holds c = search needs
@@ -36,22 +32,15 @@ loop-less c = search needs
 loop-again : tie.Need-loop-again Inv-loop μ-loop
 loop-again c = search needs
 
-slice-aggregate-print : tie.Need-slice-aggregate-print Inv-loop μ-loop
-slice-aggregate-print c = refl
-
-print-requires-2 : tie.Need-print-requires-2 Inv-loop μ-loop
-print-requires-2 c κs = search needs
-
 returns : tie.Need-returns Inv-loop μ-loop
 returns c = search needs
 
-pub print-bytes-spec : {M : Type 1} → statement M
-print-bytes-spec =
+pub print-each-spec : {M : Type 1} → statement M
+print-each-spec =
     tie.close
     (tie.spec
     Inv-loop
     μ-loop
-    print-requires
     loop-holds
     shared-slice-read-signed
     signed-requires
@@ -59,6 +48,4 @@ print-bytes-spec =
     add-i
     loop-less
     loop-again
-    slice-aggregate-print
-    print-requires-2
     returns)
