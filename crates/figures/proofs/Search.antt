@@ -1,13 +1,14 @@
 -- What a search shows: tests joined by &&, a test of some number below n, and of all elements of a list. Assumes nothing.
-use mathlib.Core.Path.{_≡_, refl, sym}
-use mathlib.Core.Bool.{Bool, true, false, not, _&&_, _||_}
+use mathlib.Core.Path.{_≡_, refl, sym, ap, _∙_}
+use mathlib.Core.Bool.{Bool, true, false, not, _&&_, _||_, or-false}
 use mathlib.Core.List.{List}
-use Prim.Native.Nat.{ℕ, _<_}
+use Prim.Native.Nat.{ℕ, _+_, _<_}
+use native.Mathlib.Nat.{zero-add}
 use lib.Dec.{not-T}
 use lib.ListN.{length, getD}
-use Rattle.integers.specs.Words.{below, any, all}
+use Rattle.integers.specs.Words.{from, below, any, all}
 use Rattle.integers.specs.Tests.{is-true, true-is, is-false}
-use Rattle.integers.specs.Lists.{any-at, any-of}
+use Rattle.integers.specs.Lists.{any-append, any-at, any-of, from-split}
 use Rattle.integers.specs.Tables.{all-getD, any-getD}
 
 module _ (a b : Bool) where
@@ -24,6 +25,9 @@ second-fails false b c e = refl
 module _ (f : ℕ → Bool) (n : ℕ) where
   pub found : (k : ℕ) → k < n → f k ≡ true → true ≡ any f (below n)
   found k h e = sym (is-true (any f (below n)) (any-of f n h (true-is (f k) e)))
+
+  pub any-next : any f (below (n + 1)) ≡ (any f (below n) || f n)
+  any-next = ap (any f) (from-split 0 n 1) ∙ any-append f (below n) (from (0 + n) 1) ∙ rw (zero-add, or-false)
 
   pub not-found : ((k : ℕ) → k < n → f k ≡ false) → false ≡ any f (below n)
   not-found h = sym (is-false (any f (below n)) (not-T (any f (below n)) (λ t. let (k, l, s) = any-at f n t in rw (h k l) at s)))

@@ -53,22 +53,21 @@ fn same_ends<'a>(lower: &'a [u8; 96], upper: &'a [u8; 96], e: usize, f: usize) -
     requires { ⌜ (e < 96) × (f < 96) ⌝ }
     ensures { λ r. ⌜ r ≡ sameEnds (withEdges 0 (now (lower .entry)) (now (upper .entry))) e f ⌝ }
 {
-    lower[e] == lower[f] && upper[e] == upper[f]
+    (lower[e] == lower[f]) & (upper[e] == upper[f])
 }
 
-// An edge before e joins the same variables.
+// An edge before e joins the same variables. All are looked at, so that many are at once.
 fn repeated<'a>(lower: &'a [u8; 96], upper: &'a [u8; 96], e: usize) -> bool
     requires { ⌜ e < 96 ⌝ }
     ensures { λ r. ⌜ r ≡ faulty (withEdges 0 (now (lower .entry)) (now (upper .entry))) Fault.Repeated e ⌝ }
 {
+    let mut found = false;
     let mut f: usize = 0;
     while f < e {
-        if same_ends(lower, upper, e, f) {
-            return true;
-        }
+        found |= same_ends(lower, upper, e, f);
         f += 1;
     }
-    false
+    found
 }
 
 fn both_below(i: u8, j: u8, n: usize) -> bool

@@ -1,19 +1,14 @@
 -- Whether an edge before f has these ends. Assumes nothing.
-use Prim.Native.Nat.{ℕ, _+_, _≤_, _-_}
+use Prim.Native.Nat.{_≤_, _-_}
 use mathlib.Core.Path.{_≡_, refl, sym, ap, ap₂, _∙_}
-use mathlib.Core.Bool.{Bool, _&&_, _||_, or-false}
-use native.Mathlib.Nat.{zero-add}
+use mathlib.Core.Bool.{_&&_, _||_}
 use native.Mathlib.Omega.{arith}
 use lib.Dec.{eqb}
 use lib.ListN.{getD}
-use Rattle.integers.specs.Words.{any, from, below}
-use Rattle.integers.specs.Lists.{any-append, from-split}
+use Rattle.figures.proofs.Search.{any-next}
 use Rattle.casefile.specs.Steps.{joinedBefore}
 use Rattle.casefile.proofs.joined_before.Statement.{statement}
 use Rattle.casefile.proofs.joined_before.Tie as tie
-
-any-next : (p : ℕ → Bool) (n : ℕ) → any p (below (n + 1)) ≡ (any p (below n) || p n)
-any-next p n = ap (any p) (from-split 0 n 1) ∙ any-append p (below n) (from (0 + n) 1) ∙ rw (zero-add, or-false)
 
 abbrev Inv-loop : tie.InvT-loop
 Inv-loop lower upper e i j found₀ f₀ found f = (f ≤ e) × (found ≡ joinedBefore lower upper f i j)
