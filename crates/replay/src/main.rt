@@ -1,6 +1,6 @@
 // The program `replay`: a case and its log on standard input, the judgement on standard output (document 01). The work is done by `judging` on
 // slices; here the input is cut into blocks of whole lines, and a part line is carried over to the next block. The input ends where a read brings
-// nothing or fails.
+// nothing; where a read fails nothing is printed.
 use definitions::CaseSize;
 use definitions::FileAnswer;
 use definitions::Written;
@@ -177,6 +177,13 @@ fn write_first(text: &[u8], n: usize) {
     }
 }
 
+// Whether the input has ended, and no read failed.
+fn is_ended() -> bool {
+    let mut byte = [0u8; 1];
+    let part: &mut [u8] = &mut byte;
+    libc::read(STDIN_FILENO, part) == 0
+}
+
 fn run(buf: &mut [u8], table: &mut [i64], filled: usize)
     requires { ⌜ (filled ≤ length (now buf)) × (length (now buf) ≡ 262144) ⌝ }
     requires { ⌜ now table ≡ tableFor (caseSize standard (take filled (now buf))) ⌝ }
@@ -185,7 +192,11 @@ fn run(buf: &mut [u8], table: &mut [i64], filled: usize)
     let written = write_judgement(buf, table, filled, &mut text);
     match written {
         Written::Refused(_) => {}
-        Written::Bytes(n) => write_first(&text, n),
+        Written::Bytes(n) => {
+            if is_ended() {
+                write_first(&text, n);
+            }
+        }
     }
 }
 
