@@ -1,8 +1,8 @@
 /* The ceiling library: a checker and an engine for channel plans. docs/LIBRARY.md has the layouts and the numbers.
  *
  * Every answer has a number: 0, or why the call was refused, 1 to 14. Every function returns on all contents; of its pointers it asks that
- * none is null, also where the length is 0, that each points to as many elements as its length or its array says, and that nothing a call
- * writes overlaps another argument.
+ * none is null, also where the length is 0, that each is aligned for its type and points to as many elements as its length or its array says,
+ * and that nothing a call writes overlaps another argument.
  *
  * The checker's functions are in libchecker_library.a, the engine's in libengine_library.a. The checker's need nothing of the engine's.
  */
@@ -64,8 +64,9 @@ uint64_t ceiling_replay_start(const uint8_t case_bytes[CEILING_CASE], const int6
 struct ceiling_lines_answer ceiling_replay_lines(const uint8_t case_bytes[CEILING_CASE], int64_t *table, size_t table_length,
                                                  uint8_t record[CEILING_RECORD], const uint8_t *lines, size_t lines_length);
 
-/* The end of the log: its rounds, or the number that stands, or 14 inside a round. */
-struct ceiling_rounds_answer ceiling_replay_end(const uint8_t case_bytes[CEILING_CASE], const uint8_t record[CEILING_RECORD]);
+/* The end of the log, after whose last whole line `part` bytes are left: its rounds, or the number that stands, or 14 inside a round or a line. */
+struct ceiling_rounds_answer ceiling_replay_end(const uint8_t case_bytes[CEILING_CASE], const uint8_t record[CEILING_RECORD],
+                                                size_t part);
 
 /* Where a round's lines lie in a log, from the first byte to before `to`; or the refusal and its line. */
 struct ceiling_span_answer ceiling_round_span(const uint8_t *log, size_t log_length, uint64_t round);

@@ -68,7 +68,7 @@ int main(int count, char **arguments) {
         struct ceiling_lines_answer lines = ceiling_replay_lines(case_bytes, table, size.table, record, log + at, block);
         if (lines.number) return refused(lines.number, read.lines + at / CEILING_LINE + lines.lines);
     }
-    struct ceiling_rounds_answer end = ceiling_replay_end(case_bytes, record);
+    struct ceiling_rounds_answer end = ceiling_replay_end(case_bytes, record, logged % CEILING_LINE);
     if (end.number) return refused(end.number, read.lines + logged / CEILING_LINE);
     struct ceiling_total_answer ceiling = ceiling_upper_bound(case_bytes, table, size.table);
     if (ceiling.number || end.rounds != run.rounds || ceiling.total != run.bound) return 2;

@@ -47,7 +47,7 @@ fn example(text: &[u8]) -> Result<Vec<u8>, Refused> {
     for block in log.chunks(100 * LINE) {
         passed += replay.lines(&case, &mut table, block).map_err(|r| Refused { line: r.line + passed, ..r })?;
     }
-    let rounds = replay.end(&case).map_err(|r| Refused { line: passed, ..r })?;
+    let rounds = replay.end(&case, log.len() % LINE).map_err(|r| Refused { line: passed, ..r })?;
     let ceiling = case.upper_bound(&table)?;
     assert!(rounds == run.rounds && ceiling == run.bound);
 

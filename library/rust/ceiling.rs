@@ -125,7 +125,7 @@ mod c {
             lines: *const u8,
             n: usize,
         ) -> Lines;
-        pub fn ceiling_replay_end(case: *const u8, record: *const u8) -> Rounds;
+        pub fn ceiling_replay_end(case: *const u8, record: *const u8, part: usize) -> Rounds;
         pub fn ceiling_round_span(log: *const u8, n: usize, round: u64) -> Span;
         pub fn ceiling_round(case: *const u8, table: *mut i64, t: usize, out: *mut u8, o: usize) -> Round;
         pub fn ceiling_run(case: *const u8, table: *mut i64, t: usize, out: *mut u8, o: usize, limit: u64) -> Run;
@@ -234,7 +234,7 @@ impl Replay {
         &self.0
     }
 
-    /// Whole lines, on the table that the last call left. How many lines, or the first refusal and its line in this block.
+    /// Whole lines, on the table that the last call left; bytes of a part line at the end are not looked at. How many lines, or the first refusal and its line in this block.
     pub fn lines(&mut self, case: &Case, table: &mut [i64], lines: &[u8]) -> Result<usize, Refused> {
         let r = unsafe {
             c::ceiling_replay_lines(
@@ -249,9 +249,9 @@ impl Replay {
         answer(r.number, r.lines, r.lines)
     }
 
-    /// The end of the log: its rounds.
-    pub fn end(&self, case: &Case) -> Result<u64, Refused> {
-        let r = unsafe { c::ceiling_replay_end(case.0.as_ptr(), self.0.as_ptr()) };
+    /// The end of the log: its rounds. `part` is how many bytes of a part line are left after the last whole line.
+    pub fn end(&self, case: &Case, part: usize) -> Result<u64, Refused> {
+        let r = unsafe { c::ceiling_replay_end(case.0.as_ptr(), self.0.as_ptr(), part) };
         answer(r.number, 0, r.rounds)
     }
 }

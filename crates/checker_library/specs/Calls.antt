@@ -2,10 +2,12 @@
 use mathlib.Core.List.{List}
 use Prim.Native.Nat.{ℕ}
 use lib.IntN.{ℤ}
+use lib.Dec.{eqb}
 use Rattle.integers.specs.Words.{if_then_else_}
 use Rattle.definitions.specs.declared.FileAnswer.{FileAnswer}
 use Rattle.definitions.specs.declared.CaseRead.{CaseRead}
-use Rattle.definitions.specs.declared.Refusal.the-variants.{OutOfRange}
+use Rattle.definitions.specs.declared.Outcome.{Outcome}
+use Rattle.definitions.specs.declared.Refusal.the-variants.{OutOfRange, CutShort}
 use Rattle.definitions.specs.Rules.{Rules}
 use Rattle.definitions.specs.Refusals.{number}
 use Rattle.definitions.specs.CaseFiles.{readCaseAlone}
@@ -71,7 +73,12 @@ replayCall r case w bytes lines =
     }
     else record { answer = notRecord; state = bytes; table = w }
 
-unfoldable pub endCall : Rules → List ℕ → List ℕ → CeilingRounds
-endCall r case bytes =
-    if isRecord bytes then roundsOf (recordOf bytes .rounds) (endReplay r (caseOf case) (recordOf bytes))
+-- with so many bytes of a part line left: 14, where no other number applies
+abbrev pub endWith : ℕ → Outcome → Outcome
+endWith part Outcome.Done = if eqb part 0 then Outcome.Done else Outcome.Refused CutShort
+endWith part (Outcome.Refused x) = Outcome.Refused x
+
+unfoldable pub endCall : Rules → List ℕ → List ℕ → ℕ → CeilingRounds
+endCall r case bytes part =
+    if isRecord bytes then roundsOf (recordOf bytes .rounds) (endWith part (endReplay r (caseOf case) (recordOf bytes)))
     else record { number = number OutOfRange; rounds = 0 }

@@ -22,7 +22,7 @@ ghost use Rattle.checker.specs.Checker.{blockReplay};
 ghost use Rattle.encoding.specs.CaseBytes.{caseOf};
 ghost use Rattle.encoding.specs.RecordBytes.{standingNumber, recordBytes};
 ghost use Rattle.checker_library.specs.Answers.{sizeOf, linesOf, totalOf, outcomeNumber, roundsOf, spanOf, choiceOf};
-ghost use Rattle.checker_library.specs.Calls.{caseAfter, readCall, startRecord, blockAnswer, replayCall, endCall};
+ghost use Rattle.checker_library.specs.Calls.{caseAfter, readCall, startRecord, blockAnswer, replayCall, endWith, endCall};
 
 // What the head of a case file says, with the length of the table to lend.
 #[repr(C)]
@@ -233,6 +233,20 @@ fn replay_block(
     }
 }
 
+fn end_with(part: usize, end: Outcome) -> Outcome
+    ensures { λ r. ⌜ r ≡ endWith part end ⌝ }
+{
+    match end {
+        Outcome::Done => {
+            if part == 0 {
+                return Outcome::Done;
+            }
+            Outcome::Refused(Refusal::CutShort)
+        }
+        Outcome::Refused(refusal) => Outcome::Refused(refusal),
+    }
+}
+
 // ---- the calls
 
 #[no_mangle]
@@ -327,14 +341,19 @@ pub extern "C" fn ceiling_replay_lines(
     }
 }
 
-// The end of the log: its rounds, where it is accepted.
+// The end of the log, of whose part line so many bytes are left: its rounds, where it is accepted.
 #[no_mangle]
-pub extern "C" fn ceiling_replay_end(case: &[u8; 216], state: &[u8; 196]) -> CeilingRounds
-    ensures { λ r. ⌜ r ≡ endCall standard (now (case .entry)) (now (state .entry)) ⌝ }
+pub extern "C" fn ceiling_replay_end(
+    case: &[u8; 216],
+    state: &[u8; 196],
+    part: usize,
+) -> CeilingRounds
+    ensures { λ r. ⌜ r ≡ endCall standard (now (case .entry)) (now (state .entry)) part ⌝ }
 {
     if encoding::is_record(state) {
         let replay = encoding::record_of(state);
-        rounds_of(replay.rounds, replay.end(encoding::case_of(case)))
+        let end = replay.end(encoding::case_of(case));
+        rounds_of(replay.rounds, end_with(part, end))
     } else {
         CeilingRounds {
             number: 5,

@@ -6,12 +6,15 @@ use libc::STDIN_FILENO;
 use libc::STDOUT_FILENO;
 use pressing::Pressing;
 ghost use mathlib.Core.Path.{_≡_};
+ghost use mathlib.Core.Bool.{true};
 ghost use Prim.Native.Nat.{_≤_};
 ghost use lib.IntN.{pos};
+ghost use lib.Dec.{T};
 ghost use lib.ListN.{length, replicate};
 ghost use Rattle.definitions.specs.Rules.{standard};
 ghost use Rattle.definitions.specs.CaseFiles.{caseSize};
 ghost use Rattle.definitions.specs.Programs.{tableFor};
+ghost use Rattle.pressing.specs.Prints.{isText};
 
 // How far the buffer was filled, and whether a read failed.
 struct Filled {
@@ -72,7 +75,9 @@ fn write_first(text: &[u8], n: usize) -> bool {
 }
 
 // Prints what a call wrote, and answers whether it was printed.
-fn print(written: Written, out: &[u8]) -> bool {
+fn print(written: Written, out: &[u8]) -> bool
+    ensures { λ r. ⌜ (r ≡ true → T (isText written)) ⌝ }
+{
     match written {
         Written::Refused(_) => false,
         Written::Bytes(n) => write_first(out, n),
@@ -81,18 +86,13 @@ fn print(written: Written, out: &[u8]) -> bool {
 
 fn print_rounds(first: Pressing, table: &mut [i64], out: &mut [u8]) {
     let mut pressing = first;
-    let mut turns = u64::MAX;
-    while turns > 0 {
-        if pressing.left == 0 {
-            return;
-        }
+    while pressing.left > 0 {
         let pressed = pressing::next(pressing, table, out);
         let written = pressed.written;
         if !print(written, out) {
             return;
         }
         pressing = pressed.pressing;
-        turns -= 1;
     }
 }
 

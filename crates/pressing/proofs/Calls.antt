@@ -1,10 +1,11 @@
 -- What the calls leave, at each way out of the code. Assumes nothing.
-use mathlib.Core.Path.{_≡_, refl, sym, ap, ap₂, _∙_}
+use mathlib.Core.Path.{_≡_, refl, sym, ap, ap₂, subst, _∙_}
 use mathlib.Core.Bool.{Bool}
 use mathlib.Core.List.{List}
-use Prim.Native.Nat.{ℕ, _-_}
+use Prim.Native.Nat.{ℕ, _-_, _<_}
+use native.Mathlib.Omega.{arith}
 use lib.IntN.{ℤ}
-use lib.Dec.{eqb, ltb}
+use lib.Dec.{T, eqb, ltb}
 use lib.ListN.{length}
 use Rattle.integers.specs.Words.{if_then_else_}
 use Rattle.definitions.specs.declared.CaseRead.{CaseRead}
@@ -15,11 +16,14 @@ use Rattle.definitions.specs.declared.Round.{Round}
 use Rattle.definitions.specs.declared.Written.{Written}
 use Rattle.definitions.specs.Rules.{Rules}
 use Rattle.definitions.specs.CaseFiles.{CaseCall, caseOf, readCaseAlone}
-use Rattle.definitions.specs.EngineCalls.{RoundCall, isLeaving}
+use borrow.Author.Tests.{ne-eqb}
+use Rattle.definitions.specs.Engine.{engineNext}
+use Rattle.definitions.specs.EngineCalls.{RoundCall, isLeaving, roundCall}
 use Rattle.definitions.specs.Programs.{pressLimit}
 use Rattle.texts.specs.Texts.{textRoom, writeRefusedCall}
 use Rattle.pressing.specs.declared.Pressing.{Pressing}
 use Rattle.pressing.specs.declared.Pressed.{Pressed}
+use Rattle.pressing.specs.Prints.{isText}
 use Rattle.pressing.specs.Pressing.{PressingCall, withLeft, afterText, writeRefusal, afterRound, afterCase, startPressing, roundNext, nextPressing}
 
 abbrev toPressed : Pressing → Written → Pressed
@@ -65,6 +69,16 @@ module _ (p : Pressing) (call : RoundCall) {res : Round} {v : List ℤ} {bytes :
         n ∙ ap (λ (l : List ℕ). writeRefusal x (p .lines) l .out) o,
       )
 
+text-falls : (p : Pressing) (x : Written) → 0 < p .left → T (isText (afterText p x .written)) → afterText p x .pressing .left < p .left
+text-falls p (Written.Bytes n) h t = h
+text-falls p (Written.Refused y) h t = absurd t
+
+round-falls : (p : Pressing) (call : RoundCall) (a : Round) → 0 < p .left
+    → T (isText (afterRound p call a .pressed .written)) → afterRound p call a .pressed .pressing .left < p .left
+round-falls p call Round.Settled h t = h
+round-falls p call (Round.Made bytes bound) h t = omega arith
+round-falls p call (Round.Refused x) h t = text-falls p (writeRefusal x (p .lines) (call .out) .answer) h t
+
 module _ (r : Rules) where
   module _ (p : Pressing) (w : List ℤ) (out : List ℕ) where
     abbrev idle : PressingCall
@@ -73,6 +87,12 @@ module _ (r : Rules) where
     pub next-is : {b : Bool} → eqb (p .left) 0 ≡ b → (if b then idle else roundNext r p w out) ≡ nextPressing r p w out
     unfolding nextPressing
     next-is e = sym (ap (λ (b : Bool). if b then idle else roundNext r p w out) e)
+
+    -- where a call has something to print or nothing to say, fewer rounds may follow
+    pub next-falls : 0 < p .left → T (isText (nextPressing r p w out .pressed .written)) → nextPressing r p w out .pressed .pressing .left < p .left
+    next-falls h =
+        subst (λ (g : PressingCall). T (isText (g .pressed .written)) → g .pressed .pressing .left < p .left)
+        (next-is (ne-eqb (p .left) 0 (λ e. omega arith))) (round-falls p (roundCall r engineNext (p .case) w out) (roundCall r engineNext (p .case) w out .answer) h)
 
   -- ---- the start
   module _ (t : List ℕ) (w : List ℤ) (out : List ℕ) where

@@ -1,5 +1,6 @@
 -- What a start and the rounds after it print, and the promise of it. Assumes nothing.
 use mathlib.Core.Path.{_≡_}
+use mathlib.Core.Bool.{Bool, true, false}
 use mathlib.Core.Logic.{_⊎_}
 use mathlib.Core.List.{List, [], _++_}
 use Prim.Native.Nat.{ℕ, zero, suc, _+_, _*_, _≤_}
@@ -15,6 +16,11 @@ use Rattle.pressing.specs.Pressing.{PressingCall, startPressing, nextPre
 -- no round has more bytes
 abbrev pub longestRound : Rules → ℕ
 longestRound r = lineLength (r .amountWidth) * (r .variables + r .edges + 1)
+
+-- a call answers how many bytes are to be printed
+abbrev pub isText : Written → Bool
+isText (Written.Bytes n) = true
+isText (Written.Refused x) = false
 
 -- what a call is to print: so many of the output's first bytes
 abbrev pub printedBytes : Written → List ℕ → List ℕ

@@ -65,7 +65,8 @@ pub record Judges (front : List ℕ) (w : List ℤ) (ended : Type 0) (r : Turned
   pub held : r .held ≡ length tail
   pub short : length tail < lineBytes
 
--- the text of the judgement: what `replay` prints of the input's front and what is read then
+-- the text of the judgement: what `replay` prints of the input's front and what is read then. That `more` is what the system read, no
+-- contract can say
 pub record Prints (front : List ℕ) (ended : Type 0) (text : List ℕ) (r : Written) (after : List ℕ) : Type 0 where
   pub more : List ℕ
   pub ends : ended → more ≡ []

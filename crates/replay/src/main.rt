@@ -38,13 +38,23 @@ fn weights() -> [i64; 6528]
     [0; 6528]
 }
 
+// Where a read failed the output is closed, so that nothing is printed: what was read is not the input.
+fn checked(got: isize) -> isize
+    ensures { λ r. ⌜ r ≡ got ⌝ }
+{
+    if got < 0 {
+        libc::close(STDOUT_FILENO);
+    }
+    got
+}
+
 // One read to the bytes from `at` on, and where the bytes then end.
 fn read_more(buf: &mut [u8], at: usize) -> usize
     requires { ⌜ at ≤ length (now buf) ⌝ }
     ensures { λ r. ⌜ (at ≤ r) × (r ≤ length (now (buf .exit))) × (take at (now (buf .exit)) ≡ take at (now (buf .entry))) ⌝ }
 {
     let part = &mut buf[at..];
-    let got = libc::read(STDIN_FILENO, part);
+    let got = checked(libc::read(STDIN_FILENO, part));
     at + io::count(got, part)
 }
 
@@ -177,13 +187,6 @@ fn write_first(text: &[u8], n: usize) {
     }
 }
 
-// Whether the input has ended, and no read failed.
-fn is_ended() -> bool {
-    let mut byte = [0u8; 1];
-    let part: &mut [u8] = &mut byte;
-    libc::read(STDIN_FILENO, part) == 0
-}
-
 fn run(buf: &mut [u8], table: &mut [i64], filled: usize)
     requires { ⌜ (filled ≤ length (now buf)) × (length (now buf) ≡ 262144) ⌝ }
     requires { ⌜ now table ≡ tableFor (caseSize standard (take filled (now buf))) ⌝ }
@@ -192,11 +195,7 @@ fn run(buf: &mut [u8], table: &mut [i64], filled: usize)
     let written = write_judgement(buf, table, filled, &mut text);
     match written {
         Written::Refused(_) => {}
-        Written::Bytes(n) => {
-            if is_ended() {
-                write_first(&text, n);
-            }
-        }
+        Written::Bytes(n) => write_first(&text, n),
     }
 }
 

@@ -20,18 +20,21 @@ case-of-requires c κs = search needs
 end-requires : tie.Need-end-requires
 end-requires c κs = search needs
 
+end-with-requires : tie.Need-end-with-requires
+end-with-requires c κs = search needs
+
 rounds-of-requires : tie.Need-rounds-of-requires
 rounds-of-requires c κs = search needs
 
 returns : tie.Need-returns
 unfolding endCall
 returns c =
-    let k = c .before .before in
+    let k = c .before .before .before in
     let r = k .before in
     let t = r .before in
     let s = t .before .before in
     let e : isRecord (now (s .args .state)) ≡ true = sym (t .before .is-record .ensures) ∙ t .if1 .taken in
-    rw e (rw (c .rounds-of .ensures, c .before .end .ensures, k .case-of .ensures, r .record-of .ensures))
+    rw e (rw (c .rounds-of .ensures, c .before .end-with .ensures, c .before .before .end .ensures, k .case-of .ensures, r .record-of .ensures))
 
 returns-2 : tie.Need-returns-2
 unfolding endCall
@@ -48,6 +51,7 @@ ceiling-replay-end-spec =
     record-of-requires
     case-of-requires
     end-requires
+    end-with-requires
     rounds-of-requires
     returns
     returns-2)

@@ -19,6 +19,9 @@ part-part-end c = search needs
 read-requires : tie.Need-read-requires
 read-requires c κs = search needs
 
+checked-requires : tie.Need-checked-requires
+checked-requires c κs = search needs
+
 count-requires : tie.Need-count-requires
 count-requires c κs = search needs
 
@@ -31,7 +34,7 @@ same-length c = search needs
 returns : tie.Need-returns
 returns c =
     let k = c .before .before in
-    let r = k .before .before .before .before in
+    let r = k .before .before .before .before .before in
     let s = r .before .before .before .before in
     let l = length (now (s .args .buf)) in
     (search needs, search needs, take-put (s .args .at) (l - s .args .at) (now (s .args .buf)) (r .read .last .1 .0) (s .pre))
@@ -44,6 +47,7 @@ read-more-spec =
     part-part-start
     part-part-end
     read-requires
+    checked-requires
     count-requires
     add-result
     same-length
