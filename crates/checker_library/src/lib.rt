@@ -11,6 +11,8 @@ use definitions::FileAnswer;
 use definitions::Outcome;
 use definitions::Refusal;
 use definitions::Span;
+use encoding::CaseArray;
+use encoding::RecordArray;
 ghost use mathlib.Core.Path.{_≡_};
 ghost use Rattle.definitions.specs.Rules.{standard};
 ghost use Rattle.definitions.specs.Refusals.{number};
@@ -199,7 +201,7 @@ fn choice_of(choice: Choice) -> CeilingChoice
 // ---- a case that was read
 
 // Its bytes, where it is not refused.
-fn keep_case(read: CaseRead, case: &mut [u8; 216])
+fn keep_case(read: CaseRead, case: &mut CaseArray)
     ensures { λ _. ⌜ now (case .exit) ≡ caseAfter (read .answer) read (now (case .entry)) ⌝ }
 {
     let answer = read.answer;
@@ -217,7 +219,7 @@ fn keep_case(read: CaseRead, case: &mut [u8; 216])
 fn replay_block(
     case: Case,
     table: &mut [i64],
-    state: &mut [u8; 196],
+    state: &mut RecordArray,
     replay: Replay,
     lines: &[u8],
 ) -> CeilingLines
@@ -257,14 +259,14 @@ pub extern "C" fn ceiling_case_size(text: &[u8]) -> CeilingSize
 }
 
 #[no_mangle]
-pub extern "C" fn ceiling_upper_bound(case: &[u8; 216], table: &[i64]) -> CeilingTotal
+pub extern "C" fn ceiling_upper_bound(case: &CaseArray, table: &[i64]) -> CeilingTotal
     ensures { λ r. ⌜ r ≡ totalOf (upperBoundAnswer standard (caseOf (now (case .entry))) (now (table .entry))) ⌝ }
 {
     total_of(figures::upper_bound(encoding::case_of(case), table))
 }
 
 #[no_mangle]
-pub extern "C" fn ceiling_objective(case: &[u8; 216], table: &[i64], plan: &[u8]) -> CeilingTotal
+pub extern "C" fn ceiling_objective(case: &CaseArray, table: &[i64], plan: &[u8]) -> CeilingTotal
     ensures { λ r. ⌜ r ≡ totalOf (objectiveAnswer standard (caseOf (now (case .entry))) (now (table .entry)) (now (plan .entry))) ⌝ }
 {
     total_of(figures::objective(encoding::case_of(case), table, plan))
@@ -273,7 +275,7 @@ pub extern "C" fn ceiling_objective(case: &[u8; 216], table: &[i64], plan: &[u8]
 // The plan with the greater total, the first on a tie.
 #[no_mangle]
 pub extern "C" fn ceiling_better_of(
-    case: &[u8; 216],
+    case: &CaseArray,
     table: &[i64],
     first: &[u8],
     second: &[u8],
@@ -294,7 +296,7 @@ pub extern "C" fn ceiling_round_span(log: &[u8], round: u64) -> CeilingSpan
 #[no_mangle]
 pub extern "C" fn ceiling_read_case(
     text: &[u8],
-    case: &mut [u8; 216],
+    case: &mut CaseArray,
     table: &mut [i64],
 ) -> CeilingLines
     ensures { λ r. ⌜ (r ≡ readCall standard (now (text .entry)) (now (case .entry)) (now (table .entry)) .answer) × (now (case .exit) ≡ readCall standard (now (text .entry)) (now (case .entry)) (now (table .entry)) .case) × (now (table .exit) ≡ readCall standard (now (text .entry)) (now (case .entry)) (now (table .entry)) .table) ⌝ }
@@ -308,9 +310,9 @@ pub extern "C" fn ceiling_read_case(
 // A fresh record; refused, it stands so.
 #[no_mangle]
 pub extern "C" fn ceiling_replay_start(
-    case: &[u8; 216],
+    case: &CaseArray,
     table: &[i64],
-    state: &mut [u8; 196],
+    state: &mut RecordArray,
 ) -> u64
     ensures { λ r. ⌜ (r ≡ standingNumber (startRecord standard (now (case .entry)) (now (table .entry)) .standing)) × (now (state .exit) ≡ recordBytes (startRecord standard (now (case .entry)) (now (table .entry)))) ⌝ }
 {
@@ -323,9 +325,9 @@ pub extern "C" fn ceiling_replay_start(
 // A block of whole lines; a part line at its end is not looked at.
 #[no_mangle]
 pub extern "C" fn ceiling_replay_lines(
-    case: &[u8; 216],
+    case: &CaseArray,
     table: &mut [i64],
-    state: &mut [u8; 196],
+    state: &mut RecordArray,
     lines: &[u8],
 ) -> CeilingLines
     ensures { λ r. ⌜ (r ≡ replayCall standard (now (case .entry)) (now (table .entry)) (now (state .entry)) (now (lines .entry)) .answer) × (now (state .exit) ≡ replayCall standard (now (case .entry)) (now (table .entry)) (now (state .entry)) (now (lines .entry)) .state) × (now (table .exit) ≡ replayCall standard (now (case .entry)) (now (table .entry)) (now (state .entry)) (now (lines .entry)) .table) ⌝ }
@@ -344,8 +346,8 @@ pub extern "C" fn ceiling_replay_lines(
 // The end of the log, of whose part line so many bytes are left: its rounds, where it is accepted.
 #[no_mangle]
 pub extern "C" fn ceiling_replay_end(
-    case: &[u8; 216],
-    state: &[u8; 196],
+    case: &CaseArray,
+    state: &RecordArray,
     part: usize,
 ) -> CeilingRounds
     ensures { λ r. ⌜ r ≡ endCall standard (now (case .entry)) (now (state .entry)) part ⌝ }

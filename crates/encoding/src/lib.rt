@@ -15,6 +15,11 @@ ghost use Rattle.encoding.specs.Numbers.{valueOf, numberBytes, numberAt,
 ghost use Rattle.encoding.specs.CaseBytes.{caseBytes, caseOf};
 ghost use Rattle.encoding.specs.RecordBytes.{lastOf, raisedOf, pressOf, dueOf, standingNumber, standingOf, pressAt, recordNumbers, recordTags, recordBytes, isRecord, recordOf};
 
+// The bytes of a case, and those of the replay's record.
+pub type CaseArray = [u8; 216];
+
+pub type RecordArray = [u8; 196];
+
 // The greatest number of eight bytes, and the least that says a number below 0.
 const GREATEST: u64 = 18_446_744_073_709_551_615;
 
@@ -345,7 +350,7 @@ pub fn number_of(refusal: Refusal) -> u8
 }
 
 // The case that the bytes say.
-pub fn case_of(bytes: &[u8; 216]) -> Case
+pub fn case_of(bytes: &CaseArray) -> Case
     ensures { λ r. ⌜ r ≡ caseOf (now (bytes .entry)) ⌝ }
 {
     let n = number_at(bytes, 0);
@@ -363,7 +368,7 @@ pub fn case_of(bytes: &[u8; 216]) -> Case
 }
 
 // The bytes that say the case.
-pub fn write_case(case: Case, out: &mut [u8; 216])
+pub fn write_case(case: Case, out: &mut CaseArray)
     ensures { λ _. ⌜ now (out .exit) ≡ caseBytes case ⌝ }
 {
     put_number(out, 0, case.n as u64);
@@ -374,14 +379,14 @@ pub fn write_case(case: Case, out: &mut [u8; 216])
 }
 
 // Whether the bytes say a record.
-pub fn is_record(bytes: &[u8; 196]) -> bool
+pub fn is_record(bytes: &RecordArray) -> bool
     ensures { λ r. ⌜ r ≡ isRecord (now (bytes .entry)) ⌝ }
 {
     (bytes[48] <= 1) & (bytes[49] <= 1) & (bytes[50] <= 1) & (bytes[51] <= 14)
 }
 
 // The record that they say.
-pub fn record_of(bytes: &[u8; 196]) -> Replay
+pub fn record_of(bytes: &RecordArray) -> Replay
     ensures { λ r. ⌜ r ≡ recordOf (now (bytes .entry)) ⌝ }
 {
     let press = press_at(bytes);
@@ -401,7 +406,7 @@ pub fn record_of(bytes: &[u8; 196]) -> Replay
 }
 
 // The bytes that say the record.
-pub fn write_record(replay: Replay, out: &mut [u8; 196])
+pub fn write_record(replay: Replay, out: &mut RecordArray)
     ensures { λ _. ⌜ now (out .exit) ≡ recordBytes replay ⌝ }
 {
     let due = replay.due;

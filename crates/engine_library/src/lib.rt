@@ -4,6 +4,7 @@ use definitions::Refusal;
 use definitions::Round;
 use definitions::Run;
 use definitions::RunAnswer;
+use encoding::CaseArray;
 ghost use mathlib.Core.Path.{_≡_};
 ghost use Rattle.definitions.specs.Rules.{standard};
 ghost use Rattle.definitions.specs.Refusals.{number};
@@ -101,7 +102,7 @@ fn run_of(run: Run) -> CeilingRun
 
 // One round: its lines from the output's first byte.
 #[no_mangle]
-pub extern "C" fn ceiling_round(case: &[u8; 216], table: &mut [i64], out: &mut [u8]) -> CeilingRound
+pub extern "C" fn ceiling_round(case: &CaseArray, table: &mut [i64], out: &mut [u8]) -> CeilingRound
     ensures { λ r. ⌜ (r ≡ roundOf (roundCall standard engineNext (caseOf (now (case .entry))) (now (table .entry)) (now (out .entry)) .answer)) × (now (table .exit) ≡ roundCall standard engineNext (caseOf (now (case .entry))) (now (table .entry)) (now (out .entry)) .table) × (now (out .exit) ≡ roundCall standard engineNext (caseOf (now (case .entry))) (now (table .entry)) (now (out .entry)) .out) ⌝ }
 {
     round_of(engine::round(encoding::case_of(case), table, out))
@@ -110,7 +111,7 @@ pub extern "C" fn ceiling_round(case: &[u8; 216], table: &mut [i64], out: &mut [
 // Rounds one after another, at most `limit`.
 #[no_mangle]
 pub extern "C" fn ceiling_run(
-    case: &[u8; 216],
+    case: &CaseArray,
     table: &mut [i64],
     out: &mut [u8],
     limit: u64,
