@@ -82,7 +82,7 @@ fn wide(x: u8) -> u64
 fn number_of(refusal: Refusal) -> u64
     ensures { λ r. ⌜ r ≡ number refusal ⌝ }
 {
-    wide(encoding::number_of(refusal))
+    wide(texts::number_of(refusal))
 }
 
 fn size_of(size: CaseSize) -> CeilingSize

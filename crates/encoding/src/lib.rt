@@ -265,7 +265,7 @@ fn standing_number(standing: Standing) -> u8
 {
     match standing {
         Standing::Good => 0,
-        Standing::Refused(refusal) => number_of(refusal),
+        Standing::Refused(refusal) => texts::number_of(refusal),
     }
 }
 
@@ -326,28 +326,6 @@ fn press_at(bytes: &[u8]) -> Press
 }
 
 // ---- the calls
-
-// Document 01's number.
-pub fn number_of(refusal: Refusal) -> u8
-    ensures { λ r. ⌜ r ≡ number refusal ⌝ }
-{
-    match refusal {
-        Refusal::NotInColumns => 1,
-        Refusal::NotDue => 2,
-        Refusal::OutsideLimits => 3,
-        Refusal::WrongLength => 4,
-        Refusal::OutOfRange => 5,
-        Refusal::EndsNotAscending => 6,
-        Refusal::EdgeRepeated => 7,
-        Refusal::WeightOutOfRange => 8,
-        Refusal::RaiseNotAscending => 9,
-        Refusal::NotRefuted => 10,
-        Refusal::LeavesRange => 11,
-        Refusal::OtherBound => 12,
-        Refusal::BoundNotLower => 13,
-        Refusal::CutShort => 14,
-    }
-}
 
 // The case that the bytes say.
 pub fn case_of(bytes: &CaseArray) -> Case

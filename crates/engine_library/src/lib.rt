@@ -41,7 +41,7 @@ fn wide(x: u8) -> u64
 fn number_of(refusal: Refusal) -> u64
     ensures { λ r. ⌜ r ≡ number refusal ⌝ }
 {
-    wide(encoding::number_of(refusal))
+    wide(texts::number_of(refusal))
 }
 
 fn round_of(round: Round) -> CeilingRound

@@ -18,6 +18,9 @@ ghost use Rattle.pressing.specs.Pressing.{withLeft, afterText, writeRefu
 // An output must have so many bytes for a text.
 const ROOM: usize = 64;
 
+// The number where a move would take a working weight outside its range.
+const LEAVES_RANGE: u8 = 11;
+
 // The most rounds that are made.
 const ROUNDS: u64 = 100_000;
 
@@ -59,26 +62,10 @@ fn with_left(pressing: Pressing, left: u64) -> Pressing
     }
 }
 
-// A move would take a working weight outside its range: number 11.
 fn is_leaving(refusal: Refusal) -> bool
     ensures { λ r. ⌜ r ≡ isLeaving refusal ⌝ }
 {
-    match refusal {
-        Refusal::NotInColumns => false,
-        Refusal::NotDue => false,
-        Refusal::OutsideLimits => false,
-        Refusal::WrongLength => false,
-        Refusal::OutOfRange => false,
-        Refusal::EndsNotAscending => false,
-        Refusal::EdgeRepeated => false,
-        Refusal::WeightOutOfRange => false,
-        Refusal::RaiseNotAscending => false,
-        Refusal::NotRefuted => false,
-        Refusal::LeavesRange => true,
-        Refusal::OtherBound => false,
-        Refusal::BoundNotLower => false,
-        Refusal::CutShort => false,
-    }
+    texts::number_of(refusal) == LEAVES_RANGE
 }
 
 fn write_refusal(refusal: Refusal, lines: usize, out: &mut [u8]) -> Written

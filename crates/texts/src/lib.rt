@@ -15,26 +15,10 @@ const ROOM: usize = 64;
 // The greatest line and the greatest number of rounds that are written.
 const GREATEST: u64 = 9_223_372_036_854_775_807;
 
-// Document 01's number.
-fn number_of(refusal: Refusal) -> i64
-    ensures { λ r. ⌜ r ≡ pos (number refusal) ⌝ }
+fn whole(x: u8) -> i64
+    ensures { λ r. ⌜ r ≡ pos x ⌝ }
 {
-    match refusal {
-        Refusal::NotInColumns => 1,
-        Refusal::NotDue => 2,
-        Refusal::OutsideLimits => 3,
-        Refusal::WrongLength => 4,
-        Refusal::OutOfRange => 5,
-        Refusal::EndsNotAscending => 6,
-        Refusal::EdgeRepeated => 7,
-        Refusal::WeightOutOfRange => 8,
-        Refusal::RaiseNotAscending => 9,
-        Refusal::NotRefuted => 10,
-        Refusal::LeavesRange => 11,
-        Refusal::OtherBound => 12,
-        Refusal::BoundNotLower => 13,
-        Refusal::CutShort => 14,
-    }
+    x as i64
 }
 
 // Puts the bytes at byte `at`, and answers where they end.
@@ -71,6 +55,28 @@ fn print(out: &mut [u8], word: &[u8], a: i64, b: i64) -> usize
 
 // ---- the calls
 
+// Document 01's number.
+pub fn number_of(refusal: Refusal) -> u8
+    ensures { λ r. ⌜ r ≡ number refusal ⌝ }
+{
+    match refusal {
+        Refusal::NotInColumns => 1,
+        Refusal::NotDue => 2,
+        Refusal::OutsideLimits => 3,
+        Refusal::WrongLength => 4,
+        Refusal::OutOfRange => 5,
+        Refusal::EndsNotAscending => 6,
+        Refusal::EdgeRepeated => 7,
+        Refusal::WeightOutOfRange => 8,
+        Refusal::RaiseNotAscending => 9,
+        Refusal::NotRefuted => 10,
+        Refusal::LeavesRange => 11,
+        Refusal::OtherBound => 12,
+        Refusal::BoundNotLower => 13,
+        Refusal::CutShort => 14,
+    }
+}
+
 // `refused`, the number and the line, counted from 0.
 pub fn write_refused(out: &mut [u8], refusal: Refusal, line: usize) -> Written
     ensures { λ r. ⌜ (r ≡ writeRefusedCall (now (out .entry)) refusal line .answer) × (now (out .exit) ≡ writeRefusedCall (now (out .entry)) refusal line .out) ⌝ }
@@ -82,7 +88,7 @@ pub fn write_refused(out: &mut [u8], refusal: Refusal, line: usize) -> Written
     if GREATEST < count {
         return Written::Refused(Refusal::OutOfRange);
     }
-    Written::Bytes(print(out, b"refused ", number_of(refusal), line as i64))
+    Written::Bytes(print(out, b"refused ", whole(number_of(refusal)), line as i64))
 }
 
 // `accepted`, the rounds and the upper bound.

@@ -1,7 +1,7 @@
 -- The room, the count, and the text. Assumes nothing.
 use mathlib.Core.Path.{sym, ap, ap₂, _∙_}
 use native.Mathlib.Omega.{arith}
-use lib.IntN.{ℤ}
+use lib.IntN.{ℤ, pos}
 use lib.ListN.{length}
 use denote.Ref.{now}
 use mir.Syntax.{w64}
@@ -35,6 +35,9 @@ slice-aggregate-print c = search needs
 number-of-requires : tie.Need-number-of-requires
 number-of-requires c κs = search needs
 
+whole-requires : tie.Need-whole-requires
+whole-requires c κs = search needs
+
 cast-print : tie.Need-cast-print
 cast-print c = search needs
 
@@ -48,9 +51,10 @@ returns-3 : tie.Need-returns-3
 unfolding writeRefusedCall
 returns-3 c =
     let k = c .before .before in
-    let s = k .before .before .before .before .before .before .before in
-    let n = k .before .number-of in
-    let a = read-back w64 (n .result) (n .ok) ∙ n .ensures in
+    let n = k .before .before .number-of in
+    let v = k .before .whole in
+    let s = k .before .before .before .before .before .before .before .before in
+    let a = read-back w64 (v .result) (v .ok) ∙ v .ensures ∙ ap pos (n .ensures) in
     let b = toZ-pos w64 (s .args .line) (omega arith) in
     text-printed (now (s .args .out)) (s .args .line) (refusedText (s .args .refusal) (s .args .line)) (omega arith) (omega arith)
     (k .print .ensures .0 ∙ ap₂ (λ (a b : ℤ). length (printed (bytesOf "refused ") a b)) a b)
@@ -64,6 +68,7 @@ write-refused-spec =
     returns-2
     slice-aggregate-print
     number-of-requires
+    whole-requires
     cast-print
     print-requires
     same-length
