@@ -8,7 +8,6 @@ use definitions::Refusal;
 ghost use mathlib.Core.Path.{_≡_};
 ghost use Prim.Native.Nat.{_+_, _%_, _≤_, _<_};
 ghost use lib.ListN.{length, take, drop};
-ghost use Rattle.definitions.specs.Refusals.{number};
 ghost use Rattle.definitions.specs.Lines.{overwritten};
 ghost use Rattle.texts.specs.Texts.{placed};
 ghost use Rattle.encoding.specs.Numbers.{valueOf, numberBytes, numberAt, bitsOf, signedOf};
