@@ -19,9 +19,9 @@
 //
 // Where a count is meant, a negative number stands for 2^64 - 1; the amounts 999999999999 and -99999999999 stand for 2^63 - 1 and -2^63.
 // The answers in `stdout` were worked out from document 01.
-use consistency::Closed;
-use consistency::Partner;
-use consistency::Tried;
+use arcs::Closed;
+use arcs::Partner;
+use arcs::Tried;
 use definitions::Case;
 use definitions::Figure;
 use definitions::Line;
@@ -326,47 +326,47 @@ fn case_after(call: Call, case: Case) -> Case {
 // ---- calls that change nothing
 
 fn starting(call: Call, case: Case, t: &[i64]) {
-    outcome(figures::check_starting(case, t, call.a != 0, call.b != 0));
+    outcome(tables::check_starting(case, t, call.a != 0, call.b != 0));
 }
 
 fn working(call: Call, case: Case, t: &[i64]) {
-    outcome(figures::check_working(case, t, call.a != 0, call.b != 0));
+    outcome(tables::check_working(case, t, call.a != 0, call.b != 0));
 }
 
 fn edges(call: Call, case: Case) {
-    outcome(figures::check_edges(case, call.a != 0));
+    outcome(tables::check_edges(case, call.a != 0));
 }
 
 fn bound(case: Case, t: &[i64]) {
-    figure(figures::upper_bound(case, t));
+    figure(tables::upper_bound(case, t));
 }
 
 fn bound_of(case: Case, t: &[i64]) {
-    value(figures::bound_of(case, t));
+    value(tables::bound_of(case, t));
 }
 
 fn active(call: Call, case: Case, t: &[i64]) {
-    verdict(figures::is_active(case, t, call.a, call.b, call.c));
+    verdict(tables::is_active(case, t, call.a, call.b, call.c));
 }
 
 fn objective(case: Case, t: &[i64], plan: &[u8]) {
-    figure(figures::objective(case, t, plan));
+    figure(tables::objective(case, t, plan));
 }
 
 fn greatest(t: &[i64]) {
-    value(figures::greatest(t));
+    value(tables::greatest(t));
 }
 
 fn refuted(call: Call, case: Case, t: &[i64], raised: &[u8]) {
-    verdict(consistency::refuted(case, t, raised, call.a, call.b));
+    verdict(arcs::refuted(case, t, raised, call.a, call.b));
 }
 
 fn active_refuted(call: Call, case: Case, t: &[i64], best: &[i64], raised: &[u8]) {
-    verdict(consistency::active_refuted(case, t, best, raised, call.a));
+    verdict(arcs::active_refuted(case, t, best, raised, call.a));
 }
 
 fn lowest_partner(call: Call) {
-    partner(consistency::lowest_partner(drivers::byte(call.a), drivers::byte(call.b)));
+    partner(arcs::lowest_partner(drivers::byte(call.a), drivers::byte(call.b)));
 }
 
 fn question(call: Call, case: Case, t: &[i64], best: &[i64], bytes: &[u8]) {
@@ -390,12 +390,12 @@ fn question(call: Call, case: Case, t: &[i64], best: &[i64], bytes: &[u8]) {
 // ---- calls that write weights
 
 fn greatest_weights(case: Case, t: &[i64], best: &mut [i64]) {
-    outcome(figures::greatest_weights(case, t, best));
+    outcome(tables::greatest_weights(case, t, best));
     print_best(best);
 }
 
 fn shift(call: Call, case: Case, t: &mut [i64]) {
-    outcome(moves::shift(case, t, call.a, call.b, call.c, call.amount));
+    outcome(changes::shift(case, t, call.a, call.b, call.c, call.amount));
     print_table(t);
 }
 
@@ -408,7 +408,7 @@ fn scope_at(list: &[u8], i: usize) -> u16 {
 }
 
 fn press_list(call: Call, case: Case, t: &mut [i64], list: &[u16]) {
-    outcome(moves::press(case, t, call.a, list, call.amount));
+    outcome(changes::press(case, t, call.a, list, call.amount));
     print_table(t);
 }
 
@@ -429,12 +429,12 @@ fn print_both(t: &[i64], best: &[i64]) {
 }
 
 fn shift_with(call: Call, case: Case, t: &mut [i64], best: &mut [i64]) {
-    outcome(moves::shift_with(case, t, best, call.a, call.b, call.c, call.amount));
+    outcome(changes::shift_with(case, t, best, call.a, call.b, call.c, call.amount));
     print_both(t, best);
 }
 
 fn press_with(call: Call, case: Case, t: &mut [i64], best: &mut [i64], raised: &[u8]) {
-    outcome(moves::press_with(case, t, best, raised, call.a, call.amount));
+    outcome(changes::press_with(case, t, best, raised, call.a, call.amount));
     print_both(t, best);
 }
 
@@ -453,13 +453,13 @@ fn weighed(call: Call, case: Case, t: &mut [i64], best: &mut [i64], bytes: &[u8]
 // ---- calls that write marks
 
 fn closure(lower: &[u8], upper: &[u8], rows: &[u8], raised: &[u8], sets: &mut [u8]) {
-    closed(consistency::closure(lower, upper, rows, raised, sets));
+    closed(arcs::closure(lower, upper, rows, raised, sets));
     print_sets(sets);
 }
 
 fn all_refuted(call: Call, lower: &[u8], upper: &[u8], rows: &[u8], raised: &[u8], sets: &[u8]) {
     let marks = drivers::byte(call.b);
-    tried(consistency::all_refuted(lower, upper, rows, raised, sets, call.a, marks));
+    tried(arcs::all_refuted(lower, upper, rows, raised, sets, call.a, marks));
 }
 
 fn network(call: Call, lower: &[u8], upper: &[u8], raised: &[u8], sets: &mut [u8], rows: &[u8]) {
@@ -498,7 +498,7 @@ fn of_case(call: Call, case: Case, ends: usize, raised: &[u8], sets: &mut [u8], 
 }
 
 fn active_marks(case: Case, t: &[i64], sets: &mut [u8], rows: &mut [u8]) {
-    outcome(consistency::active_marks(case, t, sets, rows));
+    outcome(arcs::active_marks(case, t, sets, rows));
     print_sets(sets);
     print_bytes(b"    rows", rows);
 }

@@ -21,7 +21,7 @@ use Rattle.definitions.specs.Refusals.{firstOf}
 use Rattle.definitions.specs.CaseFiles.{CaseDue, variable-weight, edge-ends, edge-weight, dueTests, took, Reading, CaseCall, caseRefused, caseTaken, isCut, firstLine, readDues}
 use Rattle.casefile.specs.declared.Sizes.{Sizes}
 use Rattle.casefile.specs.Steps.{dueAt, linesDue, tableOf, caseWith, reading, dueRefusal, SteppedAt, leftFrom}
-use Rattle.figures.proofs.Order.{outcome-done, outcome-refused}
+use Rattle.tables.proofs.Order.{outcome-done, outcome-refused}
 use Rattle.casefile.proofs.Taken.{kept, changed, whole}
 use Rattle.casefile.proofs.Dues.{allDues, dues-length, dues-at}
 

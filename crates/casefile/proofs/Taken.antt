@@ -32,7 +32,7 @@ use Rattle.definitions.specs.declared.Outcome.{Outcome}
 use Rattle.definitions.specs.declared.LineRead.{LineRead}
 use Rattle.definitions.specs.Lines.{outside}
 use Rattle.definitions.specs.Answers.{outcomeOf, unlessRefused}
-use Rattle.figures.proofs.Order.{outcome-done, outcome-refused, first-next, first-stops}
+use Rattle.tables.proofs.Order.{outcome-done, outcome-refused, first-next, first-stops}
 
 module _ {A : Type 0} (o : Option Refusal) (a b : A) where
   pub kept : {x : Refusal} → o ≡ some x → b ≡ unlessRefused o a b

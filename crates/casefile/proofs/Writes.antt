@@ -31,7 +31,7 @@ use Rattle.definitions.proofs.LineLaws.{line-length}
 use Rattle.theory.proofs.Validity.{Valid, handed}
 use Rattle.theory.proofs.CaseDues.{lineOf, case-lines, in-dues}
 use Rattle.theory.proofs.CaseTests.{due-fits, head-fits}
-use Rattle.figures.proofs.Order.{limited, outcome-done, outcome-refused}
+use Rattle.tables.proofs.Order.{limited, outcome-done, outcome-refused}
 use Rattle.lines.proofs.Answers.{write-done}
 use Rattle.lines.proofs.Stores.{column-next}
 use Rattle.casefile.specs.declared.Sizes.{Sizes}

@@ -739,7 +739,7 @@ pub fn read_case_alone(bytes: &[u8], table: &mut [i64]) -> CaseRead
 pub fn write_case(case: Case, table: &[i64], out: &mut [u8]) -> Written
     ensures { λ r. ⌜ (r ≡ writeCaseCall standard case (now (table .entry)) (now (out .entry)) .answer) × (now (out .exit) ≡ writeCaseCall standard case (now (table .entry)) (now (out .entry)) .out) ⌝ }
 {
-    if !figures::within_limits(case) {
+    if !tables::within_limits(case) {
         return Written::Refused(Refusal::OutsideLimits);
     }
     let sizes = Sizes {
@@ -749,7 +749,7 @@ pub fn write_case(case: Case, table: &[i64], out: &mut [u8]) -> Written
     };
     let bytes = file_bytes(sizes);
     let short = out.len() < bytes;
-    let checked = figures::check_starting(case, table, short, false);
+    let checked = tables::check_starting(case, table, short, false);
     match checked {
         Outcome::Refused(refusal) => Written::Refused(refusal),
         Outcome::Done => {

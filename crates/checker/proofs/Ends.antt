@@ -15,9 +15,9 @@ use Rattle.definitions.specs.Case.{upperBound}
 use Rattle.definitions.specs.Valid.{startingWeight, workingWeight, limitTest, edgeTests, handedOver}
 use Rattle.theory.proofs.Validity.{Handed, handed, working-weights}
 use Rattle.theory.proofs.Replays.{none-iff}
-use Rattle.figures.specs.Scopes.{boundOf}
-use Rattle.figures.proofs.Order.{outcome-done, outcome-refused, first-next, first-stops}
-use Rattle.figures.proofs.Answered.{bound-known}
+use Rattle.tables.specs.Scopes.{boundOf}
+use Rattle.tables.proofs.Order.{outcome-done, outcome-refused, first-next, first-stops}
+use Rattle.tables.proofs.Answered.{bound-known}
 use Rattle.checker.specs.declared.Standing.{Standing}
 use Rattle.checker.specs.declared.Replay.{Replay}
 use Rattle.checker.specs.declared.Progress.{Progress}

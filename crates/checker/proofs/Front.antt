@@ -23,8 +23,8 @@ use Rattle.definitions.specs.Valid.{workingWeight, handedOver}
 use Rattle.definitions.specs.Lines.{notDue}
 use Rattle.theory.proofs.Validity.{Handed, handed}
 use Rattle.theory.proofs.Replays.{none-iff}
-use Rattle.figures.proofs.Order.{outcome-done, outcome-refused, first-next, first-stops}
-use Rattle.figures.proofs.Answered.{limits-true}
+use Rattle.tables.proofs.Order.{outcome-done, outcome-refused, first-next, first-stops}
+use Rattle.tables.proofs.Answered.{limits-true}
 use Rattle.checker.specs.declared.Replay.{Replay}
 use Rattle.checker.specs.Checker.{Asked, dueKinds, recordOut, ofKind, stepRefused, stepBy, stepLine}
 use Rattle.checker.specs.Taken.{stepNext, frontTests}

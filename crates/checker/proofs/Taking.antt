@@ -27,7 +27,7 @@ use Rattle.definitions.specs.Lines.{readLine}
 use Rattle.definitions.specs.Calls.{shiftOut, readLineAnswer}
 use Rattle.definitions.specs.Moves.{shiftAmount}
 use Rattle.theory.proofs.Replays.{inside}
-use Rattle.figures.proofs.Order.{outcome-done, outcome-refused}
+use Rattle.tables.proofs.Order.{outcome-done, outcome-refused}
 use Rattle.checker.specs.declared.LastRaised.{LastRaised}
 use Rattle.checker.specs.declared.Due.{Due}
 use Rattle.checker.specs.declared.Standing.{Standing}

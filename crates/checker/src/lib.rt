@@ -25,7 +25,7 @@ ghost use Rattle.definitions.specs.Consistency.{allRefuted};
 ghost use Rattle.definitions.specs.Moves.{shiftAmount, pressAmount, activeValues};
 ghost use Rattle.definitions.specs.Lines.{readLine, outside, notDue};
 ghost use Rattle.theory.proofs.Validity.{Handed};
-ghost use Rattle.figures.specs.Scopes.{Limited, BestOf};
+ghost use Rattle.tables.specs.Scopes.{Limited, BestOf};
 ghost use Rattle.lines.specs.Words.{Word};
 ghost use Rattle.checker.specs.Checker.{isRaised, lastOut, notAboveLast, dueKinds, isHeld, refusedReplay, dueOut, recordOut, freshReplay, ofShift, ofPress, ofBound, ofRaise, ofKind, stepLine, stepReplay, endTests, endReplay, blockReplay};
 ghost use Rattle.checker.specs.Taken.{standingAfter, replayOf, goodReplay, stepOf, stepNext, pressed, rangeTests, wholeTests, lastStep, frontTests, moreBy};
@@ -417,7 +417,7 @@ fn prepare(case: Case, table: &[i64], best: &mut [i64])
     requires { ⌜ length (now best) ≡ 144 ⌝ }
     ensures { λ _. ⌜ BestOf case (now (table .entry)) (now (best .exit)) ⌝ }
 {
-    figures::greatest_weights(case, table, best);
+    tables::greatest_weights(case, table, best);
 }
 
 // ---- each kind of line, none of whose numbers up to 8 applies
@@ -432,7 +432,7 @@ fn shift_made(case: Case, table: &mut [i64], best: &mut [i64], line: Line) -> Ou
     let edge = index(line.a);
     let end = index(line.b);
     let value = index(line.c);
-    moves::shift_with(case, table, best, edge, end, value, line.amount)
+    changes::shift_with(case, table, best, edge, end, value, line.amount)
 }
 
 fn shift_line(
@@ -480,7 +480,7 @@ fn bound_line(case: Case, best: &[i64], progress: Progress, line: Line) -> Taken
     requires { ⌜ progress .rounds < standard .rounds ⌝ }
     ensures { λ r. ⌜ ((w : List ℤ) (raised : List ℕ) → Handed standard (workingWeight standard) case w → BestOf case w (now (best .entry)) → stepOf r raised w ≡ stepNext w (goodReplay progress raised) (ofBound standard case w (goodReplay progress raised) line)) ⌝ }
 {
-    let bound = figures::bound_with(case, best);
+    let bound = tables::bound_with(case, best);
     if line.amount != bound {
         return refused(progress, Refusal::OtherBound);
     }
@@ -507,7 +507,7 @@ fn all_refuted(case: Case, table: &[i64], best: &[i64], raised: &[u8], variable:
     requires { ⌜ (length (now raised) ≡ 144) × (variable < case .n) ⌝ }
     ensures { λ r. ⌜ r ≡ allRefuted case (now (table .entry)) (isRaised (now (raised .entry))) variable (activeValues case (now (table .entry)) variable) ⌝ }
 {
-    let verdict = consistency::active_refuted(case, table, best, raised, variable);
+    let verdict = arcs::active_refuted(case, table, best, raised, variable);
     match verdict {
         Verdict::Yes => true,
         Verdict::No => false,
@@ -529,7 +529,7 @@ fn press_made(
     ensures { λ r. ⌜ (r ≡ outcomeOf (firstOf (rangeTests case (pressed case (now (table .entry)) variable (now (raised .entry)) amount)))) × (now (table .exit) ≡ unlessRefused (firstOf (rangeTests case (pressed case (now (table .entry)) variable (now (raised .entry)) amount))) (pressed case (now (table .entry)) variable (now (raised .entry)) amount) (now (table .entry))) ⌝ }
     ensures { λ r. ⌜ BestOf case (now (table .exit)) (now (best .exit)) ⌝ }
 {
-    moves::press_with(case, table, best, raised, variable, amount)
+    changes::press_with(case, table, best, raised, variable, amount)
 }
 
 // The press with its raised scopes, unless number 10 or 11 applies.
@@ -1038,12 +1038,12 @@ fn check_line(case: Case, table: &[i64], raised: &[u8], progress: Progress, line
     if !is_due(due, line) {
         return Outcome::Refused(Refusal::NotDue);
     }
-    if !figures::within_limits(case) {
+    if !tables::within_limits(case) {
         return Outcome::Refused(Refusal::OutsideLimits);
     }
     let rounds = progress.rounds;
     let out = record_out(case, raised, rounds, due) | line_out(case, rounds, due, line);
-    figures::check_working(case, table, false, out)
+    tables::check_working(case, table, false, out)
 }
 
 fn step_read(replay: Replay, case: Case, table: &mut [i64], line: Line) -> Stepped
@@ -1099,13 +1099,13 @@ fn is_held(due: Due) -> bool
 fn end_good(replay: Replay, case: Case) -> Outcome
     ensures { λ r. ⌜ r ≡ outcomeOf (firstOf (endTests standard case replay)) ⌝ }
 {
-    if !figures::within_limits(case) {
+    if !tables::within_limits(case) {
         return Outcome::Refused(Refusal::OutsideLimits);
     }
     let raised = replay.raised;
     let due = replay.due;
     let out = record_out(case, &raised, replay.rounds, due);
-    let checked = figures::check_edges(case, out);
+    let checked = tables::check_edges(case, out);
     match checked {
         Outcome::Refused(refusal) => Outcome::Refused(refusal),
         Outcome::Done => {
@@ -1126,7 +1126,7 @@ impl Replay {
     pub fn fresh(case: Case, table: &[i64]) -> Replay
         ensures { λ r. ⌜ r ≡ freshReplay standard case (now (table .entry)) ⌝ }
     {
-        let checked = figures::check_starting(case, table, false, false);
+        let checked = tables::check_starting(case, table, false, false);
         match checked {
             Outcome::Refused(refusal) => Replay {
                 rounds: 0,
@@ -1138,7 +1138,7 @@ impl Replay {
             },
             Outcome::Done => Replay {
                 rounds: 0,
-                start: figures::bound_of(case, table),
+                start: tables::bound_of(case, table),
                 moved: false,
                 raised: [0u8; 144],
                 due: Due::MoveOrBound,

@@ -20,10 +20,10 @@ use Rattle.definitions.specs.Consistency.{allRefuted}
 use Rattle.definitions.specs.Moves.{activeValues}
 use Rattle.theory.proofs.Validity.{Handed, handed}
 use Rattle.theory.proofs.Replays.{none-iff}
-use Rattle.consistency.specs.Active.{activeSet, activeRow, activeSets, activeRows, tooShort, activeRefusal, setsAfter, rowsAfter}
-use Rattle.consistency.specs.Tried.{triedAnswer}
-use Rattle.consistency.specs.declared.Tried.the-variants.{Refuted, Supported}
-use Rattle.consistency.proofs.Refutation.{Bytes, tried-active}
+use Rattle.arcs.specs.Active.{activeSet, activeRow, activeSets, activeRows, tooShort, activeRefusal, setsAfter, rowsAfter}
+use Rattle.arcs.specs.Tried.{triedAnswer}
+use Rattle.arcs.specs.declared.Tried.the-variants.{Refuted, Supported}
+use Rattle.arcs.proofs.Refutation.{Bytes, tried-active}
 use Rattle.engine.specs.Search.{saysRefuted, isRaised, Prepared, Allowing}
 
 -- ---- what `active_marks` leaves

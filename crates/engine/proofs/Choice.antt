@@ -20,8 +20,8 @@ use Rattle.definitions.specs.Moves.{activeRefuted}
 use Rattle.definitions.specs.Engine.{others, chosen}
 use Rattle.theory.proofs.Shape.{Shape}
 use Rattle.engine_theory.proofs.Raised.{own-scope}
-use Rattle.consistency.specs.Closure.{closureSets}
-use Rattle.consistency.specs.Tried.{triedAnswer}
+use Rattle.arcs.specs.Closure.{closureSets}
+use Rattle.arcs.specs.Tried.{triedAnswer}
 use Rattle.engine.specs.Search.{saysRefuted, isRaised, Prepared, refutesIn, AllRaised, OthersRaised, ChosenIn, ChosenIs, chosenOf, lowestRefuted}
 use Rattle.engine.proofs.Narrowed.{narrowed-length, tried-narrowed}
 use Rattle.engine.proofs.Asking.{edgesOf, asked-says}

@@ -18,10 +18,10 @@ use Rattle.theory.specs.Network.{Network, SupportedIn, supportedIn, familiesOf,
 use Rattle.theory.proofs.Networks.{Ends, supportedIn-iff, inside-more, largest-in, in-largest, some-tried}
 use Rattle.marks.specs.Marks.{mark, byteOf, onlyOf, inBoth}
 use Rattle.marks.proofs.Laws.{mark-byteOf}
-use Rattle.consistency.specs.Closure.{networkOfBytes, setsOf, isMalformed, someFamily, closureSets}
-use Rattle.consistency.proofs.Results.{well-formed}
-use Rattle.consistency.specs.Tried.{hasFamily, noneHas, triedAnswer}
-use Rattle.consistency.specs.declared.Tried.the-variants.{Malformed, Refuted, Supported}
+use Rattle.arcs.specs.Closure.{networkOfBytes, setsOf, isMalformed, someFamily, closureSets}
+use Rattle.arcs.proofs.Results.{well-formed}
+use Rattle.arcs.specs.Tried.{hasFamily, noneHas, triedAnswer}
+use Rattle.arcs.specs.declared.Tried.the-variants.{Malformed, Refuted, Supported}
 
 -- families inside G and inside narrower sets H that hold all of the largest family
 module _ (N : Network) (ends : Ends N) (G G₁ G₂ : Family)

@@ -18,7 +18,7 @@ use Rattle.definitions.specs.Consistency.{allRefuted}
 use Rattle.definitions.specs.Moves.{activeValues}
 use Rattle.definitions.proofs.Refutation.{refuted-same}
 use Rattle.marks.specs.Marks.{fullOf}
-use Rattle.consistency.specs.Active.{activeSet}
+use Rattle.arcs.specs.Active.{activeSet}
 use Rattle.engine.specs.Search.{isRaised, ActiveIn, Allowing, AllRaised}
 
 module _ (raised : List ℕ) (x b : ℕ) where

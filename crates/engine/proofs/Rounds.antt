@@ -35,9 +35,9 @@ use Rattle.engine_theory.proofs.Gaps.{amount-some, amount-most, next-press}
 use Rattle.engine_theory.proofs.Fall.{enginePressed}
 use Rattle.engine_theory.proofs.Runs.{differ, presses, engine-allowed}
 use Rattle.engine_theory.proofs.Calls.{taken-iff, call-taken}
-use Rattle.figures.specs.Scopes.{BestOf}
-use Rattle.moves.specs.Kept.{pressWithCall}
-use Rattle.moves.proofs.PressLaws.{press-with-known}
+use Rattle.tables.specs.Scopes.{BestOf}
+use Rattle.changes.specs.Kept.{pressWithCall}
+use Rattle.changes.proofs.PressLaws.{press-with-known}
 use Rattle.engine.specs.Search.{isRaised}
 use Rattle.engine.specs.Texts.{raisedBelow, raiseTexts, pressLine, pressText}
 use Rattle.engine.specs.Rounds.{pressedBy, Pressed, MadeRound}

@@ -31,7 +31,7 @@ use Rattle.theory.proofs.Rounds.{all-handed}
 use Rattle.engine_theory.proofs.Runs.{differ, engine-allowed, presses as pressed}
 use Rattle.engine_theory.proofs.Calls.{taken-iff, call-refused, run-refused, unmade-keeps}
 use Rattle.engine_theory.proofs.Round.{RoundIs, settles, presses, leaves, round-is, round-settled, round-leaves}
-use Rattle.figures.proofs.Order.{outcome-done, outcome-refused}
+use Rattle.tables.proofs.Order.{outcome-done, outcome-refused}
 use Rattle.engine.specs.Rounds.{MadeRound, RunIs, limitAnswer, stoppedRun, engineRefusalOf}
 
 abbrev pub runWith : RunAnswer → ℕ → ℤ → Run

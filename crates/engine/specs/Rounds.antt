@@ -21,7 +21,7 @@ use Rattle.definitions.specs.Valid.{workingWeight, handedOver}
 use Rattle.definitions.specs.Moves.{plus, pressBy, activeValues, leavesRange}
 use Rattle.definitions.specs.Engine.{engineNext, roundBytes}
 use Rattle.definitions.specs.EngineCalls.{roundCall, runCall}
-use Rattle.figures.specs.Scopes.{BestOf}
+use Rattle.tables.specs.Scopes.{BestOf}
 use Rattle.engine.specs.Search.{isRaised}
 
 -- the table after a press of the raised scopes

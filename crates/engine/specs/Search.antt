@@ -18,9 +18,9 @@ use Rattle.definitions.specs.Moves.{activeValues}
 use Rattle.definitions.specs.Engine.{chosen, keptScopes}
 use Rattle.theory.proofs.Validity.{Handed}
 use Rattle.marks.specs.Marks.{fullOf}
-use Rattle.consistency.specs.Active.{activeSet, activeRow}
-use Rattle.consistency.specs.Tried.{triedAnswer}
-use Rattle.consistency.specs.declared.Tried.{Tried}
+use Rattle.arcs.specs.Active.{activeSet, activeRow}
+use Rattle.arcs.specs.Tried.{triedAnswer}
+use Rattle.arcs.specs.declared.Tried.{Tried}
 use Rattle.engine.specs.declared.Chosen.{Chosen}
 
 abbrev pub saysRefuted : Tried → Bool

@@ -1,5 +1,5 @@
 // The engine (document 01, "The engine's round"): one round, and the run that makes rounds one after another.
-use consistency::Tried;
+use arcs::Tried;
 use definitions::Case;
 use definitions::Line;
 use definitions::Outcome;
@@ -25,7 +25,7 @@ ghost use Rattle.definitions.specs.Lines.{lineText, lineTooWide, overwritten};
 ghost use Rattle.definitions.specs.Engine.{chosen, keptScopes, leastGap, roundBytes, engineNext, raiseLine, boundLine};
 ghost use Rattle.definitions.specs.EngineCalls.{roundCall, runCall};
 ghost use Rattle.theory.proofs.Validity.{Handed};
-ghost use Rattle.figures.specs.Scopes.{Limited, sizeOf, BestOf};
+ghost use Rattle.tables.specs.Scopes.{Limited, sizeOf, BestOf};
 ghost use Rattle.engine.specs.Search.{saysRefuted, isRaised, Prepared, refutesIn, AllRaised, OthersRaised, ChosenIn, ChosenIs, chosenOf, lowestRefuted, FoundIs, Enough, Dropped};
 ghost use Rattle.engine.specs.Gaps.{limits, lesserGap, lessGaps};
 ghost use Rattle.engine.specs.Texts.{raisedFrom, raisedBelow, raiseTexts, pressLine, pressText};
@@ -98,7 +98,7 @@ fn refutes(case: Case, acts: &[u8], rows: &[u8], raised: &[u8], variable: usize)
     let upper = case.upper;
     let mut sets = [0u8; 48];
     allow(acts, raised, marks::full(case.d as u8), &mut sets, n);
-    is_refuted(consistency::all_refuted(
+    is_refuted(arcs::all_refuted(
         &lower,
         &upper,
         rows,
@@ -123,7 +123,7 @@ fn lowest_in(
 {
     let mut i: usize = 0;
     while i < sets.len() {
-        let tried = consistency::all_refuted(lower, upper, rows, edges, sets, i, acts[i]);
+        let tried = arcs::all_refuted(lower, upper, rows, edges, sets, i, acts[i]);
         if is_refuted(tried) {
             return Chosen::Variable(i);
         }
@@ -144,7 +144,7 @@ fn lowest_refuted(
     requires { ⌜ length (now sets) ≤ length (now acts) ⌝ }
     ensures { λ r. ⌜ r ≡ chosenOf (lowestRefuted (now (lower .entry)) (now (upper .entry)) (now (acts .entry)) (now (rows .entry)) (now (edges .entry)) (now (sets .entry))) ⌝ }
 {
-    consistency::closure(lower, upper, rows, edges, sets);
+    arcs::closure(lower, upper, rows, edges, sets);
     lowest_in(lower, upper, acts, rows, edges, sets)
 }
 
@@ -798,8 +798,8 @@ fn prepare(case: Case, table: &[i64], acts: &mut [u8], rows: &mut [u8], best: &m
     requires { ⌜ (case .n ≤ length (now acts)) × (16 * case .m ≤ length (now rows)) × (scopeCount case ≤ length (now best)) ⌝ }
     ensures { λ _. ⌜ Prepared case (now (table .entry)) (now (acts .exit)) (now (rows .exit)) × BestOf case (now (table .entry)) (now (best .exit)) ⌝ }
 {
-    consistency::active_marks(case, table, acts, rows);
-    figures::greatest_weights(case, table, best);
+    arcs::active_marks(case, table, acts, rows);
+    tables::greatest_weights(case, table, best);
 }
 
 fn press(
@@ -815,13 +815,13 @@ fn press(
     requires { ⌜ (scopeCount case ≤ length (now raised)) × (variable < case .n) × T (pressAmount standard amount) ⌝ }
     ensures { λ r. ⌜ Pressed case variable (now (raised .entry)) amount (now (table .entry)) (now (table .exit)) (now (best .exit)) r ⌝ }
 {
-    moves::press_with(case, table, best, raised, variable, amount)
+    changes::press_with(case, table, best, raised, variable, amount)
 }
 
 fn bound_of(case: Case, best: &[i64]) -> i64
     ensures { λ r. ⌜ ((w : List ℤ) → Handed standard (workingWeight standard) case w → BestOf case w (now (best .entry)) → r ≡ upperBound case w) ⌝ }
 {
-    figures::bound_with(case, best)
+    tables::bound_with(case, best)
 }
 
 // The press of the chosen variable, and its lines.
@@ -908,7 +908,7 @@ fn stop_run(case: Case, table: &[i64], answer: RunAnswer, rounds: u64) -> Run
     requires { ⌜ Handed standard (workingWeight standard) case (now table) ⌝ }
     ensures { λ r. ⌜ r ≡ stoppedRun case (now (table .entry)) answer rounds ⌝ }
 {
-    let bound = figures::bound_of(case, table);
+    let bound = tables::bound_of(case, table);
     Run {
         answer,
         rounds,
@@ -948,10 +948,10 @@ fn too_short(case: Case, length: usize) -> bool
 fn check_engine(case: Case, table: &[i64], length: usize) -> Outcome
     ensures { λ r. ⌜ r ≡ outcomeOf (engineRefusalOf case (now (table .entry)) length) ⌝ }
 {
-    if !figures::within_limits(case) {
+    if !tables::within_limits(case) {
         return Outcome::Refused(Refusal::OutsideLimits);
     }
-    figures::check_working(case, table, too_short(case, length), false)
+    tables::check_working(case, table, too_short(case, length), false)
 }
 
 // ---- the calls

@@ -27,7 +27,7 @@ use Rattle.checker.specs.declared.Replay.{Replay}
 use Rattle.checker.specs.declared.Standing.{Standing}
 use Rattle.checker.specs.Checker.{isHeld, recordOut, endTests, endStanding, endReplay}
 use Rattle.checker_theory.proofs.Logs.{logJudged}
-use Rattle.figures.proofs.Order.{outcome-done, outcome-refused, first-stops}
+use Rattle.tables.proofs.Order.{outcome-done, outcome-refused, first-stops}
 use Rattle.judging.specs.Judging.{endJudged, finishTests, finishStanding}
 
 -- ---- the tests by what each says: the limits, the length, the record or an end out of range, 6, 7, the weights, 14

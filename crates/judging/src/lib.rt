@@ -87,7 +87,7 @@ fn end_good(case: Case, table: &[i64], replay: Replay, part: bool) -> Outcome
     ensures { λ r. ⌜ r ≡ outcomeOf (firstOf (finishTests standard case (now (table .entry)) replay part)) ⌝ }
 {
     let ended = replay.end(case);
-    let checked = figures::check_working(case, table, false, is_out(ended));
+    let checked = tables::check_working(case, table, false, is_out(ended));
     if let Outcome::Refused(refusal) = checked {
         return Outcome::Refused(refusal);
     }
@@ -117,7 +117,7 @@ fn write_end(judging: Judging, table: &[i64], part: bool, passed: usize, out: &m
     match ended {
         Outcome::Refused(refusal) => texts::write_refused(out, refusal, passed),
         Outcome::Done => {
-            texts::write_accepted(out, replay.rounds, figures::bound_of(case, table))
+            texts::write_accepted(out, replay.rounds, tables::bound_of(case, table))
         }
     }
 }

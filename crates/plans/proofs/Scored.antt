@@ -22,7 +22,7 @@ use Rattle.definitions.specs.Valid.{startingWeight, workingWeight, wrongAssignm
 use Rattle.definitions.specs.Calls.{objectiveAnswer, figureOf}
 use Rattle.definitions.specs.Scoring.{betterOf}
 use Rattle.theory.proofs.Validity.{Handed, handed, Valid, working-weights, lent-assignment}
-use Rattle.figures.proofs.Order.{outcome-done, outcome-refused}
+use Rattle.tables.proofs.Order.{outcome-done, outcome-refused}
 
 no-refusal : (o : Option Refusal) → T (not (isSome o)) → o ≡ none
 no-refusal none t = refl

@@ -28,7 +28,7 @@ fn objective_of(case: Case, table: &[i64], assignment: &[u8]) -> i64
     requires { ⌜ T (isAssignment case (now assignment)) ⌝ }
     ensures { λ r. ⌜ r ≡ objective case (now (table .entry)) (now (assignment .entry)) ⌝ }
 {
-    value_in(figures::objective(case, table, assignment))
+    value_in(tables::objective(case, table, assignment))
 }
 
 fn greater(first: i64, second: i64) -> Choice
@@ -48,8 +48,8 @@ pub fn better_of(case: Case, table: &[i64], first: &[u8], second: &[u8]) -> Choi
     ensures { λ r. ⌜ r ≡ betterOf standard case (now (table .entry)) (now (first .entry)) (now (second .entry)) ⌝ }
 {
     let wrong = (first.len() != case.n) | (second.len() != case.n);
-    let out = figures::some_beyond(first, case.d) | figures::some_beyond(second, case.d);
-    let checked = figures::check_starting(case, table, wrong, out);
+    let out = tables::some_beyond(first, case.d) | tables::some_beyond(second, case.d);
+    let checked = tables::check_starting(case, table, wrong, out);
     match checked {
         Outcome::Refused(refusal) => Choice::Refused(refusal),
         Outcome::Done => greater(

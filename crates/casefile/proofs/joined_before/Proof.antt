@@ -5,7 +5,7 @@ use mathlib.Core.Bool.{_&&_, _||_}
 use native.Mathlib.Omega.{arith}
 use lib.Dec.{eqb}
 use lib.ListN.{getD}
-use Rattle.figures.proofs.Search.{any-next}
+use Rattle.tables.proofs.Search.{any-next}
 use Rattle.casefile.specs.Steps.{joinedBefore}
 use Rattle.casefile.proofs.joined_before.Statement.{statement}
 use Rattle.casefile.proofs.joined_before.Tie as tie

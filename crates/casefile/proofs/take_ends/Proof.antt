@@ -5,7 +5,7 @@ use lib.IntN.{natAbs}
 use lib.ListN.{set}
 use denote.Ref.{now}
 use Rattle.integers.specs.Linear.{read-back}
-use Rattle.figures.proofs.Order.{outcome-done}
+use Rattle.tables.proofs.Order.{outcome-done}
 use Rattle.casefile.specs.Steps.{caseWith}
 use Rattle.casefile.proofs.Taken.{ends-known, ends-refused, ends-left}
 use borrow.Author.Needs.{needs}

@@ -4,7 +4,7 @@ use native.Mathlib.Omega.{arith}
 use lib.ListN.{length}
 use Rattle.definitions.specs.Consistency.{allRefuted}
 use Rattle.definitions.specs.Moves.{activeValues}
-use Rattle.consistency.proofs.Best.{active-refuted-is}
+use Rattle.arcs.proofs.Best.{active-refuted-is}
 use Rattle.checker.specs.Checker.{isRaised}
 use Rattle.checker.proofs.Taking.{says-yes, says-no, says-neither}
 use borrow.Author.Needs.{needs}

@@ -2,8 +2,8 @@ use mathlib.Core.Path.{refl, _∙_}
 use mir.Syntax.{w64}
 use Rattle.integers.specs.Linear.{read-back}
 use Rattle.definitions.specs.Rules.{standard}
-use Rattle.figures.proofs.Bounds.{same-bits, other-bits}
-use Rattle.figures.proofs.Best.{bound-with-known}
+use Rattle.tables.proofs.Bounds.{same-bits, other-bits}
+use Rattle.tables.proofs.Best.{bound-with-known}
 use Rattle.checker.specs.Checker.{ofBound}
 use Rattle.checker.specs.Taken.{goodReplay}
 use Rattle.checker.proofs.Numbers.{same-bits as same-numbers}

@@ -3,7 +3,7 @@ use Rattle.checker.specs.Checker.{dueKinds}
 use mathlib.Core.Path.{refl, sym, _∙_}
 use borrow.Author.Tests.{not-true, not-false}
 use Rattle.definitions.specs.Rules.{standard}
-use Rattle.figures.proofs.Order.{limited}
+use Rattle.tables.proofs.Order.{limited}
 use Rattle.checker.specs.Taken.{goodReplay}
 use borrow.Author.Needs.{needs}
 use Rattle.checker.proofs.check_line.Statement.{statement}

@@ -3,8 +3,8 @@ use mathlib.Core.Path.{_≡_, refl}
 use Prim.Native.Nat.{ℕ, _-_, _≤_, _<_}
 use native.Mathlib.Omega.{arith}
 use lib.ListN.{length, getD, length-set}
-use Rattle.consistency.proofs.Steps.{after-set}
-use Rattle.consistency.proofs.Results.{all-zero}
+use Rattle.arcs.proofs.Steps.{after-set}
+use Rattle.arcs.proofs.Results.{all-zero}
 use Rattle.checker.proofs.clear.Statement.{statement}
 use Rattle.checker.proofs.clear.Tie as tie
 

@@ -1,7 +1,7 @@
 use mathlib.Core.Path.{sym, _∙_}
 use borrow.Author.Tests.{not-true, not-false}
 use Rattle.definitions.specs.Rules.{standard}
-use Rattle.figures.proofs.Order.{limited}
+use Rattle.tables.proofs.Order.{limited}
 use Rattle.checker.proofs.Ends.{end-refused, end-cut, end-done}
 use borrow.Author.Needs.{needs}
 use Rattle.checker.proofs.end_good.Statement.{statement}

@@ -10,8 +10,8 @@ use lib.Seq.{drop-drop}
 use Rattle.definitions.specs.Rules.{standard}
 use Rattle.definitions.specs.Valid.{workingWeight}
 use Rattle.theory.proofs.Validity.{Handed}
-use Rattle.figures.specs.Scopes.{BestOf}
-use Rattle.figures.proofs.Answered.{limits-known}
+use Rattle.tables.specs.Scopes.{BestOf}
+use Rattle.tables.proofs.Answered.{limits-known}
 use Rattle.checker.specs.declared.Replay.{Replay}
 use Rattle.checker.specs.Checker.{BlockCall, recordOut, blockReplay}
 use Rattle.checker.specs.Taken.{goodReplay, moreBy}

@@ -1,5 +1,5 @@
 use borrow.Author.Tests.{le-leb, lt-leb}
-use Rattle.figures.proofs.Search.{and-next, and-stops}
+use Rattle.tables.proofs.Search.{and-next, and-stops}
 use Rattle.checker.proofs.in_range.Statement.{statement}
 use Rattle.checker.proofs.in_range.Tie as tie
 

@@ -1,5 +1,5 @@
 use mir.Facts.{toZ-ofZ}
-use Rattle.figures.proofs.Search.{and-next, and-stops}
+use Rattle.tables.proofs.Search.{and-next, and-stops}
 use Rattle.checker.proofs.is_within.Statement.{statement}
 use Rattle.checker.proofs.is_within.Tie as tie
 

@@ -1,7 +1,7 @@
 use mathlib.Core.Path.{sym}
 use lib.Dec.{lit<}
 use lib.IntN.{pos}
-use Rattle.figures.proofs.Bounds.{other-bits}
+use Rattle.tables.proofs.Bounds.{other-bits}
 use Rattle.checker.proofs.Numbers.{same-bits, bits-test}
 use Rattle.checker.proofs.LineKinds.{shift-due, press-due, bound-due, none-due}
 use Rattle.checker.proofs.move_due.Statement.{statement}

@@ -4,7 +4,7 @@ use lib.Dec.{T, lit<, ltb, ltb→lt}
 use lib.IntN.{pos}
 use Rattle.integers.specs.Tests.{not-not-iff}
 use Rattle.definitions.specs.Rules.{standard}
-use Rattle.figures.proofs.Bounds.{same-bits, other-bits}
+use Rattle.tables.proofs.Bounds.{same-bits, other-bits}
 use Rattle.checker.specs.Checker.{ofShift, ofPress, ofBound}
 use Rattle.checker.specs.Taken.{goodReplay}
 use Rattle.checker.proofs.Taking.{press-counts}

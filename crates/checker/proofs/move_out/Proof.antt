@@ -1,7 +1,7 @@
 use mathlib.Core.Path.{sym}
 use lib.Dec.{lit<}
 use lib.IntN.{pos}
-use Rattle.figures.proofs.Bounds.{same-bits, other-bits}
+use Rattle.tables.proofs.Bounds.{same-bits, other-bits}
 use Rattle.checker.proofs.Numbers.{from-test}
 use borrow.Author.Needs.{needs}
 use Rattle.checker.proofs.move_out.Statement.{statement}

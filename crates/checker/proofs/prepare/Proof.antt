@@ -1,7 +1,7 @@
 use mathlib.Core.Path.{sym, subst}
 use native.Mathlib.Omega.{arith}
-use Rattle.figures.specs.Scopes.{BestOf}
-use Rattle.figures.proofs.Best.{greatest-known}
+use Rattle.tables.specs.Scopes.{BestOf}
+use Rattle.tables.proofs.Best.{greatest-known}
 use Prim.Native.Nat.{_+_, _≤_}
 use mathlib.Core.List.{List}
 use lib.IntN.{ℤ}

@@ -3,7 +3,7 @@ use Prim.Native.Nat.{_+_, _≤_}
 use native.Mathlib.Omega.{arith}
 use lib.ListN.{length}
 use mir.Facts.{toZ-ofZ}
-use Rattle.moves.proofs.PressLaws.{press-with-known}
+use Rattle.changes.proofs.PressLaws.{press-with-known}
 use borrow.Author.Needs.{needs}
 use Rattle.checker.proofs.press_made.Statement.{statement}
 use Rattle.checker.proofs.press_made.Tie as tie

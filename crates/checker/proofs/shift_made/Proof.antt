@@ -3,7 +3,7 @@ use mathlib.Core.Option.{none}
 use lib.IntN.{pos, natAbs}
 use mir.Syntax.{w64}
 use Rattle.integers.specs.Linear.{read-back}
-use Rattle.moves.proofs.ShiftLaws.{shift-with-known}
+use Rattle.changes.proofs.ShiftLaws.{shift-with-known}
 use Rattle.checker.specs.Checker.{freshOf}
 use Rattle.checker.proofs.Taking.{shift-counts, shift-inside}
 use borrow.Author.Needs.{needs}

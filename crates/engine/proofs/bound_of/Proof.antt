@@ -1,7 +1,7 @@
 use mathlib.Core.Path.{_∙_}
 use mir.Syntax.{w64}
 use Rattle.integers.specs.Linear.{read-back}
-use Rattle.figures.proofs.Best.{bound-with-known}
+use Rattle.tables.proofs.Best.{bound-with-known}
 use borrow.Author.Needs.{needs}
 use Rattle.engine.proofs.bound_of.Statement.{statement}
 use Rattle.engine.proofs.bound_of.Tie as tie

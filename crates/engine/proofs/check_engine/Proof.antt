@@ -1,7 +1,7 @@
 use mathlib.Core.Path.{sym, _∙_}
 use borrow.Author.Tests.{not-true, not-false}
 use Rattle.definitions.specs.Rules.{standard}
-use Rattle.figures.proofs.Order.{limited}
+use Rattle.tables.proofs.Order.{limited}
 use borrow.Author.Needs.{needs}
 use Rattle.engine.proofs.check_engine.Statement.{statement}
 use Rattle.engine.proofs.check_engine.Tie as tie

@@ -3,7 +3,7 @@ use native.Mathlib.Omega.{arith}
 use lib.ListN.{length, getD, take}
 use lib.Seq.{length-take-le}
 use denote.Ref.{now}
-use Rattle.consistency.specs.Tried.{triedAnswer}
+use Rattle.arcs.specs.Tried.{triedAnswer}
 use Rattle.engine.specs.Search.{saysRefuted, ChosenIn, ChosenIs, lowestRefuted}
 use Rattle.engine.proofs.Asking.{edgesOf}
 use Rattle.engine.proofs.Choice.{chosen-in, chosen-says, lowest-chosen}

@@ -3,7 +3,7 @@ use Prim.Native.Nat.{_*_, _-_, _≤_}
 use native.Mathlib.Omega.{arith}
 use borrow.Author.Tests.{le-ltb}
 use Rattle.theory.proofs.Places.{place-variable}
-use Rattle.figures.proofs.Order.{variables-small, values-small, times-most}
+use Rattle.tables.proofs.Order.{variables-small, values-small, times-most}
 use Rattle.engine.proofs.first_place.Statement.{statement}
 use Rattle.engine.proofs.first_place.Tie as tie
 

@@ -1,6 +1,6 @@
 use mathlib.Core.Path.{_∙_}
 use mir.Facts.{toZ-ofZ}
-use Rattle.figures.proofs.Bounds.{same-bits, other-bits}
+use Rattle.tables.proofs.Bounds.{same-bits, other-bits}
 use Rattle.engine.proofs.Amounts.{gap-fits, gap-same, gap-more, gap-less}
 use Rattle.engine.proofs.lesser_gap.Statement.{statement}
 use Rattle.engine.proofs.lesser_gap.Tie as tie

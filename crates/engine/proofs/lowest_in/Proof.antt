@@ -5,7 +5,7 @@ use native.Mathlib.Omega.{arith}
 use lib.ListN.{length, getD}
 use denote.Ref.{now}
 use borrow.Author.Needs.{needs}
-use Rattle.consistency.specs.Tried.{triedAnswer}
+use Rattle.arcs.specs.Tried.{triedAnswer}
 use Rattle.engine.specs.Search.{saysRefuted, chosenOf}
 use Rattle.engine.proofs.Choice.{first-is, first-nothing, passed-more}
 use Rattle.engine.proofs.lowest_in.Statement.{statement}

@@ -1,5 +1,5 @@
 use denote.Ref.{now}
-use Rattle.figures.proofs.Best.{greatest-known}
+use Rattle.tables.proofs.Best.{greatest-known}
 use Rattle.engine.proofs.Asking.{marks-known}
 use borrow.Author.Needs.{needs}
 use Rattle.engine.proofs.prepare.Statement.{statement}

@@ -11,9 +11,9 @@ use borrow.Author.Needs.{needs}
 use denote.Ref.{now}
 use Rattle.integers.specs.Linear.{read-back}
 use Rattle.definitions.specs.Case.{place, eachTuple, weight}
-use Rattle.figures.specs.Scopes.{sizeOf}
-use Rattle.figures.proofs.Parts.{part-own, scope-part}
-use Rattle.figures.proofs.Answered.{greatest-working}
+use Rattle.tables.specs.Scopes.{sizeOf}
+use Rattle.tables.proofs.Parts.{part-own, scope-part}
+use Rattle.tables.proofs.Answered.{greatest-working}
 use Rattle.engine.specs.Gaps.{lessGaps}
 use Rattle.engine.proofs.Amounts.{part-working}
 use Rattle.engine.proofs.scope_gap.Statement.{statement}

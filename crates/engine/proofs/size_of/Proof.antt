@@ -1,7 +1,7 @@
 use Prim.Native.Nat.{_-_}
 use native.Mathlib.Omega.{arith}
 use borrow.Author.Tests.{lt-ltb, le-ltb}
-use Rattle.figures.proofs.Order.{values-small}
+use Rattle.tables.proofs.Order.{values-small}
 use Rattle.engine.proofs.size_of.Statement.{statement}
 use Rattle.engine.proofs.size_of.Tie as tie
 

@@ -1,7 +1,7 @@
 use mathlib.Core.Path.{ap, _∙_}
 use mir.Syntax.{w64}
 use Rattle.integers.specs.Linear.{read-back}
-use Rattle.figures.proofs.Answered.{bound-known}
+use Rattle.tables.proofs.Answered.{bound-known}
 use Rattle.engine.proofs.Runs.{runWith}
 use borrow.Author.Needs.{needs}
 use Rattle.engine.proofs.stop_run.Statement.{statement}

@@ -8,7 +8,7 @@ use Rattle.definitions.specs.declared.Outcome.{Outcome}
 use Rattle.definitions.specs.Rules.{standard}
 use Rattle.definitions.specs.Case.{upperBound}
 use Rattle.definitions.specs.Programs.{accepted}
-use Rattle.figures.proofs.Answered.{bound-known}
+use Rattle.tables.proofs.Answered.{bound-known}
 use Rattle.texts.specs.Texts.{writeAcceptedCall}
 use Rattle.judging.specs.Judging.{endJudged, writeJudged}
 use Rattle.judging.proofs.Calls.{same-written}

@@ -1,0 +1,180 @@
+-- The bytes that are prepared from a table and each scope's greatest weight: what is written, and what they say. Assumes nothing.
+use mathlib.Core.Path.{_≡_, refl, sym, ap, subst, _∙_}
+use mathlib.Core.Bool.{Bool, true, false, not, _&&_, and-false}
+use mathlib.Core.List.{List}
+use Prim.Native.Nat.{ℕ, zero, suc, _+_, _*_, _-_, _≤_, _<_}
+use native.Mathlib.Omega.{arith}
+use borrow.Author.Tests.{lt-ltb, le-ltb, eq-eqb, ne-eqb, eqb-true}
+use lib.IntN.{ℤ}
+use lib.Dec.{T, ltb, eqb, eqb→eq}
+use lib.ListN.{length, getD, take, drop, length-take, length-drop}
+use lib.Seq.{getD-take, getD-drop}
+use Rattle.integers.specs.Words.{if_then_else_, _⇒_}
+use Rattle.integers.specs.Tests.{tests, is-true, true-is, imp-intro, imp-elim, same-test}
+use Rattle.integers.specs.Lists.{all-at, all-of}
+use Rattle.integers.specs.Tables.{length-tab, getD-tab}
+use Rattle.definitions.specs.declared.Case.{Case}
+use Rattle.definitions.specs.declared.Refusal.the-variants.{OutsideLimits, WrongLength, OutOfRange}
+use Rattle.definitions.specs.declared.Verdict.{Verdict}
+use Rattle.definitions.specs.Rules.{standard}
+use Rattle.definitions.specs.Case.{scopeCount, lentLength, active}
+use Rattle.definitions.specs.Valid.{workingWeight, withinLimits, someEdge, endOutside}
+use Rattle.definitions.specs.Calls.{isMarked}
+use Rattle.definitions.specs.Consistency.{refuted, allRefuted}
+use Rattle.definitions.specs.Moves.{activeValues}
+use Rattle.theory.proofs.Validity.{Handed}
+use Rattle.theory.proofs.Words.{none-below}
+use Rattle.tables.specs.Scopes.{BestOf}
+use Rattle.tables.proofs.Answered.{limits-true}
+use Rattle.marks.specs.Marks.{mark, fullOf, onlyOf}
+use Rattle.marks.proofs.Laws.{mark-byteOf}
+use Rattle.arcs.specs.Active.{setWhere, rowWhere, hasWeight, activeSet, activeRow, Written}
+use Rattle.arcs.specs.Tried.{triedAnswer}
+use Rattle.arcs.specs.Best.{hasBest, isRaised, allowedBest, partnersBest, bestSets, bestRows, isRefuted, bestRefuted, tooFew, activeRefutedAnswer}
+use Rattle.arcs.specs.declared.Tried.the-variants.{Refuted, Supported}
+use Rattle.arcs.proofs.Marked.{rowsOf-length, rowsOf-at, written-part}
+use Rattle.arcs.proofs.Fixed.{not-not}
+use Rattle.arcs.proofs.Refutation.{Bytes, tried-refuted}
+
+module _ (c : Case) (w best : List ℤ) (raised : List ℕ) where
+  module _ (j : ℕ) where
+    pub set-unraised : getD raised j 0 ≡ 0 → fullOf (c .d) ≡ allowedBest c w best raised j
+    set-unraised e = ap (λ (b : ℕ). if not (eqb b 0) then setWhere c (hasBest c w best) j else fullOf (c .d)) (sym e)
+
+    pub set-raised : (getD raised j 0 ≡ 0 → ⊥) → setWhere c (hasBest c w best) j ≡ allowedBest c w best raised j
+    set-raised ne = sym (ap (λ (b : Bool). if not b then setWhere c (hasBest c w best) j else fullOf (c .d)) (ne-eqb (getD raised j 0) 0 ne))
+
+  module _ (e p : ℕ) where
+    pub row-unraised : getD raised (c .n + e) 0 ≡ 0 → 0 ≡ partnersBest c w best raised e p
+    row-unraised z = ap (λ (b : ℕ). if not (eqb b 0) then rowWhere c (hasBest c w best) e p else 0) (sym z)
+
+    pub row-raised : (getD raised (c .n + e) 0 ≡ 0 → ⊥) → rowWhere c (hasBest c w best) e p ≡ partnersBest c w best raised e p
+    row-raised ne = sym (ap (λ (b : Bool). if not b then rowWhere c (hasBest c w best) e p else 0) (ne-eqb (getD raised (c .n + e) 0) 0 ne))
+
+  -- the parts of the arrays that are written
+  pub prepared-answer : (zeros rows zeros′ sets : List ℕ) → 16 * c .m ≤ length zeros → Written (λ q. getD (bestRows c w best raised) q 0) 0 (16 * c .m) zeros rows
+      → c .n ≤ length zeros′ → Written (allowedBest c w best raised) 0 (c .n) zeros′ sets → (i values : ℕ)
+      → isRefuted (triedAnswer (c .lower) (c .upper) (take (16 * c .m) rows) (take ((c .n + c .m) - c .n) (drop (c .n) raised)) (take (c .n) sets) i values) ≡ bestRefuted c w best raised i values
+  unfolding bestRows bestSets bestRefuted
+  prepared-answer zeros rows zeros′ sets room r room′ s i values =
+      let a = written-part (bestRows c w best raised) zeros rows (λ q. getD (bestRows c w best raised) q 0) (16 * c .m) (rowsOf-length (partnersBest c w best raised) (c .m)) (λ p h. refl) room r in
+      let b = written-part (bestSets c w best raised) zeros′ sets (allowedBest c w best raised) (c .n) (length-tab (allowedBest c w best raised) 0 (c .n)) (λ p h. getD-tab (allowedBest c w best raised) (c .n) p 0 h) room′ s in
+      let m : (c .n + c .m) - c .n ≡ c .m = omega arith in
+      rw (a, b, m)
+
+-- ---- the answer of `active_refuted`, test by test
+
+module _ (c : Case) (w best : List ℤ) (raised : List ℕ) (i : ℕ) where
+  abbrev answer : Verdict
+  answer = activeRefutedAnswer standard c w best raised i
+
+  pub limits-refused : withinLimits standard (c .n) (c .d) (c .m) ≡ false → Verdict.Refused OutsideLimits ≡ answer
+  unfolding activeRefutedAnswer
+  limits-refused e = rw e
+
+  module _ (e : withinLimits standard (c .n) (c .d) (c .m) ≡ true) where
+    pub length-refused : (length w ≡ lentLength c → ⊥) → Verdict.Refused WrongLength ≡ answer
+    unfolding activeRefutedAnswer
+    length-refused ne = rw (e, ne-eqb (length w) (lentLength c) ne)
+
+    module _ (long : length w ≡ lentLength c) where
+      pub few-refused : tooFew c best raised ≡ true → Verdict.Refused WrongLength ≡ answer
+      unfolding activeRefutedAnswer
+      few-refused t = rw (e, eq-eqb (length w) (lentLength c) long, t)
+
+      module _ (f : tooFew c best raised ≡ false) where
+        pub variable-refused : c .n ≤ i → Verdict.Refused OutOfRange ≡ answer
+        unfolding activeRefutedAnswer
+        variable-refused h = rw (e, eq-eqb (length w) (lentLength c) long, f, le-ltb i (c .n) h)
+
+        module _ (g : i < c .n) where
+          pub ends-refused : someEdge c (endOutside c) ≡ true → Verdict.Refused OutOfRange ≡ answer
+          unfolding activeRefutedAnswer
+          ends-refused t = rw (e, eq-eqb (length w) (lentLength c) long, f, lt-ltb i (c .n) g, t)
+
+          pub answer-given : someEdge c (endOutside c) ≡ false
+              → (if bestRefuted c w best raised i (setWhere c (hasBest c w best) i) then Verdict.Yes else Verdict.No) ≡ answer
+          unfolding activeRefutedAnswer
+          answer-given t = rw (e, eq-eqb (length w) (lentLength c) long, f, lt-ltb i (c .n) g, t)
+
+-- there are bytes for all scopes
+pub enough : (c : Case) (best : List ℤ) (raised : List ℕ) → tooFew c best raised ≡ false → (scopeCount c ≤ length best) × (scopeCount c ≤ length raised)
+enough c best raised e = let p = simp tests at e in (omega (arith, p .0), omega (arith, p .1))
+
+-- ---- where `best` holds the greatest weights, the answer is refutation
+
+module _ (c : Case) (w : List ℤ) (h : Handed standard (workingWeight standard) c w) (best : List ℤ) (b : BestOf c w best) (raised : List ℕ) (room : scopeCount c ≤ length raised)
+    (lowers : c .m ≤ length (c .lower)) (uppers : c .m ≤ length (c .upper)) where
+  set-active : (j : ℕ) → j < c .n → setWhere c (hasBest c w best) j ≡ activeSet c w j
+  set-active j u = ap (λ (z : ℤ). setWhere c (hasWeight c w z) j) (b .holds j (omega arith))
+
+  row-active : (e p : ℕ) → e < c .m → rowWhere c (hasBest c w best) e p ≡ activeRow c w e p
+  row-active e p u = ap (λ (z : ℤ). rowWhere c (hasWeight c w z) e p) (b .holds (c .n + e) (omega arith))
+
+  module _ (R : ℕ → Bool) (same : (x : ℕ) → x < scopeCount c → isRaised raised x ≡ R x) where
+    bytes : Bytes c w R (bestRows c w best raised) (take (c .m) (drop (c .n) raised)) (bestSets c w best raised)
+    unfolding bestRows bestSets
+    bytes = record {
+      lowers = lowers;
+      uppers = uppers;
+      room = rw (rowsOf-length (partnersBest c w best raised) (c .m)) (omega arith);
+      edges = record {
+        count = simp (length-take, length-drop) (omega arith);
+        raised = λ e u.
+            ap (λ (x : ℕ). eqb x 0) (getD-take (c .m) (drop (c .n) raised) e 0 u ∙ getD-drop (c .n) raised e 0)
+            ∙ sym (not-not (eqb (getD raised (c .n + e) 0) 0)) ∙ ap not (same (c .n + e) (omega arith));
+        partners = λ e p u l t.
+            rowsOf-at (partnersBest c w best raised) (c .m) e p u l
+            ∙ ap (λ (x : Bool). if x then rowWhere c (hasBest c w best) e p else 0) (same (c .n + e) (omega arith) ∙ is-true (R (c .n + e)) t)
+            ∙ row-active e p u;
+      };
+      sets-length = length-tab (allowedBest c w best raised) 0 (c .n);
+      sets = λ j u.
+          getD-tab (allowedBest c w best raised) (c .n) j 0 u
+          ∙ ap (λ (x : Bool). if x then setWhere c (hasBest c w best) j else fullOf (c .d)) (same j (omega arith))
+          ∙ ap (λ (x : ℕ). if R j then x else fullOf (c .d)) (set-active j u);
+    }
+
+    pub best-refuted : (i : ℕ) → i < c .n → (values : ℕ) (set : ℕ → Bool) → ((k : ℕ) → k < 8 → mark values k ≡ (ltb k (c .d) && set k))
+        → bestRefuted c w best raised i values ≡ allRefuted c w R i set
+    unfolding bestRefuted
+    best-refuted i g values set is = ap isRefuted (tried-refuted c w h R _ _ _ bytes i g values set is) ∙ told (allRefuted c w R i set)
+      where
+        told : (x : Bool) → isRefuted (if x then Refuted else Supported) ≡ x
+        told true = refl
+        told false = refl
+
+    -- one value
+    pub one-refuted : (i k : ℕ) → i < c .n → k < c .d → bestRefuted c w best raised i (onlyOf k) ≡ refuted c w R i k
+    one-refuted i k g l =
+        best-refuted i g (onlyOf k) (λ v. eqb v k) (λ v u. mark-byteOf (λ v. eqb v k) v u ∙ in-range v (eqb v k) refl)
+        ∙ same-test (allRefuted c w R i (λ v. eqb v k)) (refuted c w R i k)
+        (λ t. imp-elim (eqb k k) (refuted c w R i k) (all-at (λ v. eqb v k ⇒ refuted c w R i v) (c .d) t k l) (true-is (eqb k k) (eq-eqb k k refl)))
+        (λ t.
+        all-of (λ v. eqb v k ⇒ refuted c w R i v) (c .d)
+        (λ v u. imp-intro (eqb v k) (refuted c w R i v) (λ s. subst (λ (x : ℕ). T (refuted c w R i x)) (sym (eqb→eq v k s)) t)))
+      where
+        in-range : (v : ℕ) (x : Bool) → eqb v k ≡ x → x ≡ (ltb v (c .d) && x)
+        in-range v true e = let s = eqb-true v k e in sym (ap (λ (y : Bool). y && true) (lt-ltb v (c .d) (omega arith)))
+        in-range v false e = sym (and-false (ltb v (c .d)))
+
+  -- the active values, with the scopes raised whose byte is not 0
+  pub active-refuted-is : (i : ℕ) → i < c .n → activeRefutedAnswer standard c w best raised i ≡ (if allRefuted c w (isRaised raised) i (activeValues c w i) then Verdict.Yes else Verdict.No)
+  active-refuted-is i g =
+      let enough : tooFew c best raised ≡ false = rw (le-ltb (length best) (scopeCount c) (b .enough), le-ltb (length raised) (scopeCount c) room) in
+      sym (answer-given c w best raised i (limits-true h) (h .long) enough g ends)
+      ∙ ap (λ (x : Bool). if x then Verdict.Yes else Verdict.No)
+      (best-refuted (isRaised raised) (λ x u. refl) i g (setWhere c (hasBest c w best) i) (activeValues c w i) (λ k l.
+      ap (λ (s : ℕ). mark s k) (set-active i g) ∙ mark-byteOf (λ v. ltb v (c .d) && active c w i v 0) k l))
+    where
+      ends : someEdge c (endOutside c) ≡ false
+      ends = simp (tests, none-below) (λ e u. (omega (arith, h .shape .ascending e u, h .shape .below-n e u), h .shape .below-n e u))
+
+-- bytes that are 0 or 1
+pub marked-raised : (raised : List ℕ) (x : ℕ) → getD raised x 0 ≤ 1 → isRaised raised x ≡ isMarked raised x
+marked-raised raised x h = by (getD raised x 0) h
+  where
+    by : (b : ℕ) → b ≤ 1 → not (eqb b 0) ≡ eqb b 1
+    by zero h = refl
+    by (suc zero) h = refl
+    by (suc (suc b)) h = absurd (omega arith)

@@ -1,0 +1,70 @@
+-- What `active_marks` and `refuted` may take as known, by what the check of the case and the table answers. Assumes nothing.
+use mathlib.Core.Path.{_≡_}
+use mathlib.Core.Bool.{false, not}
+use mathlib.Core.Option.{none, some}
+use mathlib.Core.List.{List}
+use Prim.Native.Nat.{ℕ, _*_, _≤_, _<_}
+use native.Mathlib.Omega.{arith}
+use lib.IntN.{ℤ}
+use lib.Dec.{T, T-not, not-T, ltb, eqb, nltb→le}
+use lib.ListN.{length, getD}
+use Rattle.integers.specs.Words.{any}
+use Rattle.integers.specs.Tests.{tests}
+use Rattle.integers.specs.Tables.{any-getD}
+use Rattle.definitions.specs.declared.Case.{Case}
+use Rattle.definitions.specs.declared.Outcome.{Outcome}
+use Rattle.definitions.specs.declared.Refusal.{Refusal}
+use Rattle.definitions.specs.Rules.{standard}
+use Rattle.definitions.specs.Refusals.{firstOf}
+use Rattle.definitions.specs.Case.{scopeCount}
+use Rattle.definitions.specs.Answers.{outcomeOf}
+use Rattle.definitions.specs.Valid.{workingWeight, handedOver}
+use Rattle.definitions.specs.Lines.{overwritten}
+use Rattle.theory.proofs.Validity.{Handed}
+use Rattle.tables.proofs.Answered.{known, limits-known}
+use Rattle.tables.proofs.Order.{outcome-done, outcome-refused}
+use Rattle.arcs.specs.Active.{Sized, activeSets, activeRows, tooShort, activeRefusal, activeAnswer, setsAfter, rowsAfter}
+use Rattle.arcs.specs.Refuted.{argumentsOut}
+
+pub sized : {c : Case} {w : List ℤ} → Handed standard (workingWeight standard) c w → Sized c w
+sized h = record { limits = limits-known h; long = h .long }
+
+module _ (c : Case) (w : List ℤ) (sets rows : List ℕ) where
+  pub prepared-refused : {x : Refusal} → Outcome.Refused x ≡ outcomeOf (activeRefusal standard c w sets rows)
+      → (Outcome.Refused x ≡ activeAnswer standard c w sets rows) × ((sets ≡ setsAfter standard c w sets rows) × (rows ≡ rowsAfter standard c w sets rows))
+  unfolding activeAnswer setsAfter rowsAfter
+  prepared-refused {x} e = let r : activeRefusal standard c w sets rows ≡ some x = outcome-refused e in (e, (rw r, rw r))
+
+  module _ (e : Outcome.Done ≡ outcomeOf (activeRefusal standard c w sets rows)) where
+    pub prepared-done : (sets′ rows′ : List ℕ) → sets′ ≡ overwritten (activeSets c w) sets → rows′ ≡ overwritten (activeRows c w) rows
+        → (Outcome.Done ≡ activeAnswer standard c w sets rows) × ((sets′ ≡ setsAfter standard c w sets rows) × (rows′ ≡ rowsAfter standard c w sets rows))
+    unfolding activeAnswer setsAfter rowsAfter
+    prepared-done sets′ rows′ p q = let r : activeRefusal standard c w sets rows ≡ none = outcome-done e in (e, (rw r p, rw r q))
+
+    pub prepared-known : Sized c w × (c .n ≤ length sets) × (16 * c .m ≤ length rows)
+    prepared-known =
+        let k = known c w (tooShort c sets rows) false e in
+        let p = simp tests at (k .1) in
+        (sized (k .0), omega (arith, p .0), omega (arith, p .1))
+
+-- ---- the arguments of `refuted`
+
+module _ (c : Case) (w : List ℤ) (raised : List ℕ) (i k : ℕ) where
+  pub arguments-known : Outcome.Done ≡ outcomeOf (firstOf (handedOver standard (workingWeight standard) c w (not (eqb (length raised) (scopeCount c))) (argumentsOut c raised i k)))
+      → Handed standard (workingWeight standard) c w
+      × ((length raised ≡ scopeCount c) × ((x : ℕ) → x < scopeCount c → getD raised x 0 ≤ 1) × (i < c .n) × (k < c .d))
+  arguments-known e =
+      let (handed, right, in-range) = known c w (not (eqb (length raised) (scopeCount c))) (argumentsOut c raised i k) e in
+      let long : length raised ≡ scopeCount c = simp tests at right in
+      let p = simp tests at in-range in (
+        handed,
+        (
+          long,
+          λ x h. marked x (omega arith) (p .0 .0),
+          p .0 .1,
+          p .1,
+        ),
+      )
+    where
+      marked : (x : ℕ) → x < length raised → T (not (any (λ b. ltb 1 b) raised)) → getD raised x 0 ≤ 1
+      marked x h t = nltb→le 1 (getD raised x 0) (not-T (ltb 1 (getD raised x 0)) (λ s. T-not (any (λ b. ltb 1 b) raised) t (any-getD (λ b. ltb 1 b) raised 0 .1 (x, h, s))))

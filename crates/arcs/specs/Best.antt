@@ -1,0 +1,68 @@
+-- Refutation where each scope's greatest weight is given: a tuple counts as active if it has the weight that `best` holds for its scope. What is
+-- prepared as bytes, and the answer on all input. Assumes nothing.
+use mathlib.Core.Bool.{Bool, true, false, not, _||_}
+use mathlib.Core.Option.{Option}
+use mathlib.Core.List.{List, [], _∷_, map}
+use Prim.Native.Nat.{ℕ, _+_}
+use lib.IntN.{ℤ}
+use lib.Dec.{ltb, eqb}
+use lib.ListN.{length, getD, take, drop}
+use Rattle.integers.specs.Words.{if_then_else_, below, joined, eqZ}
+use Rattle.definitions.specs.declared.Case.{Case}
+use Rattle.definitions.specs.declared.Refusal.{Refusal}
+use Rattle.definitions.specs.declared.Refusal.the-variants.{OutOfRange}
+use Rattle.definitions.specs.declared.Verdict.{Verdict}
+use Rattle.definitions.specs.Rules.{Rules}
+use Rattle.definitions.specs.Refusals.{_when_, firstOf}
+use Rattle.definitions.specs.Case.{scopeCount, weight}
+use Rattle.definitions.specs.Valid.{limitTest, lengthTest, someEdge, endOutside}
+use Rattle.definitions.specs.Calls.{verdictOf}
+use Rattle.tables.specs.Scopes.{bestAt}
+use Rattle.marks.specs.Marks.{fullOf}
+use Rattle.arcs.specs.Active.{setWhere, rowWhere}
+use Rattle.arcs.specs.Tried.{triedAnswer}
+use Rattle.arcs.specs.declared.Tried.{Tried}
+use Rattle.arcs.specs.declared.Tried.the-variants.{Malformed, Refuted, Supported}
+
+abbrev pub hasBest : Case → List ℤ → List ℤ → ℕ → ℕ → ℕ → Bool
+hasBest c w best x k l = eqZ (weight c w x k l) (bestAt best x)
+
+-- raised scopes as bytes that are not 0
+abbrev pub isRaised : List ℕ → ℕ → Bool
+isRaised raised x = not (eqb (getD raised x 0) 0)
+
+-- the allowed values of variable j, and the sixteen bytes of edge e, which are never looked at if it is not raised
+abbrev pub allowedBest : Case → List ℤ → List ℤ → List ℕ → ℕ → ℕ
+allowedBest c w best raised j = if isRaised raised j then setWhere c (hasBest c w best) j else fullOf (c .d)
+
+abbrev pub partnersBest : Case → List ℤ → List ℤ → List ℕ → ℕ → ℕ → ℕ
+partnersBest c w best raised e p = if isRaised raised (c .n + e) then rowWhere c (hasBest c w best) e p else 0
+
+unfoldable pub bestSets : Case → List ℤ → List ℤ → List ℕ → List ℕ
+bestSets c w best raised = map (allowedBest c w best raised) (below (c .n))
+
+unfoldable pub bestRows : Case → List ℤ → List ℤ → List ℕ → List ℕ
+bestRows c w best raised = joined (map (λ e. map (partnersBest c w best raised e) (below 16)) (below (c .m)))
+
+abbrev pub isRefuted : Tried → Bool
+isRefuted Refuted = true
+isRefuted Supported = false
+isRefuted Malformed = false
+
+-- all of `values` are refuted for variable i
+unfoldable pub bestRefuted : Case → List ℤ → List ℤ → List ℕ → ℕ → ℕ → Bool
+bestRefuted c w best raised i values =
+    isRefuted (triedAnswer (c .lower) (c .upper) (bestRows c w best raised) (take (c .m) (drop (c .n) raised)) (bestSets c w best raised) i values)
+
+abbrev pub tooFew : Case → List ℤ → List ℕ → Bool
+tooFew c best raised = ltb (length best) (scopeCount c) || ltb (length raised) (scopeCount c)
+
+module _ (r : Rules) where
+  -- numbers 3, 4 and 5
+  abbrev pub bestRefusal : Case → List ℤ → List ℤ → List ℕ → ℕ → Option Refusal
+  bestRefusal c w best raised i =
+      firstOf (limitTest r c ∷ lengthTest c w (tooFew c best raised) ∷ OutOfRange when (not (ltb i (c .n)) || someEdge c (endOutside c)) ∷ [])
+
+  unfoldable pub activeRefutedAnswer : Case → List ℤ → List ℤ → List ℕ → ℕ → Verdict
+  activeRefutedAnswer c w best raised i =
+      verdictOf (bestRefusal c w best raised i) (bestRefuted c w best raised i (setWhere c (hasBest c w best) i))

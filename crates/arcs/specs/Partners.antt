@@ -1,0 +1,28 @@
+-- The search for partners: a row holds the marks of a value's partners. Assumes nothing.
+use mathlib.Core.Bool.{Bool, _&&_}
+use mathlib.Core.Option.{Option, none, some}
+use mathlib.Core.List.{List}
+use Prim.Native.Nat.{ℕ, _+_}
+use lib.ListN.{getD}
+use Rattle.integers.specs.Words.{below, any, those, first}
+use Rattle.marks.specs.Marks.{mark, byteOf}
+use Rattle.arcs.specs.declared.Partner.{Partner}
+use Rattle.arcs.specs.declared.Partner.the-variants.{At, Nothing}
+
+-- l is a partner in the set `other`
+abbrev pub isPartner : ℕ → ℕ → ℕ → Bool
+isPartner row other l = mark row l && mark other l
+
+abbrev pub hasPartner : ℕ → ℕ → Bool
+hasPartner row other = any (isPartner row other) (below 8)
+
+abbrev pub partnerOf : Option ℕ → Partner
+partnerOf none = Nothing
+partnerOf (some l) = At l
+
+unfoldable pub lowestPartner : ℕ → ℕ → Partner
+lowestPartner row other = partnerOf (first (those (isPartner row other) (below 8)))
+
+-- the values of `set` that have a partner in `other`; the row of value k stands at place `at` + k
+unfoldable pub supportedValues : List ℕ → ℕ → ℕ → ℕ → ℕ
+supportedValues rows at set other = byteOf (λ k. mark set k && hasPartner (getD rows (at + k) 0) other)

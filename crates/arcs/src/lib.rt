@@ -1,0 +1,886 @@
+// Refutation by arc consistency (document 01, "Refutation").
+use definitions::Case;
+use definitions::Outcome;
+use definitions::Refusal;
+use definitions::Verdict;
+ghost use mathlib.Core.Path.{_≡_};
+ghost use mathlib.Core.Bool.{not, _&&_, _||_};
+ghost use Prim.Native.Nat.{ℕ, _+_, _*_, _≤_, _<_};
+ghost use lib.Dec.{T, ltb, eqb};
+ghost use lib.ListN.{length, getD, set, replicate};
+ghost use Rattle.integers.specs.Words.{if_then_else_, below, any, eqZ};
+ghost use Rattle.definitions.specs.Rules.{standard};
+ghost use Rattle.definitions.specs.Case.{scopeCount, lentLength, greatest};
+ghost use Rattle.definitions.specs.Calls.{refutedAnswer};
+ghost use Rattle.definitions.specs.Valid.{someEdge, endOutside as edgeOutside};
+ghost use Rattle.definitions.specs.Lines.{overwritten};
+ghost use Rattle.tables.specs.Scopes.{Limited};
+ghost use Rattle.marks.specs.Marks.{mark};
+ghost use Rattle.arcs.specs.Partners.{lowestPartner, supportedValues};
+ghost use Rattle.arcs.specs.Closure.{networkOfBytes, setsOf, endOutside, isMalformed, closureAnswer, closureSets};
+ghost use Rattle.arcs.specs.Tried.{hasFamily, noneHas, triedAnswer};
+ghost use Rattle.arcs.specs.declared.Tried.{Tried};
+ghost use Rattle.arcs.specs.Sweeps.{WellFormed, Filled, Swept, Settled, changeOf, bothOf, keptOf, Seen};
+ghost use Rattle.arcs.specs.Active.{bestValues, setWhere, rowWhere, hasWeight, Sized, AddedBelow, Crossed, activeSet, activeSets, activeRows, Written, activeAnswer, setsAfter, rowsAfter};
+ghost use Rattle.arcs.specs.Best.{allowedBest, partnersBest, bestRows, isRefuted, bestRefuted, activeRefutedAnswer};
+ghost use Rattle.arcs.specs.Refuted.{argumentsOut};
+
+pub enum Partner {
+    At(u8),
+    Nothing,
+}
+
+// What is left of the given sets: a supported family, or none.
+pub enum Closed {
+    Family,
+    Empty,
+    Malformed,
+}
+
+// What is left where each of some values is fixed alone: no family for any of them, or a family for one.
+pub enum Tried {
+    Refuted,
+    Supported,
+    Malformed,
+}
+
+// The most variables that a case has (document 01).
+const VARIABLES: usize = 48;
+
+// ---- the search for partners
+
+// The values of `set` that have a partner in `other`. The partners of value k stand at rows[at + k].
+fn supported(rows: &[u8], at: usize, set: u8, other: u8) -> u8
+    requires { ⌜ at + 8 ≤ length (now rows) ⌝ }
+    ensures { λ r. ⌜ r ≡ supportedValues (now (rows .entry)) at set other ⌝ }
+{
+    let mut kept = set;
+    let mut left = set;
+    'values: while left != 0 {
+        let k = marks::lowest(left);
+        left = marks::strike(left, k);
+        let mut rest = rows[at + k as usize];
+        let found = 'partners: loop {
+            if rest == 0 {
+                break 'partners Partner::Nothing;
+            }
+            let l = marks::lowest(rest);
+            if marks::has(other, l) {
+                break 'partners Partner::At(l);
+            }
+            rest = marks::strike(rest, l);
+        };
+        if let Partner::Nothing = found {
+            kept = marks::strike(kept, k);
+        }
+    }
+    kept
+}
+
+// ---- the closure
+
+// What was done to the sets: nothing, a value was struck, a set is empty.
+enum Change {
+    Still,
+    Struck,
+    Emptied,
+}
+
+fn change_of(own: u8, kept: u8) -> Change
+    ensures { λ r. ⌜ r ≡ changeOf own kept ⌝ }
+{
+    if kept == 0 {
+        return Change::Emptied;
+    }
+    if kept == own {
+        return Change::Still;
+    }
+    Change::Struck
+}
+
+fn both(first: Change, second: Change) -> Change
+    ensures { λ r. ⌜ r ≡ bothOf first second ⌝ }
+{
+    match first {
+        Change::Emptied => Change::Emptied,
+        Change::Still => second,
+        Change::Struck => match second {
+            Change::Emptied => Change::Emptied,
+            Change::Still => Change::Struck,
+            Change::Struck => Change::Struck,
+        },
+    }
+}
+
+fn pair(own: u8, other: u8) -> u16
+    ensures { λ r. ⌜ r ≡ own + 256 * other ⌝ }
+{
+    own as u16 + 256 * (other as u16)
+}
+
+// The values of `own` that have a partner in `other`. The partners of an arc's values stand from rows[8 * arc] on; seen[arc] is a pair of sets
+// from which nothing is struck.
+fn kept_values(rows: &[u8], arc: usize, own: u8, other: u8, seen: &mut [u16]) -> u8
+    requires { ⌜ (8 * arc + 8 ≤ length (now rows)) × Seen (now rows) (now seen) ⌝ }
+    ensures { λ r. ⌜ r ≡ supportedValues (now (rows .entry)) (8 * arc) own other ⌝ }
+    ensures { λ r. ⌜ Seen (now (rows .entry)) (now (seen .exit)) ⌝ }
+{
+    if seen.len() <= arc {
+        return supported(rows, 8 * arc, own, other);
+    }
+    if seen[arc] == pair(own, other) {
+        return own;
+    }
+    let kept = supported(rows, 8 * arc, own, other);
+    seen[arc] = pair(kept, other);
+    kept
+}
+
+// Strikes the values of variable i that have no partner in variable j's set.
+fn revise(rows: &[u8], arc: usize, sets: &mut [u8], i: usize, j: usize, seen: &mut [u16]) -> Change
+    requires { ⌜ (8 * arc + 8 ≤ length (now rows)) × Seen (now rows) (now seen) ⌝ }
+    requires { ⌜ (i < length (now sets)) × (j < length (now sets)) ⌝ }
+    ensures { λ r. ⌜ now (sets .exit) ≡ set (now (sets .entry)) i (keptOf (now (rows .entry)) (8 * arc) i j (now (sets .entry))) ⌝ }
+    ensures { λ r. ⌜ r ≡ changeOf (getD (now (sets .entry)) i 0) (keptOf (now (rows .entry)) (8 * arc) i j (now (sets .entry))) ⌝ }
+    ensures { λ r. ⌜ Seen (now (rows .entry)) (now (seen .exit)) ⌝ }
+{
+    let own = sets[i];
+    let kept = kept_values(rows, arc, own, sets[j], seen);
+    sets[i] = kept;
+    change_of(own, kept)
+}
+
+// Both ends of edge e, if it is raised.
+fn revise_edge(
+    lower: &[u8],
+    upper: &[u8],
+    rows: &[u8],
+    raised: &[u8],
+    e: usize,
+    sets: &mut [u8],
+    seen: &mut [u16],
+) -> Change
+    requires { ⌜ WellFormed (length (now sets)) (now lower) (now upper) (now rows) (now raised) ⌝ }
+    requires { ⌜ (e < length (now raised)) × Seen (now rows) (now seen) ⌝ }
+    ensures { λ r. ⌜ Swept (networkOfBytes (length (now (sets .entry))) (now (lower .entry)) (now (upper .entry)) (now (rows .entry)) (now (raised .entry))) (λ f up. f ≡ e) (now (sets .entry)) (now (sets .exit)) r ⌝ }
+    ensures { λ r. ⌜ Seen (now (rows .entry)) (now (seen .exit)) ⌝ }
+{
+    if raised[e] == 0 {
+        return Change::Still;
+    }
+    let i = lower[e] as usize;
+    let j = upper[e] as usize;
+    let first = revise(rows, 2 * e, sets, i, j, seen);
+    let second = revise(rows, 2 * e + 1, sets, j, i, seen);
+    both(first, second)
+}
+
+// All edges once, or up to the first set that is empty.
+fn sweep(
+    lower: &[u8],
+    upper: &[u8],
+    rows: &[u8],
+    raised: &[u8],
+    sets: &mut [u8],
+    seen: &mut [u16],
+) -> Change
+    requires { ⌜ WellFormed (length (now sets)) (now lower) (now upper) (now rows) (now raised) ⌝ }
+    requires { ⌜ Seen (now rows) (now seen) ⌝ }
+    ensures { λ r. ⌜ Swept (networkOfBytes (length (now (sets .entry))) (now (lower .entry)) (now (upper .entry)) (now (rows .entry)) (now (raised .entry))) (λ f up. f < length (now (raised .entry))) (now (sets .entry)) (now (sets .exit)) r ⌝ }
+    ensures { λ r. ⌜ Seen (now (rows .entry)) (now (seen .exit)) ⌝ }
+{
+    let mut change = Change::Still;
+    let mut e: usize = 0;
+    while e < raised.len() {
+        let next = revise_edge(lower, upper, rows, raised, e, sets, seen);
+        change = both(change, next);
+        if let Change::Emptied = change {
+            return Change::Emptied;
+        }
+        e += 1;
+    }
+    change
+}
+
+// Sweeps until nothing changes or a set is empty. Whether a family is left.
+fn settle(
+    lower: &[u8],
+    upper: &[u8],
+    rows: &[u8],
+    raised: &[u8],
+    sets: &mut [u8],
+    seen: &mut [u16],
+) -> bool
+    requires { ⌜ WellFormed (length (now sets)) (now lower) (now upper) (now rows) (now raised) ⌝ }
+    requires { ⌜ Filled (now sets) × Seen (now rows) (now seen) ⌝ }
+    ensures { λ r. ⌜ Settled (networkOfBytes (length (now (sets .entry))) (now (lower .entry)) (now (upper .entry)) (now (rows .entry)) (now (raised .entry))) (setsOf (now (sets .entry))) (now (sets .exit)) r ⌝ }
+    ensures { λ r. ⌜ Seen (now (rows .entry)) (now (seen .exit)) ⌝ }
+{
+    loop {
+        let change = sweep(lower, upper, rows, raised, sets, seen);
+        match change {
+            Change::Still => return true,
+            Change::Emptied => return false,
+            Change::Struck => {}
+        }
+    }
+}
+
+fn has_empty(sets: &[u8]) -> bool
+    ensures { λ r. ⌜ r ≡ any (λ s. eqb s 0) (now (sets .entry)) ⌝ }
+{
+    let mut j: usize = 0;
+    while j < sets.len() {
+        if sets[j] == 0 {
+            return true;
+        }
+        j += 1;
+    }
+    false
+}
+
+fn narrow(lower: &[u8], upper: &[u8], rows: &[u8], raised: &[u8], sets: &mut [u8]) -> bool
+    requires { ⌜ WellFormed (length (now sets)) (now lower) (now upper) (now rows) (now raised) ⌝ }
+    ensures { λ r. ⌜ Settled (networkOfBytes (length (now (sets .entry))) (now (lower .entry)) (now (upper .entry)) (now (rows .entry)) (now (raised .entry))) (setsOf (now (sets .entry))) (now (sets .exit)) r ⌝ }
+{
+    if has_empty(sets) {
+        return false;
+    }
+    let mut seen = [0u16; 192];
+    settle(lower, upper, rows, raised, sets, &mut seen)
+}
+
+fn clear(sets: &mut [u8])
+    ensures { λ r. ⌜ now (sets .exit) ≡ replicate (length (now (sets .entry))) 0 ⌝ }
+{
+    let mut j: usize = 0;
+    while j < sets.len() {
+        sets[j] = 0;
+        j += 1;
+    }
+}
+
+fn end_outside(i: u8, j: u8, n: usize) -> bool
+    ensures { λ r. ⌜ r ≡ not (ltb i n && ltb j n) ⌝ }
+{
+    if (i as usize) < n {
+        return !((j as usize) < n);
+    }
+    true
+}
+
+fn some_end_outside(lower: &[u8], upper: &[u8], edges: usize, n: usize) -> bool
+    requires { ⌜ (edges ≤ length (now lower)) × (edges ≤ length (now upper)) ⌝ }
+    ensures { λ r. ⌜ r ≡ any (endOutside n (now (lower .entry)) (now (upper .entry))) (below edges) ⌝ }
+{
+    let mut e: usize = 0;
+    while e < edges {
+        if end_outside(lower[e], upper[e], n) {
+            return true;
+        }
+        e += 1;
+    }
+    false
+}
+
+fn is_malformed(lower: &[u8], upper: &[u8], rows: &[u8], raised: &[u8], n: usize) -> bool
+    ensures { λ r. ⌜ r ≡ isMalformed n (now (lower .entry)) (now (upper .entry)) (now (rows .entry)) (now (raised .entry)) ⌝ }
+{
+    let edges = raised.len();
+    if lower.len() < edges {
+        return true;
+    }
+    if upper.len() < edges {
+        return true;
+    }
+    if rows.len() / 16 < edges {
+        return true;
+    }
+    some_end_outside(lower, upper, edges, n)
+}
+
+// ---- values tried one by one
+
+fn copy_sets(sets: &[u8], work: &mut [u8])
+    requires { ⌜ length (now work) ≡ length (now sets) ⌝ }
+    ensures { λ r. ⌜ now (work .exit) ≡ now (sets .entry) ⌝ }
+{
+    let mut j: usize = 0;
+    while j < sets.len() {
+        work[j] = sets[j];
+        j += 1;
+    }
+}
+
+// Whether value k of `variable`, fixed alone, leaves a family. The sets are narrowed in `work`.
+fn has_family(
+    lower: &[u8],
+    upper: &[u8],
+    rows: &[u8],
+    raised: &[u8],
+    sets: &[u8],
+    variable: usize,
+    k: u8,
+    seen: [u16; 192],
+    work: &mut [u8],
+) -> bool
+    requires { ⌜ WellFormed (length (now sets)) (now lower) (now upper) (now rows) (now raised) ⌝ }
+    requires { ⌜ Filled (now sets) × (variable < length (now sets)) × (length (now work) ≡ length (now sets)) ⌝ }
+    requires { ⌜ T (mark (getD (now sets) variable 0) k) × Seen (now rows) seen ⌝ }
+    ensures { λ r. ⌜ r ≡ hasFamily (networkOfBytes (length (now (sets .entry))) (now (lower .entry)) (now (upper .entry)) (now (rows .entry)) (now (raised .entry))) (now (sets .entry)) variable k ⌝ }
+{
+    let mut known = seen;
+    copy_sets(sets, work);
+    work[variable] = marks::only(k);
+    settle(lower, upper, rows, raised, work, &mut known)
+}
+
+// Whether none of `values` has a family, each tried alone.
+fn none_alone(
+    lower: &[u8],
+    upper: &[u8],
+    rows: &[u8],
+    raised: &[u8],
+    sets: &[u8],
+    variable: usize,
+    values: u8,
+    seen: [u16; 192],
+    work: &mut [u8],
+) -> bool
+    requires { ⌜ WellFormed (length (now sets)) (now lower) (now upper) (now rows) (now raised) ⌝ }
+    requires { ⌜ Filled (now sets) × (variable < length (now sets)) × (length (now work) ≡ length (now sets)) × Seen (now rows) seen ⌝ }
+    ensures { λ r. ⌜ r ≡ noneHas (hasFamily (networkOfBytes (length (now (sets .entry))) (now (lower .entry)) (now (upper .entry)) (now (rows .entry)) (now (raised .entry))) (now (sets .entry)) variable) values ⌝ }
+{
+    let mut left = marks::common(values, sets[variable]);
+    while left != 0 {
+        let k = marks::lowest(left);
+        if has_family(lower, upper, rows, raised, sets, variable, k, seen, work) {
+            return false;
+        }
+        left = marks::strike(left, k);
+    }
+    true
+}
+
+// Whether none of `values` has a family. Where there are several to try, what no family has is struck first, in `near`.
+fn none_has(
+    lower: &[u8],
+    upper: &[u8],
+    rows: &[u8],
+    raised: &[u8],
+    sets: &[u8],
+    variable: usize,
+    values: u8,
+    near: &mut [u8],
+    work: &mut [u8],
+) -> bool
+    requires { ⌜ WellFormed (length (now sets)) (now lower) (now upper) (now rows) (now raised) ⌝ }
+    requires { ⌜ Filled (now sets) × (variable < length (now sets)) × (length (now near) ≡ length (now sets)) × (length (now work) ≡ length (now sets)) ⌝ }
+    ensures { λ r. ⌜ r ≡ noneHas (hasFamily (networkOfBytes (length (now (sets .entry))) (now (lower .entry)) (now (upper .entry)) (now (rows .entry)) (now (raised .entry))) (now (sets .entry)) variable) values ⌝ }
+{
+    let mut seen = [0u16; 192];
+    let left = marks::common(sets[variable], values);
+    if left == 0 {
+        return true;
+    }
+    if marks::is_single(left) {
+        return none_alone(
+            lower,
+            upper,
+            rows,
+            raised,
+            sets,
+            variable,
+            values,
+            seen,
+            work,
+        );
+    }
+    copy_sets(sets, near);
+    near[variable] = left;
+    if settle(lower, upper, rows, raised, near, &mut seen) {
+        return none_alone(
+            lower,
+            upper,
+            rows,
+            raised,
+            near,
+            variable,
+            values,
+            seen,
+            work,
+        );
+    }
+    true
+}
+
+fn tried_of(refuted: bool) -> Tried
+    ensures { λ r. ⌜ r ≡ (if refuted then Tried.Refuted else Tried.Supported) ⌝ }
+{
+    if refuted {
+        return Tried::Refuted;
+    }
+    Tried::Supported
+}
+
+// ---- what is prepared once for a table
+
+fn same(a: i64, b: i64) -> bool
+    ensures { λ r. ⌜ r ≡ eqZ a b ⌝ }
+{
+    if a == b {
+        return true;
+    }
+    false
+}
+
+// The values below d whose weight is `best`. The weight of value j stands at table[from + j].
+fn best_values(table: &[i64], from: usize, d: usize, best: i64) -> u8
+    requires { ⌜ (d ≤ 8) × (from + d ≤ length (now table)) ⌝ }
+    ensures { λ r. ⌜ r ≡ bestValues (now (table .entry)) from d best ⌝ }
+{
+    let mut set: u8 = 0;
+    let mut j = d;
+    while j > 0 {
+        j -= 1;
+        let weight = table[from + j];
+        set = marks::push(set, same(weight, best));
+    }
+    set
+}
+
+// The values of variable j whose weight is `best`.
+fn set_with(case: Case, table: &[i64], j: usize, best: i64) -> u8
+    requires { ⌜ Sized case (now table) ⌝ }
+    requires { ⌜ j < case .n ⌝ }
+    ensures { λ r. ⌜ r ≡ setWhere case (hasWeight case (now (table .entry)) best) j ⌝ }
+{
+    let d = case.d;
+    best_values(table, j * d, d, best)
+}
+
+fn active_values(case: Case, table: &[i64], j: usize) -> u8
+    requires { ⌜ Sized case (now table) ⌝ }
+    requires { ⌜ j < case .n ⌝ }
+    ensures { λ r. ⌜ r ≡ activeSet case (now (table .entry)) j ⌝ }
+{
+    let d = case.d;
+    let first = j * d;
+    let end = first + d;
+    let best = tables::greatest(&table[first..end]);
+    set_with(case, table, j, best)
+}
+
+fn edge_greatest(case: Case, table: &[i64], e: usize) -> i64
+    requires { ⌜ Sized case (now table) ⌝ }
+    requires { ⌜ e < case .m ⌝ }
+    ensures { λ r. ⌜ r ≡ greatest case (now (table .entry)) (case .n + e) ⌝ }
+{
+    let size = case.d * case.d;
+    let first = case.n * case.d + e * size;
+    let end = first + size;
+    tables::greatest(&table[first..end])
+}
+
+// Adds value k to byte 8 + l for each value l of `row`.
+fn add_below(bytes: &mut [u8; 16], row: u8, k: u8)
+    requires { ⌜ length (now bytes) ≡ 16 ⌝ }
+    ensures { λ _. ⌜ AddedBelow row k (now (bytes .entry)) (now (bytes .exit)) ⌝ }
+{
+    let mut left = row;
+    while left != 0 {
+        let l = marks::lowest(left);
+        let at = 8 + l as usize;
+        bytes[at] = marks::add(bytes[at], k);
+        left = marks::strike(left, l);
+    }
+}
+
+// The sixteen bytes of the d · d weights from table[first] on: the partners whose weight is `best`.
+fn edge_bytes(table: &[i64], first: usize, d: usize, best: i64) -> [u8; 16]
+    requires { ⌜ (d ≤ 8) × (first + d * d ≤ length (now table)) ⌝ }
+    ensures { λ r. ⌜ Crossed (λ k. bestValues (now (table .entry)) (first + k * d) d best) d r ⌝ }
+{
+    let mut bytes = [0u8; 16];
+    let mut k: usize = 0;
+    while k < d {
+        let row = best_values(table, first + k * d, d, best);
+        bytes[k] = row;
+        add_below(&mut bytes, row, k as u8);
+        k += 1;
+    }
+    bytes
+}
+
+fn put_bytes(bytes: &[u8; 16], rows: &mut [u8], at: usize)
+    requires { ⌜ at + 16 ≤ length (now rows) ⌝ }
+    ensures { λ _. ⌜ Written (λ p. getD (now (bytes .entry)) p 0) at 16 (now (rows .entry)) (now (rows .exit)) ⌝ }
+{
+    let mut p: usize = 0;
+    while p < 16 {
+        rows[at + p] = bytes[p];
+        p += 1;
+    }
+}
+
+fn write_sets(case: Case, table: &[i64], sets: &mut [u8])
+    requires { ⌜ Sized case (now table) ⌝ }
+    requires { ⌜ case .n ≤ length (now sets) ⌝ }
+    ensures { λ r. ⌜ now (sets .exit) ≡ overwritten (activeSets case (now (table .entry))) (now (sets .entry)) ⌝ }
+{
+    let n = case.n;
+    let mut j: usize = 0;
+    while j < n {
+        sets[j] = active_values(case, table, j);
+        j += 1;
+    }
+}
+
+fn write_edge(case: Case, table: &[i64], e: usize, best: i64, rows: &mut [u8])
+    requires { ⌜ Sized case (now table) ⌝ }
+    requires { ⌜ (e < case .m) × (16 * e + 16 ≤ length (now rows)) ⌝ }
+    ensures { λ r. ⌜ Written (rowWhere case (hasWeight case (now (table .entry)) best) e) (16 * e) 16 (now (rows .entry)) (now (rows .exit)) ⌝ }
+{
+    let d = case.d;
+    let first = case.n * d + e * (d * d);
+    let bytes = edge_bytes(table, first, d, best);
+    put_bytes(&bytes, rows, 16 * e);
+}
+
+fn write_rows(case: Case, table: &[i64], rows: &mut [u8])
+    requires { ⌜ Sized case (now table) ⌝ }
+    requires { ⌜ 16 * case .m ≤ length (now rows) ⌝ }
+    ensures { λ r. ⌜ now (rows .exit) ≡ overwritten (activeRows case (now (table .entry))) (now (rows .entry)) ⌝ }
+{
+    let m = case.m;
+    let mut e: usize = 0;
+    while e < m {
+        let best = edge_greatest(case, table, e);
+        write_edge(case, table, e, best, rows);
+        e += 1;
+    }
+}
+
+fn too_short(case: Case, sets: usize, rows: usize) -> bool
+    ensures { λ r. ⌜ r ≡ (ltb sets (case .n) || ltb rows (16 * case .m)) ⌝ }
+{
+    if sets < case.n {
+        return true;
+    }
+    rows / 16 < case.m
+}
+
+// ---- refutation, each scope's greatest weight given
+
+fn allowed_set(case: Case, table: &[i64], best: &[i64], raised: &[u8], j: usize) -> u8
+    requires { ⌜ Sized case (now table) ⌝ }
+    requires { ⌜ (scopeCount case ≤ length (now best)) × (scopeCount case ≤ length (now raised)) × (j < case .n) ⌝ }
+    ensures { λ r. ⌜ r ≡ allowedBest case (now (table .entry)) (now (best .entry)) (now (raised .entry)) j ⌝ }
+{
+    if raised[j] == 0 {
+        return marks::full(case.d as u8);
+    }
+    set_with(case, table, j, best[j])
+}
+
+fn prepare_sets(case: Case, table: &[i64], best: &[i64], raised: &[u8], sets: &mut [u8])
+    requires { ⌜ Sized case (now table) ⌝ }
+    requires { ⌜ (scopeCount case ≤ length (now best)) × (scopeCount case ≤ length (now raised)) × (case .n ≤ length (now sets)) ⌝ }
+    ensures { λ r. ⌜ Written (allowedBest case (now (table .entry)) (now (best .entry)) (now (raised .entry))) 0 (case .n) (now (sets .entry)) (now (sets .exit)) ⌝ }
+{
+    let n = case.n;
+    let mut j: usize = 0;
+    while j < n {
+        sets[j] = allowed_set(case, table, best, raised, j);
+        j += 1;
+    }
+}
+
+// The bytes of an edge that is not raised stay 0.
+fn prepare_edge(case: Case, table: &[i64], best: &[i64], raised: &[u8], e: usize, rows: &mut [u8])
+    requires { ⌜ Sized case (now table) ⌝ }
+    requires { ⌜ (scopeCount case ≤ length (now best)) × (scopeCount case ≤ length (now raised)) × (e < case .m) × (16 * e + 16 ≤ length (now rows)) ⌝ }
+    requires { ⌜ ((p : ℕ) → p < 16 → getD (now rows) (16 * e + p) 0 ≡ 0) ⌝ }
+    ensures { λ r. ⌜ Written (partnersBest case (now (table .entry)) (now (best .entry)) (now (raised .entry)) e) (16 * e) 16 (now (rows .entry)) (now (rows .exit)) ⌝ }
+{
+    let x = case.n + e;
+    if raised[x] != 0 {
+        write_edge(case, table, e, best[x], rows);
+    }
+}
+
+fn prepare_rows(case: Case, table: &[i64], best: &[i64], raised: &[u8], rows: &mut [u8])
+    requires { ⌜ Sized case (now table) ⌝ }
+    requires { ⌜ (scopeCount case ≤ length (now best)) × (scopeCount case ≤ length (now raised)) × (16 * case .m ≤ length (now rows)) ⌝ }
+    requires { ⌜ ((q : ℕ) → getD (now rows) q 0 ≡ 0) ⌝ }
+    ensures { λ r. ⌜ Written (λ q. getD (bestRows case (now (table .entry)) (now (best .entry)) (now (raised .entry))) q 0) 0 (16 * case .m) (now (rows .entry)) (now (rows .exit)) ⌝ }
+{
+    let m = case.m;
+    let mut e: usize = 0;
+    while e < m {
+        prepare_edge(case, table, best, raised, e, rows);
+        e += 1;
+    }
+}
+
+fn is_refuted(tried: Tried) -> bool
+    ensures { λ r. ⌜ r ≡ isRefuted tried ⌝ }
+{
+    match tried {
+        Tried::Refuted => true,
+        Tried::Supported => false,
+        Tried::Malformed => false,
+    }
+}
+
+fn are_refuted(
+    case: Case,
+    table: &[i64],
+    best: &[i64],
+    raised: &[u8],
+    variable: usize,
+    values: u8,
+) -> bool
+    requires { ⌜ Sized case (now table) ⌝ }
+    requires { ⌜ (scopeCount case ≤ length (now best)) × (scopeCount case ≤ length (now raised)) ⌝ }
+    ensures { λ r. ⌜ r ≡ bestRefuted case (now (table .entry)) (now (best .entry)) (now (raised .entry)) variable values ⌝ }
+{
+    let n = case.n;
+    let s = n + case.m;
+    let long = 16 * case.m;
+    let lower = case.lower;
+    let upper = case.upper;
+    let mut sets = [0u8; 48];
+    let mut rows = [0u8; 1536];
+    prepare_sets(case, table, best, raised, &mut sets);
+    prepare_rows(case, table, best, raised, &mut rows);
+    is_refuted(all_refuted(
+        &lower,
+        &upper,
+        &rows[..long],
+        &raised[n..s],
+        &sets[..n],
+        variable,
+        values,
+    ))
+}
+
+fn too_few(case: Case, best: usize, raised: usize) -> bool
+    requires { ⌜ Limited standard case ⌝ }
+    ensures { λ r. ⌜ r ≡ (ltb best (scopeCount case) || ltb raised (scopeCount case)) ⌝ }
+{
+    let s = case.n + case.m;
+    if best < s {
+        return true;
+    }
+    raised < s
+}
+
+fn table_length(case: Case) -> usize
+    requires { ⌜ Limited standard case ⌝ }
+    ensures { λ r. ⌜ r ≡ lentLength case ⌝ }
+{
+    case.n * case.d + case.m * (case.d * case.d)
+}
+
+fn edge_outside(case: Case) -> bool
+    requires { ⌜ Limited standard case ⌝ }
+    ensures { λ r. ⌜ r ≡ someEdge case (edgeOutside case) ⌝ }
+{
+    let lower = case.lower;
+    let upper = case.upper;
+    some_end_outside(&lower, &upper, case.m, case.n)
+}
+
+fn other_length(length: usize, n: usize, m: usize) -> bool
+    ensures { λ r. ⌜ r ≡ not (eqb length (n + m)) ⌝ }
+{
+    if length < n {
+        return true;
+    }
+    length - n != m
+}
+
+fn has_other_mark(raised: &[u8]) -> bool
+    ensures { λ r. ⌜ r ≡ any (λ b. ltb 1 b) (now (raised .entry)) ⌝ }
+{
+    let mut x: usize = 0;
+    while x < raised.len() {
+        if 1 < raised[x] {
+            return true;
+        }
+        x += 1;
+    }
+    false
+}
+
+fn arguments_out(case: Case, raised: &[u8], variable: usize, value: usize) -> bool
+    ensures { λ r. ⌜ r ≡ argumentsOut case (now (raised .entry)) variable value ⌝ }
+{
+    if has_other_mark(raised) {
+        return true;
+    }
+    if case.n <= variable {
+        return true;
+    }
+    case.d <= value
+}
+
+fn verdict(yes: bool) -> Verdict
+    ensures { λ r. ⌜ r ≡ (if yes then Verdict.Yes else Verdict.No) ⌝ }
+{
+    if yes {
+        return Verdict::Yes;
+    }
+    Verdict::No
+}
+
+// ---- the calls
+
+// The lowest value of both: `row` holds a value's partners, `other` is the other end's set.
+pub fn lowest_partner(row: u8, other: u8) -> Partner
+    ensures { λ r. ⌜ r ≡ lowestPartner row other ⌝ }
+{
+    let mut left = row;
+    let found = 'partners: loop {
+        if left == 0 {
+            break 'partners Partner::Nothing;
+        }
+        let l = marks::lowest(left);
+        if marks::has(other, l) {
+            break 'partners Partner::At(l);
+        }
+        left = marks::strike(left, l);
+    };
+    found
+}
+
+// Takes `sets` to the largest supported family inside them. There are raised.len() edges; edge e joins lower[e] and upper[e]. The 16 bytes
+// from rows[16 * e] on are the partners of each value of the lower end, then of the upper end; an edge whose byte is 0 allows everything.
+pub fn closure(lower: &[u8], upper: &[u8], rows: &[u8], raised: &[u8], sets: &mut [u8]) -> Closed
+    ensures { λ r. ⌜ r ≡ closureAnswer (now (lower .entry)) (now (upper .entry)) (now (rows .entry)) (now (raised .entry)) (now (sets .entry)) ⌝ }
+    ensures { λ r. ⌜ now (sets .exit) ≡ closureSets (now (lower .entry)) (now (upper .entry)) (now (rows .entry)) (now (raised .entry)) (now (sets .entry)) ⌝ }
+{
+    if is_malformed(lower, upper, rows, raised, sets.len()) {
+        return Closed::Malformed;
+    }
+    if narrow(lower, upper, rows, raised, sets) {
+        return Closed::Family;
+    }
+    clear(sets);
+    Closed::Empty
+}
+
+// Whether each of `values` (marks), fixed alone in the set of `variable`, leaves no supported family inside `sets`. The other bytes are as
+// `closure` takes them.
+pub fn all_refuted(
+    lower: &[u8],
+    upper: &[u8],
+    rows: &[u8],
+    raised: &[u8],
+    sets: &[u8],
+    variable: usize,
+    values: u8,
+) -> Tried
+    ensures { λ r. ⌜ r ≡ triedAnswer (now (lower .entry)) (now (upper .entry)) (now (rows .entry)) (now (raised .entry)) (now (sets .entry)) variable values ⌝ }
+{
+    let n = sets.len();
+    if VARIABLES < n {
+        return Tried::Malformed;
+    }
+    if n <= variable {
+        return Tried::Malformed;
+    }
+    if is_malformed(lower, upper, rows, raised, n) {
+        return Tried::Malformed;
+    }
+    if has_empty(sets) {
+        return Tried::Refuted;
+    }
+    let mut near = [0u8; 48];
+    let mut work = [0u8; 48];
+    tried_of(none_has(
+        lower,
+        upper,
+        rows,
+        raised,
+        sets,
+        variable,
+        values,
+        &mut near[..n],
+        &mut work[..n],
+    ))
+}
+
+// Writes the active values of each variable to the first n bytes of `sets`, and the active partners on each edge to the first 16 · m bytes
+// of `rows`, as `closure` takes them.
+pub fn active_marks(case: Case, table: &[i64], sets: &mut [u8], rows: &mut [u8]) -> Outcome
+    ensures { λ r. ⌜ r ≡ activeAnswer standard case (now (table .entry)) (now (sets .entry)) (now (rows .entry)) ⌝ }
+    ensures { λ r. ⌜ now (sets .exit) ≡ setsAfter standard case (now (table .entry)) (now (sets .entry)) (now (rows .entry)) ⌝ }
+    ensures { λ r. ⌜ now (rows .exit) ≡ rowsAfter standard case (now (table .entry)) (now (sets .entry)) (now (rows .entry)) ⌝ }
+{
+    let wrong = too_short(case, sets.len(), rows.len());
+    let checked = tables::check_working(case, table, wrong, false);
+    match checked {
+        Outcome::Refused(refusal) => Outcome::Refused(refusal),
+        Outcome::Done => {
+            write_sets(case, table, sets);
+            write_rows(case, table, rows);
+            Outcome::Done
+        }
+    }
+}
+
+// Whether the active values of `variable` are all refuted with the scopes raised whose byte in `raised` is not 0. best[x] is taken as the
+// greatest weight of scope x; of the table and the case only what is cheap is asked.
+pub fn active_refuted(
+    case: Case,
+    table: &[i64],
+    best: &[i64],
+    raised: &[u8],
+    variable: usize,
+) -> Verdict
+    ensures { λ r. ⌜ r ≡ activeRefutedAnswer standard case (now (table .entry)) (now (best .entry)) (now (raised .entry)) variable ⌝ }
+{
+    if !tables::within_limits(case) {
+        return Verdict::Refused(Refusal::OutsideLimits);
+    }
+    if table.len() != table_length(case) {
+        return Verdict::Refused(Refusal::WrongLength);
+    }
+    if too_few(case, best.len(), raised.len()) {
+        return Verdict::Refused(Refusal::WrongLength);
+    }
+    if case.n <= variable {
+        return Verdict::Refused(Refusal::OutOfRange);
+    }
+    if edge_outside(case) {
+        return Verdict::Refused(Refusal::OutOfRange);
+    }
+    let values = set_with(case, table, variable, best[variable]);
+    verdict(are_refuted(case, table, best, raised, variable, values))
+}
+
+// Whether a value of a variable is refuted; `raised` has a byte for each scope, 1 where it is raised and else 0.
+pub fn refuted(case: Case, table: &[i64], raised: &[u8], variable: usize, value: usize) -> Verdict
+    ensures { λ r. ⌜ r ≡ refutedAnswer standard case (now (table .entry)) (now (raised .entry)) variable value ⌝ }
+{
+    let wrong = other_length(raised.len(), case.n, case.m);
+    let out = arguments_out(case, raised, variable, value);
+    let checked = tables::check_working(case, table, wrong, out);
+    match checked {
+        Outcome::Refused(refusal) => Verdict::Refused(refusal),
+        Outcome::Done => {
+            let mut best = [0i64; 144];
+            tables::greatest_weights(case, table, &mut best);
+            verdict(are_refuted(
+                case,
+                table,
+                &best,
+                raised,
+                variable,
+                marks::only(value as u8),
+            ))
+        }
+    }
+}

@@ -1,0 +1,99 @@
+-- Amounts and ranges; weights that stand apart: where something is added, and where nothing changes. Assumes nothing.
+use mathlib.Core.Path.{_≡_, refl, sym, ap, subst, _∙_}
+use mathlib.Core.Bool.{Bool, true, false}
+use mathlib.Core.Logic.{_⊎_, ⊎-elim}
+use mathlib.Core.List.{List}
+use Prim.Native.Nat.{ℕ, zero, suc, _+_, _*_, _<_}
+use native.Mathlib.Nat.{mul-le-mul-right}
+use native.Mathlib.Omega.{arith}
+use lib.IntN.{ℤ, pos, negℤ, _+ℤ_, _-ℤ_, +ℤ-idl}
+use lib.Dec.{T, eqb, eqb→eq}
+use lib.ListN.{length, length-set}
+use lib.Seq.{getD-set-same, getD-set-other}
+use mir.Syntax.{w64}
+use mir.Val.{SFits, toZ, ofZ}
+use mir.Facts.{toZ-ofZ}
+use Rattle.integers.specs.Words.{if_then_else_, withinZ, minus}
+use Rattle.integers.specs.Tests.{either, same-test, not-eqb-iff}
+use Rattle.integers.specs.Linear.{zs, flat, _▸_}
+use Rattle.integers.specs.Lists.{all-same}
+use Rattle.definitions.specs.Rules.{standard}
+use Rattle.definitions.specs.Valid.{workingWeight}
+use Rattle.definitions.specs.Moves.{pressAmount}
+use Rattle.changes.specs.Scopes.{Amounts}
+use Rattle.changes.specs.Spaced.{weightAt, Inside, spacedStay, spacedAdd}
+
+pub working-fits : (z : ℤ) → T (workingWeight standard z) → SFits w64 z
+working-fits z = simp flat (omega zs)
+
+-- a range moved by an amount
+module _ (z by : ℤ) (h : T (withinZ (minus 1_000_000_000) (pos 1_000_000_000) by)) where
+  pub low-fits : SFits w64 (minus 500_000_000 -ℤ by)
+  low-fits = h ▸ simp flat (omega zs)
+
+  pub high-fits : SFits w64 (pos 500_000_000 -ℤ by)
+  high-fits = h ▸ simp flat (omega zs)
+
+  pub range-moved : withinZ (minus 500_000_000 -ℤ by) (pos 500_000_000 -ℤ by) z ≡ workingWeight standard (z +ℤ by)
+  range-moved = same-test (withinZ (minus 500_000_000 -ℤ by) (pos 500_000_000 -ℤ by) z) (workingWeight standard (z +ℤ by))
+      (λ t. t ▸ simp flat (omega zs)) (λ t. t ▸ simp flat (omega zs))
+
+pub added-within : (b : Bool) (z top rest : ℤ) → z ≡ (if b then top else rest) → Amounts standard top rest → T (withinZ (minus 1_000_000_000) (pos 1_000_000_000) z)
+added-within true z top rest e h = rw e (h .top-within)
+added-within false z top rest e h = rw e (h .rest-within)
+
+pub press-moves : (a : ℤ) → T (pressAmount standard a) → T (withinZ (minus 1_000_000_000) (pos 1_000_000_000) a)
+press-moves a t = t ▸ simp flat (omega zs)
+
+pub back-within : (a : ℤ) → T (withinZ (minus 1_000_000_000) (pos 1_000_000_000) a) → T (withinZ (minus 1_000_000_000) (pos 1_000_000_000) (negℤ a))
+back-within a = simp flat (omega zs)
+
+pub back-fits : (a : ℤ) → T (withinZ (minus 1_000_000_000) (pos 1_000_000_000) a) → SFits w64 (pos 0 -ℤ a)
+back-fits a = simp flat (omega zs)
+
+-- the code's 0 − a
+pub back-is : (a : ℤ) → SFits w64 a → T (withinZ (minus 1_000_000_000) (pos 1_000_000_000) a) → toZ w64 (ofZ w64 (pos 0 -ℤ toZ w64 (ofZ w64 a))) ≡ negℤ a
+back-is a f t = rw (toZ-ofZ f) (toZ-ofZ (back-fits a t) ∙ +ℤ-idl (negℤ a))
+
+-- places of different numbers differ
+pub spaced-apart : (start step i j : ℕ) → 0 < step → i < j → start + i * step ≡ start + j * step → ⊥
+spaced-apart start step i j s h e = omega (arith, mul-le-mul-right {m = suc i} {n = j} step h)
+
+module _ (w : List ℤ) (start step : ℕ) (by : ℤ) where
+  pub spaced-long : (j : ℕ) → length (spacedAdd w start step j by) ≡ length w
+  unfolding spacedAdd
+  spaced-long zero = refl
+  spaced-long (suc j) = length-set (spacedAdd w start step j by) (start + j * step) _ ∙ spaced-long j
+
+  pub spaced-miss : (j p : ℕ) → ((i : ℕ) → i < j → p ≡ start + i * step → ⊥) → weightAt (spacedAdd w start step j by) p ≡ weightAt w p
+  unfolding spacedAdd
+  spaced-miss zero p f = refl
+  spaced-miss (suc j) p f =
+      getD-set-other (spacedAdd w start step j by) (start + j * step) p _ (pos 0) (f j (omega arith)) ∙ spaced-miss j p (λ i h. f i (omega arith))
+
+  module _ (some : 0 < step) where
+    -- the next weight is as it was
+    pub spaced-next : (j : ℕ) → weightAt (spacedAdd w start step j by) (start + j * step) ≡ weightAt w (start + j * step)
+    spaced-next j = spaced-miss j (start + j * step) (λ i h e. spaced-apart start step i j some h (sym e))
+
+    pub spaced-hit : (j i : ℕ) → i < j → start + i * step < length w → weightAt (spacedAdd w start step j by) (start + i * step) ≡ weightAt w (start + i * step) +ℤ by
+    unfolding spacedAdd
+    spaced-hit zero i h l = absurd (omega arith)
+    spaced-hit (suc j) i h l = ⊎-elim
+        (λ t. let e : i ≡ j = eqb→eq i j t in
+        let u : start + j * step < length w = subst (λ (i : ℕ). start + i * step < length w) e l in
+        rw e (getD-set-same (spacedAdd w start step j by) (start + j * step) _ (pos 0) (omega (arith, spaced-long j)) ∙ ap (λ (z : ℤ). z +ℤ by) (spaced-next j)))
+        (λ t. let k : i < j = omega (arith, not-eqb-iff i j .0 t) in
+        getD-set-other (spacedAdd w start step j by) (start + j * step) (start + i * step) _ (pos 0) (spaced-apart start step i j some k) ∙ spaced-hit j i k l)
+        (either (eqb i j))
+
+pub one-place : (own i : ℕ) → i < 1 → own + i * 1 ≡ own
+one-place own i h = omega arith
+
+-- after something is added at a place apart from them
+module _ (w : List ℤ) (own start step count : ℕ) (a : ℤ) (apart : (j : ℕ) → j < count → start + j * step ≡ own → ⊥) where
+  pub inside-kept : Inside w start step count → Inside (spacedAdd w own 1 1 a) start step count
+  inside-kept s j h = omega (arith, s j h, spaced-long w own 1 a 1)
+
+  pub stay-kept : (by : ℤ) → spacedStay standard (spacedAdd w own 1 1 a) start step count by ≡ spacedStay standard w start step count by
+  stay-kept by = all-same count (λ j h. ap (λ (z : ℤ). workingWeight standard (z +ℤ by)) (spaced-miss w own 1 a 1 (start + j * step) (λ i u e. apart j h (e ∙ one-place own i u))))

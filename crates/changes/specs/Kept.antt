@@ -1,0 +1,104 @@
+-- Moves on a case and a table that were checked before, with each scope's greatest weight kept in `best`: what they answer and leave, on all
+-- input. Assumes nothing.
+use mathlib.Core.Path.{_≡_}
+use mathlib.Core.Bool.{Bool, not, _&&_, _||_}
+use mathlib.Core.Option.{Option}
+use mathlib.Core.List.{List, [], _∷_, map}
+use Prim.Native.Nat.{ℕ, _+_}
+use lib.IntN.{ℤ, negℤ, _+ℤ_}
+use lib.Dec.{ltb, eqb}
+use lib.ListN.{length, getD}
+use Rattle.integers.specs.Words.{if_then_else_, _⇒_, all, eqZ}
+use Rattle.definitions.specs.declared.Case.{Case}
+use Rattle.definitions.specs.declared.Outcome.{Outcome}
+use Rattle.definitions.specs.declared.Refusal.{Refusal}
+use Rattle.definitions.specs.declared.Refusal.the-variants.{OutOfRange, LeavesRange}
+use Rattle.definitions.specs.Rules.{Rules}
+use Rattle.definitions.specs.Refusals.{Test, _when_, firstOf}
+use Rattle.definitions.specs.Answers.{outcomeOf, unlessRefused}
+use Rattle.definitions.specs.Case.{scopeCount, scopes, eachTuple, weight, greatest}
+use Rattle.definitions.specs.Valid.{workingWeight, limitTest, lengthTest}
+use Rattle.definitions.specs.Moves.{Difference, plus, onlyWhere, endVariable, endValue, shiftBy, pressAmount}
+use Rattle.definitions.specs.Calls.{shiftOut}
+use Rattle.tables.specs.Scopes.{bestAt, writtenOver}
+
+-- what a move does: the scopes and the tuples that it touches, and what it adds at each tuple
+pub record Change : Type 0 where
+  pub inScope : ℕ → Bool
+  pub touches : ℕ → ℕ → ℕ → Bool
+  pub adds : Difference
+
+-- a byte that is not 0 marks a raised scope
+abbrev pub isRaised : List ℕ → ℕ → Bool
+isRaised raised x = not (eqb (getD raised x 0) 0)
+
+-- a tuple is taken as active if its weight is the scope's number in `best`
+abbrev pub isBest : Case → List ℤ → List ℤ → ℕ → ℕ → ℕ → Bool
+isBest c w best x k l = eqZ (weight c w x k l) (bestAt best x)
+
+-- a shift touches the value's own weight and the edge's tuples that use it
+abbrev pub shiftChange : Case → ℕ → ℕ → ℕ → ℤ → Change
+shiftChange c e end v a = record {
+  inScope = λ x. eqb x (endVariable c e end) || eqb x (c .n + e);
+  touches = λ x k l. (eqb x (endVariable c e end) && eqb k v) || (eqb x (c .n + e) && eqb (endValue end k l) v);
+  adds = shiftBy c e end v a;
+}
+
+-- a press touches the whole scope of its variable and the whole raised scopes
+abbrev pub pressChange : Case → List ℤ → List ℤ → List ℕ → ℕ → ℤ → Change
+pressChange c w best raised i a = record {
+  inScope = λ x. eqb x i || isRaised raised x;
+  touches = λ x k l. eqb x i || isRaised raised x;
+  adds = λ x k l.
+      onlyWhere (eqb x i && isBest c w best i k 0) (negℤ a)
+      +ℤ onlyWhere (isRaised raised x && not (isBest c w best x k l)) a;
+}
+
+-- every tuple that is touched has a working weight after the move
+abbrev pub staysWorking : Rules → Case → List ℤ → Change → Bool
+staysWorking r c w m =
+    all (λ x. all (λ b. b) (eachTuple c x (λ k l. m .touches x k l ⇒ workingWeight r (weight c w x k l +ℤ m .adds x k l)))) (scopes c)
+
+-- the scopes touched have their greatest weight after the move, the other numbers stay
+abbrev pub bestAfter : Case → List ℤ → List ℤ → Change → List ℤ
+bestAfter c w best m =
+    writtenOver (map (λ x. if m .inScope x then greatest c (plus c (m .adds) w) x else bestAt best x) (scopes c)) best
+
+-- a call that changes a lent table and `best`
+pub record KeptCall : Type 0 where
+  pub answer : Outcome
+  pub table : List ℤ
+  pub best : List ℤ
+
+abbrev pub keptCall : Case → List ℤ → List ℤ → Change → Option Refusal → KeptCall
+keptCall c w best m refusal = record {
+  answer = outcomeOf refusal;
+  table = unlessRefused refusal (plus c (m .adds) w) w;
+  best = unlessRefused refusal (bestAfter c w best m) best;
+}
+
+-- an answer and what is left are the call's
+abbrev pub Gives : KeptCall → Outcome → List ℤ → List ℤ → Type 0
+Gives call answer table best = (answer ≡ call .answer) × (table ≡ call .table) × (best ≡ call .best)
+
+-- the same where only number 11 is left to ask
+abbrev pub KeptIs : Case → List ℤ → List ℤ → Change → Bool → Outcome → List ℤ → List ℤ → Type 0
+KeptIs c w best m stays answer table after = Gives (keptCall c w best m (firstOf (LeavesRange when (not stays) ∷ []))) answer table after
+
+module _ (r : Rules) where
+  -- numbers 3, 4, 5 and 11
+  abbrev pub keptTests : Case → List ℤ → Change → Bool → Bool → List Test
+  keptTests c w m wrong out =
+      limitTest r c ∷ lengthTest c w wrong ∷ OutOfRange when out ∷ LeavesRange when (not (staysWorking r c w m)) ∷ []
+
+  unfoldable pub shiftWithCall : Case → List ℤ → List ℤ → ℕ → ℕ → ℕ → ℤ → KeptCall
+  shiftWithCall c w best e end v a =
+      let m = shiftChange c e end v a in
+      keptCall c w best m (firstOf (keptTests c w m (ltb (length best) (scopeCount c))
+      (shiftOut r c e end v a || not (ltb (endVariable c e end) (c .n)))))
+
+  unfoldable pub pressWithCall : Case → List ℤ → List ℤ → List ℕ → ℕ → ℤ → KeptCall
+  pressWithCall c w best raised i a =
+      let m = pressChange c w best raised i a in
+      keptCall c w best m (firstOf (keptTests c w m (ltb (length best) (scopeCount c) || ltb (length raised) (scopeCount c))
+      (not (ltb i (c .n)) || not (pressAmount r a))))

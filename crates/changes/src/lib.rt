@@ -1,0 +1,680 @@
+// Moves (document 01, "Moves"): shifts and presses, and the numbers that turn them back.
+use definitions::Case;
+use definitions::Outcome;
+use definitions::Refusal;
+use definitions::Verdict;
+ghost use mathlib.Core.Path.{_≡_};
+ghost use mathlib.Core.Bool.{not, _||_};
+ghost use mathlib.Core.List.{map};
+ghost use Prim.Native.Nat.{ℕ, _+_, _*_, _≤_, _<_};
+ghost use lib.Dec.{T, ltb, eqb};
+ghost use lib.ListN.{length, getD, set};
+ghost use lib.IntN.{pos, _+ℤ_};
+ghost use Rattle.integers.specs.Words.{if_then_else_, all, any, isIn, eqZ, withinZ, minus};
+ghost use Rattle.definitions.specs.Rules.{standard};
+ghost use Rattle.definitions.specs.declared.Refusal.the-variants.{LeavesRange};
+ghost use Rattle.definitions.specs.Valid.{workingWeight};
+ghost use Rattle.definitions.specs.Moves.{shift as shiftMove, press as pressMove, shiftAmount, pressAmount, plus, moved, endVariable, shiftBy};
+ghost use Rattle.definitions.specs.Calls.{isRising, moveCall, shiftOut, shiftCall, pressOut, pressCall};
+ghost use Rattle.definitions.specs.Case.{scopeCount, place, lentLength, greatest};
+ghost use Rattle.theory.proofs.Validity.{Handed};
+ghost use Rattle.tables.specs.Scopes.{Limited, sizeOf, partOf, bestAt};
+ghost use Rattle.changes.specs.Spaced.{Inside, spacedStay, spacedAdd, shiftStays, shifted};
+ghost use Rattle.changes.specs.Scopes.{changed, partStays, Amounts, InScope, scopeBy, topOf, restOf, isTouched, scopeLets, pressLets};
+ghost use Rattle.changes.specs.Kept.{shiftChange, pressChange, staysWorking, bestAfter, KeptIs, shiftWithCall, pressWithCall};
+ghost use Rattle.changes.specs.Marks.{marked, saysYes, askedOfRaised, askedOfPress};
+
+// The greatest working weight and the greatest amount of a move, on either side of 0.
+const WORKING: i64 = 500_000_000;
+
+const MOVING: i64 = 1_000_000_000;
+
+fn is_within(z: i64, low: i64, high: i64) -> bool
+    ensures { λ r. ⌜ r ≡ withinZ low high z ⌝ }
+{
+    low <= z && z <= high
+}
+
+// `by` added to the weight makes a working weight; nothing is added here, so that any weight can be asked.
+fn stays_with(weight: i64, by: i64) -> bool
+    requires { ⌜ T (withinZ (minus 1_000_000_000) (pos 1_000_000_000) by) ⌝ }
+    ensures { λ r. ⌜ r ≡ workingWeight standard (weight +ℤ by) ⌝ }
+{
+    let low = -WORKING - by;
+    let high = WORKING - by;
+    is_within(weight, low, high)
+}
+
+// ---- weights that stand `step` apart
+
+// All are working weights with `by` added.
+fn spaced_stay(table: &[i64], start: usize, step: usize, count: usize, by: i64) -> bool
+    requires { ⌜ Inside (now table) start step count ⌝ }
+    requires { ⌜ T (withinZ (minus 1_000_000_000) (pos 1_000_000_000) by) ⌝ }
+    ensures { λ r. ⌜ r ≡ spacedStay standard (now (table .entry)) start step count by ⌝ }
+{
+    let mut j: usize = 0;
+    while j < count {
+        if !stays_with(table[start + j * step], by) {
+            return false;
+        }
+        j += 1;
+    }
+    true
+}
+
+fn spaced_add(table: &mut [i64], start: usize, step: usize, count: usize, by: i64)
+    requires { ⌜ Inside (now table) start step count ⌝ }
+    requires { ⌜ T (spacedStay standard (now table) start step count by) × (0 < step) ⌝ }
+    ensures { λ _. ⌜ now (table .exit) ≡ spacedAdd (now (table .entry)) start step count by ⌝ }
+{
+    let mut j: usize = 0;
+    while j < count {
+        let p = start + j * step;
+        table[p] = table[p] + by;
+        j += 1;
+    }
+}
+
+// ---- the shift
+
+// Adds `amount` to the weight at `own` and subtracts it from the others, unless one would leave its range.
+fn shift_by(
+    table: &mut [i64],
+    own: usize,
+    start: usize,
+    step: usize,
+    count: usize,
+    amount: i64,
+) -> Outcome
+    requires { ⌜ Inside (now table) own 1 1 ⌝ }
+    requires { ⌜ Inside (now table) start step count ⌝ }
+    requires { ⌜ T (withinZ (minus 1_000_000_000) (pos 1_000_000_000) amount) × (0 < step) ⌝ }
+    requires { ⌜ ((j : ℕ) → j < count → start + j * step ≡ own → ⊥) ⌝ }
+    ensures { λ r. ⌜ r ≡ (if shiftStays standard (now (table .entry)) own start step count amount then Outcome.Done else Outcome.Refused LeavesRange) ⌝ }
+    ensures { λ r. ⌜ now (table .exit) ≡ (if shiftStays standard (now (table .entry)) own start step count amount then shifted (now (table .entry)) own start step count amount else now (table .entry)) ⌝ }
+{
+    let back = 0 - amount;
+    if !spaced_stay(table, own, 1, 1, amount) {
+        return Outcome::Refused(Refusal::LeavesRange);
+    }
+    if !spaced_stay(table, start, step, count, back) {
+        return Outcome::Refused(Refusal::LeavesRange);
+    }
+    spaced_add(table, own, 1, 1, amount);
+    spaced_add(table, start, step, count, back);
+    Outcome::Done
+}
+
+fn end_variable(case: Case, edge: usize, end: usize) -> usize
+    requires { ⌜ edge < 96 ⌝ }
+    ensures { λ r. ⌜ r ≡ endVariable case edge end ⌝ }
+{
+    if end == 0 {
+        return wide(case.lower[edge]);
+    }
+    wide(case.upper[edge])
+}
+
+// The value's d tuples are one row at end 0, and one column at end 1.
+fn shift_checked(
+    case: Case,
+    table: &mut [i64],
+    edge: usize,
+    end: usize,
+    value: usize,
+    amount: i64,
+) -> Outcome
+    requires { ⌜ Limited standard case × (length (now table) ≡ lentLength case) ⌝ }
+    requires { ⌜ (edge < case .m) × (end < 2) × (value < case .d) × (endVariable case edge end < case .n) ⌝ }
+    requires { ⌜ T (withinZ (minus 1_000_000_000) (pos 1_000_000_000) amount) ⌝ }
+    ensures { λ r. ⌜ r ≡ (if staysWorking standard case (now (table .entry)) (shiftChange case edge end value amount) then Outcome.Done else Outcome.Refused LeavesRange) ⌝ }
+    ensures { λ r. ⌜ now (table .exit) ≡ (if staysWorking standard case (now (table .entry)) (shiftChange case edge end value amount) then plus case (shiftBy case edge end value amount) (now (table .entry)) else now (table .entry)) ⌝ }
+{
+    let d = case.d;
+    let first = case.n * d + edge * (d * d);
+    let own = end_variable(case, edge, end) * d + value;
+    if end == 0 {
+        shift_by(table, own, first + value * d, 1, d, amount)
+    } else {
+        shift_by(table, own, first + value, d, d, amount)
+    }
+}
+
+fn wide(variable: u8) -> usize
+    ensures { λ r. ⌜ r ≡ variable ⌝ }
+{
+    variable as usize
+}
+
+fn is_shift_amount(amount: i64) -> bool
+    ensures { λ r. ⌜ r ≡ shiftAmount standard amount ⌝ }
+{
+    if !is_within(amount, -MOVING, MOVING) {
+        return false;
+    }
+    amount != 0
+}
+
+fn shift_out(case: Case, edge: usize, end: usize, value: usize, amount: i64) -> bool
+    ensures { λ r. ⌜ r ≡ shiftOut standard case edge end value amount ⌝ }
+{
+    if case.m <= edge {
+        return true;
+    }
+    if 2 <= end {
+        return true;
+    }
+    if case.d <= value {
+        return true;
+    }
+    !is_shift_amount(amount)
+}
+
+// ---- a scope's weights
+
+// What a weight gets: `top` where it is `best`.
+fn added(weight: i64, best: i64, top: i64, rest: i64) -> i64
+    ensures { λ r. ⌜ r ≡ (if eqZ weight best then top else rest) ⌝ }
+{
+    if weight == best {
+        return top;
+    }
+    rest
+}
+
+fn part_stays(part: &[i64], best: i64, top: i64, rest: i64) -> bool
+    requires { ⌜ Amounts standard top rest ⌝ }
+    ensures { λ r. ⌜ r ≡ partStays standard best top rest (now (part .entry)) ⌝ }
+{
+    let mut i: usize = 0;
+    while i < part.len() {
+        let weight = part[i];
+        if !stays_with(weight, added(weight, best, top, rest)) {
+            return false;
+        }
+        i += 1;
+    }
+    true
+}
+
+fn changed_weight(weight: i64, best: i64, top: i64, rest: i64) -> i64
+    requires { ⌜ T (workingWeight standard (changed best top rest weight)) ⌝ }
+    ensures { λ r. ⌜ r ≡ changed best top rest weight ⌝ }
+{
+    weight + added(weight, best, top, rest)
+}
+
+fn change_part(part: &mut [i64], best: i64, top: i64, rest: i64)
+    requires { ⌜ T (partStays standard best top rest (now part)) ⌝ }
+    ensures { λ _. ⌜ now (part .exit) ≡ map (changed best top rest) (now (part .entry)) ⌝ }
+{
+    let mut at: usize = 0;
+    while at < part.len() {
+        let weight = changed_weight(part[at], best, top, rest);
+        part[at] = weight;
+        at += 1;
+    }
+}
+
+fn first_place(case: Case, x: usize) -> usize
+    requires { ⌜ Limited standard case ⌝ }
+    requires { ⌜ x < case .n + case .m ⌝ }
+    ensures { λ r. ⌜ r ≡ place case x 0 0 ⌝ }
+{
+    if x < case.n {
+        return x * case.d;
+    }
+    case.n * case.d + (x - case.n) * (case.d * case.d)
+}
+
+fn size_of(case: Case, x: usize) -> usize
+    requires { ⌜ Limited standard case ⌝ }
+    ensures { λ r. ⌜ r ≡ sizeOf case x ⌝ }
+{
+    if x < case.n {
+        return case.d;
+    }
+    case.d * case.d
+}
+
+// With `top` added to its weights that are `best` and `rest` to the others, the scope has working weights.
+fn scope_stays(case: Case, table: &[i64], x: usize, best: i64, top: i64, rest: i64) -> bool
+    requires { ⌜ InScope standard case (now table) x ⌝ }
+    requires { ⌜ Amounts standard top rest ⌝ }
+    ensures { λ r. ⌜ r ≡ partStays standard best top rest (partOf case (now (table .entry)) x) ⌝ }
+{
+    let first = first_place(case, x);
+    let end = first + size_of(case, x);
+    part_stays(&table[first..end], best, top, rest)
+}
+
+fn change_scope(case: Case, table: &mut [i64], x: usize, best: i64, top: i64, rest: i64)
+    requires { ⌜ InScope standard case (now table) x ⌝ }
+    requires { ⌜ T (partStays standard best top rest (partOf case (now table) x)) ⌝ }
+    ensures { λ _. ⌜ now (table .exit) ≡ plus case (scopeBy case (now (table .entry)) x best top rest) (now (table .entry)) ⌝ }
+{
+    let first = first_place(case, x);
+    let end = first + size_of(case, x);
+    change_part(&mut table[first..end], best, top, rest);
+}
+
+// Writes the scope's greatest weight to its place in `best`.
+fn keep_greatest(case: Case, table: &[i64], best: &mut [i64], x: usize)
+    requires { ⌜ InScope standard case (now table) x ⌝ }
+    requires { ⌜ x < length (now best) ⌝ }
+    ensures { λ _. ⌜ now (best .exit) ≡ set (now (best .entry)) x (greatest case (now (table .entry)) x) ⌝ }
+{
+    let first = first_place(case, x);
+    let end = first + size_of(case, x);
+    let weight = tables::greatest(&table[first..end]);
+    best[x] = weight;
+}
+
+// ---- the press, scope by scope
+
+fn top_of(x: usize, variable: usize, amount: i64) -> i64
+    requires { ⌜ T (pressAmount standard amount) ⌝ }
+    ensures { λ r. ⌜ r ≡ topOf variable amount x ⌝ }
+{
+    if x == variable {
+        return 0 - amount;
+    }
+    0
+}
+
+fn rest_of(mark: u8, amount: i64) -> i64
+    ensures { λ r. ⌜ r ≡ restOf mark amount ⌝ }
+{
+    if mark == 0 {
+        return 0;
+    }
+    amount
+}
+
+fn is_touched(x: usize, variable: usize, mark: u8) -> bool
+    ensures { λ r. ⌜ r ≡ isTouched variable x mark ⌝ }
+{
+    if x == variable {
+        return true;
+    }
+    mark != 0
+}
+
+fn scope_lets(
+    case: Case,
+    table: &[i64],
+    x: usize,
+    best: i64,
+    mark: u8,
+    variable: usize,
+    amount: i64,
+) -> bool
+    requires { ⌜ InScope standard case (now table) x ⌝ }
+    requires { ⌜ T (pressAmount standard amount) ⌝ }
+    ensures { λ r. ⌜ r ≡ scopeLets standard case (now (table .entry)) x best mark variable amount ⌝ }
+{
+    if !is_touched(x, variable, mark) {
+        return true;
+    }
+    let top = top_of(x, variable, amount);
+    scope_stays(case, table, x, best, top, rest_of(mark, amount))
+}
+
+fn press_stays(
+    case: Case,
+    table: &[i64],
+    best: &[i64],
+    raised: &[u8],
+    variable: usize,
+    amount: i64,
+) -> bool
+    requires { ⌜ Limited standard case × (length (now table) ≡ lentLength case) ⌝ }
+    requires { ⌜ (scopeCount case ≤ length (now best)) × (scopeCount case ≤ length (now raised)) ⌝ }
+    requires { ⌜ T (pressAmount standard amount) ⌝ }
+    ensures { λ r. ⌜ r ≡ pressLets standard case (now (table .entry)) (now (best .entry)) (now (raised .entry)) variable amount ⌝ }
+{
+    let scopes = case.n + case.m;
+    let mut x: usize = 0;
+    while x < scopes {
+        if !scope_lets(case, table, x, best[x], raised[x], variable, amount) {
+            return false;
+        }
+        x += 1;
+    }
+    true
+}
+
+fn press_scope(
+    case: Case,
+    table: &mut [i64],
+    best: &mut [i64],
+    x: usize,
+    mark: u8,
+    variable: usize,
+    amount: i64,
+)
+    requires { ⌜ InScope standard case (now table) x × (x < length (now best)) ⌝ }
+    requires { ⌜ T (scopeLets standard case (now table) x (bestAt (now best) x) mark variable amount) ⌝ }
+    requires { ⌜ T (pressAmount standard amount) ⌝ }
+    ensures { λ _. ⌜ now (table .exit) ≡ plus case (scopeBy case (now (table .entry)) x (bestAt (now (best .entry)) x) (topOf variable amount x) (restOf mark amount)) (now (table .entry)) ⌝ }
+    ensures { λ _. ⌜ now (best .exit) ≡ set (now (best .entry)) x (if isTouched variable x mark then greatest case (now (table .exit)) x else bestAt (now (best .entry)) x) ⌝ }
+{
+    if is_touched(x, variable, mark) {
+        let top = top_of(x, variable, amount);
+        let held = best[x];
+        change_scope(case, table, x, held, top, rest_of(mark, amount));
+        keep_greatest(case, table, best, x);
+    }
+}
+
+fn make_press(
+    case: Case,
+    table: &mut [i64],
+    best: &mut [i64],
+    raised: &[u8],
+    variable: usize,
+    amount: i64,
+)
+    requires { ⌜ Limited standard case × (length (now table) ≡ lentLength case) ⌝ }
+    requires { ⌜ (scopeCount case ≤ length (now best)) × (scopeCount case ≤ length (now raised)) ⌝ }
+    requires { ⌜ (variable < case .n) × T (pressAmount standard amount) ⌝ }
+    requires { ⌜ T (pressLets standard case (now table) (now best) (now raised) variable amount) ⌝ }
+    ensures { λ _. ⌜ now (table .exit) ≡ plus case (pressChange case (now (table .entry)) (now (best .entry)) (now (raised .entry)) variable amount .adds) (now (table .entry)) ⌝ }
+    ensures { λ _. ⌜ now (best .exit) ≡ bestAfter case (now (table .entry)) (now (best .entry)) (pressChange case (now (table .entry)) (now (best .entry)) (now (raised .entry)) variable amount) ⌝ }
+{
+    let scopes = case.n + case.m;
+    let mut x: usize = 0;
+    while x < scopes {
+        press_scope(case, table, best, x, raised[x], variable, amount);
+        x += 1;
+    }
+}
+
+fn scope_at(scope: u16) -> usize
+    ensures { λ r. ⌜ r ≡ scope ⌝ }
+{
+    scope as usize
+}
+
+// ---- what a press is asked: numbers 5 and 9
+
+fn some_beyond(scopes: &[u16], count: usize) -> bool
+    ensures { λ r. ⌜ r ≡ any (λ x. not (ltb x count)) (now (scopes .entry)) ⌝ }
+{
+    let mut j: usize = 0;
+    while j < scopes.len() {
+        if count <= scope_at(scopes[j]) {
+            return true;
+        }
+        j += 1;
+    }
+    false
+}
+
+fn holds(scopes: &[u16], x: usize) -> bool
+    ensures { λ r. ⌜ r ≡ isIn (now (scopes .entry)) x ⌝ }
+{
+    let mut j: usize = 0;
+    while j < scopes.len() {
+        if scope_at(scopes[j]) == x {
+            return true;
+        }
+        j += 1;
+    }
+    false
+}
+
+fn is_rising(scopes: &[u16]) -> bool
+    ensures { λ r. ⌜ r ≡ isRising (now (scopes .entry)) ⌝ }
+{
+    let mut j: usize = 1;
+    while j < scopes.len() {
+        if scopes[j] <= scopes[j - 1] {
+            return false;
+        }
+        j += 1;
+    }
+    true
+}
+
+fn press_out(case: Case, variable: usize, raised: &[u16], amount: i64) -> bool
+    requires { ⌜ Limited standard case ⌝ }
+    ensures { λ r. ⌜ r ≡ pressOut standard case variable (now (raised .entry)) amount ⌝ }
+{
+    if case.n <= variable {
+        return true;
+    }
+    let scopes = case.n + case.m;
+    if raised.len() == 0 {
+        return true;
+    }
+    if scopes <= raised.len() {
+        return true;
+    }
+    if some_beyond(raised, scopes) {
+        return true;
+    }
+    !is_within(amount, 1, MOVING)
+}
+
+// ---- marks for the raised scopes, and number 10
+
+fn mark_scopes(marks: &mut [u8], raised: &[u16])
+    requires { ⌜ T (all (λ x. ltb x (length (now marks))) (now raised)) ⌝ }
+    ensures { λ _. ⌜ now (marks .exit) ≡ marked (now (marks .entry)) (now (raised .entry)) ⌝ }
+{
+    let mut j: usize = 0;
+    while j < raised.len() {
+        let x = scope_at(raised[j]);
+        marks[x] = 1;
+        j += 1;
+    }
+}
+
+fn is_yes(verdict: Verdict) -> bool
+    ensures { λ r. ⌜ r ≡ saysYes verdict ⌝ }
+{
+    match verdict {
+        Verdict::Yes => true,
+        Verdict::No => false,
+        Verdict::Refused(_) => false,
+    }
+}
+
+// ---- the calls on what was checked
+
+fn lengths_wrong(case: Case, table: usize, best: usize) -> bool
+    requires { ⌜ Limited standard case ⌝ }
+    ensures { λ r. ⌜ r ≡ (not (eqb table (lentLength case)) || ltb best (scopeCount case)) ⌝ }
+{
+    if table != case.n * case.d + case.m * (case.d * case.d) {
+        return true;
+    }
+    best < case.n + case.m
+}
+
+// The shift, with the greatest weights of the two scopes that it touches.
+fn shift_kept(
+    case: Case,
+    table: &mut [i64],
+    best: &mut [i64],
+    edge: usize,
+    end: usize,
+    value: usize,
+    amount: i64,
+) -> Outcome
+    requires { ⌜ Limited standard case × (length (now table) ≡ lentLength case) × (scopeCount case ≤ length (now best)) ⌝ }
+    requires { ⌜ (edge < case .m) × (end < 2) × (value < case .d) × (endVariable case edge end < case .n) ⌝ }
+    requires { ⌜ T (withinZ (minus 1_000_000_000) (pos 1_000_000_000) amount) ⌝ }
+    ensures { λ r. ⌜ KeptIs case (now (table .entry)) (now (best .entry)) (shiftChange case edge end value amount) (staysWorking standard case (now (table .entry)) (shiftChange case edge end value amount)) r (now (table .exit)) (now (best .exit)) ⌝ }
+{
+    let made = shift_checked(case, table, edge, end, value, amount);
+    match made {
+        Outcome::Refused(refusal) => Outcome::Refused(refusal),
+        Outcome::Done => {
+            keep_greatest(case, table, best, end_variable(case, edge, end));
+            keep_greatest(case, table, best, case.n + edge);
+            Outcome::Done
+        }
+    }
+}
+
+fn press_kept(
+    case: Case,
+    table: &mut [i64],
+    best: &mut [i64],
+    raised: &[u8],
+    variable: usize,
+    amount: i64,
+) -> Outcome
+    requires { ⌜ Limited standard case × (length (now table) ≡ lentLength case) ⌝ }
+    requires { ⌜ (scopeCount case ≤ length (now best)) × (scopeCount case ≤ length (now raised)) ⌝ }
+    requires { ⌜ (variable < case .n) × T (pressAmount standard amount) ⌝ }
+    ensures { λ r. ⌜ KeptIs case (now (table .entry)) (now (best .entry)) (pressChange case (now (table .entry)) (now (best .entry)) (now (raised .entry)) variable amount) (staysWorking standard case (now (table .entry)) (pressChange case (now (table .entry)) (now (best .entry)) (now (raised .entry)) variable amount)) r (now (table .exit)) (now (best .exit)) ⌝ }
+{
+    if !press_stays(case, table, best, raised, variable, amount) {
+        return Outcome::Refused(Refusal::LeavesRange);
+    }
+    make_press(case, table, best, raised, variable, amount);
+    Outcome::Done
+}
+
+// ---- a press of raised scopes that rise
+
+// Numbers 10 and 11, and the press.
+fn press_raised(
+    case: Case,
+    table: &mut [i64],
+    variable: usize,
+    raised: &[u16],
+    amount: i64,
+) -> Outcome
+    requires { ⌜ Handed standard (workingWeight standard) case (now table) ⌝ }
+    requires { ⌜ (variable < case .n) × T (all (λ x. ltb x (scopeCount case)) (now raised)) ⌝ }
+    requires { ⌜ T (pressAmount standard amount) ⌝ }
+    ensures { λ r. ⌜ r ≡ moveCall standard case (now (table .entry)) (pressMove variable (now (raised .entry)) amount) (askedOfRaised standard case (now (table .entry)) variable (now (raised .entry)) amount) .answer ⌝ }
+    ensures { λ r. ⌜ now (table .exit) ≡ moveCall standard case (now (table .entry)) (pressMove variable (now (raised .entry)) amount) (askedOfRaised standard case (now (table .entry)) variable (now (raised .entry)) amount) .table ⌝ }
+{
+    let mut marks = [0u8; 144];
+    mark_scopes(&mut marks, raised);
+    let mut best = [0i64; 144];
+    tables::greatest_weights(case, table, &mut best);
+    if !is_yes(arcs::active_refuted(case, table, &best, &marks, variable)) {
+        return Outcome::Refused(Refusal::NotRefuted);
+    }
+    press_with(case, table, &mut best, &marks, variable, amount)
+}
+
+// Numbers 9, 10 and 11, and the press.
+fn press_checked(
+    case: Case,
+    table: &mut [i64],
+    variable: usize,
+    raised: &[u16],
+    amount: i64,
+) -> Outcome
+    requires { ⌜ Handed standard (workingWeight standard) case (now table) ⌝ }
+    requires { ⌜ (variable < case .n) × T (all (λ x. ltb x (scopeCount case)) (now raised)) ⌝ }
+    requires { ⌜ T (pressAmount standard amount) ⌝ }
+    ensures { λ r. ⌜ r ≡ moveCall standard case (now (table .entry)) (pressMove variable (now (raised .entry)) amount) (askedOfPress standard case (now (table .entry)) variable (now (raised .entry)) amount) .answer ⌝ }
+    ensures { λ r. ⌜ now (table .exit) ≡ moveCall standard case (now (table .entry)) (pressMove variable (now (raised .entry)) amount) (askedOfPress standard case (now (table .entry)) variable (now (raised .entry)) amount) .table ⌝ }
+{
+    if !is_rising(raised) {
+        return Outcome::Refused(Refusal::RaiseNotAscending);
+    }
+    if holds(raised, variable) {
+        return Outcome::Refused(Refusal::RaiseNotAscending);
+    }
+    press_raised(case, table, variable, raised, amount)
+}
+
+// ---- the calls
+
+pub fn shift(
+    case: Case,
+    table: &mut [i64],
+    edge: usize,
+    end: usize,
+    value: usize,
+    amount: i64,
+) -> Outcome
+    ensures { λ r. ⌜ (r ≡ shiftCall standard case (now (table .entry)) edge end value amount .answer) × (now (table .exit) ≡ shiftCall standard case (now (table .entry)) edge end value amount .table) ⌝ }
+{
+    let out = shift_out(case, edge, end, value, amount);
+    let checked = tables::check_working(case, table, false, out);
+    match checked {
+        Outcome::Refused(refusal) => Outcome::Refused(refusal),
+        Outcome::Done => shift_checked(case, table, edge, end, value, amount),
+    }
+}
+
+pub fn press(case: Case, table: &mut [i64], variable: usize, raised: &[u16], amount: i64) -> Outcome
+    ensures { λ r. ⌜ (r ≡ pressCall standard case (now (table .entry)) variable (now (raised .entry)) amount .answer) × (now (table .exit) ≡ pressCall standard case (now (table .entry)) variable (now (raised .entry)) amount .table) ⌝ }
+{
+    if !tables::within_limits(case) {
+        return Outcome::Refused(Refusal::OutsideLimits);
+    }
+    let out = press_out(case, variable, raised, amount);
+    let checked = tables::check_working(case, table, false, out);
+    match checked {
+        Outcome::Refused(refusal) => Outcome::Refused(refusal),
+        Outcome::Done => press_checked(case, table, variable, raised, amount),
+    }
+}
+
+// A shift on a case and a table that were checked before; `best` is kept as each scope's greatest weight.
+pub fn shift_with(
+    case: Case,
+    table: &mut [i64],
+    best: &mut [i64],
+    edge: usize,
+    end: usize,
+    value: usize,
+    amount: i64,
+) -> Outcome
+    ensures { λ r. ⌜ (r ≡ shiftWithCall standard case (now (table .entry)) (now (best .entry)) edge end value amount .answer) × (now (table .exit) ≡ shiftWithCall standard case (now (table .entry)) (now (best .entry)) edge end value amount .table) × (now (best .exit) ≡ shiftWithCall standard case (now (table .entry)) (now (best .entry)) edge end value amount .best) ⌝ }
+{
+    if !tables::within_limits(case) {
+        return Outcome::Refused(Refusal::OutsideLimits);
+    }
+    if lengths_wrong(case, table.len(), best.len()) {
+        return Outcome::Refused(Refusal::WrongLength);
+    }
+    if shift_out(case, edge, end, value, amount) {
+        return Outcome::Refused(Refusal::OutOfRange);
+    }
+    if case.n <= end_variable(case, edge, end) {
+        return Outcome::Refused(Refusal::OutOfRange);
+    }
+    shift_kept(case, table, best, edge, end, value, amount)
+}
+
+// A press of the scopes whose byte in `raised` is not 0, where a weight that is the scope's number in `best` is taken as active; `best` is kept.
+pub fn press_with(
+    case: Case,
+    table: &mut [i64],
+    best: &mut [i64],
+    raised: &[u8],
+    variable: usize,
+    amount: i64,
+) -> Outcome
+    ensures { λ r. ⌜ (r ≡ pressWithCall standard case (now (table .entry)) (now (best .entry)) (now (raised .entry)) variable amount .answer) × (now (table .exit) ≡ pressWithCall standard case (now (table .entry)) (now (best .entry)) (now (raised .entry)) variable amount .table) × (now (best .exit) ≡ pressWithCall standard case (now (table .entry)) (now (best .entry)) (now (raised .entry)) variable amount .best) ⌝ }
+{
+    if !tables::within_limits(case) {
+        return Outcome::Refused(Refusal::OutsideLimits);
+    }
+    if lengths_wrong(case, table.len(), best.len()) {
+        return Outcome::Refused(Refusal::WrongLength);
+    }
+    if raised.len() < case.n + case.m {
+        return Outcome::Refused(Refusal::WrongLength);
+    }
+    if case.n <= variable {
+        return Outcome::Refused(Refusal::OutOfRange);
+    }
+    if !is_within(amount, 1, MOVING) {
+        return Outcome::Refused(Refusal::OutOfRange);
+    }
+    press_kept(case, table, best, raised, variable, amount)
+}

@@ -1,0 +1,89 @@
+-- The answer to a check: what is answered where a number applies, and what is known where none does. Assumes nothing.
+use mathlib.Core.Path.{_≡_, sym, subst}
+use mathlib.Core.Bool.{Bool, true, false, not}
+use mathlib.Core.Option.{Option, none, some}
+use mathlib.Core.List.{List}
+use Prim.Native.Nat.{ℕ, _<_}
+use native.Mathlib.Omega.{arith}
+use lib.IntN.{ℤ}
+use lib.Dec.{T, eqb, ltb, eqb→eq, ltb→lt}
+use lib.ListN.{length}
+use borrow.Author.Tests.{eq-eqb}
+use Rattle.integers.specs.Words.{if_then_else_}
+use Rattle.integers.specs.Tests.{tests}
+use Rattle.integers.specs.Sums.{Σ-cong}
+use Rattle.definitions.specs.declared.Case.{Case}
+use Rattle.definitions.specs.declared.Refusal.{Refusal}
+use Rattle.definitions.specs.declared.Outcome.{Outcome}
+use Rattle.definitions.specs.declared.Figure.{Figure}
+use Rattle.definitions.specs.declared.Verdict.{Verdict}
+use Rattle.definitions.specs.Rules.{standard}
+use Rattle.definitions.specs.Refusals.{firstOf}
+use Rattle.definitions.specs.Answers.{outcomeOf}
+use Rattle.definitions.specs.Case.{scopeCount, isVariable, lentLength, greatest, upperBound}
+use Rattle.definitions.specs.Valid.{workingWeight, withinLimits, handedOver}
+use Rattle.definitions.specs.Calls.{figureOf, verdictOf, tupleOut}
+use Rattle.theory.proofs.Places.{first-tuple, greatest-at}
+use Rattle.theory.proofs.Validity.{Handed, handed}
+use Rattle.tables.specs.Scopes.{Limited, cut, boundOf}
+use Rattle.tables.proofs.Order.{outcome-done, outcome-refused}
+use Rattle.tables.proofs.Bounds.{cut-same}
+
+module _ (o : Option Refusal) where
+  refused-figure : {x : Refusal} (z : ℤ) → o ≡ some x → Figure.Refused x ≡ figureOf o z
+  refused-figure z e = rw e
+
+  refused-verdict : {x : Refusal} (b : Bool) → o ≡ some x → Verdict.Refused x ≡ verdictOf o b
+  refused-verdict b e = rw e
+
+-- a table of working weights
+module _ (c : Case) (w : List ℤ) (wrong out : Bool) where
+  abbrev asked : Option Refusal
+  asked = firstOf (handedOver standard (workingWeight standard) c w wrong out)
+
+  pub figure-refused : {x : Refusal} (z : ℤ) → Outcome.Refused x ≡ outcomeOf asked → Figure.Refused x ≡ figureOf asked z
+  figure-refused z e = refused-figure asked z (outcome-refused e)
+
+  pub figure-given : (z : ℤ) → Outcome.Done ≡ outcomeOf asked → Figure.Value z ≡ figureOf asked z
+  figure-given z e = let d : asked ≡ none = outcome-done e in rw d
+
+  pub verdict-refused : {x : Refusal} (b : Bool) → Outcome.Refused x ≡ outcomeOf asked → Verdict.Refused x ≡ verdictOf asked b
+  verdict-refused b e = refused-verdict asked b (outcome-refused e)
+
+  pub verdict-given : (b : Bool) → Outcome.Done ≡ outcomeOf asked → (if b then Verdict.Yes else Verdict.No) ≡ verdictOf asked b
+  verdict-given b e = let d : asked ≡ none = outcome-done e in rw d
+
+  pub known : Outcome.Done ≡ outcomeOf asked → Handed standard (workingWeight standard) c w × T (not wrong) × T (not out)
+  known e = let d : asked ≡ none = outcome-done e in handed standard (workingWeight standard) c w wrong out .0 (rw d tt)
+
+module _ {c : Case} {w : List ℤ} (h : Handed standard (workingWeight standard) c w) where
+  pub limits-known : Limited standard c
+  limits-known = record {
+    some-variable = h .shape .some-variable;
+    variables = h .variables-most;
+    some-value = h .shape .some-value;
+    values = h .values-most;
+    edges = h .edges-most;
+  }
+
+  pub limits-true : withinLimits standard (c .n) (c .d) (c .m) ≡ true
+  limits-true = let s = h .shape in simp tests (((s .some-variable, h .variables-most), (s .some-value, h .values-most)), (omega arith, h .edges-most))
+
+  -- a tuple that is not out
+  pub tuple-known : (x k l : ℕ) → T (not (tupleOut c x k l)) → (x < scopeCount c) × (k < c .d) × (l < c .d)
+  tuple-known x k l t = let ((p, q), u) = simp tests at t in (p, q, go (isVariable c x) u)
+    where
+      go : (b : Bool) → T (if b then eqb l 0 else ltb l (c .d)) → l < c .d
+      go true u = omega (arith, h .shape .some-value, eqb→eq l 0 u)
+      go false u = ltb→lt l (c .d) u
+
+  pub greatest-working : (x : ℕ) → x < scopeCount c → T (workingWeight standard (greatest c w x))
+  greatest-working x l =
+      let (k, m, t, e) = greatest-at c w (first-tuple c (h .shape .some-value) x l) in
+      subst (λ (z : ℤ). T (workingWeight standard z)) e (h .in-range x k m t)
+
+  pub bound-known : boundOf standard c w ≡ upperBound c w
+  unfolding boundOf
+  bound-known =
+      rw (limits-true, eq-eqb (length w) (lentLength c) (h .long))
+      (Σ-cong (λ x. cut standard (greatest c w x)) (greatest c w) 0 (scopeCount c) (λ x l u. sym (cut-same (greatest c w x) (greatest-working x (omega arith)))))

@@ -1,0 +1,84 @@
+-- What a check that passed says, and products within the limits. Assumes nothing.
+use mathlib.Core.Path.{_≡_, refl, sym, ap, _∙_}
+use mathlib.Core.Bool.{Bool, true, false, not}
+use mathlib.Core.Option.{Option, none, some}
+use mathlib.Core.List.{List, [], _∷_, _++_}
+use Prim.Native.Nat.{ℕ, _*_, _≤_}
+use native.Mathlib.Nat.{mul-le-mul}
+use native.Mathlib.Omega.{arith}
+use lib.IntN.{ℤ}
+use lib.ListN.{length}
+use lib.Seq.{take-all}
+use borrow.Author.Tests.{eq-eqb}
+use Rattle.integers.specs.Words.{if_then_else_, all}
+use Rattle.integers.specs.Tests.{tests}
+use Rattle.definitions.specs.declared.Case.{Case}
+use Rattle.definitions.specs.declared.Refusal.{Refusal}
+use Rattle.definitions.specs.declared.Refusal.the-variants.{WeightOutOfRange}
+use Rattle.definitions.specs.declared.Outcome.{Outcome}
+use Rattle.definitions.specs.Rules.{Rules, standard}
+use Rattle.definitions.specs.Refusals.{Test, _when_, firstOf}
+use Rattle.definitions.specs.Answers.{outcomeOf}
+use Rattle.definitions.specs.Case.{ownLength, lentLength}
+use Rattle.definitions.specs.Valid.{withinLimits, edgeTests, handedOver}
+use Rattle.tables.specs.Scopes.{Limited}
+
+module _ (r : Rules) (c : Case) where
+  pub limited : withinLimits r (c .n) (c .d) (c .m) ≡ true → Limited r c
+  limited e =
+      let (((p, q), (s, t)), (u, v)) = simp tests at e in
+      record { some-variable = p; variables = q; some-value = s; values = t; edges = v }
+
+-- products within the limits
+pub times-most : (a b m n : ℕ) → a ≤ m → b ≤ n → a * b ≤ m * n
+times-most a b m n h k = mul-le-mul h k
+
+module _ (c : Case) (l : Limited standard c) where
+  pub variables-small : c .n * c .d ≤ 384
+  variables-small = mul-le-mul (l .variables) (l .values)
+
+  pub values-small : c .d * c .d ≤ 64
+  values-small = mul-le-mul (l .values) (l .values)
+
+  pub edges-small : c .m * (c .d * c .d) ≤ 6144
+  edges-small = mul-le-mul (l .edges) values-small
+
+-- an outcome tells whether a refusal applies
+pub outcome-done : {o : Option Refusal} → Outcome.Done ≡ outcomeOf o → o ≡ none
+outcome-done {o = none} e = refl
+outcome-done {o = some x} e = cc
+
+pub outcome-refused : {o : Option Refusal} {x : Refusal} → Outcome.Refused x ≡ outcomeOf o → o ≡ some x
+outcome-refused {o = none} e = cc
+outcome-refused {o = some y} e = cc
+
+-- the tests of two lists, one after the other
+module _ (us : List Test) where
+  pub first-next : (ts : List Test) → firstOf ts ≡ none → firstOf (ts ++ us) ≡ firstOf us
+  first-next [] e = refl
+  first-next (t ∷ ts) e = go (t .applies) e (first-next ts)
+    where
+      go : (b : Bool) → (if b then some (t .refusal) else firstOf ts) ≡ none → (firstOf ts ≡ none → firstOf (ts ++ us) ≡ firstOf us) → (if b then some (t .refusal) else firstOf (ts ++ us)) ≡ firstOf us
+      go true e r = cc
+      go false e r = r e
+
+  pub first-stops : (ts : List Test) {x : Refusal} → firstOf ts ≡ some x → firstOf (ts ++ us) ≡ some x
+  first-stops [] e = cc
+  first-stops (t ∷ ts) {x} e = go (t .applies) e (λ d. first-stops ts d)
+    where
+      go : (b : Bool) → (if b then some (t .refusal) else firstOf ts) ≡ some x → (firstOf ts ≡ some x → firstOf (ts ++ us) ≡ some x) → (if b then some (t .refusal) else firstOf (ts ++ us)) ≡ some x
+      go true e r = e
+      go false e r = r e
+
+-- what is left to ask once the limits and the lengths are right
+module _ (r : Rules) (range : ℤ → Bool) (c : Case) (w : List ℤ) (wrong out : Bool)
+    (e : withinLimits r (c .n) (c .d) (c .m) ≡ true) (l : length w ≡ lentLength c) (g : wrong ≡ false) where
+  lengths-right : firstOf (handedOver r range c w wrong out) ≡ firstOf (edgeTests c out ++ (WeightOutOfRange when (not (all range w)) ∷ []))
+  lengths-right = rw (e, eq-eqb (length w) (lentLength c) l, g, take-all (ownLength c) w (omega arith))
+
+  pub edges-wrong : {x : Refusal} → Outcome.Refused x ≡ outcomeOf (firstOf (edgeTests c out)) → Outcome.Refused x ≡ outcomeOf (firstOf (handedOver r range c w wrong out))
+  edges-wrong d = ap outcomeOf (sym (lengths-right ∙ first-stops (WeightOutOfRange when (not (all range w)) ∷ []) (edgeTests c out) (outcome-refused d)))
+
+  pub edges-right : Outcome.Done ≡ outcomeOf (firstOf (edgeTests c out))
+      → outcomeOf (firstOf (WeightOutOfRange when (not (all range w)) ∷ [])) ≡ outcomeOf (firstOf (handedOver r range c w wrong out))
+  edges-right d = ap outcomeOf (sym (lengths-right ∙ first-next (WeightOutOfRange when (not (all range w)) ∷ []) (edgeTests c out) (outcome-done d)))

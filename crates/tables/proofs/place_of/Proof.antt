@@ -1,0 +1,63 @@
+use Prim.Native.Nat.{_*_, _-_, _≤_}
+use native.Mathlib.Omega.{arith}
+use borrow.Author.Tests.{lt-ltb, le-ltb}
+use Rattle.tables.proofs.Order.{times-most}
+use Rattle.tables.proofs.place_of.Statement.{statement}
+use Rattle.tables.proofs.place_of.Tie as tie
+
+mul-result : tie.Need-mul-result
+mul-result c = let a = c .before .args in omega (arith, times-most (a .x) (a .d) 48 8 (omega arith) (omega arith))
+
+add-result : tie.Need-add-result
+add-result c = let a = c .before .args in omega (arith, times-most (a .x) (a .d) 48 8 (omega arith) (omega arith))
+
+mul-result-2 : tie.Need-mul-result-2
+mul-result-2 c = let a = c .before .args in omega (arith, times-most (a .n) (a .d) 48 8 (omega arith) (omega arith))
+
+mul-result-3 : tie.Need-mul-result-3
+mul-result-3 c = let a = c .before .args in omega (arith, times-most (a .d) (a .d) 8 8 (omega arith) (omega arith))
+
+rows-small : (c : tie.Else1) → c .before .args .n * c .before .args .d ≤ 384
+rows-small c = let a = c .before .args in times-most (a .n) (a .d) 48 8 (omega arith) (omega arith)
+
+squares-small : (c : tie.Else1) → (c .before .args .x - c .before .args .n) * (c .before .args .d * c .before .args .d) ≤ 6144
+squares-small c =
+    let a = c .before .args in
+    times-most (a .x - a .n) (a .d * a .d) 96 64 (omega arith) (times-most (a .d) (a .d) 8 8 (omega arith) (omega arith))
+
+mul-result-4 : tie.Need-mul-result-4
+mul-result-4 c = omega (arith, squares-small c)
+
+add-result-2 : tie.Need-add-result-2
+add-result-2 c = omega (arith, rows-small c, squares-small c)
+
+mul-result-5 : tie.Need-mul-result-5
+mul-result-5 c = let a = c .before .args in omega (arith, times-most (a .k) (a .d) 8 8 (omega arith) (omega arith))
+
+add-result-3 : tie.Need-add-result-3
+add-result-3 c = let a = c .before .args in omega (arith, times-most (a .k) (a .d) 8 8 (omega arith) (omega arith))
+
+add-result-4 : tie.Need-add-result-4
+add-result-4 c = let a = c .before .args in omega (arith, rows-small c, squares-small c, times-most (a .k) (a .d) 8 8 (omega arith) (omega arith))
+
+returns : tie.Need-returns
+returns c = rw (lt-ltb _ _ (c .if1 .taken))
+
+returns-2 : tie.Need-returns-2
+returns-2 c = rw (le-ltb _ _ (c .if1 .left))
+
+pub place-of-spec : {M : Type 1} → statement M
+place-of-spec =
+    tie.close
+    (tie.spec
+    mul-result
+    add-result
+    mul-result-2
+    mul-result-3
+    mul-result-4
+    add-result-2
+    mul-result-5
+    add-result-3
+    add-result-4
+    returns
+    returns-2)

@@ -1,0 +1,48 @@
+use mir.Syntax.{w64}
+use Rattle.integers.specs.Linear.{read-back}
+use mathlib.Core.Path.{sym, ap, _∙_}
+use mathlib.Core.Bool.{false}
+use Rattle.definitions.specs.Case.{upperBound}
+use Rattle.definitions.specs.Calls.{upperBoundAnswer}
+use Rattle.definitions.specs.declared.Figure.{Figure}
+use Rattle.tables.proofs.Answered.{figure-refused, figure-given, known, bound-known}
+use borrow.Author.Needs.{needs}
+use Rattle.tables.proofs.upper_bound.Statement.{statement}
+use Rattle.tables.proofs.upper_bound.Tie as tie
+
+check-working-requires : tie.Need-check-working-requires
+check-working-requires c κs = search needs
+
+enum-known-checked : tie.Need-enum-known-checked
+enum-known-checked c = search needs
+
+enum-told : tie.Need-enum-told
+enum-told c = search needs
+
+bound-of-requires : tie.Need-bound-of-requires
+bound-of-requires c κs = search needs
+
+returns : tie.Need-returns
+unfolding upperBoundAnswer
+returns c = let s = c .before .before .before in
+    figure-refused (s .before .args .case) (s .before .args .table .now) false false (upperBound (s .before .args .case) (s .before .args .table .now))
+    (sym (c .before .checked .given .1) ∙ s .check-working .ensures)
+
+returns-2 : tie.Need-returns-2
+unfolding upperBoundAnswer
+returns-2 c = let s = c .before .before .before in
+    let w = s .before .args .table .now in
+    let d = sym (c .before .enum-told .given .1) ∙ s .check-working .ensures in
+    ap Figure.Value (read-back w64 (c .bound-of .result) (c .bound-of .ok) ∙ c .bound-of .ensures ∙ bound-known (known (s .before .args .case) w false false d .0))
+    ∙ figure-given (s .before .args .case) w false false (upperBound (s .before .args .case) w) d
+
+pub upper-bound-spec : {M : Type 1} → statement M
+upper-bound-spec =
+    tie.close
+    (tie.spec
+    check-working-requires
+    enum-known-checked
+    enum-told
+    bound-of-requires
+    returns
+    returns-2)

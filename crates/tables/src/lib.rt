@@ -1,0 +1,507 @@
+// The check of what is handed over, totals and upper bounds (document 01, "Links, scopes and totals" and "Turned back").
+use definitions::Case;
+use definitions::Figure;
+use definitions::Outcome;
+use definitions::Refusal;
+use definitions::Verdict;
+ghost use mathlib.Core.Path.{_≡_};
+ghost use mathlib.Core.Bool.{not, _&&_};
+ghost use lib.Dec.{T, ltb};
+ghost use mathlib.Core.List.{[], _∷_, map};
+ghost use Prim.Native.Nat.{_+_, _*_, _≤_, _<_};
+ghost use lib.ListN.{length};
+ghost use Rattle.integers.specs.Words.{if_then_else_, below, any, all, within, withinZ, greatestOf, sum};
+ghost use Rattle.definitions.specs.Rules.{standard};
+ghost use Rattle.definitions.specs.Refusals.{_when_, firstOf};
+ghost use Rattle.definitions.specs.declared.Refusal.the-variants.{WeightOutOfRange};
+ghost use Rattle.definitions.specs.Answers.{outcomeOf};
+ghost use Rattle.definitions.specs.Case.{place, weight, greatest as greatestWeight, valueOf, atUsed, objective as total, scopeCount, scopes, isAssignment, active, lentLength};
+ghost use Rattle.definitions.specs.Valid.{startingWeight, workingWeight, withinLimits, someEdge, sameEnds, limitTest, edgeTests, handedOver};
+ghost use Rattle.definitions.specs.Calls.{objectiveAnswer, upperBoundAnswer, isActiveAnswer, tupleOut};
+ghost use Rattle.theory.proofs.Validity.{Handed};
+ghost use Rattle.tables.specs.Scopes.{Limited, ofSize, sizeOf, bestAt, writtenOver, greatestCall, cut, boundOf, boundWith};
+ghost use Rattle.tables.specs.Edges.{faulty, withEdges};
+
+// The limits of a case.
+const VARIABLES: usize = 48;
+
+const VALUES: usize = 8;
+
+const EDGES: usize = 96;
+
+// The greatest starting and working weight on either side of 0.
+const STARTING: i64 = 1_000_000;
+
+const WORKING: i64 = 500_000_000;
+
+// What can be wrong with an edge.
+enum Fault {
+    Outside,
+    NotAscending,
+    Repeated,
+}
+
+// ---- the check
+
+fn in_range(x: usize, low: usize, high: usize) -> bool
+    ensures { λ r. ⌜ r ≡ within low high x ⌝ }
+{
+    low <= x && x <= high
+}
+
+fn same_ends<'a>(lower: &'a [u8; 96], upper: &'a [u8; 96], e: usize, f: usize) -> bool
+    requires { ⌜ (e < 96) × (f < 96) ⌝ }
+    ensures { λ r. ⌜ r ≡ sameEnds (withEdges 0 (now (lower .entry)) (now (upper .entry))) e f ⌝ }
+{
+    (lower[e] == lower[f]) & (upper[e] == upper[f])
+}
+
+// An edge before e joins the same variables. All are looked at, so that many are at once.
+fn repeated<'a>(lower: &'a [u8; 96], upper: &'a [u8; 96], e: usize) -> bool
+    requires { ⌜ e < 96 ⌝ }
+    ensures { λ r. ⌜ r ≡ faulty (withEdges 0 (now (lower .entry)) (now (upper .entry))) Fault.Repeated e ⌝ }
+{
+    let mut found = false;
+    let mut f: usize = 0;
+    while f < e {
+        found |= same_ends(lower, upper, e, f);
+        f += 1;
+    }
+    found
+}
+
+fn both_below(i: u8, j: u8, n: usize) -> bool
+    ensures { λ r. ⌜ r ≡ (ltb i n && ltb j n) ⌝ }
+{
+    (i as usize) < n && (j as usize) < n
+}
+
+fn is_faulty<'a>(n: usize, lower: &'a [u8; 96], upper: &'a [u8; 96], fault: Fault, e: usize) -> bool
+    requires { ⌜ e < 96 ⌝ }
+    ensures { λ r. ⌜ r ≡ faulty (withEdges n (now (lower .entry)) (now (upper .entry))) fault e ⌝ }
+{
+    match fault {
+        Fault::Outside => !both_below(lower[e], upper[e], n),
+        Fault::NotAscending => !(lower[e] < upper[e]),
+        Fault::Repeated => repeated(lower, upper, e),
+    }
+}
+
+fn some_faulty<'a>(
+    n: usize,
+    m: usize,
+    lower: &'a [u8; 96],
+    upper: &'a [u8; 96],
+    fault: Fault,
+) -> bool
+    requires { ⌜ m ≤ 96 ⌝ }
+    ensures { λ r. ⌜ r ≡ any (faulty (withEdges n (now (lower .entry)) (now (upper .entry))) fault) (below m) ⌝ }
+{
+    let mut e: usize = 0;
+    while e < m {
+        if is_faulty(n, lower, upper, fault, e) {
+            return true;
+        }
+        e += 1;
+    }
+    false
+}
+
+fn is_within(weight: i64, low: i64, high: i64) -> bool
+    ensures { λ r. ⌜ r ≡ withinZ low high weight ⌝ }
+{
+    low <= weight && weight <= high
+}
+
+fn all_within(weights: &[i64], low: i64, high: i64) -> bool
+    ensures { λ r. ⌜ r ≡ all (withinZ low high) (now (weights .entry)) ⌝ }
+{
+    let mut i: usize = 0;
+    while i < weights.len() {
+        if !is_within(weights[i], low, high) {
+            return false;
+        }
+        i += 1;
+    }
+    true
+}
+
+fn weight_outcome(table: &[i64], low: i64, high: i64) -> Outcome
+    ensures { λ r. ⌜ r ≡ outcomeOf (firstOf (WeightOutOfRange when (not (all (withinZ low high) (now (table .entry)))) ∷ [])) ⌝ }
+{
+    if all_within(table, low, high) {
+        Outcome::Done
+    } else {
+        Outcome::Refused(Refusal::WeightOutOfRange)
+    }
+}
+
+fn table_length(case: Case) -> usize
+    requires { ⌜ Limited standard case ⌝ }
+    ensures { λ r. ⌜ r ≡ lentLength case ⌝ }
+{
+    case.n * case.d + case.m * (case.d * case.d)
+}
+
+fn has_fault(case: Case, fault: Fault) -> bool
+    requires { ⌜ case .m ≤ 96 ⌝ }
+    ensures { λ r. ⌜ r ≡ someEdge case (faulty case fault) ⌝ }
+{
+    some_faulty(case.n, case.m, &case.lower, &case.upper, fault)
+}
+
+fn edge_outcome(case: Case, out: bool) -> Outcome
+    requires { ⌜ case .m ≤ 96 ⌝ }
+    ensures { λ r. ⌜ r ≡ outcomeOf (firstOf (edgeTests case out)) ⌝ }
+{
+    if out || has_fault(case, Fault::Outside) {
+        return Outcome::Refused(Refusal::OutOfRange);
+    }
+    if has_fault(case, Fault::NotAscending) {
+        return Outcome::Refused(Refusal::EndsNotAscending);
+    }
+    if has_fault(case, Fault::Repeated) {
+        return Outcome::Refused(Refusal::EdgeRepeated);
+    }
+    Outcome::Done
+}
+
+fn check(case: Case, table: &[i64], wrong: bool, out: bool, low: i64, high: i64) -> Outcome
+    ensures { λ r. ⌜ r ≡ outcomeOf (firstOf (handedOver standard (withinZ low high) case (now (table .entry)) wrong out)) ⌝ }
+{
+    if !within_limits(case) {
+        return Outcome::Refused(Refusal::OutsideLimits);
+    }
+    if table.len() != table_length(case) || wrong {
+        return Outcome::Refused(Refusal::WrongLength);
+    }
+    let edges = edge_outcome(case, out);
+    match edges {
+        Outcome::Refused(refusal) => Outcome::Refused(refusal),
+        Outcome::Done => weight_outcome(table, low, high),
+    }
+}
+
+// ---- scopes
+
+fn scope_count(case: Case) -> usize
+    requires { ⌜ Limited standard case ⌝ }
+    ensures { λ r. ⌜ r ≡ scopeCount case ⌝ }
+{
+    case.n + case.m
+}
+
+fn place_of(n: usize, d: usize, x: usize, k: usize, l: usize) -> usize
+    requires { ⌜ (n ≤ 48) × (d ≤ 8) × (x < n + 96) × (k < 8) × (l < 8) ⌝ }
+    ensures { λ r. ⌜ r ≡ place (ofSize n d) x k l ⌝ }
+{
+    if x < n {
+        x * d + k
+    } else {
+        n * d + (x - n) * (d * d) + (k * d + l)
+    }
+}
+
+fn size_of(n: usize, d: usize, x: usize) -> usize
+    requires { ⌜ d ≤ 8 ⌝ }
+    ensures { λ r. ⌜ r ≡ sizeOf (ofSize n d) x ⌝ }
+{
+    if x < n { d } else { d * d }
+}
+
+fn weight_at(case: Case, table: &[i64], x: usize, k: usize, l: usize) -> i64
+    requires { ⌜ Limited standard case ⌝ }
+    requires { ⌜ length (now table) ≡ lentLength case ⌝ }
+    requires { ⌜ (x < case .n + case .m) × (k < case .d) × (l < case .d) ⌝ }
+    ensures { λ r. ⌜ r ≡ weight case (now (table .entry)) x k l ⌝ }
+{
+    let p = place_of(case.n, case.d, x, k, l);
+    table[p]
+}
+
+fn scope_greatest(case: Case, table: &[i64], x: usize) -> i64
+    requires { ⌜ Limited standard case ⌝ }
+    requires { ⌜ length (now table) ≡ lentLength case ⌝ }
+    requires { ⌜ x < case .n + case .m ⌝ }
+    ensures { λ r. ⌜ r ≡ greatestWeight case (now (table .entry)) x ⌝ }
+{
+    let first = place_of(case.n, case.d, x, 0, 0);
+    let end = first + size_of(case.n, case.d, x);
+    greatest(&table[first..end])
+}
+
+// ---- the upper bound
+
+fn cut_weight(weight: i64) -> i64
+    ensures { λ r. ⌜ r ≡ cut standard weight ⌝ }
+{
+    if weight < -WORKING {
+        return -WORKING;
+    }
+    if WORKING < weight {
+        return WORKING;
+    }
+    weight
+}
+
+fn write_greatest(case: Case, table: &[i64], best: &mut [i64])
+    requires { ⌜ Limited standard case ⌝ }
+    requires { ⌜ length (now table) ≡ lentLength case ⌝ }
+    requires { ⌜ scopeCount case ≤ length (now best) ⌝ }
+    ensures { λ _. ⌜ now (best .exit) ≡ writtenOver (map (greatestWeight case (now (table .entry))) (scopes case)) (now (best .entry)) ⌝ }
+{
+    let scopes = scope_count(case);
+    let mut x: usize = 0;
+    while x < scopes {
+        let weight = scope_greatest(case, table, x);
+        best[x] = weight;
+        x += 1;
+    }
+}
+
+fn sum_of_best(case: Case, best: &[i64]) -> i64
+    requires { ⌜ Limited standard case ⌝ }
+    requires { ⌜ scopeCount case ≤ length (now best) ⌝ }
+    ensures { λ r. ⌜ r ≡ sum (map (λ x. cut standard (bestAt (now (best .entry)) x)) (scopes case)) ⌝ }
+{
+    let scopes = scope_count(case);
+    let mut sum: i64 = 0;
+    let mut x: usize = 0;
+    while x < scopes {
+        sum += cut_weight(best[x]);
+        x += 1;
+    }
+    sum
+}
+
+fn sum_of_greatest(case: Case, table: &[i64]) -> i64
+    requires { ⌜ Limited standard case ⌝ }
+    requires { ⌜ length (now table) ≡ lentLength case ⌝ }
+    ensures { λ r. ⌜ r ≡ sum (map (λ x. cut standard (greatestWeight case (now (table .entry)) x)) (scopes case)) ⌝ }
+{
+    let mut best = [0i64; 144];
+    write_greatest(case, table, &mut best);
+    sum_of_best(case, &best)
+}
+
+// ---- activity
+
+fn tuple_out(case: Case, x: usize, k: usize, l: usize) -> bool
+    ensures { λ r. ⌜ r ≡ tupleOut case x k l ⌝ }
+{
+    if case.d <= k {
+        return true;
+    }
+    if x < case.n {
+        return l != 0;
+    }
+    if case.m <= x - case.n {
+        return true;
+    }
+    !(l < case.d)
+}
+
+fn has_greatest(case: Case, table: &[i64], x: usize, k: usize, l: usize) -> Verdict
+    requires { ⌜ Limited standard case ⌝ }
+    requires { ⌜ length (now table) ≡ lentLength case ⌝ }
+    requires { ⌜ (x < case .n + case .m) × (k < case .d) × (l < case .d) ⌝ }
+    ensures { λ r. ⌜ r ≡ (if active case (now (table .entry)) x k l then Verdict.Yes else Verdict.No) ⌝ }
+{
+    if weight_at(case, table, x, k, l) == scope_greatest(case, table, x) {
+        Verdict::Yes
+    } else {
+        Verdict::No
+    }
+}
+
+// ---- the objective
+
+fn wide(value: u8) -> usize
+    ensures { λ r. ⌜ r ≡ value ⌝ }
+{
+    value as usize
+}
+
+fn value_of(assignment: &[u8], i: usize) -> usize
+    ensures { λ r. ⌜ r ≡ valueOf (now (assignment .entry)) i ⌝ }
+{
+    if i < assignment.len() {
+        wide(assignment[i])
+    } else {
+        0
+    }
+}
+
+fn used_weight(case: Case, table: &[i64], assignment: &[u8], x: usize) -> i64
+    requires { ⌜ Handed standard (workingWeight standard) case (now table) ⌝ }
+    requires { ⌜ T (isAssignment case (now assignment)) ⌝ }
+    requires { ⌜ x < case .n + case .m ⌝ }
+    ensures { λ r. ⌜ r ≡ atUsed case (now (assignment .entry)) x (weight case (now (table .entry)) x) ⌝ }
+{
+    if x < case.n {
+        return weight_at(case, table, x, value_of(assignment, x), 0);
+    }
+    let e = x - case.n;
+    let k = value_of(assignment, wide(case.lower[e]));
+    let l = value_of(assignment, wide(case.upper[e]));
+    weight_at(case, table, x, k, l)
+}
+
+fn sum_of_used(case: Case, table: &[i64], assignment: &[u8]) -> i64
+    requires { ⌜ Handed standard (workingWeight standard) case (now table) ⌝ }
+    requires { ⌜ T (isAssignment case (now assignment)) ⌝ }
+    ensures { λ r. ⌜ r ≡ total case (now (table .entry)) (now (assignment .entry)) ⌝ }
+{
+    let scopes = scope_count(case);
+    let mut sum: i64 = 0;
+    let mut x: usize = 0;
+    while x < scopes {
+        sum += used_weight(case, table, assignment, x);
+        x += 1;
+    }
+    sum
+}
+
+// ---- the calls
+
+pub fn within_limits(case: Case) -> bool
+    ensures { λ r. ⌜ r ≡ withinLimits standard (case .n) (case .d) (case .m) ⌝ }
+{
+    if !in_range(case.n, 1, VARIABLES) {
+        return false;
+    }
+    if !in_range(case.d, 1, VALUES) {
+        return false;
+    }
+    in_range(case.m, 0, EDGES)
+}
+
+pub fn check_starting(case: Case, table: &[i64], wrong: bool, out: bool) -> Outcome
+    ensures { λ r. ⌜ r ≡ outcomeOf (firstOf (handedOver standard (startingWeight standard) case (now (table .entry)) wrong out)) ⌝ }
+{
+    check(case, table, wrong, out, -STARTING, STARTING)
+}
+
+pub fn check_working(case: Case, table: &[i64], wrong: bool, out: bool) -> Outcome
+    ensures { λ r. ⌜ r ≡ outcomeOf (firstOf (handedOver standard (workingWeight standard) case (now (table .entry)) wrong out)) ⌝ }
+{
+    check(case, table, wrong, out, -WORKING, WORKING)
+}
+
+// What is asked where no table is lent.
+pub fn check_edges(case: Case, out: bool) -> Outcome
+    ensures { λ r. ⌜ r ≡ outcomeOf (firstOf (limitTest standard case ∷ edgeTests case out)) ⌝ }
+{
+    if within_limits(case) {
+        edge_outcome(case, out)
+    } else {
+        Outcome::Refused(Refusal::OutsideLimits)
+    }
+}
+
+// 0 where there is none.
+pub fn greatest(weights: &[i64]) -> i64
+    ensures { λ r. ⌜ r ≡ greatestOf (now (weights .entry)) ⌝ }
+{
+    if weights.len() == 0 {
+        return 0;
+    }
+    let mut best = weights[0];
+    let mut i: usize = 1;
+    while i < weights.len() {
+        let w = weights[i];
+        if best < w {
+            best = w;
+        }
+        i += 1;
+    }
+    best
+}
+
+// Writes each scope's greatest weight to the first n + m places of `best`.
+pub fn greatest_weights(case: Case, table: &[i64], best: &mut [i64]) -> Outcome
+    ensures { λ r. ⌜ (r ≡ greatestCall standard case (now (table .entry)) (now (best .entry)) .answer) × (now (best .exit) ≡ greatestCall standard case (now (table .entry)) (now (best .entry)) .best) ⌝ }
+{
+    if !within_limits(case) {
+        return Outcome::Refused(Refusal::OutsideLimits);
+    }
+    if table.len() != table_length(case) {
+        return Outcome::Refused(Refusal::WrongLength);
+    }
+    if best.len() < scope_count(case) {
+        return Outcome::Refused(Refusal::WrongLength);
+    }
+    write_greatest(case, table, best);
+    Outcome::Done
+}
+
+// The upper bound from the scopes' greatest weights; what it is of any other numbers, `boundWith` says.
+pub fn bound_with(case: Case, best: &[i64]) -> i64
+    ensures { λ r. ⌜ r ≡ boundWith standard case (now (best .entry)) ⌝ }
+{
+    if !within_limits(case) {
+        return 0;
+    }
+    if best.len() < scope_count(case) {
+        return 0;
+    }
+    sum_of_best(case, best)
+}
+
+// Some value is d or more.
+pub fn some_beyond(values: &[u8], d: usize) -> bool
+    ensures { λ r. ⌜ r ≡ any (λ k. not (ltb k d)) (now (values .entry)) ⌝ }
+{
+    let mut i: usize = 0;
+    while i < values.len() {
+        if d <= wide(values[i]) {
+            return true;
+        }
+        i += 1;
+    }
+    false
+}
+
+// The upper bound of a case and a table that were checked before; what it is of any others, `boundOf` says.
+pub fn bound_of(case: Case, table: &[i64]) -> i64
+    ensures { λ r. ⌜ r ≡ boundOf standard case (now (table .entry)) ⌝ }
+{
+    if !within_limits(case) {
+        return 0;
+    }
+    if table.len() != table_length(case) {
+        return 0;
+    }
+    sum_of_greatest(case, table)
+}
+
+pub fn upper_bound(case: Case, table: &[i64]) -> Figure
+    ensures { λ r. ⌜ r ≡ upperBoundAnswer standard case (now (table .entry)) ⌝ }
+{
+    let checked = check_working(case, table, false, false);
+    match checked {
+        Outcome::Refused(refusal) => Figure::Refused(refusal),
+        Outcome::Done => Figure::Value(bound_of(case, table)),
+    }
+}
+
+pub fn is_active(case: Case, table: &[i64], scope: usize, k: usize, l: usize) -> Verdict
+    ensures { λ r. ⌜ r ≡ isActiveAnswer standard case (now (table .entry)) scope k l ⌝ }
+{
+    let checked = check_working(case, table, false, tuple_out(case, scope, k, l));
+    match checked {
+        Outcome::Refused(refusal) => Verdict::Refused(refusal),
+        Outcome::Done => has_greatest(case, table, scope, k, l),
+    }
+}
+
+pub fn objective(case: Case, table: &[i64], assignment: &[u8]) -> Figure
+    ensures { λ r. ⌜ r ≡ objectiveAnswer standard case (now (table .entry)) (now (assignment .entry)) ⌝ }
+{
+    let wrong = assignment.len() != case.n;
+    let checked = check_working(case, table, wrong, some_beyond(assignment, case.d));
+    match checked {
+        Outcome::Refused(refusal) => Figure::Refused(refusal),
+        Outcome::Done => Figure::Value(sum_of_used(case, table, assignment)),
+    }
+}
