@@ -33,7 +33,7 @@ use Rattle.definitions.specs.Calls.{TableCall, LineCall, WriterCall, Wri
 use Rattle.definitions.specs.Calls.{refutedAnswer, shiftCall, pressCall, readLineAnswer, writeLineCall, putLineCall, writeCaseCall}
 use Rattle.definitions.specs.EngineCalls.{RoundCall, RunCall, roundCall, runCall}
 use Rattle.definitions.specs.Samples.{Input, Question, replay-of, Result, replayed, Sample, answer}
-use Rattle.definitions.specs.Samples.{triangle, couple, clash, example2, single, texts, log5, log8, twoRounds, zeros}
+use Rattle.definitions.specs.Samples.{given, triangle, couple, clash, example2, single, texts, log5, log8, twoRounds, zeros}
 
 -- ---- questions and answers
 
@@ -59,9 +59,6 @@ abbrev value : ℤ → Says
 value z = says 0 (z ∷ [])
 
 -- ---- cases
-
-abbrev given : ℕ → ℕ → ℕ → List ℕ → List ℕ → List ℤ → Input
-given n d m lower upper w = record { case = record { n = n; d = d; m = m; lower = lower; upper = upper }; weights = w }
 
 -- the greatest working weight
 abbrev W : ℕ

@@ -42,6 +42,7 @@ use Rattle.definitions.specs.Samples.{
   samples,
   ourSamples,
   answer,
+  given,
   triangle,
   clash,
   example2,
@@ -117,16 +118,16 @@ totals = refl
 
 -- numbers 3 to 8 of a case and a table, and their order
 abbrev joining : ℕ → ℕ → ℕ → ℕ → ℕ → Case
-joining n i j k l = record { n = n; d = 1; m = 2; lower = i ∷ k ∷ []; upper = j ∷ l ∷ [] }
+joining n i j k l = given n 1 2 (i ∷ k ∷ []) (j ∷ l ∷ []) [] .case
 
 abbrev numberOn : Case → List ℤ → ℕ
 numberOn c w = figureSays (upperBoundAnswer standard c w) .number
 
 pub numbers-3-to-8 :
-    numberOn (record { n = 49; d = 1; m = 0; lower = []; upper = [] }) []
-    ∷ numberOn (record { n = 48; d = 1; m = 0; lower = []; upper = [] }) []
-    ∷ numberOn (record { n = 1; d = 9; m = 0; lower = []; upper = [] }) []
-    ∷ numberOn (record { n = 1; d = 1; m = 97; lower = []; upper = [] }) []
+    numberOn (given 49 1 0 [] [] [] .case) []
+    ∷ numberOn (given 48 1 0 [] [] [] .case) []
+    ∷ numberOn (given 1 9 0 [] [] [] .case) []
+    ∷ numberOn (given 1 1 97 [] [] [] .case) []
     ∷ numberOn (joining 3 0 1 0 2) (zeros 4)
     ∷ numberOn (joining 3 0 3 0 2) (zeros 5)
     ∷ numberOn (joining 3 0 1 2 2) (zeros 5)

@@ -8,11 +8,11 @@ use Prim.Native.Nat.{ℕ}
 use Prim.Native.String.{String}
 use lib.IntN.{ℤ, pos}
 use lib.Dec.{T}
-use lib.ListN.{replicate}
+use lib.ListN.{take, replicate}
 use Rattle.integers.specs.Words.{below, all, joined, minus}
 use Rattle.definitions.specs.declared.Case.{Case}
 use Rattle.definitions.specs.declared.RunAnswer.{RunAnswer}
-use Rattle.definitions.specs.Rules.{standard}
+use Rattle.definitions.specs.Rules.{standard, edgePlaces}
 use Rattle.definitions.specs.Refusals.{numberOf}
 use Rattle.definitions.specs.Case.{scopes, eachTuple, active, upperBound}
 use Rattle.definitions.specs.Valid.{valid}
@@ -28,19 +28,26 @@ pub record Input : Type 0 where
   pub case : Case
   pub weights : List ℤ
 
+-- A case as a caller hands it over: its record has 96 places for the ends of edges, and those from m on hold what is no variable of any case.
+-- Every sample is over such a record.
+abbrev padded : List ℕ → List ℕ
+padded ends = take edgePlaces (ends ++ replicate edgePlaces 200)
+
+abbrev pub given : ℕ → ℕ → ℕ → List ℕ → List ℕ → List ℤ → Input
+given n d m lower upper w = record { case = record { n = n; d = d; m = m; lower = padded lower; upper = padded upper }; weights = w }
+
 abbrev unequal : List ℤ
 unequal = minus 1 ∷ pos 0 ∷ pos 0 ∷ minus 1 ∷ []
 
 -- three links, D 2, pairs (0,1), (0,2), (1,2), weights 0 but −1 for equal values
 abbrev pub triangle : Input
-triangle = record {
-  case = record { n = 3; d = 2; m = 3; lower = 0 ∷ 0 ∷ 1 ∷ []; upper = 1 ∷ 2 ∷ 2 ∷ [] };
-  weights = pos 0 ∷ pos 0 ∷ pos 0 ∷ pos 0 ∷ pos 0 ∷ pos 0 ∷ unequal ++ unequal ++ unequal;
-}
+triangle =
+    given 3 2 3 (0 ∷ 0 ∷ 1 ∷ []) (1 ∷ 2 ∷ 2 ∷ [])
+    (pos 0 ∷ pos 0 ∷ pos 0 ∷ pos 0 ∷ pos 0 ∷ pos 0 ∷ unequal ++ unequal ++ unequal)
 
 -- two links and their pair, D 2
 abbrev pub couple : List ℤ → Input
-couple w = record { case = record { n = 2; d = 2; m = 1; lower = 0 ∷ []; upper = 1 ∷ [] }; weights = w }
+couple w = given 2 2 1 (0 ∷ []) (1 ∷ []) w
 
 -- link weights 2, 0 and 2, 0, pair weights 0 but −3 at (0,0)
 abbrev pub clash : Input
@@ -52,7 +59,7 @@ example2 = couple (pos 3 ∷ pos 4 ∷ pos 6 ∷ pos 2 ∷ minus 2 ∷ minus 4 �
 
 -- one link, one value, −7
 abbrev pub single : Input
-single = record { case = record { n = 1; d = 1; m = 0; lower = []; upper = [] }; weights = minus 7 ∷ [] }
+single = given 1 1 0 [] [] (minus 7 ∷ [])
 
 -- ---- questions and answers
 
@@ -243,10 +250,9 @@ clashAbove = couple (pos 0 ∷ pos 2 ∷ pos 0 ∷ pos 2 ∷ pos 0 ∷ pos 0 ∷
 
 -- links 0 and 1, and 0 and 2, clash as above: the active value of link 0 is refuted through link 1 and through link 2
 abbrev twoReasons : Input
-twoReasons = record {
-  case = record { n = 3; d = 2; m = 2; lower = 0 ∷ 0 ∷ []; upper = 1 ∷ 2 ∷ [] };
-  weights = pos 2 ∷ pos 0 ∷ pos 2 ∷ pos 0 ∷ pos 2 ∷ pos 0 ∷ minus 3 ∷ zeros 3 ++ (minus 3 ∷ zeros 3);
-}
+twoReasons =
+    given 3 2 2 (0 ∷ 0 ∷ []) (1 ∷ 2 ∷ [])
+    (pos 2 ∷ pos 0 ∷ pos 2 ∷ pos 0 ∷ pos 2 ∷ pos 0 ∷ minus 3 ∷ zeros 3 ++ (minus 3 ∷ zeros 3))
 
 -- two rounds; a second round whose bound is no lower than the first's
 abbrev pub twoRounds : List String
@@ -258,6 +264,16 @@ staleStart = log6 ++ (" 1   0   0   0          -1\n" ∷ " 4   0   0   0        
 -- a round whose first move raises the upper bound, to 5
 abbrev pub upFirst : List String
 upFirst = " 1   0   0   0           1\n" ∷ " 1   0   0   0          -1\n" ∷ log6
+
+-- the bound of a round is compared with that at its start: 4 after 5 by the last move but one; 3 after 3; no move after a round
+abbrev pub upAndBack : List String
+upAndBack = " 1   0   0   0           1\n" ∷ " 1   0   0   0          -1\n" ∷ " 4   0   0   0           4\n" ∷ []
+
+abbrev pub stillAfterPress : List String
+stillAfterPress = take 3 log6 ++ (" 1   0   0   0          -1\n" ∷ " 4   0   0   0           3\n" ∷ [])
+
+abbrev pub boundAgain : List String
+boundAgain = log6 ++ (" 4   0   0   0           3\n" ∷ [])
 
 abbrev pub ourSamples : List Sample
 ourSamples =
@@ -282,6 +298,11 @@ ourSamples =
     replayed none4 0 1 (pos 3) (pos 0 ∷ minus 1 ∷ pos 3 ∷ pos 2 ∷ zeros 4)
     ∷ replay-of clash upFirst gives
     replayed (0 ∷ 0 ∷ none4) 0 1 (pos 3) (pos 1 ∷ pos 0 ∷ pos 2 ∷ pos 1 ∷ minus 2 ∷ zeros 3)
+    ∷ replay-of clash upAndBack gives replayed (0 ∷ 0 ∷ 13 ∷ []) 13 0 (pos 4) (clash .weights)
+    ∷ replay-of clash stillAfterPress gives
+    replayed (0 ∷ none4) 0 1 (pos 3) (pos 0 ∷ pos 0 ∷ pos 2 ∷ pos 1 ∷ minus 1 ∷ pos 1 ∷ zeros 2)
+    ∷ replay-of clash boundAgain gives
+    replayed (none4 ++ (13 ∷ [])) 13 1 (pos 3) (pos 1 ∷ pos 0 ∷ pos 2 ∷ pos 1 ∷ minus 2 ∷ zeros 3)
     -- the limits: weight 1,000,000 passes and 1,000,001 is number 8; 49 links are number 3
     ∷ replay-on ("10   1   1   0           0\n" ∷ "11   0   0   0     1000000\n" ∷ []) gives prints (bytesOf "accepted 0 1000000\n")
     ∷ replay-on ("10   1   1   0           0\n" ∷ "11   0   0   0     1000001\n" ∷ []) gives prints (bytesOf "refused 8 1\n")
@@ -311,7 +332,7 @@ our-samples-valid = tt
 
 -- 48 links pass
 abbrev wide : Input
-wide = record { case = record { n = 48; d = 1; m = 0; lower = []; upper = [] }; weights = zeros 48 }
+wide = given 48 1 0 [] [] (zeros 48)
 
 pub wide-accepted : replayPrints standard (caseText standard (wide .case) (wide .weights)) ≡ bytesOf "accepted 0 0\n"
 wide-accepted = refl
