@@ -1,4 +1,5 @@
 -- Laws of the definitions.
+pub mod AnswerLaws
 pub mod ColumnLaws
 pub mod LineLaws
 pub mod CaseLaws

@@ -2,8 +2,27 @@
 use mathlib.Core.Option.{Option, none, some}
 use mathlib.Core.List.{List, [], _∷_}
 use Prim.Native.Nat.{ℕ}
-use lib.IntN.{ℤ, pos}
+use lib.IntN.{ℤ, pos, natAbs}
+use lib.Dec.{eqb}
+use lib.ListN.{getD}
+use Rattle.integers.specs.Words.{if_then_else_}
 use Rattle.definitions.specs.declared.Refusal.{Refusal}
+use Rattle.definitions.specs.declared.Refusal.the-variants.{
+  NotInColumns,
+  NotDue,
+  OutsideLimits,
+  WrongLength,
+  OutOfRange,
+  EndsNotAscending,
+  EdgeRepeated,
+  WeightOutOfRange,
+  RaiseNotAscending,
+  NotRefuted,
+  LeavesRange,
+  OtherBound,
+  BoundNotLower,
+  CutShort,
+}
 use Rattle.definitions.specs.declared.Line.{Line}
 use Rattle.definitions.specs.declared.Outcome.{Outcome}
 use Rattle.definitions.specs.declared.Figure.{Figure}
@@ -87,6 +106,41 @@ abbrev pub choiceSays : Choice → Says
 choiceSays Choice.First = gives (pos 0 ∷ [])
 choiceSays Choice.Second = gives (pos 1 ∷ [])
 choiceSays (Choice.Refused x) = saysNo x
+
+-- ---- what is said, part by part
+
+-- the value in a place, 0 where there is none; a value that counts, as a count
+abbrev pub valueAt : Says → ℕ → ℤ
+valueAt s k = getD (s .values) k (pos 0)
+
+abbrev pub countAt : Says → ℕ → ℕ
+countAt s k = natAbs (valueAt s k)
+
+-- all refusals, and the one that has a number
+abbrev pub refusals : List Refusal
+refusals =
+    NotInColumns
+    ∷ NotDue
+    ∷ OutsideLimits
+    ∷ WrongLength
+    ∷ OutOfRange
+    ∷ EndsNotAscending
+    ∷ EdgeRepeated
+    ∷ WeightOutOfRange
+    ∷ RaiseNotAscending
+    ∷ NotRefuted
+    ∷ LeavesRange
+    ∷ OtherBound
+    ∷ BoundNotLower
+    ∷ CutShort
+    ∷ []
+
+abbrev pub refusalAmong : ℕ → List Refusal → Option Refusal
+refusalAmong n [] = none
+refusalAmong n (x ∷ xs) = if eqb n (number x) then some x else refusalAmong n xs
+
+abbrev pub refusalOf : ℕ → Option Refusal
+refusalOf n = refusalAmong n refusals
 
 -- ---- an answer by whether a refusal applies
 
