@@ -116,6 +116,10 @@ valueAt s k = getD (s .values) k (pos 0)
 abbrev pub countAt : Says → ℕ → ℕ
 countAt s k = natAbs (valueAt s k)
 
+-- the line that a refusal in a file names, 0 where none applies
+abbrev pub lineNamed : Says → ℕ
+lineNamed s = if eqb (s .number) 0 then 0 else countAt s 0
+
 -- all refusals, and the one that has a number
 abbrev pub refusals : List Refusal
 refusals =

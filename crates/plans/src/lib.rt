@@ -8,6 +8,7 @@ ghost use lib.Dec.{T};
 ghost use lib.Signed.{ltZ};
 ghost use Rattle.integers.specs.Words.{if_then_else_};
 ghost use Rattle.definitions.specs.Rules.{standard};
+ghost use Rattle.definitions.specs.Answers.{choiceSays};
 ghost use Rattle.definitions.specs.Case.{objective, isAssignment};
 ghost use Rattle.definitions.specs.Scoring.{betterOf, better as betterPart};
 ghost use Rattle.theory.proofs.Validity.{Valid};
@@ -59,15 +60,31 @@ pub fn better_of(case: Case, table: &[i64], first: &[u8], second: &[u8]) -> Choi
     }
 }
 
-// That one itself; an empty part where it is refused.
-pub fn better<'a>(case: Case, table: &[i64], first: &'a [u8], second: &'a [u8]) -> &'a [u8]
+// That one itself; an empty part where it is refused. The number (0 where none applies) is written to `number`.
+pub fn better<'a>(
+    case: Case,
+    table: &[i64],
+    first: &'a [u8],
+    second: &'a [u8],
+    number: &mut u8,
+) -> &'a [u8]
     ensures { λ r. ⌜ now r ≡ betterPart standard case (now (table .entry)) (now (first .entry)) (now (second .entry)) ⌝ }
     ensures { λ r. ⌜ (betterOf standard case (now (table .entry)) (now (first .entry)) (now (second .entry)) ≡ Choice.First → r ≡ first .entry) × (betterOf standard case (now (table .entry)) (now (first .entry)) (now (second .entry)) ≡ Choice.Second → r ≡ second .entry) ⌝ }
+    ensures { λ _. ⌜ now (number .exit) ≡ choiceSays (betterOf standard case (now (table .entry)) (now (first .entry)) (now (second .entry))) .number ⌝ }
 {
     let choice = better_of(case, table, first, second);
     match choice {
-        Choice::First => first,
-        Choice::Second => second,
-        Choice::Refused(_) => &first[0..0],
+        Choice::First => {
+            *number = 0;
+            first
+        }
+        Choice::Second => {
+            *number = 0;
+            second
+        }
+        Choice::Refused(refusal) => {
+            *number = texts::number_of(refusal);
+            &first[0..0]
+        }
     }
 }

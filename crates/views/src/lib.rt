@@ -11,6 +11,7 @@ ghost use Rattle.integers.specs.Words.{if_then_else_};
 ghost use Rattle.definitions.specs.Rules.{standard};
 ghost use Rattle.definitions.specs.Lines.{isKind, hasPart};
 ghost use Rattle.definitions.specs.declared.Refusal.the-variants.{OutOfRange, CutShort};
+ghost use Rattle.definitions.specs.Answers.{spanSays, lineNamed};
 ghost use Rattle.definitions.specs.Calls.{readLineAnswer};
 ghost use Rattle.definitions.specs.Views.{roundSpan, roundView};
 ghost use Rattle.views.specs.Steps.{long, endedStep, passedStep};
@@ -116,17 +117,25 @@ pub fn round_span(log: &[u8], round: u64) -> Span
     }
 }
 
-// That part of the log itself; empty where it is refused.
-pub fn round_view(log: &[u8], round: u64) -> &[u8]
+// That part of the log itself, empty where it is refused. The number (0 where none applies) and the refusal's line (else 0) are written to
+// `number` and `line`.
+pub fn round_view<'a>(log: &'a [u8], round: u64, number: &mut u8, line: &mut usize) -> &'a [u8]
     ensures { λ r. ⌜ now r ≡ roundView standard (now (log .entry)) round ⌝ }
     ensures { λ r. ⌜ ((from to : ℕ) → roundSpan standard (now (log .entry)) round ≡ Span.Part from to → r .ptr ≡ (log .entry .ptr .0, from + log .entry .ptr .1)) ⌝ }
+    ensures { λ _. ⌜ now (number .exit) ≡ spanSays (roundSpan standard (now (log .entry)) round) .number ⌝ }
+    ensures { λ _. ⌜ now (line .exit) ≡ lineNamed (spanSays (roundSpan standard (now (log .entry)) round)) ⌝ }
 {
     let span = round_span(log, round);
     match span {
-        Span::Part { from, to } => &log[from..to],
-        Span::Refused {
-            refusal: _,
-            line: _,
-        } => &log[0..0],
+        Span::Part { from, to } => {
+            *number = 0;
+            *line = 0;
+            &log[from..to]
+        }
+        Span::Refused { refusal, line: at } => {
+            *number = texts::number_of(refusal);
+            *line = at;
+            &log[0..0]
+        }
     }
 }

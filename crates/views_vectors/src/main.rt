@@ -13,6 +13,10 @@ fn print(text: &[u8]) {
     drivers::print(text);
 }
 
+fn wide(value: u8) -> i64 {
+    value as i64
+}
+
 fn print_refusal(refusal: Refusal) {
     print(b":");
     drivers::print_refusal(refusal);
@@ -106,12 +110,23 @@ fn print_span(span: Span) {
             drivers::print_count(line as u64);
         }
     }
-    print(b"\n");
+}
+
+fn print_written(number: u8) {
+    print(b" number");
+    drivers::print_number(wide(number));
 }
 
 fn view(log: &[u8], round: u64) {
+    let mut number = 255u8;
+    let mut line: usize = 255;
     print_span(views::round_span(log, round));
-    print(views::round_view(log, round));
+    let part = views::round_view(log, round, &mut number, &mut line);
+    print_written(number);
+    print(b" line");
+    drivers::print_count(line as u64);
+    print(b"\n");
+    print(part);
 }
 
 fn put_in(log: &mut [u8; 219], at: usize, kind: i64, a: i64, b: i64, amount: i64) {
@@ -203,10 +218,6 @@ fn print_choice(choice: Choice) {
     }
 }
 
-fn wide(value: u8) -> i64 {
-    value as i64
-}
-
 fn print_plan(plan: &[u8]) {
     if plan.len() == 2 {
         drivers::print_number(wide(plan[0]));
@@ -217,8 +228,11 @@ fn print_plan(plan: &[u8]) {
 }
 
 fn compare<'a>(case: Case, table: &[i64], first: &'a [u8], second: &'a [u8]) {
+    let mut number = 255u8;
     print_choice(plans::better_of(case, table, first, second));
-    print_plan(plans::better(case, table, first, second));
+    let plan = plans::better(case, table, first, second, &mut number);
+    print_plan(plan);
+    print_written(number);
     print(b"\n");
 }
 

@@ -2,20 +2,16 @@ use mathlib.Core.Path.{_≡_, refl, sym, ap, _∙_}
 use denote.Ref.{now}
 use Rattle.definitions.specs.declared.Choice.{Choice}
 use Rattle.definitions.specs.Rules.{standard}
-use Rattle.definitions.specs.Scoring.{chosenPart, better, betterOf}
+use Rattle.definitions.specs.Answers.{choiceSays}
+use Rattle.definitions.specs.Scoring.{chosenPart, betterOf}
 use borrow.Author.Needs.{needs}
 use Rattle.plans.proofs.better.Statement.{statement}
 use Rattle.plans.proofs.better.Tie as tie
 
--- the part of a choice that was made
-answered : (c : tie.After-better-of) {x : Choice} → c .better-of .result ≡ x → let a = c .before .before .before .args in
-    chosenPart (now (a .first)) (now (a .second)) x ≡ better standard (a .case) (now (a .table)) (now (a .first)) (now (a .second))
-answered c e = let a = c .before .before .before .args in ap (chosenPart (now (a .first)) (now (a .second))) (sym e ∙ c .better-of .ensures)
-
--- the choice that was made is no other
-only : (c : tie.After-better-of) {x y : Choice} → c .better-of .result ≡ x → let a = c .before .before .before .args in
-    betterOf standard (a .case) (now (a .table)) (now (a .first)) (now (a .second)) ≡ y → x ≡ y
-only c e f = sym e ∙ c .better-of .ensures ∙ f
+-- the choice that was made is the answer
+made : (c : tie.After-better-of) {x : Choice} → c .better-of .result ≡ x → let a = c .before .before .before .args in
+    x ≡ betterOf standard (a .case) (now (a .table)) (now (a .first)) (now (a .second))
+made c e = sym e ∙ c .better-of .ensures
 
 better-of-requires : tie.Need-better-of-requires
 better-of-requires c κs = search needs
@@ -26,8 +22,11 @@ enum-told c = search needs
 enum-told-2 : tie.Need-enum-told-2
 enum-told-2 c = search needs
 
-enum-told-3 : tie.Need-enum-told-3
-enum-told-3 c = search needs
+enum-known-choice : tie.Need-enum-known-choice
+enum-known-choice c = search needs
+
+number-of-requires : tie.Need-number-of-requires
+number-of-requires c κs = search needs
 
 sub-result : tie.Need-sub-result
 sub-result c = search needs
@@ -39,19 +38,27 @@ part-result-end : tie.Need-part-result-end
 part-result-end c = search needs
 
 returns : tie.Need-returns
-returns c = let k = c .before .before in
-    let g = c .enum-told .given .1 in
-    (answered k g, (λ e. refl, λ e. let h = only k g e in cc))
+returns c =
+    let a = c .before .before .before .before .before .args in
+    let e = made (c .before .before) (c .enum-told .given .1) in
+    (ap (chosenPart (now (a .first)) (now (a .second))) e, ((λ h. refl, λ h. let f = e ∙ h in cc), ap (λ x. choiceSays x .number) e))
 
 returns-2 : tie.Need-returns-2
-returns-2 c = let k = c .before .before in
-    let g = c .enum-told2 .given .1 in
-    (answered k g, (λ e. let h = only k g e in cc, λ e. refl))
+returns-2 c =
+    let a = c .before .before .before .before .before .args in
+    let e = made (c .before .before) (c .enum-told2 .given .1) in
+    (ap (chosenPart (now (a .first)) (now (a .second))) e, ((λ h. let f = e ∙ h in cc, λ h. refl), ap (λ x. choiceSays x .number) e))
 
 returns-3 : tie.Need-returns-3
-returns-3 c = let k = c .before .before .before in
-    let g = c .before .enum-told3 .given .1 in
-    (answered k g, (λ e. let h = only k g e in cc, λ e. let h = only k g e in cc))
+returns-3 c =
+    let n = c .before in
+    let k = n .before .before in
+    let s = k .before .before in
+    let a = s .before .before .before .args in
+    let e = made s (k .choice .given .1) in (
+      ap (chosenPart (now (a .first)) (now (a .second))) e,
+      ((λ h. let f = e ∙ h in cc, λ h. let f = e ∙ h in cc), n .number-of .ensures ∙ ap (λ x. choiceSays x .number) e),
+    )
 
 pub better-spec : {M : Type 1} → statement M
 better-spec =
@@ -60,7 +67,8 @@ better-spec =
     better-of-requires
     enum-told
     enum-told-2
-    enum-told-3
+    enum-known-choice
+    number-of-requires
     sub-result
     part-result-start
     part-result-end
