@@ -1,14 +1,8 @@
--- Answers as numbers: document 01's number of a refusal, 0 where there is none, and the values; what a refusal has no value for is 0.
--- Assumes nothing.
-use lib.IntN.{pos}
-use Rattle.definitions.specs.declared.Outcome.{Outcome}
-use Rattle.definitions.specs.declared.Figure.{Figure}
-use Rattle.definitions.specs.declared.CaseSize.{CaseSize}
-use Rattle.definitions.specs.declared.FileAnswer.{FileAnswer}
-use Rattle.definitions.specs.declared.Span.{Span}
-use Rattle.definitions.specs.declared.Choice.{Choice}
-use Rattle.definitions.specs.Refusals.{number}
+-- Answers in the library's records: the number that an answer says, and its values; 0 where there is no such value. Assumes nothing.
 use Prim.Native.Nat.{ℕ}
+use lib.Dec.{eqb}
+use Rattle.integers.specs.Words.{if_then_else_}
+use Rattle.definitions.specs.Answers.{Says, valueAt, countAt, lineNamed}
 use Rattle.checker_library.specs.declared.CeilingSize.{CeilingSize}
 use Rattle.checker_library.specs.declared.CeilingLines.{CeilingLines}
 use Rattle.checker_library.specs.declared.CeilingTotal.{CeilingTotal}
@@ -16,34 +10,23 @@ use Rattle.checker_library.specs.declared.CeilingRounds.{CeilingRounds}
 use Rattle.checker_library.specs.declared.CeilingSpan.{CeilingSpan}
 use Rattle.checker_library.specs.declared.CeilingChoice.{CeilingChoice}
 
-abbrev pub sizeOf : CaseSize → CeilingSize
-sizeOf (CaseSize.Size n d m long) = record { number = 0; n = n; d = d; m = m; table = long }
-sizeOf (CaseSize.Refused x) = record { number = number x; n = 0; d = 0; m = 0; table = 0 }
+abbrev pub sizeOf : Says → CeilingSize
+sizeOf s = record { number = s .number; n = countAt s 0; d = countAt s 1; m = countAt s 2; table = countAt s 3 }
 
--- the lines used, or the refusal and its line
-abbrev pub linesOf : FileAnswer → CeilingLines
-linesOf (FileAnswer.Read lines) = record { number = 0; lines = lines }
-linesOf (FileAnswer.Refused x at) = record { number = number x; lines = at }
+-- the lines used, or the refusal's line
+abbrev pub linesOf : Says → CeilingLines
+linesOf s = record { number = s .number; lines = countAt s 0 }
 
-abbrev pub totalOf : Figure → CeilingTotal
-totalOf (Figure.Value z) = record { number = 0; total = z }
-totalOf (Figure.Refused x) = record { number = number x; total = pos 0 }
+abbrev pub totalOf : Says → CeilingTotal
+totalOf s = record { number = s .number; total = valueAt s 0 }
 
-abbrev pub outcomeNumber : Outcome → ℕ
-outcomeNumber Outcome.Done = 0
-outcomeNumber (Outcome.Refused x) = number x
+-- so many rounds, where no number applies
+abbrev pub roundsOf : ℕ → Says → CeilingRounds
+roundsOf rounds s = record { number = s .number; rounds = (if eqb (s .number) 0 then rounds else 0) }
 
-abbrev pub roundsOf : ℕ → Outcome → CeilingRounds
-roundsOf rounds Outcome.Done = record { number = 0; rounds = rounds }
-roundsOf rounds (Outcome.Refused x) = record { number = number x; rounds = 0 }
+-- the stretch's first byte and the byte after its last, or the refusal's line
+abbrev pub spanOf : Says → CeilingSpan
+spanOf s = record { number = s .number; from = (if eqb (s .number) 0 then countAt s 0 else 0); to = countAt s 1; line = lineNamed s }
 
--- the stretch's first byte and the byte after its last, or the refusal and its line
-abbrev pub spanOf : Span → CeilingSpan
-spanOf (Span.Part from to) = record { number = 0; from = from; to = to; line = 0 }
-spanOf (Span.Refused x at) = record { number = number x; from = 0; to = 0; line = at }
-
--- the first plan is 0, the second 1
-abbrev pub choiceOf : Choice → CeilingChoice
-choiceOf Choice.First = record { number = 0; choice = 0 }
-choiceOf Choice.Second = record { number = 0; choice = 1 }
-choiceOf (Choice.Refused x) = record { number = number x; choice = 0 }
+abbrev pub choiceOf : Says → CeilingChoice
+choiceOf s = record { number = s .number; choice = countAt s 0 }

@@ -16,15 +16,16 @@ use encoding::RecordArray;
 ghost use mathlib.Core.Path.{_≡_};
 ghost use Rattle.definitions.specs.Rules.{standard};
 ghost use Rattle.definitions.specs.Refusals.{number};
+ghost use Rattle.definitions.specs.Answers.{outcomeSays, figureSays, sizeSays, fileSays, spanSays, choiceSays};
 ghost use Rattle.definitions.specs.CaseFiles.{caseSize};
 ghost use Rattle.definitions.specs.Calls.{upperBoundAnswer, objectiveAnswer};
 ghost use Rattle.definitions.specs.Views.{roundSpan};
 ghost use Rattle.definitions.specs.Scoring.{betterOf};
-ghost use Rattle.checker.specs.Checker.{blockReplay};
+ghost use Rattle.checker.specs.Checker.{standingSays, blockReplay};
 ghost use Rattle.encoding.specs.CaseBytes.{caseOf};
-ghost use Rattle.encoding.specs.RecordBytes.{standingNumber, recordBytes};
-ghost use Rattle.checker_library.specs.Answers.{sizeOf, linesOf, totalOf, outcomeNumber, roundsOf, spanOf, choiceOf};
-ghost use Rattle.checker_library.specs.Calls.{caseAfter, readCall, startRecord, blockAnswer, replayCall, endWith, endCall};
+ghost use Rattle.encoding.specs.RecordBytes.{recordBytes};
+ghost use Rattle.checker_library.specs.Answers.{sizeOf, linesOf, totalOf, roundsOf, spanOf, choiceOf};
+ghost use Rattle.checker_library.specs.Calls.{caseAfter, readCall, startRecord, blockAnswer, replayCall, notRecord, notRecordAtEnd, endWith, endCall};
 
 // What the head of a case file says, with the length of the table to lend.
 #[repr(C)]
@@ -86,7 +87,7 @@ fn number_of(refusal: Refusal) -> u64
 }
 
 fn size_of(size: CaseSize) -> CeilingSize
-    ensures { λ r. ⌜ r ≡ sizeOf size ⌝ }
+    ensures { λ r. ⌜ r ≡ sizeOf (sizeSays size) ⌝ }
 {
     match size {
         CaseSize::Size { n, d, m, table } => CeilingSize {
@@ -107,7 +108,7 @@ fn size_of(size: CaseSize) -> CeilingSize
 }
 
 fn lines_of(answer: FileAnswer) -> CeilingLines
-    ensures { λ r. ⌜ r ≡ linesOf answer ⌝ }
+    ensures { λ r. ⌜ r ≡ linesOf (fileSays answer) ⌝ }
 {
     match answer {
         FileAnswer::Read { lines } => CeilingLines { number: 0, lines },
@@ -119,7 +120,7 @@ fn lines_of(answer: FileAnswer) -> CeilingLines
 }
 
 fn total_of(figure: Figure) -> CeilingTotal
-    ensures { λ r. ⌜ r ≡ totalOf figure ⌝ }
+    ensures { λ r. ⌜ r ≡ totalOf (figureSays figure) ⌝ }
 {
     match figure {
         Figure::Value(total) => CeilingTotal { number: 0, total },
@@ -131,7 +132,7 @@ fn total_of(figure: Figure) -> CeilingTotal
 }
 
 fn outcome_number(outcome: Outcome) -> u64
-    ensures { λ r. ⌜ r ≡ outcomeNumber outcome ⌝ }
+    ensures { λ r. ⌜ r ≡ outcomeSays outcome .number ⌝ }
 {
     match outcome {
         Outcome::Done => 0,
@@ -140,7 +141,7 @@ fn outcome_number(outcome: Outcome) -> u64
 }
 
 fn standing_number(standing: Standing) -> u64
-    ensures { λ r. ⌜ r ≡ standingNumber standing ⌝ }
+    ensures { λ r. ⌜ r ≡ standingSays standing .number ⌝ }
 {
     match standing {
         Standing::Good => 0,
@@ -149,7 +150,7 @@ fn standing_number(standing: Standing) -> u64
 }
 
 fn rounds_of(rounds: u64, outcome: Outcome) -> CeilingRounds
-    ensures { λ r. ⌜ r ≡ roundsOf rounds outcome ⌝ }
+    ensures { λ r. ⌜ r ≡ roundsOf rounds (outcomeSays outcome) ⌝ }
 {
     match outcome {
         Outcome::Done => CeilingRounds { number: 0, rounds },
@@ -161,7 +162,7 @@ fn rounds_of(rounds: u64, outcome: Outcome) -> CeilingRounds
 }
 
 fn span_of(span: Span) -> CeilingSpan
-    ensures { λ r. ⌜ r ≡ spanOf span ⌝ }
+    ensures { λ r. ⌜ r ≡ spanOf (spanSays span) ⌝ }
 {
     match span {
         Span::Part { from, to } => CeilingSpan {
@@ -180,7 +181,7 @@ fn span_of(span: Span) -> CeilingSpan
 }
 
 fn choice_of(choice: Choice) -> CeilingChoice
-    ensures { λ r. ⌜ r ≡ choiceOf choice ⌝ }
+    ensures { λ r. ⌜ r ≡ choiceOf (choiceSays choice) ⌝ }
 {
     match choice {
         Choice::First => CeilingChoice {
@@ -235,6 +236,19 @@ fn replay_block(
     }
 }
 
+// The number of bytes that say no record, beside a table and at the end.
+fn not_record(case: Case, table: &[i64]) -> u64
+    ensures { λ r. ⌜ r ≡ notRecord standard case (now (table .entry)) ⌝ }
+{
+    outcome_number(tables::check_working(case, table, false, true))
+}
+
+fn not_record_at_end(case: Case) -> u64
+    ensures { λ r. ⌜ r ≡ notRecordAtEnd standard case ⌝ }
+{
+    outcome_number(tables::check_edges(case, true))
+}
+
 fn end_with(part: usize, end: Outcome) -> Outcome
     ensures { λ r. ⌜ r ≡ endWith part end ⌝ }
 {
@@ -253,21 +267,21 @@ fn end_with(part: usize, end: Outcome) -> Outcome
 
 #[no_mangle]
 pub extern "C" fn ceiling_case_size(text: &[u8]) -> CeilingSize
-    ensures { λ r. ⌜ r ≡ sizeOf (caseSize standard (now (text .entry))) ⌝ }
+    ensures { λ r. ⌜ r ≡ sizeOf (sizeSays (caseSize standard (now (text .entry)))) ⌝ }
 {
     size_of(casefile::case_size(text))
 }
 
 #[no_mangle]
 pub extern "C" fn ceiling_upper_bound(case: &CaseArray, table: &[i64]) -> CeilingTotal
-    ensures { λ r. ⌜ r ≡ totalOf (upperBoundAnswer standard (caseOf (now (case .entry))) (now (table .entry))) ⌝ }
+    ensures { λ r. ⌜ r ≡ totalOf (figureSays (upperBoundAnswer standard (caseOf (now (case .entry))) (now (table .entry)))) ⌝ }
 {
     total_of(tables::upper_bound(encoding::case_of(case), table))
 }
 
 #[no_mangle]
 pub extern "C" fn ceiling_objective(case: &CaseArray, table: &[i64], plan: &[u8]) -> CeilingTotal
-    ensures { λ r. ⌜ r ≡ totalOf (objectiveAnswer standard (caseOf (now (case .entry))) (now (table .entry)) (now (plan .entry))) ⌝ }
+    ensures { λ r. ⌜ r ≡ totalOf (figureSays (objectiveAnswer standard (caseOf (now (case .entry))) (now (table .entry)) (now (plan .entry)))) ⌝ }
 {
     total_of(tables::objective(encoding::case_of(case), table, plan))
 }
@@ -280,14 +294,14 @@ pub extern "C" fn ceiling_better_of(
     first: &[u8],
     second: &[u8],
 ) -> CeilingChoice
-    ensures { λ r. ⌜ r ≡ choiceOf (betterOf standard (caseOf (now (case .entry))) (now (table .entry)) (now (first .entry)) (now (second .entry))) ⌝ }
+    ensures { λ r. ⌜ r ≡ choiceOf (choiceSays (betterOf standard (caseOf (now (case .entry))) (now (table .entry)) (now (first .entry)) (now (second .entry)))) ⌝ }
 {
     choice_of(plans::better_of(encoding::case_of(case), table, first, second))
 }
 
 #[no_mangle]
 pub extern "C" fn ceiling_round_span(log: &[u8], round: u64) -> CeilingSpan
-    ensures { λ r. ⌜ r ≡ spanOf (roundSpan standard (now (log .entry)) round) ⌝ }
+    ensures { λ r. ⌜ r ≡ spanOf (spanSays (roundSpan standard (now (log .entry)) round)) ⌝ }
 {
     span_of(views::round_span(log, round))
 }
@@ -314,7 +328,7 @@ pub extern "C" fn ceiling_replay_start(
     table: &[i64],
     state: &mut RecordArray,
 ) -> u64
-    ensures { λ r. ⌜ (r ≡ standingNumber (startRecord standard (now (case .entry)) (now (table .entry)) .standing)) × (now (state .exit) ≡ recordBytes (startRecord standard (now (case .entry)) (now (table .entry)))) ⌝ }
+    ensures { λ r. ⌜ (r ≡ standingSays (startRecord standard (now (case .entry)) (now (table .entry)) .standing) .number) × (now (state .exit) ≡ recordBytes (startRecord standard (now (case .entry)) (now (table .entry)))) ⌝ }
 {
     let replay = Replay::fresh(encoding::case_of(case), table);
     let standing = replay.standing;
@@ -337,7 +351,7 @@ pub extern "C" fn ceiling_replay_lines(
         replay_block(encoding::case_of(case), table, state, replay, lines)
     } else {
         CeilingLines {
-            number: 5,
+            number: not_record(encoding::case_of(case), table),
             lines: 0,
         }
     }
@@ -358,7 +372,7 @@ pub extern "C" fn ceiling_replay_end(
         rounds_of(replay.rounds, end_with(part, end))
     } else {
         CeilingRounds {
-            number: 5,
+            number: not_record_at_end(encoding::case_of(case)),
             rounds: 0,
         }
     }

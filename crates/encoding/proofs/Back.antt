@@ -11,30 +11,16 @@ use lib.Seq.{take-at, drop-at, take-all}
 use mir.Syntax.{w64}
 use mir.Val.{SFits}
 use Rattle.definitions.specs.declared.Case.{Case}
-use Rattle.definitions.specs.declared.Refusal.the-variants.{
-  NotInColumns,
-  NotDue,
-  OutsideLimits,
-  WrongLength,
-  OutOfRange,
-  EndsNotAscending,
-  EdgeRepeated,
-  WeightOutOfRange,
-  RaiseNotAscending,
-  NotRefuted,
-  LeavesRange,
-  OtherBound,
-  BoundNotLower,
-  CutShort,
-}
+use Rattle.definitions.proofs.AnswerLaws.{numbered, same-said}
 use Rattle.checker.specs.declared.LastRaised.{LastRaised}
 use Rattle.checker.specs.declared.Due.{Due}
 use Rattle.checker.specs.declared.Standing.{Standing}
 use Rattle.checker.specs.declared.Replay.{Replay}
+use Rattle.checker.specs.Checker.{standingSays, standingOf}
 use Rattle.encoding.specs.declared.Press.{Press}
 use Rattle.encoding.specs.Numbers.{numberBytes, numberAt, bitsOf, signedOf}
 use Rattle.encoding.specs.CaseBytes.{caseBytes, caseOf}
-use Rattle.encoding.specs.RecordBytes.{pressOf, dueOf, standingNumber, standingOf, flag, recordNumbers, recordTags, recordBytes, isRecord, pressAt, recordOf}
+use Rattle.encoding.specs.RecordBytes.{pressOf, dueOf, standingAt, flag, recordNumbers, recordTags, recordBytes, isRecord, pressAt, recordOf}
 use Rattle.encoding.proofs.Signed.{signed-back, bits-fit}
 use Rattle.encoding.proofs.Values.{number-back}
 
@@ -96,26 +82,17 @@ flag-is : (b : Bool) → leb (flag b) 1 ≡ true
 flag-is true = refl
 flag-is false = refl
 
-record Stands (s : Standing) : Type 0 where
-  back : standingOf (standingNumber s) ≡ s
-  least : leb (standingNumber s) 14 ≡ true
+standing-back : (s : Standing) → standingAt (standingSays s .number) ≡ s
+standing-back Standing.Good = refl
+standing-back (Standing.Refused x) = ap standingOf (numbered x .back)
 
-stands : (s : Standing) → Stands s
-stands Standing.Good = record { back = refl; least = refl }
-stands (Standing.Refused NotInColumns) = record { back = refl; least = refl }
-stands (Standing.Refused NotDue) = record { back = refl; least = refl }
-stands (Standing.Refused OutsideLimits) = record { back = refl; least = refl }
-stands (Standing.Refused WrongLength) = record { back = refl; least = refl }
-stands (Standing.Refused OutOfRange) = record { back = refl; least = refl }
-stands (Standing.Refused EndsNotAscending) = record { back = refl; least = refl }
-stands (Standing.Refused EdgeRepeated) = record { back = refl; least = refl }
-stands (Standing.Refused WeightOutOfRange) = record { back = refl; least = refl }
-stands (Standing.Refused RaiseNotAscending) = record { back = refl; least = refl }
-stands (Standing.Refused NotRefuted) = record { back = refl; least = refl }
-stands (Standing.Refused LeavesRange) = record { back = refl; least = refl }
-stands (Standing.Refused OtherBound) = record { back = refl; least = refl }
-stands (Standing.Refused BoundNotLower) = record { back = refl; least = refl }
-stands (Standing.Refused CutShort) = record { back = refl; least = refl }
+standing-most : (s : Standing) → leb (standingSays s .number) 14 ≡ true
+standing-most Standing.Good = refl
+standing-most (Standing.Refused x) = numbered x .most
+
+-- standings that say the same are equal, as answers are (definitions' AnswerLaws)
+pub standing-same : (a b : Standing) → standingSays a ≡ standingSays b → a ≡ b
+standing-same = same-said standingSays (λ s. standingAt (s .number)) standing-back
 
 -- ---- the record
 
@@ -156,7 +133,7 @@ same-record p e f g i j k = rw (e, f, g, i, j, k)
 module _ (p : Replay) where
   pub is-record : isRecord (recordBytes p) ≡ true
   unfolding isRecord numberBytes recordNumbers recordTags recordBytes
-  is-record = rw (flag-is (p .moved), begun-is (p .due), known-is (p .due), stands (p .standing) .least)
+  is-record = rw (flag-is (p .moved), begun-is (p .due), known-is (p .due), standing-most (p .standing))
 
   moved-at : getD (recordBytes p) 48 0 ≡ flag (p .moved)
   unfolding numberBytes recordNumbers recordTags recordBytes
@@ -170,7 +147,7 @@ module _ (p : Replay) where
   unfolding numberBytes recordNumbers recordTags recordBytes
   known-at = refl
 
-  standing-at : getD (recordBytes p) 51 0 ≡ standingNumber (p .standing)
+  standing-at : getD (recordBytes p) 51 0 ≡ standingSays (p .standing) .number
   unfolding numberBytes recordNumbers recordTags recordBytes
   standing-at = refl
 
@@ -211,4 +188,4 @@ module _ (p : Replay) where
     unfolding recordOf
     record-back =
         same-record p rounds-is (signed (p .start) (h .start) start-is) (ap (λ (b : ℕ). eqb b 1) moved-at ∙ flag-back (p .moved)) raised-is
-        (ap dueOf press-is ∙ due-back (p .due)) (ap standingOf standing-at ∙ stands (p .standing) .back)
+        (ap dueOf press-is ∙ due-back (p .due)) (ap standingAt standing-at ∙ standing-back (p .standing))

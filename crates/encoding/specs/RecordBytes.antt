@@ -8,49 +8,15 @@ use lib.IntN.{ℤ, pos}
 use lib.Dec.{leb, eqb}
 use lib.ListN.{getD, take, drop}
 use Rattle.integers.specs.Words.{if_then_else_}
-use Rattle.definitions.specs.declared.Refusal.{Refusal}
-use Rattle.definitions.specs.declared.Refusal.the-variants.{
-  NotInColumns,
-  NotDue,
-  OutsideLimits,
-  WrongLength,
-  OutOfRange,
-  EndsNotAscending,
-  EdgeRepeated,
-  WeightOutOfRange,
-  RaiseNotAscending,
-  NotRefuted,
-  LeavesRange,
-  OtherBound,
-  BoundNotLower,
-  CutShort,
-}
-use Rattle.definitions.specs.Refusals.{number}
+use Rattle.definitions.specs.Answers.{refusalOf}
 use Rattle.checker.specs.declared.LastRaised.{LastRaised}
 use Rattle.checker.specs.declared.Due.{Due}
 use Rattle.checker.specs.declared.Standing.{Standing}
 use Rattle.checker.specs.declared.Replay.{Replay}
+use Rattle.checker.specs.Checker.{standingSays, standingOf}
 use Rattle.encoding.specs.declared.Last.{Last}
 use Rattle.encoding.specs.declared.Press.{Press}
 use Rattle.encoding.specs.Numbers.{numberBytes, numberAt, bitsOf, signedOf}
-
-abbrev pub refusals : List Refusal
-refusals =
-    NotInColumns
-    ∷ NotDue
-    ∷ OutsideLimits
-    ∷ WrongLength
-    ∷ OutOfRange
-    ∷ EndsNotAscending
-    ∷ EdgeRepeated
-    ∷ WeightOutOfRange
-    ∷ RaiseNotAscending
-    ∷ NotRefuted
-    ∷ LeavesRange
-    ∷ OtherBound
-    ∷ BoundNotLower
-    ∷ CutShort
-    ∷ []
 
 -- ---- what is due and what stands, as numbers
 
@@ -69,18 +35,9 @@ pressOf (Due.Raise i a left lastOne) = record { begun = 1; variable = i; amount 
 abbrev pub dueOf : Press → Due
 dueOf q = if eqb (q .begun) 1 then Due.Raise (q .variable) (q .amount) (q .left) (raisedOf (q .last)) else Due.MoveOrBound
 
--- document 01's number, or 0
-abbrev pub standingNumber : Standing → ℕ
-standingNumber Standing.Good = 0
-standingNumber (Standing.Refused x) = number x
-
--- the refusal that has this number
-abbrev pub standingAmong : ℕ → List Refusal → Standing
-standingAmong n [] = Standing.Good
-standingAmong n (x ∷ xs) = if eqb n (number x) then Standing.Refused x else standingAmong n xs
-
-abbrev pub standingOf : ℕ → Standing
-standingOf n = standingAmong n refusals
+-- what stands by the number that it says, 0 where it is good
+abbrev pub standingAt : ℕ → Standing
+standingAt n = standingOf (refusalOf n)
 
 abbrev pub flag : Bool → ℕ
 flag b = if b then 1 else 0
@@ -93,7 +50,7 @@ recordNumbers rounds start q =
     ++ numberBytes (q .last .scope)
 
 unfoldable pub recordTags : Bool → Press → Standing → List ℕ
-recordTags moved q standing = flag moved ∷ q .begun ∷ q .last .known ∷ standingNumber standing ∷ []
+recordTags moved q standing = flag moved ∷ q .begun ∷ q .last .known ∷ standingSays standing .number ∷ []
 
 unfoldable pub recordBytes : Replay → List ℕ
 recordBytes p =
@@ -122,5 +79,5 @@ recordOf bytes = record {
   moved = eqb (getD bytes 48 0) 1;
   raised = take 144 (drop 52 bytes);
   due = dueOf (pressAt bytes);
-  standing = standingOf (getD bytes 51 0);
+  standing = standingAt (getD bytes 51 0);
 }

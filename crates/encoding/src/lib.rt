@@ -10,9 +10,10 @@ ghost use Prim.Native.Nat.{_+_, _%_, _≤_, _<_};
 ghost use lib.ListN.{length, take, drop};
 ghost use Rattle.definitions.specs.Lines.{overwritten};
 ghost use Rattle.texts.specs.Texts.{placed};
+ghost use Rattle.checker.specs.Checker.{standingSays};
 ghost use Rattle.encoding.specs.Numbers.{valueOf, numberBytes, numberAt, bitsOf, signedOf};
 ghost use Rattle.encoding.specs.CaseBytes.{caseBytes, caseOf};
-ghost use Rattle.encoding.specs.RecordBytes.{lastOf, raisedOf, pressOf, dueOf, standingNumber, standingOf, pressAt, recordNumbers, recordTags, recordBytes, isRecord, recordOf};
+ghost use Rattle.encoding.specs.RecordBytes.{lastOf, raisedOf, pressOf, dueOf, standingAt, pressAt, recordNumbers, recordTags, recordBytes, isRecord, recordOf};
 
 // The bytes of a case, and those of the replay's record.
 pub type CaseArray = [u8; 216];
@@ -238,7 +239,7 @@ fn due_of(press: Press) -> Due
 }
 
 fn standing_of(b: u8) -> Standing
-    ensures { λ r. ⌜ r ≡ standingOf b ⌝ }
+    ensures { λ r. ⌜ r ≡ standingAt b ⌝ }
 {
     match b {
         1 => Standing::Refused(Refusal::NotInColumns),
@@ -260,7 +261,7 @@ fn standing_of(b: u8) -> Standing
 }
 
 fn standing_number(standing: Standing) -> u8
-    ensures { λ r. ⌜ r ≡ standingNumber standing ⌝ }
+    ensures { λ r. ⌜ r ≡ standingSays standing .number ⌝ }
 {
     match standing {
         Standing::Good => 0,

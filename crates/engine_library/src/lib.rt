@@ -8,10 +8,11 @@ use encoding::CaseArray;
 ghost use mathlib.Core.Path.{_≡_};
 ghost use Rattle.definitions.specs.Rules.{standard};
 ghost use Rattle.definitions.specs.Refusals.{number};
+ghost use Rattle.definitions.specs.Answers.{roundSays, runSays, countAt};
 ghost use Rattle.definitions.specs.Engine.{engineNext};
 ghost use Rattle.definitions.specs.EngineCalls.{roundCall, runCall};
 ghost use Rattle.encoding.specs.CaseBytes.{caseOf};
-ghost use Rattle.engine_library.specs.Answers.{roundOf, answerNumber, limitOf, runOf};
+ghost use Rattle.engine_library.specs.Answers.{roundOf, runOf};
 
 // The bytes written and the bound; no bytes where it is settled.
 #[repr(C)]
@@ -45,7 +46,7 @@ fn number_of(refusal: Refusal) -> u64
 }
 
 fn round_of(round: Round) -> CeilingRound
-    ensures { λ r. ⌜ r ≡ roundOf round ⌝ }
+    ensures { λ r. ⌜ r ≡ roundOf (roundSays round) ⌝ }
 {
     match round {
         Round::Settled => CeilingRound {
@@ -67,7 +68,7 @@ fn round_of(round: Round) -> CeilingRound
 }
 
 fn answer_number(answer: RunAnswer) -> u64
-    ensures { λ r. ⌜ r ≡ answerNumber answer ⌝ }
+    ensures { λ r. ⌜ r ≡ runSays answer .number ⌝ }
 {
     match answer {
         RunAnswer::Settled => 0,
@@ -77,7 +78,7 @@ fn answer_number(answer: RunAnswer) -> u64
 }
 
 fn limit_of(answer: RunAnswer) -> u64
-    ensures { λ r. ⌜ r ≡ limitOf answer ⌝ }
+    ensures { λ r. ⌜ r ≡ countAt (runSays answer) 0 ⌝ }
 {
     match answer {
         RunAnswer::Settled => 0,
@@ -103,7 +104,7 @@ fn run_of(run: Run) -> CeilingRun
 // One round: its lines from the output's first byte.
 #[no_mangle]
 pub extern "C" fn ceiling_round(case: &CaseArray, table: &mut [i64], out: &mut [u8]) -> CeilingRound
-    ensures { λ r. ⌜ (r ≡ roundOf (roundCall standard engineNext (caseOf (now (case .entry))) (now (table .entry)) (now (out .entry)) .answer)) × (now (table .exit) ≡ roundCall standard engineNext (caseOf (now (case .entry))) (now (table .entry)) (now (out .entry)) .table) × (now (out .exit) ≡ roundCall standard engineNext (caseOf (now (case .entry))) (now (table .entry)) (now (out .entry)) .out) ⌝ }
+    ensures { λ r. ⌜ (r ≡ roundOf (roundSays (roundCall standard engineNext (caseOf (now (case .entry))) (now (table .entry)) (now (out .entry)) .answer))) × (now (table .exit) ≡ roundCall standard engineNext (caseOf (now (case .entry))) (now (table .entry)) (now (out .entry)) .table) × (now (out .exit) ≡ roundCall standard engineNext (caseOf (now (case .entry))) (now (table .entry)) (now (out .entry)) .out) ⌝ }
 {
     round_of(engine::round(encoding::case_of(case), table, out))
 }

@@ -2,6 +2,7 @@
 use mathlib.Core.Path.{ap, _∙_}
 use denote.Ref.{now}
 use Rattle.definitions.specs.declared.CaseRead.{CaseRead}
+use Rattle.definitions.specs.Answers.{fileSays}
 use Rattle.checker_library.specs.Answers.{linesOf}
 use Rattle.checker_library.specs.Calls.{caseAfter, readCall}
 use borrow.Author.Needs.{needs}
@@ -26,7 +27,7 @@ returns c =
     let k = c .before .before .before .before in
     let s = k .before .before .before in
     let (p, q) = k .read-case-alone .ensures in (
-      c .lines-of .ensures ∙ ap (λ (x : CaseRead). linesOf (x .answer)) p,
+      c .lines-of .ensures ∙ ap (λ (x : CaseRead). linesOf (fileSays (x .answer))) p,
       c .before .keep-case .ensures ∙ ap (λ (x : CaseRead). caseAfter (x .answer) x (now (s .args .case))) p,
       q,
     )

@@ -4,8 +4,8 @@ use denote.Ref.{now}
 use Rattle.definitions.specs.Rules.{standard}
 use Rattle.definitions.specs.declared.Case.{Case}
 use Rattle.checker.specs.declared.Replay.{Replay}
-use Rattle.checker.specs.Checker.{freshReplay}
-use Rattle.encoding.specs.RecordBytes.{standingNumber, recordBytes}
+use Rattle.checker.specs.Checker.{standingSays, freshReplay}
+use Rattle.encoding.specs.RecordBytes.{recordBytes}
 use Rattle.checker_library.specs.Calls.{startRecord}
 use borrow.Author.Needs.{needs}
 use Rattle.checker_library.proofs.ceiling_replay_start.Statement.{statement}
@@ -29,7 +29,7 @@ returns c =
     let f = c .before .before .before in
     let s = f .before .before in
     let e = f .fresh .ensures ∙ ap (λ (x : Case). freshReplay standard x (now (s .args .table))) (f .before .case-of .ensures) in
-    (c .standing-number .ensures ∙ ap (λ (p : Replay). standingNumber (p .standing)) e, c .before .write-record .ensures ∙ ap recordBytes e)
+    (c .standing-number .ensures ∙ ap (λ (p : Replay). standingSays (p .standing) .number) e, c .before .write-record .ensures ∙ ap recordBytes e)
 
 pub ceiling-replay-start-spec : {M : Type 1} → statement M
 ceiling-replay-start-spec =

@@ -1,4 +1,5 @@
 -- By the stretch. Assumes nothing.
+use Rattle.definitions.proofs.AnswerLaws.{numbered}
 use borrow.Author.Needs.{needs}
 use Rattle.checker_library.proofs.span_of.Statement.{statement}
 use Rattle.checker_library.proofs.span_of.Tie as tie
@@ -16,7 +17,7 @@ returns : tie.Need-returns
 returns c = rw (c .before .span .given .1)
 
 returns-2 : tie.Need-returns-2
-returns-2 c = rw (c .number-of .ensures, c .before .before .span2 .given .1)
+returns-2 c = rw (c .number-of .ensures, c .before .before .span2 .given .1, numbered (c .before .before .span2 .given .0 .0) .least)
 
 pub span-of-spec : {M : Type 1} → statement M
 span-of-spec =
