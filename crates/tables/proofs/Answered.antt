@@ -6,12 +6,11 @@ use mathlib.Core.List.{List}
 use Prim.Native.Nat.{ℕ, _<_}
 use native.Mathlib.Omega.{arith}
 use lib.IntN.{ℤ}
-use lib.Dec.{T, eqb, ltb, eqb→eq, ltb→lt}
+use lib.Dec.{T}
 use lib.ListN.{length}
 use borrow.Author.Tests.{eq-eqb}
 use Rattle.integers.specs.Words.{if_then_else_}
 use Rattle.integers.specs.Tests.{tests}
-use Rattle.integers.specs.Sums.{Σ-cong}
 use Rattle.definitions.specs.declared.Case.{Case}
 use Rattle.definitions.specs.declared.Refusal.{Refusal}
 use Rattle.definitions.specs.declared.Outcome.{Outcome}
@@ -20,14 +19,14 @@ use Rattle.definitions.specs.declared.Verdict.{Verdict}
 use Rattle.definitions.specs.Rules.{standard}
 use Rattle.definitions.specs.Refusals.{firstOf}
 use Rattle.definitions.specs.Answers.{outcomeOf}
-use Rattle.definitions.specs.Case.{scopeCount, isVariable, lentLength, greatest, upperBound}
+use Rattle.definitions.specs.Case.{scopeCount, lentLength, greatest, upperBound}
 use Rattle.definitions.specs.Valid.{workingWeight, withinLimits, handedOver}
-use Rattle.definitions.specs.Calls.{figureOf, verdictOf, tupleOut}
+use Rattle.definitions.specs.Calls.{figureOf, verdictOf}
 use Rattle.theory.proofs.Places.{first-tuple, greatest-at}
 use Rattle.theory.proofs.Validity.{Handed, handed}
-use Rattle.tables.specs.Scopes.{Limited, cut, boundOf}
+use Rattle.tables.specs.Scopes.{Limited, greatestSum}
 use Rattle.tables.proofs.Order.{outcome-done, outcome-refused}
-use Rattle.tables.proofs.Bounds.{cut-same}
+use Rattle.tables.proofs.Bounds.{sum-given}
 
 module _ (o : Option Refusal) where
   refused-figure : {x : Refusal} (z : ℤ) → o ≡ some x → Figure.Refused x ≡ figureOf o z
@@ -69,21 +68,12 @@ module _ {c : Case} {w : List ℤ} (h : Handed standard (workingWeight standard)
   pub limits-true : withinLimits standard (c .n) (c .d) (c .m) ≡ true
   limits-true = let s = h .shape in simp tests (((s .some-variable, h .variables-most), (s .some-value, h .values-most)), (omega arith, h .edges-most))
 
-  -- a tuple that is not out
-  pub tuple-known : (x k l : ℕ) → T (not (tupleOut c x k l)) → (x < scopeCount c) × (k < c .d) × (l < c .d)
-  tuple-known x k l t = let ((p, q), u) = simp tests at t in (p, q, go (isVariable c x) u)
-    where
-      go : (b : Bool) → T (if b then eqb l 0 else ltb l (c .d)) → l < c .d
-      go true u = omega (arith, h .shape .some-value, eqb→eq l 0 u)
-      go false u = ltb→lt l (c .d) u
-
   pub greatest-working : (x : ℕ) → x < scopeCount c → T (workingWeight standard (greatest c w x))
   greatest-working x l =
       let (k, m, t, e) = greatest-at c w (first-tuple c (h .shape .some-value) x l) in
       subst (λ (z : ℤ). T (workingWeight standard z)) e (h .in-range x k m t)
 
-  pub bound-known : boundOf standard c w ≡ upperBound c w
-  unfolding boundOf
-  bound-known =
-      rw (limits-true, eq-eqb (length w) (lentLength c) (h .long))
-      (Σ-cong (λ x. cut standard (greatest c w x)) (greatest c w) 0 (scopeCount c) (λ x l u. sym (cut-same (greatest c w x) (greatest-working x (omega arith)))))
+  -- on a table that was checked the sum of the greatest weights is the upper bound
+  pub greatest-sum-known : greatestSum standard c w ≡ Figure.Value (upperBound c w)
+  unfolding greatestSum
+  greatest-sum-known = rw (limits-true, eq-eqb (length w) (lentLength c) (h .long)) (sym (sum-given c (greatest c w) greatest-working))

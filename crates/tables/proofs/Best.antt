@@ -1,4 +1,4 @@
--- Each scope's greatest weight, kept beside the table: what is written, and the upper bound from it. Assumes nothing.
+-- Each scope's greatest weight, kept beside the table: what is written, and the sum of it. Assumes nothing.
 use mathlib.Core.Path.{_≡_, sym, ap, subst, _∙_}
 use mathlib.Core.Bool.{true, false, not}
 use mathlib.Core.Logic.{_⊎_, inl, inr}
@@ -9,20 +9,20 @@ use lib.IntN.{ℤ, pos}
 use lib.Dec.{T, ltb, ltb→lt, nltb→le}
 use lib.ListN.{length, getD, drop, length-append, length-drop, List·getD-append}
 use lib.Seq.{ext-getD, getD-append-add, getD-drop}
-use borrow.Author.Tests.{le-leb, le-ltb, lt-ltb, eq-eqb, ne-eqb}
-use Rattle.integers.specs.Words.{below, sum}
+use borrow.Author.Tests.{le-ltb, lt-ltb, eq-eqb, ne-eqb}
+use Rattle.integers.specs.Words.{below}
 use Rattle.integers.specs.Tests.{either}
-use Rattle.integers.specs.Sums.{Σ-cong}
 use Rattle.integers.specs.Tables.{length-tab, getD-tab}
 use Rattle.definitions.specs.declared.Case.{Case}
+use Rattle.definitions.specs.declared.Figure.{Figure}
 use Rattle.definitions.specs.declared.Outcome.{Outcome}
 use Rattle.definitions.specs.declared.Refusal.the-variants.{OutsideLimits, WrongLength}
 use Rattle.definitions.specs.Rules.{standard}
 use Rattle.definitions.specs.Case.{scopeCount, scopes, lentLength, greatest, upperBound}
 use Rattle.definitions.specs.Valid.{workingWeight, withinLimits}
 use Rattle.theory.proofs.Validity.{Handed}
-use Rattle.tables.specs.Scopes.{bestAt, BestOf, writtenOver, BestCall, greatestCall, cut, boundWith}
-use Rattle.tables.proofs.Bounds.{cut-same}
+use Rattle.tables.specs.Scopes.{bestAt, BestOf, writtenOver, BestCall, greatestCall, sumInRange, bestSum}
+use Rattle.tables.proofs.Bounds.{sum-given, sum-same}
 use Rattle.tables.proofs.Answered.{limits-true, greatest-working}
 
 -- n numbers written over the first places
@@ -58,18 +58,18 @@ best-written c w out room = record {
   holds = over-at (greatest c w) (scopeCount c) out room;
 }
 
-pub bound-with-known : {c : Case} {w best : List ℤ} → Handed standard (workingWeight standard) c w → BestOf c w best → boundWith standard c best ≡ upperBound c w
-unfolding boundWith
-bound-with-known {c} {w} {best} h b =
-    rw (limits-true h, le-leb (scopeCount c) (length best) (b .enough))
-    (Σ-cong (λ x. cut standard (bestAt best x)) (greatest c w) 0 (scopeCount c)
-    (λ x l u. ap (cut standard) (b .holds x (omega arith)) ∙ sym (cut-same (greatest c w x) (greatest-working h x (omega arith)))))
+-- on a table that was checked the sum of these is the upper bound
+pub best-sum-known : {c : Case} {w best : List ℤ} → Handed standard (workingWeight standard) c w → BestOf c w best → bestSum standard c best ≡ Figure.Value (upperBound c w)
+unfolding bestSum
+best-sum-known {c} {w} {best} h b =
+    rw (limits-true h, le-ltb (length best) (scopeCount c) (b .enough))
+    (sum-same c (bestAt best) (greatest c w) (b .holds) ∙ sym (sum-given c (greatest c w) (greatest-working h)))
 
 pub sum-written : (c : Case) (w out best : List ℤ) → scopeCount c ≤ length out → best ≡ writtenOver (map (greatest c w) (scopes c)) out
-    → sum (map (λ x. cut standard (bestAt best x)) (scopes c)) ≡ sum (map (λ x. cut standard (greatest c w x)) (scopes c))
+    → sumInRange standard c (bestAt best) ≡ sumInRange standard c (greatest c w)
 sum-written c w out best room e =
-    Σ-cong (λ x. cut standard (bestAt best x)) (λ x. cut standard (greatest c w x)) 0 (scopeCount c)
-    (λ x l u. ap (cut standard) (ap (λ (b : List ℤ). bestAt b x) e ∙ over-at (greatest c w) (scopeCount c) out room x (omega arith)))
+    sum-same c (bestAt best) (greatest c w)
+    (λ x l. ap (λ (b : List ℤ). bestAt b x) e ∙ over-at (greatest c w) (scopeCount c) out room x l)
 
 -- ---- the call, by what was asked
 module _ (c : Case) (w best : List ℤ) where

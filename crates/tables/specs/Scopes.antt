@@ -1,22 +1,25 @@
--- The limits of a case as facts, the part of a table that belongs to a scope, each scope's greatest weight kept beside the table, and the
--- upper bound on all input. Assumes nothing.
+-- The limits of a case as facts, the part of a table that belongs to a scope, each scope's greatest weight kept beside the table, and sums
+-- over scopes on all input. Assumes nothing.
 use mathlib.Core.Path.{_≡_}
-use mathlib.Core.Bool.{_&&_}
+use mathlib.Core.Bool.{false, not, _&&_}
 use mathlib.Core.Option.{Option}
 use mathlib.Core.List.{List, [], _∷_, _++_, map}
 use Prim.Native.Nat.{ℕ, _*_, _≤_, _<_}
 use lib.IntN.{ℤ, pos}
-use lib.Dec.{eqb, leb, ltb}
+use lib.Dec.{eqb, ltb}
 use lib.ListN.{length, getD, take, drop}
-use Rattle.integers.specs.Words.{if_then_else_, sum, minus, minZ, maxZ}
+use Rattle.integers.specs.Words.{if_then_else_, any, sum}
 use Rattle.definitions.specs.declared.Case.{Case}
 use Rattle.definitions.specs.declared.Outcome.{Outcome}
+use Rattle.definitions.specs.declared.Figure.{Figure}
 use Rattle.definitions.specs.declared.Refusal.{Refusal}
+use Rattle.definitions.specs.declared.Refusal.the-variants.{WrongLength, WeightOutOfRange}
 use Rattle.definitions.specs.Rules.{Rules}
-use Rattle.definitions.specs.Refusals.{firstOf}
+use Rattle.definitions.specs.Refusals.{Test, _when_, firstOf}
 use Rattle.definitions.specs.Answers.{outcomeOf, unlessRefused}
-use Rattle.definitions.specs.Case.{scopeCount, scopes, isVariable, place, lentLength, greatest}
-use Rattle.definitions.specs.Valid.{withinLimits, limitTest, lengthTest}
+use Rattle.definitions.specs.Case.{scopeCount, scopes, isVariable, place, lentLength, greatest, upperBound}
+use Rattle.definitions.specs.Valid.{workingWeight, withinLimits, limitTest, lengthTest}
+use Rattle.definitions.specs.Calls.{figureOf}
 
 pub record Limited (r : Rules) (c : Case) : Type 0 where
   pub some-variable : 1 ≤ c .n
@@ -66,22 +69,28 @@ module _ (r : Rules) where
     best = unlessRefused (greatestRefusal c w best) (writtenOver (map (greatest c w) (scopes c)) best) best;
   }
 
-  -- ---- the upper bound
+  -- the weights of scope x; none where the limits or the table's length are wrong or there is no such scope
+  unfoldable pub scopeWeights : Case → List ℤ → ℕ → List ℤ
+  scopeWeights c w x =
+      if withinLimits r (c .n) (c .d) (c .m) && eqb (length w) (lentLength c) && ltb x (scopeCount c) then partOf c w x else []
 
-  -- a number past an end of the range of working weights is taken to that end
-  abbrev pub cut : ℤ → ℤ
-  cut z = maxZ (minus (r .working)) (minZ (pos (r .working)) z)
+  -- ---- sums over scopes
 
-  -- the sum over scopes of the greatest weight, each cut to the range; 0 where the limits or the table's length are wrong
-  unfoldable pub boundOf : Case → List ℤ → ℤ
-  boundOf c w =
-      if withinLimits r (c .n) (c .d) (c .m) && eqb (length w) (lentLength c)
-      then sum (map (λ x. cut (greatest c w x)) (scopes c))
-      else pos 0
+  -- number 8: some scope's number is no working weight
+  abbrev pub rangeTest : Case → (ℕ → ℤ) → Test
+  rangeTest c f = WeightOutOfRange when (any (λ x. not (workingWeight r (f x))) (scopes c))
 
-  -- the same from the numbers in `best`; 0 where the limits are wrong or there are too few
-  unfoldable pub boundWith : Case → List ℤ → ℤ
-  boundWith c best =
-      if withinLimits r (c .n) (c .d) (c .m) && leb (scopeCount c) (length best)
-      then sum (map (λ x. cut (bestAt best x)) (scopes c))
-      else pos 0
+  -- the sum of each scope's number, if all are working weights
+  abbrev pub sumInRange : Case → (ℕ → ℤ) → Figure
+  sumInRange c f = figureOf (firstOf (rangeTest c f ∷ [])) (sum (map f (scopes c)))
+
+  -- of each scope's greatest weight: numbers 3, 4 and 8
+  unfoldable pub greatestSum : Case → List ℤ → Figure
+  greatestSum c w = figureOf (firstOf (limitTest r c ∷ lengthTest c w false ∷ rangeTest c (greatest c w) ∷ [])) (upperBound c w)
+
+  -- of the first s numbers in `best`: numbers 3, 4 and 8
+  unfoldable pub bestSum : Case → List ℤ → Figure
+  bestSum c best =
+      figureOf
+      (firstOf (limitTest r c ∷ WrongLength when (ltb (length best) (scopeCount c)) ∷ rangeTest c (bestAt best) ∷ []))
+      (sum (map (bestAt best) (scopes c)))

@@ -1,25 +1,22 @@
-// The check of what is handed over, totals and upper bounds (document 01, "Links, scopes and totals" and "Turned back").
+// Inner functions of a case and its table: the check of what is handed over, a scope's weights, and sums over scopes.
 use definitions::Case;
 use definitions::Figure;
 use definitions::Outcome;
 use definitions::Refusal;
-use definitions::Verdict;
 ghost use mathlib.Core.Path.{_≡_};
 ghost use mathlib.Core.Bool.{not, _&&_};
-ghost use lib.Dec.{T, ltb};
+ghost use lib.Dec.{eqb, ltb};
 ghost use mathlib.Core.List.{[], _∷_, map};
 ghost use Prim.Native.Nat.{_+_, _*_, _≤_, _<_};
 ghost use lib.ListN.{length};
-ghost use Rattle.integers.specs.Words.{if_then_else_, below, any, all, within, withinZ, greatestOf, sum};
+ghost use Rattle.integers.specs.Words.{below, any, all, within, withinZ, greatestOf};
 ghost use Rattle.definitions.specs.Rules.{standard};
 ghost use Rattle.definitions.specs.Refusals.{_when_, firstOf};
 ghost use Rattle.definitions.specs.declared.Refusal.the-variants.{WeightOutOfRange};
 ghost use Rattle.definitions.specs.Answers.{outcomeOf};
-ghost use Rattle.definitions.specs.Case.{place, weight, greatest as greatestWeight, valueOf, atUsed, objective as total, scopeCount, scopes, isAssignment, active, lentLength};
+ghost use Rattle.definitions.specs.Case.{place, greatest as greatestWeight, scopeCount, scopes, lentLength};
 ghost use Rattle.definitions.specs.Valid.{startingWeight, workingWeight, withinLimits, someEdge, sameEnds, limitTest, edgeTests, handedOver};
-ghost use Rattle.definitions.specs.Calls.{objectiveAnswer, upperBoundAnswer, isActiveAnswer, tupleOut};
-ghost use Rattle.theory.proofs.Validity.{Handed};
-ghost use Rattle.tables.specs.Scopes.{Limited, ofSize, sizeOf, bestAt, writtenOver, greatestCall, cut, boundOf, boundWith};
+ghost use Rattle.tables.specs.Scopes.{Limited, ofSize, sizeOf, partOf, scopeWeights, bestAt, writtenOver, greatestCall, sumInRange, greatestSum, bestSum};
 ghost use Rattle.tables.specs.Edges.{faulty, withEdges};
 
 // The limits of a case.
@@ -191,14 +188,14 @@ fn scope_count(case: Case) -> usize
     case.n + case.m
 }
 
-fn place_of(n: usize, d: usize, x: usize, k: usize, l: usize) -> usize
-    requires { ⌜ (n ≤ 48) × (d ≤ 8) × (x < n + 96) × (k < 8) × (l < 8) ⌝ }
-    ensures { λ r. ⌜ r ≡ place (ofSize n d) x k l ⌝ }
+fn first_place(n: usize, d: usize, x: usize) -> usize
+    requires { ⌜ (n ≤ 48) × (d ≤ 8) × (x < n + 96) ⌝ }
+    ensures { λ r. ⌜ r ≡ place (ofSize n d) x 0 0 ⌝ }
 {
     if x < n {
-        x * d + k
+        x * d
     } else {
-        n * d + (x - n) * (d * d) + (k * d + l)
+        n * d + (x - n) * (d * d)
     }
 }
 
@@ -209,14 +206,24 @@ fn size_of(n: usize, d: usize, x: usize) -> usize
     if x < n { d } else { d * d }
 }
 
-fn weight_at(case: Case, table: &[i64], x: usize, k: usize, l: usize) -> i64
+fn has_scope(case: Case, length: usize, x: usize) -> bool
+    ensures { λ r. ⌜ r ≡ (withinLimits standard (case .n) (case .d) (case .m) && eqb length (lentLength case) && ltb x (scopeCount case)) ⌝ }
+{
+    if !within_limits(case) {
+        return false;
+    }
+    length == table_length(case) && x < scope_count(case)
+}
+
+fn scope_part(case: Case, table: &[i64], x: usize) -> &[i64]
     requires { ⌜ Limited standard case ⌝ }
     requires { ⌜ length (now table) ≡ lentLength case ⌝ }
-    requires { ⌜ (x < case .n + case .m) × (k < case .d) × (l < case .d) ⌝ }
-    ensures { λ r. ⌜ r ≡ weight case (now (table .entry)) x k l ⌝ }
+    requires { ⌜ x < case .n + case .m ⌝ }
+    ensures { λ r. ⌜ now r ≡ partOf case (now (table .entry)) x ⌝ }
 {
-    let p = place_of(case.n, case.d, x, k, l);
-    table[p]
+    let first = first_place(case.n, case.d, x);
+    let end = first + size_of(case.n, case.d, x);
+    &table[first..end]
 }
 
 fn scope_greatest(case: Case, table: &[i64], x: usize) -> i64
@@ -225,24 +232,10 @@ fn scope_greatest(case: Case, table: &[i64], x: usize) -> i64
     requires { ⌜ x < case .n + case .m ⌝ }
     ensures { λ r. ⌜ r ≡ greatestWeight case (now (table .entry)) x ⌝ }
 {
-    let first = place_of(case.n, case.d, x, 0, 0);
-    let end = first + size_of(case.n, case.d, x);
-    greatest(&table[first..end])
+    greatest(scope_part(case, table, x))
 }
 
-// ---- the upper bound
-
-fn cut_weight(weight: i64) -> i64
-    ensures { λ r. ⌜ r ≡ cut standard weight ⌝ }
-{
-    if weight < -WORKING {
-        return -WORKING;
-    }
-    if WORKING < weight {
-        return WORKING;
-    }
-    weight
-}
+// ---- sums over scopes
 
 fn write_greatest(case: Case, table: &[i64], best: &mut [i64])
     requires { ⌜ Limited standard case ⌝ }
@@ -259,107 +252,40 @@ fn write_greatest(case: Case, table: &[i64], best: &mut [i64])
     }
 }
 
-fn sum_of_best(case: Case, best: &[i64]) -> i64
+// The numbers are added only while they are in the range, so that the sum fits.
+fn sum_in_range(case: Case, best: &[i64]) -> Figure
     requires { ⌜ Limited standard case ⌝ }
     requires { ⌜ scopeCount case ≤ length (now best) ⌝ }
-    ensures { λ r. ⌜ r ≡ sum (map (λ x. cut standard (bestAt (now (best .entry)) x)) (scopes case)) ⌝ }
+    ensures { λ r. ⌜ r ≡ sumInRange standard case (bestAt (now (best .entry))) ⌝ }
 {
     let scopes = scope_count(case);
     let mut sum: i64 = 0;
     let mut x: usize = 0;
     while x < scopes {
-        sum += cut_weight(best[x]);
+        let weight = best[x];
+        if !is_within(weight, -WORKING, WORKING) {
+            return Figure::Refused(Refusal::WeightOutOfRange);
+        }
+        sum += weight;
         x += 1;
     }
-    sum
+    Figure::Value(sum)
 }
 
-fn sum_of_greatest(case: Case, table: &[i64]) -> i64
+fn add_greatest(case: Case, table: &[i64]) -> Figure
     requires { ⌜ Limited standard case ⌝ }
     requires { ⌜ length (now table) ≡ lentLength case ⌝ }
-    ensures { λ r. ⌜ r ≡ sum (map (λ x. cut standard (greatestWeight case (now (table .entry)) x)) (scopes case)) ⌝ }
+    ensures { λ r. ⌜ r ≡ sumInRange standard case (greatestWeight case (now (table .entry))) ⌝ }
 {
     let mut best = [0i64; 144];
     write_greatest(case, table, &mut best);
-    sum_of_best(case, &best)
+    sum_in_range(case, &best)
 }
-
-// ---- activity
-
-fn tuple_out(case: Case, x: usize, k: usize, l: usize) -> bool
-    ensures { λ r. ⌜ r ≡ tupleOut case x k l ⌝ }
-{
-    if case.d <= k {
-        return true;
-    }
-    if x < case.n {
-        return l != 0;
-    }
-    if case.m <= x - case.n {
-        return true;
-    }
-    !(l < case.d)
-}
-
-fn has_greatest(case: Case, table: &[i64], x: usize, k: usize, l: usize) -> Verdict
-    requires { ⌜ Limited standard case ⌝ }
-    requires { ⌜ length (now table) ≡ lentLength case ⌝ }
-    requires { ⌜ (x < case .n + case .m) × (k < case .d) × (l < case .d) ⌝ }
-    ensures { λ r. ⌜ r ≡ (if active case (now (table .entry)) x k l then Verdict.Yes else Verdict.No) ⌝ }
-{
-    if weight_at(case, table, x, k, l) == scope_greatest(case, table, x) {
-        Verdict::Yes
-    } else {
-        Verdict::No
-    }
-}
-
-// ---- the objective
 
 fn wide(value: u8) -> usize
     ensures { λ r. ⌜ r ≡ value ⌝ }
 {
     value as usize
-}
-
-fn value_of(assignment: &[u8], i: usize) -> usize
-    ensures { λ r. ⌜ r ≡ valueOf (now (assignment .entry)) i ⌝ }
-{
-    if i < assignment.len() {
-        wide(assignment[i])
-    } else {
-        0
-    }
-}
-
-fn used_weight(case: Case, table: &[i64], assignment: &[u8], x: usize) -> i64
-    requires { ⌜ Handed standard (workingWeight standard) case (now table) ⌝ }
-    requires { ⌜ T (isAssignment case (now assignment)) ⌝ }
-    requires { ⌜ x < case .n + case .m ⌝ }
-    ensures { λ r. ⌜ r ≡ atUsed case (now (assignment .entry)) x (weight case (now (table .entry)) x) ⌝ }
-{
-    if x < case.n {
-        return weight_at(case, table, x, value_of(assignment, x), 0);
-    }
-    let e = x - case.n;
-    let k = value_of(assignment, wide(case.lower[e]));
-    let l = value_of(assignment, wide(case.upper[e]));
-    weight_at(case, table, x, k, l)
-}
-
-fn sum_of_used(case: Case, table: &[i64], assignment: &[u8]) -> i64
-    requires { ⌜ Handed standard (workingWeight standard) case (now table) ⌝ }
-    requires { ⌜ T (isAssignment case (now assignment)) ⌝ }
-    ensures { λ r. ⌜ r ≡ total case (now (table .entry)) (now (assignment .entry)) ⌝ }
-{
-    let scopes = scope_count(case);
-    let mut sum: i64 = 0;
-    let mut x: usize = 0;
-    while x < scopes {
-        sum += used_weight(case, table, assignment, x);
-        x += 1;
-    }
-    sum
 }
 
 // ---- the calls
@@ -435,17 +361,17 @@ pub fn greatest_weights(case: Case, table: &[i64], best: &mut [i64]) -> Outcome
     Outcome::Done
 }
 
-// The upper bound from the scopes' greatest weights; what it is of any other numbers, `boundWith` says.
-pub fn bound_with(case: Case, best: &[i64]) -> i64
-    ensures { λ r. ⌜ r ≡ boundWith standard case (now (best .entry)) ⌝ }
+// The sum of the first n + m numbers of `best`; a number outside the range of working weights is refused.
+pub fn sum_of_best(case: Case, best: &[i64]) -> Figure
+    ensures { λ r. ⌜ r ≡ bestSum standard case (now (best .entry)) ⌝ }
 {
     if !within_limits(case) {
-        return 0;
+        return Figure::Refused(Refusal::OutsideLimits);
     }
     if best.len() < scope_count(case) {
-        return 0;
+        return Figure::Refused(Refusal::WrongLength);
     }
-    sum_of_best(case, best)
+    sum_in_range(case, best)
 }
 
 // Some value is d or more.
@@ -462,46 +388,26 @@ pub fn some_beyond(values: &[u8], d: usize) -> bool
     false
 }
 
-// The upper bound of a case and a table that were checked before; what it is of any others, `boundOf` says.
-pub fn bound_of(case: Case, table: &[i64]) -> i64
-    ensures { λ r. ⌜ r ≡ boundOf standard case (now (table .entry)) ⌝ }
+// The sum of each scope's greatest weight; one outside the range of working weights is refused.
+pub fn sum_of_greatest(case: Case, table: &[i64]) -> Figure
+    ensures { λ r. ⌜ r ≡ greatestSum standard case (now (table .entry)) ⌝ }
 {
     if !within_limits(case) {
-        return 0;
+        return Figure::Refused(Refusal::OutsideLimits);
     }
     if table.len() != table_length(case) {
-        return 0;
+        return Figure::Refused(Refusal::WrongLength);
     }
-    sum_of_greatest(case, table)
+    add_greatest(case, table)
 }
 
-pub fn upper_bound(case: Case, table: &[i64]) -> Figure
-    ensures { λ r. ⌜ r ≡ upperBoundAnswer standard case (now (table .entry)) ⌝ }
+// The part of the table that belongs to scope x; empty where there is none.
+pub fn scope_weights(case: Case, table: &[i64], x: usize) -> &[i64]
+    ensures { λ r. ⌜ now r ≡ scopeWeights standard case (now (table .entry)) x ⌝ }
 {
-    let checked = check_working(case, table, false, false);
-    match checked {
-        Outcome::Refused(refusal) => Figure::Refused(refusal),
-        Outcome::Done => Figure::Value(bound_of(case, table)),
-    }
-}
-
-pub fn is_active(case: Case, table: &[i64], scope: usize, k: usize, l: usize) -> Verdict
-    ensures { λ r. ⌜ r ≡ isActiveAnswer standard case (now (table .entry)) scope k l ⌝ }
-{
-    let checked = check_working(case, table, false, tuple_out(case, scope, k, l));
-    match checked {
-        Outcome::Refused(refusal) => Verdict::Refused(refusal),
-        Outcome::Done => has_greatest(case, table, scope, k, l),
-    }
-}
-
-pub fn objective(case: Case, table: &[i64], assignment: &[u8]) -> Figure
-    ensures { λ r. ⌜ r ≡ objectiveAnswer standard case (now (table .entry)) (now (assignment .entry)) ⌝ }
-{
-    let wrong = assignment.len() != case.n;
-    let checked = check_working(case, table, wrong, some_beyond(assignment, case.d));
-    match checked {
-        Outcome::Refused(refusal) => Figure::Refused(refusal),
-        Outcome::Done => Figure::Value(sum_of_used(case, table, assignment)),
+    if has_scope(case, table.len(), x) {
+        scope_part(case, table, x)
+    } else {
+        &table[0..0]
     }
 }

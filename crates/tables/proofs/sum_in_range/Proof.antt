@@ -1,0 +1,109 @@
+-- The loop holds the sum over the scopes passed, which fits, as every number so far is in the range. Assumes nothing.
+use mathlib.Core.Path.{_≡_, refl, sym, ap, _∙_}
+use Prim.Native.Nat.{ℕ, _+_, _-_, _≤_, _<_}
+use native.Mathlib.Omega.{arith}
+use lib.IntN.{_+ℤ_}
+use lib.Dec.{T}
+use mir.Syntax.{w64}
+use mir.Val.{toZ, ofZ}
+use mir.Facts.{toZ-ofZ}
+use borrow.Author.Count.{below-more}
+use borrow.Author.Needs.{needs}
+use borrow.Author.Tests.{not-true, not-false}
+use Rattle.integers.specs.Linear.{read-back}
+use Rattle.integers.specs.Tests.{true-is}
+use Rattle.integers.specs.Sums.{Σ}
+use Rattle.definitions.specs.declared.Figure.{Figure}
+use Rattle.definitions.specs.Rules.{standard}
+use Rattle.definitions.specs.Valid.{workingWeight}
+use Rattle.tables.specs.Scopes.{bestAt}
+use Rattle.tables.proofs.Bounds.{sum-more, sum-fits, sum-given, sum-refused}
+use Rattle.tables.proofs.sum_in_range.Statement.{statement}
+use Rattle.tables.proofs.sum_in_range.Tie as tie
+
+abbrev Inv-loop : tie.InvT-loop
+Inv-loop best scopes sum₀ x₀ sum x = (x ≤ scopes) × ((y : ℕ) → y < x → T (workingWeight standard (bestAt best y))) × (toZ w64 sum ≡ Σ (bestAt best) 0 x)
+
+abbrev μ-loop : tie.MeasureT-loop
+μ-loop best scopes sum₀ x₀ sum x = scopes - x
+
+scope-count-requires : tie.Need-scope-count-requires Inv-loop μ-loop
+scope-count-requires c κs = c .pre .0
+
+loop-holds : tie.Need-loop-holds Inv-loop μ-loop
+loop-holds c = (omega arith, λ y h. absurd (omega arith), refl)
+
+mul-weight : tie.Need-mul-weight Inv-loop μ-loop
+mul-weight c = omega arith
+
+shared-slice-copy-out-weight : tie.Need-shared-slice-copy-out-weight Inv-loop μ-loop
+shared-slice-copy-out-weight c = omega arith
+
+sub-is-within : tie.Need-sub-is-within Inv-loop μ-loop
+sub-is-within c = search needs
+
+is-within-requires : tie.Need-is-within-requires Inv-loop μ-loop
+is-within-requires c κs = search needs
+
+-- the number at x
+asked : (c : tie.After-is-within Inv-loop μ-loop) → let s = c .before .before .before in
+    c .is-within .result ≡ workingWeight standard (bestAt (s .before .before .args .best .now) (s .loop .x))
+asked c =
+    let s = c .before .before .before in
+    rw (read-back w64 (bestAt (s .before .before .args .best .now) (s .loop .x)) (c .before .weight .given)) at (c .is-within .ensures)
+
+returns : tie.Need-returns Inv-loop μ-loop
+returns c = let s = c .before .before .before .before in
+    let a = s .before .before .args in
+    sum-refused (a .case) (bestAt (a .best .now)) (s .loop .x) (omega arith) (sym (asked (c .before)) ∙ not-true _ (c .if1 .taken))
+
+-- what holds of the scopes up to x, and their sum
+passed : (c : tie.Else1 Inv-loop μ-loop) → let s = c .before .before .before .before in
+    (y : ℕ) → y < s .loop .x + 1 → T (workingWeight standard (bestAt (s .before .before .args .best .now) y))
+passed c = below-more _ _ (c .before .before .before .before .loop .inv .1) (true-is _ (sym (asked (c .before)) ∙ not-false _ (c .if1 .left)))
+
+next : (c : tie.Else1 Inv-loop μ-loop) → let s = c .before .before .before .before in
+    let f = bestAt (s .before .before .args .best .now) in
+    toZ w64 (s .loop .sum) +ℤ toZ w64 (ofZ w64 (f (s .loop .x))) ≡ Σ f 0 (s .loop .x + 1)
+next c =
+    let s = c .before .before .before .before in
+    let f = bestAt (s .before .before .args .best .now) in
+    sum-more f (s .loop .x) (s .loop .inv .2) (read-back w64 (f (s .loop .x)) (c .before .before .weight .given))
+
+add-sum : tie.Need-add-sum Inv-loop μ-loop
+add-sum c = let s = c .before .before .before .before in
+    rw (next c) (sum-fits (bestAt (s .before .before .args .best .now)) (s .loop .x + 1) (omega arith) (passed c))
+
+add-x : tie.Need-add-x Inv-loop μ-loop
+add-x c = omega arith
+
+loop-less : tie.Need-loop-less Inv-loop μ-loop
+loop-less c = omega arith
+
+loop-again : tie.Need-loop-again Inv-loop μ-loop
+loop-again c = (omega arith, passed c, toZ-ofZ (add-sum c) ∙ next c)
+
+returns-2 : tie.Need-returns-2 Inv-loop μ-loop
+returns-2 c = let l = c .before .loop in
+    let a = c .before .before .before .args in
+    let e : l .x ≡ a .case .n + a .case .m = omega arith in
+    ap Figure.Value (rw e at (l .inv .2)) ∙ sum-given (a .case) (bestAt (a .best .now)) (λ y h. l .inv .1 y (omega arith))
+
+pub sum-in-range-spec : {M : Type 1} → statement M
+sum-in-range-spec =
+    tie.close
+    (tie.spec
+    Inv-loop
+    μ-loop
+    scope-count-requires
+    loop-holds
+    mul-weight
+    shared-slice-copy-out-weight
+    sub-is-within
+    is-within-requires
+    returns
+    add-sum
+    add-x
+    loop-less
+    loop-again
+    returns-2)
