@@ -8,7 +8,7 @@ use native.Mathlib.Omega.{arith}
 use lib.IntN.{ℤ}
 use lib.Dec.{T}
 use lib.ListN.{length}
-use borrow.Author.Tests.{eq-eqb}
+use borrow.Author.Tests.{eq-eqb, lt-ltb}
 use Rattle.integers.specs.Words.{if_then_else_}
 use Rattle.integers.specs.Tests.{tests}
 use Rattle.definitions.specs.declared.Case.{Case}
@@ -24,7 +24,7 @@ use Rattle.definitions.specs.Valid.{workingWeight, withinLimits, handedOver}
 use Rattle.definitions.specs.Calls.{figureOf, verdictOf}
 use Rattle.theory.proofs.Places.{first-tuple, greatest-at}
 use Rattle.theory.proofs.Validity.{Handed, handed}
-use Rattle.tables.specs.Scopes.{Limited, greatestSum}
+use Rattle.tables.specs.Scopes.{Limited, partOf, scopeWeights, greatestSum}
 use Rattle.tables.proofs.Order.{outcome-done, outcome-refused}
 use Rattle.tables.proofs.Bounds.{sum-given}
 
@@ -77,3 +77,7 @@ module _ {c : Case} {w : List ℤ} (h : Handed standard (workingWeight standard)
   pub greatest-sum-known : greatestSum standard c w ≡ Figure.Value (upperBound c w)
   unfolding greatestSum
   greatest-sum-known = rw (limits-true, eq-eqb (length w) (lentLength c) (h .long)) (sym (sum-given c (greatest c w) greatest-working))
+
+  pub scope-weights-known : (x : ℕ) → x < scopeCount c → scopeWeights standard c w x ≡ partOf c w x
+  unfolding scopeWeights
+  scope-weights-known x l = rw (limits-true, eq-eqb (length w) (lentLength c) (h .long), lt-ltb x (scopeCount c) l)

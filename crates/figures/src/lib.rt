@@ -1,0 +1,139 @@
+// Entry points for totals, ceilings and activity (document 01, "Links, scopes and totals"): each refuses by the numbered list.
+use definitions::Case;
+use definitions::Figure;
+use definitions::Outcome;
+use definitions::Verdict;
+ghost use mathlib.Core.Path.{_≡_};
+ghost use lib.Dec.{T};
+ghost use Prim.Native.Nat.{_+_, _<_};
+ghost use Rattle.integers.specs.Words.{if_then_else_};
+ghost use Rattle.definitions.specs.Rules.{standard};
+ghost use Rattle.definitions.specs.Case.{weight, valueOf, atUsed, objective as total, isAssignment, active};
+ghost use Rattle.definitions.specs.Valid.{workingWeight};
+ghost use Rattle.definitions.specs.Calls.{objectiveAnswer, upperBoundAnswer, isActiveAnswer, tupleOut};
+ghost use Rattle.theory.proofs.Validity.{Handed};
+
+fn weight_at(case: Case, table: &[i64], x: usize, k: usize, l: usize) -> i64
+    requires { ⌜ Handed standard (workingWeight standard) case (now table) ⌝ }
+    requires { ⌜ (x < case .n + case .m) × (k < case .d) × (l < case .d) ⌝ }
+    ensures { λ r. ⌜ r ≡ weight case (now (table .entry)) x k l ⌝ }
+{
+    let part = tables::scope_weights(case, table, x);
+    if x < case.n {
+        return part[k];
+    }
+    let at = k * case.d + l;
+    part[at]
+}
+
+// ---- activity
+
+fn tuple_out(case: Case, x: usize, k: usize, l: usize) -> bool
+    ensures { λ r. ⌜ r ≡ tupleOut case x k l ⌝ }
+{
+    if case.d <= k {
+        return true;
+    }
+    if x < case.n {
+        return l != 0;
+    }
+    if case.m <= x - case.n {
+        return true;
+    }
+    !(l < case.d)
+}
+
+fn has_greatest(case: Case, table: &[i64], x: usize, k: usize, l: usize) -> Verdict
+    requires { ⌜ Handed standard (workingWeight standard) case (now table) ⌝ }
+    requires { ⌜ (x < case .n + case .m) × (k < case .d) × (l < case .d) ⌝ }
+    ensures { λ r. ⌜ r ≡ (if active case (now (table .entry)) x k l then Verdict.Yes else Verdict.No) ⌝ }
+{
+    let greatest = tables::greatest(tables::scope_weights(case, table, x));
+    if weight_at(case, table, x, k, l) == greatest {
+        Verdict::Yes
+    } else {
+        Verdict::No
+    }
+}
+
+// ---- the objective
+
+fn wide(value: u8) -> usize
+    ensures { λ r. ⌜ r ≡ value ⌝ }
+{
+    value as usize
+}
+
+fn value_of(assignment: &[u8], i: usize) -> usize
+    ensures { λ r. ⌜ r ≡ valueOf (now (assignment .entry)) i ⌝ }
+{
+    if i < assignment.len() {
+        wide(assignment[i])
+    } else {
+        0
+    }
+}
+
+fn used_weight(case: Case, table: &[i64], assignment: &[u8], x: usize) -> i64
+    requires { ⌜ Handed standard (workingWeight standard) case (now table) ⌝ }
+    requires { ⌜ T (isAssignment case (now assignment)) ⌝ }
+    requires { ⌜ x < case .n + case .m ⌝ }
+    ensures { λ r. ⌜ r ≡ atUsed case (now (assignment .entry)) x (weight case (now (table .entry)) x) ⌝ }
+{
+    if x < case.n {
+        return weight_at(case, table, x, value_of(assignment, x), 0);
+    }
+    let e = x - case.n;
+    let k = value_of(assignment, wide(case.lower[e]));
+    let l = value_of(assignment, wide(case.upper[e]));
+    weight_at(case, table, x, k, l)
+}
+
+fn sum_of_used(case: Case, table: &[i64], assignment: &[u8]) -> i64
+    requires { ⌜ Handed standard (workingWeight standard) case (now table) ⌝ }
+    requires { ⌜ T (isAssignment case (now assignment)) ⌝ }
+    ensures { λ r. ⌜ r ≡ total case (now (table .entry)) (now (assignment .entry)) ⌝ }
+{
+    let scopes = case.n + case.m;
+    let mut sum: i64 = 0;
+    let mut x: usize = 0;
+    while x < scopes {
+        sum += used_weight(case, table, assignment, x);
+        x += 1;
+    }
+    sum
+}
+
+// ---- the calls
+
+pub fn objective(case: Case, table: &[i64], assignment: &[u8]) -> Figure
+    ensures { λ r. ⌜ r ≡ objectiveAnswer standard case (now (table .entry)) (now (assignment .entry)) ⌝ }
+{
+    let wrong = assignment.len() != case.n;
+    let out = tables::some_beyond(assignment, case.d);
+    let checked = tables::check_working(case, table, wrong, out);
+    match checked {
+        Outcome::Refused(refusal) => Figure::Refused(refusal),
+        Outcome::Done => Figure::Value(sum_of_used(case, table, assignment)),
+    }
+}
+
+pub fn upper_bound(case: Case, table: &[i64]) -> Figure
+    ensures { λ r. ⌜ r ≡ upperBoundAnswer standard case (now (table .entry)) ⌝ }
+{
+    let checked = tables::check_working(case, table, false, false);
+    match checked {
+        Outcome::Refused(refusal) => Figure::Refused(refusal),
+        Outcome::Done => tables::sum_of_greatest(case, table),
+    }
+}
+
+pub fn is_active(case: Case, table: &[i64], scope: usize, k: usize, l: usize) -> Verdict
+    ensures { λ r. ⌜ r ≡ isActiveAnswer standard case (now (table .entry)) scope k l ⌝ }
+{
+    let checked = tables::check_working(case, table, false, tuple_out(case, scope, k, l));
+    match checked {
+        Outcome::Refused(refusal) => Verdict::Refused(refusal),
+        Outcome::Done => has_greatest(case, table, scope, k, l),
+    }
+}
