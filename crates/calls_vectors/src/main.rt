@@ -1,4 +1,4 @@
-// Calls of figures, consistency and moves, told by standard input: lines in columns (document 01) with kind, a, b, c and amount.
+// Calls of figures, tables, arcs and changes, told by standard input: lines in columns (document 01) with kind, a, b, c and amount.
 // A line not in columns is a title and is printed.
 //
 //  1  the case: n is a, D is b, m is c
@@ -11,11 +11,12 @@
 // 11  check_working a b      21  active_refuted a        31  press a amount
 // 12  check_edges a          22  lowest_partner a b      32  shift_with a b c amount
 // 13  upper_bound            23  closure                 33  press_with a amount
-// 14  bound_of               24  all_refuted a b
+// 14  sum_of_greatest        24  all_refuted a b
 // 15  is_active a b c        25  active_marks
 // 16  objective
 // 17  greatest
 // 18  greatest_weights
+// 19  sum_of_best
 //
 // Where a count is meant, a negative number stands for 2^64 - 1; the amounts 999999999999 and -99999999999 stand for 2^63 - 1 and -2^63.
 // The answers in `stdout` were worked out from document 01.
@@ -87,7 +88,7 @@ fn print_name(kind: usize) -> bool {
         return false;
     }
     print_slot(
-        b"check_starting  check_working   check_edges     upper_bound     bound_of        is_active       objective       greatest        greatest_weights                refuted         active_refuted  lowest_partner  closure         all_refuted     active_marks                                                                    shift           press           shift_with      press_with      ",
+        b"check_starting  check_working   check_edges     upper_bound     sum_of_greatest is_active       objective       greatest        greatest_weightssum_of_best     refuted         active_refuted  lowest_partner  closure         all_refuted     active_marks                                                                    shift           press           shift_with      press_with      ",
         (kind - 10) * 16,
     )
 }
@@ -338,19 +339,23 @@ fn edges(call: Call, case: Case) {
 }
 
 fn bound(case: Case, t: &[i64]) {
-    figure(tables::upper_bound(case, t));
+    figure(figures::upper_bound(case, t));
 }
 
-fn bound_of(case: Case, t: &[i64]) {
-    value(tables::bound_of(case, t));
+fn sum_of_greatest(case: Case, t: &[i64]) {
+    figure(tables::sum_of_greatest(case, t));
 }
 
 fn active(call: Call, case: Case, t: &[i64]) {
-    verdict(tables::is_active(case, t, call.a, call.b, call.c));
+    verdict(figures::is_active(case, t, call.a, call.b, call.c));
 }
 
 fn objective(case: Case, t: &[i64], plan: &[u8]) {
-    figure(tables::objective(case, t, plan));
+    figure(figures::objective(case, t, plan));
+}
+
+fn sum_of_best(case: Case, best: &[i64]) {
+    figure(tables::sum_of_best(case, best));
 }
 
 fn greatest(t: &[i64]) {
@@ -376,10 +381,11 @@ fn question(call: Call, case: Case, t: &[i64], best: &[i64], bytes: &[u8]) {
         11 => working(call, case, t),
         12 => edges(call, case),
         13 => bound(case, t),
-        14 => bound_of(case, t),
+        14 => sum_of_greatest(case, t),
         15 => active(call, case, t),
         16 => objective(case, t, bytes),
         17 => greatest(t),
+        19 => sum_of_best(case, best),
         20 => refuted(call, case, t, bytes),
         21 => active_refuted(call, case, t, best, bytes),
         22 => lowest_partner(call),

@@ -15,14 +15,14 @@ use Rattle.definitions.specs.Case.{upperBound}
 use Rattle.definitions.specs.Valid.{startingWeight, workingWeight, limitTest, edgeTests, handedOver}
 use Rattle.theory.proofs.Validity.{Handed, handed, working-weights}
 use Rattle.theory.proofs.Replays.{none-iff}
-use Rattle.tables.specs.Scopes.{boundOf}
+use Rattle.tables.specs.Scopes.{greatestSum}
 use Rattle.tables.proofs.Order.{outcome-done, outcome-refused, first-next, first-stops}
-use Rattle.tables.proofs.Answered.{bound-known}
+use Rattle.tables.proofs.Answered.{greatest-sum-known}
 use Rattle.checker.specs.declared.Standing.{Standing}
 use Rattle.checker.specs.declared.Replay.{Replay}
 use Rattle.checker.specs.declared.Progress.{Progress}
 use Rattle.checker.specs.Checker.{isHeld, freshOf, recordOut, freshReplay, endTests}
-use Rattle.checker.specs.Taken.{goodReplay}
+use Rattle.checker.specs.Taken.{goodReplay, freshFrom}
 
 -- ---- a fresh record
 
@@ -48,11 +48,11 @@ module _ (c : Case) (w : List ℤ) where
           in-range = working-weights standard-coherent h;
         }
 
-    pub fresh-good : {b : ℤ} → b ≡ boundOf standard c w → freshOf none b ≡ freshReplay standard c w
+    pub fresh-good : freshFrom (greatestSum standard c w) ≡ freshReplay standard c w
     unfolding freshReplay
-    fresh-good {b} d =
+    fresh-good =
         let n : asked ≡ none = outcome-done e in
-        ap (freshOf none) (d ∙ bound-known fresh-handed) ∙ ap (λ (o : Option Refusal). freshOf o (upperBound c w)) (sym n)
+        ap freshFrom (greatest-sum-known fresh-handed) ∙ ap (λ (o : Option Refusal). freshOf o (upperBound c w)) (sym n)
 
 -- ---- the end
 

@@ -1,12 +1,14 @@
 -- What the inner functions answer: a line taken with the record in parts, the raised scopes lent and the rest by value. Assumes nothing.
 use mathlib.Core.Bool.{false, not, _||_}
+use mathlib.Core.Option.{none, some}
 use mathlib.Core.List.{List, [], _∷_}
 use Prim.Native.Nat.{ℕ, _+_}
-use lib.IntN.{ℤ}
+use lib.IntN.{ℤ, pos}
 use lib.ListN.{set}
 use Rattle.definitions.specs.declared.Case.{Case}
 use Rattle.definitions.specs.declared.Line.{Line}
 use Rattle.definitions.specs.declared.Outcome.{Outcome}
+use Rattle.definitions.specs.declared.Figure.{Figure}
 use Rattle.definitions.specs.declared.Refusal.the-variants.{NotDue, NotRefuted, LeavesRange}
 use Rattle.definitions.specs.Rules.{standard}
 use Rattle.definitions.specs.Refusals.{Test, _when_, firstOf}
@@ -18,7 +20,7 @@ use Rattle.checker.specs.declared.Standing.{Standing}
 use Rattle.checker.specs.declared.Replay.{Replay}
 use Rattle.checker.specs.declared.Progress.{Progress}
 use Rattle.checker.specs.declared.Taken.{Taken}
-use Rattle.checker.specs.Checker.{StepCall, BlockCall, Asked, isRaised, dueKinds, afterPress, recordOut, ofKind, stepBy}
+use Rattle.checker.specs.Checker.{StepCall, BlockCall, Asked, freshOf, isRaised, dueKinds, afterPress, recordOut, ofKind, stepBy}
 
 -- a record stands as the last line was answered
 abbrev pub standingAfter : Outcome → Standing
@@ -38,6 +40,11 @@ replayOf p raised standing = record {
 -- the same record while it stands good
 abbrev pub goodReplay : Progress → List ℕ → Replay
 goodReplay p raised = replayOf p raised Standing.Good
+
+-- a fresh record by the bound at the round's start
+abbrev pub freshFrom : Figure → Replay
+freshFrom (Figure.Value bound) = freshOf none bound
+freshFrom (Figure.Refused x) = freshOf (some x) (pos 0)
 
 -- the step of a line taken
 abbrev pub stepOf : Taken → List ℕ → List ℤ → StepCall

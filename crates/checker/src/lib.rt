@@ -1,6 +1,7 @@
 // The replay's record, by value: the next record comes back with the answer (document 01, "The replay's record says what is due").
 // What its calls answer is defined in specs/.
 use definitions::Case;
+use definitions::Figure;
 use definitions::Line;
 use definitions::LineRead;
 use definitions::Outcome;
@@ -19,7 +20,7 @@ ghost use Rattle.integers.specs.Words.{all, within, withinZ};
 ghost use Rattle.definitions.specs.Rules.{standard};
 ghost use Rattle.definitions.specs.Refusals.{firstOf};
 ghost use Rattle.definitions.specs.Answers.{outcomeOf, unlessRefused};
-ghost use Rattle.definitions.specs.Case.{scopeCount};
+ghost use Rattle.definitions.specs.Case.{scopeCount, upperBound};
 ghost use Rattle.definitions.specs.Valid.{workingWeight};
 ghost use Rattle.definitions.specs.Consistency.{allRefuted};
 ghost use Rattle.definitions.specs.Moves.{shiftAmount, pressAmount, activeValues};
@@ -28,7 +29,7 @@ ghost use Rattle.theory.proofs.Validity.{Handed};
 ghost use Rattle.tables.specs.Scopes.{Limited, BestOf};
 ghost use Rattle.lines.specs.Words.{Word};
 ghost use Rattle.checker.specs.Checker.{isRaised, lastOut, notAboveLast, dueKinds, isHeld, refusedReplay, dueOut, recordOut, freshReplay, ofShift, ofPress, ofBound, ofRaise, ofKind, stepLine, stepReplay, endTests, endReplay, blockReplay};
-ghost use Rattle.checker.specs.Taken.{standingAfter, replayOf, goodReplay, stepOf, stepNext, pressed, rangeTests, wholeTests, lastStep, frontTests, moreBy};
+ghost use Rattle.checker.specs.Taken.{standingAfter, replayOf, goodReplay, freshFrom, stepOf, stepNext, pressed, rangeTests, wholeTests, lastStep, frontTests, moreBy};
 ghost use Rattle.checker.specs.Raising.{raiseLine, Digit, Small, RaiseText, lastOf, holding, raising, Onward};
 
 // The last scope that a press has raised.
@@ -476,11 +477,10 @@ fn press_line(raised: &mut [u8], progress: Progress, line: Line) -> Taken
     )
 }
 
-fn bound_line(case: Case, best: &[i64], progress: Progress, line: Line) -> Taken
+fn stated_bound(progress: Progress, line: Line, bound: i64) -> Taken
     requires { ⌜ progress .rounds < standard .rounds ⌝ }
-    ensures { λ r. ⌜ ((w : List ℤ) (raised : List ℕ) → Handed standard (workingWeight standard) case w → BestOf case w (now (best .entry)) → stepOf r raised w ≡ stepNext w (goodReplay progress raised) (ofBound standard case w (goodReplay progress raised) line)) ⌝ }
+    ensures { λ r. ⌜ ((c : Case) (w : List ℤ) (raised : List ℕ) → bound ≡ upperBound c w → stepOf r raised w ≡ stepNext w (goodReplay progress raised) (ofBound standard c w (goodReplay progress raised) line)) ⌝ }
 {
-    let bound = tables::bound_with(case, best);
     if line.amount != bound {
         return refused(progress, Refusal::OtherBound);
     }
@@ -488,6 +488,17 @@ fn bound_line(case: Case, best: &[i64], progress: Progress, line: Line) -> Taken
         return refused(progress, Refusal::BoundNotLower);
     }
     after_bound(progress, bound)
+}
+
+fn bound_line(case: Case, best: &[i64], progress: Progress, line: Line) -> Taken
+    requires { ⌜ progress .rounds < standard .rounds ⌝ }
+    ensures { λ r. ⌜ ((w : List ℤ) (raised : List ℕ) → Handed standard (workingWeight standard) case w → BestOf case w (now (best .entry)) → stepOf r raised w ≡ stepNext w (goodReplay progress raised) (ofBound standard case w (goodReplay progress raised) line)) ⌝ }
+{
+    let sum = tables::sum_of_best(case, best);
+    match sum {
+        Figure::Refused(refusal) => refused(progress, refusal),
+        Figure::Value(bound) => stated_bound(progress, line, bound),
+    }
 }
 
 // ---- raise lines
@@ -1120,6 +1131,30 @@ fn end_good(replay: Replay, case: Case) -> Outcome
     }
 }
 
+// A fresh record with this bound at the round's start, or one that stands refused.
+fn fresh_from(start: Figure) -> Replay
+    ensures { λ r. ⌜ r ≡ freshFrom start ⌝ }
+{
+    match start {
+        Figure::Refused(refusal) => Replay {
+            rounds: 0,
+            start: 0,
+            moved: false,
+            raised: [0u8; 144],
+            due: Due::MoveOrBound,
+            standing: Standing::Refused(refusal),
+        },
+        Figure::Value(bound) => Replay {
+            rounds: 0,
+            start: bound,
+            moved: false,
+            raised: [0u8; 144],
+            due: Due::MoveOrBound,
+            standing: Standing::Good,
+        },
+    }
+}
+
 // ---- the calls
 
 impl Replay {
@@ -1128,22 +1163,8 @@ impl Replay {
     {
         let checked = tables::check_starting(case, table, false, false);
         match checked {
-            Outcome::Refused(refusal) => Replay {
-                rounds: 0,
-                start: 0,
-                moved: false,
-                raised: [0u8; 144],
-                due: Due::MoveOrBound,
-                standing: Standing::Refused(refusal),
-            },
-            Outcome::Done => Replay {
-                rounds: 0,
-                start: tables::bound_of(case, table),
-                moved: false,
-                raised: [0u8; 144],
-                due: Due::MoveOrBound,
-                standing: Standing::Good,
-            },
+            Outcome::Refused(refusal) => fresh_from(Figure::Refused(refusal)),
+            Outcome::Done => fresh_from(tables::sum_of_greatest(case, table)),
         }
     }
 

@@ -276,14 +276,14 @@ pub extern "C" fn ceiling_case_size(text: &[u8]) -> CeilingSize
 pub extern "C" fn ceiling_upper_bound(case: &CaseArray, table: &[i64]) -> CeilingTotal
     ensures { λ r. ⌜ r ≡ totalOf (figureSays (upperBoundAnswer standard (caseOf (now (case .entry))) (now (table .entry)))) ⌝ }
 {
-    total_of(tables::upper_bound(encoding::case_of(case), table))
+    total_of(figures::upper_bound(encoding::case_of(case), table))
 }
 
 #[no_mangle]
 pub extern "C" fn ceiling_objective(case: &CaseArray, table: &[i64], plan: &[u8]) -> CeilingTotal
     ensures { λ r. ⌜ r ≡ totalOf (figureSays (objectiveAnswer standard (caseOf (now (case .entry))) (now (table .entry)) (now (plan .entry)))) ⌝ }
 {
-    total_of(tables::objective(encoding::case_of(case), table, plan))
+    total_of(figures::objective(encoding::case_of(case), table, plan))
 }
 
 // The plan with the greater total, the first on a tie.

@@ -1,6 +1,7 @@
 // The engine (document 01, "The engine's round"): one round, and the run that makes rounds one after another.
 use arcs::Tried;
 use definitions::Case;
+use definitions::Figure;
 use definitions::Line;
 use definitions::Outcome;
 use definitions::Refusal;
@@ -818,12 +819,6 @@ fn press(
     changes::press_with(case, table, best, raised, variable, amount)
 }
 
-fn bound_of(case: Case, best: &[i64]) -> i64
-    ensures { λ r. ⌜ ((w : List ℤ) → Handed standard (workingWeight standard) case w → BestOf case w (now (best .entry)) → r ≡ upperBound case w) ⌝ }
-{
-    tables::bound_with(case, best)
-}
-
 // The press of the chosen variable, and its lines.
 fn press_round(
     case: Case,
@@ -845,9 +840,14 @@ fn press_round(
     match pressed {
         Outcome::Refused(refusal) => Round::Refused(refusal),
         Outcome::Done => {
-            let bound = bound_of(case, best);
-            let bytes = write_round(out, raised, scopes, variable, amount, bound);
-            Round::Made { bytes, bound }
+            let sum = tables::sum_of_best(case, best);
+            match sum {
+                Figure::Refused(refusal) => Round::Refused(refusal),
+                Figure::Value(bound) => {
+                    let bytes = write_round(out, raised, scopes, variable, amount, bound);
+                    Round::Made { bytes, bound }
+                }
+            }
         }
     }
 }
@@ -908,11 +908,18 @@ fn stop_run(case: Case, table: &[i64], answer: RunAnswer, rounds: u64) -> Run
     requires { ⌜ Handed standard (workingWeight standard) case (now table) ⌝ }
     ensures { λ r. ⌜ r ≡ stoppedRun case (now (table .entry)) answer rounds ⌝ }
 {
-    let bound = tables::bound_of(case, table);
-    Run {
-        answer,
-        rounds,
-        bound,
+    let sum = tables::sum_of_greatest(case, table);
+    match sum {
+        Figure::Refused(refusal) => Run {
+            answer: RunAnswer::Refused(refusal),
+            rounds,
+            bound: 0,
+        },
+        Figure::Value(bound) => Run {
+            answer,
+            rounds,
+            bound,
+        },
     }
 }
 

@@ -3,6 +3,7 @@
 use checker::Replay;
 use checker::Standing;
 use definitions::Case;
+use definitions::Figure;
 use definitions::FileAnswer;
 use definitions::Outcome;
 use definitions::Refusal;
@@ -117,7 +118,11 @@ fn write_end(judging: Judging, table: &[i64], part: bool, passed: usize, out: &m
     match ended {
         Outcome::Refused(refusal) => texts::write_refused(out, refusal, passed),
         Outcome::Done => {
-            texts::write_accepted(out, replay.rounds, tables::bound_of(case, table))
+            let sum = tables::sum_of_greatest(case, table);
+            match sum {
+                Figure::Refused(refusal) => texts::write_refused(out, refusal, passed),
+                Figure::Value(bound) => texts::write_accepted(out, replay.rounds, bound),
+            }
         }
     }
 }

@@ -29,7 +29,7 @@ fn objective_of(case: Case, table: &[i64], assignment: &[u8]) -> i64
     requires { ⌜ T (isAssignment case (now assignment)) ⌝ }
     ensures { λ r. ⌜ r ≡ objective case (now (table .entry)) (now (assignment .entry)) ⌝ }
 {
-    value_in(tables::objective(case, table, assignment))
+    value_in(figures::objective(case, table, assignment))
 }
 
 fn greater(first: i64, second: i64) -> Choice

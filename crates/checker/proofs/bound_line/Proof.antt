@@ -1,64 +1,57 @@
-use mathlib.Core.Path.{refl, _∙_}
+use mathlib.Core.Path.{_≡_, sym, _∙_}
+use mathlib.Core.List.{List}
+use lib.IntN.{ℤ}
 use mir.Syntax.{w64}
 use Rattle.integers.specs.Linear.{read-back}
+use Rattle.definitions.specs.declared.Figure.{Figure}
 use Rattle.definitions.specs.Rules.{standard}
-use Rattle.tables.proofs.Bounds.{same-bits, other-bits}
-use Rattle.tables.proofs.Best.{bound-with-known}
-use Rattle.checker.specs.Checker.{ofBound}
-use Rattle.checker.specs.Taken.{goodReplay}
-use Rattle.checker.proofs.Numbers.{same-bits as same-numbers}
-use Rattle.checker.proofs.Taking.{taken-refused, taken-done, other-bound, not-lower, lower}
+use Rattle.definitions.specs.Case.{upperBound}
+use Rattle.definitions.specs.Valid.{workingWeight}
+use Rattle.theory.proofs.Validity.{Handed}
+use Rattle.tables.specs.Scopes.{BestOf}
+use Rattle.tables.proofs.Best.{best-sum-known}
 use borrow.Author.Needs.{needs}
 use Rattle.checker.proofs.bound_line.Statement.{statement}
 use Rattle.checker.proofs.bound_line.Tie as tie
 
-bound-with-requires : tie.Need-bound-with-requires
-bound-with-requires c κs = search needs
+sum-of-best-requires : tie.Need-sum-of-best-requires
+sum-of-best-requires c κs = search needs
+
+enum-known-sum : tie.Need-enum-known-sum
+enum-known-sum c = search needs
 
 refused-requires : tie.Need-refused-requires
 refused-requires c κs = search needs
 
-returns : tie.Need-returns
-returns c = λ w raised h k. let a = c .before .before .before .before .before .args in let l = a .line in let p = goodReplay (a .progress) raised in
-    let b = c .before .before .before .before .bound-with .result in
-    let m = c .before .before .struct-told .given .1 .1 .1 .1 .0 .1 in
-    let e = c .before .before .before .before .bound-with .ensures ∙ bound-with-known h k in
-    taken-refused (c .refused .result) w w raised (ofBound standard (a .case) w p l) (c .refused .ensures) refl
-    (other-bound (a .case) w p l e (other-bits (l .amount) b m (c .before .before .before .before .bound-with .ok) (c .before .if1 .taken)))
+enum-known-sum-2 : tie.Need-enum-known-sum-2
+enum-known-sum-2 c = search needs
 
-refused-requires-2 : tie.Need-refused-requires-2
-refused-requires-2 c κs = search needs
+stated-bound-requires : tie.Need-stated-bound-requires
+stated-bound-requires c κs = search needs
+
+-- the sum is the upper bound
+summed : (c : tie.After-sum-of-best) {x : Figure} (w : List ℤ) → c .sum-of-best .result ≡ x → let a = c .before .args in
+    Handed standard (workingWeight standard) (a .case) w → BestOf (a .case) w (a .best .now) → x ≡ Figure.Value (upperBound (a .case) w)
+summed c w e h k = sym e ∙ c .sum-of-best .ensures ∙ best-sum-known h k
+
+returns : tie.Need-returns
+returns c = λ w raised h k. let e = summed (c .before .before .before .before) w (c .before .before .sum .given .1) h k in cc
 
 returns-2 : tie.Need-returns-2
-returns-2 c = λ w raised h k. let a = c .before .before .before .before .before .before .before .before .args in let l = a .line in let p = goodReplay (a .progress) raised in
-    let b = c .before .before .before .before .before .before .before .bound-with .result in
-    let m = c .before .before .before .before .before .struct-told .given .1 .1 .1 .1 .0 .1 in
-    let e = c .before .before .before .before .before .before .before .bound-with .ensures ∙ bound-with-known h k in
-    taken-refused (c .refused2 .result) w w raised (ofBound standard (a .case) w p l) (c .refused2 .ensures) refl
-    (not-lower (a .case) w p l e (same-bits (l .amount) b m (c .before .before .before .before .before .before .before .bound-with .ok) (c .before .before .before .before .if1 .left))
-    (simp (read-back w64 (a .progress .start) (c .before .before .struct-told2 .given .1 .0 .1), read-back w64 b (c .before .before .before .before .before .before .before .bound-with .ok)) at (c .before .if2 .taken)))
-
-after-bound-requires : tie.Need-after-bound-requires
-after-bound-requires c κs = search needs
-
-returns-3 : tie.Need-returns-3
-returns-3 c = λ w raised h k. let a = c .before .before .before .before .before .before .before .before .args in let l = a .line in let p = goodReplay (a .progress) raised in
-    let b = c .before .before .before .before .before .before .before .bound-with .result in
-    let m = c .before .before .before .before .before .struct-told .given .1 .1 .1 .1 .0 .1 in
-    let e = c .before .before .before .before .before .before .before .bound-with .ensures ∙ bound-with-known h k in
-    let d = same-numbers (l .amount) b m (c .before .before .before .before .before .before .before .bound-with .ok) (c .before .before .before .before .if1 .left) in
-    taken-done (c .after-bound .result) w w raised p (ofBound standard (a .case) w p l) (c .after-bound .ensures) refl (rw (read-back w64 b (c .before .before .before .before .before .before .before .bound-with .ok), d))
-    (lower (a .case) w p l e (same-bits (l .amount) b m (c .before .before .before .before .before .before .before .bound-with .ok) (c .before .before .before .before .if1 .left))
-    (simp (read-back w64 (a .progress .start) (c .before .before .struct-told2 .given .1 .0 .1), read-back w64 b (c .before .before .before .before .before .before .before .bound-with .ok)) at (c .before .if2 .left)))
+returns-2 c = λ w raised h k. let s = c .before .before .before .before in
+    let z = c .before .before .sum2 .given .0 .0 in
+    let e = summed s w (c .before .before .sum2 .given .1) h k in
+    let d : z ≡ upperBound (s .before .args .case) w = cc in
+    c .stated-bound .ensures (s .before .args .case) w raised (read-back w64 z (c .before .known-told2 .given .0 .1) ∙ d)
 
 pub bound-line-spec : {M : Type 1} → statement M
 bound-line-spec =
     tie.close
     (tie.spec
-    bound-with-requires
+    sum-of-best-requires
+    enum-known-sum
     refused-requires
+    enum-known-sum-2
+    stated-bound-requires
     returns
-    refused-requires-2
-    returns-2
-    after-bound-requires
-    returns-3)
+    returns-2)

@@ -1,6 +1,5 @@
-use mathlib.Core.Path.{sym, _∙_}
-use mir.Syntax.{w64}
-use Rattle.integers.specs.Linear.{read-back}
+use mathlib.Core.Path.{sym, ap, _∙_}
+use Rattle.checker.specs.Taken.{freshFrom}
 use Rattle.checker.proofs.Ends.{fresh-refused, fresh-good}
 use borrow.Author.Needs.{needs}
 use Rattle.checker.proofs.Replay.fresh.Statement.{statement}
@@ -15,14 +14,24 @@ enum-known-checked c = search needs
 enum-told : tie.Need-enum-told
 enum-told c = search needs
 
-bound-of-requires : tie.Need-bound-of-requires
-bound-of-requires c κs = search needs
+fresh-from-requires : tie.Need-fresh-from-requires
+fresh-from-requires c κs = search needs
+
+sum-of-greatest-requires : tie.Need-sum-of-greatest-requires
+sum-of-greatest-requires c κs = search needs
+
+fresh-from-requires-2 : tie.Need-fresh-from-requires-2
+fresh-from-requires-2 c κs = search needs
 
 returns : tie.Need-returns
-returns c = let a = c .before .before .before .before .args in fresh-refused (a .case) (a .table .now) (sym (c .before .checked .given .1) ∙ c .before .before .before .check-starting .ensures)
+returns c = let s = c .before .before .before .before in
+    c .fresh-from .ensures
+    ∙ fresh-refused (s .before .args .case) (s .before .args .table .now) (sym (c .before .before .checked .given .1) ∙ s .check-starting .ensures)
 
 returns-2 : tie.Need-returns-2
-returns-2 c = let a = c .before .before .before .before .args in fresh-good (a .case) (a .table .now) (sym (c .before .enum-told .given .1) ∙ c .before .before .before .check-starting .ensures) (read-back w64 (c .bound-of .result) (c .bound-of .ok) ∙ c .bound-of .ensures)
+returns-2 c = let s = c .before .before .before .before in
+    c .fresh-from2 .ensures ∙ ap freshFrom (c .before .sum-of-greatest .ensures)
+    ∙ fresh-good (s .before .args .case) (s .before .args .table .now) (sym (c .before .before .enum-told .given .1) ∙ s .check-starting .ensures)
 
 pub fresh-spec : {M : Type 1} → statement M
 fresh-spec =
@@ -30,7 +39,9 @@ fresh-spec =
     (tie.spec
     check-starting-requires
     enum-known-checked
+    fresh-from-requires
     enum-told
-    bound-of-requires
+    sum-of-greatest-requires
+    fresh-from-requires-2
     returns
     returns-2)
