@@ -1,7 +1,8 @@
 -- The bytes that are prepared from a table and each scope's greatest weight: what is written, and what they say. Assumes nothing.
 use mathlib.Core.Path.{_≡_, refl, sym, ap, subst, _∙_}
-use mathlib.Core.Bool.{Bool, true, false, not, _&&_, and-false}
-use mathlib.Core.List.{List}
+use mathlib.Core.Bool.{Bool, true, false, not, _&&_, _||_, and-false}
+use mathlib.Core.Option.{none, some}
+use mathlib.Core.List.{List, [], _∷_}
 use Prim.Native.Nat.{ℕ, zero, suc, _+_, _*_, _-_, _≤_, _<_}
 use native.Mathlib.Omega.{arith}
 use borrow.Author.Tests.{lt-ltb, le-ltb, eq-eqb, ne-eqb, eqb-true}
@@ -14,24 +15,29 @@ use Rattle.integers.specs.Tests.{tests, is-true, true-is, imp-intro, imp-elim, 
 use Rattle.integers.specs.Lists.{all-at, all-of}
 use Rattle.integers.specs.Tables.{length-tab, getD-tab}
 use Rattle.definitions.specs.declared.Case.{Case}
+use Rattle.definitions.specs.declared.Outcome.{Outcome}
+use Rattle.definitions.specs.declared.Refusal.{Refusal}
 use Rattle.definitions.specs.declared.Refusal.the-variants.{OutsideLimits, WrongLength, OutOfRange}
 use Rattle.definitions.specs.declared.Verdict.{Verdict}
 use Rattle.definitions.specs.Rules.{standard}
+use Rattle.definitions.specs.Refusals.{Test, _when_}
+use Rattle.definitions.specs.Answers.{outcomeOf}
 use Rattle.definitions.specs.Case.{scopeCount, lentLength, active}
-use Rattle.definitions.specs.Valid.{workingWeight, withinLimits, someEdge, endOutside}
+use Rattle.definitions.specs.Valid.{workingWeight, withinLimits, limitTest, lengthTest, someEdge, endOutside}
 use Rattle.definitions.specs.Calls.{isMarked}
 use Rattle.definitions.specs.Consistency.{refuted, allRefuted}
 use Rattle.definitions.specs.Moves.{activeValues}
-use Rattle.theory.proofs.Validity.{Handed}
+use Rattle.theory.proofs.Validity.{none-applies, Handed}
 use Rattle.theory.proofs.Words.{none-below}
 use Rattle.tables.specs.Scopes.{BestOf}
+use Rattle.tables.proofs.Order.{outcome-done, outcome-refused}
 use Rattle.tables.proofs.Answered.{limits-true}
 use Rattle.marks.specs.Marks.{mark, fullOf, onlyOf}
 use Rattle.marks.proofs.Laws.{mark-byteOf}
-use Rattle.arcs.specs.Active.{setWhere, rowWhere, hasWeight, activeSet, activeRow, Written}
+use Rattle.arcs.specs.Active.{setWhere, rowWhere, hasWeight, activeSet, activeRow, Sized, Written}
 use Rattle.arcs.specs.Tried.{triedAnswer}
-use Rattle.arcs.specs.Best.{hasBest, isRaised, allowedBest, partnersBest, bestSets, bestRows, isRefuted, bestRefuted, tooFew, activeRefutedAnswer}
-use Rattle.arcs.specs.declared.Tried.the-variants.{Refuted, Supported}
+use Rattle.arcs.specs.Best.{hasBest, isRaised, allowedBest, partnersBest, bestSets, bestRows, isUnsupported, areUnsupported, tooFew, bestRefusal, valuesUnsupportedAnswer, bestUnsupportedAnswer}
+use Rattle.arcs.specs.declared.Tried.the-variants.{Unsupported, Supported}
 use Rattle.arcs.proofs.Marked.{rowsOf-length, rowsOf-at, written-part}
 use Rattle.arcs.proofs.Fixed.{not-not}
 use Rattle.arcs.proofs.Refutation.{Bytes, tried-refuted}
@@ -54,52 +60,66 @@ module _ (c : Case) (w best : List ℤ) (raised : List ℕ) where
   -- the parts of the arrays that are written
   pub prepared-answer : (zeros rows zeros′ sets : List ℕ) → 16 * c .m ≤ length zeros → Written (λ q. getD (bestRows c w best raised) q 0) 0 (16 * c .m) zeros rows
       → c .n ≤ length zeros′ → Written (allowedBest c w best raised) 0 (c .n) zeros′ sets → (i values : ℕ)
-      → isRefuted (triedAnswer (c .lower) (c .upper) (take (16 * c .m) rows) (take ((c .n + c .m) - c .n) (drop (c .n) raised)) (take (c .n) sets) i values) ≡ bestRefuted c w best raised i values
-  unfolding bestRows bestSets bestRefuted
+      → isUnsupported (triedAnswer (c .lower) (c .upper) (take (16 * c .m) rows) (take ((c .n + c .m) - c .n) (drop (c .n) raised)) (take (c .n) sets) i values) ≡ areUnsupported c w best raised i values
+  unfolding bestRows bestSets areUnsupported
   prepared-answer zeros rows zeros′ sets room r room′ s i values =
       let a = written-part (bestRows c w best raised) zeros rows (λ q. getD (bestRows c w best raised) q 0) (16 * c .m) (rowsOf-length (partnersBest c w best raised) (c .m)) (λ p h. refl) room r in
       let b = written-part (bestSets c w best raised) zeros′ sets (allowedBest c w best raised) (c .n) (length-tab (allowedBest c w best raised) 0 (c .n)) (λ p h. getD-tab (allowedBest c w best raised) (c .n) p 0 h) room′ s in
       let m : (c .n + c .m) - c .n ≡ c .m = omega arith in
       rw (a, b, m)
 
--- ---- the answer of `active_refuted`, test by test
+-- ---- what is asked, test by test
 
 module _ (c : Case) (w best : List ℤ) (raised : List ℕ) (i : ℕ) where
-  abbrev answer : Verdict
-  answer = activeRefutedAnswer standard c w best raised i
+  abbrev tests-of : List Test
+  tests-of = limitTest standard c ∷ lengthTest c w (tooFew c best raised) ∷ OutOfRange when (not (ltb i (c .n)) || someEdge c (endOutside c)) ∷ []
 
-  pub limits-refused : withinLimits standard (c .n) (c .d) (c .m) ≡ false → Verdict.Refused OutsideLimits ≡ answer
-  unfolding activeRefutedAnswer
+  abbrev checked : Outcome
+  checked = outcomeOf (bestRefusal standard c w best raised i)
+
+  pub limits-refused : withinLimits standard (c .n) (c .d) (c .m) ≡ false → Outcome.Refused OutsideLimits ≡ checked
   limits-refused e = rw e
 
   module _ (e : withinLimits standard (c .n) (c .d) (c .m) ≡ true) where
-    pub length-refused : (length w ≡ lentLength c → ⊥) → Verdict.Refused WrongLength ≡ answer
-    unfolding activeRefutedAnswer
+    pub length-refused : (length w ≡ lentLength c → ⊥) → Outcome.Refused WrongLength ≡ checked
     length-refused ne = rw (e, ne-eqb (length w) (lentLength c) ne)
 
     module _ (long : length w ≡ lentLength c) where
-      pub few-refused : tooFew c best raised ≡ true → Verdict.Refused WrongLength ≡ answer
-      unfolding activeRefutedAnswer
+      pub few-refused : tooFew c best raised ≡ true → Outcome.Refused WrongLength ≡ checked
       few-refused t = rw (e, eq-eqb (length w) (lentLength c) long, t)
 
       module _ (f : tooFew c best raised ≡ false) where
-        pub variable-refused : c .n ≤ i → Verdict.Refused OutOfRange ≡ answer
-        unfolding activeRefutedAnswer
+        pub variable-refused : c .n ≤ i → Outcome.Refused OutOfRange ≡ checked
         variable-refused h = rw (e, eq-eqb (length w) (lentLength c) long, f, le-ltb i (c .n) h)
 
         module _ (g : i < c .n) where
-          pub ends-refused : someEdge c (endOutside c) ≡ true → Verdict.Refused OutOfRange ≡ answer
-          unfolding activeRefutedAnswer
+          pub ends-refused : someEdge c (endOutside c) ≡ true → Outcome.Refused OutOfRange ≡ checked
           ends-refused t = rw (e, eq-eqb (length w) (lentLength c) long, f, lt-ltb i (c .n) g, t)
 
-          pub answer-given : someEdge c (endOutside c) ≡ false
-              → (if bestRefuted c w best raised i (setWhere c (hasBest c w best) i) then Verdict.Yes else Verdict.No) ≡ answer
-          unfolding activeRefutedAnswer
-          answer-given t = rw (e, eq-eqb (length w) (lentLength c) long, f, lt-ltb i (c .n) g, t)
+          pub none-refused : someEdge c (endOutside c) ≡ false → Outcome.Done ≡ checked
+          none-refused t = rw (e, eq-eqb (length w) (lentLength c) long, f, lt-ltb i (c .n) g, t)
 
--- there are bytes for all scopes
-pub enough : (c : Case) (best : List ℤ) (raised : List ℕ) → tooFew c best raised ≡ false → (scopeCount c ≤ length best) × (scopeCount c ≤ length raised)
-enough c best raised e = let p = simp tests at e in (omega (arith, p .0), omega (arith, p .1))
+  -- the answers, by what was asked
+  pub answer-refused : {x : Refusal} → Outcome.Refused x ≡ checked → (values : ℕ) → Verdict.Refused x ≡ valuesUnsupportedAnswer standard c w best raised i values
+  unfolding valuesUnsupportedAnswer
+  answer-refused {x} e values = let d : bestRefusal standard c w best raised i ≡ some x = outcome-refused e in rw d
+
+  module _ (e : Outcome.Done ≡ checked) where
+    pub answer-given : (values : ℕ) → (if areUnsupported c w best raised i values then Verdict.Yes else Verdict.No) ≡ valuesUnsupportedAnswer standard c w best raised i values
+    unfolding valuesUnsupportedAnswer
+    answer-given values = let d : bestRefusal standard c w best raised i ≡ none = outcome-done e in rw d
+
+    pub arguments-known : Sized c w × ((scopeCount c ≤ length best) × (scopeCount c ≤ length raised)) × (i < c .n)
+    arguments-known =
+        let d : bestRefusal standard c w best raised i ≡ none = outcome-done e in
+        let p = simp tests at (none-applies tests-of .0 (rw d tt)) in (
+          record {
+            limits = record { some-variable = p .0 .0 .0 .0; variables = p .0 .0 .0 .1; some-value = p .0 .0 .1 .0; values = p .0 .0 .1 .1; edges = p .0 .1 .1 };
+            long = p .1 .0 .0;
+          },
+          (omega (arith, p .1 .0 .1 .0), omega (arith, p .1 .0 .1 .1)),
+          p .1 .1 .0 .0,
+        )
 
 -- ---- where `best` holds the greatest weights, the answer is refutation
 
@@ -110,6 +130,12 @@ module _ (c : Case) (w : List ℤ) (h : Handed standard (workingWeight standard)
 
   row-active : (e p : ℕ) → e < c .m → rowWhere c (hasBest c w best) e p ≡ activeRow c w e p
   row-active e p u = ap (λ (z : ℤ). rowWhere c (hasWeight c w z) e p) (b .holds (c .n + e) (omega arith))
+
+  enough : tooFew c best raised ≡ false
+  enough = rw (le-ltb (length best) (scopeCount c) (b .enough), le-ltb (length raised) (scopeCount c) room)
+
+  ends : someEdge c (endOutside c) ≡ false
+  ends = simp (tests, none-below) (λ e u. (omega (arith, h .shape .ascending e u, h .shape .below-n e u), h .shape .below-n e u))
 
   module _ (R : ℕ → Bool) (same : (x : ℕ) → x < scopeCount c → isRaised raised x ≡ R x) where
     bytes : Bytes c w R (bestRows c w best raised) (take (c .m) (drop (c .n) raised)) (bestSets c w best raised)
@@ -135,40 +161,42 @@ module _ (c : Case) (w : List ℤ) (h : Handed standard (workingWeight standard)
           ∙ ap (λ (x : ℕ). if R j then x else fullOf (c .d)) (set-active j u);
     }
 
-    pub best-refuted : (i : ℕ) → i < c .n → (values : ℕ) (set : ℕ → Bool) → ((k : ℕ) → k < 8 → mark values k ≡ (ltb k (c .d) && set k))
-        → bestRefuted c w best raised i values ≡ allRefuted c w R i set
-    unfolding bestRefuted
-    best-refuted i g values set is = ap isRefuted (tried-refuted c w h R _ _ _ bytes i g values set is) ∙ told (allRefuted c w R i set)
+    unsupported-refuted : (i : ℕ) → i < c .n → (values : ℕ) (set : ℕ → Bool) → ((k : ℕ) → k < 8 → mark values k ≡ (ltb k (c .d) && set k))
+        → areUnsupported c w best raised i values ≡ allRefuted c w R i set
+    unfolding areUnsupported
+    unsupported-refuted i g values set is = ap isUnsupported (tried-refuted c w h R _ _ _ bytes i g values set is) ∙ told (allRefuted c w R i set)
       where
-        told : (x : Bool) → isRefuted (if x then Refuted else Supported) ≡ x
+        told : (x : Bool) → isUnsupported (if x then Unsupported else Supported) ≡ x
         told true = refl
         told false = refl
 
+    -- the values of a set below D
+    pub values-unsupported-is-refuted : (i : ℕ) → i < c .n → (values : ℕ) (set : ℕ → Bool) → ((k : ℕ) → k < 8 → mark values k ≡ (ltb k (c .d) && set k))
+        → valuesUnsupportedAnswer standard c w best raised i values ≡ (if allRefuted c w R i set then Verdict.Yes else Verdict.No)
+    values-unsupported-is-refuted i g values set is =
+        sym (answer-given c w best raised i (none-refused c w best raised i (limits-true h) (h .long) enough g ends) values)
+        ∙ ap (λ (x : Bool). if x then Verdict.Yes else Verdict.No) (unsupported-refuted i g values set is)
+
     -- one value
-    pub one-refuted : (i k : ℕ) → i < c .n → k < c .d → bestRefuted c w best raised i (onlyOf k) ≡ refuted c w R i k
-    one-refuted i k g l =
-        best-refuted i g (onlyOf k) (λ v. eqb v k) (λ v u. mark-byteOf (λ v. eqb v k) v u ∙ in-range v (eqb v k) refl)
-        ∙ same-test (allRefuted c w R i (λ v. eqb v k)) (refuted c w R i k)
+    pub value-unsupported-is-refuted : (i k : ℕ) → i < c .n → k < c .d
+        → valuesUnsupportedAnswer standard c w best raised i (onlyOf k) ≡ (if refuted c w R i k then Verdict.Yes else Verdict.No)
+    value-unsupported-is-refuted i k g l =
+        values-unsupported-is-refuted i g (onlyOf k) (λ v. eqb v k) (λ v u. mark-byteOf (λ v. eqb v k) v u ∙ in-range v (eqb v k) refl)
+        ∙ ap (λ (x : Bool). if x then Verdict.Yes else Verdict.No) (same-test (allRefuted c w R i (λ v. eqb v k)) (refuted c w R i k)
         (λ t. imp-elim (eqb k k) (refuted c w R i k) (all-at (λ v. eqb v k ⇒ refuted c w R i v) (c .d) t k l) (true-is (eqb k k) (eq-eqb k k refl)))
         (λ t.
         all-of (λ v. eqb v k ⇒ refuted c w R i v) (c .d)
-        (λ v u. imp-intro (eqb v k) (refuted c w R i v) (λ s. subst (λ (x : ℕ). T (refuted c w R i x)) (sym (eqb→eq v k s)) t)))
+        (λ v u. imp-intro (eqb v k) (refuted c w R i v) (λ s. subst (λ (x : ℕ). T (refuted c w R i x)) (sym (eqb→eq v k s)) t))))
       where
         in-range : (v : ℕ) (x : Bool) → eqb v k ≡ x → x ≡ (ltb v (c .d) && x)
         in-range v true e = let s = eqb-true v k e in sym (ap (λ (y : Bool). y && true) (lt-ltb v (c .d) (omega arith)))
         in-range v false e = sym (and-false (ltb v (c .d)))
 
   -- the active values, with the scopes raised whose byte is not 0
-  pub active-refuted-is : (i : ℕ) → i < c .n → activeRefutedAnswer standard c w best raised i ≡ (if allRefuted c w (isRaised raised) i (activeValues c w i) then Verdict.Yes else Verdict.No)
-  active-refuted-is i g =
-      let enough : tooFew c best raised ≡ false = rw (le-ltb (length best) (scopeCount c) (b .enough), le-ltb (length raised) (scopeCount c) room) in
-      sym (answer-given c w best raised i (limits-true h) (h .long) enough g ends)
-      ∙ ap (λ (x : Bool). if x then Verdict.Yes else Verdict.No)
-      (best-refuted (isRaised raised) (λ x u. refl) i g (setWhere c (hasBest c w best) i) (activeValues c w i) (λ k l.
-      ap (λ (s : ℕ). mark s k) (set-active i g) ∙ mark-byteOf (λ v. ltb v (c .d) && active c w i v 0) k l))
-    where
-      ends : someEdge c (endOutside c) ≡ false
-      ends = simp (tests, none-below) (λ e u. (omega (arith, h .shape .ascending e u, h .shape .below-n e u), h .shape .below-n e u))
+  pub best-unsupported-is-refuted : (i : ℕ) → i < c .n → bestUnsupportedAnswer standard c w best raised i ≡ (if allRefuted c w (isRaised raised) i (activeValues c w i) then Verdict.Yes else Verdict.No)
+  best-unsupported-is-refuted i g =
+      values-unsupported-is-refuted (isRaised raised) (λ x u. refl) i g (setWhere c (hasBest c w best) i) (activeValues c w i) (λ k l.
+      ap (λ (s : ℕ). mark s k) (set-active i g) ∙ mark-byteOf (λ v. ltb v (c .d) && active c w i v 0) k l)
 
 -- bytes that are 0 or 1
 pub marked-raised : (raised : List ℕ) (x : ℕ) → getD raised x 0 ≤ 1 → isRaised raised x ≡ isMarked raised x

@@ -24,7 +24,7 @@ use Rattle.marks.proofs.Laws.{mark-byteOf}
 use Rattle.arcs.specs.Closure.{networkOfBytes, setsOf, isMalformed, someFamily, closureAnswer}
 use Rattle.arcs.specs.declared.Closed.the-variants.{Empty, Family as SomeFamily}
 use Rattle.arcs.specs.Active.{activeSet, aboveWhere, belowWhere, activeRow}
-use Rattle.arcs.specs.Refuted.{allowedSet, fixedSet}
+use Rattle.arcs.specs.Fixed.{allowedSet, fixedSet}
 use Rattle.arcs.proofs.Results.{well-formed, answer-is}
 
 -- ---- tests

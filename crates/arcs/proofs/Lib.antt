@@ -1,5 +1,6 @@
 -- Laws that the functions' proofs share. Fixed has the key theorem: `closure-refuted`, and `refuted-bytes` behind it. Refutation has what is
--- cited of `all_refuted`: `tried-active` and `tried-refuted`; Best has what is cited of `active_refuted`: `active-refuted-is`.
+-- cited of `none_supported`: `tried-active` and `tried-refuted`; Best has what is cited of `values_unsupported` and `best_unsupported`:
+-- `values-unsupported-is-refuted`, `value-unsupported-is-refuted`, `best-unsupported-is-refuted`.
 pub mod Search
 pub mod Steps
 pub mod Seen

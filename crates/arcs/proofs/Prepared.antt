@@ -1,4 +1,4 @@
--- What `active_marks` and `refuted` may take as known, by what the check of the case and the table answers. Assumes nothing.
+-- What `active_marks` may take as known, by what the check of the case and the table answers. Assumes nothing.
 use mathlib.Core.Path.{_≡_}
 use mathlib.Core.Bool.{false, not}
 use mathlib.Core.Option.{none, some}
@@ -24,7 +24,6 @@ use Rattle.theory.proofs.Validity.{Handed}
 use Rattle.tables.proofs.Answered.{known, limits-known}
 use Rattle.tables.proofs.Order.{outcome-done, outcome-refused}
 use Rattle.arcs.specs.Active.{Sized, activeSets, activeRows, tooShort, activeRefusal, activeAnswer, setsAfter, rowsAfter}
-use Rattle.arcs.specs.Refuted.{argumentsOut}
 
 pub sized : {c : Case} {w : List ℤ} → Handed standard (workingWeight standard) c w → Sized c w
 sized h = record { limits = limits-known h; long = h .long }
@@ -46,25 +45,3 @@ module _ (c : Case) (w : List ℤ) (sets rows : List ℕ) where
         let k = known c w (tooShort c sets rows) false e in
         let p = simp tests at (k .1) in
         (sized (k .0), omega (arith, p .0), omega (arith, p .1))
-
--- ---- the arguments of `refuted`
-
-module _ (c : Case) (w : List ℤ) (raised : List ℕ) (i k : ℕ) where
-  pub arguments-known : Outcome.Done ≡ outcomeOf (firstOf (handedOver standard (workingWeight standard) c w (not (eqb (length raised) (scopeCount c))) (argumentsOut c raised i k)))
-      → Handed standard (workingWeight standard) c w
-      × ((length raised ≡ scopeCount c) × ((x : ℕ) → x < scopeCount c → getD raised x 0 ≤ 1) × (i < c .n) × (k < c .d))
-  arguments-known e =
-      let (handed, right, in-range) = known c w (not (eqb (length raised) (scopeCount c))) (argumentsOut c raised i k) e in
-      let long : length raised ≡ scopeCount c = simp tests at right in
-      let p = simp tests at in-range in (
-        handed,
-        (
-          long,
-          λ x h. marked x (omega arith) (p .0 .0),
-          p .0 .1,
-          p .1,
-        ),
-      )
-    where
-      marked : (x : ℕ) → x < length raised → T (not (any (λ b. ltb 1 b) raised)) → getD raised x 0 ≤ 1
-      marked x h t = nltb→le 1 (getD raised x 0) (not-T (ltb 1 (getD raised x 0)) (λ s. T-not (any (λ b. ltb 1 b) raised) t (any-getD (λ b. ltb 1 b) raised 0 .1 (x, h, s))))

@@ -1,4 +1,4 @@
--- What `all_refuted` answers. The theorem that is cited: over the bytes of a table, `tried-active` and `tried-refuted` say that the answer is
+-- What `none_supported` answers. The theorem that is cited: over the bytes of a table, `tried-active` and `tried-refuted` say that the answer is
 -- refutation. Assumes nothing.
 use mathlib.Core.Path.{_≡_, sym, ap, _∙_}
 use mathlib.Core.Bool.{Bool, true, false, not, _&&_, _||_}
@@ -25,9 +25,9 @@ use Rattle.marks.specs.Marks.{mark, onlyOf, inBoth}
 use Rattle.marks.proofs.Laws.{mark-byteOf}
 use Rattle.arcs.specs.Closure.{networkOfBytes, setsOf, isMalformed, someFamily}
 use Rattle.arcs.specs.Active.{activeSet}
-use Rattle.arcs.specs.Refuted.{allowedSet, fixedSet}
+use Rattle.arcs.specs.Fixed.{allowedSet, fixedSet}
 use Rattle.arcs.specs.Tried.{hasFamily, noneHas, triedAnswer}
-use Rattle.arcs.specs.declared.Tried.the-variants.{Malformed, Refuted, Supported}
+use Rattle.arcs.specs.declared.Tried.the-variants.{Malformed, Unsupported, Supported}
 use Rattle.arcs.proofs.Steps.{after-set}
 use Rattle.arcs.proofs.Fixed.{Edges, some-family}
 
@@ -39,7 +39,7 @@ module _ (lower upper rows raised S : List ℕ) (i values : ℕ) where
   unfolding triedAnswer
   tried-malformed t = sym (if-true _ _ out t)
 
-  tried-answer : T (not out) → triedAnswer lower upper rows raised S i values ≡ (if noneHas (hasFamily (networkOfBytes (length S) lower upper rows raised) S i) values then Refuted else Supported)
+  tried-answer : T (not out) → triedAnswer lower upper rows raised S i values ≡ (if noneHas (hasFamily (networkOfBytes (length S) lower upper rows raised) S i) values then Unsupported else Supported)
   unfolding triedAnswer
   tried-answer t = if-false _ _ out t
 
@@ -54,7 +54,7 @@ module _ (lower upper rows raised S : List ℕ) (i values : ℕ) where
 
   -- nothing is malformed
   pub tried-known : length S ≤ standard .variables → i < length S → isMalformed (length S) lower upper rows raised ≡ false
-      → triedAnswer lower upper rows raised S i values ≡ (if noneHas (hasFamily (networkOfBytes (length S) lower upper rows raised) S i) values then Refuted else Supported)
+      → triedAnswer lower upper rows raised S i values ≡ (if noneHas (hasFamily (networkOfBytes (length S) lower upper rows raised) S i) values then Unsupported else Supported)
   tried-known few h e = tried-answer (rw (e, lt-ltb i (length S) h, le-ltb (standard .variables) (length S) few) tt)
 
 -- ---- refutation over the bytes of a table
@@ -119,9 +119,9 @@ module _ (c : Case) (w : List ℤ) (h : Handed standard (workingWeight standard)
 
   -- the values of a set below D
   pub tried-refuted : (values : ℕ) (set : ℕ → Bool) → ((k : ℕ) → k < 8 → mark values k ≡ (ltb k (c .d) && set k))
-      → triedAnswer (c .lower) (c .upper) rows edges S i values ≡ (if allRefuted c w R i set then Refuted else Supported)
+      → triedAnswer (c .lower) (c .upper) rows edges S i values ≡ (if allRefuted c w R i set then Unsupported else Supported)
   tried-refuted values set same =
-      tried-known (c .lower) (c .upper) rows edges S i values (rw (bytes .sets-length) (h .variables-most)) (rw (bytes .sets-length) g) well ∙ ap (λ (b : Bool). if b then Refuted else Supported) (none-has values set same)
+      tried-known (c .lower) (c .upper) rows edges S i values (rw (bytes .sets-length) (h .variables-most)) (rw (bytes .sets-length) g) well ∙ ap (λ (b : Bool). if b then Unsupported else Supported) (none-has values set same)
 
-  pub tried-active : triedAnswer (c .lower) (c .upper) rows edges S i (activeSet c w i) ≡ (if allRefuted c w R i (activeValues c w i) then Refuted else Supported)
+  pub tried-active : triedAnswer (c .lower) (c .upper) rows edges S i (activeSet c w i) ≡ (if allRefuted c w R i (activeValues c w i) then Unsupported else Supported)
   tried-active = tried-refuted (activeSet c w i) (activeValues c w i) (λ k l. mark-byteOf (λ v. ltb v (c .d) && active c w i v 0) k l)

@@ -1,5 +1,5 @@
--- Refutation where each scope's greatest weight is given: a tuple counts as active if it has the weight that `best` holds for its scope. What is
--- prepared as bytes, and the answer on all input. Assumes nothing.
+-- Values without a supported family, where `best` holds a number for each scope and in raised scopes the tuples of another weight are
+-- forbidden. What is prepared as bytes, and the answers on all input. Assumes nothing.
 use mathlib.Core.Bool.{Bool, true, false, not, _||_}
 use mathlib.Core.Option.{Option}
 use mathlib.Core.List.{List, [], _∷_, map}
@@ -22,7 +22,7 @@ use Rattle.marks.specs.Marks.{fullOf}
 use Rattle.arcs.specs.Active.{setWhere, rowWhere}
 use Rattle.arcs.specs.Tried.{triedAnswer}
 use Rattle.arcs.specs.declared.Tried.{Tried}
-use Rattle.arcs.specs.declared.Tried.the-variants.{Malformed, Refuted, Supported}
+use Rattle.arcs.specs.declared.Tried.the-variants.{Malformed, Unsupported, Supported}
 
 abbrev pub hasBest : Case → List ℤ → List ℤ → ℕ → ℕ → ℕ → Bool
 hasBest c w best x k l = eqZ (weight c w x k l) (bestAt best x)
@@ -44,15 +44,15 @@ bestSets c w best raised = map (allowedBest c w best raised) (below (c .n))
 unfoldable pub bestRows : Case → List ℤ → List ℤ → List ℕ → List ℕ
 bestRows c w best raised = joined (map (λ e. map (partnersBest c w best raised e) (below 16)) (below (c .m)))
 
-abbrev pub isRefuted : Tried → Bool
-isRefuted Refuted = true
-isRefuted Supported = false
-isRefuted Malformed = false
+abbrev pub isUnsupported : Tried → Bool
+isUnsupported Unsupported = true
+isUnsupported Supported = false
+isUnsupported Malformed = false
 
--- all of `values` are refuted for variable i
-unfoldable pub bestRefuted : Case → List ℤ → List ℤ → List ℕ → ℕ → ℕ → Bool
-bestRefuted c w best raised i values =
-    isRefuted (triedAnswer (c .lower) (c .upper) (bestRows c w best raised) (take (c .m) (drop (c .n) raised)) (bestSets c w best raised) i values)
+-- no value of `values`, fixed alone for variable i, has a supported family
+unfoldable pub areUnsupported : Case → List ℤ → List ℤ → List ℕ → ℕ → ℕ → Bool
+areUnsupported c w best raised i values =
+    isUnsupported (triedAnswer (c .lower) (c .upper) (bestRows c w best raised) (take (c .m) (drop (c .n) raised)) (bestSets c w best raised) i values)
 
 abbrev pub tooFew : Case → List ℤ → List ℕ → Bool
 tooFew c best raised = ltb (length best) (scopeCount c) || ltb (length raised) (scopeCount c)
@@ -63,6 +63,9 @@ module _ (r : Rules) where
   bestRefusal c w best raised i =
       firstOf (limitTest r c ∷ lengthTest c w (tooFew c best raised) ∷ OutOfRange when (not (ltb i (c .n)) || someEdge c (endOutside c)) ∷ [])
 
-  unfoldable pub activeRefutedAnswer : Case → List ℤ → List ℤ → List ℕ → ℕ → Verdict
-  activeRefutedAnswer c w best raised i =
-      verdictOf (bestRefusal c w best raised i) (bestRefuted c w best raised i (setWhere c (hasBest c w best) i))
+  unfoldable pub valuesUnsupportedAnswer : Case → List ℤ → List ℤ → List ℕ → ℕ → ℕ → Verdict
+  valuesUnsupportedAnswer c w best raised i values = verdictOf (bestRefusal c w best raised i) (areUnsupported c w best raised i values)
+
+  -- the values whose weight is the number of the variable's own scope
+  abbrev pub bestUnsupportedAnswer : Case → List ℤ → List ℤ → List ℕ → ℕ → Verdict
+  bestUnsupportedAnswer c w best raised i = valuesUnsupportedAnswer c w best raised i (setWhere c (hasBest c w best) i)

@@ -3,6 +3,6 @@ pub mod Partners
 pub mod Closure
 pub mod Sweeps
 pub mod Active
-pub mod Refuted
+pub mod Fixed
 pub mod Tried
 pub mod Best

@@ -10,7 +10,7 @@ use Rattle.theory.specs.Network.{Network}
 use Rattle.marks.specs.Marks.{mark, onlyOf, inBoth}
 use Rattle.arcs.specs.Closure.{networkOfBytes, setsOf, isMalformed, someFamily}
 use Rattle.arcs.specs.declared.Tried.{Tried}
-use Rattle.arcs.specs.declared.Tried.the-variants.{Malformed, Refuted, Supported}
+use Rattle.arcs.specs.declared.Tried.the-variants.{Malformed, Unsupported, Supported}
 
 -- some family is supported inside the sets with value k alone for variable i
 abbrev pub hasFamily : Network → List ℕ → ℕ → ℕ → Bool
@@ -25,5 +25,5 @@ triedAnswer lower upper rows raised sets i values =
     if isMalformed (length sets) lower upper rows raised || not (ltb i (length sets)) || ltb (standard .variables) (length sets)
     then Malformed
     else if noneHas (hasFamily (networkOfBytes (length sets) lower upper rows raised) sets i) values
-    then Refuted
+    then Unsupported
     else Supported

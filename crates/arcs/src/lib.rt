@@ -1,4 +1,5 @@
-// Refutation by arc consistency (document 01, "Refutation").
+// Arc consistency over bytes and marks: the search for partners, the closure of given sets, values tried one by one, and the marks of a
+// table. Each function asks only what is said at it and takes the rest as it comes: none turns back by document 01's whole list.
 use definitions::Case;
 use definitions::Outcome;
 use definitions::Refusal;
@@ -11,7 +12,7 @@ ghost use lib.ListN.{length, getD, set, replicate};
 ghost use Rattle.integers.specs.Words.{if_then_else_, below, any, eqZ};
 ghost use Rattle.definitions.specs.Rules.{standard};
 ghost use Rattle.definitions.specs.Case.{scopeCount, lentLength, greatest};
-ghost use Rattle.definitions.specs.Calls.{refutedAnswer};
+ghost use Rattle.definitions.specs.Answers.{outcomeOf};
 ghost use Rattle.definitions.specs.Valid.{someEdge, endOutside as edgeOutside};
 ghost use Rattle.definitions.specs.Lines.{overwritten};
 ghost use Rattle.tables.specs.Scopes.{Limited};
@@ -22,8 +23,7 @@ ghost use Rattle.arcs.specs.Tried.{hasFamily, noneHas, triedAnswer};
 ghost use Rattle.arcs.specs.declared.Tried.{Tried};
 ghost use Rattle.arcs.specs.Sweeps.{WellFormed, Filled, Swept, Settled, changeOf, bothOf, keptOf, Seen};
 ghost use Rattle.arcs.specs.Active.{bestValues, setWhere, rowWhere, hasWeight, Sized, AddedBelow, Crossed, activeSet, activeSets, activeRows, Written, activeAnswer, setsAfter, rowsAfter};
-ghost use Rattle.arcs.specs.Best.{allowedBest, partnersBest, bestRows, isRefuted, bestRefuted, activeRefutedAnswer};
-ghost use Rattle.arcs.specs.Refuted.{argumentsOut};
+ghost use Rattle.arcs.specs.Best.{allowedBest, partnersBest, bestRows, isUnsupported, areUnsupported, bestRefusal, valuesUnsupportedAnswer, bestUnsupportedAnswer};
 
 pub enum Partner {
     At(u8),
@@ -39,7 +39,7 @@ pub enum Closed {
 
 // What is left where each of some values is fixed alone: no family for any of them, or a family for one.
 pub enum Tried {
-    Refuted,
+    Unsupported,
     Supported,
     Malformed,
 }
@@ -414,11 +414,11 @@ fn none_has(
     true
 }
 
-fn tried_of(refuted: bool) -> Tried
-    ensures { λ r. ⌜ r ≡ (if refuted then Tried.Refuted else Tried.Supported) ⌝ }
+fn tried_of(unsupported: bool) -> Tried
+    ensures { λ r. ⌜ r ≡ (if unsupported then Tried.Unsupported else Tried.Supported) ⌝ }
 {
-    if refuted {
-        return Tried::Refuted;
+    if unsupported {
+        return Tried::Unsupported;
     }
     Tried::Supported
 }
@@ -570,7 +570,7 @@ fn too_short(case: Case, sets: usize, rows: usize) -> bool
     rows / 16 < case.m
 }
 
-// ---- refutation, each scope's greatest weight given
+// ---- values without a family, a number given for each scope
 
 fn allowed_set(case: Case, table: &[i64], best: &[i64], raised: &[u8], j: usize) -> u8
     requires { ⌜ Sized case (now table) ⌝ }
@@ -623,17 +623,17 @@ fn prepare_rows(case: Case, table: &[i64], best: &[i64], raised: &[u8], rows: &m
     }
 }
 
-fn is_refuted(tried: Tried) -> bool
-    ensures { λ r. ⌜ r ≡ isRefuted tried ⌝ }
+fn is_unsupported(tried: Tried) -> bool
+    ensures { λ r. ⌜ r ≡ isUnsupported tried ⌝ }
 {
     match tried {
-        Tried::Refuted => true,
+        Tried::Unsupported => true,
         Tried::Supported => false,
         Tried::Malformed => false,
     }
 }
 
-fn are_refuted(
+fn are_unsupported(
     case: Case,
     table: &[i64],
     best: &[i64],
@@ -643,7 +643,7 @@ fn are_refuted(
 ) -> bool
     requires { ⌜ Sized case (now table) ⌝ }
     requires { ⌜ (scopeCount case ≤ length (now best)) × (scopeCount case ≤ length (now raised)) ⌝ }
-    ensures { λ r. ⌜ r ≡ bestRefuted case (now (table .entry)) (now (best .entry)) (now (raised .entry)) variable values ⌝ }
+    ensures { λ r. ⌜ r ≡ areUnsupported case (now (table .entry)) (now (best .entry)) (now (raised .entry)) variable values ⌝ }
 {
     let n = case.n;
     let s = n + case.m;
@@ -654,7 +654,7 @@ fn are_refuted(
     let mut rows = [0u8; 1536];
     prepare_sets(case, table, best, raised, &mut sets);
     prepare_rows(case, table, best, raised, &mut rows);
-    is_refuted(all_refuted(
+    is_unsupported(none_supported(
         &lower,
         &upper,
         &rows[..long],
@@ -692,38 +692,32 @@ fn edge_outside(case: Case) -> bool
     some_end_outside(&lower, &upper, case.m, case.n)
 }
 
-fn other_length(length: usize, n: usize, m: usize) -> bool
-    ensures { λ r. ⌜ r ≡ not (eqb length (n + m)) ⌝ }
+// Numbers 3, 4, and 5 of the variable and the edges' ends. The weights and `best` are not looked at.
+fn check_arguments(
+    case: Case,
+    table: &[i64],
+    best: &[i64],
+    raised: &[u8],
+    variable: usize,
+) -> Outcome
+    ensures { λ r. ⌜ r ≡ outcomeOf (bestRefusal standard case (now (table .entry)) (now (best .entry)) (now (raised .entry)) variable) ⌝ }
 {
-    if length < n {
-        return true;
+    if !tables::within_limits(case) {
+        return Outcome::Refused(Refusal::OutsideLimits);
     }
-    length - n != m
-}
-
-fn has_other_mark(raised: &[u8]) -> bool
-    ensures { λ r. ⌜ r ≡ any (λ b. ltb 1 b) (now (raised .entry)) ⌝ }
-{
-    let mut x: usize = 0;
-    while x < raised.len() {
-        if 1 < raised[x] {
-            return true;
-        }
-        x += 1;
+    if table.len() != table_length(case) {
+        return Outcome::Refused(Refusal::WrongLength);
     }
-    false
-}
-
-fn arguments_out(case: Case, raised: &[u8], variable: usize, value: usize) -> bool
-    ensures { λ r. ⌜ r ≡ argumentsOut case (now (raised .entry)) variable value ⌝ }
-{
-    if has_other_mark(raised) {
-        return true;
+    if too_few(case, best.len(), raised.len()) {
+        return Outcome::Refused(Refusal::WrongLength);
     }
     if case.n <= variable {
-        return true;
+        return Outcome::Refused(Refusal::OutOfRange);
     }
-    case.d <= value
+    if edge_outside(case) {
+        return Outcome::Refused(Refusal::OutOfRange);
+    }
+    Outcome::Done
 }
 
 fn verdict(yes: bool) -> Verdict
@@ -773,7 +767,7 @@ pub fn closure(lower: &[u8], upper: &[u8], rows: &[u8], raised: &[u8], sets: &mu
 
 // Whether each of `values` (marks), fixed alone in the set of `variable`, leaves no supported family inside `sets`. The other bytes are as
 // `closure` takes them.
-pub fn all_refuted(
+pub fn none_supported(
     lower: &[u8],
     upper: &[u8],
     rows: &[u8],
@@ -795,7 +789,7 @@ pub fn all_refuted(
         return Tried::Malformed;
     }
     if has_empty(sets) {
-        return Tried::Refuted;
+        return Tried::Unsupported;
     }
     let mut near = [0u8; 48];
     let mut work = [0u8; 48];
@@ -831,56 +825,41 @@ pub fn active_marks(case: Case, table: &[i64], sets: &mut [u8], rows: &mut [u8])
     }
 }
 
-// Whether the active values of `variable` are all refuted with the scopes raised whose byte in `raised` is not 0. best[x] is taken as the
-// greatest weight of scope x; of the table and the case only what is cheap is asked.
-pub fn active_refuted(
+// Whether no value of `values` (marks), fixed alone for `variable`, has a supported family where in the scopes x whose byte in `raised` is not
+// 0 the tuples whose weight is not best[x] are forbidden. Asks 3, 4, and 5 of the variable and the edges' ends.
+pub fn values_unsupported(
+    case: Case,
+    table: &[i64],
+    best: &[i64],
+    raised: &[u8],
+    variable: usize,
+    values: u8,
+) -> Verdict
+    ensures { λ r. ⌜ r ≡ valuesUnsupportedAnswer standard case (now (table .entry)) (now (best .entry)) (now (raised .entry)) variable values ⌝ }
+{
+    let checked = check_arguments(case, table, best, raised, variable);
+    match checked {
+        Outcome::Refused(refusal) => Verdict::Refused(refusal),
+        Outcome::Done => verdict(are_unsupported(case, table, best, raised, variable, values)),
+    }
+}
+
+// The same of the values whose weight is best[variable].
+pub fn best_unsupported(
     case: Case,
     table: &[i64],
     best: &[i64],
     raised: &[u8],
     variable: usize,
 ) -> Verdict
-    ensures { λ r. ⌜ r ≡ activeRefutedAnswer standard case (now (table .entry)) (now (best .entry)) (now (raised .entry)) variable ⌝ }
+    ensures { λ r. ⌜ r ≡ bestUnsupportedAnswer standard case (now (table .entry)) (now (best .entry)) (now (raised .entry)) variable ⌝ }
 {
-    if !tables::within_limits(case) {
-        return Verdict::Refused(Refusal::OutsideLimits);
-    }
-    if table.len() != table_length(case) {
-        return Verdict::Refused(Refusal::WrongLength);
-    }
-    if too_few(case, best.len(), raised.len()) {
-        return Verdict::Refused(Refusal::WrongLength);
-    }
-    if case.n <= variable {
-        return Verdict::Refused(Refusal::OutOfRange);
-    }
-    if edge_outside(case) {
-        return Verdict::Refused(Refusal::OutOfRange);
-    }
-    let values = set_with(case, table, variable, best[variable]);
-    verdict(are_refuted(case, table, best, raised, variable, values))
-}
-
-// Whether a value of a variable is refuted; `raised` has a byte for each scope, 1 where it is raised and else 0.
-pub fn refuted(case: Case, table: &[i64], raised: &[u8], variable: usize, value: usize) -> Verdict
-    ensures { λ r. ⌜ r ≡ refutedAnswer standard case (now (table .entry)) (now (raised .entry)) variable value ⌝ }
-{
-    let wrong = other_length(raised.len(), case.n, case.m);
-    let out = arguments_out(case, raised, variable, value);
-    let checked = tables::check_working(case, table, wrong, out);
+    let checked = check_arguments(case, table, best, raised, variable);
     match checked {
         Outcome::Refused(refusal) => Verdict::Refused(refusal),
         Outcome::Done => {
-            let mut best = [0i64; 144];
-            tables::greatest_weights(case, table, &mut best);
-            verdict(are_refuted(
-                case,
-                table,
-                &best,
-                raised,
-                variable,
-                marks::only(value as u8),
-            ))
+            let values = set_with(case, table, variable, best[variable]);
+            verdict(are_unsupported(case, table, best, raised, variable, values))
         }
     }
 }

@@ -1,9 +1,7 @@
 -- Laws that the functions' proofs cite.
-pub mod Answers
+pub mod Tests
 pub mod SpacedLaws
 pub mod ScopeLaws
 pub mod KeptLaws
-pub mod ShiftLaws
-pub mod PressLaws
-pub mod Rising
-pub mod MarkLaws
+pub mod TransferLaws
+pub mod LoweringLaws

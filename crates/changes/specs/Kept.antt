@@ -1,5 +1,4 @@
--- Moves on a case and a table that were checked before, with each scope's greatest weight kept in `best`: what they answer and leave, on all
--- input. Assumes nothing.
+-- Weights changed on any table, with each scope's greatest weight kept in `best`: what is answered and left, on all input. Assumes nothing.
 use mathlib.Core.Path.{_≡_}
 use mathlib.Core.Bool.{Bool, not, _&&_, _||_}
 use mathlib.Core.Option.{Option}
@@ -22,7 +21,7 @@ use Rattle.definitions.specs.Moves.{Difference, plus, onlyWhere, endVariable, e
 use Rattle.definitions.specs.Calls.{shiftOut}
 use Rattle.tables.specs.Scopes.{bestAt, writtenOver}
 
--- what a move does: the scopes and the tuples that it touches, and what it adds at each tuple
+-- the scopes and the tuples that are touched, and what is added at each tuple
 pub record Change : Type 0 where
   pub inScope : ℕ → Bool
   pub touches : ℕ → ℕ → ℕ → Bool
@@ -32,21 +31,21 @@ pub record Change : Type 0 where
 abbrev pub isRaised : List ℕ → ℕ → Bool
 isRaised raised x = not (eqb (getD raised x 0) 0)
 
--- a tuple is taken as active if its weight is the scope's number in `best`
+-- the tuple's weight is the scope's number in `best`
 abbrev pub isBest : Case → List ℤ → List ℤ → ℕ → ℕ → ℕ → Bool
 isBest c w best x k l = eqZ (weight c w x k l) (bestAt best x)
 
--- a shift touches the value's own weight and the edge's tuples that use it
-abbrev pub shiftChange : Case → ℕ → ℕ → ℕ → ℤ → Change
-shiftChange c e end v a = record {
+-- the value's own weight and the edge's tuples that use it are touched
+abbrev pub transferChange : Case → ℕ → ℕ → ℕ → ℤ → Change
+transferChange c e end v a = record {
   inScope = λ x. eqb x (endVariable c e end) || eqb x (c .n + e);
   touches = λ x k l. (eqb x (endVariable c e end) && eqb k v) || (eqb x (c .n + e) && eqb (endValue end k l) v);
   adds = shiftBy c e end v a;
 }
 
--- a press touches the whole scope of its variable and the whole raised scopes
-abbrev pub pressChange : Case → List ℤ → List ℤ → List ℕ → ℕ → ℤ → Change
-pressChange c w best raised i a = record {
+-- the whole scope of the variable and the whole raised scopes are touched
+abbrev pub loweringChange : Case → List ℤ → List ℤ → List ℕ → ℕ → ℤ → Change
+loweringChange c w best raised i a = record {
   inScope = λ x. eqb x i || isRaised raised x;
   touches = λ x k l. eqb x i || isRaised raised x;
   adds = λ x k l.
@@ -54,12 +53,12 @@ pressChange c w best raised i a = record {
       +ℤ onlyWhere (isRaised raised x && not (isBest c w best x k l)) a;
 }
 
--- every tuple that is touched has a working weight after the move
+-- every tuple that is touched has a working weight then
 abbrev pub staysWorking : Rules → Case → List ℤ → Change → Bool
 staysWorking r c w m =
     all (λ x. all (λ b. b) (eachTuple c x (λ k l. m .touches x k l ⇒ workingWeight r (weight c w x k l +ℤ m .adds x k l)))) (scopes c)
 
--- the scopes touched have their greatest weight after the move, the other numbers stay
+-- the scopes touched get their greatest weight, the other numbers stay
 abbrev pub bestAfter : Case → List ℤ → List ℤ → Change → List ℤ
 bestAfter c w best m =
     writtenOver (map (λ x. if m .inScope x then greatest c (plus c (m .adds) w) x else bestAt best x) (scopes c)) best
@@ -91,14 +90,17 @@ module _ (r : Rules) where
   keptTests c w m wrong out =
       limitTest r c ∷ lengthTest c w wrong ∷ OutOfRange when out ∷ LeavesRange when (not (staysWorking r c w m)) ∷ []
 
-  unfoldable pub shiftWithCall : Case → List ℤ → List ℤ → ℕ → ℕ → ℕ → ℤ → KeptCall
-  shiftWithCall c w best e end v a =
-      let m = shiftChange c e end v a in
+  unfoldable pub transferCall : Case → List ℤ → List ℤ → ℕ → ℕ → ℕ → ℤ → KeptCall
+  transferCall c w best e end v a =
+      let m = transferChange c e end v a in
       keptCall c w best m (firstOf (keptTests c w m (ltb (length best) (scopeCount c))
       (shiftOut r c e end v a || not (ltb (endVariable c e end) (c .n)))))
 
-  unfoldable pub pressWithCall : Case → List ℤ → List ℤ → List ℕ → ℕ → ℤ → KeptCall
-  pressWithCall c w best raised i a =
-      let m = pressChange c w best raised i a in
-      keptCall c w best m (firstOf (keptTests c w m (ltb (length best) (scopeCount c) || ltb (length raised) (scopeCount c))
-      (not (ltb i (c .n)) || not (pressAmount r a))))
+  -- the variable or the amount is outside its range
+  abbrev pub loweringOut : Case → ℕ → ℤ → Bool
+  loweringOut c i a = not (ltb i (c .n)) || not (pressAmount r a)
+
+  unfoldable pub lowerAndRaiseCall : Case → List ℤ → List ℤ → List ℕ → ℕ → ℤ → KeptCall
+  lowerAndRaiseCall c w best raised i a =
+      let m = loweringChange c w best raised i a in
+      keptCall c w best m (firstOf (keptTests c w m (ltb (length best) (scopeCount c) || ltb (length raised) (scopeCount c)) (loweringOut c i a)))

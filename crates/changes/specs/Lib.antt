@@ -2,4 +2,3 @@
 pub mod Spaced
 pub mod Scopes
 pub mod Kept
-pub mod Marks

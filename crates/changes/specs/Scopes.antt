@@ -1,4 +1,4 @@
--- A scope's weights changed by whether they are the number kept for it, and what a press asks and adds in a scope. Assumes nothing.
+-- A scope's weights changed by whether they are the number kept for it, and what is asked and added in a scope where a variable is lowered and scopes are raised. Assumes nothing.
 use mathlib.Core.Path.{_≡_}
 use mathlib.Core.Bool.{Bool, not, _||_}
 use mathlib.Core.List.{List}
@@ -37,7 +37,7 @@ pub record InScope (r : Rules) (c : Case) (w : List ℤ) (x : ℕ) : Type 0 wher
 abbrev pub scopeBy : Case → List ℤ → ℕ → ℤ → ℤ → ℤ → Difference
 scopeBy c w x best top rest y k l = onlyWhere (eqb y x) (if eqZ (weight c w x k l) best then top else rest)
 
--- ---- a press of variable i by a, in scope x whose byte is `mark`
+-- ---- variable i lowered by a and raised scopes raised by a, in scope x whose byte is `mark`
 
 abbrev pub topOf : ℕ → ℤ → ℕ → ℤ
 topOf i a x = onlyWhere (eqb x i) (negℤ a)
@@ -51,5 +51,5 @@ isTouched i x mark = eqb x i || not (eqb mark 0)
 abbrev pub scopeLets : Rules → Case → List ℤ → ℕ → ℤ → ℕ → ℕ → ℤ → Bool
 scopeLets r c w x best mark i a = isTouched i x mark ⇒ partStays r best (topOf i a x) (restOf mark a) (partOf c w x)
 
-abbrev pub pressLets : Rules → Case → List ℤ → List ℤ → List ℕ → ℕ → ℤ → Bool
-pressLets r c w best raised i a = all (λ x. scopeLets r c w x (bestAt best x) (getD raised x 0) i a) (scopes c)
+abbrev pub loweringLets : Rules → Case → List ℤ → List ℤ → List ℕ → ℕ → ℤ → Bool
+loweringLets r c w best raised i a = all (λ x. scopeLets r c w x (bestAt best x) (getD raised x 0) i a) (scopes c)

@@ -27,8 +27,8 @@ spacedAdd w start step (suc j) by =
     set (spacedAdd w start step j by) (start + j * step) (weightAt (spacedAdd w start step j by) (start + j * step) +ℤ by)
 
 -- `a` added at `own` and subtracted from the others
-abbrev pub shiftStays : Rules → List ℤ → ℕ → ℕ → ℕ → ℕ → ℤ → Bool
-shiftStays r w own start step count a = spacedStay r w own 1 1 a && spacedStay r w start step count (negℤ a)
+abbrev pub transferStays : Rules → List ℤ → ℕ → ℕ → ℕ → ℕ → ℤ → Bool
+transferStays r w own start step count a = spacedStay r w own 1 1 a && spacedStay r w start step count (negℤ a)
 
-abbrev pub shifted : List ℤ → ℕ → ℕ → ℕ → ℕ → ℤ → List ℤ
-shifted w own start step count a = spacedAdd (spacedAdd w own 1 1 a) start step count (negℤ a)
+abbrev pub transferred : List ℤ → ℕ → ℕ → ℕ → ℕ → ℤ → List ℤ
+transferred w own start step count a = spacedAdd (spacedAdd w own 1 1 a) start step count (negℤ a)

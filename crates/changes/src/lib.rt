@@ -1,8 +1,8 @@
-// Moves (document 01, "Moves"): shifts and presses, and the numbers that turn them back.
+// Weights changed on a table that was checked before, with a number for each scope, its greatest weight, kept in step. Each function asks
+// only what is said at it and takes the rest as it comes: none turns back by document 01's whole list, and none asks number 10.
 use definitions::Case;
 use definitions::Outcome;
 use definitions::Refusal;
-use definitions::Verdict;
 ghost use mathlib.Core.Path.{_≡_};
 ghost use mathlib.Core.Bool.{not, _||_};
 ghost use mathlib.Core.List.{map};
@@ -10,19 +10,17 @@ ghost use Prim.Native.Nat.{ℕ, _+_, _*_, _≤_, _<_};
 ghost use lib.Dec.{T, ltb, eqb};
 ghost use lib.ListN.{length, getD, set};
 ghost use lib.IntN.{pos, _+ℤ_};
-ghost use Rattle.integers.specs.Words.{if_then_else_, all, any, isIn, eqZ, withinZ, minus};
+ghost use Rattle.integers.specs.Words.{if_then_else_, eqZ, withinZ, minus};
 ghost use Rattle.definitions.specs.Rules.{standard};
 ghost use Rattle.definitions.specs.declared.Refusal.the-variants.{LeavesRange};
 ghost use Rattle.definitions.specs.Valid.{workingWeight};
-ghost use Rattle.definitions.specs.Moves.{shift as shiftMove, press as pressMove, shiftAmount, pressAmount, plus, moved, endVariable, shiftBy};
-ghost use Rattle.definitions.specs.Calls.{isRising, moveCall, shiftOut, shiftCall, pressOut, pressCall};
+ghost use Rattle.definitions.specs.Moves.{shiftAmount, pressAmount, plus, endVariable, shiftBy};
+ghost use Rattle.definitions.specs.Calls.{shiftOut};
 ghost use Rattle.definitions.specs.Case.{scopeCount, place, lentLength, greatest};
-ghost use Rattle.theory.proofs.Validity.{Handed};
 ghost use Rattle.tables.specs.Scopes.{Limited, sizeOf, partOf, bestAt};
-ghost use Rattle.changes.specs.Spaced.{Inside, spacedStay, spacedAdd, shiftStays, shifted};
-ghost use Rattle.changes.specs.Scopes.{changed, partStays, Amounts, InScope, scopeBy, topOf, restOf, isTouched, scopeLets, pressLets};
-ghost use Rattle.changes.specs.Kept.{shiftChange, pressChange, staysWorking, bestAfter, KeptIs, shiftWithCall, pressWithCall};
-ghost use Rattle.changes.specs.Marks.{marked, saysYes, askedOfRaised, askedOfPress};
+ghost use Rattle.changes.specs.Spaced.{Inside, spacedStay, spacedAdd, transferStays, transferred};
+ghost use Rattle.changes.specs.Scopes.{changed, partStays, Amounts, InScope, scopeBy, topOf, restOf, isTouched, scopeLets, loweringLets};
+ghost use Rattle.changes.specs.Kept.{transferChange, loweringChange, staysWorking, bestAfter, KeptIs, loweringOut, transferCall, lowerAndRaiseCall};
 
 // The greatest working weight and the greatest amount of a move, on either side of 0.
 const WORKING: i64 = 500_000_000;
@@ -76,10 +74,10 @@ fn spaced_add(table: &mut [i64], start: usize, step: usize, count: usize, by: i6
     }
 }
 
-// ---- the shift
+// ---- an amount transferred
 
 // Adds `amount` to the weight at `own` and subtracts it from the others, unless one would leave its range.
-fn shift_by(
+fn transfer_by(
     table: &mut [i64],
     own: usize,
     start: usize,
@@ -91,8 +89,8 @@ fn shift_by(
     requires { ⌜ Inside (now table) start step count ⌝ }
     requires { ⌜ T (withinZ (minus 1_000_000_000) (pos 1_000_000_000) amount) × (0 < step) ⌝ }
     requires { ⌜ ((j : ℕ) → j < count → start + j * step ≡ own → ⊥) ⌝ }
-    ensures { λ r. ⌜ r ≡ (if shiftStays standard (now (table .entry)) own start step count amount then Outcome.Done else Outcome.Refused LeavesRange) ⌝ }
-    ensures { λ r. ⌜ now (table .exit) ≡ (if shiftStays standard (now (table .entry)) own start step count amount then shifted (now (table .entry)) own start step count amount else now (table .entry)) ⌝ }
+    ensures { λ r. ⌜ r ≡ (if transferStays standard (now (table .entry)) own start step count amount then Outcome.Done else Outcome.Refused LeavesRange) ⌝ }
+    ensures { λ r. ⌜ now (table .exit) ≡ (if transferStays standard (now (table .entry)) own start step count amount then transferred (now (table .entry)) own start step count amount else now (table .entry)) ⌝ }
 {
     let back = 0 - amount;
     if !spaced_stay(table, own, 1, 1, amount) {
@@ -117,7 +115,7 @@ fn end_variable(case: Case, edge: usize, end: usize) -> usize
 }
 
 // The value's d tuples are one row at end 0, and one column at end 1.
-fn shift_checked(
+fn transfer_checked(
     case: Case,
     table: &mut [i64],
     edge: usize,
@@ -128,16 +126,16 @@ fn shift_checked(
     requires { ⌜ Limited standard case × (length (now table) ≡ lentLength case) ⌝ }
     requires { ⌜ (edge < case .m) × (end < 2) × (value < case .d) × (endVariable case edge end < case .n) ⌝ }
     requires { ⌜ T (withinZ (minus 1_000_000_000) (pos 1_000_000_000) amount) ⌝ }
-    ensures { λ r. ⌜ r ≡ (if staysWorking standard case (now (table .entry)) (shiftChange case edge end value amount) then Outcome.Done else Outcome.Refused LeavesRange) ⌝ }
-    ensures { λ r. ⌜ now (table .exit) ≡ (if staysWorking standard case (now (table .entry)) (shiftChange case edge end value amount) then plus case (shiftBy case edge end value amount) (now (table .entry)) else now (table .entry)) ⌝ }
+    ensures { λ r. ⌜ r ≡ (if staysWorking standard case (now (table .entry)) (transferChange case edge end value amount) then Outcome.Done else Outcome.Refused LeavesRange) ⌝ }
+    ensures { λ r. ⌜ now (table .exit) ≡ (if staysWorking standard case (now (table .entry)) (transferChange case edge end value amount) then plus case (shiftBy case edge end value amount) (now (table .entry)) else now (table .entry)) ⌝ }
 {
     let d = case.d;
     let first = case.n * d + edge * (d * d);
     let own = end_variable(case, edge, end) * d + value;
     if end == 0 {
-        shift_by(table, own, first + value * d, 1, d, amount)
+        transfer_by(table, own, first + value * d, 1, d, amount)
     } else {
-        shift_by(table, own, first + value, d, d, amount)
+        transfer_by(table, own, first + value, d, d, amount)
     }
 }
 
@@ -156,7 +154,8 @@ fn is_shift_amount(amount: i64) -> bool
     amount != 0
 }
 
-fn shift_out(case: Case, edge: usize, end: usize, value: usize, amount: i64) -> bool
+// The edge, the end, the value or the amount is outside its range.
+pub fn transfer_out(case: Case, edge: usize, end: usize, value: usize, amount: i64) -> bool
     ensures { λ r. ⌜ r ≡ shiftOut standard case edge end value amount ⌝ }
 {
     if case.m <= edge {
@@ -271,7 +270,7 @@ fn keep_greatest(case: Case, table: &[i64], best: &mut [i64], x: usize)
     best[x] = weight;
 }
 
-// ---- the press, scope by scope
+// ---- a variable's weights lowered and those of raised scopes raised, scope by scope
 
 fn top_of(x: usize, variable: usize, amount: i64) -> i64
     requires { ⌜ T (pressAmount standard amount) ⌝ }
@@ -321,7 +320,7 @@ fn scope_lets(
     scope_stays(case, table, x, best, top, rest_of(mark, amount))
 }
 
-fn press_stays(
+fn lowering_stays(
     case: Case,
     table: &[i64],
     best: &[i64],
@@ -332,7 +331,7 @@ fn press_stays(
     requires { ⌜ Limited standard case × (length (now table) ≡ lentLength case) ⌝ }
     requires { ⌜ (scopeCount case ≤ length (now best)) × (scopeCount case ≤ length (now raised)) ⌝ }
     requires { ⌜ T (pressAmount standard amount) ⌝ }
-    ensures { λ r. ⌜ r ≡ pressLets standard case (now (table .entry)) (now (best .entry)) (now (raised .entry)) variable amount ⌝ }
+    ensures { λ r. ⌜ r ≡ loweringLets standard case (now (table .entry)) (now (best .entry)) (now (raised .entry)) variable amount ⌝ }
 {
     let scopes = case.n + case.m;
     let mut x: usize = 0;
@@ -345,7 +344,7 @@ fn press_stays(
     true
 }
 
-fn press_scope(
+fn lower_scope(
     case: Case,
     table: &mut [i64],
     best: &mut [i64],
@@ -368,7 +367,7 @@ fn press_scope(
     }
 }
 
-fn make_press(
+fn lower_scopes(
     case: Case,
     table: &mut [i64],
     best: &mut [i64],
@@ -379,110 +378,29 @@ fn make_press(
     requires { ⌜ Limited standard case × (length (now table) ≡ lentLength case) ⌝ }
     requires { ⌜ (scopeCount case ≤ length (now best)) × (scopeCount case ≤ length (now raised)) ⌝ }
     requires { ⌜ (variable < case .n) × T (pressAmount standard amount) ⌝ }
-    requires { ⌜ T (pressLets standard case (now table) (now best) (now raised) variable amount) ⌝ }
-    ensures { λ _. ⌜ now (table .exit) ≡ plus case (pressChange case (now (table .entry)) (now (best .entry)) (now (raised .entry)) variable amount .adds) (now (table .entry)) ⌝ }
-    ensures { λ _. ⌜ now (best .exit) ≡ bestAfter case (now (table .entry)) (now (best .entry)) (pressChange case (now (table .entry)) (now (best .entry)) (now (raised .entry)) variable amount) ⌝ }
+    requires { ⌜ T (loweringLets standard case (now table) (now best) (now raised) variable amount) ⌝ }
+    ensures { λ _. ⌜ now (table .exit) ≡ plus case (loweringChange case (now (table .entry)) (now (best .entry)) (now (raised .entry)) variable amount .adds) (now (table .entry)) ⌝ }
+    ensures { λ _. ⌜ now (best .exit) ≡ bestAfter case (now (table .entry)) (now (best .entry)) (loweringChange case (now (table .entry)) (now (best .entry)) (now (raised .entry)) variable amount) ⌝ }
 {
     let scopes = case.n + case.m;
     let mut x: usize = 0;
     while x < scopes {
-        press_scope(case, table, best, x, raised[x], variable, amount);
+        lower_scope(case, table, best, x, raised[x], variable, amount);
         x += 1;
     }
 }
 
-fn scope_at(scope: u16) -> usize
-    ensures { λ r. ⌜ r ≡ scope ⌝ }
-{
-    scope as usize
-}
+// ---- the calls on what was checked
 
-// ---- what a press is asked: numbers 5 and 9
-
-fn some_beyond(scopes: &[u16], count: usize) -> bool
-    ensures { λ r. ⌜ r ≡ any (λ x. not (ltb x count)) (now (scopes .entry)) ⌝ }
-{
-    let mut j: usize = 0;
-    while j < scopes.len() {
-        if count <= scope_at(scopes[j]) {
-            return true;
-        }
-        j += 1;
-    }
-    false
-}
-
-fn holds(scopes: &[u16], x: usize) -> bool
-    ensures { λ r. ⌜ r ≡ isIn (now (scopes .entry)) x ⌝ }
-{
-    let mut j: usize = 0;
-    while j < scopes.len() {
-        if scope_at(scopes[j]) == x {
-            return true;
-        }
-        j += 1;
-    }
-    false
-}
-
-fn is_rising(scopes: &[u16]) -> bool
-    ensures { λ r. ⌜ r ≡ isRising (now (scopes .entry)) ⌝ }
-{
-    let mut j: usize = 1;
-    while j < scopes.len() {
-        if scopes[j] <= scopes[j - 1] {
-            return false;
-        }
-        j += 1;
-    }
-    true
-}
-
-fn press_out(case: Case, variable: usize, raised: &[u16], amount: i64) -> bool
-    requires { ⌜ Limited standard case ⌝ }
-    ensures { λ r. ⌜ r ≡ pressOut standard case variable (now (raised .entry)) amount ⌝ }
+// The variable or the amount is outside its range.
+pub fn lowering_out(case: Case, variable: usize, amount: i64) -> bool
+    ensures { λ r. ⌜ r ≡ loweringOut standard case variable amount ⌝ }
 {
     if case.n <= variable {
         return true;
     }
-    let scopes = case.n + case.m;
-    if raised.len() == 0 {
-        return true;
-    }
-    if scopes <= raised.len() {
-        return true;
-    }
-    if some_beyond(raised, scopes) {
-        return true;
-    }
     !is_within(amount, 1, MOVING)
 }
-
-// ---- marks for the raised scopes, and number 10
-
-fn mark_scopes(marks: &mut [u8], raised: &[u16])
-    requires { ⌜ T (all (λ x. ltb x (length (now marks))) (now raised)) ⌝ }
-    ensures { λ _. ⌜ now (marks .exit) ≡ marked (now (marks .entry)) (now (raised .entry)) ⌝ }
-{
-    let mut j: usize = 0;
-    while j < raised.len() {
-        let x = scope_at(raised[j]);
-        marks[x] = 1;
-        j += 1;
-    }
-}
-
-fn is_yes(verdict: Verdict) -> bool
-    ensures { λ r. ⌜ r ≡ saysYes verdict ⌝ }
-{
-    match verdict {
-        Verdict::Yes => true,
-        Verdict::No => false,
-        Verdict::Refused(_) => false,
-    }
-}
-
-// ---- the calls on what was checked
 
 fn lengths_wrong(case: Case, table: usize, best: usize) -> bool
     requires { ⌜ Limited standard case ⌝ }
@@ -494,8 +412,8 @@ fn lengths_wrong(case: Case, table: usize, best: usize) -> bool
     best < case.n + case.m
 }
 
-// The shift, with the greatest weights of the two scopes that it touches.
-fn shift_kept(
+// The transfer, with the greatest weights of the two scopes that it touches.
+fn transfer_kept(
     case: Case,
     table: &mut [i64],
     best: &mut [i64],
@@ -507,9 +425,9 @@ fn shift_kept(
     requires { ⌜ Limited standard case × (length (now table) ≡ lentLength case) × (scopeCount case ≤ length (now best)) ⌝ }
     requires { ⌜ (edge < case .m) × (end < 2) × (value < case .d) × (endVariable case edge end < case .n) ⌝ }
     requires { ⌜ T (withinZ (minus 1_000_000_000) (pos 1_000_000_000) amount) ⌝ }
-    ensures { λ r. ⌜ KeptIs case (now (table .entry)) (now (best .entry)) (shiftChange case edge end value amount) (staysWorking standard case (now (table .entry)) (shiftChange case edge end value amount)) r (now (table .exit)) (now (best .exit)) ⌝ }
+    ensures { λ r. ⌜ KeptIs case (now (table .entry)) (now (best .entry)) (transferChange case edge end value amount) (staysWorking standard case (now (table .entry)) (transferChange case edge end value amount)) r (now (table .exit)) (now (best .exit)) ⌝ }
 {
-    let made = shift_checked(case, table, edge, end, value, amount);
+    let made = transfer_checked(case, table, edge, end, value, amount);
     match made {
         Outcome::Refused(refusal) => Outcome::Refused(refusal),
         Outcome::Done => {
@@ -520,7 +438,7 @@ fn shift_kept(
     }
 }
 
-fn press_kept(
+fn lowering_kept(
     case: Case,
     table: &mut [i64],
     best: &mut [i64],
@@ -531,100 +449,21 @@ fn press_kept(
     requires { ⌜ Limited standard case × (length (now table) ≡ lentLength case) ⌝ }
     requires { ⌜ (scopeCount case ≤ length (now best)) × (scopeCount case ≤ length (now raised)) ⌝ }
     requires { ⌜ (variable < case .n) × T (pressAmount standard amount) ⌝ }
-    ensures { λ r. ⌜ KeptIs case (now (table .entry)) (now (best .entry)) (pressChange case (now (table .entry)) (now (best .entry)) (now (raised .entry)) variable amount) (staysWorking standard case (now (table .entry)) (pressChange case (now (table .entry)) (now (best .entry)) (now (raised .entry)) variable amount)) r (now (table .exit)) (now (best .exit)) ⌝ }
+    ensures { λ r. ⌜ KeptIs case (now (table .entry)) (now (best .entry)) (loweringChange case (now (table .entry)) (now (best .entry)) (now (raised .entry)) variable amount) (staysWorking standard case (now (table .entry)) (loweringChange case (now (table .entry)) (now (best .entry)) (now (raised .entry)) variable amount)) r (now (table .exit)) (now (best .exit)) ⌝ }
 {
-    if !press_stays(case, table, best, raised, variable, amount) {
+    if !lowering_stays(case, table, best, raised, variable, amount) {
         return Outcome::Refused(Refusal::LeavesRange);
     }
-    make_press(case, table, best, raised, variable, amount);
+    lower_scopes(case, table, best, raised, variable, amount);
     Outcome::Done
-}
-
-// ---- a press of raised scopes that rise
-
-// Numbers 10 and 11, and the press.
-fn press_raised(
-    case: Case,
-    table: &mut [i64],
-    variable: usize,
-    raised: &[u16],
-    amount: i64,
-) -> Outcome
-    requires { ⌜ Handed standard (workingWeight standard) case (now table) ⌝ }
-    requires { ⌜ (variable < case .n) × T (all (λ x. ltb x (scopeCount case)) (now raised)) ⌝ }
-    requires { ⌜ T (pressAmount standard amount) ⌝ }
-    ensures { λ r. ⌜ r ≡ moveCall standard case (now (table .entry)) (pressMove variable (now (raised .entry)) amount) (askedOfRaised standard case (now (table .entry)) variable (now (raised .entry)) amount) .answer ⌝ }
-    ensures { λ r. ⌜ now (table .exit) ≡ moveCall standard case (now (table .entry)) (pressMove variable (now (raised .entry)) amount) (askedOfRaised standard case (now (table .entry)) variable (now (raised .entry)) amount) .table ⌝ }
-{
-    let mut marks = [0u8; 144];
-    mark_scopes(&mut marks, raised);
-    let mut best = [0i64; 144];
-    tables::greatest_weights(case, table, &mut best);
-    if !is_yes(arcs::active_refuted(case, table, &best, &marks, variable)) {
-        return Outcome::Refused(Refusal::NotRefuted);
-    }
-    press_with(case, table, &mut best, &marks, variable, amount)
-}
-
-// Numbers 9, 10 and 11, and the press.
-fn press_checked(
-    case: Case,
-    table: &mut [i64],
-    variable: usize,
-    raised: &[u16],
-    amount: i64,
-) -> Outcome
-    requires { ⌜ Handed standard (workingWeight standard) case (now table) ⌝ }
-    requires { ⌜ (variable < case .n) × T (all (λ x. ltb x (scopeCount case)) (now raised)) ⌝ }
-    requires { ⌜ T (pressAmount standard amount) ⌝ }
-    ensures { λ r. ⌜ r ≡ moveCall standard case (now (table .entry)) (pressMove variable (now (raised .entry)) amount) (askedOfPress standard case (now (table .entry)) variable (now (raised .entry)) amount) .answer ⌝ }
-    ensures { λ r. ⌜ now (table .exit) ≡ moveCall standard case (now (table .entry)) (pressMove variable (now (raised .entry)) amount) (askedOfPress standard case (now (table .entry)) variable (now (raised .entry)) amount) .table ⌝ }
-{
-    if !is_rising(raised) {
-        return Outcome::Refused(Refusal::RaiseNotAscending);
-    }
-    if holds(raised, variable) {
-        return Outcome::Refused(Refusal::RaiseNotAscending);
-    }
-    press_raised(case, table, variable, raised, amount)
 }
 
 // ---- the calls
 
-pub fn shift(
-    case: Case,
-    table: &mut [i64],
-    edge: usize,
-    end: usize,
-    value: usize,
-    amount: i64,
-) -> Outcome
-    ensures { λ r. ⌜ (r ≡ shiftCall standard case (now (table .entry)) edge end value amount .answer) × (now (table .exit) ≡ shiftCall standard case (now (table .entry)) edge end value amount .table) ⌝ }
-{
-    let out = shift_out(case, edge, end, value, amount);
-    let checked = tables::check_working(case, table, false, out);
-    match checked {
-        Outcome::Refused(refusal) => Outcome::Refused(refusal),
-        Outcome::Done => shift_checked(case, table, edge, end, value, amount),
-    }
-}
-
-pub fn press(case: Case, table: &mut [i64], variable: usize, raised: &[u16], amount: i64) -> Outcome
-    ensures { λ r. ⌜ (r ≡ pressCall standard case (now (table .entry)) variable (now (raised .entry)) amount .answer) × (now (table .exit) ≡ pressCall standard case (now (table .entry)) variable (now (raised .entry)) amount .table) ⌝ }
-{
-    if !tables::within_limits(case) {
-        return Outcome::Refused(Refusal::OutsideLimits);
-    }
-    let out = press_out(case, variable, raised, amount);
-    let checked = tables::check_working(case, table, false, out);
-    match checked {
-        Outcome::Refused(refusal) => Outcome::Refused(refusal),
-        Outcome::Done => press_checked(case, table, variable, raised, amount),
-    }
-}
-
-// A shift on a case and a table that were checked before; `best` is kept as each scope's greatest weight.
-pub fn shift_with(
+// Adds `amount` to the weight of a value of the variable at that end of the edge and subtracts it from the edge's d tuples that use the value
+// there. best[x] becomes the greatest weight of the two scopes x touched. Asks 3, 4, 5 of the arguments and of that end, and 11 of the weights
+// touched.
+pub fn transfer(
     case: Case,
     table: &mut [i64],
     best: &mut [i64],
@@ -633,7 +472,7 @@ pub fn shift_with(
     value: usize,
     amount: i64,
 ) -> Outcome
-    ensures { λ r. ⌜ (r ≡ shiftWithCall standard case (now (table .entry)) (now (best .entry)) edge end value amount .answer) × (now (table .exit) ≡ shiftWithCall standard case (now (table .entry)) (now (best .entry)) edge end value amount .table) × (now (best .exit) ≡ shiftWithCall standard case (now (table .entry)) (now (best .entry)) edge end value amount .best) ⌝ }
+    ensures { λ r. ⌜ (r ≡ transferCall standard case (now (table .entry)) (now (best .entry)) edge end value amount .answer) × (now (table .exit) ≡ transferCall standard case (now (table .entry)) (now (best .entry)) edge end value amount .table) × (now (best .exit) ≡ transferCall standard case (now (table .entry)) (now (best .entry)) edge end value amount .best) ⌝ }
 {
     if !tables::within_limits(case) {
         return Outcome::Refused(Refusal::OutsideLimits);
@@ -641,17 +480,19 @@ pub fn shift_with(
     if lengths_wrong(case, table.len(), best.len()) {
         return Outcome::Refused(Refusal::WrongLength);
     }
-    if shift_out(case, edge, end, value, amount) {
+    if transfer_out(case, edge, end, value, amount) {
         return Outcome::Refused(Refusal::OutOfRange);
     }
     if case.n <= end_variable(case, edge, end) {
         return Outcome::Refused(Refusal::OutOfRange);
     }
-    shift_kept(case, table, best, edge, end, value, amount)
+    transfer_kept(case, table, best, edge, end, value, amount)
 }
 
-// A press of the scopes whose byte in `raised` is not 0, where a weight that is the scope's number in `best` is taken as active; `best` is kept.
-pub fn press_with(
+// Subtracts `amount` from the weights of `variable` that are best[variable] and adds it, in each scope x whose byte in `raised` is not 0, to the
+// weights that are not best[x]. best[x] becomes the greatest weight of each scope x touched. Asks 3, 4, 5 of the arguments, and 11 of the scopes
+// touched; whether the values lowered are refuted is not asked.
+pub fn lower_and_raise(
     case: Case,
     table: &mut [i64],
     best: &mut [i64],
@@ -659,7 +500,7 @@ pub fn press_with(
     variable: usize,
     amount: i64,
 ) -> Outcome
-    ensures { λ r. ⌜ (r ≡ pressWithCall standard case (now (table .entry)) (now (best .entry)) (now (raised .entry)) variable amount .answer) × (now (table .exit) ≡ pressWithCall standard case (now (table .entry)) (now (best .entry)) (now (raised .entry)) variable amount .table) × (now (best .exit) ≡ pressWithCall standard case (now (table .entry)) (now (best .entry)) (now (raised .entry)) variable amount .best) ⌝ }
+    ensures { λ r. ⌜ (r ≡ lowerAndRaiseCall standard case (now (table .entry)) (now (best .entry)) (now (raised .entry)) variable amount .answer) × (now (table .exit) ≡ lowerAndRaiseCall standard case (now (table .entry)) (now (best .entry)) (now (raised .entry)) variable amount .table) × (now (best .exit) ≡ lowerAndRaiseCall standard case (now (table .entry)) (now (best .entry)) (now (raised .entry)) variable amount .best) ⌝ }
 {
     if !tables::within_limits(case) {
         return Outcome::Refused(Refusal::OutsideLimits);
@@ -670,11 +511,8 @@ pub fn press_with(
     if raised.len() < case.n + case.m {
         return Outcome::Refused(Refusal::WrongLength);
     }
-    if case.n <= variable {
+    if lowering_out(case, variable, amount) {
         return Outcome::Refused(Refusal::OutOfRange);
     }
-    if !is_within(amount, 1, MOVING) {
-        return Outcome::Refused(Refusal::OutOfRange);
-    }
-    press_kept(case, table, best, raised, variable, amount)
+    lowering_kept(case, table, best, raised, variable, amount)
 }

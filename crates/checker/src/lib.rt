@@ -433,7 +433,7 @@ fn shift_made(case: Case, table: &mut [i64], best: &mut [i64], line: Line) -> Ou
     let edge = index(line.a);
     let end = index(line.b);
     let value = index(line.c);
-    changes::shift_with(case, table, best, edge, end, value, line.amount)
+    changes::transfer(case, table, best, edge, end, value, line.amount)
 }
 
 fn shift_line(
@@ -518,7 +518,7 @@ fn all_refuted(case: Case, table: &[i64], best: &[i64], raised: &[u8], variable:
     requires { ⌜ (length (now raised) ≡ 144) × (variable < case .n) ⌝ }
     ensures { λ r. ⌜ r ≡ allRefuted case (now (table .entry)) (isRaised (now (raised .entry))) variable (activeValues case (now (table .entry)) variable) ⌝ }
 {
-    let verdict = arcs::active_refuted(case, table, best, raised, variable);
+    let verdict = arcs::best_unsupported(case, table, best, raised, variable);
     match verdict {
         Verdict::Yes => true,
         Verdict::No => false,
@@ -540,7 +540,7 @@ fn press_made(
     ensures { λ r. ⌜ (r ≡ outcomeOf (firstOf (rangeTests case (pressed case (now (table .entry)) variable (now (raised .entry)) amount)))) × (now (table .exit) ≡ unlessRefused (firstOf (rangeTests case (pressed case (now (table .entry)) variable (now (raised .entry)) amount))) (pressed case (now (table .entry)) variable (now (raised .entry)) amount) (now (table .entry))) ⌝ }
     ensures { λ r. ⌜ BestOf case (now (table .exit)) (now (best .exit)) ⌝ }
 {
-    changes::press_with(case, table, best, raised, variable, amount)
+    changes::lower_and_raise(case, table, best, raised, variable, amount)
 }
 
 // The press with its raised scopes, unless number 10 or 11 applies.

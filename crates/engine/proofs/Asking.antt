@@ -1,4 +1,4 @@
--- What is prepared of a table, and what is asked of `all_refuted` over it. Assumes nothing.
+-- What is prepared of a table, and what is asked of `none_supported` over it. Assumes nothing.
 use mathlib.Core.Path.{_≡_, refl, ap, _∙_}
 use mathlib.Core.Bool.{Bool, true, false, not}
 use mathlib.Core.Option.{none}
@@ -22,7 +22,7 @@ use Rattle.theory.proofs.Validity.{Handed, handed}
 use Rattle.theory.proofs.Replays.{none-iff}
 use Rattle.arcs.specs.Active.{activeSet, activeRow, activeSets, activeRows, tooShort, activeRefusal, setsAfter, rowsAfter}
 use Rattle.arcs.specs.Tried.{triedAnswer}
-use Rattle.arcs.specs.declared.Tried.the-variants.{Refuted, Supported}
+use Rattle.arcs.specs.declared.Tried.the-variants.{Unsupported, Supported}
 use Rattle.arcs.proofs.Refutation.{Bytes, tried-active}
 use Rattle.engine.specs.Search.{saysRefuted, isRaised, Prepared, Allowing}
 
@@ -72,7 +72,7 @@ not-not true = refl
 not-not false = refl
 
 -- the answer says it
-refuted-says : (b : Bool) → saysRefuted (if b then Refuted else Supported) ≡ b
+refuted-says : (b : Bool) → saysRefuted (if b then Unsupported else Supported) ≡ b
 refuted-says true = refl
 refuted-says false = refl
 

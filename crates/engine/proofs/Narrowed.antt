@@ -21,7 +21,7 @@ use Rattle.marks.proofs.Laws.{mark-byteOf}
 use Rattle.arcs.specs.Closure.{networkOfBytes, setsOf, isMalformed, someFamily, closureSets}
 use Rattle.arcs.proofs.Results.{well-formed}
 use Rattle.arcs.specs.Tried.{hasFamily, noneHas, triedAnswer}
-use Rattle.arcs.specs.declared.Tried.the-variants.{Malformed, Refuted, Supported}
+use Rattle.arcs.specs.declared.Tried.the-variants.{Malformed, Unsupported, Supported}
 
 -- families inside G and inside narrower sets H that hold all of the largest family
 module _ (N : Network) (ends : Ends N) (G G₁ G₂ : Family)
@@ -87,8 +87,8 @@ module _ (lower upper rows edges S : List ℕ) (i : ℕ) (g : i < length S) (end
   tried-same : (values : ℕ) → triedAnswer lower upper rows edges narrow i values ≡ triedAnswer lower upper rows edges S i values
   unfolding triedAnswer noneHas
   tried-same values =
-      ap (λ (n : ℕ). if isMalformed n lower upper rows edges || not (ltb i n) || ltb (standard .variables) n then Malformed else if noneHas (hasFamily (networkOfBytes n lower upper rows edges) narrow i) values then Refuted else Supported) narrow-length
-      ∙ ap (λ (b : Bool). if isMalformed (length S) lower upper rows edges || not (ltb i (length S)) || ltb (standard .variables) (length S) then Malformed else if b then Refuted else Supported)
+      ap (λ (n : ℕ). if isMalformed n lower upper rows edges || not (ltb i n) || ltb (standard .variables) n then Malformed else if noneHas (hasFamily (networkOfBytes n lower upper rows edges) narrow i) values then Unsupported else Supported) narrow-length
+      ∙ ap (λ (b : Bool). if isMalformed (length S) lower upper rows edges || not (ltb i (length S)) || ltb (standard .variables) (length S) then Malformed else if b then Unsupported else Supported)
       (all-same 8 (λ k l. ap (λ (b : Bool). mark values k ⇒ not b) (same-family k)))
 
 -- the same answer over the sets that `closure` leaves

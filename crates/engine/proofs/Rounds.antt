@@ -36,8 +36,8 @@ use Rattle.engine_theory.proofs.Fall.{enginePressed}
 use Rattle.engine_theory.proofs.Runs.{differ, presses, engine-allowed}
 use Rattle.engine_theory.proofs.Calls.{taken-iff, call-taken}
 use Rattle.tables.specs.Scopes.{BestOf}
-use Rattle.changes.specs.Kept.{pressWithCall}
-use Rattle.changes.proofs.PressLaws.{press-with-known}
+use Rattle.changes.specs.Kept.{lowerAndRaiseCall}
+use Rattle.changes.proofs.LoweringLaws.{lower-and-raise-is-press}
 use Rattle.engine.specs.Search.{isRaised}
 use Rattle.engine.specs.Texts.{raisedBelow, raiseTexts, pressLine, pressText}
 use Rattle.engine.specs.Rounds.{pressedBy, Pressed, MadeRound}
@@ -52,12 +52,12 @@ done-way : (b : Bool) → Outcome.Done ≡ (if b then Outcome.Refused LeavesRang
 done-way true e = cc
 done-way false e = refl
 
--- what `press_with` gives on a table that was checked
+-- what `lower_and_raise` gives on a table that was checked
 pub pressed-by : {c : Case} {w best : List ℤ} → Handed standard (workingWeight standard) c w → BestOf c w best → (raised : List ℕ) (i : ℕ) (a : ℤ)
-    → scopeCount c ≤ length raised → i < c .n → T (pressAmount standard a) → {r : Outcome} {after next : List ℤ} → r ≡ pressWithCall standard c w best raised i a .answer
-    → after ≡ pressWithCall standard c w best raised i a .table → next ≡ pressWithCall standard c w best raised i a .best → Pressed c i raised a w after next r
+    → scopeCount c ≤ length raised → i < c .n → T (pressAmount standard a) → {r : Outcome} {after next : List ℤ} → r ≡ lowerAndRaiseCall standard c w best raised i a .answer
+    → after ≡ lowerAndRaiseCall standard c w best raised i a .table → next ≡ lowerAndRaiseCall standard c w best raised i a .best → Pressed c i raised a w after next r
 pressed-by {c} {w} {best} h b raised i a room variable amount e f g =
-    let (p, q, k) = press-with-known h b raised i a room variable amount in
+    let (p, q, k) = lower-and-raise-is-press h b raised i a room variable amount in
     record {
       answer = e ∙ p ∙ answers (leavesRange standard c (pressedBy c i raised a w));
       table = f ∙ q ∙ tables (leavesRange standard c (pressedBy c i raised a w));

@@ -24,7 +24,7 @@ use Rattle.arcs.specs.declared.Tried.{Tried}
 use Rattle.engine.specs.declared.Chosen.{Chosen}
 
 abbrev pub saysRefuted : Tried → Bool
-saysRefuted Tried.Refuted = true
+saysRefuted Tried.Unsupported = true
 saysRefuted Tried.Supported = false
 saysRefuted Tried.Malformed = false
 

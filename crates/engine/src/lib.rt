@@ -50,7 +50,7 @@ fn is_refuted(tried: Tried) -> bool
     ensures { λ r. ⌜ r ≡ saysRefuted tried ⌝ }
 {
     match tried {
-        Tried::Refuted => true,
+        Tried::Unsupported => true,
         Tried::Supported => false,
         Tried::Malformed => false,
     }
@@ -99,7 +99,7 @@ fn refutes(case: Case, acts: &[u8], rows: &[u8], raised: &[u8], variable: usize)
     let upper = case.upper;
     let mut sets = [0u8; 48];
     allow(acts, raised, marks::full(case.d as u8), &mut sets, n);
-    is_refuted(arcs::all_refuted(
+    is_refuted(arcs::none_supported(
         &lower,
         &upper,
         rows,
@@ -124,7 +124,7 @@ fn lowest_in(
 {
     let mut i: usize = 0;
     while i < sets.len() {
-        let tried = arcs::all_refuted(lower, upper, rows, edges, sets, i, acts[i]);
+        let tried = arcs::none_supported(lower, upper, rows, edges, sets, i, acts[i]);
         if is_refuted(tried) {
             return Chosen::Variable(i);
         }
@@ -816,7 +816,7 @@ fn press(
     requires { ⌜ (scopeCount case ≤ length (now raised)) × (variable < case .n) × T (pressAmount standard amount) ⌝ }
     ensures { λ r. ⌜ Pressed case variable (now (raised .entry)) amount (now (table .entry)) (now (table .exit)) (now (best .exit)) r ⌝ }
 {
-    changes::press_with(case, table, best, raised, variable, amount)
+    changes::lower_and_raise(case, table, best, raised, variable, amount)
 }
 
 // The press of the chosen variable, and its lines.

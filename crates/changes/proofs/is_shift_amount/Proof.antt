@@ -3,7 +3,7 @@ use mathlib.Core.Bool.{not}
 use mir.Facts.{toZ-ofZ}
 use borrow.Author.Tests.{not-true, not-false}
 use borrow.Author.Needs.{needs}
-use Rattle.changes.proofs.Answers.{zero-bits}
+use Rattle.changes.proofs.Tests.{zero-bits}
 use Rattle.changes.proofs.is_shift_amount.Statement.{statement}
 use Rattle.changes.proofs.is_shift_amount.Tie as tie
 

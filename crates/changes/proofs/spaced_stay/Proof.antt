@@ -11,7 +11,7 @@ use borrow.Author.Tests.{not-true, not-false}
 use Rattle.integers.specs.Linear.{read-back}
 use Rattle.definitions.specs.Rules.{standard}
 use Rattle.definitions.specs.Valid.{workingWeight}
-use Rattle.changes.proofs.Answers.{not-all, all-passed}
+use Rattle.changes.proofs.Tests.{not-all, all-passed}
 use Rattle.changes.specs.Spaced.{weightAt}
 use Rattle.changes.proofs.spaced_stay.Statement.{statement}
 use Rattle.changes.proofs.spaced_stay.Tie as tie

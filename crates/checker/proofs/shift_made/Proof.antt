@@ -3,7 +3,7 @@ use mathlib.Core.Option.{none}
 use lib.IntN.{pos, natAbs}
 use mir.Syntax.{w64}
 use Rattle.integers.specs.Linear.{read-back}
-use Rattle.changes.proofs.ShiftLaws.{shift-with-known}
+use Rattle.changes.proofs.TransferLaws.{transfer-is-shift}
 use Rattle.checker.specs.Checker.{freshOf}
 use Rattle.checker.proofs.Taking.{shift-counts, shift-inside}
 use borrow.Author.Needs.{needs}
@@ -19,8 +19,8 @@ index-requires-2 c κs = let a = c .before .before .before .args in let p = fres
 index-requires-3 : tie.Need-index-requires-3
 index-requires-3 c κs = let a = c .before .before .before .before .before .args in let p = freshOf none (pos 0) in rw (read-back w64 (a .line .c) (c .before .before .before .before .struct-told .given .1 .1 .1 .0 .1)) (shift-counts (a .case) (a .table .now) p (a .line) (c .before .before .before .before .before .pre .1 .1 p) .2)
 
-shift-with-requires : tie.Need-shift-with-requires
-shift-with-requires c κs = search needs
+transfer-requires : tie.Need-transfer-requires
+transfer-requires c κs = search needs
 
 same-length : tie.Need-same-length
 same-length c = search needs
@@ -35,8 +35,8 @@ returns c = let a = c .before .before .before .before .before .before .before .b
       c .before .before .before .before .before .before .before .before .index2 .ensures ∙ ap natAbs (read-back w64 (l .b) (s .1 .1 .0 .1)),
       c .before .before .before .before .before .before .index3 .ensures ∙ ap natAbs (read-back w64 (l .c) (s .1 .1 .1 .0 .1)),
       read-back w64 (l .amount) (s .1 .1 .1 .1 .0 .1),
-    ) at (c .before .before .shift-with .ensures) in
-    let k = shift-with-known (c .before .before .before .before .before .before .before .before .before .before .before .before .pre .0) (c .before .before .before .before .before .before .before .before .before .before .before .before .pre .1 .0) (natAbs (l .a)) (natAbs (l .b)) (natAbs (l .c)) (l .amount) (shift-inside (a .case) (a .table .now) p l (c .before .before .before .before .before .before .before .before .before .before .before .before .pre .1 .1 p)) in
+    ) at (c .before .before .transfer .ensures) in
+    let k = transfer-is-shift (c .before .before .before .before .before .before .before .before .before .before .before .before .pre .0) (c .before .before .before .before .before .before .before .before .before .before .before .before .pre .1 .0) (natAbs (l .a)) (natAbs (l .b)) (natAbs (l .c)) (l .amount) (shift-inside (a .case) (a .table .now) p l (c .before .before .before .before .before .before .before .before .before .before .before .before .pre .1 .1 p)) in
     (λ p. (e .0 ∙ k .0, e .1 ∙ k .1), rw (e .1, e .2) (k .2))
 
 pub shift-made-spec : {M : Type 1} → statement M
@@ -46,7 +46,7 @@ shift-made-spec =
     index-requires
     index-requires-2
     index-requires-3
-    shift-with-requires
+    transfer-requires
     same-length
     same-length-2
     returns)

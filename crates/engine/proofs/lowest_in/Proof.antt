@@ -21,11 +21,11 @@ abbrev μ-loop : tie.MeasureT-loop
 loop-holds : tie.Need-loop-holds Inv-loop μ-loop
 loop-holds c = (omega arith, λ j h. absurd (omega arith))
 
-shared-slice-read-all-refuted : tie.Need-shared-slice-read-all-refuted Inv-loop μ-loop
-shared-slice-read-all-refuted c = omega arith
+shared-slice-read-none-supported : tie.Need-shared-slice-read-none-supported Inv-loop μ-loop
+shared-slice-read-none-supported c = omega arith
 
-all-refuted-requires : tie.Need-all-refuted-requires Inv-loop μ-loop
-all-refuted-requires c κs = search needs
+none-supported-requires : tie.Need-none-supported-requires Inv-loop μ-loop
+none-supported-requires c κs = search needs
 
 is-refuted-requires : tie.Need-is-refuted-requires Inv-loop μ-loop
 is-refuted-requires c κs = search needs
@@ -35,7 +35,7 @@ returns c =
     let a = c .before .before .before .before .before .before .before .before .before .before .before .before .args in
     let f : ℕ → Bool = λ i. saysRefuted (triedAnswer (now (a .lower)) (now (a .upper)) (now (a .rows)) (now (a .edges)) (now (a .sets)) i (getD (now (a .acts)) i 0)) in
     let l = c .before .before .before .before .before .loop in
-    sym (ap chosenOf (first-is f (length (now (a .sets))) (l .i) (c .before .before .before .before .loop-test .taken) (ap saysRefuted (sym (c .before .before .all-refuted .ensures)) ∙ sym (c .before .is-refuted .ensures) ∙ c .if1 .taken) (l .inv .1)))
+    sym (ap chosenOf (first-is f (length (now (a .sets))) (l .i) (c .before .before .before .before .loop-test .taken) (ap saysRefuted (sym (c .before .before .none-supported .ensures)) ∙ sym (c .before .is-refuted .ensures) ∙ c .if1 .taken) (l .inv .1)))
 
 add-i : tie.Need-add-i Inv-loop μ-loop
 add-i c = omega arith
@@ -48,7 +48,7 @@ loop-again c =
     let a = c .before .before .before .before .before .before .before .before .before .before .before .before .args in
     let f : ℕ → Bool = λ i. saysRefuted (triedAnswer (now (a .lower)) (now (a .upper)) (now (a .rows)) (now (a .edges)) (now (a .sets)) i (getD (now (a .acts)) i 0)) in
     let l = c .before .before .before .before .before .loop in
-    (omega arith, passed-more f (l .i) (l .inv .1) (ap saysRefuted (sym (c .before .before .all-refuted .ensures)) ∙ sym (c .before .is-refuted .ensures) ∙ c .if1 .left))
+    (omega arith, passed-more f (l .i) (l .inv .1) (ap saysRefuted (sym (c .before .before .none-supported .ensures)) ∙ sym (c .before .is-refuted .ensures) ∙ c .if1 .left))
 
 returns-2 : tie.Need-returns-2 Inv-loop μ-loop
 returns-2 c =
@@ -63,8 +63,8 @@ lowest-in-spec =
     Inv-loop
     μ-loop
     loop-holds
-    shared-slice-read-all-refuted
-    all-refuted-requires
+    shared-slice-read-none-supported
+    none-supported-requires
     is-refuted-requires
     returns
     add-i

@@ -26,20 +26,20 @@ slice-aggregate-allow c = search needs
 allow-requires : tie.Need-allow-requires
 allow-requires c κs = search needs
 
-slice-aggregate-all-refuted : tie.Need-slice-aggregate-all-refuted
-slice-aggregate-all-refuted c = search needs
+slice-aggregate-none-supported : tie.Need-slice-aggregate-none-supported
+slice-aggregate-none-supported c = search needs
 
-slice-aggregate-all-refuted-2 : tie.Need-slice-aggregate-all-refuted-2
-slice-aggregate-all-refuted-2 c = search needs
+slice-aggregate-none-supported-2 : tie.Need-slice-aggregate-none-supported-2
+slice-aggregate-none-supported-2 c = search needs
 
-sub-all-refuted : tie.Need-sub-all-refuted
-sub-all-refuted c = search needs
+sub-none-supported : tie.Need-sub-none-supported
+sub-none-supported c = search needs
 
-part-all-refuted-start : tie.Need-part-all-refuted-start
-part-all-refuted-start c = search needs
+part-none-supported-start : tie.Need-part-none-supported-start
+part-none-supported-start c = search needs
 
-part-all-refuted-end : tie.Need-part-all-refuted-end
-part-all-refuted-end c = search needs
+part-none-supported-end : tie.Need-part-none-supported-end
+part-none-supported-end c = search needs
 
 array-share-prefix-sets : tie.Need-array-share-prefix-sets
 array-share-prefix-sets c = search needs
@@ -50,14 +50,14 @@ room c = omega (arith, c .before .before .before .before .before .before .before
 ends : (c : tie.Start) → (length (c .args .case .lower) ≡ 96) × (length (c .args .case .upper) ≡ 96)
 ends c = (search needs, search needs)
 
-slice-aggregate-all-refuted-3 : tie.Need-slice-aggregate-all-refuted-3
-slice-aggregate-all-refuted-3 c = sym (length-take-le (c .before .before .before .before .before .before .before .before .before .before .before .before .before .before .before .args .case .n) (c .before .before .before .before .before .allow .last .1 .1 .1 .0) (room (c .before .before .before .before .before)))
+slice-aggregate-none-supported-3 : tie.Need-slice-aggregate-none-supported-3
+slice-aggregate-none-supported-3 c = sym (length-take-le (c .before .before .before .before .before .before .before .before .before .before .before .before .before .before .before .args .case .n) (c .before .before .before .before .before .allow .last .1 .1 .1 .0) (room (c .before .before .before .before .before)))
 
-shared-slice-read-all-refuted : tie.Need-shared-slice-read-all-refuted
-shared-slice-read-all-refuted c = search needs
+shared-slice-read-none-supported : tie.Need-shared-slice-read-none-supported
+shared-slice-read-none-supported c = search needs
 
-all-refuted-requires : tie.Need-all-refuted-requires
-all-refuted-requires c κs = search needs
+none-supported-requires : tie.Need-none-supported-requires
+none-supported-requires c κs = search needs
 
 is-refuted-requires : tie.Need-is-refuted-requires
 is-refuted-requires c κs = search needs
@@ -67,7 +67,7 @@ returns c = λ w p.
     let s = c .before .before .before .before .before .before .before .before .before .before .before .before .before .before .before .before .before .before in
     let a = s .args in
     let q = c .before .before .before .before .before .before .before .before .allow in
-    c .is-refuted .ensures ∙ ap saysRefuted (c .before .all-refuted .ensures)
+    c .is-refuted .ensures ∙ ap saysRefuted (c .before .none-supported .ensures)
     ∙ asked-says (a .case) w (now (a .raised)) (q .last .1 .1 .1 .0) (isRaised (now (a .raised))) p
     (λ j h. q .ensures j h ∙ ap₂ (λ (v full : ℕ). if isRaised (now (a .raised)) j then v else full) (p .acts-are j h) (c .before .before .before .before .before .before .before .before .before .before .full .ensures))
     (λ e g. refl) (ends s .0) (ends s .1) (s .pre .0) (room (c .before .before .before .before .before .before .before .before)) (a .variable) (s .pre .2)
@@ -81,14 +81,14 @@ refutes-spec =
     full-requires
     slice-aggregate-allow
     allow-requires
-    slice-aggregate-all-refuted
-    slice-aggregate-all-refuted-2
-    sub-all-refuted
-    part-all-refuted-start
-    part-all-refuted-end
+    slice-aggregate-none-supported
+    slice-aggregate-none-supported-2
+    sub-none-supported
+    part-none-supported-start
+    part-none-supported-end
     array-share-prefix-sets
-    slice-aggregate-all-refuted-3
-    shared-slice-read-all-refuted
-    all-refuted-requires
+    slice-aggregate-none-supported-3
+    shared-slice-read-none-supported
+    none-supported-requires
     is-refuted-requires
     returns)

@@ -1,0 +1,97 @@
+-- `arcs::are_unsupported` meets its contract. Assumes nothing.
+use mathlib.Core.Path.{sym, ap, _∙_}
+use Prim.Native.Nat.{_*_, _≤_}
+use native.Mathlib.Omega.{arith}
+use denote.Ref.{now}
+use lib.Seq.{length-take-le}
+use Rattle.arcs.specs.Best.{isUnsupported}
+use Rattle.arcs.proofs.Seen.{zeros-at}
+use Rattle.arcs.proofs.Best.{prepared-answer}
+use borrow.Author.Needs.{needs}
+use Rattle.arcs.proofs.are_unsupported.Statement.{statement}
+use Rattle.arcs.proofs.are_unsupported.Tie as tie
+
+rows-room : (s : tie.Start) → 16 * s .args .case .m ≤ 1536
+rows-room s = omega (arith, s .pre .0 .limits .edges)
+
+add-s : tie.Need-add-s
+add-s c = search needs
+
+mul-long : tie.Need-mul-long
+mul-long c = search needs
+
+slice-aggregate-prepare-sets : tie.Need-slice-aggregate-prepare-sets
+slice-aggregate-prepare-sets c = search needs
+
+prepare-sets-requires : tie.Need-prepare-sets-requires
+prepare-sets-requires c κs = search needs
+
+slice-aggregate-prepare-rows : tie.Need-slice-aggregate-prepare-rows
+slice-aggregate-prepare-rows c = search needs
+
+prepare-rows-requires : tie.Need-prepare-rows-requires
+prepare-rows-requires c κs = let s = c .before .before .before .before .before .before .before .before .before in (s .pre .0, ((s .pre .1 .0, s .pre .1 .1, rows-room s), zeros-at 1536))
+
+slice-aggregate-none-supported : tie.Need-slice-aggregate-none-supported
+slice-aggregate-none-supported c = search needs
+
+slice-aggregate-none-supported-2 : tie.Need-slice-aggregate-none-supported-2
+slice-aggregate-none-supported-2 c = search needs
+
+array-share-prefix-rows : tie.Need-array-share-prefix-rows
+array-share-prefix-rows c = search needs
+
+slice-aggregate-none-supported-3 : tie.Need-slice-aggregate-none-supported-3
+slice-aggregate-none-supported-3 c = sym (length-take-le _ _ (omega (arith, rows-room (c .before .before .before .before .before .before .before .before .before .before .before .before .before .before), c .before .before .before .before .prepare-rows .kept .1 .1 .1 .1 .0)))
+
+sub-none-supported : tie.Need-sub-none-supported
+sub-none-supported c = search needs
+
+part-none-supported-start : tie.Need-part-none-supported-start
+part-none-supported-start c = search needs
+
+part-none-supported-end : tie.Need-part-none-supported-end
+part-none-supported-end c = search needs
+
+array-share-prefix-sets : tie.Need-array-share-prefix-sets
+array-share-prefix-sets c = search needs
+
+slice-aggregate-none-supported-4 : tie.Need-slice-aggregate-none-supported-4
+slice-aggregate-none-supported-4 c = sym (length-take-le _ _ (omega (arith, c .before .before .before .before .before .before .before .before .before .before .before .before .before .before .before .before .pre .0 .limits .variables, c .before .before .before .before .before .before .before .before .before .prepare-sets .kept .1 .1 .1 .1 .0)))
+
+none-supported-requires : tie.Need-none-supported-requires
+none-supported-requires c κs = search needs
+
+is-unsupported-requires : tie.Need-is-unsupported-requires
+is-unsupported-requires c κs = search needs
+
+returns : tie.Need-returns
+returns c =
+    let s = c .before .before .before .before .before .before .before .before .before .before .before .before .before .before .before .before .before .before in
+    let a = s .args in
+    c .is-unsupported .ensures
+    ∙ ap isUnsupported (c .before .none-supported .ensures)
+    ∙ prepared-answer (a .case) (now (a .table)) (now (a .best)) (now (a .raised)) _ _ _ _ (rows-room s) (c .before .before .before .before .before .before .before .before .prepare-rows .ensures) (s .pre .0 .limits .variables) (c .before .before .before .before .before .before .before .before .before .before .before .prepare-sets .ensures) (a .variable) (a .values)
+
+pub are-unsupported-spec : {M : Type 1} → statement M
+are-unsupported-spec =
+    tie.close
+    (tie.spec
+    add-s
+    mul-long
+    slice-aggregate-prepare-sets
+    prepare-sets-requires
+    slice-aggregate-prepare-rows
+    prepare-rows-requires
+    slice-aggregate-none-supported
+    slice-aggregate-none-supported-2
+    array-share-prefix-rows
+    slice-aggregate-none-supported-3
+    sub-none-supported
+    part-none-supported-start
+    part-none-supported-end
+    array-share-prefix-sets
+    slice-aggregate-none-supported-4
+    none-supported-requires
+    is-unsupported-requires
+    returns)

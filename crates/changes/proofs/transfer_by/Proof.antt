@@ -1,0 +1,79 @@
+use mathlib.Core.Path.{sym, _∙_}
+use lib.IntN.{negℤ}
+use mir.Facts.{toZ-ofZ}
+use borrow.Author.Tests.{not-true, not-false}
+use native.Mathlib.Omega.{arith}
+use borrow.Author.Needs.{needs}
+use Rattle.integers.specs.Tests.{true-is}
+use Rattle.changes.proofs.SpacedLaws.{back-within, back-fits, back-is, inside-kept, stay-kept}
+use Rattle.changes.proofs.transfer_by.Statement.{statement}
+use Rattle.changes.proofs.transfer_by.Tie as tie
+
+sub-back : tie.Need-sub-back
+sub-back c = let s = c in rw (toZ-ofZ (s .fits .amount)) (back-fits (s .args .amount) (s .pre .1 .1 .0 .0))
+
+spaced-stay-requires : tie.Need-spaced-stay-requires
+spaced-stay-requires c κs = search needs
+
+same-length : tie.Need-same-length
+same-length c = search needs
+
+returns : tie.Need-returns
+returns c = let s = c .before .before .before in
+    let e = rw (toZ-ofZ (s .fits .amount)) at (sym (c .before .spaced-stay .ensures) ∙ not-true _ (c .if1 .taken)) in
+    (rw e, rw e)
+
+spaced-stay-requires-2 : tie.Need-spaced-stay-requires-2
+spaced-stay-requires-2 c κs = let s = c .before .before .before .before in
+    (s .pre .1 .0, rw (back-is (s .args .amount) (s .fits .amount) (s .pre .1 .1 .0 .0)) (back-within (s .args .amount) (s .pre .1 .1 .0 .0)))
+
+same-length-2 : tie.Need-same-length-2
+same-length-2 c = search needs
+
+returns-2 : tie.Need-returns-2
+returns-2 c = let s = c .before .before .before .before .before .before in
+    let d = rw (toZ-ofZ (s .fits .amount)) at (sym (c .before .before .before .before .spaced-stay .ensures) ∙ not-false _ (c .before .before .before .if1 .left)) in
+    let e = rw (back-is (s .args .amount) (s .fits .amount) (s .pre .1 .1 .0 .0)) at (sym (c .before .spaced-stay2 .ensures) ∙ not-true _ (c .if2 .taken)) in
+    (rw (d, e), rw (d, e))
+
+spaced-add-requires : tie.Need-spaced-add-requires
+spaced-add-requires c κs = let s = c .before .before .before .before .before .before .before in
+    let d = sym (c .before .before .before .before .before .spaced-stay .ensures) ∙ not-false _ (c .before .before .before .before .if1 .left) in
+    (s .pre .0, (true-is _ d, omega arith))
+
+spaced-add-requires-2 : tie.Need-spaced-add-requires-2
+spaced-add-requires-2 c κs = let s = c .before .before .before .before .before .before .before .before .before .before in
+    let a = s .args in
+    let e = sym (c .before .before .before .before .before .spaced-stay2 .ensures) ∙ not-false _ (c .before .before .before .before .if2 .left) in (
+      rw (c .before .before .spaced-add .ensures, toZ-ofZ (s .fits .amount)) (inside-kept (a .table .now) (a .own) (a .start) (a .step) (a .count) (a .amount) (s .pre .1 .1 .1) (s .pre .1 .0)),
+      (
+        rw (c .before .before .spaced-add .ensures, back-is (a .amount) (s .fits .amount) (s .pre .1 .1 .0 .0), toZ-ofZ (s .fits .amount))
+            (true-is _ (stay-kept (a .table .now) (a .own) (a .start) (a .step) (a .count) (a .amount) (s .pre .1 .1 .1) (negℤ (a .amount)) ∙ rw (back-is (a .amount) (s .fits .amount) (s .pre .1 .1 .0 .0)) at e)),
+        s .pre .1 .1 .0 .1,
+      ),
+    )
+
+same-length-3 : tie.Need-same-length-3
+same-length-3 c = search needs
+
+returns-3 : tie.Need-returns-3
+returns-3 c = let s = c .before .before .before .before .before .before .before .before .before .before .before .before in
+    let d = rw (toZ-ofZ (s .fits .amount)) at (sym (c .before .before .before .before .before .before .before .before .before .before .spaced-stay .ensures) ∙ not-false _ (c .before .before .before .before .before .before .before .before .before .if1 .left)) in
+    let e = rw (back-is (s .args .amount) (s .fits .amount) (s .pre .1 .1 .0 .0)) at (sym (c .before .before .before .before .before .before .before .spaced-stay2 .ensures) ∙ not-false _ (c .before .before .before .before .before .before .if2 .left)) in
+    (rw (d, e), rw (d, e, c .before .spaced-add2 .ensures, c .before .before .before .before .spaced-add .ensures, back-is (s .args .amount) (s .fits .amount) (s .pre .1 .1 .0 .0), toZ-ofZ (s .fits .amount)))
+
+pub transfer-by-spec : {M : Type 1} → statement M
+transfer-by-spec =
+    tie.close
+    (tie.spec
+    sub-back
+    spaced-stay-requires
+    same-length
+    returns
+    spaced-stay-requires-2
+    same-length-2
+    returns-2
+    spaced-add-requires
+    spaced-add-requires-2
+    same-length-3
+    returns-3)

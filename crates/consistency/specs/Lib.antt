@@ -1,0 +1,2 @@
+-- What the inner functions answer.
+pub mod Arguments

@@ -1,0 +1,99 @@
+use mathlib.Core.Path.{_≡_, sym, ap, _∙_}
+use Prim.Native.Nat.{_≤_}
+use native.Mathlib.Omega.{arith}
+use lib.IntN.{pos}
+use lib.ListN.{length, replicate}
+use mir.Facts.{toZ-ofZ}
+use borrow.Author.Needs.{needs}
+use borrow.Author.Tests.{not-true, not-false}
+use Rattle.definitions.specs.Case.{scopeCount}
+use Rattle.definitions.specs.Moves.{activeRefuted}
+use Rattle.moves.specs.Marks.{saysYes}
+use Rattle.moves.proofs.MarkLaws.{inside-more, zeros}
+use Rattle.moves.proofs.PressLaws.{press-refuted, press-raised-is}
+use Rattle.moves.proofs.press_raised.Statement.{statement}
+use Rattle.moves.proofs.press_raised.Tie as tie
+
+few : (s : tie.Start) → scopeCount (s .args .case) ≤ 144
+few s = omega (arith, s .pre .0 .variables-most, s .pre .0 .edges-most)
+
+ends : (s : tie.Start) → (length (s .args .case .lower) ≡ 96) × (length (s .args .case .upper) ≡ 96)
+ends s = (search needs, search needs)
+
+slice-aggregate-mark-scopes : tie.Need-slice-aggregate-mark-scopes
+slice-aggregate-mark-scopes c = search needs
+
+mark-scopes-requires : tie.Need-mark-scopes-requires
+mark-scopes-requires c κs = let s = c .before .before in inside-more (s .args .raised .now) (scopeCount (s .args .case)) 144 (few s) (s .pre .1 .0 .1)
+
+slice-aggregate-greatest-weights : tie.Need-slice-aggregate-greatest-weights
+slice-aggregate-greatest-weights c = search needs
+
+greatest-weights-requires : tie.Need-greatest-weights-requires
+greatest-weights-requires c κs = search needs
+
+slice-aggregate-best-unsupported : tie.Need-slice-aggregate-best-unsupported
+slice-aggregate-best-unsupported c = search needs
+
+slice-aggregate-best-unsupported-2 : tie.Need-slice-aggregate-best-unsupported-2
+slice-aggregate-best-unsupported-2 c = search needs
+
+best-unsupported-requires : tie.Need-best-unsupported-requires
+best-unsupported-requires c κs = search needs
+
+is-yes-requires : tie.Need-is-yes-requires
+is-yes-requires c κs = search needs
+
+same-length : tie.Need-same-length
+same-length c = search needs
+
+-- what number 10 asks
+told : (c : tie.After-is-yes) → let a = c .before .before .before .before .before .before .before .before .before .before .before .before .before .args in c .is-yes .result ≡ activeRefuted (a .case) (a .table .now) (a .variable) (a .raised .now)
+told c =
+    let s = c .before .before .before .before .before .before .before .before .before .before .before .before .before in
+    let a = s .args in
+    c .is-yes .ensures ∙ ap saysYes (c .before .best-unsupported .ensures)
+    ∙ press-refuted (s .pre .0) (a .variable) (a .raised .now) (a .amount) (s .pre .1 .0 .0) (s .pre .1 .0 .1) (s .pre .1 .1) (replicate 144 0) (λ y. zeros 144 y) (few s) (replicate 144 (pos 0)) (few s) (c .before .before .before .before .before .before .before .before .before .before .mark-scopes .ensures) (c .before .before .before .before .before .before .greatest-weights .ensures .1)
+    (omega (arith, ends s .0, s .pre .0 .edges-most)) (omega (arith, ends s .1, s .pre .0 .edges-most))
+
+returns : tie.Need-returns
+returns c = let e = sym (told (c .before)) ∙ not-true _ (c .if1 .taken) in (rw e, rw e)
+
+slice-aggregate-lower-and-raise : tie.Need-slice-aggregate-lower-and-raise
+slice-aggregate-lower-and-raise c = search needs
+
+slice-aggregate-lower-and-raise-2 : tie.Need-slice-aggregate-lower-and-raise-2
+slice-aggregate-lower-and-raise-2 c = search needs
+
+lower-and-raise-requires : tie.Need-lower-and-raise-requires
+lower-and-raise-requires c κs = search needs
+
+same-length-2 : tie.Need-same-length-2
+same-length-2 c = search needs
+
+returns-2 : tie.Need-returns-2
+returns-2 c = let q = c .before .before .before .before .before .before in
+    let s = q .before .before .before .before .before .before .before .before .before .before .before .before .before .before in
+    let a = s .args in
+    let p = rw (toZ-ofZ (s .fits .amount)) at (c .before .before .lower-and-raise .ensures) in
+    press-raised-is (s .pre .0) (a .variable) (a .raised .now) (a .amount) (s .pre .1 .0 .0) (s .pre .1 .0 .1) (s .pre .1 .1) (replicate 144 0) (λ y. zeros 144 y) (few s) (replicate 144 (pos 0)) (few s) (q .before .before .before .before .before .before .before .before .before .before .before .mark-scopes .ensures) (q .before .before .before .before .before .before .before .greatest-weights .ensures .1) (sym (told (q .before)) ∙ not-false _ (q .if1 .left)) (p .0) (p .1)
+
+pub press-raised-spec : {M : Type 1} → statement M
+press-raised-spec =
+    tie.close
+    (tie.spec
+    slice-aggregate-mark-scopes
+    mark-scopes-requires
+    slice-aggregate-greatest-weights
+    greatest-weights-requires
+    slice-aggregate-best-unsupported
+    slice-aggregate-best-unsupported-2
+    best-unsupported-requires
+    is-yes-requires
+    same-length
+    returns
+    slice-aggregate-lower-and-raise
+    slice-aggregate-lower-and-raise-2
+    lower-and-raise-requires
+    same-length-2
+    returns-2)
