@@ -351,13 +351,13 @@ fn none_alone(
     requires { ⌜ Filled (now sets) × (variable < length (now sets)) × (length (now work) ≡ length (now sets)) × Seen (now rows) seen ⌝ }
     ensures { λ r. ⌜ r ≡ noneHas (hasFamily (networkOfBytes (length (now (sets .entry))) (now (lower .entry)) (now (upper .entry)) (now (rows .entry)) (now (raised .entry))) (now (sets .entry)) variable) values ⌝ }
 {
-    let mut left = marks::common(values, sets[variable]);
-    while left != 0 {
-        let k = marks::lowest(left);
+    let mut untried = marks::common(values, sets[variable]);
+    while untried != 0 {
+        let k = marks::lowest(untried);
         if has_family(lower, upper, rows, raised, sets, variable, k, seen, work) {
             return false;
         }
-        left = marks::strike(left, k);
+        untried = marks::strike(untried, k);
     }
     true
 }

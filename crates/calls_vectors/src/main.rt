@@ -1,19 +1,20 @@
-// Calls of figures, tables, arcs and changes, told by standard input: lines in columns (document 01) with kind, a, b, c and amount.
+// Calls of figures, consistency, moves, tables, arcs and changes, told by standard input: lines in columns (document 01) with kind, a, b, c and
+// amount.
 // A line not in columns is a title and is printed.
 //
 //  1  the case: n is a, D is b, m is c
 //  2  pair a joins links b and c
-//  3  c lower and c upper ends of pairs are lent (closure, all_refuted)
+//  3  c lower and c upper ends of pairs are lent (closure, none_supported)
 //  4 to 8  from place a on, b places hold the amount, and c places are lent. 4: weights; 5: a number for each scope;
 //          6: a plan, marks of raised scopes, or a list of at most four; 7: sets and 8: rows, as closure takes them
 //
 // 10  check_starting a b     20  refuted a b             30  shift a b c amount
-// 11  check_working a b      21  active_refuted a        31  press a amount
-// 12  check_edges a          22  lowest_partner a b      32  shift_with a b c amount
-// 13  upper_bound            23  closure                 33  press_with a amount
-// 14  sum_of_greatest        24  all_refuted a b
+// 11  check_working a b      21  best_unsupported a      31  press a amount
+// 12  check_edges a          22  lowest_partner a b      32  transfer a b c amount
+// 13  upper_bound            23  closure                 33  lower_and_raise a amount
+// 14  sum_of_greatest        24  none_supported a b
 // 15  is_active a b c        25  active_marks
-// 16  objective
+// 16  objective              26  values_unsupported a b
 // 17  greatest
 // 18  greatest_weights
 // 19  sum_of_best
@@ -79,16 +80,19 @@ fn print_slot(names: &[u8], from: usize) -> bool {
     print_kept(&names[from..to])
 }
 
-// Prints the name of a call, by its kind; false where there is no such call. Each name has 16 bytes.
+// Prints the name of a call, by its kind; false where there is no such call. Each name but the longest has 16 bytes.
 fn print_name(kind: usize) -> bool {
     if kind < 10 {
         return false;
+    }
+    if kind == 26 {
+        return print_kept(b"values_unsupported");
     }
     if 33 < kind {
         return false;
     }
     print_slot(
-        b"check_starting  check_working   check_edges     upper_bound     sum_of_greatest is_active       objective       greatest        greatest_weightssum_of_best     refuted         active_refuted  lowest_partner  closure         all_refuted     active_marks                                                                    shift           press           shift_with      press_with      ",
+        b"check_starting  check_working   check_edges     upper_bound     sum_of_greatest is_active       objective       greatest        greatest_weightssum_of_best     refuted         best_unsupportedlowest_partner  closure         none_supported  active_marks                                                                    shift           press           transfer        lower_and_raise ",
         (kind - 10) * 16,
     )
 }
@@ -176,7 +180,7 @@ fn closed(answer: Closed) {
 
 fn tried(answer: Tried) {
     match answer {
-        Tried::Refuted => print(b" refuted\n"),
+        Tried::Unsupported => print(b" unsupported\n"),
         Tried::Supported => print(b" supported\n"),
         Tried::Malformed => print(b" malformed\n"),
     }
@@ -363,11 +367,16 @@ fn greatest(t: &[i64]) {
 }
 
 fn refuted(call: Call, case: Case, t: &[i64], raised: &[u8]) {
-    verdict(arcs::refuted(case, t, raised, call.a, call.b));
+    verdict(consistency::refuted(case, t, raised, call.a, call.b));
 }
 
-fn active_refuted(call: Call, case: Case, t: &[i64], best: &[i64], raised: &[u8]) {
-    verdict(arcs::active_refuted(case, t, best, raised, call.a));
+fn best_unsupported(call: Call, case: Case, t: &[i64], best: &[i64], raised: &[u8]) {
+    verdict(arcs::best_unsupported(case, t, best, raised, call.a));
+}
+
+fn values_unsupported(call: Call, case: Case, t: &[i64], best: &[i64], raised: &[u8]) {
+    let values = drivers::byte(call.b);
+    verdict(arcs::values_unsupported(case, t, best, raised, call.a, values));
 }
 
 fn lowest_partner(call: Call) {
@@ -387,8 +396,9 @@ fn question(call: Call, case: Case, t: &[i64], best: &[i64], bytes: &[u8]) {
         17 => greatest(t),
         19 => sum_of_best(case, best),
         20 => refuted(call, case, t, bytes),
-        21 => active_refuted(call, case, t, best, bytes),
+        21 => best_unsupported(call, case, t, best, bytes),
         22 => lowest_partner(call),
+        26 => values_unsupported(call, case, t, best, bytes),
         _ => {}
     }
 }
@@ -401,7 +411,7 @@ fn greatest_weights(case: Case, t: &[i64], best: &mut [i64]) {
 }
 
 fn shift(call: Call, case: Case, t: &mut [i64]) {
-    outcome(changes::shift(case, t, call.a, call.b, call.c, call.amount));
+    outcome(moves::shift(case, t, call.a, call.b, call.c, call.amount));
     print_table(t);
 }
 
@@ -414,7 +424,7 @@ fn scope_at(list: &[u8], i: usize) -> u16 {
 }
 
 fn press_list(call: Call, case: Case, t: &mut [i64], list: &[u16]) {
-    outcome(changes::press(case, t, call.a, list, call.amount));
+    outcome(moves::press(case, t, call.a, list, call.amount));
     print_table(t);
 }
 
@@ -434,13 +444,13 @@ fn print_both(t: &[i64], best: &[i64]) {
     print_best(best);
 }
 
-fn shift_with(call: Call, case: Case, t: &mut [i64], best: &mut [i64]) {
-    outcome(changes::shift_with(case, t, best, call.a, call.b, call.c, call.amount));
+fn transfer(call: Call, case: Case, t: &mut [i64], best: &mut [i64]) {
+    outcome(changes::transfer(case, t, best, call.a, call.b, call.c, call.amount));
     print_both(t, best);
 }
 
-fn press_with(call: Call, case: Case, t: &mut [i64], best: &mut [i64], raised: &[u8]) {
-    outcome(changes::press_with(case, t, best, raised, call.a, call.amount));
+fn lower_and_raise(call: Call, case: Case, t: &mut [i64], best: &mut [i64], raised: &[u8]) {
+    outcome(changes::lower_and_raise(case, t, best, raised, call.a, call.amount));
     print_both(t, best);
 }
 
@@ -450,8 +460,8 @@ fn weighed(call: Call, case: Case, t: &mut [i64], best: &mut [i64], bytes: &[u8]
         18 => greatest_weights(case, t, best),
         30 => shift(call, case, t),
         31 => press(call, case, t, bytes),
-        32 => shift_with(call, case, t, best),
-        33 => press_with(call, case, t, best, bytes),
+        32 => transfer(call, case, t, best),
+        33 => lower_and_raise(call, case, t, best, bytes),
         _ => question(call, case, t, best, bytes),
     }
 }
@@ -463,16 +473,16 @@ fn closure(lower: &[u8], upper: &[u8], rows: &[u8], raised: &[u8], sets: &mut [u
     print_sets(sets);
 }
 
-fn all_refuted(call: Call, lower: &[u8], upper: &[u8], rows: &[u8], raised: &[u8], sets: &[u8]) {
+fn none_supported(call: Call, lower: &[u8], upper: &[u8], rows: &[u8], raised: &[u8], sets: &[u8]) {
     let marks = drivers::byte(call.b);
-    tried(arcs::all_refuted(lower, upper, rows, raised, sets, call.a, marks));
+    tried(arcs::none_supported(lower, upper, rows, raised, sets, call.a, marks));
 }
 
 fn network(call: Call, lower: &[u8], upper: &[u8], raised: &[u8], sets: &mut [u8], rows: &[u8]) {
     if call.kind == 23 {
         closure(lower, upper, rows, raised, sets);
     } else {
-        all_refuted(call, lower, upper, rows, raised, sets);
+        none_supported(call, lower, upper, rows, raised, sets);
     }
 }
 

@@ -349,19 +349,19 @@ fn lower_scope(
     table: &mut [i64],
     best: &mut [i64],
     x: usize,
+    held: i64,
     mark: u8,
     variable: usize,
     amount: i64,
 )
     requires { ⌜ InScope standard case (now table) x × (x < length (now best)) ⌝ }
-    requires { ⌜ T (scopeLets standard case (now table) x (bestAt (now best) x) mark variable amount) ⌝ }
+    requires { ⌜ T (scopeLets standard case (now table) x held mark variable amount) ⌝ }
     requires { ⌜ T (pressAmount standard amount) ⌝ }
-    ensures { λ _. ⌜ now (table .exit) ≡ plus case (scopeBy case (now (table .entry)) x (bestAt (now (best .entry)) x) (topOf variable amount x) (restOf mark amount)) (now (table .entry)) ⌝ }
+    ensures { λ _. ⌜ now (table .exit) ≡ plus case (scopeBy case (now (table .entry)) x held (topOf variable amount x) (restOf mark amount)) (now (table .entry)) ⌝ }
     ensures { λ _. ⌜ now (best .exit) ≡ set (now (best .entry)) x (if isTouched variable x mark then greatest case (now (table .exit)) x else bestAt (now (best .entry)) x) ⌝ }
 {
     if is_touched(x, variable, mark) {
         let top = top_of(x, variable, amount);
-        let held = best[x];
         change_scope(case, table, x, held, top, rest_of(mark, amount));
         keep_greatest(case, table, best, x);
     }
@@ -385,7 +385,8 @@ fn lower_scopes(
     let scopes = case.n + case.m;
     let mut x: usize = 0;
     while x < scopes {
-        lower_scope(case, table, best, x, raised[x], variable, amount);
+        let held = best[x];
+        lower_scope(case, table, best, x, held, raised[x], variable, amount);
         x += 1;
     }
 }

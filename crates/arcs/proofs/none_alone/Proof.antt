@@ -10,10 +10,10 @@ use Rattle.arcs.proofs.none_alone.Statement.{statement}
 use Rattle.arcs.proofs.none_alone.Tie as tie
 
 abbrev Inv-loop : tie.InvT-loop
-Inv-loop lower upper rows raised sets variable values seen work₀ left₀ work left = Trying (hasFamily (networkOfBytes (length sets) lower upper rows raised) sets variable) (getD sets variable 0) values left × (length work ≡ length sets)
+Inv-loop lower upper rows raised sets variable values seen work₀ untried₀ work untried = Trying (hasFamily (networkOfBytes (length sets) lower upper rows raised) sets variable) (getD sets variable 0) values untried × (length work ≡ length sets)
 
 abbrev μ-loop : tie.MeasureT-loop
-μ-loop lower upper rows raised sets variable values seen work₀ left₀ work left = left
+μ-loop lower upper rows raised sets variable values seen work₀ untried₀ work untried = untried
 
 shared-slice-read-common : tie.Need-shared-slice-read-common Inv-loop μ-loop
 shared-slice-read-common c = c .before .before .before .before .before .before .before .pre .1 .1

@@ -4,7 +4,9 @@ use native.Mathlib.Omega.{arith}
 use mir.Syntax.{w64}
 use mir.Val.{toZ, ofZ}
 use mir.Facts.{toZ-ofZ}
+use Rattle.integers.specs.Linear.{read-back}
 use Rattle.definitions.specs.Case.{scopeCount}
+use Rattle.tables.specs.Scopes.{bestAt}
 use Rattle.changes.proofs.LoweringLaws.{Lowered, lowered-none, lowered-all, lowered-long, lowered-lets, lowered-next}
 use Rattle.changes.proofs.lower_scopes.Statement.{statement}
 use Rattle.changes.proofs.lower_scopes.Tie as tie
@@ -21,16 +23,25 @@ add-scopes c = omega arith
 loop-holds : tie.Need-loop-holds Inv-loop μ-loop
 loop-holds c = let z = c .before .before in (omega arith, lowered-none (z .args .case) (z .args .table .now) (z .args .best .now) (z .args .raised .now) (z .args .variable) (toZ w64 (ofZ w64 (z .args .amount))) (z .pre .1 .1 .0 .0) (z .pre .0 .1) (z .pre .1 .0 .0))
 
+mul-held : tie.Need-mul-held Inv-loop μ-loop
+mul-held c = omega (arith, c .before .loop .inv .1 .same-long)
+
+slice-copy-out-held : tie.Need-slice-copy-out-held Inv-loop μ-loop
+slice-copy-out-held c = omega (arith, c .before .loop .inv .1 .same-long)
+
 shared-slice-read-lower-scope : tie.Need-shared-slice-read-lower-scope Inv-loop μ-loop
 shared-slice-read-lower-scope c = omega arith
 
+held-is : (c : tie.After-held Inv-loop μ-loop) → let l = c .before .before .loop in toZ w64 (ofZ w64 (bestAt (l .best) (l .x))) ≡ bestAt (l .best) (l .x)
+held-is c = let l = c .before .before .loop in read-back w64 (bestAt (l .best) (l .x)) (c .held .given)
+
 lower-scope-requires : tie.Need-lower-scope-requires Inv-loop μ-loop
-lower-scope-requires c κs = let s = c .before .before .before .before in
-    let z = c .before .before .before .before .before .before .before in
+lower-scope-requires c κs = let s = c .before .before .before .before .before in
+    let z = c .before .before .before .before .before .before .before .before in
     let p = s .loop .inv .1 in
     let h : s .loop .x < scopeCount (z .args .case) = omega arith in (
       (record { limited = z .pre .0 .0; long = lowered-long (z .args .case) (z .args .table .now) (z .args .best .now) (z .args .raised .now) (z .args .variable) (toZ w64 (ofZ w64 (z .args .amount))) (z .pre .1 .1 .0 .0) (z .pre .0 .1) (z .pre .1 .0 .0) p; scope = h }, omega (arith, p .same-long, z .pre .1 .0 .0)),
-      (lowered-lets (z .args .case) (z .args .table .now) (z .args .best .now) (z .args .raised .now) (z .args .variable) (toZ w64 (ofZ w64 (z .args .amount))) (z .pre .1 .1 .0 .0) (z .pre .0 .1) (z .pre .1 .0 .0) p h (rw (toZ-ofZ (z .fits .amount)) (z .pre .1 .1 .1)), rw (toZ-ofZ (z .fits .amount)) (z .pre .1 .1 .0 .1)),
+      (rw (held-is (c .before .before .before)) (lowered-lets (z .args .case) (z .args .table .now) (z .args .best .now) (z .args .raised .now) (z .args .variable) (toZ w64 (ofZ w64 (z .args .amount))) (z .pre .1 .1 .0 .0) (z .pre .0 .1) (z .pre .1 .0 .0) p h (rw (toZ-ofZ (z .fits .amount)) (z .pre .1 .1 .1))), rw (toZ-ofZ (z .fits .amount)) (z .pre .1 .1 .0 .1)),
     )
 
 add-x : tie.Need-add-x Inv-loop μ-loop
@@ -40,9 +51,10 @@ loop-less : tie.Need-loop-less Inv-loop μ-loop
 loop-less c = omega arith
 
 loop-again : tie.Need-loop-again Inv-loop μ-loop
-loop-again c = let s = c .before .before .before .before .before .before .before in
-    let z = c .before .before .before .before .before .before .before .before .before .before in
-    (omega arith, lowered-next (z .args .case) (z .args .table .now) (z .args .best .now) (z .args .raised .now) (z .args .variable) (toZ w64 (ofZ w64 (z .args .amount))) (z .pre .1 .1 .0 .0) (z .pre .0 .1) (z .pre .1 .0 .0) (s .loop .inv .1) (omega arith) (c .before .before .lower-scope .ensures .0) (c .before .before .lower-scope .ensures .1))
+loop-again c = let s = c .before .before .before .before .before .before .before .before in
+    let z = c .before .before .before .before .before .before .before .before .before .before .before in
+    let e = rw (held-is (c .before .before .before .before .before .before)) at (c .before .before .lower-scope .ensures .0) in
+    (omega (arith, c .before .before .before .before .before .before .before .loop-test .taken), lowered-next (z .args .case) (z .args .table .now) (z .args .best .now) (z .args .raised .now) (z .args .variable) (toZ w64 (ofZ w64 (z .args .amount))) (z .pre .1 .1 .0 .0) (z .pre .0 .1) (z .pre .1 .0 .0) (s .loop .inv .1) (omega (arith, c .before .before .before .before .before .before .before .loop-test .taken)) e (c .before .before .lower-scope .ensures .1))
 
 same-length : tie.Need-same-length Inv-loop μ-loop
 same-length c = let z = c .before .before .before .before in lowered-long (z .args .case) (z .args .table .now) (z .args .best .now) (z .args .raised .now) (z .args .variable) (toZ w64 (ofZ w64 (z .args .amount))) (z .pre .1 .1 .0 .0) (z .pre .0 .1) (z .pre .1 .0 .0) (c .before .loop .inv .1) ∙ sym (z .pre .0 .1)
@@ -64,6 +76,8 @@ lower-scopes-spec =
     μ-loop
     add-scopes
     loop-holds
+    mul-held
+    slice-copy-out-held
     shared-slice-read-lower-scope
     lower-scope-requires
     add-x
