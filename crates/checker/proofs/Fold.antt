@@ -1,4 +1,5 @@
--- A block by its first line: where that is done the block of the other lines follows, where it is refused nothing does. Assumes nothing.
+-- A block of no line, and a block by its first line: where that is done the fold over the other lines follows, where it is refused nothing
+-- does. Assumes nothing.
 use mathlib.Core.Path.{_≡_, refl, sym, ap, subst, _∙_}
 use mathlib.Core.Bool.{not}
 use mathlib.Core.Option.{Option, none, some}
@@ -6,6 +7,7 @@ use mathlib.Core.List.{List, [], _∷_}
 use Prim.Native.Nat.{ℕ, suc, _+_, _≤_, _<_}
 use native.Mathlib.Numerals.{add-one}
 use native.Mathlib.Omega.{arith}
+use borrow.Author.Tests.{ne-eqb}
 use lib.IntN.{ℤ}
 use lib.Dec.{T}
 use lib.ListN.{length, take, drop, length-drop}
@@ -15,14 +17,16 @@ use Rattle.definitions.specs.declared.Outcome.{Outcome}
 use Rattle.definitions.specs.declared.Refusal.{Refusal}
 use Rattle.definitions.specs.Rules.{standard}
 use Rattle.definitions.specs.Refusals.{firstOf}
+use Rattle.definitions.specs.Answers.{outcomeOf}
 use Rattle.definitions.specs.Valid.{workingWeight}
 use Rattle.definitions.specs.Lines.{readLine, linesIn, wholeLines}
 use Rattle.theory.proofs.Validity.{Handed}
+use Rattle.tables.proofs.Order.{outcome-done, outcome-refused}
 use Rattle.checker.specs.declared.Standing.{Standing}
 use Rattle.checker.specs.declared.Replay.{Replay}
 use Rattle.checker.specs.declared.Stepped.{Stepped}
 use Rattle.checker.specs.declared.Taken.{Taken}
-use Rattle.checker.specs.Checker.{Between, StepCall, BlockCall, Asked, refusedReplay, recordOut, ofKind, stepBy, stepTests, stepLine, stepStanding, stepReplay, stepBetween, takenLines, firstRefused, afterLines, lineAnswers, blockReplay}
+use Rattle.checker.specs.Checker.{Between, StepCall, BlockCall, Asked, refusedReplay, recordOut, ofKind, stepBy, stepTests, stepLine, stepStanding, stepReplay, stepBetween, takenLines, firstRefused, afterLines, lineAnswers, noLine, lentStanding, foldReplay, blockReplay}
 use Rattle.checker.specs.Taken.{standingAfter, replayOf, goodReplay, stepOf, moreBy}
 use Rattle.checker.proofs.Leaves.{Left, step-leaves}
 
@@ -62,15 +66,39 @@ all-stay : (b : Between) {x : Refusal} → b .replay .standing ≡ Standing.Refu
 all-stay b e [] = refl
 all-stay b e (t ∷ ts) = ap (λ (d : Between). afterLines standard d ts) (stays b e t) ∙ all-stay b e ts
 
-module _ (c : Case) (w : List ℤ) (p : Replay) (t : List ℕ) where
-  pub block-none : length t < 27 → blockReplay standard c w p t ≡ record { block = record { replay = p; lines = 0; answer = Outcome.Done }; table = w }
+-- ---- no line
+
+module _ (c : Case) (w : List ℤ) (p : Replay) where
+  abbrev asked : Option Refusal
+  asked = lentStanding standard c w p (p .standing)
+
+  pub lent-done : Outcome.Done ≡ outcomeOf asked → record { replay = p; lines = 0; answer = Outcome.Done } ≡ noLine w p asked .block
+  lent-done e = ap (λ (o : Option Refusal). noLine w p o .block) (sym (outcome-done {o = asked} e))
+
+  pub lent-refused : {x : Refusal} → Outcome.Refused x ≡ outcomeOf asked → record { replay = refusedReplay p x; lines = 0; answer = Outcome.Refused x } ≡ noLine w p asked .block
+  lent-refused e = ap (λ (o : Option Refusal). noLine w p o .block) (sym (outcome-refused {o = asked} e))
+
+  pub block-none : (t : List ℕ) → length t < 27 → (blockReplay standard c w p t .block ≡ noLine w p asked .block) × (blockReplay standard c w p t .table ≡ w)
   unfolding blockReplay
-  block-none h = rw (no-line t h)
+  block-none t h = let e : wholeLines 12 t ≡ 0 = omega arith in rw e (refl, table asked)
+    where
+      table : (o : Option Refusal) → noLine w p o .table ≡ w
+      table none = refl
+      table (some x) = refl
 
-  pub no-more : (n : ℕ) → length t < 27 → moreBy n (blockReplay standard c w p t) ≡ record { block = record { replay = p; lines = n; answer = Outcome.Done }; table = w }
-  no-more n h = ap (moreBy n) (block-none h) ∙ ended n p Outcome.Done w
+module _ (c : Case) (w : List ℤ) (p : Replay) (t : List ℕ) where
+  fold-none : length t < 27 → foldReplay standard c w p t ≡ record { block = record { replay = p; lines = 0; answer = Outcome.Done }; table = w }
+  unfolding foldReplay
+  fold-none h = rw (no-line t h)
 
-  -- the block by the step of its first line
+  block-some : 27 ≤ length t → blockReplay standard c w p t ≡ foldReplay standard c w p t
+  unfolding blockReplay
+  block-some h = rw (ne-eqb (wholeLines 12 t) 0 (λ e. omega arith))
+
+  pub no-more : (n : ℕ) → length t < 27 → moreBy n (foldReplay standard c w p t) ≡ record { block = record { replay = p; lines = n; answer = Outcome.Done }; table = w }
+  no-more n h = ap (moreBy n) (fold-none h) ∙ ended n p Outcome.Done w
+
+  -- the fold by the step of the first line
   abbrev stepped : StepCall → BlockCall
   stepped call =
       let b : Between = record { case = c; table = call .table; replay = call .stepped .replay } in
@@ -82,8 +110,8 @@ module _ (c : Case) (w : List ℤ) (p : Replay) (t : List ℕ) where
       }
 
   module _ (h : 27 ≤ length t) (call : StepCall) (s : stepReplay standard c w p (take 27 t) ≡ call) where
-    first-step : blockReplay standard c w p t ≡ stepped call
-    unfolding blockReplay
+    first-step : foldReplay standard c w p t ≡ stepped call
+    unfolding foldReplay
     first-step =
         ap (λ (ts : List (List ℕ)).
         let b : Between = record { case = c; table = w; replay = p } in
@@ -93,12 +121,12 @@ module _ (c : Case) (w : List ℤ) (p : Replay) (t : List ℕ) where
         }) (first-line t h)
         ∙ ap stepped s
 
-    pub block-done : call .stepped .answer ≡ Outcome.Done → blockReplay standard c w p t ≡ moreBy 1 (blockReplay standard c (call .table) (call .stepped .replay) (drop 27 t))
-    unfolding blockReplay
-    block-done e = first-step ∙ rw e
+    pub fold-done : call .stepped .answer ≡ Outcome.Done → foldReplay standard c w p t ≡ moreBy 1 (foldReplay standard c (call .table) (call .stepped .replay) (drop 27 t))
+    unfolding foldReplay
+    fold-done e = first-step ∙ rw e
 
-    pub block-refused : {x : Refusal} → call .stepped .answer ≡ Outcome.Refused x → call .stepped .replay .standing ≡ Standing.Refused x → blockReplay standard c w p t ≡ endsWith call
-    block-refused e f = first-step ∙ rw (e, all-stay (record { case = c; table = call .table; replay = call .stepped .replay }) f (linesIn 12 (drop 27 t)))
+    pub fold-refused : {x : Refusal} → call .stepped .answer ≡ Outcome.Refused x → call .stepped .replay .standing ≡ Standing.Refused x → foldReplay standard c w p t ≡ endsWith call
+    fold-refused e f = first-step ∙ rw (e, all-stay (record { case = c; table = call .table; replay = call .stepped .replay }) f (linesIn 12 (drop 27 t)))
 
 -- a refused line leaves a record that stands refused
 module _ (c : Case) (w : List ℤ) (p : Replay) {x : Refusal} where
@@ -122,21 +150,21 @@ module _ (c : Case) (w : List ℤ) (p : Replay) {x : Refusal} where
 
 module _ (c : Case) (w : List ℤ) (p : Replay) (t : List ℕ) (h : 27 ≤ length t) (k : Taken) (raised : List ℕ) (v : List ℤ) (s : stepOf k raised v ≡ stepReplay standard c w p (take 27 t)) where
   pub turn-done : (n : ℕ) → k .answer ≡ Outcome.Done
-      → (moreBy n (blockReplay standard c w p t) ≡ moreBy (n + 1) (blockReplay standard c v (goodReplay (k .progress) raised) (drop 27 t)))
+      → (moreBy n (foldReplay standard c w p t) ≡ moreBy (n + 1) (foldReplay standard c v (goodReplay (k .progress) raised) (drop 27 t)))
       × Handed standard (workingWeight standard) c v × T (not (recordOut standard c (goodReplay (k .progress) raised)))
   turn-done n e =
       let l = subst (Left c) (sym s) (step-leaves c w p (take 27 t) (ap (λ (x : StepCall). x .stepped .answer) (sym s) ∙ e)) in
       let g = ap standingAfter e in (
-        ap (moreBy n) (block-done c w p t h (stepOf k raised v) (sym s) e ∙ ap (λ (d : Standing). moreBy 1 (blockReplay standard c v (replayOf (k .progress) raised d) (drop 27 t))) g)
-            ∙ more-by n (blockReplay standard c v (goodReplay (k .progress) raised) (drop 27 t)),
+        ap (moreBy n) (fold-done c w p t h (stepOf k raised v) (sym s) e ∙ ap (λ (d : Standing). moreBy 1 (foldReplay standard c v (replayOf (k .progress) raised d) (drop 27 t))) g)
+            ∙ more-by n (foldReplay standard c v (goodReplay (k .progress) raised) (drop 27 t)),
         l .handed-over,
         subst (λ (d : Standing). T (not (recordOut standard c (replayOf (k .progress) raised d)))) g (l .record-in),
       )
 
   pub turn-refused : (n : ℕ) {x : Refusal} → k .answer ≡ Outcome.Refused x
-      → moreBy n (blockReplay standard c w p t) ≡ record { block = record { replay = replayOf (k .progress) raised (Standing.Refused x); lines = n; answer = Outcome.Refused x }; table = v }
+      → moreBy n (foldReplay standard c w p t) ≡ record { block = record { replay = replayOf (k .progress) raised (Standing.Refused x); lines = n; answer = Outcome.Refused x }; table = v }
   turn-refused n e =
-      ap (moreBy n) (block-refused c w p t h (stepOf k raised v) (sym s) e (ap standingAfter e))
+      ap (moreBy n) (fold-refused c w p t h (stepOf k raised v) (sym s) e (ap standingAfter e))
       ∙ ap (λ (o : Outcome). record { block = record { replay = replayOf (k .progress) raised (standingAfter o); lines = n + 0; answer = o }; table = v }) e
       ∙ ended n _ _ v
 
@@ -147,14 +175,14 @@ module _ (c : Case) (w : List ℤ) (p : Replay) (t : List ℕ) (h : 27 ≤ lengt
   call = stepReplay standard c w p (take 27 t)
 
   pub first-done : k .answer ≡ Outcome.Done
-      → (blockReplay standard c w p t ≡ moreBy 1 (blockReplay standard c v (k .replay) (drop 27 t)))
+      → (blockReplay standard c w p t ≡ moreBy 1 (foldReplay standard c v (k .replay) (drop 27 t)))
       × Handed standard (workingWeight standard) c v × T (not (recordOut standard c (k .replay))) × (k .replay .standing ≡ Standing.Good)
   first-done e =
       let d = ap (λ (x : Stepped). x .answer) (sym s) ∙ e in
       let l = step-leaves c w p (take 27 t) d in
-      rw (s, u) (block-done c w p t h call refl d, l .handed-over, l .record-in, l .good)
+      rw (s, u) (block-some c w p t h ∙ fold-done c w p t h call refl d, l .handed-over, l .record-in, l .good)
 
   pub first-refused : {x : Refusal} → k .answer ≡ Outcome.Refused x → blockReplay standard c w p t ≡ record { block = record { replay = k .replay; lines = 0; answer = k .answer }; table = v }
   first-refused e =
       let d = ap (λ (x : Stepped). x .answer) (sym s) ∙ e in
-      rw (s, u) (block-refused c w p t h call refl d (refused-stands c w p (take 27 t) d))
+      rw (s, u) (block-some c w p t h ∙ fold-refused c w p t h call refl d (refused-stands c w p (take 27 t) d))

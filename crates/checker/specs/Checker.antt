@@ -36,7 +36,7 @@ use Rattle.definitions.specs.Case.{scopeCount, upperBound}
 use Rattle.definitions.specs.Valid.{startingWeight, workingWeight, limitTest, edgeTests, handedOver}
 use Rattle.definitions.specs.Consistency.{allRefuted}
 use Rattle.definitions.specs.Moves.{plus, shiftBy, pressBy, shiftAmount, pressAmount, activeValues, leavesRange}
-use Rattle.definitions.specs.Lines.{readLine, notDue, isKind, outside, linesIn}
+use Rattle.definitions.specs.Lines.{readLine, notDue, isKind, outside, wholeLines, linesIn}
 
 -- what stands between lines: the case, the lent table, the record
 pub record Between : Type 0 where
@@ -186,6 +186,12 @@ firstRefused [] = Outcome.Done
 firstRefused (Outcome.Done ∷ os) = firstRefused os
 firstRefused (Outcome.Refused x ∷ os) = Outcome.Refused x
 
+-- ---- a block of no whole line by whether a number applies; refused, the record stands refused by it
+
+abbrev pub noLine : List ℤ → Replay → Option Refusal → BlockCall
+noLine w p none = record { block = record { replay = p; lines = 0; answer = Outcome.Done }; table = w }
+noLine w p (some x) = record { block = record { replay = refusedReplay p x; lines = 0; answer = Outcome.Refused x }; table = w }
+
 module _ (r : Rules) where
   -- number 5 of what is due: inside a press its variable, amount, lines left, last scope, and every scope raised
   abbrev pub dueOut : Case → List ℕ → Due → Bool
@@ -308,9 +314,9 @@ module _ (r : Rules) where
   lineAnswers b (t ∷ ts) =
       stepReplay (b .case) (b .table) (b .replay) t .stepped .answer ∷ lineAnswers (stepBetween b t) ts
 
-  -- a block of whole lines; a part line at its end is not looked at
-  unfoldable pub blockReplay : Case → List ℤ → Replay → List ℕ → BlockCall
-  blockReplay c w p bytes =
+  -- over the whole lines of these bytes; a part line at their end is not looked at
+  unfoldable pub foldReplay : Case → List ℤ → Replay → List ℕ → BlockCall
+  foldReplay c w p bytes =
       let b : Between = record { case = c; table = w; replay = p } in
       let lines = linesIn (r .amountWidth) bytes in
       let os = lineAnswers b lines in
@@ -318,3 +324,15 @@ module _ (r : Rules) where
         block = record { replay = afterLines b lines .replay; lines = takenLines os; answer = firstRefused os };
         table = afterLines b lines .table;
       }
+
+  -- ---- a block: the fold over its whole lines; with none, the number that stands, else 3 to 8 of what was handed over
+
+  abbrev pub lentStanding : Case → List ℤ → Replay → Standing → Option Refusal
+  lentStanding c w p (Standing.Refused x) = some x
+  lentStanding c w p Standing.Good = firstOf (handedOver r (workingWeight r) c w false (recordOut c p))
+
+  unfoldable pub blockReplay : Case → List ℤ → Replay → List ℕ → BlockCall
+  blockReplay c w p bytes =
+      if eqb (wholeLines (r .amountWidth) bytes) 0
+      then noLine w p (lentStanding c w p (p .standing))
+      else foldReplay c w p bytes

@@ -9,7 +9,7 @@ use lib.ListN.{length, replicate}
 use Rattle.integers.specs.Words.{joined, minus}
 use Rattle.definitions.specs.declared.Case.{Case}
 use Rattle.definitions.specs.declared.Outcome.{Outcome}
-use Rattle.definitions.specs.declared.Refusal.the-variants.{RaiseNotAscending}
+use Rattle.definitions.specs.declared.Refusal.the-variants.{WrongLength, RaiseNotAscending}
 use Rattle.definitions.specs.Rules.{standard}
 use Rattle.definitions.specs.Answers.{outcomeSays}
 use Rattle.definitions.specs.Case.{upperBound}
@@ -52,6 +52,7 @@ use Rattle.checker.specs.Checker.{
   endReplay,
   afterLines,
   lineAnswers,
+  foldReplay,
   blockReplay,
 }
 
@@ -193,7 +194,24 @@ pub ends :
 unfolding freshReplay endReplay
 ends = refl
 
--- ---- blocks: five lines and a part of one; a shift and a bound line that is not lower; no whole line asks nothing
+-- so many links of two values, and one pair
+abbrev paired : ℕ → ℕ → ℕ → Case
+paired n i j = record { n = n; d = 2; m = 1; lower = i ∷ []; upper = j ∷ [] }
+
+-- the end asks 3, 5, 6 before 14: 49 links; 48; a link past the last; a pair (1, 0); and the record's 5 before that
+pub ends-ask :
+    outcomeSays (endReplay standard (paired 49 0 1) (between 0)) .number
+    ∷ outcomeSays (endReplay standard (paired 48 0 1) (between 0)) .number
+    ∷ outcomeSays (endReplay standard (paired 2 0 2) (between 0)) .number
+    ∷ outcomeSays (endReplay standard (paired 2 1 0) (between 0)) .number
+    ∷ outcomeSays (endReplay standard (paired 2 1 0) (inside 0 (pos 1) 1 LastRaised.Nothing [])) .number
+    ∷ outcomeSays (endReplay standard (paired 2 1 0) (between (most + 1))) .number
+    ∷ []
+    ≡ 3 ∷ 0 ∷ 5 ∷ 6 ∷ 6 ∷ 5 ∷ []
+unfolding endReplay
+ends-ask = refl
+
+-- ---- blocks: five lines and a part of one; a shift and a bound line that is not lower; a record that stands refused
 
 abbrev blockSays : BlockCall → ℕ × ℕ
 blockSays q = (q .block .lines, outcomeSays (q .block .answer) .number)
@@ -201,9 +219,54 @@ blockSays q = (q .block .lines, outcomeSays (q .block .answer) .number)
 pub blocks :
     blockSays (blockReplay standard (triangle .case) (triangle .weights) (start triangle .replay) (joined (texts log1) ++ (32 ∷ [])))
     ∷ blockSays (blockReplay standard (clash .case) (clash .weights) (start clash .replay) (joined (texts (shiftLine ∷ " 4   0   0   0           4\n" ∷ "x" ∷ []))))
-    ∷ blockSays (blockReplay standard (clash .case) (clash .weights) tooHigh (bytesOf "x"))
     ∷ blockSays (blockReplay standard (clash .case) (clash .weights) tooHigh (joined (texts log6)))
     ∷ []
-    ≡ (5, 0) ∷ (1, 13) ∷ (0, 0) ∷ (0, 8) ∷ []
-unfolding freshReplay stepReplay blockReplay
+    ≡ (5, 0) ∷ (1, 13) ∷ (0, 8) ∷ []
+unfolding freshReplay stepReplay foldReplay blockReplay
 blocks = refl
+
+-- ---- blocks of no whole line: the number answered, and the one that stands after it
+
+abbrev without : Case → List ℤ → Replay → String → ℕ × ℕ
+without c w p part =
+    let q = blockReplay standard c w p (bytesOf part) in
+    (outcomeSays (q .block .answer) .number, standingSays (q .block .replay .standing) .number)
+
+pub no-lines :
+    without (clash .case) (clash .weights) (between 0) ""
+    ∷ without (clash .case) (clash .weights) (inside 0 (pos 1) 1 LastRaised.Nothing []) "x"
+    -- the number that stands comes before all else
+    ∷ without (clash .case) (clash .weights) tooHigh ""
+    ∷ without (paired 49 0 1) [] tooHigh "x"
+    -- 3, 4, 5 of the record, 6, 8, each with later ones behind it
+    ∷ without (paired 49 0 1) [] (between (most + 1)) ""
+    ∷ without (paired 2 1 0) (zeros 7) (between (most + 1)) ""
+    ∷ without (paired 2 1 0) (pos 500_000_001 ∷ zeros 7) (between (most + 1)) ""
+    ∷ without (paired 2 1 0) (pos 500_000_001 ∷ zeros 7) (inside 2 (pos 1) 1 LastRaised.Nothing []) "x"
+    ∷ without (paired 2 1 0) (pos 500_000_001 ∷ zeros 7) (between 0) ""
+    ∷ without (clash .case) (pos 500_000_001 ∷ zeros 7) (between 0) ""
+    ∷ without (clash .case) (pos 500_000_000 ∷ zeros 7) (between most) ""
+    ∷ []
+    ≡ (0, 0) ∷ (0, 0) ∷ (8, 8) ∷ (8, 8) ∷ (3, 3) ∷ (4, 4) ∷ (5, 5) ∷ (5, 5) ∷ (6, 6) ∷ (8, 8) ∷ (0, 0) ∷ []
+unfolding freshReplay foldReplay blockReplay
+no-lines = refl
+
+-- refused, the standing changes alone
+pub no-line-keeps : blockReplay standard (clash .case) (zeros 7) (inside 0 (pos 1) 2 (LastRaised.Scope 2) (0 ∷ 0 ∷ 1 ∷ [])) (bytesOf "x")
+    ≡ record {
+      block = record {
+        replay = record {
+          rounds = 0;
+          start = pos 4;
+          moved = true;
+          raised = marksOf (0 ∷ 0 ∷ 1 ∷ []);
+          due = Due.Raise 0 (pos 1) 2 (LastRaised.Scope 2);
+          standing = Standing.Refused WrongLength;
+        };
+        lines = 0;
+        answer = Outcome.Refused WrongLength;
+      };
+      table = zeros 7;
+    }
+unfolding foldReplay blockReplay
+no-line-keeps = refl

@@ -17,7 +17,7 @@ use Rattle.theory.proofs.Validity.{Handed}
 use Rattle.checker.specs.declared.LastRaised.{LastRaised}
 use Rattle.checker.specs.declared.Due.{Due}
 use Rattle.checker.specs.declared.Progress.{Progress}
-use Rattle.checker.specs.Checker.{recordOut, blockReplay}
+use Rattle.checker.specs.Checker.{recordOut, foldReplay}
 use Rattle.checker.specs.Taken.{goodReplay, moreBy}
 
 -- ---- a raise line by its bytes
@@ -51,9 +51,9 @@ lastOf (suc x) = LastRaised.Scope x
 abbrev pub raising : Progress → ℕ → ℤ → ℕ → ℕ → Progress
 raising q i a left next = holding q i a left (lastOf next)
 
--- The block t, with n lines done before it, is the block u with m lines done before it: the lines between them got no number.
+-- The fold over t, with n lines done before it, is the fold over u with m lines done before it: the lines between them got no number.
 pub record Onward (scopes n : ℕ) (p : Progress) (raised t : List ℕ) (m : ℕ) (q : Progress) (marked u : List ℕ) : Type 0 where
   pub goes :
       (c : Case) (w : List ℤ) → Handed standard (workingWeight standard) c w → scopeCount c ≡ scopes → T (not (recordOut standard c (goodReplay p raised)))
-      → (moreBy n (blockReplay standard c w (goodReplay p raised) t) ≡ moreBy m (blockReplay standard c w (goodReplay q marked) u))
+      → (moreBy n (foldReplay standard c w (goodReplay p raised) t) ≡ moreBy m (foldReplay standard c w (goodReplay q marked) u))
       × T (not (recordOut standard c (goodReplay q marked)))

@@ -21,14 +21,14 @@ ghost use Rattle.definitions.specs.Rules.{standard};
 ghost use Rattle.definitions.specs.Refusals.{firstOf};
 ghost use Rattle.definitions.specs.Answers.{outcomeOf, unlessRefused};
 ghost use Rattle.definitions.specs.Case.{scopeCount, upperBound};
-ghost use Rattle.definitions.specs.Valid.{workingWeight};
+ghost use Rattle.definitions.specs.Valid.{workingWeight, handedOver};
 ghost use Rattle.definitions.specs.Consistency.{allRefuted};
 ghost use Rattle.definitions.specs.Moves.{shiftAmount, pressAmount, activeValues};
 ghost use Rattle.definitions.specs.Lines.{readLine, outside, notDue};
 ghost use Rattle.theory.proofs.Validity.{Handed};
 ghost use Rattle.tables.specs.Scopes.{Limited, BestOf};
 ghost use Rattle.lines.specs.Words.{Word};
-ghost use Rattle.checker.specs.Checker.{isRaised, lastOut, notAboveLast, dueKinds, isHeld, refusedReplay, dueOut, recordOut, freshReplay, ofShift, ofPress, ofBound, ofRaise, ofKind, stepLine, stepReplay, endTests, endReplay, blockReplay};
+ghost use Rattle.checker.specs.Checker.{isRaised, lastOut, notAboveLast, dueKinds, isHeld, refusedReplay, dueOut, recordOut, freshReplay, ofShift, ofPress, ofBound, ofRaise, ofKind, stepLine, stepReplay, endTests, endReplay, noLine, lentStanding, foldReplay, blockReplay};
 ghost use Rattle.checker.specs.Taken.{standingAfter, replayOf, goodReplay, freshFrom, stepOf, stepNext, pressed, rangeTests, wholeTests, lastStep, frontTests, moreBy};
 ghost use Rattle.checker.specs.Raising.{raiseLine, Digit, Small, RaiseText, lastOf, holding, raising, Onward};
 
@@ -990,7 +990,7 @@ fn good_line(
 fn good_lines(replay: Replay, case: Case, table: &mut [i64], bytes: &[u8]) -> Block
     requires { ⌜ Handed standard (workingWeight standard) case (now table) ⌝ }
     requires { ⌜ (replay .standing ≡ Standing.Good) × T (not (recordOut standard case replay)) × (27 ≤ length (now bytes)) ⌝ }
-    ensures { λ r. ⌜ (r ≡ moreBy 1 (blockReplay standard case (now (table .entry)) replay (drop 27 (now (bytes .entry)))) .block) × (now (table .exit) ≡ blockReplay standard case (now (table .entry)) replay (drop 27 (now (bytes .entry))) .table) ⌝ }
+    ensures { λ r. ⌜ (r ≡ moreBy 1 (foldReplay standard case (now (table .entry)) replay (drop 27 (now (bytes .entry)))) .block) × (now (table .exit) ≡ foldReplay standard case (now (table .entry)) replay (drop 27 (now (bytes .entry))) .table) ⌝ }
 {
     let mut best = [0i64; 144];
     prepare(case, table, &mut best);
@@ -1155,6 +1155,53 @@ fn fresh_from(start: Figure) -> Replay
     }
 }
 
+// ---- a block of no whole line
+
+// Numbers 3 to 8 of what was handed over.
+fn check_lent(replay: Replay, case: Case, table: &[i64]) -> Outcome
+    ensures { λ r. ⌜ r ≡ outcomeOf (firstOf (handedOver standard (workingWeight standard) case (now (table .entry)) false (recordOut standard case replay))) ⌝ }
+{
+    if !tables::within_limits(case) {
+        return Outcome::Refused(Refusal::OutsideLimits);
+    }
+    let raised = replay.raised;
+    let due = replay.due;
+    let out = record_out(case, &raised, replay.rounds, due);
+    tables::check_working(case, table, false, out)
+}
+
+fn lent_answer(replay: Replay, case: Case, table: &[i64]) -> Outcome
+    ensures { λ r. ⌜ r ≡ outcomeOf (lentStanding standard case (now (table .entry)) replay (replay .standing)) ⌝ }
+{
+    let standing = replay.standing;
+    match standing {
+        Standing::Refused(refusal) => Outcome::Refused(refusal),
+        Standing::Good => check_lent(replay, case, table),
+    }
+}
+
+fn no_line(replay: Replay, case: Case, table: &[i64]) -> Block
+    ensures { λ r. ⌜ r ≡ noLine (now (table .entry)) replay (lentStanding standard case (now (table .entry)) replay (replay .standing)) .block ⌝ }
+{
+    let answer = lent_answer(replay, case, table);
+    match answer {
+        Outcome::Done => Block {
+            replay,
+            lines: 0,
+            answer: Outcome::Done,
+        },
+        Outcome::Refused(refusal) => {
+            let stepped = refuse(replay, refusal);
+            let after = stepped.replay;
+            Block {
+                replay: after,
+                lines: 0,
+                answer: Outcome::Refused(refusal),
+            }
+        }
+    }
+}
+
 // ---- the calls
 
 impl Replay {
@@ -1194,11 +1241,7 @@ impl Replay {
         ensures { λ r. ⌜ (r ≡ blockReplay standard case (now (table .entry)) self (now (bytes .entry)) .block) × (now (table .exit) ≡ blockReplay standard case (now (table .entry)) self (now (bytes .entry)) .table) ⌝ }
     {
         if bytes.len() < LINE {
-            return Block {
-                replay: self,
-                lines: 0,
-                answer: Outcome::Done,
-            };
+            return no_line(self, case, table);
         }
         let first = self.step(case, table, &bytes[..LINE]);
         let replay = first.replay;

@@ -13,7 +13,7 @@ use Rattle.theory.proofs.Validity.{Handed}
 use Rattle.tables.specs.Scopes.{BestOf}
 use Rattle.tables.proofs.Answered.{limits-known}
 use Rattle.checker.specs.declared.Replay.{Replay}
-use Rattle.checker.specs.Checker.{BlockCall, recordOut, blockReplay}
+use Rattle.checker.specs.Checker.{BlockCall, recordOut, foldReplay}
 use Rattle.checker.specs.Taken.{goodReplay, moreBy}
 use Rattle.checker.proofs.Ends.{whole}
 use Rattle.checker.proofs.Fold.{turn-done, turn-refused, no-more}
@@ -24,8 +24,8 @@ abbrev Inv-loop : tie.InvT-loop
 Inv-loop case table₀ bytes best₀ raised₀ progress₀ from₀ done₀ table best raised progress from done =
     (done ≤ from) × (from ≤ length bytes) × (length best ≡ 144) × (length raised ≡ 144)
     × Handed standard (workingWeight standard) case table × BestOf case table best × T (not (recordOut standard case (goodReplay progress raised)))
-    × (moreBy done (blockReplay standard case table (goodReplay progress raised) (drop from bytes))
-    ≡ moreBy 1 (blockReplay standard case table₀ (goodReplay progress₀ raised₀) (drop 27 bytes)))
+    × (moreBy done (foldReplay standard case table (goodReplay progress raised) (drop from bytes))
+    ≡ moreBy 1 (foldReplay standard case table₀ (goodReplay progress₀ raised₀) (drop 27 bytes)))
 
 abbrev μ-loop : tie.MeasureT-loop
 μ-loop case table₀ bytes best₀ raised₀ progress₀ from₀ done₀ table best raised progress from done = length bytes - from
@@ -96,7 +96,7 @@ returns c = let a = c .before .before .before .before .before .before .before .b
     let v = c .before .before .before .before .before .before .before .before .good-line .last .1 .0 in
     let r = c .before .before .before .before .before .before .before .before .good-line .last .1 .1 .1 .0 in
     let h = whole (a .replay) (c .before .before .before .before .before .before .before .before .before .before .before .before .before .before .before .before .before .before .before .before .before .before .pre .1 .0) (c .before .before .before .before .before .before .before .before .before .before .before .before .before .before .before .progress-of .ensures) in
-    let e = sym (turn-refused (a .case) (l .table) p t long k r v s (l .done) (c .before .before .answer .given .1)) ∙ i .7 ∙ ap (λ (q : Replay). moreBy 1 (blockReplay standard (a .case) (a .table .now) q (drop 27 (a .bytes .now)))) h in
+    let e = sym (turn-refused (a .case) (l .table) p t long k r v s (l .done) (c .before .before .answer .given .1)) ∙ i .7 ∙ ap (λ (q : Replay). moreBy 1 (foldReplay standard (a .case) (a .table .now) q (drop 27 (a .bytes .now)))) h in
     (rw (c .record-of .ensures) (ap (λ (x : BlockCall). x .block) e), ap (λ (x : BlockCall). x .table) e)
 
 enum-told : tie.Need-enum-told Inv-loop μ-loop
@@ -140,7 +140,7 @@ loop-again c = let a = c .before .before .before .before .before .before .before
       g,
       c .before .before .before .before .before .before .before .before .before .before .good-line .ensures .1,
       u,
-      sym o ∙ ap (λ (b : List ℕ). moreBy (l .done + 1) (blockReplay standard (a .case) v (goodReplay (k .progress) r) b)) (sym (drop-drop 27 (l .from) (a .bytes .now))) ∙ sym e ∙ i .7,
+      sym o ∙ ap (λ (b : List ℕ). moreBy (l .done + 1) (foldReplay standard (a .case) v (goodReplay (k .progress) r) b)) (sym (drop-drop 27 (l .from) (a .bytes .now))) ∙ sym e ∙ i .7,
     )
 
 record-of-requires-2 : tie.Need-record-of-requires-2 Inv-loop μ-loop
@@ -153,7 +153,7 @@ returns-2 : tie.Need-returns-2 Inv-loop μ-loop
 returns-2 c = let a = c .before .before .before .before .before .before .before .before .before .before .args in let l = c .before .before .loop in let i = l .inv in let p = goodReplay (l .progress) (l .raised) in let t = drop (l .from) (a .bytes .now) in
     let h = whole (a .replay) (c .before .before .before .before .before .before .before .before .before .before .pre .1 .0) (c .before .before .before .progress-of .ensures) in
     let short : length t < 27 = omega (arith, length-drop (l .from) (a .bytes .now), c .before .loop-test .left) in
-    let e = sym (no-more (a .case) (l .table) p t (l .done) short) ∙ i .7 ∙ ap (λ (q : Replay). moreBy 1 (blockReplay standard (a .case) (a .table .now) q (drop 27 (a .bytes .now)))) h in
+    let e = sym (no-more (a .case) (l .table) p t (l .done) short) ∙ i .7 ∙ ap (λ (q : Replay). moreBy 1 (foldReplay standard (a .case) (a .table .now) q (drop 27 (a .bytes .now)))) h in
     (rw (c .record-of2 .ensures) (ap (λ (x : BlockCall). x .block) e), ap (λ (x : BlockCall). x .table) e)
 
 pub good-lines-spec : {M : Type 1} → statement M
