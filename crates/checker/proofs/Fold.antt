@@ -15,7 +15,7 @@ use Rattle.definitions.specs.declared.Case.{Case}
 use Rattle.definitions.specs.declared.Line.{Line}
 use Rattle.definitions.specs.declared.Outcome.{Outcome}
 use Rattle.definitions.specs.declared.Refusal.{Refusal}
-use Rattle.definitions.specs.Rules.{standard}
+use Rattle.definitions.specs.Rules.{Rules, standard}
 use Rattle.definitions.specs.Refusals.{firstOf}
 use Rattle.definitions.specs.Answers.{outcomeOf}
 use Rattle.definitions.specs.Valid.{workingWeight}
@@ -55,16 +55,17 @@ first-line t h =
 
 -- ---- a record that stands refused answers every line by the same refusal
 
-stands : (p : Replay) {x : Refusal} → p .standing ≡ Standing.Refused x → refusedReplay p x ≡ p
+pub stands : (p : Replay) {x : Refusal} → p .standing ≡ Standing.Refused x → refusedReplay p x ≡ p
 stands p e = ap (λ (s : Standing). record { rounds = p .rounds; start = p .start; moved = p .moved; raised = p .raised; due = p .due; standing = s }) (sym e)
 
-stays : (b : Between) {x : Refusal} → b .replay .standing ≡ Standing.Refused x → (t : List ℕ) → stepBetween standard b t ≡ b
-unfolding stepReplay
-stays b e t = rw e
+module _ (r : Rules) where
+  stays : (b : Between) {x : Refusal} → b .replay .standing ≡ Standing.Refused x → (t : List ℕ) → stepBetween r b t ≡ b
+  unfolding stepReplay
+  stays b e t = rw e
 
-all-stay : (b : Between) {x : Refusal} → b .replay .standing ≡ Standing.Refused x → (ts : List (List ℕ)) → afterLines standard b ts ≡ b
-all-stay b e [] = refl
-all-stay b e (t ∷ ts) = ap (λ (d : Between). afterLines standard d ts) (stays b e t) ∙ all-stay b e ts
+  pub all-stay : (b : Between) {x : Refusal} → b .replay .standing ≡ Standing.Refused x → (ts : List (List ℕ)) → afterLines r b ts ≡ b
+  all-stay b e [] = refl
+  all-stay b e (t ∷ ts) = ap (λ (d : Between). afterLines r d ts) (stays b e t) ∙ all-stay b e ts
 
 -- ---- no line
 
@@ -126,24 +127,24 @@ module _ (c : Case) (w : List ℤ) (p : Replay) (t : List ℕ) where
     fold-done e = first-step ∙ rw e
 
     pub fold-refused : {x : Refusal} → call .stepped .answer ≡ Outcome.Refused x → call .stepped .replay .standing ≡ Standing.Refused x → foldReplay standard c w p t ≡ endsWith call
-    fold-refused e f = first-step ∙ rw (e, all-stay (record { case = c; table = call .table; replay = call .stepped .replay }) f (linesIn 12 (drop 27 t)))
+    fold-refused e f = first-step ∙ rw (e, all-stay standard (record { case = c; table = call .table; replay = call .stepped .replay }) f (linesIn 12 (drop 27 t)))
 
 -- a refused line leaves a record that stands refused
-module _ (c : Case) (w : List ℤ) (p : Replay) {x : Refusal} where
+module _ (r : Rules) (c : Case) (w : List ℤ) (p : Replay) {x : Refusal} where
   by-test : (a : Asked) (o : Option Refusal) → stepBy w p a o .stepped .answer ≡ Outcome.Refused x → stepBy w p a o .stepped .replay .standing ≡ Standing.Refused x
   by-test a none e = cc
   by-test a (some y) e = cc
 
-  by-line : (l : Option Line) → stepLine standard c w p l .stepped .answer ≡ Outcome.Refused x → stepLine standard c w p l .stepped .replay .standing ≡ Standing.Refused x
+  by-line : (l : Option Line) → stepLine r c w p l .stepped .answer ≡ Outcome.Refused x → stepLine r c w p l .stepped .replay .standing ≡ Standing.Refused x
   by-line none e = cc
-  by-line (some l) e = by-test (ofKind standard c w p (p .due) l) (firstOf (stepTests standard c w p l (ofKind standard c w p (p .due) l))) e
+  by-line (some l) e = by-test (ofKind r c w p (p .due) l) (firstOf (stepTests r c w p l (ofKind r c w p (p .due) l))) e
 
-  pub refused-stands : (t : List ℕ) → stepReplay standard c w p t .stepped .answer ≡ Outcome.Refused x → stepReplay standard c w p t .stepped .replay .standing ≡ Standing.Refused x
+  pub refused-stands : (t : List ℕ) → stepReplay r c w p t .stepped .answer ≡ Outcome.Refused x → stepReplay r c w p t .stepped .replay .standing ≡ Standing.Refused x
   unfolding stepReplay
   refused-stands t = go (p .standing)
     where
-      go : (s : Standing) → stepStanding standard c w p t s .stepped .answer ≡ Outcome.Refused x → stepStanding standard c w p t s .stepped .replay .standing ≡ Standing.Refused x
-      go Standing.Good e = by-line (readLine 12 t) e
+      go : (s : Standing) → stepStanding r c w p t s .stepped .answer ≡ Outcome.Refused x → stepStanding r c w p t s .stepped .replay .standing ≡ Standing.Refused x
+      go Standing.Good e = by-line (readLine (r .amountWidth) t) e
       go (Standing.Refused y) e = cc
 
 -- ---- a turn: the block's first line taken with the record in parts
@@ -153,7 +154,7 @@ module _ (c : Case) (w : List ℤ) (p : Replay) (t : List ℕ) (h : 27 ≤ lengt
       → (moreBy n (foldReplay standard c w p t) ≡ moreBy (n + 1) (foldReplay standard c v (goodReplay (k .progress) raised) (drop 27 t)))
       × Handed standard (workingWeight standard) c v × T (not (recordOut standard c (goodReplay (k .progress) raised)))
   turn-done n e =
-      let l = subst (Left c) (sym s) (step-leaves c w p (take 27 t) (ap (λ (x : StepCall). x .stepped .answer) (sym s) ∙ e)) in
+      let l = subst (Left standard c) (sym s) (step-leaves standard c w p (take 27 t) (ap (λ (x : StepCall). x .stepped .answer) (sym s) ∙ e)) in
       let g = ap standingAfter e in (
         ap (moreBy n) (fold-done c w p t h (stepOf k raised v) (sym s) e ∙ ap (λ (d : Standing). moreBy 1 (foldReplay standard c v (replayOf (k .progress) raised d) (drop 27 t))) g)
             ∙ more-by n (foldReplay standard c v (goodReplay (k .progress) raised) (drop 27 t)),
@@ -179,10 +180,10 @@ module _ (c : Case) (w : List ℤ) (p : Replay) (t : List ℕ) (h : 27 ≤ lengt
       × Handed standard (workingWeight standard) c v × T (not (recordOut standard c (k .replay))) × (k .replay .standing ≡ Standing.Good)
   first-done e =
       let d = ap (λ (x : Stepped). x .answer) (sym s) ∙ e in
-      let l = step-leaves c w p (take 27 t) d in
+      let l = step-leaves standard c w p (take 27 t) d in
       rw (s, u) (block-some c w p t h ∙ fold-done c w p t h call refl d, l .handed-over, l .record-in, l .good)
 
   pub first-refused : {x : Refusal} → k .answer ≡ Outcome.Refused x → blockReplay standard c w p t ≡ record { block = record { replay = k .replay; lines = 0; answer = k .answer }; table = v }
   first-refused e =
       let d = ap (λ (x : Stepped). x .answer) (sym s) ∙ e in
-      rw (s, u) (block-some c w p t h ∙ fold-refused c w p t h call refl d (refused-stands c w p (take 27 t) d))
+      rw (s, u) (block-some c w p t h ∙ fold-refused c w p t h call refl d (refused-stands standard c w p (take 27 t) d))

@@ -15,7 +15,7 @@ use Rattle.definitions.specs.declared.Line.{Line}
 use Rattle.definitions.specs.declared.Outcome.{Outcome}
 use Rattle.definitions.specs.declared.Refusal.{Refusal}
 use Rattle.definitions.specs.declared.Refusal.the-variants.{NotDue, OutOfRange}
-use Rattle.definitions.specs.Rules.{standard}
+use Rattle.definitions.specs.Rules.{Rules, standard}
 use Rattle.definitions.specs.Refusals.{firstOf}
 use Rattle.definitions.specs.Answers.{outcomeOf}
 use Rattle.definitions.specs.Case.{lentLength}
@@ -32,6 +32,14 @@ use Rattle.checker.specs.Taken.{stepNext, frontTests}
 pub neither : {A : Type 0} (b : Bool) (a : A) (o : Option A) → (if b then some a else o) ≡ none → T (not b) × (o ≡ none)
 neither true a o e = absurd (none-some (sym e))
 neither false a o e = (tt, e)
+
+-- what is known where nothing handed over is refused, the record's 5 asked with another
+pub lent-known : (r : Rules) (c : Case) (w : List ℤ) (p : Replay) (out : Bool) → firstOf (handedOver r (workingWeight r) c w false (recordOut r c p || out)) ≡ none
+    → Handed r (workingWeight r) c w × T (not (recordOut r c p)) × T (not out)
+lent-known r c w p out e =
+    let (h, i, o) = handed r (workingWeight r) c w false (recordOut r c p || out) .0 (none-iff (firstOf (handedOver r (workingWeight r) c w false (recordOut r c p || out))) .1 e) in
+    let (k, l) = not-or-iff (recordOut r c p) out .0 o in
+    (h, k, l)
 
 module _ (c : Case) (w : List ℤ) (p : Replay) (t : Line) where
   abbrev asked : Asked
@@ -55,8 +63,7 @@ module _ (c : Case) (w : List ℤ) (p : Replay) (t : Line) where
   pub front-known : front ≡ none → Fronted
   front-known e =
       let (u, f) = neither (notDue standard (dueKinds (p .due)) t) NotDue (firstOf (handedOver standard (workingWeight standard) c w false (recordOut standard c p || asked .out))) e in
-      let (h, i, o) = handed standard (workingWeight standard) c w false (recordOut standard c p || asked .out) .0 (none-iff (firstOf (handedOver standard (workingWeight standard) c w false (recordOut standard c p || asked .out))) .1 f) in
-      let (r, l) = not-or-iff (recordOut standard c p) (asked .out) .0 o in
+      let (h, r, l) = lent-known standard c w p (asked .out) f in
       record { handed-over = h; record-in = r; line-in = l }
 
   pub front-refused : {x : Refusal} → Outcome.Refused x ≡ outcomeOf front → stepLine standard c w p (some t) ≡ stepRefused p w x

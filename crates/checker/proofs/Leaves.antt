@@ -1,6 +1,6 @@
 -- What a line that is done leaves: a checked case and table, and a record in range. It holds of every record, case and table. Assumes nothing.
 use mathlib.Core.Path.{_≡_, refl, _∙_}
-use mathlib.Core.Bool.{Bool, true, false, not}
+use mathlib.Core.Bool.{Bool, true, false, not, _||_}
 use mathlib.Core.Logic.{⊎-elim}
 use mathlib.Core.Option.{Option, none, some}
 use mathlib.Core.List.{List, [], _∷_, _++_}
@@ -17,13 +17,13 @@ use Rattle.definitions.specs.declared.Case.{Case}
 use Rattle.definitions.specs.declared.Line.{Line}
 use Rattle.definitions.specs.declared.Outcome.{Outcome}
 use Rattle.definitions.specs.declared.Refusal.{Refusal}
-use Rattle.definitions.specs.declared.Refusal.the-variants.{LeavesRange}
-use Rattle.definitions.specs.Rules.{standard, scopePlaces}
-use Rattle.definitions.specs.Refusals.{Test, firstOf}
+use Rattle.definitions.specs.declared.Refusal.the-variants.{NotDue, LeavesRange}
+use Rattle.definitions.specs.Rules.{Rules, scopePlaces}
+use Rattle.definitions.specs.Refusals.{Test, _when_, firstOf}
 use Rattle.definitions.specs.Case.{scopeCount}
-use Rattle.definitions.specs.Valid.{workingWeight, allWeights}
+use Rattle.definitions.specs.Valid.{workingWeight, allWeights, handedOver}
 use Rattle.definitions.specs.Moves.{Difference, plus, shiftBy, pressBy, activeValues, leavesRange, pressAmount}
-use Rattle.definitions.specs.Lines.{readLine, isKind}
+use Rattle.definitions.specs.Lines.{readLine, notDue, isKind}
 use Rattle.theory.proofs.Places.{all-weights, plus-length}
 use Rattle.theory.proofs.Validity.{Handed}
 use Rattle.theory.proofs.Replays.{inside}
@@ -32,14 +32,13 @@ use Rattle.checker.specs.declared.LastRaised.{LastRaised}
 use Rattle.checker.specs.declared.Due.{Due}
 use Rattle.checker.specs.declared.Standing.{Standing}
 use Rattle.checker.specs.declared.Replay.{Replay}
-use Rattle.checker.specs.Checker.{StepCall, Asked, isRaised, noneRaised, dueOut, recordOut, ofShift, ofPress, ofBound, ofRaise, ofKind, stepBy, stepTests, stepLine, stepStanding, stepReplay}
-use Rattle.checker.specs.Taken.{frontTests}
+use Rattle.checker.specs.Checker.{StepCall, Asked, isRaised, noneRaised, dueKinds, dueOut, recordOut, ofShift, ofPress, ofBound, ofRaise, ofKind, stepBy, stepTests, stepLine, stepStanding, stepReplay}
 use Rattle.checker.proofs.Numbers.{counted}
-use Rattle.checker.proofs.Front.{neither, front-known}
+use Rattle.checker.proofs.Front.{neither, lent-known}
 
 -- a table that is changed and does not leave the range
-pub handed-plus : {c : Case} {w : List ℤ} (δ : Difference) → Handed standard (workingWeight standard) c w → T (not (leavesRange standard c (plus c δ w))) → Handed standard (workingWeight standard) c (plus c δ w)
-handed-plus {c} {w} δ k t =
+pub handed-plus : {r : Rules} {c : Case} {w : List ℤ} (δ : Difference) → Handed r (workingWeight r) c w → T (not (leavesRange r c (plus c δ w))) → Handed r (workingWeight r) c (plus c δ w)
+handed-plus {r} {c} {w} δ k t =
     let e = plus-length c δ w (let e = k .long in omega arith) in
     record {
       variables-most = k .variables-most;
@@ -48,7 +47,7 @@ handed-plus {c} {w} δ k t =
       long = e ∙ k .long;
       shape = k .shape;
       apart = k .apart;
-      in-range = all-weights c (workingWeight standard) (plus c δ w) (let f = k .long in omega arith) .0 (not-not-iff (allWeights (workingWeight standard) c (plus c δ w)) .0 t);
+      in-range = all-weights c (workingWeight r) (plus c δ w) (let f = k .long in omega arith) .0 (not-not-iff (allWeights (workingWeight r) c (plus c δ w)) .0 t);
     }
 
 never : {x : Refusal} → Outcome.Refused x ≡ Outcome.Done → ⊥
@@ -63,14 +62,14 @@ none-both (t ∷ ts) us e =
     (if-false (some (t .refusal)) (firstOf ts) (t .applies) n ∙ g, l)
 
 -- what stands after it
-pub record Left (c : Case) (call : StepCall) : Type 0 where
-  pub handed-over : Handed standard (workingWeight standard) c (call .table)
-  pub record-in : T (not (recordOut standard c (call .stepped .replay)))
+pub record Left (r : Rules) (c : Case) (call : StepCall) : Type 0 where
+  pub handed-over : Handed r (workingWeight r) c (call .table)
+  pub record-in : T (not (recordOut r c (call .stepped .replay)))
   pub good : call .stepped .replay .standing ≡ Standing.Good
 
-module _ (c : Case) (w : List ℤ) (p : Replay) (h : Handed standard (workingWeight standard) c w) (r : T (not (recordOut standard c p))) where
-  few : T (not (ltb (standard .rounds) (p .rounds)))
-  few = not-or-iff (ltb (standard .rounds) (p .rounds)) (dueOut standard c (p .raised) (p .due)) .0 r .0
+module _ {r : Rules} (c : Case) (w : List ℤ) (p : Replay) (h : Handed r (workingWeight r) c w) (known : T (not (recordOut r c p))) where
+  few : T (not (ltb (r .rounds) (p .rounds)))
+  few = not-or-iff (ltb (r .rounds) (p .rounds)) (dueOut r c (p .raised) (p .due)) .0 known .0
 
   none-past : T (all (λ b. eqb b 0) (drop (scopeCount c) noneRaised))
   none-past = all-getD (λ b. eqb b 0) (drop (scopeCount c) noneRaised) 0 .1 (λ i l.
@@ -81,46 +80,46 @@ module _ (c : Case) (w : List ℤ) (p : Replay) (h : Handed standard (workingWei
       ) tt)
 
   abbrev After : Asked → Type 0
-  After a = T (not (a .out)) → firstOf (a .later) ≡ none → Left c (stepBy w p a none)
+  After a = T (not (a .out)) → firstOf (a .later) ≡ none → Left r c (stepBy w p a none)
 
-  after-shift : (t : Line) → After (ofShift standard c w p t)
+  after-shift : (t : Line) → After (ofShift r c w p t)
   after-shift t o e = record {
-    handed-over = handed-plus (shiftBy c (natAbs (t .a)) (natAbs (t .b)) (natAbs (t .c)) (t .amount)) h (neither (leavesRange standard c (ofShift standard c w p t .table)) LeavesRange none e .0);
-    record-in = not-or-iff (ltb (standard .rounds) (p .rounds)) false .1 (few, tt);
+    handed-over = handed-plus (shiftBy c (natAbs (t .a)) (natAbs (t .b)) (natAbs (t .c)) (t .amount)) h (neither (leavesRange r c (ofShift r c w p t .table)) LeavesRange none e .0);
+    record-in = not-or-iff (ltb (r .rounds) (p .rounds)) false .1 (few, tt);
     good = refl;
   }
 
-  after-press : (t : Line) → After (ofPress standard c w p t)
+  after-press : (t : Line) → After (ofPress r c w p t)
   after-press t o e =
       let ((a, b), m) = simp not-or-iff at o in
       let (from-0, least, most) = counted (scopeCount c - 1) (t .b) (not-not-iff (withinZ (pos 1) (pos (scopeCount c - 1)) (t .b)) .0 b) in
       record {
         handed-over = h;
-        record-in = simp (not-or-iff, not-not-iff) (few, ((((lt→ltb (natAbs (t .a)) (c .n) (inside (c .n) (t .a) a), not-not-iff (pressAmount standard (t .amount)) .0 m), simp tests (least, most)), tt), none-past));
+        record-in = simp (not-or-iff, not-not-iff) (few, ((((lt→ltb (natAbs (t .a)) (c .n) (inside (c .n) (t .a) a), not-not-iff (pressAmount r (t .amount)) .0 m), simp tests (least, most)), tt), none-past));
         good = refl;
       }
 
-  after-bound : (t : Line) → After (ofBound standard c w p t)
+  after-bound : (t : Line) → After (ofBound r c w p t)
   after-bound t o e = record {
     handed-over = h;
-    record-in = not-or-iff (ltb (standard .rounds) (p .rounds + 1)) false .1 (simp tests (omega (arith, ltb→lt (p .rounds) (standard .rounds) (not-not-iff (ltb (p .rounds) (standard .rounds)) .0 o))), tt);
+    record-in = not-or-iff (ltb (r .rounds) (p .rounds + 1)) false .1 (simp tests (omega (arith, ltb→lt (p .rounds) (r .rounds) (not-not-iff (ltb (p .rounds) (r .rounds)) .0 o))), tt);
     good = refl;
   }
 
   module _ (i : ℕ) (a : ℤ) (left : ℕ) (lastOne : LastRaised) (d : p .due ≡ Due.Raise i a left lastOne) where
     -- what the press begun is known to be
-    pub held : (i < c .n) × T (pressAmount standard a) × (1 ≤ left) × (left ≤ scopeCount c - 1) × T (all (λ b. eqb b 0) (drop (scopeCount c) (p .raised)))
+    pub held : (i < c .n) × T (pressAmount r a) × (1 ≤ left) × (left ≤ scopeCount c - 1) × T (all (λ b. eqb b 0) (drop (scopeCount c) (p .raised)))
     held =
-        let u = not-or-iff (ltb (standard .rounds) (p .rounds)) (dueOut standard c (p .raised) (p .due)) .0 r .1 in
+        let u = not-or-iff (ltb (r .rounds) (p .rounds)) (dueOut r c (p .raised) (p .due)) .0 known .1 in
         let ((((x, m), l), o), z) = simp (not-or-iff, not-not-iff) at (rw d at u) in
         let (least, most) = simp tests at l in
         (ltb→lt i (c .n) x, m, least, most, z)
 
-    after-raise : (t : Line) → After (ofRaise standard c w p i a left lastOne t)
+    after-raise : (t : Line) → After (ofRaise r c w p i a left lastOne t)
     after-raise t o e = ⊎-elim
         (λ l. rw (is-true (eqb left 1) l) (record {
-          handed-over = handed-plus (pressBy c w i (activeValues c w i) (isRaised (set (p .raised) (natAbs (t .a)) 1)) a) h (rw (is-true (eqb left 1) l) at ((simp and-iff at (passes (ofRaise standard c w p i a left lastOne t .later) .0 e)) .1 .1 .0));
-          record-in = not-or-iff (ltb (standard .rounds) (p .rounds)) false .1 (few, tt);
+          handed-over = handed-plus (pressBy c w i (activeValues c w i) (isRaised (set (p .raised) (natAbs (t .a)) 1)) a) h (rw (is-true (eqb left 1) l) at ((simp and-iff at (passes (ofRaise r c w p i a left lastOne t .later) .0 e)) .1 .1 .0));
+          record-in = not-or-iff (ltb (r .rounds) (p .rounds)) false .1 (few, tt);
           good = refl;
         }))
         (λ l. rw (is-false (eqb left 1) l) (
@@ -133,35 +132,36 @@ module _ (c : Case) (w : List ℤ) (p : Replay) (h : Handed standard (workingWei
         }))
         (either (eqb left 1))
 
-  after-kind : (due : Due) → p .due ≡ due → (t : Line) → After (ofKind standard c w p due t)
+  after-kind : (due : Due) → p .due ≡ due → (t : Line) → After (ofKind r c w p due t)
   after-kind (Due.Raise i a left lastOne) d t = after-raise i a left lastOne d t
   after-kind Due.MoveOrBound d t = go (isKind 1 t) (isKind 2 t)
     where
-      go : (x y : Bool) → After (if x then ofShift standard c w p t else if y then ofPress standard c w p t else ofBound standard c w p t)
+      go : (x y : Bool) → After (if x then ofShift r c w p t else if y then ofPress r c w p t else ofBound r c w p t)
       go true y = after-shift t
       go false true = after-press t
       go false false = after-bound t
 
 -- a line of any bytes that is done
-module _ (c : Case) (w : List ℤ) (p : Replay) where
-  line-leaves : (t : Option Line) → stepLine standard c w p t .stepped .answer ≡ Outcome.Done → Left c (stepLine standard c w p t)
+module _ (r : Rules) (c : Case) (w : List ℤ) (p : Replay) where
+  line-leaves : (t : Option Line) → stepLine r c w p t .stepped .answer ≡ Outcome.Done → Left r c (stepLine r c w p t)
   line-leaves none e = absurd (never e)
-  line-leaves (some t) e = go (firstOf (stepTests standard c w p t asked)) refl e
+  line-leaves (some t) e = go (firstOf (stepTests r c w p t asked)) refl e
     where
       asked : Asked
-      asked = ofKind standard c w p (p .due) t
+      asked = ofKind r c w p (p .due) t
 
-      go : (o : Option Refusal) → firstOf (stepTests standard c w p t asked) ≡ o → stepBy w p asked o .stepped .answer ≡ Outcome.Done → Left c (stepBy w p asked o)
+      go : (o : Option Refusal) → firstOf (stepTests r c w p t asked) ≡ o → stepBy w p asked o .stepped .answer ≡ Outcome.Done → Left r c (stepBy w p asked o)
       go (some x) d e = absurd (never e)
       go none d e =
-          let (f, l) = none-both (frontTests c w p t) (asked .later) d in
-          let k = front-known c w p t f in
-          after-kind c w p (k .handed-over) (k .record-in) (p .due) refl t (k .line-in) l
+          let (f, l) = none-both (NotDue when (notDue r (dueKinds (p .due)) t) ∷ handedOver r (workingWeight r) c w false (recordOut r c p || asked .out)) (asked .later) d in
+          let (u, g) = neither (notDue r (dueKinds (p .due)) t) NotDue (firstOf (handedOver r (workingWeight r) c w false (recordOut r c p || asked .out))) f in
+          let (h, k, o) = lent-known r c w p (asked .out) g in
+          after-kind c w p h k (p .due) refl t o l
 
-  pub step-leaves : (t : List ℕ) → stepReplay standard c w p t .stepped .answer ≡ Outcome.Done → Left c (stepReplay standard c w p t)
+  pub step-leaves : (t : List ℕ) → stepReplay r c w p t .stepped .answer ≡ Outcome.Done → Left r c (stepReplay r c w p t)
   unfolding stepReplay
   step-leaves t = go (p .standing)
     where
-      go : (s : Standing) → stepStanding standard c w p t s .stepped .answer ≡ Outcome.Done → Left c (stepStanding standard c w p t s)
+      go : (s : Standing) → stepStanding r c w p t s .stepped .answer ≡ Outcome.Done → Left r c (stepStanding r c w p t s)
       go (Standing.Refused x) e = absurd (never e)
-      go Standing.Good e = line-leaves (readLine (standard .amountWidth) t) e
+      go Standing.Good e = line-leaves (readLine (r .amountWidth) t) e

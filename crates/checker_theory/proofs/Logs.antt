@@ -1,7 +1,8 @@
--- A log as one block from a fresh record, beside the plain replay of its lines: the table, the rounds, the first refusal and its line, the end's
--- answer, and so the judgement that the program `replay` prints. With Blocks the same holds of a log cut into blocks. Assumes nothing.
+-- A log from a fresh record, as one block (`log-block`), beside the plain replay of its lines: the table, the rounds, the first refusal and its
+-- line, the end's answer, and so the judgement that the program `replay` prints. With Blocks the same holds of a log cut into blocks. Assumes
+-- nothing.
 use mathlib.Core.Path.{_≡_, refl, sym, ap, ap₂, _∙_}
-use mathlib.Core.Bool.{Bool}
+use mathlib.Core.Bool.{Bool, false}
 use mathlib.Core.Option.{Option, none, some}
 use mathlib.Core.List.{List, [], _∷_, map}
 use Prim.Native.Nat.{ℕ, _+_}
@@ -17,12 +18,15 @@ use Rattle.definitions.specs.declared.Outcome.{Outcome}
 use Rattle.definitions.specs.Rules.{Rules, Coherent}
 use Rattle.definitions.specs.Answers.{outcomeOf}
 use Rattle.definitions.specs.Case.{upperBound}
-use Rattle.definitions.specs.Valid.{valid}
+use Rattle.definitions.specs.Refusals.{firstOf}
+use Rattle.definitions.specs.Valid.{startingWeight, handedOver, valid}
 use Rattle.definitions.specs.Lines.{linesIn, hasPart}
 use Rattle.definitions.specs.Replay.{State, fresh, step, after, answers, atEnd}
-use Rattle.checker.specs.Checker.{BlockCall, freshReplay, takenLines, firstRefused, endReplay, blockReplay}
+use Rattle.checker.specs.Checker.{BlockCall, freshOf, freshReplay, takenLines, firstRefused, endReplay, foldReplay, blockReplay}
 use Rattle.definitions.specs.Programs.{Judged, accepted, refused, firstNumber, judgeLog}
-use Rattle.theory.proofs.Replays.{after-stands}
+use Rattle.integers.specs.Tests.{tests}
+use Rattle.theory.proofs.Replays.{none-iff, after-stands, handed-after}
+use Rattle.checker_theory.proofs.Blocks.{Lent, lent-handed, block-lent}
 use Rattle.checker_theory.proofs.Accepts.{answers-are, end-is, weights-are, rounds-are}
 
 -- the judgement of a log whose lines, but for those taken, begin at `at`: the first refusal, else the end's, else 14 where a part line is left
@@ -49,10 +53,10 @@ first-number r s e (t ∷ ts) = go (step r s t .refusal) refl (λ f. first-numbe
     go none f i = i f
     go (some x) f i = sym (ap outcomeOf (ap (λ (u : State). u .refusal) (after-stands r (step r s t) f ts) ∙ f))
 
--- the log as a block, and the plain replay's state after its lines
+-- the fold over the log, and the plain replay's state after its lines
 module _ (r : Rules) (c : Case) (w : List ℤ) (log : List ℕ) where
-  abbrev pub logBlock : BlockCall
-  logBlock = blockReplay r c w (freshReplay r c w) log
+  abbrev pub logFold : BlockCall
+  logFold = foldReplay r c w (freshReplay r c w) log
 
   abbrev pub logState : State
   logState = after r (fresh c w) (linesIn (r .amountWidth) log)
@@ -61,34 +65,43 @@ module _ {r : Rules} (coherent : Coherent r) (c : Case) (w : List ℤ) (t : T (v
   abbrev lines : List (List ℕ)
   lines = linesIn (r .amountWidth) log
 
-  pub log-table : logBlock r c w log .table ≡ logState r c w log .weights
-  unfolding blockReplay
+  -- no number applies to a valid case, its weights and a fresh record
+  pub fresh-lent : Lent r c w (freshReplay r c w)
+  unfolding freshReplay
+  fresh-lent = rw (none-iff (firstOf (handedOver r (startingWeight r) c w false false)) .0 t)
+      (lent-handed r c w (freshOf none (upperBound c w)) refl (handed-after r c w t [] coherent) (simp tests (omega arith)))
+
+  pub log-block : blockReplay r c w (freshReplay r c w) log ≡ logFold r c w log
+  log-block = block-lent r c w (freshReplay r c w) log fresh-lent
+
+  pub log-table : logFold r c w log .table ≡ logState r c w log .weights
+  unfolding foldReplay
   log-table = weights-are coherent c w t lines
 
-  pub log-rounds : logBlock r c w log .block .replay .rounds ≡ logState r c w log .rounds
-  unfolding blockReplay
+  pub log-rounds : logFold r c w log .block .replay .rounds ≡ logState r c w log .rounds
+  unfolding foldReplay
   log-rounds = rounds-are coherent c w t lines
 
-  pub log-answer : logBlock r c w log .block .answer ≡ outcomeOf (logState r c w log .refusal)
-  unfolding blockReplay
+  pub log-answer : logFold r c w log .block .answer ≡ outcomeOf (logState r c w log .refusal)
+  unfolding foldReplay
   log-answer = ap firstRefused (answers-are coherent c w t lines) ∙ first-number r (fresh c w) refl lines
 
-  pub log-lines : logBlock r c w log .block .lines ≡ takenLines (map outcomeOf (answers r (fresh c w) lines))
-  unfolding blockReplay
+  pub log-lines : logFold r c w log .block .lines ≡ takenLines (map outcomeOf (answers r (fresh c w) lines))
+  unfolding foldReplay
   log-lines = ap takenLines (answers-are coherent c w t lines)
 
-  pub log-end : endReplay r c (logBlock r c w log .block .replay) ≡ outcomeOf (atEnd (logState r c w log))
-  unfolding blockReplay
+  pub log-end : endReplay r c (logFold r c w log .block .replay) ≡ outcomeOf (atEnd (logState r c w log))
+  unfolding foldReplay
   log-end = end-is coherent c w t lines
 
   -- the judgement of a log that begins at line `at`
   pub log-judged : (at : ℕ) → judgeLog r c w at log
-      ≡ logJudged (at + logBlock r c w log .block .lines) (logBlock r c w log .block .answer) (endReplay r c (logBlock r c w log .block .replay)) (hasPart (r .amountWidth) log)
-      (accepted (logBlock r c w log .block .replay .rounds) (upperBound c (logBlock r c w log .table)))
-  unfolding blockReplay
+      ≡ logJudged (at + logFold r c w log .block .lines) (logFold r c w log .block .answer) (endReplay r c (logFold r c w log .block .replay)) (hasPart (r .amountWidth) log)
+      (accepted (logFold r c w log .block .replay .rounds) (upperBound c (logFold r c w log .table)))
+  unfolding foldReplay
   log-judged at =
       number-judged r at (answers r (fresh c w) lines) (atEnd (logState r c w log)) (hasPart (r .amountWidth) log) (accepted (logState r c w log .rounds) (upperBound c (logState r c w log .weights)))
-      ∙ sym (ap₂ (λ (os : List Outcome) (end : Outcome). judged os end (logBlock r c w log .block .replay .rounds) (logBlock r c w log .table)) (answers-are coherent c w t lines) log-end
+      ∙ sym (ap₂ (λ (os : List Outcome) (end : Outcome). judged os end (logFold r c w log .block .replay .rounds) (logFold r c w log .table)) (answers-are coherent c w t lines) log-end
       ∙ ap₂ (judged (map outcomeOf (answers r (fresh c w) lines)) (outcomeOf (atEnd (logState r c w log)))) log-rounds log-table)
     where
       judged : List Outcome → Outcome → ℕ → List ℤ → Judged
