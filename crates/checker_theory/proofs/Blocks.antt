@@ -201,12 +201,15 @@ module _ (r : Rules) where
   lines-lent : (b : Between) (ts : List (List ℕ)) → Lent (b .case) (b .table) (b .replay) → firstRefused (lineAnswers r b ts) ≡ Outcome.Done
       → Lent (b .case) (afterLines r b ts .table) (afterLines r b ts .replay)
   lines-lent b [] l e = l
-  lines-lent b (t ∷ ts) l e = go (stepReplay r (b .case) (b .table) (b .replay) t .stepped .answer) refl e
+  lines-lent b (t ∷ ts) l e = go (stepReplay r (b .case) (b .table) (b .replay) t .stepped .answer) refl e (λ k f. lines-lent (stepBetween r b t) ts k f)
     where
+      Left : Type 0
+      Left = Lent (b .case) (afterLines r (stepBetween r b t) ts .table) (afterLines r (stepBetween r b t) ts .replay)
+
       go : (o : Outcome) → stepReplay r (b .case) (b .table) (b .replay) t .stepped .answer ≡ o → firstRefused (o ∷ lineAnswers r (stepBetween r b t) ts) ≡ Outcome.Done
-          → Lent (b .case) (afterLines r (stepBetween r b t) ts .table) (afterLines r (stepBetween r b t) ts .replay)
-      go Outcome.Done d e = lines-lent (stepBetween r b t) ts (step-lent b t d) e
-      go (Outcome.Refused x) d e = absurd (never e)
+          → (Lent (b .case) (stepBetween r b t .table) (stepBetween r b t .replay) → firstRefused (lineAnswers r (stepBetween r b t) ts) ≡ Outcome.Done → Left) → Left
+      go Outcome.Done d e on = on (step-lent b t d) e
+      go (Outcome.Refused x) d e on = absurd (never e)
 
   module _ (c : Case) (w : List ℤ) (p : Replay) (bytes : List ℕ) where
     abbrev between : Between
@@ -272,6 +275,9 @@ module _ (r : Rules) where
         known : Known c (first .table) (first .block .replay)
         known = known-after c w p xs (known-lent c w p l)
 
+        thenAt : Outcome → BlockCall
+        thenAt o = record { block = record { replay = first .block .replay; lines = first .block .lines + 0; answer = o }; table = first .table }
+
         go : (s : Standing) → first .block .replay .standing ≡ s → (o : Outcome) → first .block .answer ≡ o
             → thenBlock first second ≡ thenBlock first (blockReplay r c (first .table) (first .block .replay) ys)
         go Standing.Good d o a = ap (thenBlock first) (sym (block-lent c (first .table) (first .block .replay) ys (lent-known c (first .table) (first .block .replay) d known)))
@@ -280,9 +286,6 @@ module _ (r : Rules) where
             ap (thenBlock first) (fold-stands c (first .table) (first .block .replay) ys d)
             ∙ ap (λ (o : Outcome). thenAt (orElse o (second .block .answer))) a ∙ ap (λ (o : Outcome). thenAt (orElse o (Outcome.Refused y))) (sym a)
             ∙ ap (thenBlock first) (sym (block-stands c (first .table) (first .block .replay) ys d))
-
-        thenAt : Outcome → BlockCall
-        thenAt o = record { block = record { replay = first .block .replay; lines = first .block .lines + 0; answer = o }; table = first .table }
 
     pub blocks-join : Known c w p
         → blockReplay r c w p (xs ++ ys) ≡ thenBlock (blockReplay r c w p xs) (blockReplay r c (blockReplay r c w p xs .table) (blockReplay r c w p xs .block .replay) ys)
