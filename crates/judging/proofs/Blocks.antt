@@ -1,4 +1,4 @@
--- Blocks handed over one after another, beside one block of all their lines. Assumes nothing.
+-- Blocks handed over one after another, beside the fold over all their lines, where no number applies to what is lent. Assumes nothing.
 use mathlib.Core.Path.{_≡_, refl, sym, ap, ap₂, _∙_}
 use mathlib.Core.Bool.{false}
 use mathlib.Core.List.{List, [], _∷_, _++_, append-assoc, List·Memᴰ·head, List·Memᴰ·tail}
@@ -16,8 +16,8 @@ use Rattle.definitions.specs.declared.Refusal.{Refusal}
 use Rattle.definitions.specs.Rules.{Rules}
 use Rattle.definitions.specs.Lines.{lineLength, cutLines, wholeLines, linesIn, hasPart}
 use Rattle.checker.specs.declared.Replay.{Replay}
-use Rattle.checker.specs.Checker.{Between, BlockCall, takenLines, firstRefused, stepBetween, afterLines, lineAnswers, blockReplay}
-use Rattle.checker_theory.proofs.Blocks.{lines-append, answers-append, orElse, blocks-join}
+use Rattle.checker.specs.Checker.{Between, BlockCall, takenLines, firstRefused, stepBetween, afterLines, lineAnswers, foldReplay}
+use Rattle.checker_theory.proofs.Blocks.{lines-append, answers-append, orElse, folds-join, Lent, block-lent, lent-after}
 use Rattle.texts.specs.Texts.{greatestCount}
 use Rattle.judging.specs.declared.Judging.{Judging}
 use Rattle.judging.specs.Judging.{JudgingCall, counted, answerAt, blockFrom, blockJudging}
@@ -51,18 +51,18 @@ module _ (r : Rules) where
   answers-count b (t ∷ ts) = ap suc (answers-count (stepBetween r b t) ts)
 
   module _ (c : Case) (w : List ℤ) (p : Replay) where
-    pub block-most : (bytes : List ℕ) → blockReplay r c w p bytes .block .lines ≤ wholeLines (r .amountWidth) bytes
-    unfolding blockReplay
-    block-most bytes =
+    pub fold-most : (bytes : List ℕ) → foldReplay r c w p bytes .block .lines ≤ wholeLines (r .amountWidth) bytes
+    unfolding foldReplay
+    fold-most bytes =
         let b : Between = record { case = c; table = w; replay = p } in
         let ts = linesIn (r .amountWidth) bytes in
         omega (arith, taken-most (lineAnswers r b ts), answers-count b ts, lines-count (lineLength (r .amountWidth)) (wholeLines (r .amountWidth) bytes) bytes)
 
     -- a line refused in xs is the first
-    block-refused : (xs ys : List ℕ) → hasPart (r .amountWidth) xs ≡ false → {x : Refusal} → blockReplay r c w p xs .block .answer ≡ Outcome.Refused x
-        → blockReplay r c w p (xs ++ ys) .block .lines ≡ blockReplay r c w p xs .block .lines
-    unfolding blockReplay
-    block-refused xs ys whole e =
+    fold-refused : (xs ys : List ℕ) → hasPart (r .amountWidth) xs ≡ false → {x : Refusal} → foldReplay r c w p xs .block .answer ≡ Outcome.Refused x
+        → foldReplay r c w p (xs ++ ys) .block .lines ≡ foldReplay r c w p xs .block .lines
+    unfolding foldReplay
+    fold-refused xs ys whole e =
         let b : Between = record { case = c; table = w; replay = p } in
         let ts = linesIn (r .amountWidth) xs in
         let us = linesIn (r .amountWidth) ys in
@@ -70,13 +70,13 @@ module _ (r : Rules) where
         ∙ taken-refused (lineAnswers r b ts) (lineAnswers r (afterLines r b ts) us) e
 
     -- no whole line
-    block-short : (bytes : List ℕ) → length bytes < lineLength (r .amountWidth) → blockReplay r c w p bytes ≡ record { block = record { replay = p; lines = 0; answer = Outcome.Done }; table = w }
-    unfolding blockReplay
-    block-short bytes h = let n : wholeLines (r .amountWidth) bytes ≡ 0 = div-eq-of-lt h in rw n
+    fold-short : (bytes : List ℕ) → length bytes < lineLength (r .amountWidth) → foldReplay r c w p bytes ≡ record { block = record { replay = p; lines = 0; answer = Outcome.Done }; table = w }
+    unfolding foldReplay
+    fold-short bytes h = let n : wholeLines (r .amountWidth) bytes ≡ 0 = div-eq-of-lt h in rw n
 
   -- ---- the fold
 
-  -- what stands after blocks, beside one block of them all from line `at`
+  -- what stands after blocks, beside the fold over them all from line `at`
   pub record Stands (g : JudgingCall) (c : Case) (at : ℕ) (call : BlockCall) : Type 0 where
     pub answer : g .judging .answer ≡ answerAt (counted at (call .block .lines)) (call .block .answer)
     pub case-kept : call .block .answer ≡ Outcome.Done → g .judging .case ≡ c
@@ -99,10 +99,10 @@ module _ (r : Rules) where
   -- a block and then the others
   module _ (c : Case) (w : List ℤ) (p : Replay) (at : ℕ) (x rest : List ℕ) (whole : hasPart (r .amountWidth) x ≡ false) where
     abbrev first : BlockCall
-    first = blockReplay r c w p x
+    first = foldReplay r c w p x
 
     abbrev second : BlockCall
-    second = blockReplay r c (first .table) (first .block .replay) rest
+    second = foldReplay r c (first .table) (first .block .replay) rest
 
     abbrev next : Outcome → JudgingCall
     next o = record {
@@ -110,10 +110,10 @@ module _ (r : Rules) where
       table = first .table;
     }
 
-    stand-done : {g : JudgingCall} → first .block .answer ≡ Outcome.Done → Stands g c (counted at (first .block .lines)) second → Stands g c at (blockReplay r c w p (x ++ rest))
+    stand-done : {g : JudgingCall} → first .block .answer ≡ Outcome.Done → Stands g c (counted at (first .block .lines)) second → Stands g c at (foldReplay r c w p (x ++ rest))
     stand-done {g} d i =
         let a : orElse (first .block .answer) (second .block .answer) ≡ second .block .answer = rw d in
-        rw (blocks-join r c w p x rest whole)
+        rw (folds-join r c w p x rest whole)
         (record {
           answer = i .answer ∙ ap₂ answerAt (counted-more at (first .block .lines) (second .block .lines)) (sym a);
           case-kept = λ e. i .case-kept (sym a ∙ e);
@@ -124,33 +124,34 @@ module _ (r : Rules) where
     never : {y : Refusal} → Outcome.Refused y ≡ Outcome.Done → ⊥
     never e = let z : _≡_ {A = ℕ} 0 1 = cc in omega arith
 
-    stand-refused : {y : Refusal} → first .block .answer ≡ Outcome.Refused y → Stands (next (Outcome.Refused y)) c at (blockReplay r c w p (x ++ rest))
+    stand-refused : {y : Refusal} → first .block .answer ≡ Outcome.Refused y → Stands (next (Outcome.Refused y)) c at (foldReplay r c w p (x ++ rest))
     stand-refused {y} d =
-        let a : blockReplay r c w p (x ++ rest) .block .answer ≡ Outcome.Refused y = ap (λ (k : BlockCall). k .block .answer) (blocks-join r c w p x rest whole) ∙ ap (λ (o : Outcome). orElse o (second .block .answer)) d in
+        let a : foldReplay r c w p (x ++ rest) .block .answer ≡ Outcome.Refused y = ap (λ (k : BlockCall). k .block .answer) (folds-join r c w p x rest whole) ∙ ap (λ (o : Outcome). orElse o (second .block .answer)) d in
         record {
-          answer = sym (ap₂ (λ (n : ℕ) (o : Outcome). answerAt (counted at n) o) (block-refused c w p x rest whole d) a);
+          answer = sym (ap₂ (λ (n : ℕ) (o : Outcome). answerAt (counted at n) o) (fold-refused c w p x rest whole d) a);
           case-kept = λ e. absurd (never (sym a ∙ e));
           replay = λ e. absurd (never (sym a ∙ e));
           table = λ e. absurd (never (sym a ∙ e));
         }
 
-    stand-next : (xs : List (List ℕ)) → Stands (afterBlocks r (next Outcome.Done) xs) c (counted at (first .block .lines)) second
-        → (o : Outcome) → first .block .answer ≡ o → Stands (afterBlocks r (next o) xs) c at (blockReplay r c w p (x ++ rest))
-    stand-next xs i Outcome.Done d = stand-done d i
+    stand-next : (xs : List (List ℕ)) → (first .block .answer ≡ Outcome.Done → Stands (afterBlocks r (next Outcome.Done) xs) c (counted at (first .block .lines)) second)
+        → (o : Outcome) → first .block .answer ≡ o → Stands (afterBlocks r (next o) xs) c at (foldReplay r c w p (x ++ rest))
+    stand-next xs i Outcome.Done d = stand-done d (i d)
     stand-next xs i (Outcome.Refused y) d = rw (stays (next (Outcome.Refused y)) refl xs) (stand-refused d)
 
   module _ (tail : List ℕ) (short : length tail < lineLength (r .amountWidth)) where
     pub blocks-stand : (xs : List (List ℕ)) → ((x : List ℕ) → x ∈ xs → hasPart (r .amountWidth) x ≡ false)
-        → (j : Judging) (w : List ℤ) (at : ℕ) → j .answer ≡ FileAnswer.Read at → at ≤ greatestCount
-        → Stands (afterBlocks r (record { judging = j; table = w }) xs) (j .case) at (blockReplay r (j .case) w (j .replay) (joined xs ++ tail))
-    blocks-stand [] whole j w at e few =
-        rw (block-short (j .case) w (j .replay) tail short)
+        → (j : Judging) (w : List ℤ) (at : ℕ) → j .answer ≡ FileAnswer.Read at → at ≤ greatestCount → Lent r (j .case) w (j .replay)
+        → Stands (afterBlocks r (record { judging = j; table = w }) xs) (j .case) at (foldReplay r (j .case) w (j .replay) (joined xs ++ tail))
+    blocks-stand [] whole j w at e few l =
+        rw (fold-short (j .case) w (j .replay) tail short)
         (record { answer = e ∙ ap FileAnswer.Read (sym (counted-few at 0 (omega arith) ∙ omega arith)); case-kept = λ d. refl; replay = λ d. refl; table = λ d. refl })
-    blocks-stand (x ∷ xs) whole j w at e few =
+    blocks-stand (x ∷ xs) whole j w at e few l =
         let c : Case = j .case in
         let p : Replay = j .replay in
         let rest : List ℕ = joined xs ++ tail in
         let all-whole = whole x (List·Memᴰ·head refl) in
         let g : JudgingCall = next c w p at x rest all-whole Outcome.Done in
-        let i = blocks-stand xs (λ k m. whole k (List·Memᴰ·tail m)) (g .judging) (g .table) (counted at (blockReplay r c w p x .block .lines)) refl (omega arith) in
-        rw (append-assoc x (joined xs) tail, block-first j w x e) (stand-next c w p at x rest all-whole xs i (blockReplay r c w p x .block .answer) refl)
+        let i : foldReplay r c w p x .block .answer ≡ Outcome.Done → Stands (afterBlocks r g xs) c (counted at (foldReplay r c w p x .block .lines)) (second c w p at x rest all-whole) =
+        λ d. blocks-stand xs (λ k m. whole k (List·Memᴰ·tail m)) (g .judging) (g .table) (counted at (foldReplay r c w p x .block .lines)) refl (omega arith) (lent-after r c w p x l d) in
+        rw (append-assoc x (joined xs) tail, block-first j w x e, block-lent r c w p x l) (stand-next c w p at x rest all-whole xs i (foldReplay r c w p x .block .answer) refl)

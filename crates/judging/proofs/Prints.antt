@@ -22,18 +22,18 @@ use Rattle.definitions.specs.Valid.{workingWeight, valid}
 use Rattle.definitions.specs.Lines.{lineLength, wholeLines, linesIn, hasPart, overwritten}
 use Rattle.definitions.specs.CaseFiles.{CaseCall, readCase, caseSize}
 use Rattle.definitions.specs.Programs.{Judged, accepted, refused, judgedText, tableFor, judgeLog, judgeRead, judge, replayPrints}
-use Rattle.checker.specs.Checker.{BlockCall, freshReplay, endReplay, blockReplay}
+use Rattle.checker.specs.Checker.{BlockCall, freshReplay, endReplay, foldReplay}
 use Rattle.theory.proofs.Validity.{Handed}
 use Rattle.theory.proofs.Replays.{sound-fresh, sound-after, handed-after}
 use Rattle.theory.proofs.CaseTests.{CaseKinds, standard-case-kinds}
 use Rattle.theory.proofs.CaseTexts.{IsText, written-read, text-length, lineCount}
-use Rattle.checker_theory.proofs.Logs.{logJudged, log-judged, log-table, log-rounds}
+use Rattle.checker_theory.proofs.Logs.{logJudged, fresh-lent, log-judged, log-table, log-rounds}
 use Rattle.texts.specs.Texts.{textRoom, greatestCount, writeRefusedCall, writeAcceptedCall}
 use Rattle.texts.proofs.Answers.{text-done}
 use Rattle.judging.specs.Judging.{JudgingCall, answerAt, writeJudged, startJudging, judgedFrom, finishJudging}
 use Rattle.judging.specs.Cuts.{Cut, afterBlocks, printedOf}
 use Rattle.judging.proofs.Fronts.{longestLines, case-line, case-front}
-use Rattle.judging.proofs.Blocks.{counted-few, block-most, Stands, stays, blocks-stand}
+use Rattle.judging.proofs.Blocks.{counted-few, fold-most, Stands, stays, blocks-stand}
 use Rattle.judging.proofs.Ends.{finish-judged}
 
 -- ---- the part line of whole lines and a tail
@@ -101,7 +101,7 @@ module _ {r : Rules} (coherent : Coherent r) (kinds : CaseKinds r) (few : longes
   -- a valid case and its log: whole lines and a tail
   module _ (c : Case) (w : List ℤ) (v : T (valid r c w)) (log : List ℕ) where
     abbrev all : BlockCall
-    all = blockReplay r c w (freshReplay r c w) log
+    all = foldReplay r c w (freshReplay r c w) log
 
     handed-all : Handed r (workingWeight r) c (all .table)
     handed-all = rw (log-table coherent c w v log) (handed-after r c w v (linesIn (r .amountWidth) log) coherent)
@@ -192,12 +192,12 @@ module _ {r : Rules} (coherent : Coherent r) (kinds : CaseKinds r) (few : longes
       lines-few : lines + all c w (text .accepted) log .block .lines ≤ greatestCount
       lines-few =
           let k = rw (cut .log lines e) at (lines-after (r .amountWidth) lines t case-fits) in
-          omega (arith, block-most r c w (freshReplay r c w) log)
+          omega (arith, fold-most r c w (freshReplay r c w) log)
 
       stand : Stands r after c lines (all c w (text .accepted) log)
       stand =
           rw begins
-          (blocks-stand r (cut .tail) (cut .tail-short) (cut .blocks) (cut .lines-whole) (begun .judging) w lines e (omega (arith, lines-few)))
+          (blocks-stand r (cut .tail) (cut .tail-short) (cut .blocks) (cut .lines-whole) (begun .judging) w lines e (omega (arith, lines-few)) (fresh-lent coherent c w (text .accepted) log))
 
       right-read : Right
       right-read =
