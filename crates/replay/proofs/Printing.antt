@@ -1,16 +1,17 @@
 -- From the loop's contract to the printed text: what is judged turn after turn is a cut of the whole input. Assumes nothing.
-use mathlib.Core.Path.{_≡_, refl, sym, ap, _∙_}
-use mathlib.Core.Bool.{not}
+use mathlib.Core.Path.{_≡_, refl, sym, ap, ap₂, subst, _∙_}
+use mathlib.Core.Bool.{false, not}
 use mathlib.Core.Logic.{_⊎_, inl, inr}
 use mathlib.Core.List.{List, [], _++_}
-use Prim.Native.Nat.{ℕ, _*_, _/_, _≤_, _<_}
+use Prim.Native.Nat.{ℕ, _*_, _/_, _≤_}
+use native.Mathlib.Nat.{mul-le-mul-left}
 use native.Mathlib.Omega.{arith}
 use lib.IntN.{ℤ}
-use lib.Dec.{T, ltb, eqb, ltb→lt, nltb→le}
-use lib.ListN.{length, take, drop}
-use lib.Seq.{length-take-le, drop-append-le}
+use lib.Dec.{T, eqb}
+use lib.ListN.{length, take, drop, length-append}
+use lib.Seq.{length-take-le, drop-append-le, take-append-seam}
 use borrow.Author.Tests.{le-leb}
-use Rattle.integers.specs.Tests.{either}
+use Rattle.integers.specs.Tests.{is-false}
 use Rattle.integers.specs.Words.{joined}
 use Rattle.definitions.specs.declared.FileAnswer.{FileAnswer}
 use Rattle.definitions.specs.declared.Written.{Written}
@@ -22,8 +23,10 @@ use Rattle.texts.specs.Texts.{textRoom, greatestCount}
 use Rattle.judging.specs.Judging.{startJudging, finishJudging}
 use Rattle.judging.specs.Cuts.{longestCase, Cut}
 use Rattle.judging.proofs.Prints.{lines-within, replay-printed}
+use Rattle.streams.specs.declared.Filled.{Filled}
+use Rattle.streams.specs.Streams.{isOver, isFailed, printedPart}
 use Rattle.replay.specs.declared.Turned.{Turned}
-use Rattle.replay.specs.Turns.{lineBytes, caseBytes, Judges, Prints}
+use Rattle.replay.specs.Turns.{lineBytes, caseBytes, mostTurns, Judges, Prints}
 
 start-answer : (front : List ℕ) (w : List ℤ) → startJudging standard front w .judging .answer ≡ readCase standard front w .read .answer
 unfolding startJudging
@@ -33,8 +36,8 @@ start-answer front w = refl
 case-fits : (lines most : ℕ) → lines * lineBytes ≤ most → caseBytes (FileAnswer.Read lines) most ≡ lines * lineBytes
 case-fits lines most h = simp (le-leb lines (most / lineBytes) (omega arith))
 
-module _ {front : List ℕ} {ended : Type 0} {r : Turned} {v : List ℤ} (enough : (longestCase standard ≤ length front) ⊎ ended)
-    (o : Judges front (tableFor (caseSize standard front)) ended r v) where
+module _ {room : ℕ} {front : List ℕ} {first : Filled} {r : Turned} {v : List ℤ} (enough : (longestCase standard ≤ length front) ⊎ T (isOver first))
+    (o : Judges room front (tableFor (caseSize standard front)) first r v) where
   abbrev w : List ℤ
   w = tableFor (caseSize standard front)
 
@@ -45,9 +48,9 @@ module _ {front : List ℕ} {ended : Type 0} {r : Turned} {v : List ℤ} (enough
       ap (λ (a : FileAnswer). caseBytes a (length front)) (start-answer front w ∙ e) ∙ case-fits lines (length front) fits in
       drop-append-le (lines * lineBytes) front (o .more) fits ∙ ap (λ (n : ℕ). drop n front ++ o .more) (sym at) ∙ o .all
 
-  held-or-all : (longestCase standard ≤ length front) ⊎ ended → (longestCase standard ≤ length front) ⊎ (o .more ≡ [])
+  held-or-all : (longestCase standard ≤ length front) ⊎ T (isOver first) → (longestCase standard ≤ length front) ⊎ (o .more ≡ [])
   held-or-all (inl h) = inl h
-  held-or-all (inr e) = inr (o .ends e)
+  held-or-all (inr e) = inr (o .ends e .0)
 
   cut : Cut standard (front ++ o .more)
   cut = record {
@@ -68,20 +71,42 @@ module _ {front : List ℕ} {ended : Type 0} {r : Turned} {v : List ℤ} (enough
   unfolding cut
   finished out room few = rw (o .judging, o .table, o .held) (replay-printed (front ++ o .more) cut few out room)
 
-  -- what the finish writes after the loop
-  pub judges-prints : (out : List ℕ) → textRoom ≤ length out → {a : Written} {after : List ℕ}
-      → (a ≡ finishJudging standard (r .judging) v (not (eqb (r .held) 0)) out .answer) × (after ≡ finishJudging standard (r .judging) v (not (eqb (r .held) 0)) out .out)
-      → Prints front ended out a after
-  judges-prints out room (p, q) = record {
+  -- so few lines do not use up the turns
+  read-over : 262117 ≤ room → wholeLines (standard .amountWidth) (front ++ o .more) ≤ greatestCount → T (isOver (r .filled))
+  read-over wide few = go (o .over)
+    where
+      go : T (isOver (r .filled)) ⊎ (mostTurns * room ≤ length (o .more)) → T (isOver (r .filled))
+      go (inl e) = e
+      go (inr h) = absurd (omega (arith, length-append front (o .more), mul-le-mul-left {m = 262117} {n = room} mostTurns wide))
+
+  -- a read failed
+  pub failed-prints : T (isFailed (r .filled)) → Prints front first []
+  failed-prints e = record {
     more = o .more;
+    last = r .filled;
     ends = o .ends;
-    says = λ few. (p ∙ ap (λ k. k .answer) (finished out room few), q ∙ ap (λ k. k .out) (finished out room few));
+    failed = λ f. refl;
+    says = λ n few. absurd (subst T (is-false (isFailed (r .filled)) n) e);
   }
 
--- a buffer that was not filled holds the whole input, and one that was filled the longest case
-pub enough-read : (buf : List ℕ) (filled : ℕ) → filled ≤ length buf → length buf ≡ 262144 → (longestCase standard ≤ length (take filled buf)) ⊎ (filled < length buf)
-enough-read buf filled h e = go (either (ltb filled (length buf)))
-  where
-    go : T (ltb filled (length buf)) ⊎ T (not (ltb filled (length buf))) → (longestCase standard ≤ length (take filled buf)) ⊎ (filled < length buf)
-    go (inl t) = inr (ltb→lt filled (length buf) t)
-    go (inr t) = inl (omega (arith, nltb→le filled (length buf) t, length-take-le filled buf h))
+  -- what the finish writes after the loop
+  pub judges-prints : 262117 ≤ room → isFailed (r .filled) ≡ false → (out : List ℕ) → textRoom ≤ length out → {a : Written} {after : List ℕ}
+      → (a ≡ finishJudging standard (r .judging) v (not (eqb (r .held) 0)) out .answer) × (after ≡ finishJudging standard (r .judging) v (not (eqb (r .held) 0)) out .out)
+      → Prints front first (printedPart a after)
+  judges-prints wide done out fits (p, q) = record {
+    more = o .more;
+    last = r .filled;
+    ends = o .ends;
+    failed = λ f. absurd (subst T done f);
+    says = λ n few. (
+      read-over wide few,
+      ap₂ printedPart (p ∙ ap (λ k. k .answer) (finished out fits few)) (q ∙ ap (λ k. k .out) (finished out fits few))
+          ∙ take-append-seam (replayPrints standard (front ++ o .more)) (drop (length (replayPrints standard (front ++ o .more))) out),
+    );
+  }
+
+-- a buffer that was filled holds the longest case
+pub enough-read : (buf : List ℕ) (filled : Filled) → filled .to ≤ length buf → length buf ≡ 262144 → (length buf ≤ filled .to) ⊎ T (isOver filled)
+    → (longestCase standard ≤ length (take (filled .to) buf)) ⊎ T (isOver filled)
+enough-read buf filled h e (inl full) = inl (omega (arith, length-take-le (filled .to) buf h))
+enough-read buf filled h e (inr over) = inr over

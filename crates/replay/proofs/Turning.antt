@@ -1,24 +1,26 @@
 -- Turn after turn: the bytes read are blocks of whole lines and a part line. Assumes nothing.
 use mathlib.Core.Path.{_≡_, refl, sym, ap, ap₂, subst, _∙_}
 use mathlib.Core.Bool.{false, not}
-use mathlib.Core.Logic.{⊎-elim}
+use mathlib.Core.Logic.{_⊎_, inl, inr, ⊎-elim}
 use mathlib.Core.List.{List, [], _∷_, _++_, append-assoc, append-nil, List·Memᴰ·head, List·Memᴰ·tail, List·Memᴰ·append-cases, List·Memᴰ·eq-of-singleton, List·Memᴰ·not-nil}
 use Prim.Native.Nat.{ℕ, _+_, _*_, _-_, _/_, _%_, _≤_, _<_}
 use native.Mathlib.Nat.{div-add-mod', mul-mod-left}
 use native.Mathlib.Omega.{arith}
 use lib.IntN.{ℤ}
-use lib.Dec.{eqb}
-use lib.ListN.{length, take, drop, take-append-drop}
-use lib.Seq.{length-take-le, take-add, drop-at}
+use lib.Dec.{T, eqb}
+use lib.ListN.{length, take, drop, take-append-drop, length-append, length-drop}
+use lib.Seq.{length-take-le, take-take, take-add, drop-at}
 use Rattle.integers.specs.Words.{joined}
 use Rattle.integers.specs.Lists.{_∈_, joined-append}
 use Rattle.definitions.specs.Rules.{standard}
 use Rattle.definitions.specs.Lines.{hasPart}
+use Rattle.streams.specs.declared.Filled.{Filled}
+use Rattle.streams.specs.Streams.{isOver, Fills}
 use Rattle.judging.specs.declared.Judging.{Judging}
 use Rattle.judging.specs.Judging.{JudgingCall, startJudging, blockJudging}
 use Rattle.judging.specs.Cuts.{afterBlocks}
 use Rattle.replay.specs.declared.Turned.{Turned}
-use Rattle.replay.specs.Turns.{lineBytes, wholeBytes, caseBytes, Turns, Goes, Judges}
+use Rattle.replay.specs.Turns.{lineBytes, wholeBytes, caseBytes, mostTurns, Turns, Goes, Judges}
 
 after-append : (g : JudgingCall) (xs ys : List (List ℕ)) → afterBlocks standard g (xs ++ ys) ≡ afterBlocks standard (afterBlocks standard g xs) ys
 after-append g [] ys = refl
@@ -42,23 +44,25 @@ module _ (bytes : List ℕ) where
       ap (λ (k : ℕ). not (eqb (k % lineBytes) 0)) e ∙ ap (λ (k : ℕ). not (eqb k 0)) (mul-mod-left (n / lineBytes) lineBytes)
 
 -- no turn
-pub goes-none : (ended : Type 0) (r : Turned) (v : List ℤ) (buf : List ℕ) → r .held ≤ length buf → r .held < lineBytes
-    → Goes (record { judging = r .judging; table = v }) (take (r .held) buf) ended r v buf
-goes-none ended r v buf h s = record {
+pub goes-none : (room : ℕ) (r : Turned) (v : List ℤ) (buf : List ℕ) → r .held ≤ length buf → r .held < lineBytes
+    → Goes 0 room (record { judging = r .judging; table = v }) (take (r .held) buf) (r .filled) r v buf
+goes-none room r v buf h s = record {
   more = [];
   blocks = [];
   lines-whole = λ x i. absurd (List·Memᴰ·not-nil i);
   all = append-nil (take (r .held) buf);
-  ends = λ e. refl;
   judging = refl;
   table = refl;
   fits = h;
   short = s;
+  ends = λ e. (refl, refl);
+  over = inr (omega arith);
 }
 
 -- one turn more
-module _ {g : JudgingCall} {held : List ℕ} {ended : Type 0} {r : Turned} {v : List ℤ} {buf : List ℕ} (o : Goes g held ended r v buf) (on : ended → ⊥)
-    (bytes : List ℕ) (kept : take (r .held) bytes ≡ take (r .held) buf) {q : Turned} {u : List ℤ} {next : List ℕ} (t : Turns (r .judging) v bytes q u next) where
+module _ {turns room : ℕ} {g : JudgingCall} {held : List ℕ} {first : Filled} {r : Turned} {v : List ℤ} {buf : List ℕ} (o : Goes turns room g held first r v buf)
+    (on : isOver (r .filled) ≡ false) (bytes : List ℕ) (kept : take (r .held) bytes ≡ take (r .held) buf) {filled : Filled}
+    (full : (room ≤ length (drop (r .held) bytes)) ⊎ T (isOver filled)) {q : Turned} {u : List ℤ} {next : List ℕ} (t : Turns (r .judging) v bytes filled q u next) where
   new : List ℕ
   new = drop (r .held) bytes
 
@@ -79,18 +83,60 @@ module _ {g : JudgingCall} {held : List ℕ} {ended : Type 0} {r : Turned} {v : 
       let a : JudgingCall = afterBlocks standard g (o .blocks) in
       rw (o .judging, o .table) (sym (after-append g (o .blocks) (front bytes ∷ [])))
 
-  pub goes-next : Goes g held ended q u next
+  never : T (isOver (r .filled)) → ⊥
+  never e = subst T on e
+
+  over-next : (room ≤ length (drop (r .held) bytes)) ⊎ T (isOver filled) → T (isOver (r .filled)) ⊎ (turns * room ≤ length (o .more))
+      → T (isOver (q .filled)) ⊎ ((turns + 1) * room ≤ length (o .more ++ new))
+  unfolding new
+  over-next (inr e) k = inl (subst (λ (f : Filled). T (isOver f)) (sym (t .filled-last)) e)
+  over-next (inl h) (inl e) = absurd (never e)
+  over-next (inl h) (inr k) = inr (rw length-append (omega arith))
+
+  pub goes-next : Goes (turns + 1) room g held first q u next
   goes-next = record {
     more = o .more ++ new;
     blocks = o .blocks ++ (front bytes ∷ []);
     lines-whole = whole-next;
     all = all-next;
-    ends = λ e. absurd (on e);
     judging = t .judging ∙ ap (λ (k : JudgingCall). k .judging) same;
     table = t .table ∙ ap (λ (k : JudgingCall). k .table) same;
     fits = t .fits;
     short = t .short;
+    ends = λ e. absurd (never (subst (λ (f : Filled). T (isOver f)) (sym (o .ends e .1)) e));
+    over = over-next full (o .over);
   }
+
+-- the bytes of a fill after those that are held
+module _ {held : ℕ} {buf : List ℕ} {filled : Filled} {read : List ℕ} (f : Fills held buf filled read) (fits : held ≤ length read) where
+  bytes-long : length (take (filled .to) read) ≡ filled .to
+  bytes-long = length-take-le (filled .to) read (f .within fits)
+
+  pub fill-kept : take held (take (filled .to) read) ≡ take held buf
+  fill-kept = take-take held (filled .to) read (f .onward) ∙ f .kept
+
+  pub fill-full : held < lineBytes → (length read - lineBytes ≤ length (drop held (take (filled .to) read))) ⊎ T (isOver filled)
+  fill-full s = go (f .ends)
+    where
+      go : (length read ≤ filled .to) ⊎ T (isOver filled) → (length read - lineBytes ≤ length (drop held (take (filled .to) read))) ⊎ T (isOver filled)
+      go (inl h) = inl (rw (length-drop, bytes-long) (omega arith))
+      go (inr e) = inr e
+
+-- where the last fill is over, the number of turns is no matter
+pub goes-over : {turns most room : ℕ} {g : JudgingCall} {held : List ℕ} {first : Filled} {r : Turned} {v : List ℤ} {buf : List ℕ}
+    → Goes turns room g held first r v buf → T (isOver (r .filled)) → Goes most room g held first r v buf
+goes-over o e = record {
+  more = o .more;
+  blocks = o .blocks;
+  lines-whole = o .lines-whole;
+  all = o .all;
+  judging = o .judging;
+  table = o .table;
+  fits = o .fits;
+  short = o .short;
+  ends = o .ends;
+  over = inl e;
+}
 
 call : Judging → List ℤ → JudgingCall
 call j w = record { judging = j; table = w }
@@ -108,13 +154,13 @@ part-from l from to h g =
     ∙ drop-at (take from l) (take (to - from) (drop from l)) from (length-take-le from l (omega arith)))
 
 -- the first turn, and then the others
-pub judges-all : (input : List ℕ) (w : List ℤ) {ended over : Type 0} {r : Turned} {v : List ℤ} {buf : List ℕ} {q : Turned} {u : List ℤ} {next : List ℕ} (j : Judging) (x : List ℤ) (bytes : List ℕ)
-    → (over → ended) → j ≡ startJudging standard input w .judging → x ≡ startJudging standard input w .table
+pub judges-all : {room : ℕ} (input : List ℕ) (w : List ℤ) {filled : Filled} {r : Turned} {v : List ℤ} {buf : List ℕ} {q : Turned} {u : List ℤ} {next : List ℕ} (j : Judging) (x : List ℤ) (bytes : List ℕ)
+    → j ≡ startJudging standard input w .judging → x ≡ startJudging standard input w .table
     → bytes ≡ drop (caseBytes (startJudging standard input w .judging .answer) (length input)) input
-    → Turns j x bytes r v buf
-    → Goes (record { judging = r .judging; table = v }) (take (r .held) buf) ended q u next → Judges input w over q u
+    → Turns j x bytes filled r v buf
+    → Goes mostTurns room (record { judging = r .judging; table = v }) (take (r .held) buf) (r .filled) q u next → Judges room input w filled q u
 unfolding call
-judges-all input w {ended} {over} {r} {v} {buf} {q} {u} {next} j x bytes back ej ex eb t o =
+judges-all input w {filled} {r} {v} {buf} {q} {u} {next} j x bytes ej ex eb t o =
     let begun : JudgingCall = startJudging standard input w in
     let first : blockJudging standard (begun .judging) (begun .table) (front bytes) ≡ call (r .judging) v =
     ap₂ (λ (a : Judging) (b : List ℤ). blockJudging standard a b (front bytes)) (sym ej) (sym ex) ∙ sym (ap₂ call (t .judging) (t .table)) in
@@ -127,9 +173,10 @@ judges-all input w {ended} {over} {r} {v} {buf} {q} {u} {next} j x bytes back ej
           ap (λ (l : List ℕ). l ++ o .more) (sym eb ∙ sym (front-rest bytes) ∙ ap (λ (l : List ℕ). front bytes ++ l) (sym (t .part)))
           ∙ append-assoc (front bytes) (take (r .held) buf) (o .more) ∙ ap (λ (l : List ℕ). front bytes ++ l) (o .all)
           ∙ sym (append-assoc (front bytes) (joined (o .blocks)) (take (q .held) next));
-      ends = λ h. o .ends (back h);
       judging = o .judging ∙ ap (λ (k : JudgingCall). afterBlocks standard k (o .blocks) .judging) (sym first);
       table = o .table ∙ ap (λ (k : JudgingCall). afterBlocks standard k (o .blocks) .table) (sym first);
       held = sym (length-take-le (q .held) next (o .fits));
       short = omega (arith, length-take-le (q .held) next (o .fits), o .short);
+      ends = subst (λ (f : Filled). T (isOver f) → (o .more ≡ []) × (q .filled ≡ f)) (t .filled-last) (o .ends);
+      over = o .over;
     }

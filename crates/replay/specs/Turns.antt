@@ -1,20 +1,22 @@
 -- What the loop of `replay` makes of its input: bytes are handed over as blocks of whole lines, and a part line is kept; and what is printed of it.
--- Assumes nothing.
+-- That what is read, and the answers of the reads, are the system's, no contract can say. Assumes nothing.
 use mathlib.Core.Path.{_≡_}
-use mathlib.Core.Bool.{false}
+use mathlib.Core.Bool.{false, not}
+use mathlib.Core.Logic.{_⊎_}
 use mathlib.Core.List.{List, [], _++_}
 use Prim.Native.Nat.{ℕ, _*_, _-_, _/_, _≤_, _<_, _%_}
 use lib.IntN.{ℤ}
-use lib.Dec.{leb}
+use lib.Dec.{T, leb}
 use lib.ListN.{length, take, drop}
 use Rattle.integers.specs.Words.{if_then_else_, joined}
 use Rattle.integers.specs.Lists.{_∈_}
 use Rattle.definitions.specs.declared.FileAnswer.{FileAnswer}
 use Rattle.definitions.specs.Rules.{standard}
-use Rattle.definitions.specs.declared.Written.{Written}
-use Rattle.definitions.specs.Lines.{lineLength, wholeLines, hasPart, overwritten}
+use Rattle.definitions.specs.Lines.{lineLength, wholeLines, hasPart}
 use Rattle.definitions.specs.Programs.{replayPrints}
 use Rattle.texts.specs.Texts.{greatestCount}
+use Rattle.streams.specs.declared.Filled.{Filled}
+use Rattle.streams.specs.Streams.{isOver, isFailed}
 use Rattle.judging.specs.declared.Judging.{Judging}
 use Rattle.judging.specs.Judging.{JudgingCall, startJudging, blockJudging}
 use Rattle.judging.specs.Cuts.{afterBlocks}
@@ -32,43 +34,54 @@ abbrev pub caseBytes : FileAnswer → ℕ → ℕ
 caseBytes (FileAnswer.Refused x at) most = most
 caseBytes (FileAnswer.Read lines) most = if leb lines (most / lineBytes) then lines * lineBytes else most
 
--- one turn: the whole lines of these bytes are a block, and the part line stands at the buffer's front
-pub record Turns (j : Judging) (w : List ℤ) (bytes : List ℕ) (r : Turned) (v : List ℤ) (buf : List ℕ) : Type 0 where
+-- the most turns that are made after the first
+abbrev pub mostTurns : ℕ
+mostTurns = 18446744073709551615
+
+-- one turn on the bytes of a fill: the whole lines are a block, and the part line stands at the buffer's front
+pub record Turns (j : Judging) (w : List ℤ) (bytes : List ℕ) (filled : Filled) (r : Turned) (v : List ℤ) (buf : List ℕ) : Type 0 where
   pub judging : r .judging ≡ blockJudging standard j w (take (wholeBytes bytes) bytes) .judging
   pub table : v ≡ blockJudging standard j w (take (wholeBytes bytes) bytes) .table
   pub part : take (r .held) buf ≡ drop (wholeBytes bytes) bytes
   pub fits : r .held ≤ length buf
   pub short : r .held < lineBytes
+  pub filled-last : r .filled ≡ filled
 
--- many turns: the bytes held, and those read then, are blocks of whole lines and the part line; none are read where the input has ended
-pub record Goes (g : JudgingCall) (held : List ℕ) (ended : Type 0) (r : Turned) (v : List ℤ) (buf : List ℕ) : Type 0 where
+-- many turns after a first fill, each with room for so many new bytes: the bytes held, and those read then, are blocks of whole lines and the part
+-- line. None are read where the first fill was over; the last fill is over, or so many turns were filled
+pub record Goes (turns room : ℕ) (g : JudgingCall) (held : List ℕ) (first : Filled) (r : Turned) (v : List ℤ) (buf : List ℕ) : Type 0 where
   pub more : List ℕ
   pub blocks : List (List ℕ)
   pub lines-whole : (x : List ℕ) → x ∈ blocks → hasPart (standard .amountWidth) x ≡ false
   pub all : held ++ more ≡ joined blocks ++ take (r .held) buf
-  pub ends : ended → more ≡ []
   pub judging : r .judging ≡ afterBlocks standard g blocks .judging
   pub table : v ≡ afterBlocks standard g blocks .table
   pub fits : r .held ≤ length buf
   pub short : r .held < lineBytes
+  pub ends : T (isOver first) → (more ≡ []) × (r .filled ≡ first)
+  pub over : T (isOver (r .filled)) ⊎ (turns * room ≤ length more)
 
 -- the whole input: its front, and what is read then
-pub record Judges (front : List ℕ) (w : List ℤ) (ended : Type 0) (r : Turned) (v : List ℤ) : Type 0 where
+pub record Judges (room : ℕ) (front : List ℕ) (w : List ℤ) (first : Filled) (r : Turned) (v : List ℤ) : Type 0 where
   pub more : List ℕ
   pub blocks : List (List ℕ)
   pub tail : List ℕ
   pub lines-whole : (x : List ℕ) → x ∈ blocks → hasPart (standard .amountWidth) x ≡ false
   pub all : drop (caseBytes (startJudging standard front w .judging .answer) (length front)) front ++ more ≡ joined blocks ++ tail
-  pub ends : ended → more ≡ []
   pub judging : r .judging ≡ afterBlocks standard (startJudging standard front w) blocks .judging
   pub table : v ≡ afterBlocks standard (startJudging standard front w) blocks .table
   pub held : r .held ≡ length tail
   pub short : length tail < lineBytes
+  pub ends : T (isOver first) → (more ≡ []) × (r .filled ≡ first)
+  pub over : T (isOver (r .filled)) ⊎ (mostTurns * room ≤ length more)
 
--- the text of the judgement: what `replay` prints of the input's front and what is read then. That `more` is what the system read, no
--- contract can say
-pub record Prints (front : List ℕ) (ended : Type 0) (text : List ℕ) (r : Written) (after : List ℕ) : Type 0 where
+-- what is to be printed where the first fill read this front: nothing where a read failed; else the input was read to its end, and what `replay`
+-- prints of it
+pub record Prints (front : List ℕ) (first : Filled) (printed : List ℕ) : Type 0 where
+  -- what is read then, and the last fill
   pub more : List ℕ
-  pub ends : ended → more ≡ []
-  pub says : wholeLines (standard .amountWidth) (front ++ more) ≤ greatestCount
-      → (r ≡ Written.Bytes (length (replayPrints standard (front ++ more)))) × (after ≡ overwritten (replayPrints standard (front ++ more)) text)
+  pub last : Filled
+  pub ends : T (isOver first) → (more ≡ []) × (last ≡ first)
+  pub failed : T (isFailed last) → printed ≡ []
+  pub says : T (not (isFailed last)) → wholeLines (standard .amountWidth) (front ++ more) ≤ greatestCount
+      → T (isOver last) × (printed ≡ replayPrints standard (front ++ more))

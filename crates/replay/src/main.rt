@@ -1,28 +1,32 @@
 // The program `replay`: a case and its log on standard input, the judgement on standard output (document 01). The work is done by `judging` on
 // slices; here the input is cut into blocks of whole lines, and a part line is carried over to the next block. The input ends where a read brings
-// nothing; where a read fails nothing is printed.
+// nothing; where a read failed nothing is printed, since what was read is not the input.
 use definitions::CaseSize;
 use definitions::FileAnswer;
 use definitions::Written;
 use judging::Judging;
-use libc::STDIN_FILENO;
 use libc::STDOUT_FILENO;
+use streams::Filled;
 ghost use mathlib.Core.Path.{_≡_};
+ghost use mathlib.Core.Logic.{_⊎_};
 ghost use Prim.Native.Nat.{_-_, _≤_, _<_};
 ghost use lib.IntN.{pos};
+ghost use lib.Dec.{T};
 ghost use lib.ListN.{length, take, drop, replicate};
 ghost use Rattle.definitions.specs.Rules.{standard};
 ghost use Rattle.definitions.specs.CaseFiles.{caseSize};
 ghost use Rattle.definitions.specs.Programs.{tableFor};
 ghost use Rattle.texts.specs.Texts.{textRoom};
-ghost use Rattle.replay.specs.Turns.{lineBytes, caseBytes, Turns, Goes, Judges, Prints};
+ghost use Rattle.streams.specs.Streams.{isOver, printedPart};
+ghost use Rattle.replay.specs.Turns.{lineBytes, caseBytes, mostTurns, Turns, Goes, Judges, Prints};
 
 const LINE: usize = 27;
 
-// What stands between two blocks: so many bytes of a part line are held at the buffer's front.
+// What stands between two blocks: so many bytes of a part line are held at the buffer's front; and the last fill.
 struct Turned {
     judging: Judging,
     held: usize,
+    filled: Filled,
 }
 
 // Room for more than the longest case, which has 178,875 bytes.
@@ -36,42 +40,6 @@ fn weights() -> [i64; 6528]
     ensures { λ r. ⌜ r ≡ replicate 6528 (pos 0) ⌝ }
 {
     [0; 6528]
-}
-
-// Where a read failed the output is closed, so that nothing is printed: what was read is not the input.
-fn checked(got: isize) -> isize
-    ensures { λ r. ⌜ r ≡ got ⌝ }
-{
-    if got < 0 {
-        libc::close(STDOUT_FILENO);
-    }
-    got
-}
-
-// One read to the bytes from `at` on, and where the bytes then end.
-fn read_more(buf: &mut [u8], at: usize) -> usize
-    requires { ⌜ at ≤ length (now buf) ⌝ }
-    ensures { λ r. ⌜ (at ≤ r) × (r ≤ length (now (buf .exit))) × (take at (now (buf .exit)) ≡ take at (now (buf .entry))) ⌝ }
-{
-    let part = &mut buf[at..];
-    let got = checked(libc::read(STDIN_FILENO, part));
-    at + io::count(got, part)
-}
-
-// Reads to the bytes from `from` on until the buffer is full or the input ends, and answers where the bytes end.
-fn fill(buf: &mut [u8], from: usize) -> usize
-    requires { ⌜ from ≤ length (now buf) ⌝ }
-    ensures { λ r. ⌜ (from ≤ r) × (r ≤ length (now (buf .exit))) × (take from (now (buf .exit)) ≡ take from (now (buf .entry))) ⌝ }
-{
-    let mut at = from;
-    while at < buf.len() {
-        let next = read_more(buf, at);
-        if next == at {
-            return at;
-        }
-        at = next;
-    }
-    at
 }
 
 // Moves the bytes from `from` to `to` to the buffer's front.
@@ -88,17 +56,19 @@ fn to_front(buf: &mut [u8], from: usize, to: usize) -> usize
     i
 }
 
-// Hands over the whole lines from byte `from` to byte `to`.
-fn turn(judging: Judging, table: &mut [i64], buf: &mut [u8], from: usize, to: usize) -> Turned
-    requires { ⌜ (from ≤ to) × (to ≤ length (now buf)) ⌝ }
-    ensures { λ r. ⌜ Turns judging (now (table .entry)) (take (to - from) (drop from (now (buf .entry)))) r (now (table .exit)) (now (buf .exit)) ⌝ }
+// Hands over the whole lines from byte `from` to where the last fill ended.
+fn turn(judging: Judging, table: &mut [i64], buf: &mut [u8], from: usize, filled: Filled) -> Turned
+    requires { ⌜ (from ≤ filled .to) × (filled .to ≤ length (now buf)) ⌝ }
+    ensures { λ r. ⌜ Turns judging (now (table .entry)) (take (filled .to - from) (drop from (now (buf .entry)))) filled r (now (table .exit)) (now (buf .exit)) ⌝ }
 {
+    let to = filled.to;
     let end = to - (to - from) % LINE;
     let next = judging::block(judging, table, &buf[from..end]);
     let held = to_front(buf, end, to);
     Turned {
         judging: next,
         held,
+        filled,
     }
 }
 
@@ -121,48 +91,66 @@ fn case_bytes(answer: FileAnswer, most: usize) -> usize
     }
 }
 
-// Reads on and judges until the input ends; a buffer that was not filled was the last. The bytes of a part line stand at the buffer's front.
-fn go_on(first: Turned, table: &mut [i64], buf: &mut [u8], filled: usize) -> Turned
+// Reads on and judges until the last fill is over. The bytes of a part line stand at the buffer's front.
+fn go_on(first: Turned, table: &mut [i64], buf: &mut [u8]) -> Turned
     requires { ⌜ (first .held ≤ length (now buf)) × (first .held < lineBytes) ⌝ }
-    ensures { λ r. ⌜ Goes (record { judging = first .judging; table = now (table .entry) }) (take (first .held) (now (buf .entry))) (filled < length (now (buf .entry))) r (now (table .exit)) (now (buf .exit)) ⌝ }
+    ensures { λ r. ⌜ Goes mostTurns (length (now (buf .entry)) - lineBytes) (record { judging = first .judging; table = now (table .entry) }) (take (first .held) (now (buf .entry))) (first .filled) r (now (table .exit)) (now (buf .exit)) ⌝ }
 {
     let mut state = first;
-    let mut to = filled;
     let mut turns = u64::MAX;
     while turns > 0 {
-        if to < buf.len() {
+        let filled = state.filled;
+        if streams::is_over(filled) {
             return state;
         }
         let held = state.held;
         let judging = state.judging;
-        to = fill(buf, held);
-        state = turn(judging, table, buf, 0, to);
+        let next = streams::fill(buf, held);
+        state = turn(judging, table, buf, 0, next);
         turns -= 1;
     }
     state
 }
 
-// Judges the whole input, whose first bytes stand in the buffer.
-fn judge(buf: &mut [u8], table: &mut [i64], filled: usize) -> Turned
-    requires { ⌜ filled ≤ length (now buf) ⌝ }
-    ensures { λ r. ⌜ Judges (take filled (now (buf .entry))) (now (table .entry)) (filled < length (now (buf .entry))) r (now (table .exit)) ⌝ }
+// Judges the whole input, whose first bytes the first fill read.
+fn judge(buf: &mut [u8], table: &mut [i64], filled: Filled) -> Turned
+    requires { ⌜ filled .to ≤ length (now buf) ⌝ }
+    ensures { λ r. ⌜ Judges (length (now (buf .entry)) - lineBytes) (take (filled .to) (now (buf .entry))) (now (table .entry)) filled r (now (table .exit)) ⌝ }
 {
-    let begun = judging::start(&buf[0..filled], table);
+    let to = filled.to;
+    let begun = judging::start(&buf[0..to], table);
     let answer = begun.answer;
-    let from = case_bytes(answer, filled);
+    let from = case_bytes(answer, to);
     let first = turn(begun, table, buf, from, filled);
-    go_on(first, table, buf, filled)
+    go_on(first, table, buf)
 }
 
-// The text of the judgement of the whole input, whose first bytes stand in the buffer.
-fn write_judgement(buf: &mut [u8], table: &mut [i64], filled: usize, text: &mut [u8]) -> Written
-    requires { ⌜ (filled ≤ length (now buf)) × (length (now buf) ≡ 262144) × (textRoom ≤ length (now text)) ⌝ }
-    requires { ⌜ now table ≡ tableFor (caseSize standard (take filled (now buf))) ⌝ }
-    ensures { λ r. ⌜ Prints (take filled (now (buf .entry))) (filled < length (now (buf .entry))) (now (text .entry)) r (now (text .exit)) ⌝ }
+// Writes the judgement of the whole input, whose first bytes the first fill read, and answers how much of the text is to be printed: nothing where
+// a read failed.
+fn write_judgement(buf: &mut [u8], table: &mut [i64], filled: Filled, text: &mut [u8]) -> Written
+    requires { ⌜ (filled .to ≤ length (now buf)) × ((length (now buf) ≤ filled .to) ⊎ T (isOver filled)) ⌝ }
+    requires { ⌜ (length (now buf) ≡ 262144) × (textRoom ≤ length (now text)) ⌝ }
+    requires { ⌜ now table ≡ tableFor (caseSize standard (take (filled .to) (now buf))) ⌝ }
+    ensures { λ r. ⌜ Prints (take (filled .to) (now (buf .entry))) filled (printedPart r (now (text .exit))) ⌝ }
 {
     let state = judge(buf, table, filled);
+    let last = state.filled;
+    if streams::is_failed(last) {
+        return Written::Bytes(0);
+    }
     let judging = state.judging;
     judging::finish(judging, table, state.held != 0, text)
+}
+
+// The part of the text that is to be printed.
+fn judgement<'a>(buf: &mut [u8], table: &mut [i64], filled: Filled, text: &'a mut [u8]) -> &'a [u8]
+    requires { ⌜ (filled .to ≤ length (now buf)) × ((length (now buf) ≤ filled .to) ⊎ T (isOver filled)) ⌝ }
+    requires { ⌜ (length (now buf) ≡ 262144) × (textRoom ≤ length (now text)) ⌝ }
+    requires { ⌜ now table ≡ tableFor (caseSize standard (take (filled .to) (now buf))) ⌝ }
+    ensures { λ r. ⌜ Prints (take (filled .to) (now (buf .entry))) filled (now r) ⌝ }
+{
+    let written = write_judgement(buf, table, filled, text);
+    streams::printed_part(written, text)
 }
 
 // The length of the table that the head of the case asks for.
@@ -181,29 +169,14 @@ fn table_length(front: &[u8]) -> usize
     }
 }
 
-fn write_first(text: &[u8], n: usize) {
-    if n <= text.len() {
-        io::write_all(STDOUT_FILENO, &text[0..n]);
-    }
-}
-
-fn run(buf: &mut [u8], table: &mut [i64], filled: usize)
-    requires { ⌜ (filled ≤ length (now buf)) × (length (now buf) ≡ 262144) ⌝ }
-    requires { ⌜ now table ≡ tableFor (caseSize standard (take filled (now buf))) ⌝ }
-{
-    let mut text = [0u8; 64];
-    let written = write_judgement(buf, table, filled, &mut text);
-    match written {
-        Written::Refused(_) => {}
-        Written::Bytes(n) => write_first(&text, n),
-    }
-}
-
 fn main() {
     let mut space = buffer();
     let buf: &mut [u8] = &mut space;
     let mut weights = weights();
-    let filled = fill(buf, 0);
-    let long = table_length(&buf[0..filled]);
-    run(buf, &mut weights[0..long], filled);
+    let mut text = [0u8; 64];
+    let filled = streams::fill(buf, 0);
+    let to = filled.to;
+    let long = table_length(&buf[0..to]);
+    let part = judgement(buf, &mut weights[0..long], filled, &mut text);
+    io::write_all(STDOUT_FILENO, part);
 }

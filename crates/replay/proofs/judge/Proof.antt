@@ -50,7 +50,7 @@ returns c =
     let k = b .before .before in
     let s = k .before .before .before .before .before in
     let old = now (s .args .buf) in
-    let filled = s .args .filled in
+    let filled = s .args .filled .to in
     let input = take filled old in
     let w = now (s .args .table) in
     let zero : filled - 0 ≡ filled = omega arith in
@@ -63,8 +63,9 @@ returns c =
     let at : b .case-bytes .result ≡ caseBytes (startJudging standard input w .judging .answer) (length input) =
     from ∙ ap₂ caseBytes (ap (λ (j : Judging). j .answer) ej) (sym long) in
     let bytes = part-from old (b .case-bytes .result) filled most (s .pre) ∙ ap (λ (n : ℕ). drop n input) at in
-    judges-all input w (k .start .result) (k .start .last .1 .0) (take (filled - b .case-bytes .result) (drop (b .case-bytes .result) old))
-    (λ h. search needs) ej ex bytes (t .turn .ensures) (o .go-on .ensures)
+    let same : length (t .turn .last .1 .1 .0) ≡ length old = omega (arith, t .turn .kept) in
+    rw same at (judges-all input w (k .start .result) (k .start .last .1 .0) (take (filled - b .case-bytes .result) (drop (b .case-bytes .result) old))
+    ej ex bytes (t .turn .ensures) (o .go-on .ensures))
 
 pub judge-spec : {M : Type 1} → statement M
 judge-spec =

@@ -31,13 +31,13 @@ part-table-length-start : tie.Need-part-table-length-start
 part-table-length-start c = search needs
 
 part-table-length-end : tie.Need-part-table-length-end
-part-table-length-end c = search needs
+part-table-length-end c = c .before .before .before .fill .ensures .within (omega arith)
 
 table-length-requires : tie.Need-table-length-requires
 table-length-requires c κs = search needs
 
-sub-run : tie.Need-sub-run
-sub-run c = search needs
+sub-judgement : tie.Need-sub-judgement
+sub-judgement c = search needs
 
 part-weights-start : tie.Need-part-weights-start
 part-weights-start c = search needs
@@ -45,22 +45,31 @@ part-weights-start c = search needs
 part-weights-end : tie.Need-part-weights-end
 part-weights-end c = search needs
 
-run-requires : tie.Need-run-requires
-run-requires c κs =
-    let t = c .before in
+slice-aggregate-judgement : tie.Need-slice-aggregate-judgement
+slice-aggregate-judgement c = search needs
+
+judgement-requires : tie.Need-judgement-requires
+judgement-requires c κs =
+    let t = c .before .before in
     let f = t .before .before .before .before .before in
     let w = f .before .before in
     let long = t .table-length .result in
-    let filled = f .fill .result in
+    let filled = f .fill .result .to in
     let buf = f .fill .last .0 in
     let size : CaseSize = caseSize standard (take filled buf) in
     let (is, most) = t .table-length .ensures in
     let all : filled - 0 ≡ filled = omega arith in
     let same : long ≡ length (tableFor size) = is ∙ ap (λ (n : ℕ). length (tableFor (caseSize standard (take n buf)))) all in
     let so-many : long - 0 ≡ length (tableFor size) = omega arith in (
-      (search needs, search needs),
-      ap (λ (n : ℕ). take n (w .weights .result)) so-many ∙ ap (take (length (tableFor size))) (w .weights .ensures) ∙ table-lent size 6528 (omega arith),
+      (f .fill .ensures .within (omega arith), f .fill .ensures .ends),
+      (
+        (search needs, search needs),
+        ap (λ (n : ℕ). take n (w .weights .result)) so-many ∙ ap (take (length (tableFor size))) (w .weights .ensures) ∙ table-lent size 6528 (omega arith),
+      ),
     )
+
+write-all-requires : tie.Need-write-all-requires
+write-all-requires c κs = search needs
 
 returns : tie.Need-returns
 returns c = search needs
@@ -77,8 +86,10 @@ main-spec =
     part-table-length-start
     part-table-length-end
     table-length-requires
-    sub-run
+    sub-judgement
     part-weights-start
     part-weights-end
-    run-requires
+    slice-aggregate-judgement
+    judgement-requires
+    write-all-requires
     returns)

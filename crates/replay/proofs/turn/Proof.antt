@@ -1,5 +1,5 @@
 -- The whole lines go to the block, and the part line to the buffer's front. Assumes nothing.
-use mathlib.Core.Path.{_≡_, sym, ap, _∙_}
+use mathlib.Core.Path.{_≡_, refl, sym, ap, _∙_}
 use mathlib.Core.List.{List}
 use Prim.Native.Nat.{ℕ, _+_, _-_, _≤_, _%_}
 use native.Mathlib.Nat.{mod-le, mod-lt}
@@ -78,7 +78,7 @@ returns c =
     let s = b .before .before .before .before .before in
     let old = now (s .args .buf) in
     let from = s .args .from in
-    let to = s .args .to in
+    let to = s .args .filled .to in
     let (h, g) = s .pre in
     let (p, q) = b .block .ensures in
     let (count, part) = f .to-front .ensures in
@@ -92,6 +92,7 @@ returns c =
       part = part ∙ rw count (part-is old from to h g);
       fits = omega (arith, f .to-front .kept .0);
       short = omega (arith, mod-lt (to - from) {m = 27} (lit< tt));
+      filled-last = refl;
     }
 
 pub turn-spec : {M : Type 1} → statement M

@@ -1,21 +1,44 @@
 -- What the loop judges is a cut of the whole input. Assumes nothing.
-use mathlib.Core.Path.{subst}
+use mathlib.Core.Path.{sym, subst, _∙_}
+use mathlib.Core.Logic.{_⊎_}
 use mathlib.Core.List.{List}
-use Prim.Native.Nat.{_<_}
+use Prim.Native.Nat.{_-_, _≤_}
+use native.Mathlib.Omega.{arith}
 use lib.IntN.{ℤ}
+use lib.Dec.{T}
 use lib.ListN.{length, take}
 use denote.Ref.{now}
-use Rattle.replay.specs.Turns.{Judges}
+use Rattle.definitions.specs.Rules.{standard}
+use Rattle.definitions.specs.CaseFiles.{caseSize}
+use Rattle.definitions.specs.Programs.{tableFor}
+use Rattle.streams.specs.Streams.{isOver}
+use Rattle.judging.specs.Cuts.{longestCase}
+use Rattle.replay.specs.Turns.{lineBytes, Judges}
 use borrow.Author.Needs.{needs}
-use Rattle.replay.proofs.Printing.{enough-read, judges-prints}
+use Rattle.replay.proofs.Printing.{enough-read, failed-prints, judges-prints}
 use Rattle.replay.proofs.write_judgement.Statement.{statement}
 use Rattle.replay.proofs.write_judgement.Tie as tie
+
+-- the front was read, and what the judging of the input gave
+enough : (j : tie.After-judge) → let a = j .before .before .before .before .before .args in
+    (longestCase standard ≤ length (take (a .filled .to) (now (a .buf)))) ⊎ T (isOver (a .filled))
+enough j =
+    let s = j .before .before .before .before .before in
+    let ((h, ends), ((long, fits), lent)) = s .pre in
+    enough-read (now (s .args .buf)) (s .args .filled) h long ends
+
+judged : (j : tie.After-judge) → let a = j .before .before .before .before .before .args in let front = take (a .filled .to) (now (a .buf)) in
+    Judges (length (now (a .buf)) - lineBytes) front (tableFor (caseSize standard front)) (a .filled) (j .judge .result) (j .judge .last .1 .0)
+judged j =
+    let a = j .before .before .before .before .before .args in
+    subst (λ (w : List ℤ). Judges (length (now (a .buf)) - lineBytes) (take (a .filled .to) (now (a .buf))) w (a .filled) (j .judge .result) (j .judge .last .1 .0))
+    (j .before .before .before .before .before .pre .1 .1) (j .judge .ensures)
 
 judge-requires : tie.Need-judge-requires
 judge-requires c κs = search needs
 
-finish-requires : tie.Need-finish-requires
-finish-requires c κs = search needs
+is-failed-requires : tie.Need-is-failed-requires
+is-failed-requires c κs = search needs
 
 same-length : tie.Need-same-length
 same-length c = search needs
@@ -23,21 +46,43 @@ same-length c = search needs
 same-length-2 : tie.Need-same-length-2
 same-length-2 c = search needs
 
+returns : tie.Need-returns
+returns c =
+    let j = c .before .before .before .before .before .before in
+    failed-prints (enough j) (judged j) (subst T (sym (c .if1 .taken) ∙ c .before .is-failed .ensures) tt)
+
+finish-requires : tie.Need-finish-requires
+finish-requires c κs = search needs
+
 same-length-3 : tie.Need-same-length-3
 same-length-3 c = search needs
 
-returns : tie.Need-returns
-returns c =
+same-length-4 : tie.Need-same-length-4
+same-length-4 c = search needs
+
+same-length-5 : tie.Need-same-length-5
+same-length-5 c = search needs
+
+returns-2 : tie.Need-returns-2
+returns-2 c =
     let f = c .before .before in
-    let j = f .before .before .before .before .before .before .before .before in
+    let e = f .before .before .before .before .before in
+    let j = e .before .before .before .before .before .before in
     let s = j .before .before .before .before .before in
-    let buf = now (s .args .buf) in
-    let front = take (s .args .filled) buf in
-    let ((h, e, room), lent) = s .pre in
-    let o = subst (λ (w : List ℤ). Judges front w (s .args .filled < length buf) (j .judge .result) (j .judge .last .1 .0)) lent (j .judge .ensures) in
-    judges-prints (enough-read buf (s .args .filled) h e) o (now (s .args .text)) room (f .finish .ensures)
+    let (p, ((long, fits), lent)) = s .pre in
+    judges-prints (enough j) (judged j) (omega arith) (sym (e .before .is-failed .ensures) ∙ e .if1 .left) (now (s .args .text)) fits (f .finish .ensures)
 
 pub write-judgement-spec : {M : Type 1} → statement M
 write-judgement-spec =
     tie.close
-    (tie.spec judge-requires finish-requires same-length same-length-2 same-length-3 returns)
+    (tie.spec
+    judge-requires
+    is-failed-requires
+    same-length
+    same-length-2
+    returns
+    finish-requires
+    same-length-3
+    same-length-4
+    same-length-5
+    returns-2)

@@ -1,0 +1,31 @@
+-- The part that the answer names. Assumes nothing.
+use mathlib.Core.Path.{sym, subst}
+use lib.ListN.{take}
+use denote.Ref.{now}
+use Rattle.replay.specs.Turns.{Prints}
+use borrow.Author.Needs.{needs}
+use Rattle.replay.proofs.judgement.Statement.{statement}
+use Rattle.replay.proofs.judgement.Tie as tie
+
+write-judgement-requires : tie.Need-write-judgement-requires
+write-judgement-requires c κs = search needs
+
+printed-part-requires : tie.Need-printed-part-requires
+printed-part-requires c κs = search needs
+
+same-length : tie.Need-same-length
+same-length c = search needs
+
+same-length-2 : tie.Need-same-length-2
+same-length-2 c = search needs
+
+returns : tie.Need-returns
+returns c =
+    let k = c .before .before .before .before .before .before .before in
+    let s = k .before .before .before .before .before .before in
+    subst (Prints (take (s .args .filled .to) (now (s .args .buf))) (s .args .filled)) (sym (c .printed-part .ensures)) (k .write-judgement .ensures)
+
+pub judgement-spec : {M : Type 1} → statement M
+judgement-spec =
+    tie.close
+    (tie.spec write-judgement-requires printed-part-requires same-length same-length-2 returns)
