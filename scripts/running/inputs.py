@@ -1,0 +1,77 @@
+"""Inputs made by plain rules, with the answer that document 01 gives to each."""
+
+LINE = 27
+BLOCK = 262144
+
+
+def line(kind, a=0, b=0, c=0, amount=0):
+    return b"%2d%4d%4d%4d%12d\n" % (kind, a, b, c, amount)
+
+
+def case(values, links, pairs):
+    """A case file: each link's weights, and each pair with its weights."""
+    text = [line(10, len(links), values, len(pairs))]
+    text += [line(11, i, k, 0, weights[k]) for i, weights in enumerate(links) for k in range(values)]
+    for e, (first, second, weights) in enumerate(pairs):
+        text.append(line(12, e, first, second))
+        text += [line(13, e, k, l, weights[k * values + l]) for k in range(values) for l in range(values)]
+    return b"".join(text)
+
+
+P4 = case(2, [[2, 0], [2, 0]], [(0, 1, [-3, 0, 0, 0])])
+P4_ROUND = line(2, 0, 2, 0, 2) + line(3, 1) + line(3, 2) + line(4, 0, 0, 0, 2)
+
+
+def shifts(count):
+    """Shifts of P4's pair that together change nothing: +1, -1, +1, -1 .., with +1, +1, -2 first where their count is odd."""
+    amounts = [1, 1, -2] if count % 2 else []
+    amounts += [1, -1] * ((count - len(amounts)) // 2)
+    return b"".join(line(1, 0, 0, 0, amount) for amount in amounts)
+
+
+def accepted_log(lines):
+    """P4's case, shifts that change nothing and P4's round, so many lines in all: `accepted 1 2`."""
+    return P4 + shifts(lines - len(P4 + P4_ROUND) // LINE) + P4_ROUND
+
+
+# A line that each replay of P4 turns back where a move or bound is due, and its number.
+FAULTS = [
+    (b"x" * LINE, 1),
+    (line(3, 1), 2),
+    (line(1, 0, 0, 0, 0), 5),
+    (line(1, 0, 0, 1, 1000000000), 11),
+    (line(4, 0, 0, 0, 99), 12),
+]
+
+
+def with_line(text, at, new):
+    return text[: at * LINE] + new + text[(at + 1) * LINE :]
+
+
+def long_round():
+    """A case whose one round raises 94 scopes, and its log.
+
+    Along a chain of links value 0 is followed by 0 or 1, and 1 and 2 by 2. Link 0 begins with 0, the last link may end with 2 only, and 1
+    is inactive everywhere: each pair and each later link is needed to refute value 0 of link 0.
+    """
+    links = [[0, -1, -1]] + [[0, -1, 0]] * 46 + [[-1, -1, 0]]
+    follows = [-1] * 9
+    for k, l in ((0, 0), (0, 1), (1, 2), (2, 2)):
+        follows[k * 3 + l] = 0
+    log = line(2, 0, 94, 0, 1) + b"".join(line(3, scope) for scope in range(1, 95)) + line(4, 0, 0, 0, -1)
+    return case(3, links, [(i, i + 1, follows) for i in range(47)]), log
+
+
+def many_rounds():
+    """A case of 168 rounds, and its log.
+
+    In each of 24 pairs the lower link has no choice but the higher one's value 7, which weighs 7 less than value 0 and is reached in steps of 1.
+    One such pair is enough to refute the values of link 0. Scopes are dropped upwards, so that the last pair is kept until it is done.
+    """
+    links = [[0] * 8, [-l for l in range(8)]] * 24
+    weights = [0 if l == 7 else -100 for k in range(8) for l in range(8)]
+    log = []
+    for step in range(168):
+        e = 23 - step // 7
+        log += [line(2, 0, 2, 0, 1), line(3, 2 * e + 1), line(3, 48 + e), line(4, 0, 0, 0, -step - 1)]
+    return case(8, links, [(2 * e, 2 * e + 1, weights) for e in range(24)]), b"".join(log)
