@@ -1,0 +1,625 @@
+/* Calls every function of ceiling.h on accepted and on refused input and compares answers and everything lent with what document 01 says.
+ * Each call is a test: a line for each that failed, the count as the last line. */
+#include <stdio.h>
+#include <string.h>
+
+#include "ceiling.h"
+
+enum { PLACES = 40, OUT = 200, TEXT = 64 * CEILING_LINE };
+static const int64_t STARTING = 1000000, WORKING = 500000000;
+
+static unsigned passed, failed;
+
+static void test(const char *function, const char *name, int good) {
+    if (good) {
+        passed++;
+    } else {
+        failed++;
+        printf("failed: %s: %s\n", function, name);
+    }
+}
+
+/* ---- lines, cases and tables */
+
+static size_t put_line(uint8_t *text, size_t at, int kind, int a, int b, int c, long long amount) {
+    char line[64];
+    snprintf(line, sizeof line, "%2d%4d%4d%4d%12lld\n", kind, a, b, c, amount);
+    memcpy(text + at, line, CEILING_LINE);
+    return at + CEILING_LINE;
+}
+
+/* A press of link 0 that raises the scopes from `first` on, and the bound line. */
+static size_t put_round(uint8_t *text, size_t at, int first, int count, long long amount, long long bound) {
+    at = put_line(text, at, 2, 0, count, 0, amount);
+    for (int scope = first; scope < first + count; scope++) at = put_line(text, at, 3, scope, 0, 0, 0);
+    return put_line(text, at, 4, 0, 0, 0, bound);
+}
+
+struct sample {
+    size_t n, d, m;
+    uint8_t lower[3], higher[3];
+    int64_t table[PLACES];
+    size_t length;
+    int64_t ceiling;
+};
+
+static const struct sample P1 = {3, 2, 3, {0, 0, 1}, {1, 2, 2}, {0, 0, 0, 0, 0, 0, -1, 0, 0, -1, -1, 0, 0, -1, -1, 0, 0, -1}, 18, 0};
+static const struct sample P4 = {2, 2, 1, {0}, {1}, {2, 0, 2, 0, -3, 0, 0, 0}, 8, 4};
+static const struct sample P10 = {2, 2, 1, {0}, {1}, {3, 4, 6, 2, -2, -4, 1, 1}, 8, 11};
+static const struct sample P11 = {1, 1, 0, {0}, {0}, {-7}, 1, -7};
+/* Not starting weights: the engine's first round by 1 takes link 0 to the end of the range, its second is number 11. */
+static const struct sample LOW = {2, 3, 1, {0}, {1},
+    {-499999999, -499999999, -499999999, 2, 1, 0, -3, -3, 0, -3, -3, 0, -3, -3, 0}, 15, -499999997};
+
+static void put_number(uint8_t *at, uint64_t z) {
+    for (int i = 0; i < 8; i++) at[i] = (uint8_t)(z >> (8 * i));
+}
+
+static void case_of(const struct sample *s, uint8_t bytes[CEILING_CASE]) {
+    memset(bytes, 0, CEILING_CASE);
+    put_number(bytes, s->n);
+    put_number(bytes + 8, s->d);
+    put_number(bytes + 16, s->m);
+    memcpy(bytes + 24, s->lower, sizeof s->lower);
+    memcpy(bytes + 120, s->higher, sizeof s->higher);
+}
+
+static size_t put_case(const struct sample *s, uint8_t *text) {
+    size_t at = put_line(text, 0, 10, (int)s->n, (int)s->d, (int)s->m, 0), place = 0;
+    int d = (int)s->d;
+    for (int i = 0; i < (int)s->n; i++)
+        for (int k = 0; k < d; k++) at = put_line(text, at, 11, i, k, 0, s->table[place++]);
+    for (int e = 0; e < (int)s->m; e++) {
+        at = put_line(text, at, 12, e, s->lower[e], s->higher[e], 0);
+        for (int k = 0; k < d; k++)
+            for (int l = 0; l < d; l++) at = put_line(text, at, 13, e, k, l, s->table[place++]);
+    }
+    return at;
+}
+
+/* ---- what is handed over: P1's case with one thing changed, and the number that every call on a case answers */
+
+struct fault {
+    const char *name;
+    uint64_t number;
+    size_t n, d, m;
+    int longer;
+    int pair, lower, higher;
+    int place, sign; /* a weight that is just outside the range, above or below */
+};
+
+static const struct fault FAULTS[] = {
+    {"no links", 3, 0, 2, 3, 0, 0, 0, 1, 0, 0},
+    {"49 links", 3, 49, 2, 3, 0, 0, 0, 1, 0, 0},
+    {"most links", 3, SIZE_MAX, 2, 3, 0, 0, 0, 1, 0, 0},
+    {"no values", 3, 3, 0, 3, 0, 0, 0, 1, 0, 0},
+    {"9 values", 3, 3, 9, 3, 0, 0, 0, 1, 0, 0},
+    {"97 pairs", 3, 3, 2, 97, 0, 0, 0, 1, 0, 0},
+    {"3 before 4", 3, 49, 2, 3, -1, 0, 0, 1, 0, 0},
+    {"a short table", 4, 3, 2, 3, -1, 0, 0, 1, 0, 0},
+    {"a long table", 4, 3, 2, 3, 1, 0, 0, 1, 0, 0},
+    {"the table of another case", 4, 3, 2, 2, 0, 0, 0, 1, 0, 0},
+    {"4 before 5", 4, 3, 2, 3, -1, 2, 1, 3, 0, 0},
+    {"an end that is no link", 5, 3, 2, 3, 0, 2, 1, 3, 0, 0},
+    {"5 before 6", 5, 3, 2, 3, 0, 0, 3, 0, 0, 0},
+    {"5 before 8", 5, 3, 2, 3, 0, 0, 255, 1, 0, 1},
+    {"descending ends", 6, 3, 2, 3, 0, 1, 2, 0, 0, 0},
+    {"equal ends", 6, 3, 2, 3, 0, 1, 2, 2, 0, 0},
+    {"6 before 7", 6, 3, 2, 3, 0, 2, 1, 0, 0, 0},
+    {"a pair twice", 7, 3, 2, 3, 0, 2, 0, 1, 0, 0},
+    {"7 before 8", 7, 3, 2, 3, 0, 2, 0, 1, 17, -1},
+    {"a weight above", 8, 3, 2, 3, 0, 0, 0, 1, 0, 1},
+    {"a weight below", 8, 3, 2, 3, 0, 0, 0, 1, 17, -1},
+};
+enum { FAULT_COUNT = sizeof FAULTS / sizeof *FAULTS };
+
+static struct sample faulty(const struct fault *f, int64_t range) {
+    struct sample s = P1;
+    s.n = f->n, s.d = f->d, s.m = f->m;
+    s.length += (size_t)f->longer;
+    s.lower[f->pair] = (uint8_t)f->lower, s.higher[f->pair] = (uint8_t)f->higher;
+    if (f->sign) s.table[f->place] = f->sign * (range + 1);
+    return s;
+}
+
+/* ---- the case file */
+
+static void sizes(void) {
+    static const struct {
+        const char *name, *text;
+        size_t length;
+        struct ceiling_size_answer answer;
+    } rows[] = {
+        {"the largest", "10  48   8  96           0\n", 27, {0, 48, 8, 96, 6528}},
+        {"the smallest", "10   1   1   0           0\n", 27, {0, 1, 1, 0, 1}},
+        {"more behind it", "10   2   2   1           0\nx", 28, {0, 2, 2, 1, 8}},
+        {"not in columns", "10   2   2  01           0\n", 27, {1, 0, 0, 0, 0}},
+        {"another kind", "11   2   2   1           0\n", 27, {2, 0, 0, 0, 0}},
+        {"an amount", "10   2   2   1           1\n", 27, {2, 0, 0, 0, 0}},
+        {"49 links", "10  49   2   1           0\n", 27, {3, 0, 0, 0, 0}},
+        {"no values", "10   2   0   1           0\n", 27, {3, 0, 0, 0, 0}},
+        {"97 pairs", "10   2   2  97           0\n", 27, {3, 0, 0, 0, 0}},
+        {"2 before 3", "10  49   2   1           1\n", 27, {2, 0, 0, 0, 0}},
+        {"nothing", "", 0, {14, 0, 0, 0, 0}},
+        {"26 bytes", "10   2   2   1           0\n", 26, {14, 0, 0, 0, 0}},
+    };
+    for (size_t i = 0; i < sizeof rows / sizeof *rows; i++) {
+        struct ceiling_size_answer a = ceiling_case_size((const uint8_t *)rows[i].text, rows[i].length);
+        test("ceiling_case_size", rows[i].name, !memcmp(&a, &rows[i].answer, sizeof a));
+    }
+}
+
+/* One reading: the answer, the case's bytes, and so many weights read before places that keep what they held. */
+static void reading(const char *name, const uint8_t *text, size_t length, size_t lent, uint64_t number, size_t line, size_t weights) {
+    uint8_t bytes[CEILING_CASE], wanted[CEILING_CASE];
+    int64_t table[PLACES], after[PLACES];
+    memset(bytes, 0xa5, sizeof bytes), memset(wanted, 0xa5, sizeof wanted);
+    if (!number) case_of(&P1, wanted);
+    for (size_t i = 0; i < PLACES; i++) table[i] = 77, after[i] = i < weights ? P1.table[i] : 77;
+    struct ceiling_lines_answer a = ceiling_read_case(text, length, bytes, table, lent);
+    int same = !memcmp(bytes, wanted, sizeof bytes) && !memcmp(table, after, sizeof table);
+    test("ceiling_read_case", name, a.number == number && a.lines == line && same);
+}
+
+static void readings(void) {
+    static const struct {
+        const char *name;
+        uint64_t number;
+        size_t line;
+        const char *text;
+    } rows[] = {
+        {"head not in columns", 1, 0, "10   3   2   3          00\n"},
+        {"head of another kind", 2, 0, "11   3   2   3           0\n"},
+        {"49 links", 3, 0, "10  49   2   3           0\n"},
+        {"another case's length", 4, 0, "10   3   2   2           0\n"},
+        {"link weight not in columns", 1, 3, "11   1   0   0           0 "},
+        {"link weight of another kind", 2, 6, "12   0   0   1           0\n"},
+        {"another link", 5, 1, "11   1   0   0           0\n"},
+        {"link weight above", 8, 6, "11   2   1   0     1000001\n"},
+        {"pair's unused column", 2, 7, "12   0   0   1           1\n"},
+        {"an end that is no link", 5, 7, "12   0   0   3           0\n"},
+        {"equal ends", 6, 12, "12   1   2   2           0\n"},
+        {"a pair twice", 7, 17, "12   2   0   1           0\n"},
+        {"another value", 5, 19, "13   2   0   0           0\n"},
+        {"pair weight below", 8, 21, "13   2   1   1    -1000001\n"},
+    };
+    uint8_t good[TEXT], text[TEXT];
+    size_t length = put_case(&P1, good), places[32], weights = 0;
+    for (size_t i = 0; i < length / CEILING_LINE; i++) {
+        places[i] = weights;
+        weights += good[i * CEILING_LINE + 1] == '1' || good[i * CEILING_LINE + 1] == '3';
+    }
+    reading("P1", good, length, P1.length, 0, 22, 18);
+    for (size_t i = 0; i < sizeof rows / sizeof *rows; i++) {
+        memcpy(text, good, length);
+        memcpy(text + rows[i].line * CEILING_LINE, rows[i].text, CEILING_LINE);
+        reading(rows[i].name, text, length, P1.length, rows[i].number, rows[i].line, places[rows[i].line]);
+    }
+    reading("a short table", good, length, P1.length - 1, 4, 0, 0);
+    reading("a long table", good, length, P1.length + 1, 4, 0, 0);
+    reading("nothing", good, 0, P1.length, 14, 0, 0);
+    reading("26 bytes", good, 26, P1.length, 14, 0, 0);
+    reading("the head alone", good, 27, P1.length, 14, 1, 0);
+    reading("cut in a pair weight", good, 9 * CEILING_LINE + 5, P1.length, 14, 9, 7);
+    reading("without the last line", good, length - CEILING_LINE, P1.length, 14, 21, 17);
+    memcpy(text, good, length);
+    put_line(text, length, 10, 1, 1, 0, 0);
+    reading("a head behind the case", text, length + CEILING_LINE, P1.length, 2, 22, 18);
+    reading("a part line behind the case", text, length + 1, P1.length, 14, 22, 18);
+    memset(text + length, 'x', CEILING_LINE);
+    reading("no line behind the case", text, length + CEILING_LINE, P1.length, 1, 22, 18);
+}
+
+/* ---- ceiling, totals, scoring: they change nothing */
+
+static void ceilings(void) {
+    static const struct sample *const rows[] = {&P1, &P4, &P10, &P11, &LOW};
+    uint8_t bytes[CEILING_CASE];
+    for (size_t i = 0; i < sizeof rows / sizeof *rows; i++) {
+        case_of(rows[i], bytes);
+        struct ceiling_total_answer a = ceiling_upper_bound(bytes, rows[i]->table, rows[i]->length);
+        test("ceiling_upper_bound", "a sample", a.number == 0 && a.total == rows[i]->ceiling);
+    }
+    for (size_t i = 0; i < FAULT_COUNT; i++) {
+        struct sample s = faulty(&FAULTS[i], WORKING);
+        case_of(&s, bytes);
+        struct ceiling_total_answer a = ceiling_upper_bound(bytes, s.table, s.length);
+        test("ceiling_upper_bound", FAULTS[i].name, a.number == FAULTS[i].number && a.total == 0);
+    }
+}
+
+static void totals(void) {
+    static const struct {
+        const char *name;
+        uint8_t plan[3];
+        size_t length;
+        uint64_t number;
+        int64_t total;
+    } rows[] = {
+        {"0 0", {0, 0}, 2, 0, 1},       {"0 1", {0, 1}, 2, 0, 2},      {"1 0", {1, 0}, 2, 0, 2},        {"1 1", {1, 1}, 2, 0, 0},
+        {"a short plan", {0}, 1, 4, 0}, {"a long plan", {0}, 3, 4, 0}, {"4 before 5", {2}, 1, 4, 0},   {"no such value", {0, 2}, 2, 5, 0},
+    };
+    uint8_t bytes[CEILING_CASE], plan[3] = {0, 1, 0};
+    case_of(&P4, bytes);
+    for (size_t i = 0; i < sizeof rows / sizeof *rows; i++) {
+        struct ceiling_total_answer a = ceiling_objective(bytes, P4.table, P4.length, rows[i].plan, rows[i].length);
+        test("ceiling_objective", rows[i].name, a.number == rows[i].number && a.total == rows[i].total);
+    }
+    for (size_t i = 0; i < FAULT_COUNT; i++) {
+        struct sample s = faulty(&FAULTS[i], WORKING);
+        case_of(&s, bytes);
+        struct ceiling_total_answer a = ceiling_objective(bytes, s.table, s.length, plan, 3);
+        /* 49 links ask for a plan of 49, but 3 comes first */
+        test("ceiling_objective", FAULTS[i].name, a.number == FAULTS[i].number && a.total == 0);
+    }
+}
+
+static void choices(void) {
+    static const struct {
+        const char *name;
+        uint8_t first[3];
+        size_t first_length;
+        uint8_t second[3];
+        size_t second_length;
+        struct ceiling_choice_answer answer;
+    } rows[] = {
+        {"the first", {0, 1}, 2, {0, 0}, 2, {0, 0}},
+        {"the second", {0, 0}, 2, {0, 1}, 2, {0, 1}},
+        {"a tie", {0, 1}, 2, {1, 0}, 2, {0, 0}},
+        {"a short first plan", {0}, 1, {0, 0}, 2, {4, 0}},
+        {"a long second plan", {0, 0}, 2, {0, 0}, 3, {4, 0}},
+        {"4 before 5", {2, 0}, 2, {0}, 1, {4, 0}},
+        {"no such value, first", {2, 0}, 2, {0, 0}, 2, {5, 0}},
+        {"no such value, second", {0, 0}, 2, {0, 255}, 2, {5, 0}},
+    };
+    uint8_t bytes[CEILING_CASE], plan[3] = {0, 1, 0};
+    case_of(&P4, bytes);
+    for (size_t i = 0; i < sizeof rows / sizeof *rows; i++) {
+        struct ceiling_choice_answer a = ceiling_better_of(bytes, P4.table, P4.length, rows[i].first, rows[i].first_length, rows[i].second,
+                                                           rows[i].second_length);
+        test("ceiling_better_of", rows[i].name, !memcmp(&a, &rows[i].answer, sizeof a));
+    }
+    for (size_t i = 0; i < FAULT_COUNT; i++) {
+        struct sample s = faulty(&FAULTS[i], STARTING);
+        case_of(&s, bytes);
+        struct ceiling_choice_answer a = ceiling_better_of(bytes, s.table, s.length, plan, 3, plan, 3);
+        test("ceiling_better_of", FAULTS[i].name, a.number == FAULTS[i].number && a.choice == 0);
+    }
+}
+
+/* ---- the replay */
+
+/* What the record must say; the marks of raised scopes are compared as 0 and not 0. */
+struct record {
+    uint64_t rounds;
+    int64_t ceiling;
+    uint64_t link, amount, left, last;
+    uint8_t moved, inside, raised, standing, marks[3];
+};
+
+static int says(const uint8_t record[CEILING_RECORD], const struct record *r) {
+    uint8_t wanted[CEILING_RECORD] = {0}, marked[CEILING_RECORD];
+    const uint64_t numbers[6] = {r->rounds, (uint64_t)r->ceiling, r->link, r->amount, r->left, r->last};
+    for (int i = 0; i < 6; i++) put_number(wanted + 8 * i, numbers[i]);
+    wanted[48] = r->moved, wanted[49] = r->inside, wanted[50] = r->raised, wanted[51] = r->standing;
+    memcpy(wanted + 52, r->marks, sizeof r->marks);
+    memcpy(marked, record, CEILING_RECORD);
+    for (int i = 52; i < CEILING_RECORD; i++) marked[i] = marked[i] != 0;
+    return !memcmp(marked, wanted, CEILING_RECORD);
+}
+
+static const struct record FRESH = {0, 4, 0, 0, 0, 0, 0, 0, 0, 0, {0}};
+
+static void starts(void) {
+    uint8_t bytes[CEILING_CASE], record[CEILING_RECORD], line[CEILING_LINE];
+    memset(record, 0xa5, sizeof record);
+    case_of(&P4, bytes);
+    uint64_t number = ceiling_replay_start(bytes, P4.table, P4.length, record);
+    test("ceiling_replay_start", "P4", number == 0 && says(record, &FRESH));
+    put_line(line, 0, 4, 0, 0, 0, 0);
+    for (size_t i = 0; i < FAULT_COUNT; i++) {
+        struct sample s = faulty(&FAULTS[i], STARTING), before = s;
+        case_of(&s, bytes);
+        memset(record, 0xa5, sizeof record);
+        number = ceiling_replay_start(bytes, s.table, s.length, record);
+        test("ceiling_replay_start", FAULTS[i].name, number == FAULTS[i].number && record[51] == number);
+        struct ceiling_lines_answer a = ceiling_replay_lines(bytes, s.table, s.length, record, line, CEILING_LINE);
+        struct ceiling_rounds_answer e = ceiling_replay_end(bytes, record, 0);
+        int same = !memcmp(s.table, before.table, sizeof s.table);
+        test("ceiling_replay_lines", "the number that stands", a.number == number && a.lines == 0 && e.number == number && same);
+    }
+}
+
+/* Lines handed to P4's replay one block after another: the answer to the last block, the record and the table after it. */
+struct step {
+    const char *name;
+    int lines[5][5];
+    size_t count;
+    uint64_t number;
+    size_t passed;
+    struct record after;
+    int64_t table[8];
+    uint64_t end; /* the number at the end */
+};
+
+#define START {2, 0, 2, 0, -3, 0, 0, 0}
+#define PRESSED {0, 0, 2, 2, -1, 0, 0, 0}
+#define PRESS {2, 0, 2, 0, 2}
+#define FIRST {3, 1, 0, 0, 0}
+#define LAST {3, 2, 0, 0, 0}
+#define BOUND {4, 0, 0, 0, 2}
+
+static const struct step STEPS[] = {
+    {"a press", {PRESS}, 1, 0, 1, {0, 4, 0, 2, 2, 0, 0, 1, 0, 0, {0}}, START, 14},
+    {"a raise", {PRESS, FIRST}, 2, 0, 2, {0, 4, 0, 2, 1, 1, 0, 1, 1, 0, {0, 1}}, START, 14},
+    {"the last raise", {PRESS, FIRST, LAST}, 3, 0, 3, {0, 4, 0, 0, 0, 0, 1, 0, 0, 0, {0}}, PRESSED, 14},
+    {"a round", {PRESS, FIRST, LAST, BOUND}, 4, 0, 4, {1, 2, 0, 0, 0, 0, 0, 0, 0, 0, {0}}, PRESSED, 0},
+    {"a shift", {{1, 0, 1, 0, 5}}, 1, 0, 1, {0, 4, 0, 0, 0, 0, 1, 0, 0, 0, {0}}, {2, 0, 7, 0, -8, 0, -5, 0}, 14},
+    {"kind not due", {{3, 1, 0, 0, 0}}, 1, 2, 0, {0, 4, 0, 0, 0, 0, 0, 0, 0, 2, {0}}, START, 2},
+    {"unused column", {PRESS, {3, 1, 0, 0, 1}}, 2, 2, 1, {0, 4, 0, 2, 2, 0, 0, 1, 0, 2, {0}}, START, 2},
+    {"no such end", {{1, 0, 2, 0, 5}}, 1, 5, 0, {0, 4, 0, 0, 0, 0, 0, 0, 0, 5, {0}}, START, 5},
+    {"no such scope", {PRESS, FIRST, {3, 3, 0, 0, 0}}, 3, 5, 2, {0, 4, 0, 2, 1, 1, 0, 1, 1, 5, {0, 1}}, START, 5},
+    {"a scope again", {PRESS, FIRST, FIRST}, 3, 9, 2, {0, 4, 0, 2, 1, 1, 0, 1, 1, 9, {0, 1}}, START, 9},
+    {"its own scope", {PRESS, {3, 0, 0, 0, 0}}, 2, 9, 1, {0, 4, 0, 2, 2, 0, 0, 1, 0, 9, {0}}, START, 9},
+    {"not refuted", {{2, 0, 1, 0, 2}, FIRST}, 2, 10, 1, {0, 4, 0, 2, 1, 0, 0, 1, 0, 10, {0}}, START, 10},
+    {"a shift out of range", {{1, 0, 0, 0, 5}, {1, 0, 0, 0, 500000000}}, 2, 11, 1, {0, 4, 0, 0, 0, 0, 1, 0, 0, 11, {0}},
+     {7, 0, 2, 0, -8, -5, 0, 0}, 11},
+    {"a press out of range", {{2, 0, 2, 0, 500000001}, FIRST, LAST}, 3, 11, 2, {0, 4, 0, 500000001, 1, 1, 0, 1, 1, 11, {0, 1}}, START, 11},
+    {"another ceiling", {PRESS, FIRST, LAST, {4, 0, 0, 0, 3}}, 4, 12, 3, {0, 4, 0, 0, 0, 0, 1, 0, 0, 12, {0}}, PRESSED, 12},
+    {"not lower", {{4, 0, 0, 0, 4}}, 1, 13, 0, {0, 4, 0, 0, 0, 0, 0, 0, 0, 13, {0}}, START, 13},
+    {"the first refusal stands", {{4, 0, 0, 0, 5}, PRESS, FIRST, LAST, BOUND}, 5, 12, 0, {0, 4, 0, 0, 0, 0, 0, 0, 0, 12, {0}}, START, 12},
+};
+
+/* A row in one block and line by line. */
+static void step(const struct step *row, int by_line) {
+    uint8_t bytes[CEILING_CASE], record[CEILING_RECORD], text[TEXT];
+    int64_t table[8];
+    struct ceiling_lines_answer a = {0, 0};
+    size_t taken = 0, length = 0;
+    case_of(&P4, bytes);
+    memcpy(table, P4.table, sizeof table);
+    if (ceiling_replay_start(bytes, table, 8, record)) return test("ceiling_replay_start", row->name, 0);
+    for (size_t i = 0; i < row->count; i++)
+        length = put_line(text, length, row->lines[i][0], row->lines[i][1], row->lines[i][2], row->lines[i][3], row->lines[i][4]);
+    text[length] = ' '; /* a part line, which is not looked at */
+    size_t block = by_line ? CEILING_LINE : length + 1;
+    for (size_t at = 0; at < length; at += block) {
+        a = ceiling_replay_lines(bytes, table, 8, record, text + at, block);
+        taken += a.lines;
+    }
+    int same = says(record, &row->after) && !memcmp(table, row->table, sizeof table);
+    test("ceiling_replay_lines", row->name, a.number == row->number && taken == row->passed && same);
+    struct ceiling_rounds_answer e = ceiling_replay_end(bytes, record, 0), part = ceiling_replay_end(bytes, record, 1);
+    test("ceiling_replay_end", row->name, e.number == row->end && e.rounds == (row->end ? 0 : row->after.rounds));
+    test("ceiling_replay_end", "a part line left", part.number == (row->end ? row->end : 14) && part.rounds == 0);
+}
+
+/* A good record on a case or a table with a fault: lines that are in columns and due ask 3 to 8. */
+static void handed_over(void) {
+    uint8_t bytes[CEILING_CASE], record[CEILING_RECORD], line[CEILING_LINE];
+    const struct record fresh = {0, 0, 0, 0, 0, 0, 0, 0, 0, 0, {0}};
+    for (size_t i = 0; i < FAULT_COUNT; i++) {
+        for (int fault = 0; fault < 3; fault++) {
+            struct sample s = faulty(&FAULTS[i], WORKING), before = s;
+            struct record after = fresh;
+            case_of(&s, bytes);
+            memset(record, 0, sizeof record);
+            put_line(line, 0, fault == 1 ? 3 : 1, 0, 0, 0, 1);
+            if (fault == 2) line[0] = 'x';
+            struct ceiling_lines_answer a = ceiling_replay_lines(bytes, s.table, s.length, record, line, CEILING_LINE);
+            after.standing = (uint8_t)(fault == 0 ? FAULTS[i].number : fault == 1 ? 2 : 1);
+            int same = says(record, &after) && !memcmp(s.table, before.table, sizeof s.table);
+            test("ceiling_replay_lines", FAULTS[i].name, a.number == after.standing && a.lines == 0 && same);
+        }
+        uint64_t number = FAULTS[i].number;
+        if (!strcmp(FAULTS[i].name, "4 before 5")) number = 5;
+        if (number == 4 || number == 8) continue; /* the end is lent no table */
+        memset(record, 0, sizeof record);
+        struct ceiling_rounds_answer e = ceiling_replay_end(bytes, record, 1);
+        test("ceiling_replay_end", FAULTS[i].name, e.number == number && e.rounds == 0);
+    }
+}
+
+/* Records that say nothing, or a number out of its range, or a number that stands. */
+static void records(void) {
+    static const struct {
+        const char *name;
+        int byte;
+        uint64_t value; /* eight bytes below 48, one byte from there on */
+        uint64_t number;
+        int kept; /* the record's bytes stay: they say no record */
+    } rows[] = {
+        {"moved is 2", 48, 2, 5, 1},
+        {"inside is 2", 49, 2, 5, 1},
+        {"raised is 2", 50, 2, 5, 1},
+        {"15 stands", 51, 15, 5, 1},
+        {"14 stands", 51, 14, 14, 1},
+        {"1 stands", 51, 1, 1, 1},
+        {"too many rounds", 0, 1000000000000000000, 5, 0},
+    };
+    uint8_t bytes[CEILING_CASE], record[CEILING_RECORD], before[CEILING_RECORD], line[CEILING_LINE];
+    int64_t table[8];
+    case_of(&P4, bytes);
+    put_line(line, 0, 1, 0, 0, 0, 1);
+    for (size_t i = 0; i < sizeof rows / sizeof *rows; i++) {
+        memcpy(table, P4.table, sizeof table);
+        ceiling_replay_start(bytes, table, 8, record);
+        if (rows[i].byte < 48) put_number(record + rows[i].byte, rows[i].value);
+        else record[rows[i].byte] = (uint8_t)rows[i].value;
+        memcpy(before, record, sizeof before);
+        struct ceiling_rounds_answer e = ceiling_replay_end(bytes, record, 0);
+        struct ceiling_lines_answer a = ceiling_replay_lines(bytes, table, 8, record, line, CEILING_LINE);
+        if (!rows[i].kept) before[51] = (uint8_t)rows[i].number;
+        int same = !memcmp(record, before, sizeof before) && !memcmp(table, P4.table, sizeof table);
+        test("ceiling_replay_lines", rows[i].name, a.number == rows[i].number && a.lines == 0 && same);
+        test("ceiling_replay_end", rows[i].name, e.number == rows[i].number && e.rounds == 0);
+    }
+}
+
+/* The count of rounds at its end: a bound line that would pass it is number 5. */
+static void last_round(void) {
+    uint8_t bytes[CEILING_CASE], record[CEILING_RECORD], text[TEXT];
+    int64_t table[8];
+    size_t length = put_round(text, 0, 1, 2, 2, 2);
+    for (uint64_t rounds = 999999999999999998; rounds < 1000000000000000000; rounds++) {
+        int good = rounds == 999999999999999998;
+        case_of(&P4, bytes);
+        memcpy(table, P4.table, sizeof table);
+        ceiling_replay_start(bytes, table, 8, record);
+        put_number(record, rounds);
+        struct ceiling_lines_answer a = ceiling_replay_lines(bytes, table, 8, record, text, length);
+        struct ceiling_rounds_answer e = ceiling_replay_end(bytes, record, 0);
+        test("ceiling_replay_lines", "the last rounds", a.number == (good ? 0 : 5) && a.lines == (good ? 4 : 3));
+        test("ceiling_replay_end", "the last rounds", e.number == (good ? 0 : 5) && e.rounds == (good ? rounds + 1 : 0));
+    }
+}
+
+/* The view of a round. */
+static void spans(void) {
+    uint8_t log[TEXT];
+    size_t length = put_round(log, put_round(log, 0, 1, 2, 1, 3), 1, 2, 1, 2);
+    log[length] = '4';
+    const struct {
+        const char *name;
+        int bad; /* a line that is not in columns, or none below 0 */
+        size_t length;
+        uint64_t round;
+        struct ceiling_span_answer answer;
+    } rows[] = {
+        {"round 0", -1, length, 0, {0, 0, 108, 0}},
+        {"round 1", -1, length, 1, {0, 108, 216, 0}},
+        {"round 2", -1, length, 2, {5, 0, 0, 8}},
+        {"the last number", -1, length, UINT64_MAX, {5, 0, 0, 8}},
+        {"no log", -1, 0, 0, {5, 0, 0, 0}},
+        {"a part line behind it", -1, length + 1, 1, {0, 108, 216, 0}},
+        {"a part line before it", -1, length + 1, 2, {14, 0, 0, 8}},
+        {"cut in the round", -1, 7 * CEILING_LINE + 26, 1, {14, 0, 0, 7}},
+        {"not in columns, behind it", 5, length, 0, {0, 0, 108, 0}},
+        {"not in columns, in it", 5, length, 1, {1, 0, 0, 5}},
+        {"not in columns, before it", 0, length + 1, 1, {1, 0, 0, 0}},
+    };
+    for (size_t i = 0; i < sizeof rows / sizeof *rows; i++) {
+        uint8_t lent[TEXT], before[TEXT];
+        memcpy(lent, log, sizeof lent);
+        if (rows[i].bad >= 0) lent[rows[i].bad * CEILING_LINE + 26] = ' ';
+        memcpy(before, lent, sizeof before);
+        struct ceiling_span_answer a = ceiling_round_span(lent, rows[i].length, rows[i].round);
+        test("ceiling_round_span", rows[i].name, !memcmp(&a, &rows[i].answer, sizeof a) && !memcmp(lent, before, sizeof lent));
+    }
+}
+
+/* ---- the engine */
+
+/* What a round or a run must leave: the text of the last round's lines, and the table. */
+struct engine {
+    const char *name;
+    const struct sample *sample;
+    size_t out;
+    uint64_t limit; /* a run's; a round has none */
+    struct ceiling_run_answer answer;
+    int first, count; /* the raised scopes of the last round, none: no line is written */
+    long long amount;
+    int64_t bound;
+    int64_t table[PLACES];
+};
+
+#define LOWER {-500000000, -500000000, -500000000, 2, 2, 1, -2, -2, 0, -2, -2, 0, -2, -2, 0}
+#define TRIANGLE {-1, -1}
+#define AS_P1 {0, 0, 0, 0, 0, 0, -1, 0, 0, -1, -1, 0, 0, -1, -1, 0, 0, -1}
+#define AS_P10 {3, 4, 6, 2, -2, -4, 1, 1}
+
+static const struct engine RUNS[] = {
+    {"P1, limit 0", &P1, 189, 0, {0, 1, 0, 0}, 0, 0, 0, 0, AS_P1},
+    {"P1, limit 1", &P1, 189, 1, {0, 0, 1, -1}, 3, 3, 1, -1, TRIANGLE},
+    {"P1, no limit", &P1, OUT, UINT64_MAX, {0, 0, 1, -1}, 3, 3, 1, -1, TRIANGLE},
+    {"P1, a short output", &P1, 188, 1, {4, 0, 0, 0}, 0, 0, 0, 0, AS_P1},
+    {"P1, a short output and limit 0", &P1, 188, 0, {4, 0, 0, 0}, 0, 0, 0, 0, AS_P1},
+    {"P4", &P4, 108, 9, {0, 0, 1, 2}, 1, 2, 2, 2, PRESSED},
+    {"P10", &P10, 108, 0, {0, 0, 0, 11}, 0, 0, 0, 0, AS_P10},
+    {"P10, a short output", &P10, 107, 0, {4, 0, 0, 0}, 0, 0, 0, 0, AS_P10},
+    {"P12", &P11, 54, 0, {0, 0, 0, -7}, 0, 0, 0, 0, {-7}},
+    {"out of range, limit 1", &LOW, 108, 1, {0, 1, 1, -499999998}, 1, 2, 1, -499999998, LOWER},
+    {"out of range", &LOW, 108, 2, {11, 0, 1, -499999998}, 1, 2, 1, -499999998, LOWER},
+};
+
+/* The output must hold the lines and then what it held; so must everything behind what was lent. */
+static int left(const struct engine *row, const uint8_t *out, const int64_t *table) {
+    uint8_t wanted[OUT];
+    int64_t after[PLACES];
+    memset(wanted, 0xa5, sizeof wanted);
+    if (row->count) put_round(wanted, 0, row->first, row->count, row->amount, row->bound);
+    for (size_t i = 0; i < PLACES; i++) after[i] = i < row->sample->length ? row->table[i] : 77;
+    return !memcmp(out, wanted, OUT) && !memcmp(table, after, sizeof after);
+}
+
+static void lend(const struct sample *s, uint8_t bytes[CEILING_CASE], int64_t table[PLACES], uint8_t out[OUT]) {
+    case_of(s, bytes);
+    memset(out, 0xa5, OUT);
+    for (size_t i = 0; i < PLACES; i++) table[i] = i < s->length ? s->table[i] : 77;
+}
+
+static void runs(void) {
+    uint8_t bytes[CEILING_CASE], out[OUT];
+    int64_t table[PLACES];
+    for (size_t i = 0; i < sizeof RUNS / sizeof *RUNS; i++) {
+        const struct engine *row = &RUNS[i];
+        lend(row->sample, bytes, table, out);
+        struct ceiling_run_answer a = ceiling_run(bytes, table, row->sample->length, out, row->out, row->limit);
+        test("ceiling_run", row->name, !memcmp(&a, &row->answer, sizeof a) && left(row, out, table));
+        if (row->limit == 0 || (row->answer.number && row->answer.rounds)) continue;
+        lend(row->sample, bytes, table, out);
+        struct ceiling_round_answer r = ceiling_round(bytes, table, row->sample->length, out, row->out);
+        size_t written = row->count ? (size_t)(row->count + 2) * CEILING_LINE : 0;
+        test("ceiling_round", row->name, r.number == row->answer.number && r.bytes == written && r.bound == row->bound && left(row, out, table));
+    }
+}
+
+/* Rounds one after another: settled writes nothing, number 11 changes nothing. */
+static void rounds(void) {
+    static const struct engine rows[] = {
+        {"P10, settled", &P10, 108, 0, {0, 0, 0, 0}, 0, 0, 0, 0, AS_P10},
+        {"P10, settled, a short output", &P10, 107, 0, {4, 0, 0, 0}, 0, 0, 0, 0, AS_P10},
+        {"P11, settled", &P11, 54, 0, {0, 0, 0, 0}, 0, 0, 0, 0, {-7}},
+    };
+    uint8_t bytes[CEILING_CASE], out[OUT];
+    int64_t table[PLACES];
+    for (size_t i = 0; i < sizeof rows / sizeof *rows; i++) {
+        lend(rows[i].sample, bytes, table, out);
+        struct ceiling_round_answer r = ceiling_round(bytes, table, rows[i].sample->length, out, rows[i].out);
+        test("ceiling_round", rows[i].name, r.number == rows[i].answer.number && r.bytes == 0 && r.bound == 0 && left(&rows[i], out, table));
+    }
+    struct engine second = RUNS[sizeof RUNS / sizeof *RUNS - 1];
+    lend(&LOW, bytes, table, out);
+    ceiling_round(bytes, table, LOW.length, out, 108);
+    struct ceiling_round_answer r = ceiling_round(bytes, table, LOW.length, out, 108);
+    test("ceiling_round", "out of range", r.number == 11 && r.bytes == 0 && r.bound == 0 && left(&second, out, table));
+}
+
+static void engine_faults(void) {
+    uint8_t bytes[CEILING_CASE], out[OUT], before[OUT];
+    int64_t table[PLACES], start[PLACES];
+    memset(before, 0xa5, sizeof before);
+    for (size_t i = 0; i < FAULT_COUNT; i++) {
+        struct sample s = faulty(&FAULTS[i], WORKING);
+        lend(&s, bytes, table, out);
+        memcpy(start, table, sizeof start);
+        struct ceiling_round_answer r = ceiling_round(bytes, table, s.length, out, OUT);
+        int same = !memcmp(table, start, sizeof start) && !memcmp(out, before, sizeof out);
+        test("ceiling_round", FAULTS[i].name, r.number == FAULTS[i].number && r.bytes == 0 && r.bound == 0 && same);
+        struct ceiling_run_answer a = ceiling_run(bytes, table, s.length, out, OUT, 9), wanted = {FAULTS[i].number, 0, 0, 0};
+        same = !memcmp(table, start, sizeof start) && !memcmp(out, before, sizeof out);
+        test("ceiling_run", FAULTS[i].name, !memcmp(&a, &wanted, sizeof a) && same);
+    }
+}
+
+int main(void) {
+    sizes(), readings();
+    ceilings(), totals(), choices();
+    starts();
+    for (size_t i = 0; i < sizeof STEPS / sizeof *STEPS; i++) step(&STEPS[i], 0), step(&STEPS[i], 1);
+    handed_over(), records(), last_round();
+    spans();
+    runs(), rounds(), engine_faults();
+    printf("%u passed, %u failed\n", passed, failed);
+    return failed > 0;
+}

@@ -1,0 +1,299 @@
+//! Calls every function of the Rust wrapper on accepted and on refused input and compares answers and everything lent with what document 01
+//! says. Each call is a test: a line for each that failed, the count as the last line. vectors.c has more rows; here the wrapper is tried.
+//! A case's table of the wrong length (number 4) cannot be handed to `read_case`, which makes the table itself.
+
+#[path = "../rust/ceiling.rs"]
+mod ceiling;
+
+use ceiling::{case_size, read_case, view, Case, Made, Refused, Replay, Run, Size};
+
+const LINE: usize = 27;
+const STARTING: i64 = 1_000_000;
+const WORKING: i64 = 500_000_000;
+
+#[derive(Default)]
+struct Count {
+    passed: usize,
+    failed: usize,
+}
+
+impl Count {
+    fn test(&mut self, function: &str, name: &str, good: bool) {
+        if good {
+            self.passed += 1;
+        } else {
+            self.failed += 1;
+            println!("failed: {function}: {name}");
+        }
+    }
+}
+
+fn line(kind: i64, a: i64, b: i64, c: i64, amount: i64) -> Vec<u8> {
+    format!("{kind:2}{a:4}{b:4}{c:4}{amount:12}\n").into_bytes()
+}
+
+fn lines(rows: &[[i64; 5]]) -> Vec<u8> {
+    rows.iter().flat_map(|r| line(r[0], r[1], r[2], r[3], r[4])).collect()
+}
+
+fn refused<T>(number: u64, line: usize) -> Result<T, Refused> {
+    Err(Refused { number, line })
+}
+
+#[derive(Clone)]
+struct Sample {
+    n: u64,
+    d: u64,
+    m: u64,
+    pairs: Vec<[u8; 2]>,
+    table: Vec<i64>,
+}
+
+fn sample(n: u64, d: u64, pairs: &[[u8; 2]], table: &[i64]) -> Sample {
+    Sample { n, d, m: pairs.len() as u64, pairs: pairs.to_vec(), table: table.to_vec() }
+}
+
+fn p1() -> Sample {
+    let pair = [-1, 0, 0, -1];
+    sample(3, 2, &[[0, 1], [0, 2], [1, 2]], &[&[0; 6][..], &pair, &pair, &pair].concat())
+}
+
+fn p4() -> Sample {
+    sample(2, 2, &[[0, 1]], &[2, 0, 2, 0, -3, 0, 0, 0])
+}
+
+fn p10() -> Sample {
+    sample(2, 2, &[[0, 1]], &[3, 4, 6, 2, -2, -4, 1, 1])
+}
+
+/// Not starting weights: the engine's first round by 1 takes link 0 to the end of the range, its second is number 11.
+fn low() -> Sample {
+    let pair = [-3, -3, 0];
+    sample(2, 3, &[[0, 1]], &[&[-499_999_999; 3][..], &[2, 1, 0], &pair, &pair, &pair].concat())
+}
+
+impl Sample {
+    fn case(&self) -> Case {
+        let mut bytes = [0; 216];
+        for (i, z) in [self.n, self.d, self.m].into_iter().enumerate() {
+            bytes[8 * i..8 * i + 8].copy_from_slice(&z.to_le_bytes());
+        }
+        for (e, pair) in self.pairs.iter().enumerate() {
+            bytes[24 + e] = pair[0];
+            bytes[120 + e] = pair[1];
+        }
+        Case::from_bytes(bytes)
+    }
+
+    fn text(&self) -> Vec<u8> {
+        let (n, d) = (self.n as i64, self.d as i64);
+        let mut weights = self.table.iter();
+        let mut text = line(10, n, d, self.m as i64, 0);
+        for (i, k) in (0..n).flat_map(|i| (0..d).map(move |k| (i, k))) {
+            text.extend(line(11, i, k, 0, *weights.next().unwrap()));
+        }
+        for (e, pair) in self.pairs.iter().enumerate() {
+            text.extend(line(12, e as i64, pair[0] as i64, pair[1] as i64, 0));
+            for (k, l) in (0..d).flat_map(|k| (0..d).map(move |l| (k, l))) {
+                text.extend(line(13, e as i64, k, l, *weights.next().unwrap()));
+            }
+        }
+        text
+    }
+}
+
+/// P1 with one thing changed, and the number that every call on a case answers; weights lie just outside the range.
+fn faults(range: i64) -> Vec<(&'static str, u64, Sample)> {
+    let of = |change: &dyn Fn(&mut Sample)| {
+        let mut s = p1();
+        change(&mut s);
+        s
+    };
+    vec![
+        ("no links", 3, of(&|s| s.n = 0)),
+        ("49 links", 3, of(&|s| s.n = 49)),
+        ("9 values", 3, of(&|s| s.d = 9)),
+        ("97 pairs", 3, of(&|s| s.m = 97)),
+        ("a short table", 4, of(&|s| s.table.truncate(17))),
+        ("a long table", 4, of(&|s| s.table.push(0))),
+        ("an end that is no link", 5, of(&|s| s.pairs[2] = [1, 3])),
+        ("equal ends", 6, of(&|s| s.pairs[1] = [2, 2])),
+        ("a pair twice", 7, of(&|s| s.pairs[2] = [0, 1])),
+        ("a weight above", 8, of(&|s| s.table[0] = range + 1)),
+        ("a weight below", 8, of(&|s| s.table[17] = -range - 1)),
+    ]
+}
+
+fn files(count: &mut Count) {
+    let good = p1().text();
+    let size = Size { n: 3, d: 2, m: 3, table: 18 };
+    count.test("case_size", "P1", case_size(&good) == Ok(size));
+    let (case, table) = (p1().case(), p1().table);
+    count.test("read_case", "P1", matches!(read_case(&good), Ok((c, t)) if c == case && t == table));
+    let rows: [(&str, u64, usize, Vec<u8>); 9] = [
+        ("head not in columns", 1, 0, b"10   3   2   3          00\n".to_vec()),
+        ("head of another kind", 2, 0, line(11, 3, 2, 3, 0)),
+        ("49 links", 3, 0, line(10, 49, 2, 3, 0)),
+        ("nothing", 14, 0, vec![]),
+        ("another link", 5, 1, line(11, 1, 0, 0, 0)),
+        ("equal ends", 6, 12, line(12, 1, 2, 2, 0)),
+        ("a pair twice", 7, 17, line(12, 2, 0, 1, 0)),
+        ("pair weight below", 8, 21, line(13, 2, 1, 1, -1_000_001)),
+        ("a head behind the case", 2, 22, line(10, 1, 1, 0, 0)),
+    ];
+    for (name, number, at, new) in rows {
+        let text = [&good[..at * LINE], &new].concat();
+        if at == 0 {
+            count.test("case_size", name, case_size(&text) == refused(number, 0));
+        }
+        count.test("read_case", name, matches!(read_case(&text), Err(r) if r == Refused { number, line: at }));
+    }
+    let cut = read_case(&good[..9 * LINE + 5]);
+    count.test("read_case", "cut in a pair weight", matches!(cut, Err(Refused { number: 14, line: 9 })));
+}
+
+fn totals(count: &mut Count) {
+    let (case, table) = (p4().case(), p4().table);
+    count.test("upper_bound", "P4", case.upper_bound(&table) == Ok(4));
+    for (plan, answer) in [
+        (&[0, 0][..], Ok(1)),
+        (&[0, 1], Ok(2)),
+        (&[0], refused(4, 0)),
+        (&[0, 0, 0], refused(4, 0)),
+        (&[0, 2], refused(5, 0)),
+    ] {
+        count.test("objective", "P4", case.objective(&table, plan) == answer);
+    }
+    for (first, second, choice) in [
+        (&[0, 1][..], &[0, 0][..], Ok(0)),
+        (&[0, 0], &[0, 1], Ok(1)),
+        (&[0, 1], &[1, 0], Ok(0)),
+        (&[0], &[0, 1], refused(4, 0)),
+        (&[0, 1], &[0, 2], refused(5, 0)),
+    ] {
+        let same = |plan: &[u8]| if std::ptr::eq(plan, first) { 0 } else { usize::from(std::ptr::eq(plan, second)) };
+        count.test("better", "P4", case.better(&table, first, second).map(same) == choice);
+    }
+    for (name, number, s) in faults(WORKING) {
+        count.test("upper_bound", name, s.case().upper_bound(&s.table) == refused(number, 0));
+        count.test("objective", name, s.case().objective(&s.table, &[0, 1, 0]) == refused(number, 0));
+    }
+    for (name, number, s) in faults(STARTING) {
+        count.test("better", name, s.case().better(&s.table, &[0, 1, 0], &[0, 1, 0]) == refused(number, 0));
+        count.test("start", name, matches!(Replay::start(&s.case(), &s.table), Err(r) if r == Refused { number, line: 0 }));
+    }
+}
+
+const PRESS: [i64; 5] = [2, 0, 2, 0, 2];
+const FIRST: [i64; 5] = [3, 1, 0, 0, 0];
+const LAST: [i64; 5] = [3, 2, 0, 0, 0];
+const BOUND: [i64; 5] = [4, 0, 0, 0, 2];
+const START: [i64; 8] = [2, 0, 2, 0, -3, 0, 0, 0];
+const PRESSED: [i64; 8] = [0, 0, 2, 2, -1, 0, 0, 0];
+
+/// Lines of a replay of P4: what the block answers, the table after it, and what the end answers.
+type Row = (&'static str, &'static [[i64; 5]], Result<usize, Refused>, [i64; 8], Result<u64, u64>);
+
+const fn at(number: u64, line: usize) -> Result<usize, Refused> {
+    Err(Refused { number, line })
+}
+
+const ROWS: &[Row] = &[
+    ("a round", &[PRESS, FIRST, LAST, BOUND], Ok(4), PRESSED, Ok(1)),
+    ("a press without a bound", &[PRESS, FIRST, LAST], Ok(3), PRESSED, Err(14)),
+    ("a shift", &[[1, 0, 1, 0, 5]], Ok(1), [2, 0, 7, 0, -8, 0, -5, 0], Err(14)),
+    ("kind not due", &[FIRST], at(2, 0), START, Err(2)),
+    ("no such end", &[[1, 0, 2, 0, 5]], at(5, 0), START, Err(5)),
+    ("a scope again", &[PRESS, FIRST, FIRST], at(9, 2), START, Err(9)),
+    ("not refuted", &[[2, 0, 1, 0, 2], FIRST], at(10, 1), START, Err(10)),
+    ("out of range", &[[1, 0, 0, 0, 500_000_000]], at(11, 0), START, Err(11)),
+    ("another ceiling", &[PRESS, FIRST, LAST, [4, 0, 0, 0, 3]], at(12, 3), PRESSED, Err(12)),
+    ("not lower", &[[4, 0, 0, 0, 4]], at(13, 0), START, Err(13)),
+];
+
+fn replays(count: &mut Count) {
+    let case = p4().case();
+    for &(name, rows, answer, after, end) in ROWS {
+        let mut table = p4().table;
+        let Ok(mut replay) = Replay::start(&case, &table) else {
+            count.test("start", name, false);
+            continue;
+        };
+        count.test("lines", name, replay.lines(&case, &mut table, &lines(rows)) == answer && table == after);
+        let kept = Replay::from_bytes(*replay.bytes());
+        count.test("end", name, kept.end(&case, 0) == end.map_err(|number| Refused { number, line: 0 }));
+        let number = end.err().unwrap_or(14);
+        count.test("end", "a part line left", kept.end(&case, 26) == refused(number, 0));
+        if let Err(Refused { number, .. }) = answer {
+            let again = replay.lines(&case, &mut table, &lines(&[PRESS]));
+            count.test("lines", "the number that stands", again == refused(number, 0) && table == after);
+        }
+    }
+    for (name, number, mut s) in faults(WORKING) {
+        let (case, before) = (s.case(), s.table.clone());
+        let mut replay = Replay::from_bytes([0; 196]);
+        let answer = replay.lines(&case, &mut s.table, &lines(&[[1, 0, 0, 0, 1]]));
+        count.test("lines", name, answer == refused(number, 0) && s.table == before && replay.bytes()[51] == number as u8);
+        if number != 4 && number != 8 {
+            count.test("end", name, Replay::from_bytes([0; 196]).end(&case, 0) == refused(number, 0));
+        }
+    }
+    let mut table = p4().table;
+    let mut none = Replay::from_bytes([2; 196]);
+    let answer = none.lines(&case, &mut table, &lines(&[PRESS]));
+    count.test("lines", "no record", answer == refused(5, 0) && none.bytes() == &[2; 196] && none.end(&case, 0) == refused(5, 0));
+}
+
+fn views(count: &mut Count) {
+    let log = lines(&[[2, 0, 2, 0, 1], FIRST, LAST, [4, 0, 0, 0, 3], [2, 0, 2, 0, 1], FIRST, LAST, BOUND]);
+    let mut bad = log.clone();
+    bad[5 * LINE + 26] = b' ';
+    let itself = |part: &[u8], from: usize| std::ptr::eq(part, &log[from..from + 4 * LINE]);
+    count.test("view", "round 0", view(&log, 0).is_ok_and(|part| itself(part, 0)));
+    count.test("view", "round 1", view(&log, 1).is_ok_and(|part| itself(part, 4 * LINE)));
+    count.test("view", "round 2", view(&log, 2) == refused(5, 8));
+    count.test("view", "cut", view(&log[..8 * LINE - 1], 1) == refused(14, 7));
+    count.test("view", "not in columns", view(&bad, 1) == refused(1, 5));
+}
+
+fn engine(count: &mut Count) {
+    let made = |refused, settled, rounds, bound| Run { refused, settled, rounds, bound };
+    let one = lines(&[[2, 0, 3, 0, 1], [3, 3, 0, 0, 0], [3, 4, 0, 0, 0], [3, 5, 0, 0, 0], [4, 0, 0, 0, -1]]);
+    let four = lines(&[PRESS, FIRST, LAST, BOUND]);
+    let lowest = lines(&[[2, 0, 2, 0, 1], FIRST, LAST, [4, 0, 0, 0, -499_999_998]]);
+    for (name, s, limit, room, answer, wrote) in [
+        ("P1, limit 0", p1(), 0, 189, made(None, false, 0, 0), &b""[..]),
+        ("P1, limit 1", p1(), 1, 189, made(None, true, 1, -1), &one),
+        ("P1, a short output", p1(), 1, 188, made(Some(4), false, 0, 0), b""),
+        ("P4", p4(), 9, 108, made(None, true, 1, 2), &four),
+        ("P10", p10(), 0, 108, made(None, true, 0, 11), b""),
+        ("out of range", low(), 9, 108, made(Some(11), false, 1, -499_999_998), &lowest),
+    ] {
+        let (mut table, mut out) = (s.table.clone(), vec![0xa5; room]);
+        let run = s.case().run(&mut table, &mut out, limit);
+        let kept = out[wrote.len()..].iter().all(|&byte| byte == 0xa5);
+        count.test("run", name, run == answer && out.starts_with(wrote) && kept && (run.rounds > 0) == (table != s.table));
+    }
+    let (mut table, mut out) = (p4().table, vec![0xa5; 109]);
+    let first = p4().case().round(&mut table, &mut out);
+    count.test("round", "P4", first == Ok(Some(Made { bytes: 108, bound: 2 })) && out == [&four[..], b"\xa5"].concat() && table == PRESSED);
+    count.test("round", "settled", p4().case().round(&mut table, &mut out) == Ok(None) && table == PRESSED);
+    count.test("round", "a short output", p4().case().round(&mut table, &mut out[..107]) == refused(4, 0) && table == PRESSED);
+    for (name, number, s) in faults(WORKING) {
+        let (mut table, mut out) = (s.table.clone(), vec![0xa5; 200]);
+        let same = |table: &[i64], out: &[u8]| table == s.table && out == [0xa5; 200];
+        count.test("round", name, s.case().round(&mut table, &mut out) == refused(number, 0) && same(&table, &out));
+        count.test("run", name, s.case().run(&mut table, &mut out, 9) == made(Some(number), false, 0, 0) && same(&table, &out));
+    }
+}
+
+fn main() {
+    let mut count = Count::default();
+    files(&mut count);
+    totals(&mut count);
+    replays(&mut count);
+    views(&mut count);
+    engine(&mut count);
+    println!("{} passed, {} failed", count.passed, count.failed);
+    std::process::exit((count.failed > 0) as i32);
+}
