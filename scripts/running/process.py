@@ -5,6 +5,7 @@ import os
 import socket
 import struct
 import subprocess
+import sys
 import tempfile
 import termios
 import time
@@ -12,6 +13,16 @@ from collections import namedtuple
 
 # What a program printed, whether it ended by itself and without a word on standard error, and its CPU seconds.
 Ended = namedtuple("Ended", "printed well seconds")
+
+
+def programs(root, arguments):
+    """The paths of `replay`, `press` and the peer: those named, else this tree's."""
+    names = ["target/bin/replay", "target/bin/press", "peer/target/peer"][len(arguments) :]
+    paths = [os.path.abspath(path) for path in arguments + [os.path.join(root, name) for name in names]]
+    for path in paths:
+        if not os.access(path, os.X_OK):
+            sys.exit(f"there is no program {path}")
+    return paths
 
 
 def start(command, stdin, stdout, before=None):
