@@ -394,6 +394,8 @@ static void step(const struct step *row, int by_line) {
     test("ceiling_replay_end", "a part line left", part.number == (row->end ? row->end : 14) && part.rounds == 0);
 }
 
+/* Not here yet: a block without a whole line. */
+
 /* A good record on a case or a table with a fault: lines that are in columns and due ask 3 to 8. */
 static void handed_over(void) {
     uint8_t bytes[CEILING_CASE], record[CEILING_RECORD], line[CEILING_LINE];

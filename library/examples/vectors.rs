@@ -238,6 +238,7 @@ fn replays(count: &mut Count) {
             count.test("end", name, Replay::from_bytes([0; 196]).end(&case, 0) == refused(number, 0));
         }
     }
+    // Not here yet: a block without a whole line.
     let mut table = p4().table;
     let mut none = Replay::from_bytes([2; 196]);
     let answer = none.lines(&case, &mut table, &lines(&[PRESS]));

@@ -2,6 +2,7 @@
 
 import fcntl
 import os
+import resource
 import socket
 import struct
 import subprocess
@@ -25,10 +26,16 @@ def programs(root, arguments):
     return paths
 
 
-def start(command, stdin, stdout, before=None):
+def start(command, stdin, stdout, before=lambda: None):
+    """Starts a program; `before` is done in its process before it. After a minute of CPU time it is ended by a signal."""
+
+    def prepare():
+        resource.setrlimit(resource.RLIMIT_CPU, (60, 60))
+        before()
+
     # SIGPIPE stays ignored, as Python has it: a write to a pipe without a reader fails and ends nobody.
     errors = tempfile.TemporaryFile()
-    process = subprocess.Popen(command, stdin=stdin, stdout=stdout, stderr=errors, preexec_fn=before, restore_signals=False)
+    process = subprocess.Popen(command, stdin=stdin, stdout=stdout, stderr=errors, preexec_fn=prepare, restore_signals=False)
     process.errors = errors
     return process
 
@@ -45,7 +52,7 @@ def end(process, printed=b""):
     return Ended(printed, well, usage.ru_utime + usage.ru_stime)
 
 
-def on_file(command, data, stdout=subprocess.PIPE, before=None):
+def on_file(command, data, stdout=subprocess.PIPE, before=lambda: None):
     with tempfile.TemporaryFile() as file:
         file.write(data)
         file.seek(0)
