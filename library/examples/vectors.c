@@ -161,28 +161,30 @@ static void reading(const char *name, const uint8_t *text, size_t length, size_t
     test("ceiling_read_case", name, a.number == number && a.lines == line && same);
 }
 
+/* A line of P1's case file changed, and the number at it. */
+static const struct {
+    const char *name;
+    uint64_t number;
+    size_t line;
+    const char *text;
+} READINGS[] = {
+    {"head not in columns", 1, 0, "10   3   2   3          00\n"},
+    {"head of another kind", 2, 0, "11   3   2   3           0\n"},
+    {"49 links", 3, 0, "10  49   2   3           0\n"},
+    {"another case's length", 4, 0, "10   3   2   2           0\n"},
+    {"link weight not in columns", 1, 3, "11   1   0   0           0 "},
+    {"link weight of another kind", 2, 6, "12   0   0   1           0\n"},
+    {"another link", 5, 1, "11   1   0   0           0\n"},
+    {"link weight above", 8, 6, "11   2   1   0     1000001\n"},
+    {"pair's unused column", 2, 7, "12   0   0   1           1\n"},
+    {"an end that is no link", 5, 7, "12   0   0   3           0\n"},
+    {"equal ends", 6, 12, "12   1   2   2           0\n"},
+    {"a pair twice", 7, 17, "12   2   0   1           0\n"},
+    {"another value", 5, 19, "13   2   0   0           0\n"},
+    {"pair weight below", 8, 21, "13   2   1   1    -1000001\n"},
+};
+
 static void readings(void) {
-    static const struct {
-        const char *name;
-        uint64_t number;
-        size_t line;
-        const char *text;
-    } rows[] = {
-        {"head not in columns", 1, 0, "10   3   2   3          00\n"},
-        {"head of another kind", 2, 0, "11   3   2   3           0\n"},
-        {"49 links", 3, 0, "10  49   2   3           0\n"},
-        {"another case's length", 4, 0, "10   3   2   2           0\n"},
-        {"link weight not in columns", 1, 3, "11   1   0   0           0 "},
-        {"link weight of another kind", 2, 6, "12   0   0   1           0\n"},
-        {"another link", 5, 1, "11   1   0   0           0\n"},
-        {"link weight above", 8, 6, "11   2   1   0     1000001\n"},
-        {"pair's unused column", 2, 7, "12   0   0   1           1\n"},
-        {"an end that is no link", 5, 7, "12   0   0   3           0\n"},
-        {"equal ends", 6, 12, "12   1   2   2           0\n"},
-        {"a pair twice", 7, 17, "12   2   0   1           0\n"},
-        {"another value", 5, 19, "13   2   0   0           0\n"},
-        {"pair weight below", 8, 21, "13   2   1   1    -1000001\n"},
-    };
     uint8_t good[TEXT], text[TEXT];
     size_t length = put_case(&P1, good), places[32], weights = 0;
     for (size_t i = 0; i < length / CEILING_LINE; i++) {
@@ -190,10 +192,10 @@ static void readings(void) {
         weights += good[i * CEILING_LINE + 1] == '1' || good[i * CEILING_LINE + 1] == '3';
     }
     reading("P1", good, length, P1.length, 0, 22, 18);
-    for (size_t i = 0; i < sizeof rows / sizeof *rows; i++) {
+    for (size_t i = 0; i < sizeof READINGS / sizeof *READINGS; i++) {
         memcpy(text, good, length);
-        memcpy(text + rows[i].line * CEILING_LINE, rows[i].text, CEILING_LINE);
-        reading(rows[i].name, text, length, P1.length, rows[i].number, rows[i].line, places[rows[i].line]);
+        memcpy(text + READINGS[i].line * CEILING_LINE, READINGS[i].text, CEILING_LINE);
+        reading(READINGS[i].name, text, length, P1.length, READINGS[i].number, READINGS[i].line, places[READINGS[i].line]);
     }
     reading("a short table", good, length, P1.length - 1, 4, 0, 0);
     reading("a long table", good, length, P1.length + 1, 4, 0, 0);
