@@ -1,24 +1,19 @@
 -- What `active_marks` may take as known, by what the check of the case and the table answers. Assumes nothing.
 use mathlib.Core.Path.{_≡_}
-use mathlib.Core.Bool.{false, not}
+use mathlib.Core.Bool.{false}
 use mathlib.Core.Option.{none, some}
 use mathlib.Core.List.{List}
-use Prim.Native.Nat.{ℕ, _*_, _≤_, _<_}
+use Prim.Native.Nat.{ℕ, _*_, _≤_}
 use native.Mathlib.Omega.{arith}
 use lib.IntN.{ℤ}
-use lib.Dec.{T, T-not, not-T, ltb, eqb, nltb→le}
-use lib.ListN.{length, getD}
-use Rattle.integers.specs.Words.{any}
+use lib.ListN.{length}
 use Rattle.integers.specs.Tests.{tests}
-use Rattle.integers.specs.Tables.{any-getD}
 use Rattle.definitions.specs.declared.Case.{Case}
 use Rattle.definitions.specs.declared.Outcome.{Outcome}
 use Rattle.definitions.specs.declared.Refusal.{Refusal}
 use Rattle.definitions.specs.Rules.{standard}
-use Rattle.definitions.specs.Refusals.{firstOf}
-use Rattle.definitions.specs.Case.{scopeCount}
 use Rattle.definitions.specs.Answers.{outcomeOf}
-use Rattle.definitions.specs.Valid.{workingWeight, handedOver}
+use Rattle.definitions.specs.Valid.{workingWeight}
 use Rattle.definitions.specs.Lines.{overwritten}
 use Rattle.theory.proofs.Validity.{Handed}
 use Rattle.tables.proofs.Answered.{known, limits-known}

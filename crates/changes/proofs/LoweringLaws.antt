@@ -6,30 +6,26 @@ use mathlib.Core.List.{List, [], _∷_}
 use Prim.Native.Nat.{ℕ, _+_, _-_, _≤_, _<_}
 use native.Mathlib.Omega.{arith}
 use lib.IntN.{ℤ, pos, negℤ, _+ℤ_, +ℤ-idl, +ℤ-idr}
-use lib.Dec.{T, T-not, not-T, eqb, ltb, eqb→eq, ltb→lt, lt→ltb}
+use lib.Dec.{T, eqb, ltb, eqb→eq, ltb→lt, lt→ltb}
 use lib.ListN.{length, getD, set, length-set}
 use lib.Seq.{getD-set-same, getD-set-other}
 use borrow.Author.Tests.{eq-eqb, lt-ltb, le-ltb}
-use Rattle.integers.specs.Words.{if_then_else_, all, any, isIn, within, greatestOf, eqZ, withinZ, minus}
+use Rattle.integers.specs.Words.{if_then_else_, greatestOf, eqZ, withinZ, minus}
 use Rattle.integers.specs.Tests.{either, is-true, is-false, same-test, imp-intro, imp-elim, not-or-iff, false-is, not-not-iff, not-eqb-iff}
-use Rattle.integers.specs.Lists.{all-at, all-of, all-in, any-in}
+use Rattle.integers.specs.Lists.{all-at, all-of}
 use Rattle.integers.specs.Linear.{zs, flat, _▸_}
 use Rattle.definitions.specs.declared.Case.{Case}
-use Rattle.definitions.specs.declared.Refusal.{Refusal}
-use Rattle.definitions.specs.declared.Refusal.the-variants.{OutsideLimits, LeavesRange}
-use Rattle.definitions.specs.declared.Outcome.{Outcome}
+use Rattle.definitions.specs.declared.Refusal.the-variants.{LeavesRange}
 use Rattle.definitions.specs.Rules.{standard}
-use Rattle.definitions.specs.Refusals.{Test, _when_, firstOf}
+use Rattle.definitions.specs.Refusals.{_when_, firstOf}
 use Rattle.definitions.specs.Answers.{outcomeOf, unlessRefused}
-use Rattle.definitions.specs.Case.{scopeCount, ownLength, lentLength, weight, greatest, active}
-use Rattle.definitions.specs.Valid.{workingWeight, withinLimits, handedOver}
-use Rattle.definitions.specs.Moves.{Difference, plus, onlyWhere, pressBy, activeValues, press, moved, pressAmount, activeRefuted, leavesRange}
-use Rattle.definitions.specs.Consistency.{allRefuted}
-use Rattle.definitions.specs.Calls.{isRising, moveCall, pressOut, pressCall}
+use Rattle.definitions.specs.Case.{scopeCount, ownLength, lentLength, weight, greatest}
+use Rattle.definitions.specs.Valid.{workingWeight}
+use Rattle.definitions.specs.Moves.{Difference, plus, onlyWhere, pressBy, activeValues, pressAmount, leavesRange}
 use Rattle.theory.proofs.Places.{IsTuple, each-cong, weight-plus, plus-length, plus-cong, plus-plus, plus-zero}
 use Rattle.theory.proofs.Validity.{Handed}
-use Rattle.tables.specs.Scopes.{partOf, bestAt, BestOf, greatestCall}
-use Rattle.tables.proofs.Best.{over-is, greatest-known}
+use Rattle.tables.specs.Scopes.{partOf, bestAt, BestOf}
+use Rattle.tables.proofs.Best.{over-is}
 use Rattle.changes.specs.Scopes.{Amounts, scopeBy, topOf, restOf, isTouched, scopeLets, loweringLets}
 use Rattle.changes.specs.Kept.{isRaised, isBest, Change, loweringChange, staysWorking, bestAfter, loweringOut, lowerAndRaiseCall}
 use Rattle.changes.proofs.ScopeLaws.{part-stays-iff, same-weight, same-part}

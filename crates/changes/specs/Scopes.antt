@@ -1,4 +1,5 @@
--- A scope's weights changed by whether they are the number kept for it, and what is asked and added in a scope where a variable is lowered and scopes are raised. Assumes nothing.
+-- A scope's weights changed by whether they are the number kept for it, and what is asked and added in a scope where a variable is lowered and
+-- scopes are raised. Assumes nothing.
 use mathlib.Core.Path.{_≡_}
 use mathlib.Core.Bool.{Bool, not, _||_}
 use mathlib.Core.List.{List}

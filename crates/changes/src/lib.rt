@@ -8,7 +8,7 @@ ghost use mathlib.Core.Bool.{not, _||_};
 ghost use mathlib.Core.List.{map};
 ghost use Prim.Native.Nat.{ℕ, _+_, _*_, _≤_, _<_};
 ghost use lib.Dec.{T, ltb, eqb};
-ghost use lib.ListN.{length, getD, set};
+ghost use lib.ListN.{length, set};
 ghost use lib.IntN.{pos, _+ℤ_};
 ghost use Rattle.integers.specs.Words.{if_then_else_, eqZ, withinZ, minus};
 ghost use Rattle.definitions.specs.Rules.{standard};
