@@ -1,5 +1,5 @@
 // Arc consistency over bytes and marks: the search for partners, the closure of given sets, values tried one by one, and the marks of a
-// table. Each function asks only what is said at it and takes the rest as it comes: none turns back by document 01's whole list.
+// table. Inner functions, for other crates: each asks only what is said at it. Document 01's refutation is `consistency::refuted`.
 use definitions::Case;
 use definitions::Outcome;
 use definitions::Refusal;
@@ -751,6 +751,7 @@ pub fn lowest_partner(row: u8, other: u8) -> Partner
 
 // Takes `sets` to the largest supported family inside them. There are raised.len() edges; edge e joins lower[e] and upper[e]. The 16 bytes
 // from rows[16 * e] on are the partners of each value of the lower end, then of the upper end; an edge whose byte is 0 allows everything.
+// Where there are too few bytes or an end is no variable, the answer is Malformed and the sets stay.
 pub fn closure(lower: &[u8], upper: &[u8], rows: &[u8], raised: &[u8], sets: &mut [u8]) -> Closed
     ensures { λ r. ⌜ r ≡ closureAnswer (now (lower .entry)) (now (upper .entry)) (now (rows .entry)) (now (raised .entry)) (now (sets .entry)) ⌝ }
     ensures { λ r. ⌜ now (sets .exit) ≡ closureSets (now (lower .entry)) (now (upper .entry)) (now (rows .entry)) (now (raised .entry)) (now (sets .entry)) ⌝ }
@@ -766,7 +767,7 @@ pub fn closure(lower: &[u8], upper: &[u8], rows: &[u8], raised: &[u8], sets: &mu
 }
 
 // Whether each of `values` (marks), fixed alone in the set of `variable`, leaves no supported family inside `sets`. The other bytes are as
-// `closure` takes them.
+// `closure` takes them; Malformed also where there are more than 48 sets or `variable` has none.
 pub fn none_supported(
     lower: &[u8],
     upper: &[u8],
@@ -807,7 +808,7 @@ pub fn none_supported(
 }
 
 // Writes the active values of each variable to the first n bytes of `sets`, and the active partners on each edge to the first 16 · m bytes
-// of `rows`, as `closure` takes them.
+// of `rows`, as `closure` takes them. Asks 3 to 8.
 pub fn active_marks(case: Case, table: &[i64], sets: &mut [u8], rows: &mut [u8]) -> Outcome
     ensures { λ r. ⌜ r ≡ activeAnswer standard case (now (table .entry)) (now (sets .entry)) (now (rows .entry)) ⌝ }
     ensures { λ r. ⌜ now (sets .exit) ≡ setsAfter standard case (now (table .entry)) (now (sets .entry)) (now (rows .entry)) ⌝ }

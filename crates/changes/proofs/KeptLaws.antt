@@ -1,4 +1,4 @@
--- Moves on a table that was checked, with the greatest weights kept beside it: whether a weight leaves its range, and that `best` stays right.
+-- Weights changed on a table that was checked, with the greatest weights kept beside it: whether a weight leaves its range, and that `best` stays right.
 -- Assumes nothing.
 use mathlib.Core.Path.{_≡_, refl, sym, ap, ap₂, subst, _∙_}
 use mathlib.Core.Bool.{Bool, true, false, not, _||_}

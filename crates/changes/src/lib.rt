@@ -1,5 +1,5 @@
-// Weights changed on a table that was checked before, with a number for each scope, its greatest weight, kept in step. Each function asks
-// only what is said at it and takes the rest as it comes: none turns back by document 01's whole list, and none asks number 10.
+// Weights changed on a table that was checked before, with a number for each scope, its greatest weight, kept in step. Inner functions, for
+// other crates: each asks only what is said at it, and none asks 6 to 10. Document 01's moves are `moves::shift` and `moves::press`.
 use definitions::Case;
 use definitions::Outcome;
 use definitions::Refusal;
@@ -462,7 +462,7 @@ fn lowering_kept(
 // ---- the calls
 
 // Adds `amount` to the weight of a value of the variable at that end of the edge and subtracts it from the edge's d tuples that use the value
-// there. best[x] becomes the greatest weight of the two scopes x touched. Asks 3, 4, 5 of the arguments and of that end, and 11 of the weights
+// there. best[x] becomes the greatest weight of each of the two scopes x. Asks 3, 4, 5 of the arguments and of that end, and 11 of the weights
 // touched.
 pub fn transfer(
     case: Case,
