@@ -396,7 +396,32 @@ static void step(const struct step *row, int by_line) {
     test("ceiling_replay_end", "a part line left", part.number == (row->end ? row->end : 14) && part.rounds == 0);
 }
 
-/* Not here yet: a block without a whole line. */
+/* A block without a whole line: the number that stands, else 3 to 8, else 0. */
+static void no_whole_line(void) {
+    uint8_t bytes[CEILING_CASE], record[CEILING_RECORD], text[CEILING_LINE] = {0};
+    for (size_t length = 0; length < CEILING_LINE; length += CEILING_LINE - 1) {
+        for (int standing = 0; standing < 15; standing++) {
+            struct record wanted = FRESH;
+            int64_t table[8];
+            wanted.standing = (uint8_t)standing;
+            case_of(&P4, bytes);
+            memcpy(table, P4.table, sizeof table);
+            ceiling_replay_start(bytes, table, 8, record);
+            record[51] = (uint8_t)standing;
+            struct ceiling_lines_answer a = ceiling_replay_lines(bytes, table, 8, record, text, length);
+            int same = says(record, &wanted) && !memcmp(table, P4.table, sizeof table);
+            test("ceiling_replay_lines", "no whole line", a.number == (uint64_t)standing && a.lines == 0 && same);
+        }
+        for (size_t i = 0; i < FAULT_COUNT; i++) {
+            struct sample s = faulty(&FAULTS[i], WORKING), before = s;
+            case_of(&s, bytes);
+            memset(record, 0, sizeof record);
+            struct ceiling_lines_answer a = ceiling_replay_lines(bytes, s.table, s.length, record, text, length);
+            int same = !memcmp(s.table, before.table, sizeof s.table);
+            test("ceiling_replay_lines", "no whole line, handed over", a.number == FAULTS[i].number && a.lines == 0 && same);
+        }
+    }
+}
 
 /* A good record on a case or a table with a fault: lines that are in columns and due ask 3 to 8. */
 static void handed_over(void) {
@@ -621,7 +646,7 @@ int main(void) {
     ceilings(), totals(), choices();
     starts();
     for (size_t i = 0; i < sizeof STEPS / sizeof *STEPS; i++) step(&STEPS[i], 0), step(&STEPS[i], 1);
-    handed_over(), records(), last_round();
+    no_whole_line(), handed_over(), records(), last_round();
     spans();
     runs(), rounds(), engine_faults();
     printf("%u passed, %u failed\n", passed, failed);

@@ -238,7 +238,11 @@ fn replays(count: &mut Count) {
             count.test("end", name, Replay::from_bytes([0; 196]).end(&case, 0) == refused(number, 0));
         }
     }
-    // Not here yet: a block without a whole line.
+    for (name, number, mut s) in faults(WORKING) {
+        let (case, before) = (s.case(), s.table.clone());
+        let answer = Replay::from_bytes([0; 196]).lines(&case, &mut s.table, b" 4");
+        count.test("lines", &format!("no whole line, {name}"), answer == refused(number, 0) && s.table == before);
+    }
     let mut table = p4().table;
     let mut none = Replay::from_bytes([2; 196]);
     let answer = none.lines(&case, &mut table, &lines(&[PRESS]));

@@ -26,6 +26,12 @@ end-with-requires c κs = search needs
 rounds-of-requires : tie.Need-rounds-of-requires
 rounds-of-requires c κs = search needs
 
+case-of-requires-2 : tie.Need-case-of-requires-2
+case-of-requires-2 c κs = search needs
+
+not-record-at-end-requires : tie.Need-not-record-at-end-requires
+not-record-at-end-requires c κs = search needs
+
 returns : tie.Need-returns
 unfolding endCall
 returns c =
@@ -39,9 +45,11 @@ returns c =
 returns-2 : tie.Need-returns-2
 unfolding endCall
 returns-2 c =
-    let s = c .before .before in
-    let e : isRecord (now (s .args .state)) ≡ false = sym (c .before .is-record .ensures) ∙ c .if1 .left in
-    rw e
+    let k = c .before in
+    let t = k .before in
+    let s = t .before .before in
+    let e : isRecord (now (s .args .state)) ≡ false = sym (t .before .is-record .ensures) ∙ t .if1 .left in
+    rw e (rw (c .not-record-at-end .ensures, k .case-of2 .ensures))
 
 pub ceiling-replay-end-spec : {M : Type 1} → statement M
 ceiling-replay-end-spec =
@@ -53,5 +61,7 @@ ceiling-replay-end-spec =
     end-requires
     end-with-requires
     rounds-of-requires
+    case-of-requires-2
+    not-record-at-end-requires
     returns
     returns-2)

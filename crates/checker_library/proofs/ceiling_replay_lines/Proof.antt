@@ -20,8 +20,17 @@ case-of-requires c κs = search needs
 replay-block-requires : tie.Need-replay-block-requires
 replay-block-requires c κs = search needs
 
+case-of-requires-2 : tie.Need-case-of-requires-2
+case-of-requires-2 c κs = search needs
+
+not-record-requires : tie.Need-not-record-requires
+not-record-requires c κs = search needs
+
 same-length : tie.Need-same-length
 same-length c = search needs
+
+same-length-2 : tie.Need-same-length-2
+same-length-2 c = search needs
 
 returns : tie.Need-returns
 unfolding replayCall
@@ -37,9 +46,11 @@ returns c =
 returns-2 : tie.Need-returns-2
 unfolding replayCall
 returns-2 c =
-    let s = c .before .before .before .before in
-    let e : isRecord (now (s .args .state)) ≡ false = sym (c .before .is-record .ensures) ∙ c .if1 .left in
-    rw e (refl, refl, refl)
+    let k = c .before .before in
+    let t = k .before in
+    let s = t .before .before .before .before in
+    let e : isRecord (now (s .args .state)) ≡ false = sym (t .before .is-record .ensures) ∙ t .if1 .left in
+    rw e (rw (c .not-record .ensures, k .case-of2 .ensures) (refl, refl, refl))
 
 pub ceiling-replay-lines-spec : {M : Type 1} → statement M
 ceiling-replay-lines-spec =
@@ -49,6 +60,9 @@ ceiling-replay-lines-spec =
     record-of-requires
     case-of-requires
     replay-block-requires
+    case-of-requires-2
+    not-record-requires
     same-length
     returns
+    same-length-2
     returns-2)
