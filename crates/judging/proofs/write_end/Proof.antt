@@ -1,16 +1,19 @@
 -- By what the end answers. Assumes nothing.
-use mathlib.Core.Path.{sym, ap, _∙_}
+use mathlib.Core.Path.{_≡_, sym, ap, _∙_}
+use Prim.Native.Nat.{ℕ}
+use native.Mathlib.Omega.{arith}
 use lib.IntN.{ℤ}
 use denote.Ref.{now}
 use mir.Syntax.{w64}
 use Rattle.integers.specs.Linear.{read-back}
+use Rattle.definitions.specs.declared.Figure.{Figure}
 use Rattle.definitions.specs.declared.Outcome.{Outcome}
 use Rattle.definitions.specs.Rules.{standard}
 use Rattle.definitions.specs.Case.{upperBound}
 use Rattle.definitions.specs.Programs.{accepted}
-use Rattle.tables.proofs.Answered.{bound-known}
+use Rattle.tables.proofs.Answered.{greatest-sum-known}
 use Rattle.texts.specs.Texts.{writeAcceptedCall}
-use Rattle.judging.specs.Judging.{endJudged, writeJudged}
+use Rattle.judging.specs.Judging.{endJudged, writeJudged, finishStanding}
 use Rattle.judging.proofs.Calls.{same-written}
 use Rattle.judging.proofs.Ends.{finish-done}
 use borrow.Author.Needs.{needs}
@@ -29,8 +32,17 @@ write-refused-requires c κs = search needs
 enum-told : tie.Need-enum-told
 enum-told c = search needs
 
-bound-of-requires : tie.Need-bound-of-requires
-bound-of-requires c κs = search needs
+sum-of-greatest-requires : tie.Need-sum-of-greatest-requires
+sum-of-greatest-requires c κs = search needs
+
+enum-known-sum : tie.Need-enum-known-sum
+enum-known-sum c = search needs
+
+write-refused-requires-2 : tie.Need-write-refused-requires-2
+write-refused-requires-2 c κs = search needs
+
+enum-known-sum-2 : tie.Need-enum-known-sum-2
+enum-known-sum-2 c = search needs
 
 write-accepted-requires : tie.Need-write-accepted-requires
 write-accepted-requires c κs = search needs
@@ -48,22 +60,43 @@ returns c =
     (ap (λ (o : Outcome). writeJudged (now (s .args .out)) (endJudged (s .args .passed) o good)) (sym (k .before .before .before .ended .given .1) ∙ e .end .ensures))
     (k .write-refused .ensures)
 
+-- the end answers done, and the sum is the upper bound
+ended : (c : tie.After-sum-of-greatest) → let e = c .before .before .before in let a = e .before .before .before .before .args in
+    Outcome.Done ≡ finishStanding standard (a .judging .case) (now (a .table)) (a .judging .replay) (a .part) (a .judging .replay .standing)
+ended c = sym (c .before .enum-told .given .1) ∙ c .before .before .before .end .ensures
+
+summed : (c : tie.After-sum-of-greatest) {x : Figure} → c .sum-of-greatest .result ≡ x → let a = c .before .before .before .before .before .before .before .args in
+    x ≡ Figure.Value (upperBound (a .judging .case) (now (a .table)))
+summed c f =
+    let a = c .before .before .before .before .before .before .before .args in
+    let j = a .judging in
+    sym f ∙ c .sum-of-greatest .ensures ∙ greatest-sum-known (finish-done standard (j .case) (now (a .table)) (j .replay) (a .part) (j .replay .standing) (ended c))
+
 same-length-2 : tie.Need-same-length-2
 same-length-2 c = search needs
 
 returns-2 : tie.Need-returns-2
-returns-2 c =
+returns-2 c = let e = summed (c .before .before .before .before .before .before .before) (c .before .before .before .before .before .sum .given .1) in
+    let z : _≡_ {A = ℕ} 0 1 = cc in
+    absurd (omega arith)
+
+same-length-3 : tie.Need-same-length-3
+same-length-3 c = search needs
+
+returns-3 : tie.Need-returns-3
+returns-3 c =
     let k = c .before .before in
-    let b = k .before in
-    let e = b .before .before .before .before in
-    let s = e .before .before .before .before in
-    let j = s .args .judging in
-    let w = now (s .args .table) in
-    let d = sym (b .before .before .enum-told .given .1) ∙ e .end .ensures in
-    let bound = read-back w64 (b .bound-of .result) (b .bound-of .ok) ∙ b .bound-of .ensures ∙ bound-known (finish-done standard (j .case) w (j .replay) (s .args .part) (j .replay .standing) d) in
+    let t = k .before .before in
+    let q = t .before .before .before in
+    let a = q .before .before .before .before .before .before .before .args in
+    let j = a .judging in
+    let w = now (a .table) in
+    let z = t .before .sum2 .given .0 .0 in
+    let e = summed q (t .before .sum2 .given .1) in
+    let d : z ≡ upperBound (j .case) w = cc in
     same-written
-    (ap (λ (z : ℤ). writeAcceptedCall (now (s .args .out)) (j .replay .rounds) z) bound
-    ∙ ap (λ (o : Outcome). writeJudged (now (s .args .out)) (endJudged (s .args .passed) o (accepted (j .replay .rounds) (upperBound (j .case) w)))) d)
+    (ap (λ (y : ℤ). writeAcceptedCall (now (a .out)) (j .replay .rounds) y) (read-back w64 z (t .known-told3 .given .0 .1) ∙ d)
+    ∙ ap (λ (o : Outcome). writeJudged (now (a .out)) (endJudged (a .passed) o (accepted (j .replay .rounds) (upperBound (j .case) w)))) (ended q))
     (k .write-accepted .ensures)
 
 pub write-end-spec : {M : Type 1} → statement M
@@ -74,9 +107,14 @@ write-end-spec =
     enum-known-ended
     write-refused-requires
     enum-told
-    bound-of-requires
+    sum-of-greatest-requires
+    enum-known-sum
+    write-refused-requires-2
+    enum-known-sum-2
     write-accepted-requires
     same-length
     returns
     same-length-2
-    returns-2)
+    returns-2
+    same-length-3
+    returns-3)
