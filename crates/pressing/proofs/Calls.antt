@@ -1,6 +1,7 @@
 -- What the calls leave, at each way out of the code. Assumes nothing.
 use mathlib.Core.Path.{_≡_, refl, sym, ap, ap₂, subst, _∙_}
 use mathlib.Core.Bool.{Bool}
+use mathlib.Core.Option.{Option, none, some}
 use mathlib.Core.List.{List}
 use Prim.Native.Nat.{ℕ, _-_, _<_}
 use native.Mathlib.Omega.{arith}
@@ -8,23 +9,28 @@ use lib.IntN.{ℤ}
 use lib.Dec.{T, eqb, ltb}
 use lib.ListN.{length}
 use Rattle.integers.specs.Words.{if_then_else_}
+use Rattle.definitions.specs.declared.Case.{Case}
 use Rattle.definitions.specs.declared.CaseRead.{CaseRead}
 use Rattle.definitions.specs.declared.FileAnswer.{FileAnswer}
 use Rattle.definitions.specs.declared.Refusal.{Refusal}
-use Rattle.definitions.specs.declared.Refusal.the-variants.{WrongLength}
 use Rattle.definitions.specs.declared.Round.{Round}
+use Rattle.definitions.specs.declared.RunAnswer.{RunAnswer}
+use Rattle.definitions.specs.declared.Run.{Run}
 use Rattle.definitions.specs.declared.Written.{Written}
 use Rattle.definitions.specs.Rules.{Rules}
-use Rattle.definitions.specs.CaseFiles.{CaseCall, caseOf, readCaseAlone}
+use Rattle.definitions.specs.Calls.{writtenOf}
+use Rattle.definitions.specs.CaseFiles.{CaseCall, caseOf, caseSize, readCaseAlone}
 use borrow.Author.Tests.{ne-eqb}
-use Rattle.definitions.specs.Engine.{engineNext}
-use Rattle.definitions.specs.EngineCalls.{RoundCall, isLeaving, roundCall}
+use Rattle.definitions.specs.Moves.{Move}
+use Rattle.definitions.specs.Engine.{Next, nothing, round, engineNext, afterMoves, madeOf, makeNext}
+use Rattle.definitions.specs.EngineCalls.{RoundCall, RunCall, isLeaving, answerAtLimit, roundMade, engineRefusal, roundCall, runCall}
 use Rattle.definitions.specs.Programs.{pressLimit}
+use Rattle.engine_theory.proofs.Calls.{call-taken, run-refused}
 use Rattle.texts.specs.Texts.{textRoom, writeRefusedCall}
 use Rattle.pressing.specs.declared.Pressing.{Pressing}
 use Rattle.pressing.specs.declared.Pressed.{Pressed}
 use Rattle.pressing.specs.Prints.{isText}
-use Rattle.pressing.specs.Pressing.{PressingCall, withLeft, afterText, writeRefusal, afterRound, afterCase, startPressing, roundNext, nextPressing}
+use Rattle.pressing.specs.Pressing.{PressingCall, withLeft, afterText, writeRefusal, afterRound, headOrShort, afterCase, startPressing, roundNext, nextPressing}
 
 abbrev toPressed : Pressing → Written → Pressed
 toPressed p x = record { pressing = p; written = x }
@@ -79,10 +85,41 @@ round-falls p call Round.Settled h t = h
 round-falls p call (Round.Made bytes bound) h t = omega arith
 round-falls p call (Round.Refused x) h t = text-falls p (writeRefusal x (p .lines) (call .out) .answer) h t
 
+-- ---- a run of no round
+module _ (r : Rules) (c : Case) (w : List ℤ) (out : List ℕ) where
+  -- its answer as that of a call with nothing to print
+  abbrev pub ranNone : RunAnswer → Written
+  ranNone RunAnswer.Settled = Written.Bytes 0
+  ranNone RunAnswer.Limit = Written.Bytes 0
+  ranNone (RunAnswer.Refused x) = Written.Refused x
+
+  abbrev none-ran : RunCall
+  none-ran = runCall r engineNext c 0 w out
+
+  run-asks : (ranNone (none-ran .run .answer) ≡ writtenOf (engineRefusal r engineNext c w out) 0) × (none-ran .table ≡ w) × (none-ran .out ≡ out)
+  unfolding runCall
+  run-asks = (go (engineRefusal r engineNext c w out) refl, refl, refl)
+    where
+      moved : (moves : List Move) (o : Option (List ℤ)) → ranNone (answerAtLimit (roundMade r engineNext c w out (madeOf r c moves o) .answer)) ≡ Written.Bytes 0
+      moved moves none = refl
+      moved moves (some v) = refl
+
+      made : (n : Next) → ranNone (answerAtLimit (roundMade r engineNext c w out (makeNext r c w n) .answer)) ≡ Written.Bytes 0
+      made nothing = refl
+      made (round moves) = moved moves (afterMoves r c moves w)
+
+      go : (o : Option Refusal) → engineRefusal r engineNext c w out ≡ o → ranNone (answerAtLimit (roundCall r engineNext c w out .answer)) ≡ writtenOf o 0
+      go none e = ap (λ (u : RoundCall). ranNone (answerAtLimit (u .answer))) (call-taken r engineNext c w out e) ∙ made (engineNext c w)
+      go (some x) e = ap (λ (u : RunCall). ranNone (u .run .answer)) (run-refused r engineNext c w out 0 e)
+
+  pub asked-round : {res : Run} {v : List ℤ} {bytes : List ℕ} → (res ≡ none-ran .run) × (v ≡ none-ran .table) × (bytes ≡ none-ran .out)
+      → {a : RunAnswer} → res .answer ≡ a → (ranNone a ≡ writtenOf (engineRefusal r engineNext c w out) 0) × (v ≡ w) × (bytes ≡ out)
+  asked-round (p, q, o) e = let (k, t, l) = run-asks in (ap ranNone (sym e ∙ ap (λ (u : Run). u .answer) p) ∙ k, q ∙ t, o ∙ l)
+
 module _ (r : Rules) where
   module _ (p : Pressing) (w : List ℤ) (out : List ℕ) where
     abbrev idle : PressingCall
-    idle = record { pressed = toPressed p (Written.Bytes 0); table = w; out = out }
+    idle = record { pressed = toPressed p (writtenOf (engineRefusal r engineNext (p .case) w out) 0); table = w; out = out }
 
     pub next-is : {b : Bool} → eqb (p .left) 0 ≡ b → (if b then idle else roundNext r p w out) ≡ nextPressing r p w out
     unfolding nextPressing
@@ -97,7 +134,7 @@ module _ (r : Rules) where
   -- ---- the start
   module _ (t : List ℕ) (w : List ℤ) (out : List ℕ) where
     abbrev unread : PressingCall
-    unread = record { pressed = toPressed (record { case = caseOf r 0 0 0; lines = 0; left = 0 }) (Written.Refused WrongLength); table = w; out = out }
+    unread = record { pressed = toPressed (record { case = caseOf r 0 0 0; lines = 0; left = 0 }) (Written.Refused (headOrShort (caseSize r t))); table = w; out = out }
 
     abbrev begun : PressingCall
     begun = afterCase r out (readCaseAlone r t w) (readCaseAlone r t w .read .answer)

@@ -16,16 +16,16 @@ use Rattle.integers.specs.Lists.{joined-append}
 use Rattle.definitions.specs.declared.Case.{Case}
 use Rattle.definitions.specs.declared.FileAnswer.{FileAnswer}
 use Rattle.definitions.specs.declared.Refusal.{Refusal}
-use Rattle.definitions.specs.declared.Refusal.the-variants.{WrongLength, LeavesRange}
+use Rattle.definitions.specs.declared.Refusal.the-variants.{LeavesRange}
 use Rattle.definitions.specs.declared.Written.{Written}
 use Rattle.definitions.specs.Rules.{Rules, Coherent, standard, standard-coherent}
-use Rattle.definitions.specs.Calls.{WriteCall}
+use Rattle.definitions.specs.Calls.{WriteCall, writtenOf}
 use Rattle.definitions.specs.Valid.{workingWeight}
 use Rattle.definitions.specs.Moves.{Move}
 use Rattle.definitions.specs.Lines.{lineLength, overwritten}
 use Rattle.definitions.specs.CaseFiles.{CaseCall, caseOf, caseRefused, caseSize, restRefusal, nothingAfter, readCase, readCaseAlone}
 use Rattle.definitions.specs.Engine.{Next, nothing, round, Made, engineNext, afterMoves, roundText, roundBytes, madeOf, makeNext, atLimit, onward, runFrom}
-use Rattle.definitions.specs.EngineCalls.{RoundCall, roundMade, roundCall}
+use Rattle.definitions.specs.EngineCalls.{RoundCall, roundMade, engineRefusal, roundCall}
 use Rattle.definitions.specs.Programs.{pressLimit, refusedText, tableFor, pressEnd, pressRun, pressRead}
 use Rattle.theory.proofs.Validity.{Handed}
 use Rattle.theory.proofs.Replays.{handed-after}
@@ -37,7 +37,7 @@ use Rattle.texts.specs.Texts.{textRoom, greatestCount, writeRefusedCall}
 use Rattle.texts.proofs.Answers.{text-done}
 use Rattle.judging.proofs.Fronts.{lineOf, longestLines, case-line, press-front}
 use Rattle.pressing.specs.declared.Pressing.{Pressing}
-use Rattle.pressing.specs.Pressing.{PressingCall, afterText, afterRound, afterCase, startPressing, roundNext, nextPressing}
+use Rattle.pressing.specs.Pressing.{PressingCall, afterText, afterRound, headOrShort, afterCase, startPressing, roundNext, nextPressing}
 use Rattle.pressing.specs.Prints.{longestRound, printedBytes, textOf, called, afterCalls, printedOf, Over, Printed, PressPrinted}
 
 -- ---- nothing more is due
@@ -45,7 +45,19 @@ use Rattle.pressing.specs.Prints.{longestRound, printedBytes, textOf, ca
 module _ (r : Rules) where
   -- what a call of `next` then leaves
   abbrev idle : PressingCall → PressingCall
-  idle g = record { pressed = record { pressing = g .pressed .pressing; written = Written.Bytes 0 }; table = g .table; out = g .out }
+  idle g = record {
+    pressed = record { pressing = g .pressed .pressing; written = writtenOf (engineRefusal r engineNext (g .pressed .pressing .case) (g .table) (g .out)) 0 };
+    table = g .table;
+    out = g .out;
+  }
+
+  -- it prints nothing, whatever it is asked
+  idle-text : (g : PressingCall) → textOf (idle g) ≡ []
+  idle-text g = go (engineRefusal r engineNext (g .pressed .pressing .case) (g .table) (g .out))
+    where
+      go : (o : Option Refusal) → printedBytes (writtenOf o 0) (g .out) ≡ []
+      go none = refl
+      go (some x) = refl
 
   over-idle : (g : PressingCall) → Over r g → called r g ≡ idle g
   unfolding nextPressing
@@ -59,7 +71,7 @@ module _ (r : Rules) where
   over-printed zero g e = refl
   over-printed (suc n) g e =
       ap (λ (k : PressingCall). textOf g ++ printedOf r n k) (over-idle g e)
-      ∙ ap (λ (l : List ℕ). textOf g ++ l) (over-printed n (idle g) e) ∙ append-nil (textOf g)
+      ∙ ap (λ (l : List ℕ). textOf g ++ l) (over-printed n (idle g) e ∙ idle-text g) ∙ append-nil (textOf g)
 
 -- the line of a case that is read alone
 module _ {r : Rules} (kinds : CaseKinds r) (t : List ℕ) (w : List ℤ) where
@@ -141,7 +153,7 @@ module _ {r : Rules} (coherent : Coherent r) (c : Case) (at : ℕ) (few : at ≤
 
   over-more : (n : ℕ) (g : PressingCall) → Over r g → more n g ≡ []
   over-more zero g e = refl
-  over-more (suc n) g e = ap (printedOf r n) (over-idle r g e) ∙ over-printed r n (idle r g) e
+  over-more (suc n) g e = ap (printedOf r n) (over-idle r g e) ∙ over-printed r n (idle r g) e ∙ idle-text r g
 
   kept-long : {w v : List ℤ} {moves : List Move} → RoundFrom r engineNext c w moves v → (out : List ℕ) → roundBytes r c ≤ length out
       → length (overwritten (joined (roundText r c moves v)) out) ≡ length out
@@ -211,7 +223,7 @@ module _ {r : Rules} (coherent : Coherent r) (kinds : CaseKinds r) (few : longes
     unfolding startPressing
     begins =
         ap (λ (b : Bool). if b then record {
-          pressed = record { pressing = record { case = caseOf r 0 0 0; lines = 0; left = 0 }; written = Written.Refused WrongLength };
+          pressed = record { pressing = record { case = caseOf r 0 0 0; lines = 0; left = 0 }; written = Written.Refused (headOrShort (caseSize r t)) };
           table = tableFor (caseSize r t);
           out = out;
         } else afterCase r out call (call .read .answer)) (le-ltb (length out) textRoom (omega arith))

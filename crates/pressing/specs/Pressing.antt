@@ -5,16 +5,17 @@ use lib.IntN.{ℤ}
 use lib.Dec.{eqb, ltb}
 use lib.ListN.{length}
 use Rattle.integers.specs.Words.{if_then_else_}
+use Rattle.definitions.specs.declared.CaseSize.{CaseSize}
 use Rattle.definitions.specs.declared.FileAnswer.{FileAnswer}
 use Rattle.definitions.specs.declared.Refusal.{Refusal}
 use Rattle.definitions.specs.declared.Refusal.the-variants.{WrongLength}
 use Rattle.definitions.specs.declared.Round.{Round}
 use Rattle.definitions.specs.declared.Written.{Written}
 use Rattle.definitions.specs.Rules.{Rules}
-use Rattle.definitions.specs.Calls.{WriteCall}
-use Rattle.definitions.specs.CaseFiles.{CaseCall, caseOf, readCaseAlone}
+use Rattle.definitions.specs.Calls.{WriteCall, writtenOf}
+use Rattle.definitions.specs.CaseFiles.{CaseCall, caseOf, caseSize, readCaseAlone}
 use Rattle.definitions.specs.Engine.{engineNext}
-use Rattle.definitions.specs.EngineCalls.{RoundCall, isLeaving, roundCall}
+use Rattle.definitions.specs.EngineCalls.{RoundCall, isLeaving, engineRefusal, roundCall}
 use Rattle.definitions.specs.Programs.{pressLimit}
 use Rattle.texts.specs.Texts.{textRoom, writeRefusedCall}
 use Rattle.pressing.specs.declared.Pressing.{Pressing}
@@ -48,6 +49,11 @@ afterRound p call (Round.Refused x) =
     let text : WriteCall = writeRefusal x (p .lines) (call .out) in
     record { pressed = afterText p (text .answer); table = call .table; out = text .out }
 
+-- what the head is refused by, else number 4
+abbrev pub headOrShort : CaseSize → Refusal
+headOrShort (CaseSize.Refused x) = x
+headOrShort (CaseSize.Size n d m long) = WrongLength
+
 module _ (r : Rules) where
   -- a refused case is printed and nothing more is due; after a case that was read, up to 100,000 rounds
   abbrev pub afterCase : List ℕ → CaseCall → FileAnswer → PressingCall
@@ -64,12 +70,12 @@ module _ (r : Rules) where
     out = out;
   }
 
-  -- the case is read alone; an output that is too short for a text is number 4, and nothing is read
+  -- the case is read alone; with an output that is too short for a text nothing is read, and 4 comes after what the head is asked
   unfoldable pub startPressing : List ℕ → List ℤ → List ℕ → PressingCall
   startPressing t w out =
       if ltb (length out) textRoom
       then record {
-        pressed = record { pressing = record { case = caseOf r 0 0 0; lines = 0; left = 0 }; written = Written.Refused WrongLength };
+        pressed = record { pressing = record { case = caseOf r 0 0 0; lines = 0; left = 0 }; written = Written.Refused (headOrShort (caseSize r t)) };
         table = w;
         out = out;
       }
@@ -83,9 +89,9 @@ module _ (r : Rules) where
       let call : RoundCall = roundCall r engineNext (p .case) w out in
       afterRound p call (call .answer)
 
-  -- the next round, if one may follow
+  -- the next round, if one may follow; if none may, what is handed over is asked as the engine's round asks it, and nothing changes
   unfoldable pub nextPressing : Pressing → List ℤ → List ℕ → PressingCall
   nextPressing p w out =
       if eqb (p .left) 0
-      then record { pressed = record { pressing = p; written = Written.Bytes 0 }; table = w; out = out }
+      then record { pressed = record { pressing = p; written = writtenOf (engineRefusal r engineNext (p .case) w out) 0 }; table = w; out = out }
       else roundNext p w out

@@ -5,15 +5,18 @@ use definitions::CaseSize;
 use definitions::FileAnswer;
 use definitions::Refusal;
 use definitions::Round;
+use definitions::RunAnswer;
 use definitions::Written;
 ghost use mathlib.Core.Path.{_≡_};
 ghost use Prim.Native.Nat.{_<_};
 ghost use lib.ListN.{length};
 ghost use Rattle.definitions.specs.Rules.{standard};
 ghost use Rattle.definitions.specs.CaseFiles.{caseOf, caseSize};
-ghost use Rattle.definitions.specs.EngineCalls.{isLeaving};
+ghost use Rattle.definitions.specs.Calls.{writtenOf};
+ghost use Rattle.definitions.specs.Engine.{engineNext};
+ghost use Rattle.definitions.specs.EngineCalls.{isLeaving, engineRefusal};
 ghost use Rattle.definitions.specs.Programs.{tableFor};
-ghost use Rattle.pressing.specs.Pressing.{withLeft, afterText, writeRefusal, startPressing, roundNext, nextPressing};
+ghost use Rattle.pressing.specs.Pressing.{withLeft, afterText, writeRefusal, headOrShort, startPressing, roundNext, nextPressing};
 
 // An output must have so many bytes for a text.
 const ROOM: usize = 64;
@@ -119,6 +122,35 @@ fn one_round(pressing: Pressing, table: &mut [i64], out: &mut [u8]) -> Pressed
     }
 }
 
+// No round may follow: a run of no round asks what is handed over, and changes nothing.
+fn ask_round(case: Case, table: &mut [i64], out: &mut [u8]) -> Written
+    ensures { λ r. ⌜ (r ≡ writtenOf (engineRefusal standard engineNext case (now (table .entry)) (now (out .entry))) 0) × (now (table .exit) ≡ now (table .entry)) × (now (out .exit) ≡ now (out .entry)) ⌝ }
+{
+    let run = engine::run(case, table, out, 0);
+    let answer = run.answer;
+    match answer {
+        RunAnswer::Refused(refusal) => Written::Refused(refusal),
+        RunAnswer::Settled => Written::Bytes(0),
+        RunAnswer::Limit => Written::Bytes(0),
+    }
+}
+
+// What the head is refused by, else 4 of the output.
+fn head_or_short(bytes: &[u8]) -> Refusal
+    ensures { λ r. ⌜ r ≡ headOrShort (caseSize standard (now (bytes .entry))) ⌝ }
+{
+    let size = casefile::case_size(bytes);
+    match size {
+        CaseSize::Refused(refusal) => refusal,
+        CaseSize::Size {
+            n: _,
+            d: _,
+            m: _,
+            table: _,
+        } => Refusal::WrongLength,
+    }
+}
+
 // ---- the calls
 
 // The length of the table to lend: what the head of the case asks for.
@@ -142,13 +174,14 @@ pub fn start(bytes: &[u8], table: &mut [i64], out: &mut [u8]) -> Pressed
     ensures { λ r. ⌜ (r ≡ startPressing standard (now (bytes .entry)) (now (table .entry)) (now (out .entry)) .pressed) × (now (table .exit) ≡ startPressing standard (now (bytes .entry)) (now (table .entry)) (now (out .entry)) .table) × (now (out .exit) ≡ startPressing standard (now (bytes .entry)) (now (table .entry)) (now (out .entry)) .out) ⌝ }
 {
     if out.len() < ROOM {
+        let refusal = head_or_short(bytes);
         return Pressed {
             pressing: Pressing {
                 case: no_case(),
                 lines: 0,
                 left: 0,
             },
-            written: Written::Refused(Refusal::WrongLength),
+            written: Written::Refused(refusal),
         };
     }
     let read = casefile::read_case_alone(bytes, table);
@@ -177,15 +210,14 @@ pub fn start(bytes: &[u8], table: &mut [i64], out: &mut [u8]) -> Pressed
     }
 }
 
-// The next round, if one may follow: its lines, or the text of a refusal by the engine.
+// The next round, if one may follow: its lines, or the text of a refusal by the engine. If none may, only what is handed over is asked.
 pub fn next(pressing: Pressing, table: &mut [i64], out: &mut [u8]) -> Pressed
     ensures { λ r. ⌜ (r ≡ nextPressing standard pressing (now (table .entry)) (now (out .entry)) .pressed) × (now (table .exit) ≡ nextPressing standard pressing (now (table .entry)) (now (out .entry)) .table) × (now (out .exit) ≡ nextPressing standard pressing (now (table .entry)) (now (out .entry)) .out) ⌝ }
 {
     if pressing.left == 0 {
-        return Pressed {
-            pressing,
-            written: Written::Bytes(0),
-        };
+        let case = pressing.case;
+        let written = ask_round(case, table, out);
+        return Pressed { pressing, written };
     }
     one_round(pressing, table, out)
 }

@@ -1,26 +1,40 @@
 -- By whether a round may follow. Assumes nothing.
-use mathlib.Core.Path.{refl}
+use mathlib.Core.Path.{ap}
 use borrow.Author.Tests.{eq-eqb, ne-eqb}
 use denote.Ref.{now}
+use Rattle.definitions.specs.declared.Written.{Written}
 use Rattle.definitions.specs.Rules.{standard}
 use Rattle.pressing.proofs.Calls.{same-pressing, next-is}
 use borrow.Author.Needs.{needs}
 use Rattle.pressing.proofs.next.Statement.{statement}
 use Rattle.pressing.proofs.next.Tie as tie
 
-returns : tie.Need-returns
-returns c =
-    let s = c .before .before .before in
-    same-pressing (next-is standard (s .args .pressing) (now (s .args .table)) (now (s .args .out)) (eq-eqb (s .args .pressing .left) 0 (c .if1 .taken))) (refl, refl, refl)
-
-one-round-requires : tie.Need-one-round-requires
-one-round-requires c κs = search needs
+ask-round-requires : tie.Need-ask-round-requires
+ask-round-requires c κs = search needs
 
 same-length : tie.Need-same-length
 same-length c = search needs
 
 same-length-2 : tie.Need-same-length-2
 same-length-2 c = search needs
+
+returns : tie.Need-returns
+returns c =
+    let k = c .before .before .before in
+    let i = k .before .before .before .before in
+    let s = i .before .before .before in
+    let (a, t, o) = k .ask-round .ensures in
+    same-pressing (next-is standard (s .args .pressing) (now (s .args .table)) (now (s .args .out)) (eq-eqb (s .args .pressing .left) 0 (i .if1 .taken)))
+    (ap (λ (x : Written). record { pressing = s .args .pressing; written = x }) a, t, o)
+
+one-round-requires : tie.Need-one-round-requires
+one-round-requires c κs = search needs
+
+same-length-3 : tie.Need-same-length-3
+same-length-3 c = search needs
+
+same-length-4 : tie.Need-same-length-4
+same-length-4 c = search needs
 
 returns-2 : tie.Need-returns-2
 returns-2 c =
@@ -30,4 +44,14 @@ returns-2 c =
     same-pressing (next-is standard (s .args .pressing) (now (s .args .table)) (now (s .args .out)) (ne-eqb (s .args .pressing .left) 0 (i .if1 .left))) (k .one-round .ensures)
 
 pub next-spec : {M : Type 1} → statement M
-next-spec = tie.close (tie.spec returns one-round-requires same-length same-length-2 returns-2)
+next-spec =
+    tie.close
+    (tie.spec
+    ask-round-requires
+    same-length
+    same-length-2
+    returns
+    one-round-requires
+    same-length-3
+    same-length-4
+    returns-2)

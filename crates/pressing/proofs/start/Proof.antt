@@ -1,10 +1,10 @@
 -- By the output, and then by how the case was read. Assumes nothing.
-use mathlib.Core.Path.{refl, ap}
+use mathlib.Core.Path.{refl, ap₂}
 use lib.ListN.{length}
 use borrow.Author.Tests.{lt-ltb, le-ltb}
 use denote.Ref.{now}
 use Rattle.definitions.specs.declared.Case.{Case}
-use Rattle.definitions.specs.declared.Refusal.the-variants.{WrongLength}
+use Rattle.definitions.specs.declared.Refusal.{Refusal}
 use Rattle.definitions.specs.declared.Written.{Written}
 use Rattle.definitions.specs.Rules.{standard}
 use Rattle.definitions.specs.CaseFiles.{readCaseAlone}
@@ -15,18 +15,21 @@ use borrow.Author.Needs.{needs}
 use Rattle.pressing.proofs.start.Statement.{statement}
 use Rattle.pressing.proofs.start.Tie as tie
 
+head-or-short-requires : tie.Need-head-or-short-requires
+head-or-short-requires c κs = search needs
+
 no-case-requires : tie.Need-no-case-requires
 no-case-requires c κs = search needs
 
-abbrev toPressed : Case → Pressed
-toPressed k = record { pressing = record { case = k; lines = 0; left = 0 }; written = Written.Refused WrongLength }
+abbrev toPressed : Case → Refusal → Pressed
+toPressed k x = record { pressing = record { case = k; lines = 0; left = 0 }; written = Written.Refused x }
 
 returns : tie.Need-returns
 returns c =
-    let i = c .before in
+    let i = c .before .before in
     let s = i .before .before .before in
     same-pressing (start-is standard (now (s .args .bytes)) (now (s .args .table)) (now (s .args .out)) (lt-ltb (length (now (s .args .out))) textRoom (i .if1 .taken)))
-    (ap toPressed (c .no-case .ensures), refl, refl)
+    (ap₂ toPressed (c .no-case .ensures) (c .before .head-or-short .ensures), refl, refl)
 
 read-case-alone-requires : tie.Need-read-case-alone-requires
 read-case-alone-requires c κs = search needs
@@ -72,6 +75,7 @@ pub start-spec : {M : Type 1} → statement M
 start-spec =
     tie.close
     (tie.spec
+    head-or-short-requires
     no-case-requires
     returns
     read-case-alone-requires
