@@ -1,7 +1,8 @@
 // What the programs print, by the calls that they are made of. Standard input holds lines of 27 bytes. One that is not in columns names what is
 // tried and is printed. Of kinds 20 and 21, a is the table's places, c the output's bytes and amount the number of bytes that follow and are the
 // program's input. Kind 20: judged by `judging`, the log in blocks of b lines, and printed. Kind 21: pressed by `pressing`, each call's text
-// printed, and then the calls of `next` and the rounds that may still follow.
+// printed, and then the calls of `next` and the rounds that may still follow; where b is not 0, one more call is lent the output's first b bytes,
+// and its answer is printed.
 // The file `stdout` has what the peer's programs print of these inputs; where a table or an output is too short it was worked out from document 01.
 use definitions::FileAnswer;
 use definitions::Line;
@@ -11,10 +12,10 @@ use pressing::Pressing;
 ghost use Prim.Native.Nat.{_-_, _≤_, _<_};
 ghost use lib.ListN.{length};
 
-// The calls of `next`, and the rounds that may still follow.
+// The calls of `next`, and what stands after them.
 struct Tally {
     calls: u64,
-    left: u64,
+    pressing: Pressing,
 }
 
 // ---- what is printed
@@ -94,9 +95,9 @@ fn judge(input: &[u8], table: &mut [i64], out: &mut [u8], bytes: usize) {
 
 // ---- kind 21
 
-fn print_tally(tally: Tally) {
-    drivers::print_count(tally.calls);
-    drivers::print_count(tally.left);
+fn print_tally(calls: u64, left: u64) {
+    drivers::print_count(calls);
+    drivers::print_count(left);
     drivers::print(b"\n");
 }
 
@@ -105,30 +106,51 @@ fn press_on(first: Pressing, table: &mut [i64], out: &mut [u8]) -> Tally {
     let mut pressing = first;
     let mut calls: u64 = 0;
     while calls < 1000 {
-        let left = pressing.left;
-        if left == 0 {
-            return Tally { calls, left };
+        if pressing.left == 0 {
+            return Tally { calls, pressing };
         }
         let pressed = pressing::next(pressing, table, out);
         pressing = pressed.pressing;
         let written = pressed.written;
         calls += 1;
         if print_written(written, out) {
-            return Tally { calls, left };
+            return Tally { calls, pressing };
         }
     }
-    Tally {
-        calls,
-        left: pressing.left,
+    Tally { calls, pressing }
+}
+
+fn print_answer(written: Written) {
+    match written {
+        Written::Bytes(n) => {
+            drivers::print_count(n as u64);
+        }
+        Written::Refused(refusal) => {
+            drivers::print_refusal(refusal);
+        }
+    }
+    drivers::print(b"\n");
+}
+
+fn call_again(pressing: Pressing, table: &mut [i64], out: &mut [u8], room: usize) {
+    if room <= out.len() {
+        let pressed = pressing::next(pressing, table, &mut out[0..room]);
+        let written = pressed.written;
+        print_answer(written);
     }
 }
 
-fn press(input: &[u8], table: &mut [i64], out: &mut [u8]) {
+fn press(input: &[u8], table: &mut [i64], out: &mut [u8], room: usize) {
     let begun = pressing::start(input, table, out);
     let written = begun.written;
     print_written(written, out);
-    let pressing = begun.pressing;
-    print_tally(press_on(pressing, table, out));
+    let first = begun.pressing;
+    let tally = press_on(first, table, out);
+    let pressing = tally.pressing;
+    print_tally(tally.calls, pressing.left);
+    if room != 0 {
+        call_again(pressing, table, out, room);
+    }
 }
 
 // ---- the vectors
@@ -144,7 +166,7 @@ fn call(input: &[u8], table: &mut [i64], out: &mut [u8], line: Line) {
             judge(input, table, out, lines * 27);
         }
     } else if line.kind == 21 {
-        press(input, table, out);
+        press(input, table, out, count(line.b));
     }
 }
 
