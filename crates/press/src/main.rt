@@ -1,25 +1,36 @@
 // The program `press`: a case on standard input, the log of up to 100,000 rounds on standard output, or a refusal (document 01). The work is done
 // by `pressing` on slices. Of an input that is longer than a case and a line more, only the front is read, and it is printed as the whole is
-// (pressing, Prints.press-printed). Where a read fails nothing is printed; the rounds end where a write fails.
-use definitions::Written;
-use libc::STDIN_FILENO;
+// (pressing, Prints.press-printed). Where a read failed nothing is printed; the rounds end where a write fails.
 use libc::STDOUT_FILENO;
-use pressing::Pressing;
+use pressing::Pressed;
+use streams::Filled;
 ghost use mathlib.Core.Path.{_≡_};
-ghost use mathlib.Core.Bool.{true};
-ghost use Prim.Native.Nat.{_≤_};
+ghost use mathlib.Core.Logic.{_⊎_};
+ghost use Prim.Native.Nat.{_+_, _≤_};
 ghost use lib.IntN.{pos};
 ghost use lib.Dec.{T};
 ghost use lib.ListN.{length, replicate};
 ghost use Rattle.definitions.specs.Rules.{standard};
 ghost use Rattle.definitions.specs.CaseFiles.{caseSize};
 ghost use Rattle.definitions.specs.Programs.{tableFor};
-ghost use Rattle.pressing.specs.Prints.{isText};
+ghost use Rattle.streams.specs.Streams.{isOver};
+ghost use Rattle.pressing.specs.Prints.{printedBytes};
+ghost use Rattle.press.specs.Rounds.{isLast, Next, Rounds, Presses};
 
-// How far the buffer was filled, and whether a read failed.
-struct Filled {
-    to: usize,
-    failed: bool,
+// The most calls that are made.
+const ROUNDS: u64 = 100_000;
+
+// What the last call left, how many bytes were handed to be printed so far, and whether the last write took all of its bytes.
+struct State {
+    pressed: Pressed,
+    bytes: usize,
+    all: bool,
+}
+
+// The same of all calls.
+struct Printed {
+    bytes: usize,
+    all: bool,
 }
 
 // Room for more than the longest case, which has 178,875 bytes, and a line.
@@ -35,90 +46,89 @@ fn weights() -> [i64; 6528]
     [0; 6528]
 }
 
-fn read_at(buf: &mut [u8], at: usize) -> isize
-    requires { ⌜ at ≤ length (now buf) ⌝ }
+// Prints what a call wrote, after so many bytes.
+fn print(pressed: Pressed, out: &[u8], before: usize) -> State
+    requires { ⌜ before + length (now out) ≤ 1000000000 ⌝ }
+    ensures { λ r. ⌜ (r .pressed ≡ pressed) × (r .bytes ≡ before + length (printedBytes (pressed .written) (now (out .entry)))) ⌝ }
 {
-    libc::read(STDIN_FILENO, &mut buf[at..])
+    let written = pressed.written;
+    let part = streams::printed_part(written, out);
+    let all = io::write_all(STDOUT_FILENO, part);
+    State {
+        pressed,
+        bytes: before + part.len(),
+        all,
+    }
 }
 
-// Reads until the buffer is full, the input ends or a read fails.
-fn fill(buf: &mut [u8]) -> Filled
-    ensures { λ r. ⌜ r .to ≤ length (now (buf .exit)) ⌝ }
+// A write failed, or nothing more is due.
+fn is_last(state: State) -> bool
+    ensures { λ r. ⌜ r ≡ isLast state ⌝ }
 {
-    let mut at: usize = 0;
-    while at < buf.len() {
-        let got = read_at(buf, at);
-        if got < 0 {
-            return Filled {
-                to: 0,
-                failed: true,
-            };
-        }
-        let more = io::count(got, &buf[at..]);
-        if more == 0 {
-            break;
-        }
-        at += more;
+    let pressed = state.pressed;
+    let pressing = pressed.pressing;
+    if state.all {
+        return pressing.left == 0;
     }
-    Filled {
-        to: at,
-        failed: false,
-    }
+    true
 }
 
-fn write_first(text: &[u8], n: usize) -> bool {
-    if n <= text.len() {
-        io::write_all(STDOUT_FILENO, &text[0..n])
-    } else {
-        false
-    }
-}
-
-// Prints what a call wrote, and answers whether it was printed.
-fn print(written: Written, out: &[u8]) -> bool
-    ensures { λ r. ⌜ (r ≡ true → T (isText written)) ⌝ }
+// The next call, printed.
+fn print_next(state: State, table: &mut [i64], out: &mut [u8]) -> State
+    requires { ⌜ state .bytes + length (now out) ≤ 1000000000 ⌝ }
+    ensures { λ r. ⌜ Next state (now (table .entry)) (now (out .entry)) r (now (table .exit)) (now (out .exit)) ⌝ }
 {
-    match written {
-        Written::Refused(_) => false,
-        Written::Bytes(n) => write_first(out, n),
-    }
+    let pressed = state.pressed;
+    let pressing = pressed.pressing;
+    let next = pressing::next(pressing, table, out);
+    print(next, out, state.bytes)
 }
 
-fn print_rounds(first: Pressing, table: &mut [i64], out: &mut [u8]) {
-    let mut pressing = first;
-    while pressing.left > 0 {
-        let pressed = pressing::next(pressing, table, out);
-        let written = pressed.written;
-        if !print(written, out) {
-            return;
+// The rounds after a start that was printed.
+fn print_rounds(first: State, table: &mut [i64], out: &mut [u8]) -> State
+    requires { ⌜ (length (now out) ≡ 3915) × (first .bytes ≡ length (printedBytes (first .pressed .written) (now out))) ⌝ }
+    ensures { λ r. ⌜ Rounds (record { pressed = first .pressed; table = now (table .entry); out = now (out .entry) }) r (now (table .exit)) (now (out .exit)) ⌝ }
+{
+    let mut state = first;
+    let mut calls = ROUNDS;
+    while calls > 0 {
+        if is_last(state) {
+            return state;
         }
-        pressing = pressed.pressing;
+        state = print_next(state, table, out);
+        calls -= 1;
     }
+    state
 }
 
 // The output has room for the lines of a round: a press, 143 raises and a bound at most.
-fn run(input: &[u8], table: &mut [i64])
-    requires { ⌜ now table ≡ tableFor (caseSize standard (now input)) ⌝ }
+fn run(input: &[u8], filled: Filled, table: &mut [i64]) -> Printed
+    requires { ⌜ (now table ≡ tableFor (caseSize standard (now input))) × ((262144 ≤ length (now input)) ⊎ T (isOver filled)) ⌝ }
+    ensures { λ r. ⌜ Presses (now (input .entry)) filled r ⌝ }
 {
+    if streams::is_failed(filled) {
+        return Printed {
+            bytes: 0,
+            all: true,
+        };
+    }
     let mut space = [0u8; 3915];
     let out: &mut [u8] = &mut space;
     let begun = pressing::start(input, table, out);
-    let written = begun.written;
-    if print(written, out) {
-        let pressing = begun.pressing;
-        print_rounds(pressing, table, out);
+    let first = print(begun, out, 0);
+    let last = print_rounds(first, table, out);
+    Printed {
+        bytes: last.bytes,
+        all: last.all,
     }
 }
 
 fn main() {
     let mut space = buffer();
     let mut weights = weights();
-    let filled = fill(&mut space);
-    if filled.failed {
-        return;
-    }
+    let filled = streams::fill(&mut space, 0);
     let to = filled.to;
     let input = &space[..to];
     let long = pressing::table_length(input);
-    run(input, &mut weights[0..long]);
+    run(input, filled, &mut weights[0..long]);
 }

@@ -1,25 +1,28 @@
--- What is refused is not printed. Assumes nothing.
-use mathlib.Core.Path.{sym, subst}
-use lib.Dec.{T}
+-- The part that is handed to be printed is the call's text. Assumes nothing.
+use mathlib.Core.Path.{refl, ap, _∙_}
+use mathlib.Core.List.{List}
+use Prim.Native.Nat.{ℕ, _+_}
+use lib.ListN.{length}
+use denote.Ref.{now}
+use Rattle.press.proofs.Calls.{part-is}
 use borrow.Author.Needs.{needs}
 use Rattle.press.proofs.print.Statement.{statement}
 use Rattle.press.proofs.print.Tie as tie
 
-enum-told : tie.Need-enum-told
-enum-told c = search needs
+printed-part-requires : tie.Need-printed-part-requires
+printed-part-requires c κs = search needs
 
-enum-known-written : tie.Need-enum-known-written
-enum-known-written c = search needs
+write-all-requires : tie.Need-write-all-requires
+write-all-requires c κs = search needs
 
-write-first-requires : tie.Need-write-first-requires
-write-first-requires c κs = search needs
+add-t8 : tie.Need-add-t8
+add-t8 c = search needs
 
 returns : tie.Need-returns
-returns c = rw (c .enum-told .given .1) (λ e. subst T (sym e) tt)
-
-returns-2 : tie.Need-returns-2
-returns-2 c = rw (c .before .before .written .given .1) (λ e. tt)
+returns c =
+    let p = c .before in
+    let a = p .before .before .args in
+    (refl, ap (λ (l : List ℕ). a .before + length l) (p .printed-part .ensures ∙ part-is (a .pressed .written) (now (a .out))))
 
 pub print-spec : {M : Type 1} → statement M
-print-spec =
-    tie.close (tie.spec enum-told enum-known-written write-first-requires returns returns-2)
+print-spec = tie.close (tie.spec printed-part-requires write-all-requires add-t8 returns)

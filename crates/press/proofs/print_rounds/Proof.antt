@@ -1,64 +1,71 @@
--- Each call of `next` that has something to print leaves fewer rounds to follow. Assumes nothing.
-use mathlib.Core.Path.{_≡_, sym, ap, subst}
-use mathlib.Core.Bool.{true}
-use Prim.Native.Nat.{_<_}
+-- The measure is the number of calls that are left. Assumes nothing.
+use mathlib.Core.Path.{_≡_, refl, sym, subst, _∙_}
+use mathlib.Core.Logic.{inl, inr}
+use Prim.Native.Nat.{suc, _+_, _*_, _-_, _≤_}
 use native.Mathlib.Omega.{arith}
 use lib.Dec.{T}
 use lib.ListN.{length}
 use denote.Ref.{now}
+use Rattle.definitions.specs.Programs.{pressLimit}
+use Rattle.press.proofs.Calls.{text-most, Made, made-next, bytes-more, made-ends}
 use borrow.Author.Needs.{needs}
-use borrow.Author.Tests.{not-false}
-use Rattle.definitions.specs.Rules.{standard}
-use Rattle.pressing.specs.declared.Pressed.{Pressed}
-use Rattle.pressing.specs.Prints.{isText}
-use Rattle.pressing.proofs.Calls.{next-falls}
 use Rattle.press.proofs.print_rounds.Statement.{statement}
 use Rattle.press.proofs.print_rounds.Tie as tie
 
 abbrev Inv-loop : tie.InvT-loop
-Inv-loop table₀ out₀ pressing₀ table out pressing = (length table ≡ length table₀) × (length out ≡ length out₀)
+Inv-loop table₀ out₀ state₀ calls₀ table out state calls =
+    (length table ≡ length table₀) × (length out ≡ 3915) × (calls ≤ pressLimit) × (state .bytes ≤ 3915 * (pressLimit - calls + 1))
+    × (length out₀ ≡ 3915) × Made (pressLimit - calls) (record { pressed = state₀ .pressed; table = table₀; out = out₀ }) state table out
 
 abbrev μ-loop : tie.MeasureT-loop
-μ-loop table₀ out₀ pressing₀ table out pressing = pressing .left
+μ-loop table₀ out₀ state₀ calls₀ table out state calls = calls
 
 loop-holds : tie.Need-loop-holds Inv-loop μ-loop
-loop-holds c = search needs
+loop-holds c =
+    let s = c .before in
+    let (long, bytes) = s .pre in
+    let most = text-most (s .args .first .pressed .written) (now (s .args .out)) in
+    (refl, long, omega arith, omega arith, long, record { pressed = refl; table = refl; output = refl; bytes = bytes })
 
-next-requires : tie.Need-next-requires Inv-loop μ-loop
-next-requires c κs = search needs
-
-print-requires : tie.Need-print-requires Inv-loop μ-loop
-print-requires c κs = search needs
+is-last-requires : tie.Need-is-last-requires Inv-loop μ-loop
+is-last-requires c κs = tt
 
 same-length : tie.Need-same-length Inv-loop μ-loop
-same-length c = search needs
+same-length c = c .before .before .before .loop .inv .0
 
 same-length-2 : tie.Need-same-length-2 Inv-loop μ-loop
-same-length-2 c = search needs
+same-length-2 c = let i = c .before .before .before .loop .inv in i .1 ∙ sym (i .4)
 
 returns : tie.Need-returns Inv-loop μ-loop
-returns c = search needs
+returns c = made-ends (c .before .before .before .loop .inv .5) (inl (subst T (sym (c .if1 .taken) ∙ c .before .is-last .ensures) tt))
+
+print-next-requires : tie.Need-print-next-requires Inv-loop μ-loop
+print-next-requires c κs = omega (arith, c .before .before .before .before .before .loop .inv .3)
+
+sub-calls : tie.Need-sub-calls Inv-loop μ-loop
+sub-calls c = search needs
 
 loop-less : tie.Need-loop-less Inv-loop μ-loop
-loop-less c =
-    let n = c .before .before .before .before .before .before .before in
-    let l = c .before .before .before .before .before .before .before .before .before .before .before .before in
-    let e = n .next .ensures .0 in
-    let t : T (isText (n .next .result .written)) = c .before .before .print .ensures (not-false _ (c .before .if2 .left)) in
-    subst (λ (q : Pressed). q .pressing .left < l .loop .pressing .left) (sym e)
-    (next-falls standard (l .loop .pressing) _ _ (omega arith) (subst (λ (q : Pressed). T (isText (q .written))) e t))
+loop-less c = search needs
 
 loop-again : tie.Need-loop-again Inv-loop μ-loop
-loop-again c = search needs
+loop-again c =
+    let k = c .before .before .before in
+    let l = k .before .before .before .before .before .before in
+    let (lt, lo, most, few, long, made) = l .loop .inv in
+    let more = bytes-more made (k .print-next .ensures) in
+    let out : length (k .print-next .last .1 .1 .0) ≡ 3915 = omega (arith, k .print-next .kept) in
+    let left : suc (pressLimit - l .loop .calls) ≡ pressLimit - (l .loop .calls - 1) = omega arith in
+    (search needs, out, omega arith, omega arith, long, rw left at (made-next made (k .print-next .ensures)))
 
 same-length-3 : tie.Need-same-length-3 Inv-loop μ-loop
-same-length-3 c = search needs
+same-length-3 c = c .before .loop .inv .0
 
 same-length-4 : tie.Need-same-length-4 Inv-loop μ-loop
-same-length-4 c = search needs
+same-length-4 c = let i = c .before .loop .inv in i .1 ∙ sym (i .4)
 
 returns-2 : tie.Need-returns-2 Inv-loop μ-loop
-returns-2 c = search needs
+returns-2 c = made-ends (c .before .loop .inv .5) (inr (omega arith))
 
 pub print-rounds-spec : {M : Type 1} → statement M
 print-rounds-spec =
@@ -67,11 +74,12 @@ print-rounds-spec =
     Inv-loop
     μ-loop
     loop-holds
-    next-requires
-    print-requires
+    is-last-requires
     same-length
     same-length-2
     returns
+    print-next-requires
+    sub-calls
     loop-less
     loop-again
     same-length-3

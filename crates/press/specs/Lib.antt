@@ -1,0 +1,2 @@
+-- What the functions of `press` do between a read and a write.
+pub mod Rounds
