@@ -1,13 +1,13 @@
 -- One call more, and from the loop's contract to what is printed. Assumes nothing.
 use mathlib.Core.Path.{_≡_, refl, sym, ap, subst, _∙_}
-use mathlib.Core.Bool.{Bool, true, false}
+use mathlib.Core.Bool.{Bool, true, false, not}
 use mathlib.Core.Logic.{_⊎_, inl, inr, ⊎-elim}
 use mathlib.Core.List.{List, [], _++_, append-assoc}
 use Prim.Native.Nat.{ℕ, zero, suc, _+_, _≤_}
 use native.Mathlib.Omega.{arith}
 use lib.IntN.{ℤ}
 use lib.Dec.{T, eqb, eqb→eq}
-use lib.ListN.{length, length-append, length-take}
+use lib.ListN.{length, take, length-append, length-take}
 use Rattle.definitions.specs.declared.Written.{Written}
 use Rattle.definitions.specs.Rules.{standard}
 use Rattle.definitions.specs.Lines.{lineLength}
@@ -78,6 +78,20 @@ module _ {n : ℕ} {g : PressingCall} {s r : State} {w v : List ℤ} {out after 
 pub same-call : (x : PressingCall) {p : Pressed} {w : List ℤ} {out : List ℕ} → p ≡ x .pressed → w ≡ x .table → out ≡ x .out
     → _≡_ {A = PressingCall} (record { pressed = p; table = w; out = out }) x
 same-call x e f h = rw (e, f, h) refl
+
+-- a buffer that is full, by the bytes that were read
+pub read-all : {over : Type 0} (buf : List ℕ) (to : ℕ) → length buf ≡ 262144 → length (take to buf) ≡ to → (length buf ≤ to) ⊎ over → (262144 ≤ length (take to buf)) ⊎ over
+read-all buf to long count (inl h) = inl (omega arith)
+read-all buf to long count (inr o) = inr o
+
+-- a read failed
+pub failed-press : (front : List ℕ) (filled : Filled) → isFailed filled ≡ true → Presses front filled (record { bytes = 0; all = true })
+failed-press front filled e = record {
+  printed = [];
+  bytes = refl;
+  failed = λ f. refl;
+  says = λ f all rest none. absurd (subst (λ (b : Bool). T (not b)) e f);
+}
 
 -- what the rounds after a start print
 module _ (front out : List ℕ) (filled : Filled) {r : State} {v : List ℤ} {after : List ℕ} (enough : (262144 ≤ length front) ⊎ T (isOver filled))
