@@ -69,10 +69,10 @@ module _ {A : Type 0} where
   unless a f none = a
   unless a f (some x) = f x
 
-  abbrev pub from : Says → A → (Refusal → A) → A
+  abbrev from : Says → A → (Refusal → A) → A
   from s a f = unless a f (refusalOf (s .number))
 
-  pub refused-back : (x : Refusal) (a : A) (f : Refusal → A) → unless a f (refusalOf (number x)) ≡ f x
+  refused-back : (x : Refusal) (a : A) (f : Refusal → A) → unless a f (refusalOf (number x)) ≡ f x
   refused-back x a f = ap (unless a f) (numbered x .back)
 
   -- answers that can be read back

@@ -265,7 +265,8 @@ staleStart = log6 ++ (" 1   0   0   0          -1\n" ∷ " 4   0   0   0        
 abbrev pub upFirst : List String
 upFirst = " 1   0   0   0           1\n" ∷ " 1   0   0   0          -1\n" ∷ log6
 
--- the bound of a round is compared with that at its start: 4 after 5 by the last move but one; 3 after 3; no move after a round
+-- the upper bound at a bound line is compared with that at the round's start, and with none on the way: here it goes 4, 5, 4; then 4, 3, 3;
+-- then a round's 4, 3 and no move after its bound line
 abbrev pub upAndBack : List String
 upAndBack = " 1   0   0   0           1\n" ∷ " 1   0   0   0          -1\n" ∷ " 4   0   0   0           4\n" ∷ []
 
