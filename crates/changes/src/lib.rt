@@ -154,22 +154,6 @@ fn is_shift_amount(amount: i64) -> bool
     amount != 0
 }
 
-// The edge, the end, the value or the amount is outside its range.
-pub fn transfer_out(case: Case, edge: usize, end: usize, value: usize, amount: i64) -> bool
-    ensures { λ r. ⌜ r ≡ shiftOut standard case edge end value amount ⌝ }
-{
-    if case.m <= edge {
-        return true;
-    }
-    if 2 <= end {
-        return true;
-    }
-    if case.d <= value {
-        return true;
-    }
-    !is_shift_amount(amount)
-}
-
 // ---- a scope's weights
 
 // What a weight gets: `top` where it is `best`.
@@ -393,16 +377,6 @@ fn lower_scopes(
 
 // ---- the calls on what was checked
 
-// The variable or the amount is outside its range.
-pub fn lowering_out(case: Case, variable: usize, amount: i64) -> bool
-    ensures { λ r. ⌜ r ≡ loweringOut standard case variable amount ⌝ }
-{
-    if case.n <= variable {
-        return true;
-    }
-    !is_within(amount, 1, MOVING)
-}
-
 fn lengths_wrong(case: Case, table: usize, best: usize) -> bool
     requires { ⌜ Limited standard case ⌝ }
     ensures { λ r. ⌜ r ≡ (not (eqb table (lentLength case)) || ltb best (scopeCount case)) ⌝ }
@@ -460,6 +434,32 @@ fn lowering_kept(
 }
 
 // ---- the calls
+
+// The edge, the end, the value or the amount is outside its range.
+pub fn transfer_out(case: Case, edge: usize, end: usize, value: usize, amount: i64) -> bool
+    ensures { λ r. ⌜ r ≡ shiftOut standard case edge end value amount ⌝ }
+{
+    if case.m <= edge {
+        return true;
+    }
+    if 2 <= end {
+        return true;
+    }
+    if case.d <= value {
+        return true;
+    }
+    !is_shift_amount(amount)
+}
+
+// The variable or the amount is outside its range.
+pub fn lowering_out(case: Case, variable: usize, amount: i64) -> bool
+    ensures { λ r. ⌜ r ≡ loweringOut standard case variable amount ⌝ }
+{
+    if case.n <= variable {
+        return true;
+    }
+    !is_within(amount, 1, MOVING)
+}
 
 // Adds `amount` to the weight of a value of the variable at that end of the edge and subtracts it from the edge's d tuples that use the value
 // there. best[x] becomes the greatest weight of each of the two scopes x. Asks 3, 4, 5 of the arguments and of that end, and 11 of the weights
