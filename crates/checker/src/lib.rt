@@ -1166,8 +1166,8 @@ fn check_lent(replay: Replay, case: Case, table: &[i64]) -> Outcome
     }
     let raised = replay.raised;
     let due = replay.due;
-    let out = record_out(case, &raised, replay.rounds, due);
-    tables::check_working(case, table, false, out)
+    let beyond = record_out(case, &raised, replay.rounds, due);
+    tables::check_working(case, table, false, beyond)
 }
 
 fn lent_answer(replay: Replay, case: Case, table: &[i64]) -> Outcome
