@@ -69,7 +69,7 @@ module _ (r : Rules) where
   unfoldable pub rowsAfter : Case → List ℤ → List ℕ → List ℕ → List ℕ
   rowsAfter c w sets rows = unlessRefused (activeRefusal c w sets rows) (overwritten (activeRows c w) rows) rows
 
--- ---- the inner functions
+-- ---- the private functions
 
 -- a case within the limits and a table of its length
 pub record Sized (c : Case) (w : List ℤ) : Type 0 where

@@ -1,4 +1,4 @@
--- What the closure's inner functions do to the sets: values without a partner are struck, edge by edge. Assumes nothing.
+-- What the closure's private functions do to the sets: values without a partner are struck, edge by edge. Assumes nothing.
 use mathlib.Core.Path.{_≡_}
 use mathlib.Core.Bool.{Bool, true, false}
 use mathlib.Core.List.{List, [], _∷_}

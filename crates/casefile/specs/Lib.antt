@@ -1,3 +1,3 @@
--- What the inner functions answer, and what they may take as known.
+-- What the private functions answer, and what they may take as known.
 pub mod Reads
 pub mod Steps

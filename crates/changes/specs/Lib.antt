@@ -1,4 +1,4 @@
--- What the inner functions answer, and what they may take as known.
+-- What the functions answer, and what the private ones may take as known.
 pub mod Spaced
 pub mod Scopes
 pub mod Kept

@@ -196,9 +196,9 @@ ends = refl
 
 -- so many links of two values, and one pair
 abbrev paired : ℕ → ℕ → ℕ → Case
-paired n i j = record { n = n; d = 2; m = 1; lower = i ∷ []; upper = j ∷ [] }
+paired n i j = given n 2 1 (i ∷ []) (j ∷ []) [] .case
 
--- the end asks 3, 5, 6 before 14: 49 links; 48; a link past the last; a pair (1, 0); and the record's 5 before that
+-- the end asks 3, 5, 6 before 14: 49 links; 48; a link past the last; a pair (1, 0); a press held; and the record's 5 before that
 pub ends-ask :
     outcomeSays (endReplay standard (paired 49 0 1) (between 0)) .number
     ∷ outcomeSays (endReplay standard (paired 48 0 1) (between 0)) .number

@@ -1,4 +1,4 @@
--- The replay's calls on all input, samples of them, and what the inner functions answer.
+-- The replay's calls on all input, samples of them, and what the private functions answer.
 pub mod Checker
 pub mod CheckerSamples
 pub mod Taken

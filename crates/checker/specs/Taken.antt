@@ -1,4 +1,4 @@
--- What the inner functions answer: a line taken with the record in parts, the raised scopes lent and the rest by value. Assumes nothing.
+-- What the private functions answer: a line taken with the record in parts, the raised scopes lent and the rest by value. Assumes nothing.
 use mathlib.Core.Bool.{false, not, _||_}
 use mathlib.Core.Option.{none, some}
 use mathlib.Core.List.{List, [], _∷_}

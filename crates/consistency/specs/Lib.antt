@@ -1,2 +1,2 @@
--- What the inner functions answer.
+-- What the private functions answer.
 pub mod Arguments

@@ -1,5 +1,5 @@
-// What the programs that execute vectors share: numbers of their input, and what they print. A function that prints answers what it printed,
-// since no contract can say what is written.
+// What the programs that execute vectors share: numbers of their input, and what they print. A function that prints answers what it was
+// handed, or how many; no contract can say what is written.
 use definitions::Line;
 use definitions::LineRead;
 use definitions::Refusal;

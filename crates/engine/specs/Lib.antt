@@ -1,4 +1,4 @@
--- What the inner functions answer, and what they may take as known.
+-- What the private functions answer, and what they may take as known.
 pub mod Search
 pub mod Gaps
 pub mod Texts

@@ -1,2 +1,2 @@
--- What the inner functions answer, and what they may take as known.
+-- What the private functions answer, and what they may take as known.
 pub mod Marks

@@ -1,4 +1,5 @@
--- What `press` hands to be printed, call after call. That a write prints what it is handed, no contract can say. Assumes nothing.
+-- How many bytes `press` hands to be printed, call after call, and of which text. That a write is handed them and prints them, no contract can say.
+-- Assumes nothing.
 use mathlib.Core.Path.{_≡_}
 use mathlib.Core.Bool.{Bool, true, not, _||_}
 use mathlib.Core.Logic.{_⊎_}

@@ -1,3 +1,3 @@
--- What the inner functions answer, and what they may take as known.
+-- What the functions answer, and what the private ones may take as known.
 pub mod Edges
 pub mod Scopes
