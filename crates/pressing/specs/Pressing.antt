@@ -12,6 +12,7 @@ use Rattle.definitions.specs.declared.Refusal.the-variants.{WrongLength}
 use Rattle.definitions.specs.declared.Round.{Round}
 use Rattle.definitions.specs.declared.Written.{Written}
 use Rattle.definitions.specs.Rules.{Rules}
+use Rattle.definitions.specs.Refusals.{number}
 use Rattle.definitions.specs.Calls.{WriteCall, writtenOf}
 use Rattle.definitions.specs.CaseFiles.{CaseCall, caseOf, caseSize, readCaseAlone}
 use Rattle.definitions.specs.Engine.{engineNext}
@@ -49,9 +50,12 @@ afterRound p call (Round.Refused x) =
     let text : WriteCall = writeRefusal x (p .lines) (call .out) in
     record { pressed = afterText p (text .answer); table = call .table; out = text .out }
 
--- what the head is refused by, else number 4
+-- number 4 of an output that is too short, unless the head is refused by what is asked before it: 14 is asked after it
+abbrev pub shortOr : Refusal → Refusal
+shortOr x = if eqb (number x) 14 then WrongLength else x
+
 abbrev pub headOrShort : CaseSize → Refusal
-headOrShort (CaseSize.Refused x) = x
+headOrShort (CaseSize.Refused x) = shortOr x
 headOrShort (CaseSize.Size n d m long) = WrongLength
 
 module _ (r : Rules) where

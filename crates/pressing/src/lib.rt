@@ -16,13 +16,16 @@ ghost use Rattle.definitions.specs.Calls.{writtenOf};
 ghost use Rattle.definitions.specs.Engine.{engineNext};
 ghost use Rattle.definitions.specs.EngineCalls.{isLeaving, engineRefusal};
 ghost use Rattle.definitions.specs.Programs.{tableFor};
-ghost use Rattle.pressing.specs.Pressing.{withLeft, afterText, writeRefusal, headOrShort, startPressing, roundNext, nextPressing};
+ghost use Rattle.pressing.specs.Pressing.{withLeft, afterText, writeRefusal, shortOr, headOrShort, startPressing, roundNext, nextPressing};
 
 // An output must have so many bytes for a text.
 const ROOM: usize = 64;
 
 // The number where a move would take a working weight outside its range.
 const LEAVES_RANGE: u8 = 11;
+
+// The number where the input stops inside a line or the case.
+const CUT_SHORT: u8 = 14;
 
 // The most rounds that are made.
 const ROUNDS: u64 = 100_000;
@@ -135,13 +138,22 @@ fn ask_round(case: Case, table: &mut [i64], out: &mut [u8]) -> Written
     }
 }
 
-// What the head is refused by, else 4 of the output.
+// 4 of the output, unless the head is refused by what is asked before it.
+fn short_or(refusal: Refusal) -> Refusal
+    ensures { λ r. ⌜ r ≡ shortOr refusal ⌝ }
+{
+    if texts::number_of(refusal) == CUT_SHORT {
+        return Refusal::WrongLength;
+    }
+    refusal
+}
+
 fn head_or_short(bytes: &[u8]) -> Refusal
     ensures { λ r. ⌜ r ≡ headOrShort (caseSize standard (now (bytes .entry))) ⌝ }
 {
     let size = casefile::case_size(bytes);
     match size {
-        CaseSize::Refused(refusal) => refusal,
+        CaseSize::Refused(refusal) => short_or(refusal),
         CaseSize::Size {
             n: _,
             d: _,

@@ -80,24 +80,26 @@ module _ {room : ℕ} {front : List ℕ} {first : Filled} {r : Turned} {v : List
       go (inr h) = absurd (omega (arith, length-append front (o .more), mul-le-mul-left {m = 262117} {n = room} mostTurns wide))
 
   -- a read failed
-  pub failed-prints : T (isFailed (r .filled)) → Prints front first []
-  failed-prints e = record {
-    more = o .more;
-    last = r .filled;
-    ends = o .ends;
+  pub failed-prints : T (isFailed (r .filled)) → (text : List ℕ) → Prints room front first text []
+  failed-prints e text = record {
+    state = r;
+    table = v;
+    judged = o;
     failed = λ f. refl;
+    finished = λ n. absurd (subst T (is-false (isFailed (r .filled)) n) e);
     says = λ n few. absurd (subst T (is-false (isFailed (r .filled)) n) e);
   }
 
   -- what the finish writes after the loop
   pub judges-prints : 262117 ≤ room → isFailed (r .filled) ≡ false → (out : List ℕ) → textRoom ≤ length out → {a : Written} {after : List ℕ}
       → (a ≡ finishJudging standard (r .judging) v (not (eqb (r .held) 0)) out .answer) × (after ≡ finishJudging standard (r .judging) v (not (eqb (r .held) 0)) out .out)
-      → Prints front first (printedPart a after)
+      → Prints room front first out (printedPart a after)
   judges-prints wide done out fits (p, q) = record {
-    more = o .more;
-    last = r .filled;
-    ends = o .ends;
+    state = r;
+    table = v;
+    judged = o;
     failed = λ f. absurd (subst T done f);
+    finished = λ n. ap₂ printedPart p q;
     says = λ n few. (
       read-over wide few,
       ap₂ printedPart (p ∙ ap (λ k. k .answer) (finished out fits few)) (q ∙ ap (λ k. k .out) (finished out fits few))

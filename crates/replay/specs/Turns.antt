@@ -6,19 +6,20 @@ use mathlib.Core.Logic.{_⊎_}
 use mathlib.Core.List.{List, [], _++_}
 use Prim.Native.Nat.{ℕ, _*_, _-_, _/_, _≤_, _<_, _%_}
 use lib.IntN.{ℤ}
-use lib.Dec.{T, leb}
+use lib.Dec.{T, eqb, leb}
 use lib.ListN.{length, take, drop}
 use Rattle.integers.specs.Words.{if_then_else_, joined}
 use Rattle.integers.specs.Lists.{_∈_}
 use Rattle.definitions.specs.declared.FileAnswer.{FileAnswer}
 use Rattle.definitions.specs.Rules.{standard}
 use Rattle.definitions.specs.Lines.{lineLength, wholeLines, hasPart}
-use Rattle.definitions.specs.Programs.{replayPrints}
+use Rattle.definitions.specs.CaseFiles.{caseSize}
+use Rattle.definitions.specs.Programs.{tableFor, replayPrints}
 use Rattle.texts.specs.Texts.{greatestCount}
 use Rattle.streams.specs.declared.Filled.{Filled}
-use Rattle.streams.specs.Streams.{isOver, isFailed}
+use Rattle.streams.specs.Streams.{isOver, isFailed, printedPart}
 use Rattle.judging.specs.declared.Judging.{Judging}
-use Rattle.judging.specs.Judging.{JudgingCall, startJudging, blockJudging}
+use Rattle.judging.specs.Judging.{JudgingCall, startJudging, blockJudging, finishJudging}
 use Rattle.judging.specs.Cuts.{afterBlocks}
 use Rattle.replay.specs.declared.Turned.{Turned}
 
@@ -75,13 +76,20 @@ pub record Judges (room : ℕ) (front : List ℕ) (w : List ℤ) (first : Filled
   pub ends : T (isOver first) → (more ≡ []) × (r .filled ≡ first)
   pub over : T (isOver (r .filled)) ⊎ (mostTurns * room ≤ length more)
 
--- what is to be printed where the first fill read this front: nothing where a read failed; else the input was read to its end, and what `replay`
--- prints of it
-pub record Prints (front : List ℕ) (first : Filled) (printed : List ℕ) : Type 0 where
-  -- what is read then, and the last fill
-  pub more : List ℕ
-  pub last : Filled
-  pub ends : T (isOver first) → (more ≡ []) × (last ≡ first)
-  pub failed : T (isFailed last) → printed ≡ []
-  pub says : T (not (isFailed last)) → wholeLines (standard .amountWidth) (front ++ more) ≤ greatestCount
-      → T (isOver last) × (printed ≡ replayPrints standard (front ++ more))
+-- the part of a text that is to be printed where the input ends here
+abbrev pub finishText : Turned → List ℤ → List ℕ → List ℕ
+finishText r w text =
+    let call = finishJudging standard (r .judging) w (not (eqb (r .held) 0)) text in
+    printedPart (call .answer) (call .out)
+
+-- what is to be printed where the first fill read this front: nothing where a read failed; else the finish of what was judged, and so what `replay`
+-- prints of the input, which was read to its end. That the bytes after the front are those that the system read, no contract can say
+pub record Prints (room : ℕ) (front : List ℕ) (first : Filled) (text printed : List ℕ) : Type 0 where
+  -- what stands after the last fill
+  pub state : Turned
+  pub table : List ℤ
+  pub judged : Judges room front (tableFor (caseSize standard front)) first state table
+  pub failed : T (isFailed (state .filled)) → printed ≡ []
+  pub finished : T (not (isFailed (state .filled))) → printed ≡ finishText state table text
+  pub says : T (not (isFailed (state .filled))) → wholeLines (standard .amountWidth) (front ++ judged .more) ≤ greatestCount
+      → T (isOver (state .filled)) × (printed ≡ replayPrints standard (front ++ judged .more))

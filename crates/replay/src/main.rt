@@ -131,7 +131,7 @@ fn write_judgement(buf: &mut [u8], table: &mut [i64], filled: Filled, text: &mut
     requires { ⌜ (filled .to ≤ length (now buf)) × ((length (now buf) ≤ filled .to) ⊎ T (isOver filled)) ⌝ }
     requires { ⌜ (length (now buf) ≡ 262144) × (textRoom ≤ length (now text)) ⌝ }
     requires { ⌜ now table ≡ tableFor (caseSize standard (take (filled .to) (now buf))) ⌝ }
-    ensures { λ r. ⌜ Prints (take (filled .to) (now (buf .entry))) filled (printedPart r (now (text .exit))) ⌝ }
+    ensures { λ r. ⌜ Prints (length (now (buf .entry)) - lineBytes) (take (filled .to) (now (buf .entry))) filled (now (text .entry)) (printedPart r (now (text .exit))) ⌝ }
 {
     let state = judge(buf, table, filled);
     let last = state.filled;
@@ -147,7 +147,7 @@ fn judgement<'a>(buf: &mut [u8], table: &mut [i64], filled: Filled, text: &'a mu
     requires { ⌜ (filled .to ≤ length (now buf)) × ((length (now buf) ≤ filled .to) ⊎ T (isOver filled)) ⌝ }
     requires { ⌜ (length (now buf) ≡ 262144) × (textRoom ≤ length (now text)) ⌝ }
     requires { ⌜ now table ≡ tableFor (caseSize standard (take (filled .to) (now buf))) ⌝ }
-    ensures { λ r. ⌜ Prints (take (filled .to) (now (buf .entry))) filled (now r) ⌝ }
+    ensures { λ r. ⌜ Prints (length (now (buf .entry)) - lineBytes) (take (filled .to) (now (buf .entry))) filled (now (text .entry)) (now r) ⌝ }
 {
     let written = write_judgement(buf, table, filled, text);
     streams::printed_part(written, text)

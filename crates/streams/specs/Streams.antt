@@ -19,12 +19,14 @@ isOver f = leZ (f .got) (pos 0)
 abbrev pub isFailed : Filled → Bool
 isFailed f = ltZ (f .got) (pos 0)
 
--- a buffer filled from byte `from` on: the bytes before it are kept, and the buffer is full or the last read brought nothing
+-- a buffer filled from byte `from` on: the bytes before it are kept, and the buffer is full or the last read brought nothing; with no room from there
+-- on nothing is read
 pub record Fills (from : ℕ) (old : List ℕ) (r : Filled) (new : List ℕ) : Type 0 where
   pub kept : take from new ≡ take from old
   pub onward : from ≤ r .to
   pub within : from ≤ length new → r .to ≤ length new
   pub ends : (length new ≤ r .to) ⊎ T (isOver r)
+  pub unread : length old ≤ from → (r .to ≡ from) × (r .got ≡ pos 1) × (new ≡ old)
 
 -- so many of the output's first bytes, nothing where it was refused
 abbrev pub printedPart : Written → List ℕ → List ℕ

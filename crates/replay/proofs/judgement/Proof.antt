@@ -1,8 +1,9 @@
 -- The part that the answer names. Assumes nothing.
 use mathlib.Core.Path.{sym, subst}
-use lib.ListN.{take}
+use Prim.Native.Nat.{_-_}
+use lib.ListN.{length, take}
 use denote.Ref.{now}
-use Rattle.replay.specs.Turns.{Prints}
+use Rattle.replay.specs.Turns.{lineBytes, Prints}
 use borrow.Author.Needs.{needs}
 use Rattle.replay.proofs.judgement.Statement.{statement}
 use Rattle.replay.proofs.judgement.Tie as tie
@@ -23,7 +24,7 @@ returns : tie.Need-returns
 returns c =
     let k = c .before .before .before .before .before .before .before in
     let s = k .before .before .before .before .before .before in
-    subst (Prints (take (s .args .filled .to) (now (s .args .buf))) (s .args .filled)) (sym (c .printed-part .ensures)) (k .write-judgement .ensures)
+    subst (Prints (length (now (s .args .buf)) - lineBytes) (take (s .args .filled .to) (now (s .args .buf))) (s .args .filled) (now (s .args .text))) (sym (c .printed-part .ensures)) (k .write-judgement .ensures)
 
 pub judgement-spec : {M : Type 1} → statement M
 judgement-spec =

@@ -49,7 +49,7 @@ same-length-2 c = search needs
 returns : tie.Need-returns
 returns c =
     let j = c .before .before .before .before .before .before in
-    failed-prints (enough j) (judged j) (subst T (sym (c .if1 .taken) ∙ c .before .is-failed .ensures) tt)
+    failed-prints (enough j) (judged j) (subst T (sym (c .if1 .taken) ∙ c .before .is-failed .ensures) tt) (now (j .before .before .before .before .before .args .text))
 
 finish-requires : tie.Need-finish-requires
 finish-requires c κs = search needs

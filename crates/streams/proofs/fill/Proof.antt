@@ -19,6 +19,7 @@ use Rattle.streams.proofs.fill.Tie as tie
 abbrev Inv-loop : tie.InvT-loop
 Inv-loop buf₀ from filled₀ buf filled =
     (length buf ≡ length buf₀) × (from ≤ filled .to) × (from ≤ length buf → filled .to ≤ length buf) × (take from buf ≡ take from buf₀)
+    × (length buf₀ ≤ from → (filled .to ≡ from) × (filled .got ≡ pos 1) × (buf ≡ buf₀))
 
 abbrev μ-loop : tie.MeasureT-loop
 μ-loop buf₀ from filled₀ buf filled = length buf₀ - filled .to
@@ -37,7 +38,7 @@ some-read (pos k) room e h = let n : 0 < k = omega zs in omega arith
 some-read (negsuc k) room e h = absurd (omega zs)
 
 loop-holds : tie.Need-loop-holds Inv-loop μ-loop
-loop-holds c = (refl, omega arith, λ h. h, refl)
+loop-holds c = (refl, omega arith, λ h. h, refl, λ h. (refl, refl, refl))
 
 read-to-requires : tie.Need-read-to-requires Inv-loop μ-loop
 read-to-requires c κs = omega arith
@@ -52,7 +53,7 @@ returns : tie.Need-returns Inv-loop μ-loop
 returns c =
     let k = c .before .before .before .before in
     let l = k .before .before .before .before in
-    let (long, first, fits, q) = l .loop .inv in
+    let (long, first, fits, q, none) = l .loop .inv in
     let read = k .read-to .result in
     let (to, same) = k .read-to .ensures in
     let room = most (read .got) (length (l .loop .buf) - l .loop .filled .to) in
@@ -61,6 +62,7 @@ returns c =
       onward = omega arith;
       within = λ h. omega arith;
       ends = inr (subst T (sym (c .if2 .taken) ∙ c .before .is-over .ensures) tt);
+      unread = λ h. absurd (omega arith);
     }
 
 loop-less : tie.Need-loop-less Inv-loop μ-loop
@@ -76,19 +78,19 @@ loop-again : tie.Need-loop-again Inv-loop μ-loop
 loop-again c =
     let k = c .before .before .before .before in
     let l = k .before .before .before .before in
-    let (long, first, fits, q) = l .loop .inv in
+    let (long, first, fits, q, none) = l .loop .inv in
     let read = k .read-to .result in
     let (to, same) = k .read-to .ensures in
     let room = most (read .got) (length (l .loop .buf) - l .loop .filled .to) in
-    (omega arith, omega arith, λ h. omega arith, kept (now (l .before .before .args .buf)) (l .loop .buf) (k .read-to .last .0) first same q)
+    (omega arith, omega arith, λ h. omega arith, kept (now (l .before .before .args .buf)) (l .loop .buf) (k .read-to .last .0) first same q, λ h. absurd (omega arith))
 
 same-length-2 : tie.Need-same-length-2 Inv-loop μ-loop
 same-length-2 c = c .before .before .loop .inv .0
 
 returns-2 : tie.Need-returns-2 Inv-loop μ-loop
 returns-2 c =
-    let (long, first, fits, q) = c .before .before .loop .inv in
-    record { kept = q; onward = first; within = fits; ends = inl (c .if1 .left) }
+    let (long, first, fits, q, none) = c .before .before .loop .inv in
+    record { kept = q; onward = first; within = fits; ends = inl (c .if1 .left); unread = none }
 
 pub fill-spec : {M : Type 1} → statement M
 fill-spec =
