@@ -73,7 +73,8 @@ struct ceiling_span_answer ceiling_round_span(const uint8_t *log, size_t log_len
 
 /* ---- the engine */
 
-/* One round: its lines from the output's first byte, how many bytes, and the ceiling. No bytes and number 0: settled. */
+/* One round: its lines from the output's first byte, how many bytes, and the ceiling. No bytes and number 0: settled, and `bound` says
+ * nothing then: ask ceiling_upper_bound. */
 struct ceiling_round_answer ceiling_round(const uint8_t case_bytes[CEILING_CASE], int64_t *table, size_t table_length,
                                           uint8_t *out, size_t out_length);
 

@@ -49,17 +49,24 @@ def with_line(text, at, new):
 
 
 def long_round():
-    """A case whose one round raises 94 scopes, and its log.
+    """A case whose one round raises 141 scopes, all but the pressed link's own, and its log.
 
-    Along a chain of links value 0 is followed by 0 or 1, and 1 and 2 by 2. Link 0 begins with 0, the last link may end with 2 only, and 1
-    is inactive everywhere: each pair and each later link is needed to refute value 0 of link 0.
+    Two chains go through all 48 links, both from link 0 to link 47, over 94 pairs. Along the first value 0 is followed by 0 or 1, and 1 and 2 by
+    2; along the second 3, 4 and 5 do the same; a chain asks nothing of the other's values but to stay among them. Link 0 begins with 0 or 3, the
+    last link may end with 2 or 5 only, and 1 and 4 are inactive everywhere: each pair and each later link is needed to refute both values of link 0.
     """
-    links = [[0, -1, -1]] + [[0, -1, 0]] * 46 + [[-1, -1, 0]]
-    follows = [-1] * 9
-    for k, l in ((0, 0), (0, 1), (1, 2), (2, 2)):
-        follows[k * 3 + l] = 0
-    log = line(2, 0, 94, 0, 1) + b"".join(line(3, scope) for scope in range(1, 95)) + line(4, 0, 0, 0, -1)
-    return case(3, links, [(i, i + 1, follows) for i in range(47)]), log
+    links = [[0, -1, -1] * 2] + [[0, -1, 0] * 2] * 46 + [[-1, -1, 0] * 2]
+    second = list(range(0, 48, 2)) + list(range(1, 48, 2))
+    pairs = []
+    for chain, own in ((range(48), 0), (second, 3)):
+        for first, next_one in zip(chain, chain[1:]):
+            weights = [-1 if k // 3 != l // 3 or k // 3 == own // 3 else 0 for k in range(6) for l in range(6)]
+            for k, l in ((0, 0), (0, 1), (1, 2), (2, 2)):
+                at = (own + k, own + l) if first < next_one else (own + l, own + k)
+                weights[at[0] * 6 + at[1]] = 0
+            pairs.append((min(first, next_one), max(first, next_one), weights))
+    log = line(2, 0, 141, 0, 1) + b"".join(line(3, scope) for scope in range(1, 142)) + line(4, 0, 0, 0, -1)
+    return case(6, links, pairs), log
 
 
 def many_rounds():
