@@ -16,6 +16,7 @@ use Rattle.definitions.specs.Case.{upperBound}
 use Rattle.definitions.specs.Programs.{bytesOf}
 use Rattle.definitions.specs.Samples.{
   Input,
+  given,
   Question,
   bound-of,
   run-of,
