@@ -12,8 +12,8 @@ import termios
 import time
 from collections import namedtuple
 
-# What a program printed, whether it ended by itself and without a word on standard error, and its CPU seconds.
-Ended = namedtuple("Ended", "printed well seconds")
+# What a program printed, whether it ended by itself, what it said on standard error, and its CPU seconds.
+Ended = namedtuple("Ended", "printed well said seconds")
 
 
 def programs(root, arguments):
@@ -47,9 +47,9 @@ def end(process, printed=b""):
     _, status, usage = os.wait4(process.pid, 0)
     process.returncode = os.waitstatus_to_exitcode(status)
     process.errors.seek(0)
-    well = process.returncode >= 0 and process.errors.read() == b""
+    said = process.errors.read()
     process.errors.close()
-    return Ended(printed, well, usage.ru_utime + usage.ru_stime)
+    return Ended(printed, process.returncode == 0, said, usage.ru_utime + usage.ru_stime)
 
 
 def on_file(command, data, stdout=subprocess.PIPE, before=lambda: None):

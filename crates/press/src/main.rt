@@ -1,6 +1,8 @@
 // The program `press`: a case on standard input, the log of up to 100,000 rounds on standard output, or a refusal (document 01). The work is done
 // by `pressing` on slices. Of an input that is longer than a case and a line more, only the front is read, and it is printed as the whole is
-// (pressing, Prints.press-printed). Where a read failed nothing is printed; the rounds end where a write fails.
+// (pressing, Prints.press-printed). Where a read failed nothing is printed; the rounds end where a write fails. Both are told on standard error, since
+// a settled case prints nothing either.
+use libc::STDERR_FILENO;
 use libc::STDOUT_FILENO;
 use pressing::Pressed;
 use streams::Filled;
@@ -123,6 +125,19 @@ fn run(input: &[u8], filled: Filled, table: &mut [i64]) -> Printed
     }
 }
 
+// Tells on standard error that a read or a write failed.
+fn tell(failed: bool, all: bool) {
+    if failed {
+        io::write_all(STDERR_FILENO, b"press: standard input could not be read\n");
+    }
+    if !all {
+        io::write_all(
+            STDERR_FILENO,
+            b"press: standard output could not be written\n",
+        );
+    }
+}
+
 fn main() {
     let mut space = buffer();
     let mut weights = weights();
@@ -130,5 +145,6 @@ fn main() {
     let to = filled.to;
     let input = &space[..to];
     let long = pressing::table_length(input);
-    run(input, filled, &mut weights[0..long]);
+    let printed = run(input, filled, &mut weights[0..long]);
+    tell(streams::is_failed(filled), printed.all);
 }

@@ -1,10 +1,11 @@
 // The program `replay`: a case and its log on standard input, the judgement on standard output (document 01). The work is done by `judging` on
 // slices; here the input is cut into blocks of whole lines, and a part line is carried over to the next block. The input ends where a read brings
-// nothing; where a read failed nothing is printed, since what was read is not the input.
+// nothing; where a read failed nothing is printed, since what was read is not the input, and standard error tells it.
 use definitions::CaseSize;
 use definitions::FileAnswer;
 use definitions::Written;
 use judging::Judging;
+use libc::STDERR_FILENO;
 use libc::STDOUT_FILENO;
 use streams::Filled;
 ghost use mathlib.Core.Path.{_≡_};
@@ -169,6 +170,19 @@ fn table_length(front: &[u8]) -> usize
     }
 }
 
+// Tells on standard error that a read or a write failed.
+fn tell(failed: bool, all: bool) {
+    if failed {
+        io::write_all(STDERR_FILENO, b"replay: standard input could not be read\n");
+    }
+    if !all {
+        io::write_all(
+            STDERR_FILENO,
+            b"replay: standard output could not be written\n",
+        );
+    }
+}
+
 fn main() {
     let mut space = buffer();
     let buf: &mut [u8] = &mut space;
@@ -178,5 +192,6 @@ fn main() {
     let to = filled.to;
     let long = table_length(&buf[0..to]);
     let part = judgement(buf, &mut weights[0..long], filled, &mut text);
-    io::write_all(STDOUT_FILENO, part);
+    let all = io::write_all(STDOUT_FILENO, part);
+    tell(part.len() == 0, all);
 }

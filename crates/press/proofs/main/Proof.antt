@@ -65,6 +65,12 @@ run-requires c κs =
       read-all (f .fill .last .0) filled (omega (arith, f .fill .kept)) count (f .fill .ensures .ends),
     )
 
+is-failed-requires : tie.Need-is-failed-requires
+is-failed-requires c κs = search needs
+
+tell-requires : tie.Need-tell-requires
+tell-requires c κs = search needs
+
 returns : tie.Need-returns
 returns c = search needs
 
@@ -83,4 +89,6 @@ main-spec =
     part-weights-start
     part-weights-end
     run-requires
+    is-failed-requires
+    tell-requires
     returns)

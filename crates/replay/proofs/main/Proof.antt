@@ -71,6 +71,9 @@ judgement-requires c κs =
 write-all-requires : tie.Need-write-all-requires
 write-all-requires c κs = search needs
 
+tell-requires : tie.Need-tell-requires
+tell-requires c κs = search needs
+
 returns : tie.Need-returns
 returns c = search needs
 
@@ -92,4 +95,5 @@ main-spec =
     slice-aggregate-judgement
     judgement-requires
     write-all-requires
+    tell-requires
     returns)
