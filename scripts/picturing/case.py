@@ -1,6 +1,6 @@
 """The case sheet: links, channels, pairs and starting weights."""
 
-from .columns import Lines
+from .columns import Lines, line
 
 MOST_LINKS, MOST_CHANNELS, MOST_PAIRS = 48, 8, 96
 STARTING = 1_000_000
@@ -82,3 +82,13 @@ def read_pair(lines, at, case, pair):
     if (low, high) in case.pairs:
         lines.refuse(at, "the two links are already paired")
     case.pairs.append((low, high))
+
+
+def write_case(values, links, pairs):
+    """The text of a case: each link's weights, and each pair (lower link, higher link, weights)."""
+    text = [line(10, len(links), values, len(pairs))]
+    text += [line(11, i, k, 0, weights[k]) for i, weights in enumerate(links) for k in range(values)]
+    for e, (first, second, weights) in enumerate(pairs):
+        text.append(line(12, e, first, second))
+        text += [line(13, e, k, l, weights[k * values + l]) for k in range(values) for l in range(values)]
+    return b"".join(text)

@@ -5,6 +5,12 @@ import re
 LINE = 27
 COLUMNS = ((0, 2), (2, 6), (6, 10), (10, 14), (14, 26))
 NUMBER = re.compile(rb" *(0|-?[1-9][0-9]*)")
+FORM = b"".join(b"%%%dd" % (end - start) for start, end in COLUMNS) + b"\n"
+
+
+def line(kind, a=0, b=0, c=0, amount=0):
+    """The text of a line; numbers too wide for their columns are not looked for."""
+    return FORM % (kind, a, b, c, amount)
 
 
 class Refused(Exception):

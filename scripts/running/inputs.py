@@ -1,22 +1,9 @@
 """Inputs made by plain rules, with the answer that document 01 gives to each."""
 
-LINE = 27
+from picturing.case import write_case as case
+from picturing.columns import LINE, line
+
 BLOCK = 262144
-
-
-def line(kind, a=0, b=0, c=0, amount=0):
-    return b"%2d%4d%4d%4d%12d\n" % (kind, a, b, c, amount)
-
-
-def case(values, links, pairs):
-    """A case file: each link's weights, and each pair with its weights."""
-    text = [line(10, len(links), values, len(pairs))]
-    text += [line(11, i, k, 0, weights[k]) for i, weights in enumerate(links) for k in range(values)]
-    for e, (first, second, weights) in enumerate(pairs):
-        text.append(line(12, e, first, second))
-        text += [line(13, e, k, l, weights[k * values + l]) for k in range(values) for l in range(values)]
-    return b"".join(text)
-
 
 P4 = case(2, [[2, 0], [2, 0]], [(0, 1, [-3, 0, 0, 0])])
 P4_ROUND = line(2, 0, 2, 0, 2) + line(3, 1) + line(3, 2) + line(4, 0, 0, 0, 2)

@@ -1,0 +1,226 @@
+"""toulbar2's wcsp format: costs, of which the least sum is wanted, against weights, of which the greatest is."""
+
+import itertools
+import math
+import os
+import re
+
+from picturing.case import MOST_CHANNELS, MOST_LINKS, MOST_PAIRS, STARTING, read_case, write_case
+
+from .unfit import Unfit
+
+# A channel that may not be used has the least starting weight.
+BARRED = -STARTING
+WORD = re.compile(rb"\S+")
+NUMBER = re.compile(rb"[+-]?[0-9]{1,19}")
+
+
+class Words:
+    """The words of a file between its white space; line ends mean no more than spaces."""
+
+    def __init__(self, name, data):
+        self.name, self.data = name, data
+        self.left = WORD.finditer(data)
+        self.at = 0
+
+    def refuse(self, why):
+        raise Unfit(f"{self.name}: line {self.data.count(10, 0, self.at) + 1}: {why}")
+
+    def more(self):
+        """The next word, None at the end."""
+        found = next(self.left, None)
+        self.at = found.start() if found else len(self.data)
+        return found and found.group()
+
+    def word(self, what):
+        word = self.more()
+        if word is None:
+            self.refuse(f"the file stops where {what} is due")
+        return word
+
+    def number(self, what):
+        word = self.word(what)
+        if not NUMBER.fullmatch(word):
+            shown = word[:20].decode("ascii", "backslashreplace") + (".." if len(word) > 20 else "")
+            self.refuse(f"'{shown}' stands where {what} is due, a whole number of at most 19 digits")
+        return int(word)
+
+    def within(self, what, least, most):
+        number = self.number(what)
+        if not least <= number <= most:
+            self.refuse(f"{what} is {number}; it must be at least {least}" + (f" and at most {most}" if most < math.inf else ""))
+        return number
+
+
+class Network:
+    """Variables and the costs of each scope: of no variable (the constant), of one, of two in ascending order."""
+
+    def __init__(self, sizes):
+        self.sizes = sizes
+        self.scopes = {(): {(): 0}}
+        self.scopes.update({(i,): {(k,): 0 for k in range(size)} for i, size in enumerate(sizes)})
+        self.shared = []
+
+    def combinations(self, scope):
+        return itertools.product(*(range(self.sizes[i]) for i in scope))
+
+    def pairs(self):
+        return [scope for scope in self.scopes if len(scope) == 2]
+
+    def add(self, scope, costs):
+        if list(scope) != sorted(scope):
+            scope = scope[::-1]
+            costs = {combination[::-1]: cost for combination, cost in costs.items()}
+        sums = self.scopes.setdefault(scope, dict.fromkeys(costs, 0))
+        for combination, cost in costs.items():
+            sums[combination] += cost
+
+
+def read(name, data):
+    """The case of a wcsp file, and how totals and costs belong together."""
+    words = Words(name, data)
+    words.word("the problem's name")
+    n = words.within("the number of variables", 1, MOST_LINKS)
+    largest = words.number("the largest domain's size")
+    functions = words.within("the number of functions", 0, math.inf)
+    top = words.number("the upper bound")
+    network = Network([domain(words, largest) for _ in range(n)])
+    for _ in range(functions):
+        read_function(words, network, top)
+    if words.more() is not None:
+        words.refuse(f"the file goes on after its last function; its head says {functions}")
+    return converted(name, network, top)
+
+
+def domain(words, largest):
+    size = words.within("a domain's size", 1, MOST_CHANNELS)
+    if size > largest:
+        words.refuse(f"a domain's size is {size}; the file's head says {largest} at most")
+    return size
+
+
+def read_function(words, network, top):
+    arity = words.number("a function's number of variables")
+    if abs(arity) > 2:
+        words.refuse(f"a function over {abs(arity)} variables; a case has functions of one link and of two")
+    last = len(network.sizes) - 1
+    scope = tuple(words.within("a variable", 0, last) for _ in range(abs(arity)))
+    if len(set(scope)) < len(scope):
+        words.refuse(f"a function of variable {scope[0]} with itself")
+    default = words.number("a default cost")
+    if scope and default < 0:
+        words.refuse(f"the default cost {default} stands for a function given by a rule (global or in intension); only lists of costs are read")
+    count = words.number("the number of tuples")
+    if count < 0:
+        costs = reused(words, network, scope, default, -count)
+    else:
+        costs = listed(words, network, scope, default, count)
+        network.shared += [(default, costs)] if arity < 0 else []
+    if len(scope) == 2 and tuple(sorted(scope)) not in network.scopes and len(network.pairs()) == MOST_PAIRS:
+        words.refuse(f"more than {MOST_PAIRS} pairs of variables")
+    network.add(scope, {combination: math.inf if cost >= top else cost for combination, cost in costs.items()})
+
+
+def listed(words, network, scope, default, count):
+    """The cost of each combination of a function, from the tuples that follow."""
+    costs = dict.fromkeys(network.combinations(scope), default)
+    given = set()
+    for _ in range(count):
+        combination = tuple(words.within("a value", 0, network.sizes[i] - 1) for i in scope)
+        if combination in given:
+            words.refuse("a tuple that the function has had before")
+        given.add(combination)
+        costs[combination] = words.number("a cost")
+    return costs
+
+
+def reused(words, network, scope, default, number):
+    """The costs of a shared function, one that was given with a number of variables below 0; they count from 1."""
+    if number > len(network.shared):
+        words.refuse(f"shared function {number} is not there")
+    shared_default, costs = network.shared[number - 1]
+    if default != shared_default or list(costs) != list(network.combinations(scope)):
+        words.refuse(f"the default cost or the domains are not those of shared function {number}")
+    return costs
+
+
+def converted(name, network, top):
+    values = max(network.sizes)
+    weights = {scope: weighed(name, scope, costs, top) for scope, costs in network.scopes.items()}
+    least = lawful_least(name, network, weights, values)
+    tables = {
+        scope: [known.get(combination, BARRED) for combination in itertools.product(range(values), repeat=len(scope))]
+        for scope, known in weights.items()
+    }
+    links = [tables[(i,)] for i in range(len(network.sizes))]
+    case = write_case(values, links, [(*pair, tables[pair]) for pair in network.pairs()])
+    said = f"total = {network.scopes[()][()]} - cost"
+    if least is not None:
+        said += f"\nevery plan that uses a forbidden combination has a total below {least}, every other plan {least} or more"
+    return case, said
+
+
+def weighed(name, scope, costs, top):
+    """The weight of each combination that is not forbidden; the constant's is not asked to fit."""
+    weights = {combination: -cost for combination, cost in costs.items() if cost < top}
+    if not weights:
+        place = f"of {variables(scope)} " if scope else "of the constant "
+        raise Unfit(f"{name}: every cost {place}is at or above the upper bound {top}: no plan is allowed")
+    for combination, weight in weights.items():
+        if scope and abs(weight) > STARTING:
+            at = " and ".join(map(str, combination))
+            raise Unfit(f"{name}: {variables(scope)}, {at}: the cost {-weight} does not fit; weights lie within {STARTING} of 0")
+    return weights
+
+
+def variables(scope):
+    return ("variable " if len(scope) == 1 else "variables ") + " and ".join(map(str, scope))
+
+
+def full(network, scope, values):
+    """How many combinations a scope has where none is forbidden; a pair is not asked for values that a link of it does not have."""
+    return values if len(scope) == 1 else len(network.scopes[scope])
+
+
+def lawful_least(name, network, weights, values):
+    """Where something is forbidden: a total that no plan without it is below, and all plans with it are. Refused if there is none."""
+    scopes = [scope for scope in weights if scope]
+    highest = {scope: max(weights[scope].values()) for scope in scopes}
+    forbidding = [scope for scope in scopes if len(weights[scope]) < full(network, scope, values)]
+    if not forbidding:
+        return None
+    least = sum(min(weights[scope].values()) for scope in scopes)
+    for scope in forbidding:
+        best = sum(highest.values()) - highest[scope] + BARRED
+        if best >= least:
+            raise Unfit(
+                f"{name}: a forbidden or missing combination of {variables(scope)} would weigh {BARRED}, and a plan that uses it could have "
+                f"a total of {best}; plans that use none may have no more than {least}"
+            )
+    return least
+
+
+def write(name, data):
+    """The wcsp file of a case, and how totals and costs belong together."""
+    case = read_case(data)
+    weights = [case.weights[slice(*case.span(scope))] for scope in range(case.scopes)]
+    ceiling = sum(map(max, weights))
+    top = ceiling - sum(map(min, weights)) + 1
+    text = [f"{problem_name(name)} {case.n} {case.d} {case.scopes} {top}", " ".join([str(case.d)] * case.n)]
+    places = [(i,) for i in range(case.n)] + case.pairs
+    for place, known in zip(places, weights):
+        text += function_text(place, known, case.d)
+    return ("\n".join(text) + "\n").encode("ascii"), f"total = {ceiling} - cost"
+
+
+def function_text(place, weights, values):
+    greatest = max(weights)
+    combinations = itertools.product(range(values), repeat=len(place))
+    tuples = [(*combination, greatest - weight) for combination, weight in zip(combinations, weights) if weight != greatest]
+    return [" ".join(map(str, row)) for row in [(len(place), *place, 0, len(tuples))] + tuples]
+
+
+def problem_name(name):
+    stem = os.path.splitext(os.path.basename(name))[0]
+    kept = re.sub(r"[^A-Za-z0-9_-]", "", stem)
+    return kept if re.search(r"[A-Za-z0-9]", kept) else "case"
