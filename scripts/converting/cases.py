@@ -1,0 +1,78 @@
+"""Cases made at random, all their plans, and damaged bytes."""
+
+import itertools
+from collections import namedtuple
+
+from picturing.case import MOST_CHANNELS, MOST_LINKS, MOST_PAIRS, STARTING, write_case
+
+LARGEST = (MOST_LINKS, MOST_CHANNELS, MOST_PAIRS)
+# Weights by kind; the middle kind is the widest whose costs fit the weights again.
+WEIGHTS = {
+    "zero": lambda random: 0,
+    "small": lambda random: random.randint(-9, 9),
+    "half": lambda random: random.randint(-STARTING // 2, STARTING // 2),
+    "uniform": lambda random: random.randint(-STARTING, STARTING),
+    "extreme": lambda random: random.choice([-STARTING, 1 - STARTING, -1, 0, 1, STARTING - 1, STARTING]),
+}
+
+
+class Case(namedtuple("Case", "values links pairs")):
+    """Each link's weights, and each pair (lower link, higher link, weights)."""
+
+    def text(self):
+        return write_case(*self)
+
+    def lowered(self):
+        """Every scope lowered by its greatest weight."""
+        links = [[weight - max(weights) for weight in weights] for weights in self.links]
+        return Case(self.values, links, [(i, j, [weight - max(weights) for weight in weights]) for i, j, weights in self.pairs])
+
+    def spread(self):
+        scopes = self.links + [weights for _, _, weights in self.pairs]
+        return max(max(weights) - min(weights) for weights in scopes)
+
+    def total(self, plan):
+        links = sum(weights[k] for weights, k in zip(self.links, plan))
+        return links + sum(weights[plan[i] * self.values + plan[j]] for i, j, weights in self.pairs)
+
+    def plans(self):
+        return itertools.product(range(self.values), repeat=len(self.links))
+
+
+def made(random, size, kind):
+    n, d, m = size
+    weight = WEIGHTS[kind]
+    links = [[weight(random) for _ in range(d)] for _ in range(n)]
+    joined = random.sample(list(itertools.combinations(range(n), 2)), m)
+    return Case(d, links, [(i, j, [weight(random) for _ in range(d * d)]) for i, j in joined])
+
+
+def sizes(random):
+    """The smallest and the largest, thin ones, and some between."""
+    yield from ((1, 1, 0), (1, MOST_CHANNELS, 0), (2, 1, 1), (2, MOST_CHANNELS, 1), LARGEST, (MOST_LINKS, 1, MOST_PAIRS), (MOST_LINKS, 2, 0))
+    for _ in range(8):
+        yield small_size(random, 12)
+
+
+def small_size(random, most):
+    n = random.randint(1, most)
+    return n, random.randint(1, 4), random.randint(0, min(2 * n, n * (n - 1) // 2))
+
+
+def damaged(random, data):
+    """One to three changes: a byte put in, taken out or changed, a stretch taken out or doubled, the end cut off."""
+    for _ in range(random.randint(1, 3)):
+        at = random.randrange(len(data) + 1)
+        upto = min(len(data), at + random.randint(1, 30))
+        byte = random.choice([bytes([random.randrange(256)]), random.choice([b"0", b"9", b"-", b" ", b"\n", b"\r", b",", b";", b"\t", b'"', b"\0"])])
+        data = random.choice(
+            [
+                data[:at] + byte + data[at:],
+                data[:at] + data[at + 1 :],
+                data[:at] + byte + data[at + 1 :],
+                data[:at] + data[upto:],
+                data[:upto] + data[at:],
+                data[:at],
+            ]
+        )
+    return data

@@ -1,0 +1,215 @@
+"""Tests of the spreadsheets."""
+
+import os
+
+from picturing.case import MOST_CHANNELS, MOST_LINKS, MOST_PAIRS, STARTING
+from picturing.columns import LINE
+from planning import spreadsheets
+
+from .asking import converts, refuses, unfit_at_most
+from .cases import damaged, made, sizes, small_size, WEIGHTS
+
+LINKS = "link,a,b\nx,1,2\ny,3,4\nz,5,6\n"
+HEADER = "first link,second link,first channel,second channel,weight\n"
+PAIRS = HEADER + "x,y,a,b,-7\ny,z,b,b,8\n"
+
+
+def read(links, pairs):
+    links, pairs = (text.encode() if isinstance(text, str) else text for text in (links, pairs))
+    return spreadsheets.read("LINKS", links, "PAIRS", pairs)
+
+
+def there_and_back(count, random):
+    for size in sizes(random):
+        for kind in WEIGHTS:
+            text = made(random, size, kind).text()
+            count.test(f"to-csv, from-csv, {size} {kind}", read(*spreadsheets.write(text)) == text)
+
+
+def sample(count, folder):
+    """The valley's two spreadsheets give its case."""
+    try:
+        texts = []
+        for name in ("valley-links.csv", "valley-pairs.csv", "valley.case"):
+            with open(os.path.join(folder, name), "rb") as file:
+                texts.append(file.read())
+        count.test("the valley", read(*texts[:2]) == texts[2], "its spreadsheets give another case")
+    except OSError as error:
+        count.test("the valley", False, str(error))
+
+
+class Dress:
+    """How a spreadsheet may be written."""
+
+    def __init__(self, separator=",", end="\n", mark="", quotes=False, encoding="utf-8", empty=False, turned=False, spaces=False):
+        self.separator, self.end, self.mark, self.quotes = separator, end, mark, quotes
+        self.encoding, self.empty, self.turned, self.spaces = encoding, empty, turned, spaces
+
+    def cell(self, value):
+        text = str(value)
+        if self.quotes or any(sign in text for sign in '",;\t\n'):
+            text = '"' + text.replace('"', '""') + '"'
+        return f" {text}" + ("" if text.endswith('"') else "  ") if self.spaces else text
+
+    def text(self, rows):
+        lines = []
+        for row in rows:
+            lines += ["", self.separator * (len(row) - 1)] if self.empty else []
+            lines.append(self.separator.join(map(self.cell, row)))
+        return (self.mark + self.end.join(lines) + self.end).encode(self.encoding)
+
+
+DRESSES = {
+    "plain": Dress(),
+    "semicolons": Dress(separator=";"),
+    "tabs": Dress(separator="\t"),
+    "CRLF": Dress(end="\r\n"),
+    "CR": Dress(end="\r"),
+    "a byte order mark": Dress(mark="\ufeff"),
+    "quotes": Dress(quotes=True),
+    "quotes, a mark, semicolons, CRLF": Dress(";", "\r\n", "\ufeff", True),
+    "Latin-1": Dress(encoding="latin-1"),
+    "empty rows": Dress(empty=True),
+    "empty rows, tabs, CRLF": Dress("\t", "\r\n", empty=True),
+    "links in either order": Dress(turned=True),
+    "spaces": Dress(spaces=True),
+    "spaces, semicolons, quotes": Dress(";", quotes=True, spaces=True),
+}
+LINK_NAMES = ["Höhe", 'the "old" mast', "a, b", "c; d", "1", "two\nlines", "Tal\t1", "ü", "007", "-", "Ost", "West"]
+CHANNEL_NAMES = ["5,8 GHz", "6;2", "grün", "4"]
+
+
+def dressed(count, random):
+    """The same case, however its spreadsheets are written."""
+    for _ in range(4):
+        case = made(random, small_size(random, len(LINK_NAMES)), "small")
+        for name, dress in DRESSES.items():
+            rows = [["Name, kurz", *CHANNEL_NAMES[: case.values]]]
+            rows += [[LINK_NAMES[i], *weights] for i, weights in enumerate(case.links)]
+            made_of = read(dress.text(rows), dress.text(pair_rows(random, case, dress.turned)))
+            count.test(f"spreadsheets with {name}", made_of == case.text())
+
+
+def pair_rows(random, case, turned):
+    """The rows of the pairs; each pair's in any order, links and channels in either order if turned."""
+    rows = [["von", "nach", "Kanal", "Kanal", "Gewicht"]]
+    for i, j, weights in case.pairs:
+        own = []
+        for place, weight in enumerate(weights):
+            k, l = divmod(place, case.values)
+            ends = [(LINK_NAMES[i], CHANNEL_NAMES[k]), (LINK_NAMES[j], CHANNEL_NAMES[l])]
+            if turned and random.randrange(2):
+                ends.reverse()
+            if weight or place == 0:
+                own.append([ends[0][0], ends[1][0], ends[0][1], ends[1][1], weight])
+        random.shuffle(own)
+        rows += own
+    return rows
+
+
+def cells(count):
+    """What single cells mean."""
+    same = [
+        ("an empty cell is 0", "link,a,b\nx,,2\ny,0,\n", "link,a,b\nx,0,2\ny,0,0\n"),
+        ("zeros before a number", "link,a,b\nx,007,-00\ny,0,0\n", "link,a,b\nx,7,0\ny,0,0\n"),
+        ("empty cells beyond the header", "link,a,b\nx,1,2,,\ny,0,0\n", "link,a,b\nx,1,2\ny,0,0\n"),
+        ("no line end at the end", "link,a,b\nx,1,2\ny,0,0", "link,a,b\nx,1,2\ny,0,0\n"),
+        ("any first cell", "name,a,b\nx,1,2\ny,0,0\n", ",a,b\nx,1,2\ny,0,0\n"),
+    ]
+    pairs = HEADER + "y,x,a,b,-7\n"
+    for name, one, other in same:
+        count.test(name, read(one, pairs) == read(other, pairs))
+    count.test("a pair of weight 0", b"\n12   0   0   1           0\n" in read(LINKS, HEADER + "x,y,a,a,0\n"))
+    count.test("Latin-1 beside UTF-8", len(read("link,grün\nHöhe,1\nTal,2\n".encode("latin-1"), HEADER + "Tal,Höhe,grün,grün,1\n")) == 5 * LINE)
+    count.test("commas in names", read("link;5,8;6,2\nx;1;2\n", HEADER) == read("link\t5;8\t6,2\nx\t1\t2\n", HEADER) == read("link,a,b\nx,1,2\n", HEADER))
+    count.test("no pairs", read(LINKS, HEADER).startswith(b"10   3   2   0 "))
+
+
+def grid(n, d, m, weight=0):
+    """Spreadsheets of any size, the limits not asked."""
+    links = [",".join(["link", *(f"c{k}" for k in range(d))])] + [",".join([f"l{i}"] + [str(weight)] * d) for i in range(n)]
+    joined = [(i, j) for j in range(n) for i in range(j)][:m]
+    return "\n".join(links) + "\n", HEADER + "".join(f"l{i},l{j},c0,c0,{weight}\n" for i, j in joined)
+
+
+def borders(count):
+    for n, d, m in ((MOST_LINKS, 1, 0), (1, MOST_CHANNELS, 0), (20, 1, MOST_PAIRS)):
+        converts(count, f"spreadsheets, {n} links, {d} channels, {m} pairs", lambda: read(*grid(n, d, m)))
+    refuses(count, "a link too many", lambda: read(*grid(MOST_LINKS + 1, 1, 0)), "LINKS: row 50, column A", "at most 48 links")
+    refuses(count, "a channel too many", lambda: read(*grid(1, MOST_CHANNELS + 1, 0)), "LINKS: row 1, column J", "at most 8 channels")
+    refuses(count, "a pair too many", lambda: read(*grid(20, 1, MOST_PAIRS + 1)), "PAIRS: row 98", "at most 96 pairs")
+    for sign in (1, -1):
+        converts(count, f"weight {sign * STARTING}", lambda: read(*grid(2, 1, 1, sign * STARTING)))
+        far = sign * (STARTING + 1)
+        refuses(count, f"weight {far} of a link", lambda: read(grid(2, 1, 0, far)[0], HEADER), "LINKS: row 2, column B", str(far), "1000000")
+        refuses(count, f"weight {far} of a pair", lambda: read(grid(2, 1, 0)[0], grid(2, 1, 1, far)[1]), "PAIRS: row 2, column E", str(far))
+
+
+# What is put in place of what, in which spreadsheet, and what the reason says.
+REFUSED = [
+    ("links", LINKS, "", ["LINKS", "no header"]),
+    ("links", LINKS, "\n ,,\n", ["LINKS: row 2", "no channel"]),
+    ("links", LINKS, "link\nx\n", ["LINKS: row 1", "no channel"]),
+    ("links", LINKS, "link,a,b\n", ["LINKS", "no link"]),
+    ("links", LINKS, "link,a,b\nx,1;2\n", ["LINKS: row 2", "2 cells, the header 3"]),
+    ("links", LINKS, LINKS.encode("utf-16"), ["LINKS", "UTF-16"]),
+    ("links", "link,a,b", "link,a,a", ["LINKS: row 1, column C", "'a' is there already"]),
+    ("links", "link,a,b", "link,a, ", ["LINKS: row 1, column C", "name of a channel"]),
+    ("links", "link,a,b", "link,,b", ["LINKS: row 1, column B", "name of a channel"]),
+    ("links", "y,3", "x,3", ["LINKS: row 3, column A", "'x' is there already"]),
+    ("links", "y,3", "\n,3", ["LINKS: row 4, column A", "name of a link"]),
+    ("links", "y,3,4", "y,3", ["LINKS: row 3", "2 cells, the header 3"]),
+    ("links", "y,3,4", "y,3,4,,5", ["LINKS: row 3, column E", "'5' stands beyond"]),
+    ("links", "y,3,4", 'y,"3,4', ["LINKS: row 3", "cannot be split"]),
+    ("links", "y,3,4", "y,3,4.0", ["LINKS: row 3, column C", "'4.0' is no whole number"]),
+    ("links", "y,3,4", 'y,"3,0",4', ["LINKS: row 3, column B", "'3,0' is no whole number"]),
+    ("links", "y,3,4", "y,1 000,4", ["LINKS: row 3, column B", "'1 000' is no whole number"]),
+    ("links", "y,3,4", "y,1'000,4", ["LINKS: row 3, column B", "no whole number"]),
+    ("links", "y,3,4", "y,+3,4", ["LINKS: row 3, column B", "no whole number"]),
+    ("links", "y,3,4", "y,3e2,4", ["LINKS: row 3, column B", "no whole number"]),
+    ("links", "y,3,4", "y,\u22123,4", ["LINKS: row 3, column B", "no whole number"]),
+    ("links", "y,3,4", "y,\u0663,4", ["LINKS: row 3, column B", "no whole number"]),
+    ("links", "y,3,4", "y,-,4", ["LINKS: row 3, column B", "no whole number"]),
+    ("links", "y,3,4", "y," + "9" * 5000 + ",4", ["LINKS: row 3, column B", "no weight"]),
+    ("pairs", PAIRS, "", ["PAIRS", "no header"]),
+    ("pairs", ",weight", "", ["PAIRS: row 1", "4 cells"]),
+    ("pairs", ",weight", ",weight,why", ["PAIRS: row 1", "6 cells"]),
+    ("pairs", "x,y,a", "x,w,a", ["PAIRS: row 2, column B", "no link 'w'"]),
+    ("pairs", "x,y,a", "X,y,a", ["PAIRS: row 2, column A", "no link 'X'"]),
+    ("pairs", "x,y,a", "x,,a", ["PAIRS: row 2, column B", "name of a link"]),
+    ("pairs", "x,y,a,b", "x,y,a,c", ["PAIRS: row 2, column D", "no channel 'c'"]),
+    ("pairs", "x,y,a,b", "x,y,,b", ["PAIRS: row 2, column C", "name of a channel"]),
+    ("pairs", "x,y,a", "x,x,a", ["PAIRS: row 2, column B", "itself"]),
+    ("pairs", "y,z,b,b,8", "x,y,a,b,8", ["PAIRS: row 3", "row 2"]),
+    ("pairs", "y,z,b,b,8", "y,x,b,a,-7", ["PAIRS: row 3", "row 2"]),
+    ("pairs", "-7", "", ["PAIRS: row 2, column E", "weight is due"]),
+    ("pairs", ",-7", "", ["PAIRS: row 2", "4 cells, the header 5"]),
+    ("pairs", "-7", "-7,8", ["PAIRS: row 2, column F", "beyond"]),
+    ("pairs", "-7", "-7.5", ["PAIRS: row 2, column E", "'-7.5' is no whole number"]),
+    ("pairs", "-7", "--7", ["PAIRS: row 2, column E", "no whole number"]),
+]
+
+
+def refusals(count):
+    for sheet, old, new, words in REFUSED:
+        texts = {"links": LINKS, "pairs": PAIRS}
+        texts[sheet] = new if old == texts[sheet] else texts[sheet].replace(old, new, 1)
+        refuses(count, f"refused: {words}", lambda: read(texts["links"], texts["pairs"]), *words)
+
+
+def damages(count, random):
+    """Broken files are refused or give a valid case."""
+    for number in range(400):
+        texts = spreadsheets.write(made(random, small_size(random, 4), "small").text()) if number % 2 else (LINKS.encode(), PAIRS.encode())
+        broken = [damaged(random, texts[0]), texts[1]] if random.randrange(2) else [texts[0], damaged(random, texts[1])]
+        unfit_at_most(count, f"damaged spreadsheets {broken}", lambda: read(*broken))
+
+
+def tests(count, random, samples):
+    there_and_back(count, random)
+    sample(count, samples)
+    dressed(count, random)
+    cells(count)
+    borders(count)
+    refusals(count)
+    damages(count, random)
