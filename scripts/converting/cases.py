@@ -1,9 +1,9 @@
-"""Cases made at random, all their plans, and damaged bytes."""
+"""Cases as numbers, made at random, all their plans, and damaged bytes."""
 
 import itertools
 from collections import namedtuple
 
-from picturing.case import MOST_CHANNELS, MOST_LINKS, MOST_PAIRS, STARTING, write_case
+from picturing.case import MOST_CHANNELS, MOST_LINKS, MOST_PAIRS, STARTING, read_case, write_case
 
 LARGEST = (MOST_LINKS, MOST_CHANNELS, MOST_PAIRS)
 # Weights by kind; the middle kind is the widest whose costs fit the weights again.
@@ -37,6 +37,13 @@ class Case(namedtuple("Case", "values links pairs")):
 
     def plans(self):
         return itertools.product(range(self.values), repeat=len(self.links))
+
+
+def case_of(text):
+    """A case's text as numbers."""
+    known = read_case(text)
+    scopes = [known.weights[slice(*known.span(scope))] for scope in range(known.scopes)]
+    return Case(known.d, scopes[: known.n], [(*pair, weights) for pair, weights in zip(known.pairs, scopes[known.n :])])
 
 
 def made(random, size, kind):

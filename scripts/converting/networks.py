@@ -2,13 +2,13 @@
 
 import re
 
-from picturing.case import MOST_CHANNELS, MOST_LINKS, MOST_PAIRS, STARTING, read_case
+from picturing.case import MOST_CHANNELS, MOST_LINKS, MOST_PAIRS, STARTING
 from planning import wcsp
 from planning.unfit import Unfit
 
 from . import listing
 from .asking import converts, refuses, unfit_at_most
-from .cases import Case, damaged, made, sizes, small_size, WEIGHTS
+from .cases import Case, case_of, damaged, made, sizes, small_size, WEIGHTS
 
 
 def read(text):
@@ -17,13 +17,6 @@ def read(text):
 
 def constant(said):
     return int(re.match(r"total = (-?[0-9]+) - cost", said).group(1))
-
-
-def case_of(text):
-    """A case's text as numbers."""
-    known = read_case(text)
-    scopes = [known.weights[slice(*known.span(scope))] for scope in range(known.scopes)]
-    return Case(known.d, scopes[: known.n], [(*pair, weights) for pair, weights in zip(known.pairs, scopes[known.n :])])
 
 
 def there_and_back(count, random):

@@ -202,7 +202,11 @@ def lawful_least(name, network, weights, values):
 
 def write(name, data):
     """The wcsp file of a case, and how totals and costs belong together."""
-    case = read_case(data)
+    return written(name, read_case(data))
+
+
+def written(name, case):
+    """The same of a case that was read, or of its working weights in place of the starting ones."""
     weights = [case.weights[slice(*case.span(scope))] for scope in range(case.scopes)]
     ceiling = sum(map(max, weights))
     top = ceiling - sum(map(min, weights)) + 1
