@@ -94,7 +94,7 @@ BY_HAND = {
     "a constant": "p 1 2 3 99\n2\n0 5 0\n1 0 0 1\n1 3\n0 7 0\n",
     "a constant below 0": "p 1 2 2 99\n2\n0 -5 0\n1 0 0 1\n1 3\n",
     "a constant as a tuple": "p 1 2 2 99\n2\n0 5 1 7\n1 0 0 1\n1 3\n",
-    "costs below 0": "p 2 2 2 99\n2 2\n1 0 0 2\n0 -3\n1 -1000000\n2 0 1 2 1\n1 1 -9\n",
+    "costs below 0": "p 2 2 2 99\n2 2\n1 0 0 2\n0 -3\n1 -1000\n2 0 1 2 1\n1 1 -9\n",
     "shared functions": "p 4 2 5 50\n2 2 2 2\n-2 0 1 1 1\n0 1 5\n-2 2 0 1 -1\n-2 1 2 0 1\n1 1 7\n2 1 3 0 -2\n2 3 2 1 -1\n",
     "a shared function of one variable": "p 2 2 2 50\n2 2\n-1 0 0 1 1 3\n1 1 0 -1\n",
     "no functions": "p 2 2 0 1\n2 2\n",
@@ -152,16 +152,17 @@ def grid(n, d, m, cost=0, again=False):
 
 
 def borders(count):
-    for n, d, m in ((MOST_LINKS, 1, 0), (1, MOST_CHANNELS, 0), (20, 1, MOST_PAIRS)):
+    for n, d, m in ((MOST_LINKS, 1, 0), (1, MOST_CHANNELS, 0), (MOST_LINKS, 1, MOST_PAIRS)):
         converts(count, f"wcsp, {n} variables, {d} values, {m} pairs", lambda: read(grid(n, d, m))[0])
-    converts(count, "wcsp, every pair twice", lambda: read(grid(20, 1, MOST_PAIRS, again=True))[0])
-    refuses(count, "a variable too many", lambda: read(grid(MOST_LINKS + 1, 1, 0)), "FILE: line 1", "variables is 49", "at most 48")
-    refuses(count, "a value too many", lambda: read(grid(1, MOST_CHANNELS + 1, 0)), "FILE: line 2", "size is 9", "at most 8")
-    refuses(count, "a pair of variables too many", lambda: read(grid(20, 1, MOST_PAIRS + 1)), "FILE: line 100", "more than 96 pairs")
+    converts(count, "wcsp, every pair twice", lambda: read(grid(MOST_LINKS, 1, MOST_PAIRS, again=True))[0])
+    refuses(count, "a variable too many", lambda: read(grid(MOST_LINKS + 1, 1, 0)), "FILE: line 1", "number of variables", f"at most {MOST_LINKS}")
+    refuses(count, "a value too many", lambda: read(grid(1, MOST_CHANNELS + 1, 0)), "FILE: line 2", "domain's size", f"at most {MOST_CHANNELS}")
+    many = grid(MOST_LINKS, 1, MOST_PAIRS + 1)
+    refuses(count, "a pair of variables too many", lambda: read(many), f"FILE: line {MOST_PAIRS + 4}", f"more than {MOST_PAIRS} pairs")
     for sign in (1, -1):
         converts(count, f"cost {sign * STARTING}", lambda: read(grid(2, 1, 1, sign * STARTING))[0])
         far = sign * (STARTING + 1)
-        refuses(count, f"cost {far} of a value", lambda: read(grid(2, 1, 0, far)), "FILE: variable 0, 0:", str(far), "1000000")
+        refuses(count, f"cost {far} of a value", lambda: read(grid(2, 1, 0, far)), "FILE: variable 0, 0:", str(far), str(STARTING))
         pair = grid(2, 1, 1).replace("1 0 0 0\n", f"1 0 0 {far}\n")
         refuses(count, f"cost {far} of a pair", lambda: read(pair), "FILE: variables 0 and 1, 0 and 0:", str(far))
         refuses(count, f"cost {far} by two functions", lambda: read(grid(2, 1, 1, sign * (STARTING // 2 + 1), True)), str(sign * (STARTING + 2)))
@@ -174,10 +175,10 @@ def barred_borders(count):
     pair = "p 2 2 2 2000000\n2 2\n1 0 0 1\n1 {}\n2 0 1 0 1\n1 1 2000000\n"
     for name, text, place in (("value", forbidden, "variable 0"), ("missing value", missing, "variable 0"), ("pair", pair, "variables 0 and 1")):
         keeps(count, f"a forbidden {name} at the border", text.format(STARTING - 1))
-        refuses(count, f"a forbidden {name} too near", lambda: read(text.format(STARTING)), "FILE", place, "-1000000")
+        refuses(count, f"a forbidden {name} too near", lambda: read(text.format(STARTING)), "FILE", place, str(-STARTING))
     beside = forbidden.replace("1 0 0 1", "1 0 10 1")
     keeps(count, "a forbidden value beside a cost", beside.format(STARTING - 11))
-    refuses(count, "a forbidden value beside a cost, too near", lambda: read(beside.format(STARTING - 10)), "FILE", "variable 0", "-1000000")
+    refuses(count, "a forbidden value beside a cost, too near", lambda: read(beside.format(STARTING - 10)), "FILE", "variable 0", str(-STARTING))
     alone = "p 2 2 1 50\n2 2\n2 0 1 60 {}\n"
     keeps(count, "one combination left", alone.format("1 0 1 3"))
     refuses(count, "no combination left", lambda: read(alone.format("1 0 1 50")), "variables 0 and 1", "upper bound 50", "no plan is allowed")
@@ -235,6 +236,9 @@ def damages(count, random):
         text = random.choice(texts + [wcsp.write("x", made(random, small_size(random, 4), "small").text())[0]])
         broken = damaged(random, text)
         unfit_at_most(count, f"a damaged wcsp file {broken!r}", lambda: read(broken)[0])
+    for _ in range(100):
+        noise = random.randbytes(random.randrange(200))
+        unfit_at_most(count, f"noise {noise}", lambda: read(noise)[0])
 
 
 def tests(count, random):

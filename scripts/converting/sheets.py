@@ -3,8 +3,9 @@
 import os
 
 from picturing.case import MOST_CHANNELS, MOST_LINKS, MOST_PAIRS, STARTING
-from picturing.columns import LINE
+from picturing.columns import LINE, line
 from planning import spreadsheets
+from planning.cells import letters
 
 from .asking import converts, refuses, unfit_at_most
 from .cases import damaged, made, sizes, small_size, WEIGHTS
@@ -119,11 +120,11 @@ def cells(count):
     pairs = HEADER + "y,x,a,b,-7\n"
     for name, one, other in same:
         count.test(name, read(one, pairs) == read(other, pairs))
-    count.test("a pair of weight 0", b"\n12   0   0   1           0\n" in read(LINKS, HEADER + "x,y,a,a,0\n"))
+    count.test("a pair of weight 0", line(12, 0, 0, 1) in read(LINKS, HEADER + "x,y,a,a,0\n"))
     count.test("Latin-1 beside UTF-8", len(read("link,grün\nHöhe,1\nTal,2\n".encode("latin-1"), HEADER + "Tal,Höhe,grün,grün,1\n")) == 5 * LINE)
     for name, text in (("commas", "link;5,8;6,2\nx;1;2\n"), ("semicolons", "link\t5;8\t6;2\nx\t1\t2\n")):
         count.test(f"{name} in names", read(text, HEADER) == read("link,a,b\nx,1,2\n", HEADER))
-    count.test("no pairs", read(LINKS, HEADER).startswith(b"10   3   2   0 "))
+    count.test("no pairs", read(LINKS, HEADER).startswith(line(10, 3, 2, 0)))
 
 
 def grid(n, d, m, weight=0):
@@ -134,15 +135,17 @@ def grid(n, d, m, weight=0):
 
 
 def borders(count):
-    for n, d, m in ((MOST_LINKS, 1, 0), (1, MOST_CHANNELS, 0), (20, 1, MOST_PAIRS)):
+    for n, d, m in ((MOST_LINKS, 1, 0), (1, MOST_CHANNELS, 0), (MOST_LINKS, 1, MOST_PAIRS)):
         converts(count, f"spreadsheets, {n} links, {d} channels, {m} pairs", lambda: read(*grid(n, d, m)))
-    refuses(count, "a link too many", lambda: read(*grid(MOST_LINKS + 1, 1, 0)), "LINKS: row 50, column A", "at most 48 links")
-    refuses(count, "a channel too many", lambda: read(*grid(1, MOST_CHANNELS + 1, 0)), "LINKS: row 1, column J", "at most 8 channels")
-    refuses(count, "a pair too many", lambda: read(*grid(20, 1, MOST_PAIRS + 1)), "PAIRS: row 98", "at most 96 pairs")
+    links, channels, pairs = (f"at most {most} {what}" for most, what in ((MOST_LINKS, "links"), (MOST_CHANNELS, "channels"), (MOST_PAIRS, "pairs")))
+    refuses(count, "a link too many", lambda: read(*grid(MOST_LINKS + 1, 1, 0)), f"LINKS: row {MOST_LINKS + 2}, column A", links)
+    column = letters(MOST_CHANNELS + 1)
+    refuses(count, "a channel too many", lambda: read(*grid(1, MOST_CHANNELS + 1, 0)), f"LINKS: row 1, column {column}", channels)
+    refuses(count, "a pair too many", lambda: read(*grid(MOST_LINKS, 1, MOST_PAIRS + 1)), f"PAIRS: row {MOST_PAIRS + 2}", pairs)
     for sign in (1, -1):
         converts(count, f"weight {sign * STARTING}", lambda: read(*grid(2, 1, 1, sign * STARTING)))
         far = sign * (STARTING + 1)
-        refuses(count, f"weight {far} of a link", lambda: read(grid(2, 1, 0, far)[0], HEADER), "LINKS: row 2, column B", str(far), "1000000")
+        refuses(count, f"weight {far} of a link", lambda: read(grid(2, 1, 0, far)[0], HEADER), "LINKS: row 2, column B", str(far), str(STARTING))
         refuses(count, f"weight {far} of a pair", lambda: read(grid(2, 1, 0)[0], grid(2, 1, 1, far)[1]), "PAIRS: row 2, column E", str(far))
 
 
@@ -204,6 +207,12 @@ def damages(count, random):
         texts = spreadsheets.write(made(random, small_size(random, 4), "small").text()) if number % 2 else (LINKS.encode(), PAIRS.encode())
         broken = [damaged(random, texts[0]), texts[1]] if random.randrange(2) else [texts[0], damaged(random, texts[1])]
         unfit_at_most(count, f"damaged spreadsheets {broken}", lambda: read(*broken))
+    for _ in range(100):
+        noise = random.randbytes(random.randrange(200))
+        unfit_at_most(count, f"noise {noise}", lambda: read(noise, PAIRS))
+        unfit_at_most(count, f"noise {noise}", lambda: read(LINKS, noise))
+    for column, name in ((0, "A"), (25, "Z"), (26, "AA"), (701, "ZZ"), (702, "AAA")):
+        count.test(f"column {name}", letters(column) == name)
 
 
 def tests(count, random, samples):

@@ -1,6 +1,6 @@
 """The case sheet: links, channels, pairs and starting weights."""
 
-from .columns import Lines, line
+from .columns import LINE, Lines, line
 
 MOST_LINKS, MOST_CHANNELS, MOST_PAIRS = 48, 8, 96
 STARTING = 1_000_000
@@ -43,7 +43,7 @@ def read_case(data):
                 place(lines, at, (13, pair, k, l))
                 weight(lines, at, case)
                 at += 1
-    if len(data) > at * 27:
+    if len(data) > at * LINE:
         lines.read(at)
         lines.refuse(at, "the case is complete before this line")
     return case

@@ -164,8 +164,8 @@ def weighed(name, scope, costs, top):
     """The weight of each combination that is not forbidden; the constant's is not asked to fit."""
     weights = {combination: -cost for combination, cost in costs.items() if cost < top}
     if not weights:
-        place = f"of {variables(scope)} " if scope else "of the constant "
-        raise Unfit(f"{name}: every cost {place}is at or above the upper bound {top}: no plan is allowed")
+        what = f"every cost of {variables(scope)}" if scope else "the constant"
+        raise Unfit(f"{name}: {what} is at or above the upper bound {top}: no plan is allowed")
     for combination, weight in weights.items():
         if scope and abs(weight) > STARTING:
             at = " and ".join(map(str, combination))
