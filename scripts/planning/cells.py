@@ -4,7 +4,7 @@ import csv
 import io
 import re
 
-from .unfit import Unfit
+from .unfit import Unfit, shown
 
 # Where two separators make as many cells of a header, the first of these is taken.
 SEPARATORS = "\t;,"
@@ -25,19 +25,19 @@ class Row:
         """Asks for a cell under each of the header, and nothing beyond."""
         width = len(header.cells)
         if len(self.cells) < width:
-            self.refuse(f"the row has {len(self.cells)} cells, the header {width}")
+            self.refuse(f"the row has {len(self.cells)} of the header's {width} cells")
         for column in range(width, len(self.cells)):
             if self.cells[column]:
-                self.refuse(f"'{short(self.cells[column])}' stands beyond the last column of the header", column)
+                self.refuse(f"'{shown(self.cells[column])}' stands beyond the last column of the header", column)
 
     def number_in(self, column, most):
         """A whole number from -most to most."""
         text = self.cells[column]
         if not NUMBER.fullmatch(text):
-            self.refuse(f"'{short(text)}' is no whole number (digits only, a minus sign before them if below 0)", column)
+            self.refuse(f"'{shown(text)}' is no whole number (digits only, a minus sign before them if below 0)", column)
         digits = text.lstrip("-").lstrip("0")
         if len(digits) > len(str(most)) or int(digits or "0") > most:
-            self.refuse(f"{short(text)} is no weight: weights lie between -{most} and {most}", column)
+            self.refuse(f"{shown(text)} is no weight: weights lie between -{most} and {most}", column)
         return int(("-" if text.startswith("-") else "") + (digits or "0"))
 
 
@@ -48,10 +48,6 @@ def letters(column):
         name = chr(ord("A") + column % 26) + name
         column = column // 26 - 1
     return name
-
-
-def short(text):
-    return text if len(text) <= 40 else text[:40] + ".."
 
 
 def table(file, data):
@@ -91,4 +87,4 @@ def split(file, text, separator):
             if any(row.cells):
                 yield row
     except csv.Error as error:
-        raise Unfit(f"{file}: row {number + 1}: cannot be split into cells ({error})") from None
+        raise Unfit(f"{file}: row {number + 1}: cannot be split into cells ({shown(str(error), 80)})") from None

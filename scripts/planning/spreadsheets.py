@@ -3,7 +3,7 @@
 from picturing.case import MOST_CHANNELS, MOST_LINKS, MOST_PAIRS, STARTING, read_case, write_case
 
 from .cells import table
-from .unfit import Unfit
+from .unfit import Unfit, shown
 
 PAIRS_HEADER = "first link,second link,first channel,second channel,weight"
 
@@ -43,7 +43,7 @@ def unused(row, column, known, what, most):
     if not name:
         row.refuse(f"here the name of a {what} is due", column)
     if name in known:
-        row.refuse(f"the {what} '{name}' is there already", column)
+        row.refuse(f"the {what} '{shown(name)}' is there already", column)
     if len(known) == most:
         row.refuse(f"a case has at most {most} {what}s", column)
     return name
@@ -79,7 +79,7 @@ def known(row, column, numbers, what):
     if not name:
         row.refuse(f"here the name of a {what} is due", column)
     if name not in numbers:
-        row.refuse(f"there is no {what} '{name}' in the links' spreadsheet", column)
+        row.refuse(f"there is no {what} '{shown(name)}' in the links' spreadsheet", column)
     return numbers[name]
 
 

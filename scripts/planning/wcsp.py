@@ -7,7 +7,7 @@ import re
 
 from picturing.case import MOST_CHANNELS, MOST_LINKS, MOST_PAIRS, STARTING, read_case, write_case
 
-from .unfit import Unfit
+from .unfit import Unfit, shown
 
 # A channel that may not be used has the least starting weight.
 BARRED = -STARTING
@@ -41,8 +41,7 @@ class Words:
     def number(self, what):
         word = self.word(what)
         if not NUMBER.fullmatch(word):
-            shown = word[:20].decode("ascii", "backslashreplace") + (".." if len(word) > 20 else "")
-            self.refuse(f"'{shown}' stands where {what} is due, a whole number of at most 19 digits")
+            self.refuse(f"'{shown(word.decode('utf-8', 'replace'))}' stands where {what} is due, a whole number of at most 19 digits")
         return int(word)
 
     def within(self, what, least, most):
