@@ -24,6 +24,7 @@ ghost use Rattle.definitions.specs.Scoring.{betterOf};
 ghost use Rattle.checker.specs.Checker.{standingSays, blockReplay};
 ghost use Rattle.encoding.specs.CaseBytes.{caseOf};
 ghost use Rattle.encoding.specs.RecordBytes.{recordBytes};
+ghost use Rattle.encoding.specs.Version.{versionNumber};
 ghost use Rattle.checker_library.specs.Answers.{sizeOf, linesOf, totalOf, roundsOf, spanOf, choiceOf};
 ghost use Rattle.checker_library.specs.Calls.{caseAfter, readCall, startRecord, blockAnswer, replayCall, notRecord, notRecordAtEnd, endWith, endCall};
 
@@ -264,6 +265,13 @@ fn end_with(part: usize, end: Outcome) -> Outcome
 }
 
 // ---- the calls
+
+#[no_mangle]
+pub extern "C" fn ceiling_version() -> u64
+    ensures { λ r. ⌜ r ≡ versionNumber ⌝ }
+{
+    encoding::version()
+}
 
 #[no_mangle]
 pub extern "C" fn ceiling_case_size(text: &[u8]) -> CeilingSize

@@ -1,4 +1,5 @@
-// The case and the replay's record as bytes of fixed size, in which they cross to other languages. What each byte says is defined in specs/.
+// The case and the replay's record as bytes of fixed size, in which they cross to other languages. What each byte says is defined in specs/, and
+// the version of the functions that take them.
 use checker::Due;
 use checker::LastRaised;
 use checker::Replay;
@@ -13,6 +14,7 @@ ghost use Rattle.texts.specs.Texts.{placed};
 ghost use Rattle.checker.specs.Checker.{standingSays};
 ghost use Rattle.encoding.specs.Numbers.{valueOf, numberBytes, numberAt, bitsOf, signedOf};
 ghost use Rattle.encoding.specs.CaseBytes.{caseBytes, caseOf};
+ghost use Rattle.encoding.specs.Version.{versionNumber};
 ghost use Rattle.encoding.specs.RecordBytes.{lastOf, raisedOf, pressOf, dueOf, standingAt, pressAt, recordNumbers, recordTags, recordBytes, isRecord, recordOf};
 
 // The bytes of a case, and those of the replay's record.
@@ -38,6 +40,14 @@ struct Press {
     amount: i64,
     left: usize,
     last: Last,
+}
+
+// ---- the version
+
+pub fn version() -> u64
+    ensures { λ r. ⌜ r ≡ versionNumber ⌝ }
+{
+    10000
 }
 
 // ---- numbers

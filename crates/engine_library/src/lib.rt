@@ -12,6 +12,7 @@ ghost use Rattle.definitions.specs.Answers.{roundSays, runSays, countAt};
 ghost use Rattle.definitions.specs.Engine.{engineNext};
 ghost use Rattle.definitions.specs.EngineCalls.{roundCall, runCall};
 ghost use Rattle.encoding.specs.CaseBytes.{caseOf};
+ghost use Rattle.encoding.specs.Version.{versionNumber};
 ghost use Rattle.engine_library.specs.Answers.{roundOf, runOf};
 
 // The bytes written and the bound; no bytes where it is settled.
@@ -100,6 +101,13 @@ fn run_of(run: Run) -> CeilingRun
 }
 
 // ---- the calls
+
+#[no_mangle]
+pub extern "C" fn ceiling_engine_version() -> u64
+    ensures { λ r. ⌜ r ≡ versionNumber ⌝ }
+{
+    encoding::version()
+}
 
 // One round: its lines from the output's first byte.
 #[no_mangle]

@@ -2,12 +2,8 @@
 //! says. Each call is a test: a line for each that failed, the count as the last line. vectors.c has more rows; here the wrapper is tried.
 //! A case's table of the wrong length (number 4) cannot be handed to `read_case`, which makes the table itself.
 
-#[path = "../rust/ceiling.rs"]
-mod ceiling;
+use ceiling::{case_size, engine_version, read_case, version, view, Case, Made, Refused, Replay, Run, Size, CASE, LINE, RECORD};
 
-use ceiling::{case_size, read_case, view, Case, Made, Refused, Replay, Run, Size};
-
-const LINE: usize = 27;
 const STARTING: i64 = 1_000_000;
 const WORKING: i64 = 500_000_000;
 
@@ -74,7 +70,7 @@ fn low() -> Sample {
 
 impl Sample {
     fn case(&self) -> Case {
-        let mut bytes = [0; 216];
+        let mut bytes = [0; CASE];
         for (i, z) in [self.n, self.d, self.m].into_iter().enumerate() {
             bytes[8 * i..8 * i + 8].copy_from_slice(&z.to_le_bytes());
         }
@@ -231,22 +227,22 @@ fn replays(count: &mut Count) {
     }
     for (name, number, mut s) in faults(WORKING) {
         let (case, before) = (s.case(), s.table.clone());
-        let mut replay = Replay::from_bytes([0; 196]);
+        let mut replay = Replay::from_bytes([0; RECORD]);
         let answer = replay.lines(&case, &mut s.table, &lines(&[[1, 0, 0, 0, 1]]));
         count.test("lines", name, answer == refused(number, 0) && s.table == before && replay.bytes()[51] == number as u8);
         if number != 4 && number != 8 {
-            count.test("end", name, Replay::from_bytes([0; 196]).end(&case, 0) == refused(number, 0));
+            count.test("end", name, Replay::from_bytes([0; RECORD]).end(&case, 0) == refused(number, 0));
         }
     }
     for (name, number, mut s) in faults(WORKING) {
         let (case, before) = (s.case(), s.table.clone());
-        let answer = Replay::from_bytes([0; 196]).lines(&case, &mut s.table, b" 4");
+        let answer = Replay::from_bytes([0; RECORD]).lines(&case, &mut s.table, b" 4");
         count.test("lines", &format!("no whole line, {name}"), answer == refused(number, 0) && s.table == before);
     }
     let mut table = p4().table;
-    let mut none = Replay::from_bytes([2; 196]);
+    let mut none = Replay::from_bytes([2; RECORD]);
     let answer = none.lines(&case, &mut table, &lines(&[PRESS]));
-    count.test("lines", "no record", answer == refused(5, 0) && none.bytes() == &[2; 196] && none.end(&case, 0) == refused(5, 0));
+    count.test("lines", "no record", answer == refused(5, 0) && none.bytes() == &[2; RECORD] && none.end(&case, 0) == refused(5, 0));
 }
 
 fn views(count: &mut Count) {
@@ -292,8 +288,17 @@ fn engine(count: &mut Count) {
     }
 }
 
+/// Both libraries are of this package's version.
+fn versions(count: &mut Count) {
+    let parts = [env!("CARGO_PKG_VERSION_MAJOR"), env!("CARGO_PKG_VERSION_MINOR"), env!("CARGO_PKG_VERSION_PATCH")];
+    let number = parts.iter().fold(0, |number, part| 100 * number + part.parse::<u64>().unwrap());
+    count.test("version", "this package's", version() == number);
+    count.test("engine_version", "this package's", engine_version() == number);
+}
+
 fn main() {
     let mut count = Count::default();
+    versions(&mut count);
     files(&mut count);
     totals(&mut count);
     replays(&mut count);

@@ -1,21 +1,17 @@
 //! Reads a case file, lets the engine lower its ceiling, replays the log in blocks, and prints what the checker says, the first round's
 //! lines, and which of two simple plans is better.
 
-#[path = "../rust/ceiling.rs"]
-mod ceiling;
-
-use ceiling::{case_size, read_case, view, Refused, Replay, ROOM};
+use ceiling::{case_size, read_case, view, Refused, Replay, LINE, ROOM};
 use std::io::Write;
 
 const ROUNDS: u64 = 100_000;
-const LINE: usize = 27;
 
 fn main() {
     let path = std::env::args().nth(1).expect("the path of a case file");
     let text = std::fs::read(path).expect("a file that can be read");
     match example(&text) {
         Ok(printed) => std::io::stdout().write_all(&printed).expect("an output"),
-        Err(refused) => println!("refused {} {}", refused.number, refused.line),
+        Err(refused) => println!("{refused}"),
     }
 }
 

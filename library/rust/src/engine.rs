@@ -1,0 +1,63 @@
+//! The engine's calls: libengine_library.a.
+
+use crate::{answer, c, Case, Refused};
+
+/// Room for the lines of any round.
+pub const ROOM: usize = 3915;
+
+/// A round that was made.
+#[derive(Clone, Copy, Debug, PartialEq, Eq)]
+pub struct Made {
+    /// The bytes of its lines, from the output's first byte.
+    pub bytes: usize,
+    /// The ceiling after it.
+    pub bound: i64,
+}
+
+/// What a run came to.
+#[derive(Clone, Copy, Debug, PartialEq, Eq)]
+pub struct Run {
+    /// Why it was refused, if it was.
+    pub refused: Option<u64>,
+    /// Whether it is settled; if it is not, and was not refused, it ended by its limit.
+    pub settled: bool,
+    /// The rounds made.
+    pub rounds: u64,
+    /// The ceiling after them.
+    pub bound: i64,
+}
+
+/// The version of libengine_library.a, as [`crate::version`] is that of libchecker_library.a.
+pub fn engine_version() -> u64 {
+    unsafe { c::ceiling_engine_version() }
+}
+
+impl Case {
+    /// One round, its lines at the output's first bytes; none where it is settled. [`ROOM`] bytes are always enough.
+    ///
+    /// ```
+    /// // One link on two channels, alone: its best channel is the ceiling, and nothing can lower it.
+    /// let text = b"\
+    /// 10   1   2   0           0
+    /// 11   0   0   0           3
+    /// 11   0   1   0           5
+    /// ";
+    /// let (case, mut table) = ceiling::read_case(text)?;
+    /// let mut out = vec![0; ceiling::ROOM];
+    /// assert_eq!(case.round(&mut table, &mut out)?, None);
+    /// assert_eq!(case.upper_bound(&table)?, 5);
+    /// # Ok::<(), ceiling::Refused>(())
+    /// ```
+    pub fn round(&self, table: &mut [i64], out: &mut [u8]) -> Result<Option<Made>, Refused> {
+        let r = unsafe { c::ceiling_round(self.0.as_ptr(), table.as_mut_ptr(), table.len(), out.as_mut_ptr(), out.len()) };
+        let made = Made { bytes: r.bytes, bound: r.bound };
+        answer(r.number, 0, if r.bytes == 0 { None } else { Some(made) })
+    }
+
+    /// At most `limit` rounds, each writing from the output's first byte. Refused by number 11, the earlier rounds stand.
+    pub fn run(&self, table: &mut [i64], out: &mut [u8], limit: u64) -> Run {
+        let r = unsafe { c::ceiling_run(self.0.as_ptr(), table.as_mut_ptr(), table.len(), out.as_mut_ptr(), out.len(), limit) };
+        let refused = if r.number == 0 { None } else { Some(r.number) };
+        Run { refused, settled: r.number == 0 && r.limit == 0, rounds: r.rounds, bound: r.bound }
+    }
+}

@@ -1,0 +1,211 @@
+//! Safe calls of the ceiling library: a verified checker and engine for channel plans.
+//!
+//! A case has links, channels and pairs of links, and a table of weights; the ceiling is a number that no plan's total is above. The engine
+//! lowers it in rounds and logs each move, and the checker replays such logs, whoever wrote them. docs/LIBRARY.md tells what each call answers,
+//! docs/RULES.md how case files and logs are written and judged.
+//!
+//! The functions called are proved; this wrapper is not. It hands over whole slices and arrays of the right size, borrowed for the call alone:
+//! that is all that the library asks. Nothing is kept between calls, so that calls on different tables may run at once on different threads.
+//!
+//! ```
+//! use ceiling::{read_case, Replay, LINE};
+//!
+//! let text = b"\
+//! 10   2   2   1           0
+//! 11   0   0   0           2
+//! 11   0   1   0           0
+//! 11   1   0   0           2
+//! 11   1   1   0           0
+//! 12   0   0   1           0
+//! 13   0   0   0          -3
+//! 13   0   0   1           0
+//! 13   0   1   0           0
+//! 13   0   1   1           0
+//! ";
+//! let log = [
+//!     " 2   0   2   0           2\n",
+//!     " 3   1   0   0           0\n",
+//!     " 3   2   0   0           0\n",
+//!     " 4   0   0   0           2\n",
+//! ]
+//! .concat();
+//!
+//! let (case, mut table) = read_case(text)?;
+//! assert_eq!(case.upper_bound(&table)?, 4);
+//! assert_eq!(case.objective(&table, &[0, 1])?, 2);
+//!
+//! let mut replay = Replay::start(&case, &table)?;
+//! replay.lines(&case, &mut table, log.as_bytes())?;
+//! assert_eq!(replay.end(&case, log.len() % LINE)?, 1); // accepted, one round
+//! assert_eq!(case.upper_bound(&table)?, 2); // so the plan above is a best one
+//! # Ok::<(), ceiling::Refused>(())
+//! ```
+
+#![deny(missing_docs)]
+
+mod c;
+#[cfg(feature = "engine")]
+mod engine;
+
+#[cfg(feature = "engine")]
+pub use engine::{engine_version, Made, Run, ROOM};
+
+/// The bytes of a line.
+pub const LINE: usize = 27;
+
+/// The bytes of a case.
+pub const CASE: usize = 216;
+
+/// The bytes of a replay's record.
+pub const RECORD: usize = 196;
+
+/// A case as the library reads it. The calls ask its limits: any bytes may be handed over.
+#[derive(Clone, Debug, PartialEq, Eq)]
+pub struct Case([u8; CASE]);
+
+/// What stands between the lines of a log.
+#[derive(Clone, Debug, PartialEq, Eq)]
+pub struct Replay([u8; RECORD]);
+
+/// Why a call was refused.
+#[derive(Clone, Copy, Debug, PartialEq, Eq)]
+pub struct Refused {
+    /// The number of the rule that was broken, 1 to 14.
+    pub number: u64,
+    /// In a file or a block of lines the line, counted from 0; else 0.
+    pub line: usize,
+}
+
+/// The words of the programs: `refused`, the number, the line.
+impl std::fmt::Display for Refused {
+    fn fmt(&self, to: &mut std::fmt::Formatter) -> std::fmt::Result {
+        write!(to, "refused {} {}", self.number, self.line)
+    }
+}
+
+impl std::error::Error for Refused {}
+
+/// What the head of a case file says.
+#[derive(Clone, Copy, Debug, PartialEq, Eq)]
+pub struct Size {
+    /// Links.
+    pub n: usize,
+    /// Channels.
+    pub d: usize,
+    /// Pairs.
+    pub m: usize,
+    /// How many weights the case's table has.
+    pub table: usize,
+}
+
+fn answer<T>(number: u64, line: usize, value: T) -> Result<T, Refused> {
+    if number == 0 { Ok(value) } else { Err(Refused { number, line }) }
+}
+
+/// The library's version: major times 10,000, minor times 100, patch.
+///
+/// ```
+/// assert_eq!(ceiling::version() / 10000, 1);
+/// ```
+pub fn version() -> u64 {
+    unsafe { c::ceiling_version() }
+}
+
+/// What the head of a case file says.
+///
+/// ```
+/// let size = ceiling::case_size(b"10   3   2   3           0\n")?;
+/// assert_eq!((size.n, size.d, size.m, size.table), (3, 2, 3, 18));
+/// assert_eq!(ceiling::case_size(b"10  49   2   3           0\n").unwrap_err().number, 3);
+/// # Ok::<(), ceiling::Refused>(())
+/// ```
+pub fn case_size(text: &[u8]) -> Result<Size, Refused> {
+    let r = unsafe { c::ceiling_case_size(text.as_ptr(), text.len()) };
+    answer(r.number, 0, Size { n: r.n, d: r.d, m: r.m, table: r.table })
+}
+
+/// A case file with nothing after it: the case and its starting weights.
+pub fn read_case(text: &[u8]) -> Result<(Case, Vec<i64>), Refused> {
+    let mut case = Case([0; CASE]);
+    let mut table = vec![0; case_size(text)?.table];
+    let r = unsafe { c::ceiling_read_case(text.as_ptr(), text.len(), case.0.as_mut_ptr(), table.as_mut_ptr(), table.len()) };
+    answer(r.number, r.lines, (case, table))
+}
+
+/// That round's lines in the log itself, its bound line included. The moves are not checked.
+///
+/// ```
+/// let log = b" 4   0   0   0           7\n 4   0   0   0           5\n";
+/// assert_eq!(ceiling::view(log, 1)?, &log[27..]);
+/// # Ok::<(), ceiling::Refused>(())
+/// ```
+pub fn view(log: &[u8], round: u64) -> Result<&[u8], Refused> {
+    let r = unsafe { c::ceiling_round_span(log.as_ptr(), log.len(), round) };
+    answer(r.number, r.line, &log[r.from..r.to])
+}
+
+impl Case {
+    /// A case from bytes that were kept (docs/LIBRARY.md, Layouts).
+    pub fn from_bytes(bytes: [u8; CASE]) -> Case {
+        Case(bytes)
+    }
+
+    /// The case's bytes.
+    pub fn bytes(&self) -> &[u8; CASE] {
+        &self.0
+    }
+
+    /// The ceiling: the sum over scopes of the greatest weight.
+    pub fn upper_bound(&self, table: &[i64]) -> Result<i64, Refused> {
+        let r = unsafe { c::ceiling_upper_bound(self.0.as_ptr(), table.as_ptr(), table.len()) };
+        answer(r.number, 0, r.total)
+    }
+
+    /// A plan's total; a plan is one channel for each link.
+    pub fn objective(&self, table: &[i64], plan: &[u8]) -> Result<i64, Refused> {
+        let r = unsafe { c::ceiling_objective(self.0.as_ptr(), table.as_ptr(), table.len(), plan.as_ptr(), plan.len()) };
+        answer(r.number, 0, r.total)
+    }
+
+    /// The plan with the greater total on starting weights, the first on a tie.
+    pub fn better<'a>(&self, table: &[i64], first: &'a [u8], second: &'a [u8]) -> Result<&'a [u8], Refused> {
+        let (a, b) = (first, second);
+        let r = unsafe {
+            c::ceiling_better_of(self.0.as_ptr(), table.as_ptr(), table.len(), a.as_ptr(), a.len(), b.as_ptr(), b.len())
+        };
+        answer(r.number, 0, if r.choice == 0 { first } else { second })
+    }
+}
+
+impl Replay {
+    /// A replay that begins with these starting weights.
+    pub fn start(case: &Case, table: &[i64]) -> Result<Replay, Refused> {
+        let mut replay = Replay([0; RECORD]);
+        let number = unsafe { c::ceiling_replay_start(case.0.as_ptr(), table.as_ptr(), table.len(), replay.0.as_mut_ptr()) };
+        answer(number, 0, replay)
+    }
+
+    /// A record from bytes that were kept (docs/LIBRARY.md, What a record is worth).
+    pub fn from_bytes(bytes: [u8; RECORD]) -> Replay {
+        Replay(bytes)
+    }
+
+    /// The record's bytes.
+    pub fn bytes(&self) -> &[u8; RECORD] {
+        &self.0
+    }
+
+    /// Whole lines, on the table that the last call left; bytes of a part line at the end are not looked at. How many lines, or the first
+    /// refusal and its line in this block.
+    pub fn lines(&mut self, case: &Case, table: &mut [i64], lines: &[u8]) -> Result<usize, Refused> {
+        let (t, record) = (table.len(), self.0.as_mut_ptr());
+        let r = unsafe { c::ceiling_replay_lines(case.0.as_ptr(), table.as_mut_ptr(), t, record, lines.as_ptr(), lines.len()) };
+        answer(r.number, r.lines, r.lines)
+    }
+
+    /// The end of the log: its rounds. `part` is how many bytes of a part line are left after the last whole line.
+    pub fn end(&self, case: &Case, part: usize) -> Result<u64, Refused> {
+        let r = unsafe { c::ceiling_replay_end(case.0.as_ptr(), self.0.as_ptr(), part) };
+        answer(r.number, 0, r.rounds)
+    }
+}
