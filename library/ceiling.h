@@ -1,8 +1,8 @@
 /* The ceiling library: a checker and an engine for channel plans. docs/LIBRARY.md has the layouts and the numbers.
  *
  * Every answer has a number: 0, or why the call was refused, 1 to 14. Every function returns on all contents; of its pointers it asks that
- * none is null, also where the length is 0, that each is aligned for its type and points to as many elements as its length or its array says,
- * and that nothing a call writes overlaps another argument.
+ * each is aligned for its type and points to as many elements as its length or its array says, and that nothing a call writes overlaps
+ * another argument. Where a length is 0 the pointer may be null or anything (see the end).
  *
  * The checker's functions are in libchecker_library.a, the engine's in libengine_library.a. The checker's need nothing of the engine's.
  */
@@ -16,6 +16,9 @@
 extern "C" {
 #endif
 
+/* The version that this header is of: major * 10000 + minor * 100 + patch. */
+#define CEILING_VERSION 10000
+
 /* A case and the replay's record as bytes. */
 #define CEILING_CASE 216
 #define CEILING_RECORD 196
@@ -23,6 +26,9 @@ extern "C" {
 /* The bytes of a line, and room for the lines of any round. */
 #define CEILING_LINE 27
 #define CEILING_ROOM 3915
+
+/* No call takes more bytes of stack. */
+#define CEILING_STACK 16384
 
 struct ceiling_size_answer { uint64_t number; size_t n, d, m, table; };
 struct ceiling_lines_answer { uint64_t number; size_t lines; };
@@ -34,6 +40,9 @@ struct ceiling_round_answer { uint64_t number; size_t bytes; int64_t bound; };
 struct ceiling_run_answer { uint64_t number, limit, rounds; int64_t bound; };
 
 /* ---- the checker */
+
+/* The version of libchecker_library.a. */
+uint64_t ceiling_version(void);
 
 /* What the head of a case file says: links, channels, pairs, and how many weights the case's table has. */
 struct ceiling_size_answer ceiling_case_size(const uint8_t *text, size_t text_length);
@@ -73,6 +82,9 @@ struct ceiling_span_answer ceiling_round_span(const uint8_t *log, size_t log_len
 
 /* ---- the engine */
 
+/* The version of libengine_library.a. */
+uint64_t ceiling_engine_version(void);
+
 /* One round: its lines from the output's first byte, how many bytes, and the ceiling. No bytes and number 0: settled, and `bound` says
  * nothing then: ask ceiling_upper_bound. */
 struct ceiling_round_answer ceiling_round(const uint8_t case_bytes[CEILING_CASE], int64_t *table, size_t table_length,
@@ -82,6 +94,91 @@ struct ceiling_round_answer ceiling_round(const uint8_t case_bytes[CEILING_CASE]
  * Refused by 11, the earlier rounds stand. */
 struct ceiling_run_answer ceiling_run(const uint8_t case_bytes[CEILING_CASE], int64_t *table, size_t table_length,
                                       uint8_t *out, size_t out_length, uint64_t limit);
+
+/* ---- null pointers
+ *
+ * The libraries' own functions ask for pointers that are not null, also where the length is 0. So in a program that includes this header the
+ * names above stand for the functions below: where a length is 0 they hand on a pointer of their own, through which nothing is read or
+ * written. A caller that has the symbols by another way (dlsym, another language) hands over no null. */
+
+static inline struct ceiling_size_answer ceiling_case_size_or_empty(const uint8_t *text, size_t text_length) {
+    uint8_t none = 0;
+    return ceiling_case_size(text_length ? text : &none, text_length);
+}
+
+static inline struct ceiling_lines_answer ceiling_read_case_or_empty(const uint8_t *text, size_t text_length,
+                                                                     uint8_t case_bytes[CEILING_CASE], int64_t *table, size_t table_length) {
+    uint8_t none = 0;
+    int64_t no_weight = 0;
+    return ceiling_read_case(text_length ? text : &none, text_length, case_bytes, table_length ? table : &no_weight, table_length);
+}
+
+static inline struct ceiling_total_answer ceiling_upper_bound_or_empty(const uint8_t case_bytes[CEILING_CASE], const int64_t *table,
+                                                                       size_t table_length) {
+    int64_t no_weight = 0;
+    return ceiling_upper_bound(case_bytes, table_length ? table : &no_weight, table_length);
+}
+
+static inline struct ceiling_total_answer ceiling_objective_or_empty(const uint8_t case_bytes[CEILING_CASE], const int64_t *table,
+                                                                     size_t table_length, const uint8_t *plan, size_t plan_length) {
+    uint8_t none = 0;
+    int64_t no_weight = 0;
+    return ceiling_objective(case_bytes, table_length ? table : &no_weight, table_length, plan_length ? plan : &none, plan_length);
+}
+
+static inline struct ceiling_choice_answer ceiling_better_of_or_empty(const uint8_t case_bytes[CEILING_CASE], const int64_t *table,
+                                                                      size_t table_length, const uint8_t *first, size_t first_length,
+                                                                      const uint8_t *second, size_t second_length) {
+    uint8_t none = 0;
+    int64_t no_weight = 0;
+    return ceiling_better_of(case_bytes, table_length ? table : &no_weight, table_length, first_length ? first : &none, first_length,
+                             second_length ? second : &none, second_length);
+}
+
+static inline uint64_t ceiling_replay_start_or_empty(const uint8_t case_bytes[CEILING_CASE], const int64_t *table, size_t table_length,
+                                                     uint8_t record[CEILING_RECORD]) {
+    int64_t no_weight = 0;
+    return ceiling_replay_start(case_bytes, table_length ? table : &no_weight, table_length, record);
+}
+
+static inline struct ceiling_lines_answer ceiling_replay_lines_or_empty(const uint8_t case_bytes[CEILING_CASE], int64_t *table,
+                                                                        size_t table_length, uint8_t record[CEILING_RECORD],
+                                                                        const uint8_t *lines, size_t lines_length) {
+    uint8_t none = 0;
+    int64_t no_weight = 0;
+    return ceiling_replay_lines(case_bytes, table_length ? table : &no_weight, table_length, record, lines_length ? lines : &none,
+                                lines_length);
+}
+
+static inline struct ceiling_span_answer ceiling_round_span_or_empty(const uint8_t *log, size_t log_length, uint64_t round) {
+    uint8_t none = 0;
+    return ceiling_round_span(log_length ? log : &none, log_length, round);
+}
+
+static inline struct ceiling_round_answer ceiling_round_or_empty(const uint8_t case_bytes[CEILING_CASE], int64_t *table, size_t table_length,
+                                                                 uint8_t *out, size_t out_length) {
+    uint8_t none = 0;
+    int64_t no_weight = 0;
+    return ceiling_round(case_bytes, table_length ? table : &no_weight, table_length, out_length ? out : &none, out_length);
+}
+
+static inline struct ceiling_run_answer ceiling_run_or_empty(const uint8_t case_bytes[CEILING_CASE], int64_t *table, size_t table_length,
+                                                             uint8_t *out, size_t out_length, uint64_t limit) {
+    uint8_t none = 0;
+    int64_t no_weight = 0;
+    return ceiling_run(case_bytes, table_length ? table : &no_weight, table_length, out_length ? out : &none, out_length, limit);
+}
+
+#define ceiling_case_size ceiling_case_size_or_empty
+#define ceiling_read_case ceiling_read_case_or_empty
+#define ceiling_upper_bound ceiling_upper_bound_or_empty
+#define ceiling_objective ceiling_objective_or_empty
+#define ceiling_better_of ceiling_better_of_or_empty
+#define ceiling_replay_start ceiling_replay_start_or_empty
+#define ceiling_replay_lines ceiling_replay_lines_or_empty
+#define ceiling_round_span ceiling_round_span_or_empty
+#define ceiling_round ceiling_round_or_empty
+#define ceiling_run ceiling_run_or_empty
 
 #ifdef __cplusplus
 }

@@ -641,7 +641,40 @@ static void engine_faults(void) {
     }
 }
 
+/* ---- the version, and null pointers with length 0 */
+
+static void versions(void) {
+    test("ceiling_version", "the header's", ceiling_version() == CEILING_VERSION);
+    test("ceiling_engine_version", "the header's", ceiling_engine_version() == CEILING_VERSION);
+}
+
+/* A case and a log of no bytes, a table and an output of no elements, a plan of none: answered as what is empty. */
+static void nulls(void) {
+    uint8_t bytes[CEILING_CASE], text[TEXT], record[CEILING_RECORD], plan[2] = {0, 0};
+    int64_t table[8];
+    case_of(&P4, bytes);
+    memcpy(table, P4.table, sizeof table);
+    size_t length = put_case(&P4, text);
+    test("ceiling_case_size", "null", ceiling_case_size(NULL, 0).number == 14);
+    test("ceiling_read_case", "null text", ceiling_read_case(NULL, 0, bytes, table, 8).number == 14);
+    test("ceiling_read_case", "null table", ceiling_read_case(text, length, bytes, NULL, 0).number == 4);
+    test("ceiling_upper_bound", "null", ceiling_upper_bound(bytes, NULL, 0).number == 4);
+    test("ceiling_objective", "null table", ceiling_objective(bytes, NULL, 0, plan, 2).number == 4);
+    test("ceiling_objective", "null plan", ceiling_objective(bytes, table, 8, NULL, 0).number == 4);
+    test("ceiling_better_of", "null table", ceiling_better_of(bytes, NULL, 0, plan, 2, plan, 2).number == 4);
+    test("ceiling_better_of", "null plans", ceiling_better_of(bytes, table, 8, NULL, 0, NULL, 0).number == 4);
+    test("ceiling_replay_start", "null", ceiling_replay_start(bytes, NULL, 0, record) == 4);
+    test("ceiling_replay_start", "a table", ceiling_replay_start(bytes, table, 8, record) == 0);
+    test("ceiling_replay_lines", "null lines", ceiling_replay_lines(bytes, table, 8, record, NULL, 0).number == 0);
+    test("ceiling_replay_lines", "null table", ceiling_replay_lines(bytes, NULL, 0, record, NULL, 0).number == 4);
+    test("ceiling_round_span", "null", ceiling_round_span(NULL, 0, 0).number == 5);
+    test("ceiling_round", "null table", ceiling_round(bytes, NULL, 0, text, sizeof text).number == 4);
+    test("ceiling_round", "null output", ceiling_round(bytes, table, 8, NULL, 0).number == 4);
+    test("ceiling_run", "null", ceiling_run(bytes, NULL, 0, NULL, 0, 1).number == 4);
+}
+
 int main(void) {
+    versions(), nulls();
     sizes(), readings();
     ceilings(), totals(), choices();
     starts();

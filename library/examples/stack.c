@@ -1,0 +1,102 @@
+/* How much stack each function takes on a case of the largest size: each call runs on a stack of its own that was painted before, and the
+ * deepest byte that changed is looked for. Prints the bytes of each call; a call that takes more than CEILING_STACK failed. The count is the
+ * last line. */
+#include <stdio.h>
+#include <string.h>
+#include <ucontext.h>
+
+#include "ceiling.h"
+
+enum { LINKS = 48, CHANNELS = 8, PAIRS = 96, TABLE = LINKS * CHANNELS + PAIRS * CHANNELS * CHANNELS };
+enum { TEXT = (1 + TABLE + PAIRS) * CEILING_LINE, STACK = 1 << 18, PAINT = 0xa5 };
+
+static uint8_t text[TEXT], bytes[CEILING_CASE], record[CEILING_RECORD], out[CEILING_ROOM], log_lines[CEILING_ROOM], plan[LINKS];
+static int64_t start[TABLE], table[TABLE];
+static size_t logged;
+static uint64_t number; /* of the last call */
+
+static _Alignas(64) uint8_t stack[STACK];
+static ucontext_t home, there;
+
+/* ---- the case: among links 0, 1 and 2 only channels 0 and 1, if they differ, do not disturb each other. Two of the links always do: a round is
+ * made, and only a look at each channel alone shows that. */
+
+static size_t put_line(size_t at, int kind, int a, int b, int c, int amount) {
+    char line[64];
+    snprintf(line, sizeof line, "%2d%4d%4d%4d%12d\n", kind, a, b, c, amount);
+    memcpy(text + at, line, CEILING_LINE);
+    return at + CEILING_LINE;
+}
+
+static void put_case(void) {
+    size_t at = put_line(0, 10, LINKS, CHANNELS, PAIRS, 0);
+    for (int i = 0; i < LINKS; i++)
+        for (int k = 0; k < CHANNELS; k++) at = put_line(at, 11, i, k, 0, 0);
+    for (int e = 0, lower = 0, apart = 1; e < PAIRS; e++, lower++) {
+        if (lower + apart == LINKS) lower = 0, apart++;
+        at = put_line(at, 12, e, lower, lower + apart, 0);
+        for (int k = 0; k < CHANNELS; k++)
+            for (int l = 0; l < CHANNELS; l++) at = put_line(at, 13, e, k, l, lower + apart > 2 || (k != l && k < 2 && l < 2) ? 0 : -1);
+    }
+}
+
+/* ---- the calls */
+
+static void nothing(void) { number = 0; }
+static void version(void) { number = ceiling_version() != CEILING_VERSION; }
+static void case_size(void) { number = ceiling_case_size(text, TEXT).number; }
+static void read_case(void) { number = ceiling_read_case(text, TEXT, bytes, start, TABLE).number; }
+static void upper_bound(void) { number = ceiling_upper_bound(bytes, start, TABLE).number; }
+static void objective(void) { number = ceiling_objective(bytes, start, TABLE, plan, LINKS).number; }
+static void better_of(void) { number = ceiling_better_of(bytes, start, TABLE, plan, LINKS, plan, LINKS).number; }
+static void replay_start(void) { number = ceiling_replay_start(bytes, start, TABLE, record); }
+static void replay_lines(void) { number = ceiling_replay_lines(bytes, table, TABLE, record, log_lines, logged).number; }
+static void replay_end(void) { number = ceiling_replay_end(bytes, record, 0).number; }
+static void round_span(void) { number = ceiling_round_span(log_lines, logged, 0).number; }
+static void engine_version(void) { number = ceiling_engine_version() != CEILING_VERSION; }
+static void run(void) { number = ceiling_run(bytes, table, TABLE, out, CEILING_ROOM, 1).number; }
+
+static void one_round(void) {
+    struct ceiling_round_answer r = ceiling_round(bytes, table, TABLE, log_lines, CEILING_ROOM);
+    number = r.number;
+    logged = r.bytes;
+}
+
+/* The bytes of stack that a call takes. */
+static size_t taken(void (*call)(void)) {
+    memset(stack, PAINT, STACK);
+    getcontext(&there);
+    there.uc_stack.ss_sp = stack;
+    there.uc_stack.ss_size = STACK;
+    there.uc_link = &home;
+    makecontext(&there, call, 0);
+    swapcontext(&home, &there);
+    size_t deepest = 0;
+    while (deepest < STACK && stack[deepest] == PAINT) deepest++;
+    return STACK - deepest;
+}
+
+int main(void) {
+    static const struct {
+        const char *name;
+        void (*call)(void);
+    } rows[] = {
+        {"ceiling_version", version},           {"ceiling_case_size", case_size},       {"ceiling_read_case", read_case},
+        {"ceiling_upper_bound", upper_bound},   {"ceiling_objective", objective},       {"ceiling_better_of", better_of},
+        {"ceiling_replay_start", replay_start}, {"ceiling_engine_version", engine_version}, {"ceiling_round", one_round},
+        {"ceiling_run", run},                   {"ceiling_replay_lines", replay_lines}, {"ceiling_replay_end", replay_end},
+        {"ceiling_round_span", round_span},
+    };
+    unsigned passed = 0, failed = 0;
+    size_t before = taken(nothing);
+    put_case();
+    for (size_t i = 0; i < sizeof rows / sizeof *rows; i++) {
+        memcpy(table, start, sizeof table);
+        size_t most = taken(rows[i].call) - before;
+        printf("%6zu %s\n", most, rows[i].name);
+        if (number == 0 && most <= CEILING_STACK) passed++;
+        else failed++, printf("failed: %s: number %llu, %zu bytes of stack\n", rows[i].name, (unsigned long long)number, most);
+    }
+    printf("%u passed, %u failed\n", passed, failed);
+    return failed > 0;
+}
