@@ -296,14 +296,35 @@ fn versions(count: &mut Count) {
     count.test("engine_version", "this package's", engine_version() == number);
 }
 
+fn all(count: &mut Count) {
+    versions(count);
+    files(count);
+    totals(count);
+    replays(count);
+    views(count);
+    engine(count);
+}
+
+/// The same on four threads at once, each with little stack.
+fn at_once(count: &mut Count) {
+    let counted = || {
+        let mut own = Count::default();
+        all(&mut own);
+        own
+    };
+    std::thread::scope(|scope| {
+        let small = || std::thread::Builder::new().stack_size(65536);
+        let threads: Vec<_> = (0..4).map(|_| small().spawn_scoped(scope, counted).expect("a thread")).collect();
+        for thread in threads {
+            count.test("all", "on a thread", thread.join().is_ok_and(|own| own.failed == 0));
+        }
+    });
+}
+
 fn main() {
     let mut count = Count::default();
-    versions(&mut count);
-    files(&mut count);
-    totals(&mut count);
-    replays(&mut count);
-    views(&mut count);
-    engine(&mut count);
+    all(&mut count);
+    at_once(&mut count);
     println!("{} passed, {} failed", count.passed, count.failed);
     std::process::exit((count.failed > 0) as i32);
 }
