@@ -19,13 +19,18 @@ extern "C" {
 /* The version that this header is of: major * 10000 + minor * 100 + patch. */
 #define CEILING_VERSION 10000
 
-/* A case and the replay's record as bytes. */
-#define CEILING_CASE 216
-#define CEILING_RECORD 196
-
-/* The bytes of a line, and room for the lines of any round. */
+/* The most links, channels and pairs of a case, and the bytes of a line. */
+#define CEILING_LINKS 48
+#define CEILING_CHANNELS 8
+#define CEILING_PAIRS 96
 #define CEILING_LINE 27
-#define CEILING_ROOM 3915
+
+/* A case and the replay's record as bytes. */
+#define CEILING_CASE (24 + 2 * CEILING_PAIRS)
+#define CEILING_RECORD (52 + CEILING_LINKS + CEILING_PAIRS)
+
+/* Room for the lines of any round. */
+#define CEILING_ROOM (CEILING_LINE * (CEILING_LINKS + CEILING_PAIRS + 1))
 
 /* No call takes more bytes of stack. */
 #define CEILING_STACK 16384

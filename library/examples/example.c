@@ -81,7 +81,7 @@ int main(int count, char **arguments) {
     }
 
     /* Every link on channel 0, or the channels in turn. */
-    uint8_t first[48], second[48];
+    uint8_t first[CEILING_LINKS], second[CEILING_LINKS];
     for (size_t i = 0; i < size.n; i++) {
         first[i] = 0;
         second[i] = (uint8_t)(i % size.d);

@@ -7,8 +7,8 @@
 
 #include "ceiling.h"
 
-enum { LINKS = 48, CHANNELS = 8, PAIRS = 96, TABLE = LINKS * CHANNELS + PAIRS * CHANNELS * CHANNELS };
-enum { TEXT = (1 + TABLE + PAIRS) * CEILING_LINE, STACK = 1 << 18, PAINT = 0xa5 };
+enum { LINKS = CEILING_LINKS, CHANNELS = CEILING_CHANNELS, PAIRS = CEILING_PAIRS };
+enum { TABLE = LINKS * CHANNELS + PAIRS * CHANNELS * CHANNELS, TEXT = (1 + TABLE + PAIRS) * CEILING_LINE, STACK = 1 << 18, PAINT = 0xa5 };
 
 static uint8_t text[TEXT], bytes[CEILING_CASE], record[CEILING_RECORD], out[CEILING_ROOM], log_lines[CEILING_ROOM], plan[LINKS];
 static int64_t start[TABLE], table[TABLE];

@@ -9,8 +9,9 @@ fn main() {
     let engine = env::var_os("CARGO_FEATURE_ENGINE").is_some();
     let names = if engine { vec!["checker_library", "engine_library"] } else { vec!["checker_library"] };
     println!("cargo:rerun-if-changed=build.rs");
-    println!("cargo:rerun-if-env-changed=CEILING_LIB_DIR");
-    println!("cargo:rerun-if-env-changed=PKG_CONFIG_PATH");
+    for variable in ["CEILING_LIB_DIR", "PKG_CONFIG_PATH", "PKG_CONFIG_LIBDIR"] {
+        println!("cargo:rerun-if-env-changed={variable}");
+    }
     for (key, wanted) in [("CARGO_CFG_TARGET_ARCH", "x86_64"), ("CARGO_CFG_TARGET_OS", "linux")] {
         let target = env::var(key).unwrap_or_default();
         if target != wanted {

@@ -2,7 +2,7 @@
 
 import os
 
-from installing.contents import Link
+from installing.contents import File, Link
 
 LIST = "lib/ceiling/installed"
 
@@ -38,8 +38,12 @@ class Place:
             if os.path.lexists(self.at(path)):
                 raise Foreign(f"{self.at(path)} is there and was not installed by this script")
         folders = {path for path in before if path.endswith("/")} | self.missing_folders(paths)
-        os.makedirs(os.path.dirname(self.at(LIST)), mode=0o755, exist_ok=True)
-        self.write_list(before | paths | folders)
+        try:
+            os.makedirs(os.path.dirname(self.at(LIST)), mode=0o755, exist_ok=True)
+            self.write_list(before | paths | folders)
+        except BaseException:
+            self.remove_folders(folders - before)
+            raise
         for path in sorted(contents):
             os.makedirs(os.path.dirname(self.at(path)), mode=0o755, exist_ok=True)
             self.put_one(path, contents[path])
@@ -71,10 +75,15 @@ class Place:
             raise
 
     def write_list(self, paths):
-        new = self.at(LIST) + ".new"
-        with open(new, "w", encoding="utf-8") as file:
-            file.write("".join(path + "\n" for path in sorted(paths)))
-        os.replace(new, self.at(LIST))
+        self.put_one(LIST, File("".join(path + "\n" for path in sorted(paths)).encode(), 0o644))
+
+    def remove_folders(self, folders):
+        """Those of them that are empty, the deepest first."""
+        for folder in sorted(folders - {"./"}, reverse=True) + sorted(folders & {"./"}):
+            try:
+                os.rmdir(os.path.normpath(self.at(folder)))
+            except OSError:
+                pass  # others have something in it, or it is not there
 
     def clear(self):
         """Takes away what the list names: files, then the list, then folders that are empty."""
@@ -85,11 +94,7 @@ class Place:
         for path in sorted(listed - folders - {LIST}):
             remove_file(self.at(path))
         remove_file(self.at(LIST))
-        for folder in sorted(folders - {"./"}, reverse=True) + sorted(folders & {"./"}):
-            try:
-                os.rmdir(os.path.normpath(self.at(folder)))
-            except OSError:
-                pass  # others have something in it
+        self.remove_folders(folders)
 
 
 def remove_file(path):

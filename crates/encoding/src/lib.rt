@@ -1,5 +1,5 @@
-// The case and the replay's record as bytes of fixed size, in which they cross to other languages. What each byte says is defined in specs/, and
-// the version of the functions that take them.
+// The case and the replay's record as bytes of fixed size, in which they cross to other languages, and the version of the functions that take
+// them. What each byte says is defined in specs/.
 use checker::Due;
 use checker::LastRaised;
 use checker::Replay;

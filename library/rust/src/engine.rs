@@ -1,9 +1,9 @@
 //! The engine's calls: libengine_library.a.
 
-use crate::{answer, c, Case, Refused};
+use crate::{answer, c, Case, Refused, LINE, LINKS, PAIRS};
 
 /// Room for the lines of any round.
-pub const ROOM: usize = 3915;
+pub const ROOM: usize = LINE * (LINKS + PAIRS + 1);
 
 /// A round that was made.
 #[derive(Clone, Copy, Debug, PartialEq, Eq)]

@@ -50,14 +50,23 @@ mod engine;
 #[cfg(feature = "engine")]
 pub use engine::{engine_version, Made, Run, ROOM};
 
+/// The most links of a case.
+pub const LINKS: usize = 48;
+
+/// The most channels.
+pub const CHANNELS: usize = 8;
+
+/// The most pairs.
+pub const PAIRS: usize = 96;
+
 /// The bytes of a line.
 pub const LINE: usize = 27;
 
 /// The bytes of a case.
-pub const CASE: usize = 216;
+pub const CASE: usize = 24 + 2 * PAIRS;
 
 /// The bytes of a replay's record.
-pub const RECORD: usize = 196;
+pub const RECORD: usize = 52 + LINKS + PAIRS;
 
 /// A case as the library reads it. The calls ask its limits: any bytes may be handed over.
 #[derive(Clone, Debug, PartialEq, Eq)]
