@@ -6,6 +6,15 @@ MOST_LINKS, MOST_CHANNELS, MOST_PAIRS = 48, 8, 96
 STARTING = 1_000_000
 
 
+def line_count(n, d, m):
+    """The lines of a case: head, link weights, and each pair with its weights."""
+    return 1 + n * d + m * (1 + d * d)
+
+
+# The bytes of the longest case.
+MOST_BYTES = LINE * line_count(MOST_LINKS, MOST_CHANNELS, MOST_PAIRS)
+
+
 class Case:
     def __init__(self, data, n, d, m):
         self.data = data
@@ -54,7 +63,7 @@ def read_head(lines):
     if kind != 10 or amount != 0:
         lines.refuse(0, "a case begins with its head, kind 10")
     if not (1 <= n <= MOST_LINKS and 1 <= d <= MOST_CHANNELS and 0 <= m <= MOST_PAIRS):
-        lines.refuse(0, "1 to 48 links, 1 to 8 channels and 0 to 96 pairs can be drawn")
+        lines.refuse(0, f"1 to {MOST_LINKS} links, 1 to {MOST_CHANNELS} channels and 0 to {MOST_PAIRS} pairs can be drawn")
     return Case(lines.data, n, d, m)
 
 
@@ -67,7 +76,7 @@ def place(lines, at, due):
 def weight(lines, at, case):
     amount = lines.read(at)[4]
     if abs(amount) > STARTING:
-        lines.refuse(at, "a starting weight lies between -1,000,000 and 1,000,000")
+        lines.refuse(at, f"a starting weight lies between {-STARTING:,} and {STARTING:,}")
     case.weights.append(amount)
 
 

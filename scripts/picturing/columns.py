@@ -4,8 +4,12 @@ import re
 
 LINE = 27
 COLUMNS = ((0, 2), (2, 6), (6, 10), (10, 14), (14, 26))
+WIDTHS = [str(end - start) for start, end in COLUMNS]
+SHAPE = f"columns of {', '.join(WIDTHS[:-1])} and {WIDTHS[-1]} characters"
 NUMBER = re.compile(rb" *(0|-?[1-9][0-9]*)")
 FORM = b"".join(b"%%%dd" % (end - start) for start, end in COLUMNS) + b"\n"
+# Numbers of a file that are remembered, so that the same columns are not read again.
+REMEMBERED = 100_000
 
 
 def line(kind, a=0, b=0, c=0, amount=0):
@@ -55,7 +59,7 @@ class Lines:
         if len(text) < LINE:
             self.refuse(line, "the file stops here")
         if text[LINE - 1] != 10:
-            self.not_in_columns(line, "byte 27 is no line feed")
+            self.not_in_columns(line, f"byte {LINE} is no line feed")
         return [self.number(line, text[start:end]) for start, end in COLUMNS]
 
     def number(self, line, column):
@@ -63,5 +67,7 @@ class Lines:
         if found is None:
             if not NUMBER.fullmatch(column):
                 self.not_in_columns(line, "a column holds no number at its right edge")
+            if len(self.known) >= REMEMBERED:
+                self.known.clear()
             found = self.known[column] = int(column)
         return found

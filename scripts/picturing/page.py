@@ -4,7 +4,7 @@ import os
 from html import escape
 
 from .axes import number
-from .columns import LINE
+from .columns import LINE, SHAPE
 from .curve import curve
 from .network import network
 
@@ -32,18 +32,26 @@ def counted(count, one):
     return f"{number(count)} {one}{'' if count == 1 else 's'}"
 
 
-def refusal(names, refused):
+def judged(judgement):
+    """The line of `replay`, where it was asked."""
+    if judgement is None:
+        return ""
+    style = "good" if judgement.startswith("accepted") else "stop"
+    return f'<p class="{style}"><strong>The judgement of <code>replay</code>: <code>{escape(judgement)}</code></strong></p>\n'
+
+
+def refusal(names, refused, judgement=None):
     """The page for a line that cannot be read: nothing is drawn."""
     name = names[0] if refused.file == "case" else names[1]
     title = f"No picture: line {refused.line} of the {refused.file} cannot be read"
     return frame(
         title,
-        f"<h1>{title}</h1>\n"
+        f"<h1>{title}</h1>\n{judged(judgement)}"
         f"<p>The file is {escape(name)}, its lines counted from 0. In case and log together, "
         f"as <code>replay</code> counts, it is line {number(refused.input_line)}.</p>\n"
         f'<p class="stop">{escape(refused.why[0].upper() + refused.why[1:])}.</p>\n'
         f'<pre class="raw">{shown(refused.raw)}</pre>\n'
-        "<p>A line has 27 bytes: columns of 2, 4, 4, 4 and 12 characters (kind, a, b, c, amount) "
+        f"<p>A line has {LINE} bytes: {SHAPE} (kind, a, b, c, amount) "
         "and a line feed. Each column holds a whole number at its right edge, filled up with "
         "spaces on the left, without leading zeros. The case comes first on the command line, "
         "the log second.</p>",
@@ -59,9 +67,9 @@ def shown(raw):
     return escape("".join(c if c.isprintable() else repr(c)[1:-1] for c in text))
 
 
-def picture(names, case, log):
+def picture(names, case, log, judgement=None):
     body = [
-        head(names, case, log),
+        head(names, case, log, judgement),
         stop(log),
         drawings(case, log),
         rounds(case, log),
@@ -71,13 +79,13 @@ def picture(names, case, log):
     return frame(f"Ceiling of {names[0]}", "\n".join(body))
 
 
-def head(names, case, log):
+def head(names, case, log, judgement):
     first, last = log.ceilings[0], log.ceilings[-1]
     facts = [
         ("links", number(case.n)),
         ("channels for each link", number(case.d)),
         ("pairs", number(case.m)),
-        ("log lines", number(log.lines.count)),
+        ("log lines" if log.stopped is None else "log lines read", number(log.lines.count)),
         ("rounds" if log.stopped is None else "rounds drawn", number(log.rounds)),
         ("ceiling at the start", number(first)),
         ("ceiling at the end" if log.stopped is None else "ceiling after them", number(last)),
@@ -89,10 +97,18 @@ def head(names, case, log):
         f"<p>The case sheet {escape(names[0])} beside the log {escape(names[1])}: the network, how "
         "far each round lowers the ceiling that no plan\u2019s total can pass, and for every line "
         f"of a round the rows of the sheet that it touches.</p>\n<dl>{cells}</dl>\n"
+        f"{judged(judgement)}{warning(names, judgement)}"
+    )
+
+
+def warning(names, judgement):
+    judge = "is what <code>replay</code> judged above."
+    if judgement is None:
+        judge = f"is judged by <code>replay</code>: <code>cat {escape(names[0])} {escape(names[1])} | replay</code>"
+    return (
         '<p class="warning"><strong>This page is a picture and no proof.</strong> It adds the '
         "weights up by itself, but it does not ask whether a press was allowed. Whether the log "
-        "may be trusted is judged by <code>replay</code>: "
-        f"<code>cat {escape(names[0])} {escape(names[1])} | replay</code></p>"
+        f"may be trusted {judge}</p>"
     )
 
 

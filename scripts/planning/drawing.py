@@ -1,0 +1,49 @@
+"""`ceiling picture`: the page of scripts/picture with the judgement of `replay`."""
+
+import os
+
+from picturing import page
+from picturing.case import read_case
+from picturing.columns import LINE, Refused
+from picturing.log import read_log
+
+from . import outputs
+from .judging import judge_case, judge, line
+from .places import Place
+from .rules import RULES
+from .sources import Source
+from .standard import say
+
+
+def run(options):
+    case, log = Source(options.case), Source(options.log)
+    result = outputs.output(options.output)
+    names = [os.path.basename(source.label) for source in (case, log)]
+    verdict = judge_case(case)
+    if verdict.accepted:
+        verdict = judge(case.chunks(), log.chunks())
+        text = draw(names, case, log, verdict)
+    else:
+        refused = turned_back("case", Place(case, verdict.second, verdict.second, None, 0), verdict)
+        text = page.refusal(names, refused, line(verdict))
+    result.write(text.encode("utf-8", "replace"))
+    outputs.put_in_place(result)
+    say(line(verdict))
+    return 0 if verdict.accepted else 1
+
+
+def draw(names, case, log, verdict):
+    """The page of a case and a log; of a refused log the lines before the refused one."""
+    sheet = read_case(case.front())
+    if verdict.accepted:
+        return page.picture(names, sheet, read_log(sheet, b"".join(log.chunks())), line(verdict))
+    at = verdict.second - len(case.front()) // LINE
+    moves = read_log(sheet, b"".join(log.blocks(0, at * LINE)))
+    moves.stopped = turned_back("log", Place(log, at, verdict.second, None, 0), verdict)
+    return page.picture(names, sheet, moves, line(verdict))
+
+
+def turned_back(file, place, verdict):
+    """The refused line as the page shows it."""
+    why = f"number {verdict.first}, {RULES[verdict.first][0]}" if verdict.first in RULES else f"number {verdict.first}"
+    return Refused(file, place.line, place.counted, place.raw, why)

@@ -1,0 +1,85 @@
+"""`ceiling explain`: the judgement of `replay` in words."""
+
+from picturing.case import read_case
+from picturing.columns import LINE, Refused
+
+from . import standard
+from .in_case import Sheet
+from .judging import judge, judge_case
+from .places import Place
+from .reason import reason
+from .reasons import find
+from .rules import RULES, counted
+from .sources import Source
+
+
+def run(options):
+    case = Source(options.case)
+    log = Source(options.log) if options.log is not None else None
+    verdict = judge_case(case) if log else judge(case.chunks())
+    if log and verdict.accepted:
+        start, verdict = verdict, judge(case.chunks(), log.chunks())
+        words = accepted_log(start, verdict) if verdict.accepted else refused(log_place(case, log, verdict), verdict)
+    else:
+        words = accepted_case(case, verdict) if verdict.accepted else refused(case_place(case, verdict), verdict)
+    standard.write(verdict.printed)
+    for line in words:
+        standard.write(standard.encoded(line + "\n"))
+    return 0 if verdict.accepted else 1
+
+
+def accepted_log(start, verdict):
+    rounds, ceiling = verdict.first, verdict.second
+    if rounds == 0:
+        yield f"The log has no rounds: the ceiling stays {ceiling}, what it is at the start."
+    else:
+        yield f"The log is accepted: {'1 round lowers' if rounds == 1 else f'{rounds} rounds lower'} the ceiling from {start.second} to {ceiling}."
+    yield f"No plan's total is above {ceiling}."
+
+
+def accepted_case(case, verdict):
+    sheet = Sheet(case.front())
+    sizes = ((sheet.n, "link"), (sheet.d, "channel"), (sheet.m, "pair"), (sheet.count, "line"))
+    size = ", ".join(counted(count, name) for count, name in sizes)
+    if verdict.first == 0:
+        yield f"The case is valid: {size}."
+        yield f"Its ceiling at the start is {verdict.second}: no plan's total is above it. `ceiling press` lowers it."
+        return
+    yield f"The file holds a case ({size}) and after it a log. Other commands take the case alone."
+    yield from accepted_log(judge([case.front()[: sheet.count * LINE]]), verdict)
+
+
+def log_place(case, log, verdict):
+    lines = len(case.front()) // LINE
+    return Place(log, verdict.second - lines, verdict.second, case.front(), 0)
+
+
+def case_place(case, verdict):
+    """The place in a case, or in a log that follows it in the same file."""
+    front, line = case.front(), verdict.second
+    whole = front[: whole_case(front) * LINE]
+    if whole and line >= len(whole) // LINE:
+        return Place(case, line, line, whole, len(whole) // LINE)
+    return Place(case, line, line, None, 0)
+
+
+def whole_case(front):
+    """The lines of the case at the front of a file; 0 where it is no valid one."""
+    try:
+        count = Sheet(front).count
+        read_case(front[: count * LINE])
+    except Refused:
+        return 0
+    return count
+
+
+def refused(place, verdict):
+    number = verdict.first
+    name, general = RULES.get(number, ("this tree's words do not know it", ""))
+    found = find(number, place) or reason(0, general)
+    yield f"Rule {number}: {name}."
+    yield place.words(found.offset)
+    yield from place.shown(found.offset)
+    yield from found.words
+    if place.before:
+        yield f"The file holds more than the case, which ends with line {place.before}; what follows was read as a log."

@@ -1,0 +1,126 @@
+"""Why a line of a case was refused."""
+
+from picturing.case import MOST_CHANNELS, MOST_LINKS, MOST_PAIRS, STARTING, line_count
+from picturing.columns import COLUMNS, Lines
+
+from .reason import reason
+from .rules import NAMES, UNUSED, kind_named
+
+
+def edge(column):
+    """Where the last digit of a column stands."""
+    return COLUMNS[column][1] - 1
+
+
+class Sheet:
+    """A case as far as it goes: its head, and what is due at each line."""
+
+    def __init__(self, front):
+        self.lines = Lines("case", front)
+        self.n, self.d, self.m = self.lines.read(0)[1:4]
+
+    @property
+    def count(self):
+        return line_count(self.n, self.d, self.m)
+
+    def pair_line(self, pair):
+        return 1 + self.n * self.d + pair * (1 + self.d * self.d)
+
+    def due(self, line):
+        """Kind, a, b and c that are due; None where any link may stand."""
+        if line < self.pair_line(0):
+            return [11, (line - 1) // self.d, (line - 1) % self.d, 0]
+        pair, rest = divmod(line - self.pair_line(0), 1 + self.d * self.d)
+        if rest == 0:
+            return [12, pair, None, None]
+        return [13, pair, (rest - 1) // self.d, (rest - 1) % self.d]
+
+    def due_words(self, line):
+        """What is due at a line, in words."""
+        kind, a, b, c = self.due(line)
+        here = f"Line {line + 1}: here"
+        if kind == 11:
+            return f"{here} the weight of link {a}, channel {b} is due: kind 11, a {a}, b {b}"
+        if kind == 12:
+            return f"{here} the line of pair {a} is due: kind 12, a {a}, b its lower link, c its higher link"
+        return f"{here} the weight of pair {a}, channels {b} and {c} is due: kind 13, a {a}, b {b}, c {c}"
+
+
+def unused(numbers):
+    """A column that its kind does not use and that is not 0."""
+    for column in UNUSED.get(numbers[0], ()):
+        if numbers[column] != 0:
+            return reason(edge(column), f"Column {NAMES[column]} holds {numbers[column]}; {kind_named(numbers[0])} does not use it, so 0 is due.")
+    return None
+
+
+def in_head(number, front):
+    """The reason at the first line."""
+    numbers = Lines("case", front).read(0)
+    kind, n, d, m, _ = numbers
+    if number == 2 and kind != 10:
+        more = ["A log begins like this: are case and log given in the wrong order?"] if kind in (1, 2, 4) else []
+        return reason(edge(0), f"A case begins with its head, kind 10; here stands {kind_named(kind)}.", *more)
+    if number == 2:
+        return unused(numbers)
+    limits = ((1, n, 1, MOST_LINKS, "links"), (2, d, 1, MOST_CHANNELS, "channels"), (3, m, 0, MOST_PAIRS, "pairs"))
+    if number == 3:
+        for column, value, least, most, name in limits:
+            if not least <= value <= most:
+                return reason(edge(column), f"{value} {name} in column {NAMES[column]}: there may be {least} to {most}.")
+    return None
+
+
+def in_case(number, front, line):
+    """The reason at a line of the case that is there in whole, other than 1."""
+    if line == 0:
+        return in_head(number, front)
+    sheet = Sheet(front)
+    numbers, due = sheet.lines.read(line), sheet.due(line)
+    if number == 2:
+        if numbers[0] != due[0]:
+            return reason(edge(0), f"{sheet.due_words(line)}.", f"The line is {kind_named(numbers[0])}.")
+        return unused(numbers)
+    if number == 5:
+        return misplaced(sheet, line, numbers, due)
+    if number == 6 and numbers[2] >= numbers[3]:
+        return descending(numbers)
+    if number == 7:
+        return paired(sheet, numbers)
+    if number == 8 and abs(numbers[4]) > STARTING:
+        return reason(edge(4), f"The weight is {numbers[4]}: between {-STARTING} and {STARTING} it would be right.")
+    return None
+
+
+def misplaced(sheet, line, numbers, due):
+    for column in (1, 2, 3):
+        if due[column] is not None and numbers[column] != due[column]:
+            words = f"Column {NAMES[column]} holds {numbers[column]}, {due[column]} is due."
+            return reason(edge(column), f"{sheet.due_words(line)}.", words)
+        if due[column] is None and not 0 <= numbers[column] < sheet.n:
+            return reason(edge(column), f"Column {NAMES[column]} names link {numbers[column]}: the case has the links 0 to {sheet.n - 1}.")
+    return None
+
+
+def descending(numbers):
+    first, second = numbers[2:4]
+    words = f"The pair names links {first} and {second}: the first has to be below the second."
+    turned = f"The other way round it would be right: b {second}, c {first}, and b and c exchanged in the pair's weights."
+    return reason(edge(2), words, turned if first > second else "A pair joins two different links.")
+
+
+def paired(sheet, numbers):
+    for pair in range(numbers[1]):
+        at = sheet.pair_line(pair)
+        if sheet.lines.read(at)[2:4] == numbers[2:4]:
+            return reason(edge(2), f"Links {numbers[2]} and {numbers[3]} are joined by pair {pair} already, in line {at + 1}.")
+    return None
+
+
+def case_ends(front, line):
+    """What is missing where the case ends before its last line."""
+    if line == 0:
+        head = "The head of a case is due: kind 10, a the number of links, b of channels, c of pairs."
+        return [head] if front else ["The file is empty.", head]
+    sheet = Sheet(front)
+    return [f"{sheet.due_words(line)}.", f"By its head the case has {sheet.count} lines: {sheet.count - line} missing."]

@@ -1,0 +1,81 @@
+"""`ceiling score`: the totals of plans, each the figure of `replay`."""
+
+import re
+
+from picturing.case import read_case
+from picturing.columns import line as case_line
+
+from . import standard
+from .failed import Failed
+from .judging import TurnedBack, judge, judge_case, judge_log, line, why
+from .sources import Source
+from .unfit import Unfit
+
+# No plan file is longer.
+MOST = 1 << 16
+SEPARATORS = re.compile(r"[\s,;]+")
+CHANNEL = re.compile(r"[0-9]{1,9}")
+
+
+def run(options):
+    case = Source(options.case, once=True)
+    plans = [Source(name) for name in options.plan]
+    log = Source(options.log, once=True) if options.log is not None else None
+    verdict = judge_case(case)
+    if not verdict.accepted:
+        standard.write(verdict.printed)
+        standard.say(why(case.name))
+        return 1
+    table = read_case(case.front())
+    channels = [read_plan(table, plan) for plan in plans]
+    totals = [total(table, plan) for plan in channels]
+    best = max(range(len(totals)), key=lambda at: (totals[at], -at))
+    text = [f"{figure} {plan.name}" for figure, plan in zip(totals, plans)]
+    text.append(f"best {text[best]}")
+    words = []
+    if log:
+        verdict = judge_log(case, log)
+        if not verdict.accepted:
+            raise TurnedBack(line(verdict), why(case.name, log.name))
+        text.append(f"ceiling {verdict.second}")
+        words.append(distance(verdict.second - totals[best]))
+    standard.write(standard.encoded("".join(f"{row}\n" for row in text)))
+    standard.say(*words)
+    return 0
+
+
+def read_plan(case, source):
+    """The channels of a plan, one for each link."""
+    text = source.whole(MOST).decode("utf-8-sig", "replace")
+    words = [word for word in SEPARATORS.split(text) if word]
+    if len(words) != case.n:
+        raise Unfit(f"{source.label}: {len(words)} channels, but the case has {case.n} links")
+    for link, word in enumerate(words):
+        if not CHANNEL.fullmatch(word) or int(word) >= case.d:
+            raise Unfit(f"{source.label}: link {link}: `{word[:40]}` is none of the channels 0 to {case.d - 1}")
+    return [int(word) for word in words]
+
+
+def total(case, plan):
+    """The ceiling of the case that has this plan alone."""
+    verdict = judge([alone(case, plan)])
+    if not verdict.accepted:
+        raise Failed(f"replay turned back a case of one plan: {line(verdict)}")
+    return verdict.second
+
+
+def alone(case, plan):
+    """The case with one channel for each link, the plan's."""
+    n, d = case.n, case.d
+    rows = [case_line(10, n, 1, case.m)]
+    rows += [case_line(11, link, 0, 0, case.weights[link * d + plan[link]]) for link in range(n)]
+    for pair, (low, high) in enumerate(case.pairs):
+        at = case.span(n + pair)[0] + plan[low] * d + plan[high]
+        rows += [case_line(12, pair, low, high), case_line(13, pair, 0, 0, case.weights[at])]
+    return b"".join(rows)
+
+
+def distance(below):
+    if below == 0:
+        return "the best plan meets the ceiling: no plan is better"
+    return f"the best plan is {below} below the ceiling"

@@ -1,0 +1,130 @@
+"""The help of `ceiling`."""
+
+ABOUT = """\
+A ceiling that no plan's total can pass, for channel plans of links: press a case,
+check and explain its log, score plans, and read and write other programs' files.
+
+commands:
+  press      make the log that lowers a case's ceiling
+             ceiling press samples/valley.case -o valley.log
+  check      judge a log
+             ceiling check samples/valley.case valley.log
+  explain    say in words what was accepted, or why a file was refused
+             ceiling explain samples/valley.case valley.log
+  picture    draw a case and its log as a page for the browser
+             ceiling picture samples/valley.case valley.log -o valley.html
+  score      the totals of plans, and how far the best is below the ceiling
+             ceiling score samples/triangle.case first.plan second.plan
+  from-csv   make a case of two spreadsheets, links and pairs
+             ceiling from-csv links.csv pairs.csv -o valley.case
+  to-csv     write a case as two spreadsheets
+             ceiling to-csv samples/valley.case links.csv pairs.csv
+  from-wcsp  make a case of a file of toulbar2
+             ceiling from-wcsp valley.wcsp -o valley.case
+  to-wcsp    write a case for toulbar2
+             ceiling to-wcsp samples/valley.case -o valley.wcsp
+
+`ceiling COMMAND --help` says more."""
+
+ENDING = """\
+Every judgement is a line of the verified programs `press` and `replay`, unchanged.
+A file argument `-` is standard input (one of them at most). Words go to standard error.
+An output file is complete or absent.
+
+exit status: 0 accepted, settled or converted; 1 refused, or a file that does not fit;
+2 a file could not be read or written, a program is missing or did not end by itself,
+or the command line is wrong. After a signal: 128 and its number.
+
+The programs are looked for in the folder that CEILING_PROGRAMS names, else beside the
+source tree or the installation."""
+
+# Of each command: its arguments, what it does, where things go, and examples.
+COMMANDS = {
+    "press": (
+        ["CASE", "-o LOG"],
+        """\
+Runs `press` on the case. Its log goes to LOG, or to standard output. `replay` judges it
+meanwhile: LOG is put in place only where it is accepted. The last line on standard
+error says how many rounds there are and what the ceiling is. On a terminal a long run
+shows the rounds so far and the falling ceiling.""",
+        "0 accepted, 1 the case was refused (nothing is written under LOG), 2 otherwise",
+        ["ceiling press samples/valley.case -o valley.log", "ceiling press - < samples/triangle.case > triangle.log"],
+    ),
+    "check": (
+        ["CASE", "LOG"],
+        """\
+Prints the judgement of `replay` on the log: `accepted ROUNDS CEILING`, or `refused N L`
+with the number of the rule and the line, counted from 0 through case and log. The case
+is judged alone first: no line of the log can stand in for one of the case.""",
+        "0 accepted, 1 refused, 2 otherwise",
+        ["ceiling check samples/valley.case valley.log", "ceiling press samples/triangle.case | ceiling check samples/triangle.case -"],
+    ),
+    "explain": (
+        ["CASE", "[LOG]"],
+        """\
+Prints the judgement of `replay` on the case, or on case and log as `check` does, and
+then what it means: what an accepted log shows; of a refused file the rule, the line as
+editors count it, the byte, and what would have been right.""",
+        "0 accepted, 1 refused, 2 otherwise",
+        ["ceiling explain samples/valley.case", "ceiling explain samples/valley.case valley.log"],
+    ),
+    "picture": (
+        ["CASE", "LOG", "-o PAGE"],
+        """\
+Writes an HTML page to PAGE, or to standard output: the network, the fall of the ceiling,
+and each round beside the rows of the case that it touches. The judgement of `replay` is
+on the page and is the last line on standard error.""",
+        "0 accepted, 1 refused (the page is written as far as it can be drawn), 2 otherwise",
+        ["ceiling picture samples/valley.case valley.log -o valley.html"],
+    ),
+    "score": (
+        ["CASE", "PLAN..", "--log LOG"],
+        """\
+A PLAN is a file of whole numbers: the channel of each link from link 0 on, separated by
+spaces, commas, semicolons or line ends. Prints `TOTAL NAME` for each plan and then
+`best TOTAL NAME`, the first of the best. With a log of the case, also `ceiling C`, and on
+standard error how far the best plan is below it.""",
+        "0 scored, 1 refused, or a plan does not fit the case, 2 otherwise",
+        [
+            "echo 0 1 0 | ceiling score samples/triangle.case -",
+            "ceiling score samples/triangle.case first.plan second.plan",
+            "ceiling score samples/triangle.case first.plan --log triangle.log",
+        ],
+    ),
+    "from-csv": (
+        ["LINKS", "PAIRS", "-o CASE"],
+        """\
+LINKS: a header row (a word, then the channels' names), then a row for each link: its
+name and its weight on each channel. PAIRS: a header row of five cells, then rows: two
+links, their two channels, and the weight; what no row names weighs 0. The separator is
+a comma, a semicolon or a tab. The case goes to CASE, or to standard output.""",
+        "0 converted, 1 a file cannot be converted (nothing is written), 2 otherwise",
+        ["ceiling from-csv links.csv pairs.csv -o valley.case", "ceiling from-csv links.csv pairs.csv | ceiling explain -"],
+    ),
+    "to-csv": (
+        ["CASE", "LINKS", "PAIRS"],
+        """\
+Writes the case as two spreadsheets: LINKS, a row for each link with its weight on each
+channel; PAIRS, a row for each two links and channels whose weight is not 0. Both files
+are written, or none.""",
+        "0 converted, 1 the case was refused (nothing is written), 2 otherwise",
+        ["ceiling to-csv samples/valley.case links.csv pairs.csv"],
+    ),
+    "from-wcsp": (
+        ["FILE", "-o CASE"],
+        """\
+Makes a case of a weighted CSP in toulbar2's text format. Costs are minimised there, so a
+weight is minus a cost; how totals and costs belong together is said on standard error.
+The case goes to CASE, or to standard output.""",
+        "0 converted, 1 the file cannot be converted (nothing is written), 2 otherwise",
+        ["ceiling from-wcsp valley.wcsp -o valley.case", "ceiling from-wcsp valley.wcsp | ceiling press -"],
+    ),
+    "to-wcsp": (
+        ["CASE", "-o FILE"],
+        """\
+Writes the case in toulbar2's text format, to FILE or to standard output. The cost of a
+plan is the ceiling minus its total; the number is said on standard error.""",
+        "0 converted, 1 the case was refused (nothing is written), 2 otherwise",
+        ["ceiling to-wcsp samples/valley.case -o valley.wcsp"],
+    ),
+}
