@@ -6,7 +6,7 @@ from collections import namedtuple
 from picturing.case import MOST_CHANNELS, MOST_LINKS, MOST_PAIRS, STARTING, read_case, write_case
 
 LARGEST = (MOST_LINKS, MOST_CHANNELS, MOST_PAIRS)
-# Weights by kind; the middle kind is the widest whose costs fit the weights again.
+# Weights by kind; the middle kind is the widest whose costs always fit the weights without being lifted.
 WEIGHTS = {
     "zero": lambda random: 0,
     "small": lambda random: random.randint(-9, 9),
@@ -23,13 +23,15 @@ class Case(namedtuple("Case", "values links pairs")):
         return write_case(*self)
 
     def lowered(self):
-        """Every scope lowered by its greatest weight."""
-        links = [[weight - max(weights) for weight in weights] for weights in self.links]
-        return Case(self.values, links, [(i, j, [weight - max(weights) for weight in weights]) for i, j, weights in self.pairs])
+        """Every scope lowered until its greatest weight is 0, or its least as low as it may be; and the sum of what they were lowered by."""
+        known = self.links + [weights for _, _, weights in self.pairs]
+        by = [min(max(weights), min(weights) + STARTING) for weights in known]
+        new = [[weight - less for weight in weights] for weights, less in zip(known, by)]
+        pairs = [(i, j, weights) for (i, j, _), weights in zip(self.pairs, new[len(self.links) :])]
+        return Case(self.values, new[: len(self.links)], pairs), sum(by)
 
-    def spread(self):
-        scopes = self.links + [weights for _, _, weights in self.pairs]
-        return max(max(weights) - min(weights) for weights in scopes)
+    def ceiling(self):
+        return sum(map(max, self.links + [weights for _, _, weights in self.pairs]))
 
     def total(self, plan):
         links = sum(weights[k] for weights, k in zip(self.links, plan))

@@ -20,18 +20,16 @@ def constant(said):
 
 
 def there_and_back(count, random):
-    """Back again each scope is lowered by its greatest weight, if that fits; the same file comes of it."""
+    """Back again each scope is lowered by its greatest weight, or by less where that would not fit; the same file comes of it."""
     for size in sizes(random):
         for kind in WEIGHTS:
             case = made(random, size, kind)
             name = f"to-wcsp, from-wcsp, {size} {kind}"
             text, said = wcsp.write("some.case", case.text())
-            count.test(f"{name}: C", constant(said) == sum(map(max, case.links + [weights for _, _, weights in case.pairs])))
-            if case.spread() > STARTING:
-                refuses(count, name, lambda: read(text), "FILE", "does not fit")
-                continue
+            count.test(f"{name}: C", constant(said) == case.ceiling())
             back, said = read(text)
-            count.test(name, back == case.lowered().text() and said == "total = 0 - cost")
+            lowered, by = case.lowered()
+            count.test(name, back == lowered.text() and said == f"total = {case.ceiling() - by} - cost")
             count.test(f"{name}, to-wcsp", wcsp.write("some.case", back)[0] == text)
 
 
@@ -94,6 +92,7 @@ BY_HAND = {
     "a constant": "p 1 2 3 99\n2\n0 5 0\n1 0 0 1\n1 3\n0 7 0\n",
     "a constant below 0": "p 1 2 2 99\n2\n0 -5 0\n1 0 0 1\n1 3\n",
     "a constant as a tuple": "p 1 2 2 99\n2\n0 5 1 7\n1 0 0 1\n1 3\n",
+    "costs far from 0": "p 2 2 2 9000000\n2 2\n1 0 1500000 1\n0 3400000\n2 0 1 0 4\n0 0 -1600000\n0 1 -1500000\n1 0 -1400000\n1 1 -1300000\n",
     "costs below 0": "p 2 2 2 99\n2 2\n1 0 0 2\n0 -3\n1 -1000\n2 0 1 2 1\n1 1 -9\n",
     "shared functions": "p 4 2 5 50\n2 2 2 2\n-2 0 1 1 1\n0 1 5\n-2 2 0 1 -1\n-2 1 2 0 1\n1 1 7\n2 1 3 0 -2\n2 3 2 1 -1\n",
     "a shared function of one variable": "p 2 2 2 50\n2 2\n-1 0 0 1 1 3\n1 1 0 -1\n",
@@ -160,12 +159,13 @@ def borders(count):
     many = grid(MOST_LINKS, 1, MOST_PAIRS + 1)
     refuses(count, "a pair of variables too many", lambda: read(many), f"FILE: line {MOST_PAIRS + 4}", f"more than {MOST_PAIRS} pairs")
     for sign in (1, -1):
-        converts(count, f"cost {sign * STARTING}", lambda: read(grid(2, 1, 1, sign * STARTING))[0])
-        far = sign * (STARTING + 1)
-        refuses(count, f"cost {far} of a value", lambda: read(grid(2, 1, 0, far)), "FILE: variable 0, 0:", str(far), str(STARTING))
-        pair = grid(2, 1, 1).replace("1 0 0 0\n", f"1 0 0 {far}\n")
-        refuses(count, f"cost {far} of a pair", lambda: read(pair), "FILE: variables 0 and 1, 0 and 0:", str(far))
-        refuses(count, f"cost {far} by two functions", lambda: read(grid(2, 1, 1, sign * (STARTING // 2 + 1), True)), str(sign * (STARTING + 2)))
+        keeps(count, f"cost {sign * STARTING}", grid(2, 2, 1, sign * STARTING))
+        keeps(count, f"cost {sign * 2 * STARTING}", grid(2, 2, 1, sign * 2 * STARTING))
+        far = sign * (2 * STARTING + 1)
+        refuses(count, f"cost {far} of a value", lambda: read(grid(2, 2, 0, far)), "FILE: variable 0:", str(far), str(STARTING))
+        pair = grid(2, 2, 1).replace("1 0 0 0\n", f"1 0 0 {far}\n")
+        refuses(count, f"cost {far} of a pair", lambda: read(pair), "FILE: variables 0 and 1:", str(far))
+        refuses(count, f"cost {far} by two functions", lambda: read(grid(2, 2, 1, sign * (STARTING + 1), True)), str(sign * (2 * STARTING + 2)))
 
 
 def barred_borders(count):

@@ -145,7 +145,12 @@ def reused(words, network, scope, default, number):
 
 def converted(name, network, top):
     values = max(network.sizes)
-    weights = {scope: weighed(name, scope, costs, top) for scope, costs in network.scopes.items()}
+    constant, weights = 0, {}
+    for scope, costs in network.scopes.items():
+        allowed = {combination: cost for combination, cost in costs.items() if cost < top}
+        lifted = lift(name, scope, allowed, top)
+        constant += lifted
+        weights[scope] = {combination: lifted - cost for combination, cost in allowed.items()}
     least = lawful_least(name, network, weights, values)
     tables = {
         scope: [known.get(combination, BARRED) for combination in itertools.product(range(values), repeat=len(scope))]
@@ -153,23 +158,23 @@ def converted(name, network, top):
     }
     links = [tables[(i,)] for i in range(len(network.sizes))]
     case = write_case(values, links, [(*pair, tables[pair]) for pair in network.pairs()])
-    said = f"total = {network.scopes[()][()]} - cost"
+    said = f"total = {constant} - cost"
     if least is not None:
         said += f"\nevery plan that uses a forbidden combination has a total below {least}, every other plan {least} or more"
     return case, said
 
 
-def weighed(name, scope, costs, top):
-    """The weight of each combination that is not forbidden; the constant's is not asked to fit."""
-    weights = {combination: -cost for combination, cost in costs.items() if cost < top}
-    if not weights:
+def lift(name, scope, allowed, top):
+    """What a scope's weights are above minus its costs, so that they fit: nothing if they do so. The constant goes whole."""
+    if not allowed:
         what = f"every cost of {variables(scope)}" if scope else "the constant"
         raise Unfit(f"{name}: {what} is at or above the upper bound {top}: no plan is allowed")
-    for combination, weight in weights.items():
-        if scope and abs(weight) > STARTING:
-            at = " and ".join(map(str, combination))
-            raise Unfit(f"{name}: {variables(scope)}, {at}: the cost {-weight} does not fit; weights lie within {STARTING} of 0")
-    return weights
+    least, most = min(allowed.values()), max(allowed.values())
+    if not scope:
+        return most
+    if most - least > 2 * STARTING:
+        raise Unfit(f"{name}: {variables(scope)}: the costs {least} and {most} do not fit; weights lie within {STARTING} of 0")
+    return max(0, most - STARTING) + min(0, least + STARTING)
 
 
 def variables(scope):
