@@ -34,7 +34,7 @@ def run(options):
 def summary(rounds, ceiling):
     if rounds >= MOST_ROUNDS:
         return f"the limit of {rounds} rounds was reached, perhaps not settled; no plan's total is above {ceiling}"
-    settled = f"after {rounds} rounds" if rounds else "at once"
+    settled = f"after {rounds} round{'s' * (rounds > 1)}" if rounds else "at once"
     return f"settled {settled}, no plan's total is above {ceiling}"
 
 

@@ -18,20 +18,18 @@ SCRIPTS = os.path.dirname(os.path.dirname(os.path.realpath(__file__)))
 running = []
 
 
-def folders():
-    named = os.environ.get("CEILING_PROGRAMS")
-    if named:
-        return [named]
-    return [os.path.join(SCRIPTS, *steps) for steps in (("..", "target", "bin"), ("..", "..", "bin"))]
+def folder():
+    """Where the programs are: as named, else those of the installation or of the source tree that this file is in."""
+    installed = os.path.exists(os.path.join(SCRIPTS, "VERSION"))
+    own = os.path.join(SCRIPTS, *(("..", "..", "bin") if installed else ("..", "target", "bin")))
+    return os.environ.get("CEILING_PROGRAMS") or os.path.normpath(own)
 
 
 def find(name):
-    for folder in folders():
-        path = os.path.join(folder, name)
-        if os.path.isfile(path) and os.access(path, os.X_OK):
-            return path
-    places = " or ".join(os.path.normpath(folder) for folder in folders())
-    raise Failed(f"there is no program {name} in {places}: build it with `rt check press replay` in the source tree")
+    path = os.path.join(folder(), name)
+    if os.path.isfile(path) and os.access(path, os.X_OK):
+        return path
+    raise Failed(f"there is no program {name} in {folder()}: build it with `rt check press replay` in the source tree")
 
 
 class Program:
@@ -109,7 +107,7 @@ class Program:
             self.close()
         status = self.process.wait()
         running.remove(self)
-        if status not in (0, 1) or self.words:
+        if status != 0 or self.words:
             words = self.words.decode("utf-8", "replace").strip()
             ended = f"it was ended by signal {-status}" if status < 0 else f"its exit status is {status}"
             raise Failed(f"{self.name} did not end as it should: {words or ended}")
