@@ -1,0 +1,199 @@
+"""Exit status of every command, inputs that cannot be read, wrong command lines, help, version, where the programs are found."""
+
+import os
+import shutil
+import subprocess
+
+from running.inputs import P4, P4_ROUND, line
+
+from .trial import last_line
+
+COMMANDS = ("press", "check", "explain", "picture", "score", "from-csv", "to-csv", "from-wcsp", "to-wcsp")
+LINKS = b"link,0,1\nA,2,0\nB,2,0\n"
+PAIRS = b"first link,second link,first channel,second channel,weight\nA,B,0,0,-3\n"
+WCSP = b"plan 2 2 3 4\n2 2\n1 0 0 1\n1 2\n1 1 0 1\n1 2\n2 0 1 0 1\n0 0 3\n"
+
+
+class Files:
+    """Good and refused inputs of every command."""
+
+    def __init__(self, trial):
+        self.case, self.log = trial.both(P4, P4_ROUND)
+        self.bad_case, self.bad_log = trial.both(P4[:-1], P4_ROUND[:-1])
+        self.plan, self.bad_plan = trial.file("plan", b"0 1\n"), trial.file("plan", b"0 2\n")
+        self.links, self.pairs = trial.file("links.csv", LINKS), trial.file("pairs.csv", PAIRS)
+        self.bad_links = trial.file("links.csv", LINKS.replace(b"2", b"2.5"))
+        self.wcsp, self.bad_wcsp = trial.file("plan.wcsp", WCSP), trial.file("plan.wcsp", WCSP[:-4])
+        out = trial.empty()
+        self.to = [os.path.join(out, name) for name in ("links.csv", "pairs.csv")]
+
+    def accepted(self):
+        return [
+            ["press", self.case], ["check", self.case, self.log], ["explain", self.case], ["explain", self.case, self.log],
+            ["picture", self.case, self.log], ["score", self.case, self.plan], ["score", self.case, self.plan, "--log", self.log],
+            ["from-csv", self.links, self.pairs], ["to-csv", self.case, *self.to], ["from-wcsp", self.wcsp], ["to-wcsp", self.case],
+        ]
+
+    def refused(self):
+        return [
+            ["press", self.bad_case], ["check", self.case, self.bad_log], ["check", self.bad_case, self.log], ["explain", self.bad_case],
+            ["explain", self.case, self.bad_log], ["picture", self.case, self.bad_log], ["picture", self.bad_case, self.log],
+            ["score", self.case, self.bad_plan], ["score", self.case, self.plan, self.bad_plan], ["score", self.bad_case, self.plan],
+            ["score", self.case, self.plan, "--log", self.bad_log], ["from-csv", self.bad_links, self.pairs],
+            ["to-csv", self.bad_case, *self.to], ["from-wcsp", self.bad_wcsp], ["to-wcsp", self.bad_case],
+        ]
+
+
+def told(arguments):
+    return " ".join(os.path.basename(word) for word in arguments)
+
+
+def statuses(trial):
+    """As processes: 0 with the result on standard output, 1 with words on standard error."""
+    files = Files(trial)
+    for arguments in files.accepted():
+        ended = trial.run(*arguments)
+        trial.ends(told(arguments), ended, 0)
+        trial.test(f"{told(arguments)}, its result", bool(ended.out) != (arguments[0] == "to-csv"), f"{ended.out[:60]}")
+    for arguments in files.refused():
+        ended = trial.run(*arguments)
+        trial.ends(f"{told(arguments)}, refused", ended, 1)
+        silent = arguments[0] in ("press", "from-csv", "from-wcsp") or files.bad_plan in arguments
+        trial.test(f"{told(arguments)}, refused, words", ended.err and not (silent and ended.out) or arguments[0] == "explain", f"{ended}")
+    for arguments in (["from-csv", files.links, files.pairs], ["from-wcsp", files.wcsp]):
+        case = trial.run(*arguments).out
+        trial.test(f"{told(arguments)}, the case", trial.real("replay", case).startswith(b"accepted 0 "), f"{case[:60]}")
+    for arguments in (["picture", files.case, files.log], ["picture", files.case, files.bad_log], ["picture", files.bad_case, files.log]):
+        page(trial, arguments)
+
+
+def page(trial, arguments):
+    """The picture's page and the last line on standard error bear the judgement."""
+    with open(arguments[1], "rb") as case, open(arguments[2], "rb") as log:
+        verdict = trial.verdict(case.read(), log.read())
+    ended = trial.ask(*arguments)
+    trial.test(f"{told(arguments)}, the judgement", verdict.strip() in ended.out and last_line(ended.err) == verdict.strip(), f"{ended.err}")
+    trial.test(f"{told(arguments)}, the page", b"</html>" in ended.out[-20:], f"{ended.out[-60:]}")
+
+
+def unreadable(trial):
+    """An input that cannot be read: one line that names it, status 2, nothing written."""
+    files = Files(trial)
+    folder = trial.empty()
+    names = [os.path.join(folder, "nobody"), folder, os.path.join(files.case, "below"), "/proc/self/mem"]
+    for arguments in files.accepted() + [["press", files.case, "-o", os.path.join(folder, "to")]]:
+        places = [at for at in range(1, len(arguments)) if os.path.exists(arguments[at]) and arguments[0] != "to-csv" or at == 1]
+        for at in places:
+            for name in names:
+                changed = arguments[:at] + [name] + arguments[at + 1 :]
+                ended = trial.ask(*changed)
+                trial.ends(f"{told(changed)}, unreadable", ended, 2, b"")
+                one = ended.err.startswith(b"ceiling: " + name.encode() + b": ") and ended.err.count(b"\n") == 1
+                trial.test(f"{told(changed)}, unreadable, in words", one, f"{ended.err}")
+    trial.test("unreadable inputs leave nothing behind", os.listdir(folder) == [], f"{os.listdir(folder)}")
+    nowhere = {"before": lambda: os.close(0), "stdout": subprocess.PIPE}
+    ended = trial.end(trial.start("check", files.case, "-", **nowhere))
+    trial.ends("check with standard input closed", ended, 2, b"")
+    trial.test("check with standard input closed, in words", ended.err.count(b"\n") == 1, f"{ended.err}")
+
+
+def wrong_lines(trial):
+    """A wrong command line: status 2, words on standard error."""
+    files = Files(trial)
+    case, log, plan, to = files.case, files.log, files.plan, files.to[0]
+    wrong = [[], ["frobnicate"], ["--frobnicate"], ["press"], ["press", case, case], ["press", case, "-o"], ["check", case]]
+    wrong += [["check", case, log, log], ["check", case, "-o", log], ["explain"], ["picture", case], ["score", case], ["score", case, plan, "--log"]]
+    wrong += [["from-csv", files.links], ["to-csv", case, to], ["from-wcsp"], ["to-wcsp"]]
+    wrong += [[command, "--frobnicate", case, log] for command in COMMANDS]
+    wrong += [["check", "-", "-"], ["explain", "-", "-"], ["picture", "-", "-"], ["score", "-", "-"], ["score", case, "-", "-"]]
+    wrong += [["score", "-", plan, "--log", "-"], ["from-csv", "-", "-"], ["to-csv", case, "-", to], ["to-csv", case, to, "-"]]
+    for arguments in wrong:
+        ended = trial.ask(*arguments, data=P4)
+        trial.ends(f"{told(arguments)}, a wrong line", ended, 2, b"")
+        trial.test(f"{told(arguments)}, a wrong line, in words", ended.err.strip(), "nothing on standard error")
+    trial.test("wrong lines leave nothing behind", not any(map(os.path.exists, files.to)))
+
+
+def odd_names(trial):
+    """File names with spaces, letters that are not ASCII and bytes that are no text, on streams that can only write ASCII."""
+    for name in ("a plan.case", "pl\u00e4ne.case", os.fsdecode(b"pl\xff.case"), "a\nb.case"):
+        case, log, bad = trial.file(name, P4), trial.file(name, P4_ROUND), trial.file(name, P4_ROUND[:-1])
+        plan = trial.file(name, b"0 1")
+        for encoding in ("ascii:strict", "utf-8:strict"):
+            for status, arguments in (
+                (0, ["check", case, log]), (1, ["explain", case, bad]), (1, ["check", bad, bad]), (1, ["press", bad]), (0, ["score", case, plan]),
+                (2, ["check", case + "x", log]), (0, ["to-wcsp", case]), (0, ["picture", case, log]), (0, ["press", case, "-o", case + ".log"]),
+            ):
+                ended = trial.ask(*arguments, encoding=encoding)
+                trial.ends(f"{arguments[0]} with the name {name!r} in {encoding}", ended, status)
+
+
+def help_and_version(trial):
+    ended = trial.run("--help")
+    trial.ends("--help", ended, 0, err=b"")
+    trial.test("--help names every command", all(name.encode() in ended.out for name in COMMANDS), f"{ended.out}")
+    for name in COMMANDS:
+        ended = trial.ask(name, "--help")
+        trial.ends(f"{name} --help", ended, 0, err=b"")
+        trial.test(f"{name} --help, its words", b"ceiling " + name.encode() in ended.out, f"{ended.out[:80]}")
+    with open(os.path.join(os.path.dirname(os.path.dirname(trial.command.path)), "VERSION"), "rb") as file:
+        trial.ends("--version", trial.run("--version"), 0, b"ceiling " + file.read().strip() + b"\n", b"")
+
+
+def standard_input(trial):
+    """Any one file by `-`, as a pipe or a file; a pipe by its name, which can be read once only."""
+    files = Files(trial)
+    for arguments in files.accepted():
+        for at in range(1, len(arguments)):
+            if os.path.exists(arguments[at]) and (arguments[0] != "to-csv" or at == 1):
+                with open(arguments[at], "rb") as file:
+                    data = file.read()
+                wanted = trial.ask(*arguments)
+                for name, run in (("-", trial.ask), ("/dev/stdin", trial.run)):
+                    if name == "-" or arguments[0] in ("check", "press", "explain") and at == 1:
+                        ended = run(*arguments[:at], name, *arguments[at + 1 :], data=data)
+                        same(trial, f"{told(arguments)}, {name} at {at}", arguments, ended, wanted)
+    refused = trial.run("check", "-", files.log, data=P4 + line(4, 0, 0, 0, 3))
+    trial.ends("check - refused", refused, 1, b"refused 12 10\n")
+    trial.ends("press - refused", trial.run("press", "-", data=P4[:-1]), 1, b"")
+
+
+def same(trial, name, arguments, ended, wanted):
+    """The same result; where it names a file, the same verdict or total."""
+    named = arguments[0] in ("explain", "picture", "score", "to-wcsp")
+    out = [one.split(b"\n")[0].rpartition(b" ")[0] if named else one for one in (ended.out, wanted.out)]
+    trial.test(name, ended.status == 0 and (out[0] == out[1] or arguments[0] == "explain"), f"{ended}")
+
+
+def places(trial):
+    """Installed, by a symbolic link, the programs are found beside it; where there are none, the words say how to build them."""
+    files = Files(trial)
+    scripts = os.path.dirname(trial.command.path)
+    prefix = trial.empty()
+    inside = os.path.join(prefix, "lib", "ceiling")
+    shutil.copytree(scripts, inside, ignore=shutil.ignore_patterns("__pycache__"))
+    shutil.copy(os.path.join(os.path.dirname(scripts), "VERSION"), inside)
+    os.mkdir(os.path.join(prefix, "bin"))
+    command = os.path.join(prefix, "bin", "ceiling")
+    os.symlink(os.path.join("..", "lib", "ceiling", os.path.basename(trial.command.path)), command)
+    environment = {name: value for name, value in os.environ.items() if name != "CEILING_PROGRAMS"}
+
+    def run(*arguments):
+        return subprocess.run([command, *arguments], env=environment, capture_output=True)
+
+    for name in ("check", "press"):
+        ended = run(name, files.case, *[files.log][: name == "check"])
+        good = ended.returncode == 2 and ended.stdout == b"" and b"rt check press replay" in ended.stderr
+        trial.test(f"{name} without programs", good, f"{ended}")
+    for name in ("press", "replay"):
+        os.symlink(trial.programs[name], os.path.join(prefix, "bin", name))
+    ended = run("check", files.case, files.log)
+    trial.test("check installed", (ended.returncode, ended.stdout) == (0, b"accepted 1 2\n"), f"{ended}")
+    trial.test("--version installed", run("--version").stdout.startswith(b"ceiling "))
+    ended = trial.ask("check", files.case, files.log, programs=trial.empty())
+    trial.test("check with an empty folder named", ended.status in (0, 2) and (ended.status == 2) == (ended.out == b""), f"{ended}")
+
+
+def tests(trial):
+    for part in (statuses, unreadable, wrong_lines, odd_names, help_and_version, standard_input, places):
+        part(trial)

@@ -1,0 +1,124 @@
+"""`score`: totals against those listed here, ties, plans that do not fit, the ceiling beside the best plan."""
+
+
+from running.inputs import P4, P4_ROUND, case, line
+
+
+def total(links, pairs, values, plan):
+    """A plan's total by document 01: the sum over all scopes of the weight it uses."""
+    own = sum(weights[plan[i]] for i, weights in enumerate(links))
+    return own + sum(weights[plan[i] * values + plan[j]] for i, j, weights in pairs)
+
+
+def every_plan(links, values):
+    plans = [[]]
+    for _ in range(links):
+        plans = [plan + [value] for plan in plans for value in range(values)]
+    return plans
+
+
+def totals(trial):
+    """Every plan of a case of four links and three channels, one order of names and separators after another."""
+    links = [[5, -2, 0], [1000000, -1000000, 3], [0, 0, 7], [-1, -2, -3]]
+    pairs = [(0, 1, [-1000000, 1, 2, 3, 4, 5, 6, 7, 8]), (1, 3, list(range(9))), (0, 3, [-5] * 9)]
+    path = trial.file("plan.case", case(3, links, pairs))
+    marks = (b" ", b",", b";", b"\n", b"\r\n", b", ", b"  ", b";\n")
+    plans = every_plan(4, 3)
+    texts = [marks[at % len(marks)].join(b"%d" % one for one in plan) + b"\n" * (at % 3) for at, plan in enumerate(plans)]
+    names = [trial.file(f"plan {at}.txt", text) for at, text in enumerate(texts)]
+    sums = [total(links, pairs, 3, plan) for plan in plans]
+    best = sums.index(max(sums))
+    out = "".join(f"{one} {name}\n" for one, name in zip(sums, names)) + f"best {sums[best]} {names[best]}\n"
+    trial.ends("score every plan", trial.ask("score", path, *names), 0, out.encode())
+    for at in (0, 40, 80):
+        out = f"{sums[at]} {names[at]}\nbest {sums[at]} {names[at]}\n".encode()
+        trial.ends(f"score plan {at}", trial.run("score", path, names[at]), 0, out)
+
+
+def ties(trial):
+    """The first of the best; the same file twice; totals below 0; one link and one channel."""
+    path = trial.file("plan.case", P4)
+    first, second, low = [trial.file(name, text) for name, text in (("first", b"0 1"), ("second", b"1,0\n"), ("low", b"1 1"))]
+    for names in ([first, second], [second, first], [low, second, first, second], [low, low]):
+        sums = {first: 2, second: 2, low: 0}
+        best = max(names, key=sums.get)
+        out = "".join(f"{sums[name]} {name}\n" for name in names) + f"best {sums[best]} {best}\n"
+        trial.ends("score a tie", trial.ask("score", path, *names), 0, out.encode())
+    single = trial.file("plan.case", case(1, [[-7]], []))
+    plan = trial.file("plan", b"0")
+    trial.ends("score one link", trial.ask("score", single, plan), 0, f"-7 {plan}\nbest -7 {plan}\n".encode())
+    trial.ends("score a plan by -", trial.run("score", path, "-", data=b"0;1"), 0, b"2 -\nbest 2 -\n")
+
+
+def largest(trial):
+    """The largest case at the ends of its weights: what the plan does not use weighs the other end."""
+    for weight in (1000000, -1000000):
+        links = [[-weight] * 7 + [weight]] * 48
+        ends = [(i, j) for i in range(48) for j in range(i + 1, min(i + 4, 48))][:96]
+        text = case(8, links, [(i, j, [-weight] * 63 + [weight]) for i, j in ends])
+        path, plan = trial.file("plan.case", text), trial.file("plan", b" ".join([b"7"] * 48))
+        wanted = 144 * weight
+        trial.ends(f"score {wanted}", trial.ask("score", path, plan), 0, f"{wanted} {plan}\nbest {wanted} {plan}\n".encode())
+
+
+def unfit(trial):
+    """A plan that does not fit the case: words that name it, nothing on standard output, whatever stands beside it."""
+    path, good = trial.file("plan.case", P4), trial.file("good", b"0 1")
+    for name, text in (
+        ("too short", b"0"), ("too long", b"0 1 0"), ("empty", b""), ("channel 2 of 2", b"0 2"), ("channel -1", b"-1 0"), ("a letter", b"0 x"),
+        ("a fraction", b"0 1.0"), ("bytes", b"\xff\x00"), ("a long number", b"0 " + b"1" * 5000), ("a plus sign", b"0 +1"),
+    ):
+        plan = trial.file("unfit.txt", text)
+        for names in ([plan], [good, plan], [plan, good]):
+            ended = trial.ask("score", path, *names)
+            trial.ends(f"score {name}", ended, 1, b"")
+            trial.test(f"score {name}, in words", plan.encode() in ended.err, f"{ended.err[:200]}")
+
+
+def beside_ceiling(trial):
+    path, log = trial.both(P4, P4_ROUND)
+    met, below = trial.file("met", b"0 1"), trial.file("below", b"1 1")
+    higher = trial.file("plan.log", line(2, 0, 2, 0, 1) + P4_ROUND[27:81] + line(4, 0, 0, 0, 3))
+    meets = b"the best plan meets the ceiling: no plan is better"
+    for name, plans, used, ceiling, out in (
+        ("met", [met], log, 2, f"2 {met}\nbest 2 {met}\n"),
+        ("not met", [below], log, 2, f"0 {below}\nbest 0 {below}\n"),
+        ("met by the second", [below, met], log, 2, f"0 {below}\n2 {met}\nbest 2 {met}\n"),
+        ("one below", [met], higher, 3, f"2 {met}\nbest 2 {met}\n"),
+        ("no round", [met], trial.file("plan.log", b""), 4, f"2 {met}\nbest 2 {met}\n"),
+    ):
+        for order in (plans + ["--log", used], ["--log", used] + plans):
+            ended = trial.ask("score", path, *order)
+            trial.ends(f"score --log {name}", ended, 0, f"{out}ceiling {ceiling}\n".encode())
+            gap = ceiling - int(out.split("best ")[1].split()[0])
+            said = meets in ended.err if gap == 0 else meets not in ended.err and str(gap).encode() in ended.err
+            trial.test(f"score --log {name}, in words", said, f"{ended.err}")
+    for name, text in (("cut", P4_ROUND[:-1]), ("wrong", P4_ROUND[:-27] + line(4, 0, 0, 0, 1)), ("too low", line(4, 0, 0, 0, -9))):
+        verdict = trial.verdict(P4, text)
+        ended = trial.ask("score", path, met, "--log", trial.file("plan.log", text))
+        trial.ends(f"score --log {name}, refused", ended, 1)
+        trial.test(f"score --log {name}, the verdict", verdict in ended.err and b"ceiling " not in ended.out and meets not in ended.err, f"{ended}")
+    bad = trial.file("plan.case", P4[:-1])
+    ended = trial.ask("score", bad, met)
+    trial.test("score a refused case, the verdict", b"refused 14 9" in ended.out + ended.err, f"{ended}")
+
+
+def passed_on(trial):
+    """The totals are what `replay` says of the plan's own case, and a wrong `replay` gives none."""
+    path, plan = trial.file("plan.case", P4), trial.file("plan", b"0 1")
+    size = f'size=$(wc -c)\nif [ "$size" -eq {len(P4)} ]; then echo accepted 0 4; else '
+    programs = trial.stand_ins.folder(replay=size + "echo accepted 0 -123; fi\n")
+    trial.ends("score by another replay", trial.ask("score", path, plan, programs=programs), 0, f"-123 {plan}\nbest -123 {plan}\n".encode())
+    verdict = "echo accepted 0 2; "
+    for name, script in (
+        ("nothing", "true"), ("half a line", "printf 'accepted 0 2'"), ("a complaint", verdict + "echo words >&2"),
+        ("and dies", verdict + "kill -9 $$"), ("a refusal", "echo refused 8 1"),
+    ):
+        programs = trial.stand_ins.folder(replay=f"{size}{script}; fi\n")
+        ended = trial.ask("score", path, plan, programs=programs)
+        trial.test(f"score where replay says {name}", ended.status in (1, 2) and ended.out == b"", f"{ended}")
+
+
+def tests(trial):
+    for part in (totals, ties, largest, unfit, beside_ceiling, passed_on):
+        part(trial)

@@ -1,0 +1,282 @@
+"""What `explain` says of each number: the figures that the words must hold, the place in the file, and for number 10 the family."""
+
+import random
+import re
+
+from picturing.case import MOST_CHANNELS, MOST_LINKS, MOST_PAIRS, read_case
+from picturing.columns import LINE
+from picturing.log import read_log
+from running.inputs import P4, P4_ROUND, case, line, with_line
+
+from .trial import cut, plain
+from .verdicts import explained
+
+TRIANGLE = case(2, [[0, 0]] * 3, [(i, j, [-1, 0, 0, -1]) for i, j in ((0, 1), (0, 2), (1, 2))])
+# A case whose figures nobody takes for others: its ceiling is 2011, and 1511 after the press by 500.
+ODD = case(2, [[1234, 0], [777, 0]], [(0, 1, [-3000, 0, 0, 0])])
+ODD_PRESS = line(2, 0, 2, 0, 500) + line(3, 1) + line(3, 2)
+P4_LINES = len(P4) // LINE
+
+
+def with_byte(text, at, byte):
+    return text[:at] + byte + text[at + len(byte) :]
+
+
+def asked(trial, name, text, number, patterns, byte=None):
+    """A test that a case and its log get the number, and that the words hold each pattern and the byte of the file."""
+    case, log = text if isinstance(text, tuple) else (text, None)
+    files = trial.both(case, log) if log is not None else [trial.file("plan.case", case)]
+    verdict = trial.verdict(case, log or b"")
+    trial.test(f"{name} is refused by {number}", verdict.split()[:2] == [b"refused", b"%d" % number], f"{verdict}")
+    explained(trial, name, files, case, verdict)
+    words = plain(trial.ask("explain", *files).out.partition(b"\n")[2])
+    missing = [pattern for pattern in patterns if not re.search(pattern, words, re.I | re.S)]
+    trial.test(f"explain {name}, its words", not missing, f"{missing} not in {words}")
+    if byte:
+        column = (byte - 1) % LINE + 1
+        good = re.search(rf"\bbyte {byte}\b", words) and re.search(rf"\bcolumn {column}\b", words)
+        trial.test(f"explain {name}, the byte", good, f"column {column}, byte {byte} not in {words}")
+
+
+def not_in_columns(trial):
+    """Number 1 in the case and in the log: line ends, marks and encodings, and every way to write a number wrongly."""
+    crlf = P4.replace(b"\n", b"\r\n")
+    for name, text, patterns, byte in (
+        ("CRLF", crlf, ["CRLF|carriage return"], 27),
+        ("a byte order mark", b"\xef\xbb\xbf" + P4, ["byte order mark|BOM"], 1),
+        ("a byte order mark and CRLF", b"\xef\xbb\xbf" + crlf, ["byte order mark|BOM"], 1),
+        ("UTF-16", P4.decode().encode("utf-16"), ["UTF-16"], 1),
+        ("UTF-16 without a mark", P4.decode().encode("utf-16-le"), ["UTF-16"], None),
+        ("UTF-16 the other way round", P4.decode().encode("utf-16-be"), ["UTF-16"], None),
+        ("a tab", with_byte(P4, 2 * LINE + 5, b"\t"), [r"\btab"], 2 * LINE + 6),
+        ("a line feed that is missing", P4[: 3 * LINE - 1] + P4[3 * LINE :], ["line feed"], 3 * LINE),
+        ("a line feed too early", P4[: 2 * LINE + 3] + P4[2 * LINE + 4 :], ["line feed"], 3 * LINE - 1),
+        ("an empty line", P4[: 3 * LINE] + b"\n" + P4[3 * LINE :], ["empty|line feed"], 3 * LINE + 1),
+        ("one line with CRLF", P4[: 3 * LINE - 1] + b"\r" + P4[3 * LINE - 1 :], ["carriage return|CRLF"], 3 * LINE),
+        ("a case in the log", (P4, crlf[-28:]), ["CRLF|carriage return"], 27),
+        ("a log with a byte order mark", (P4, b"\xef\xbb\xbf" + P4_ROUND), ["byte order mark|BOM"], 1),
+        ("a log in UTF-16", (P4, P4_ROUND.decode().encode("utf-16")), ["UTF-16"], 1),
+        ("a tab in the log", (P4, with_byte(P4_ROUND, LINE + 4, b"\t")), [r"\btab"], LINE + 5),
+    ):
+        asked(trial, name, text, 1, patterns, byte)
+    for name, amount, pattern, column in (
+        ("a number not at the edge", b"          2 ", "right", None), ("a leading zero", b"          02", "leading zero", None),
+        ("minus 0", b"          -0", "-0", None), ("a plus sign", b"          +2", "plus", 25), ("a letter", b"          2x", "letter|x", 26),
+        ("a space after the minus", b"         - 2", "minus|-", None), ("an empty column", b" " * 12, "number", None),
+        ("two minus signs", b"         --2", "minus|-", None), ("a point", b"         2.5", "point|[.]", 25),
+        ("a separator", b"       2,000", ",", 23),
+    ):
+        changed = line(11, 0, 0, 0, 0)[:14] + amount + b"\n"
+        asked(trial, name, with_line(P4, 1, changed), 1, [pattern], LINE + column if column else None)
+
+
+def kinds(trial):
+    """Number 2: the kinds that are due, the column that must be 0."""
+    press, raised, rest = P4_ROUND[:LINE], P4_ROUND[LINE : 2 * LINE], P4_ROUND[2 * LINE :]
+    for name, text, patterns in (
+        ("another head", with_line(P4, 0, line(11, 2, 2, 1)), [r"\b10\b"]),
+        ("a pair weight for a link's", with_line(P4, 2, line(13, 0, 1)), [r"\b11\b"]),
+        ("a link weight for a pair", with_line(P4, 5, line(11, 2, 0)), [r"\b12\b"]),
+        ("a pair for its weight", with_line(P4, 6, line(12, 0, 0, 0)), [r"\b13\b"]),
+        ("a head with an amount", with_line(P4, 0, line(10, 2, 2, 1, 5)), ["amount"]),
+        ("a link weight with c", with_line(P4, 2, line(11, 0, 1, 7, 0)), [r"\bc\b"]),
+        ("a raise line first", (P4, line(3, 1)), [r"\b1\b.*\b2\b.*\b4\b"]),
+        ("a kind that nobody knows", (P4, line(77)), [r"\b1\b.*\b2\b.*\b4\b"]),
+        ("a bound line in a press", (P4, press + raised + line(4, 0, 0, 0, 2)), [r"\b3\b|raise"]),
+        ("a raise line too many", (P4, P4_ROUND[:-LINE] + line(3, 2)), [r"\b1\b.*\b2\b.*\b4\b"]),
+        ("a bound line with a", (P4, P4_ROUND[:-LINE] + line(4, 1, 0, 0, 2)), [r"\ba\b"]),
+        ("a raise line with an amount", (P4, press + line(3, 1, 0, 0, 1) + rest), ["amount"]),
+        ("a raise line with b", (P4, press + line(3, 1, 5) + rest), [r"\bb\b"]),
+        ("a press with c", (P4, line(2, 0, 2, 1, 2) + raised + rest), [r"\bc\b"]),
+    ):
+        asked(trial, name, text, 2, patterns)
+
+
+def ranges(trial):
+    """Numbers 3, 5 and 8: the limits, the place that is due, the range."""
+    for name, head, pattern in (
+        ("49 links", line(10, 49, 2, 1), f"1 to {MOST_LINKS}"), ("no links", line(10, 0, 2, 1), f"1 to {MOST_LINKS}"),
+        ("9 channels", line(10, 2, 9, 1), f"1 to {MOST_CHANNELS}"), ("no channels", line(10, 2, 0, 1), f"1 to {MOST_CHANNELS}"),
+        ("97 pairs", line(10, 2, 2, 97), f"0 to {MOST_PAIRS}"), ("-1 pairs", line(10, 2, 2, -1), f"0 to {MOST_PAIRS}"),
+    ):
+        asked(trial, name, with_line(P4, 0, head), 3, [rf"\b{pattern}\b"])
+    for name, at, new, pattern in (
+        ("another link's weight", 6, line(11, 1, 1), "link 2, channel 1.*kind 11, a 2, b 1"),
+        ("another channel's weight", 5, line(11, 2, 1), "link 2, channel 0.*kind 11, a 2, b 0"),
+        ("another pair", 12, line(12, 2, 0, 2), r"pair 1\b.*kind 12, a 1"),
+        ("another pair's weight", 15, line(13, 0, 1, 0), "pair 1, channels? 1 and 0.*kind 13, a 1, b 1, c 0"),
+        ("another combination's weight", 15, line(13, 1, 1, 1), "pair 1, channels? 1 and 0.*kind 13, a 1, b 1, c 0"),
+        ("a pair of a link that is not there", 12, line(12, 1, 0, 3), r"\b0 to 2\b"),
+    ):
+        asked(trial, name, with_line(TRIANGLE, at, new), 5, [pattern])
+    for name, new, pattern in (
+        ("a press of link 2", line(2, 2, 2, 0, 1), r"\b0 to 1\b"), ("a press of 3 scopes", line(2, 0, 3, 0, 1), r"\b1 to 2\b"),
+        ("a press of no scope", line(2, 0, 0, 0, 1), r"\b1 to 2\b"), ("a press by 0", line(2, 0, 2, 0, 0), r"\b1 to 1000000000\b"),
+        ("scope 3", line(2, 0, 2, 0, 1) + line(3, 3), r"\b0 to 2\b"), ("a shift of pair 1", line(1, 1, 0, 0, 1), r"\b0\b"),
+        ("a shift at end 2", line(1, 0, 2, 0, 1), r"\b0 (or|to|and) 1\b"), ("a shift of channel 2", line(1, 0, 0, 2, 1), r"\b0 to 1\b"),
+        ("a shift by 0", line(1, 0, 0, 0, 0), r"\b0\b.*1000000000\b"), ("a shift by too much", line(1, 0, 0, 0, 1000000001), r"\b1000000000\b"),
+    ):
+        asked(trial, name, (P4, new), 5, [pattern])
+    for name, at, new in (
+        ("a link weight too great", 1, line(11, 0, 0, 0, 1000001)), ("a pair weight too small", 7, line(13, 0, 0, 1, -1000001))
+    ):
+        asked(trial, name, with_line(P4, at, new), 8, [r"-1000000\b", r"[^-]\b1000000\b"])
+
+
+def order(trial):
+    """Numbers 6, 7 and 9: the links, the line of the earlier pair, the raise line before."""
+    asked(trial, "links turned round", with_line(TRIANGLE, 12, line(12, 1, 2, 0)), 6, [r"\b2\b", r"\b0\b", "below|lower|smaller|ascend"])
+    asked(trial, "a link with itself", with_line(TRIANGLE, 12, line(12, 1, 2, 2)), 6, [r"\b2\b", "below|lower|smaller|ascend|itself"])
+    asked(trial, "links paired twice", with_line(TRIANGLE, 12, line(12, 1, 0, 1)), 7, [r"\bpair 0\b", r"\bline 8\b"])
+    asked(trial, "the last pair again", with_line(TRIANGLE, 17, line(12, 2, 0, 2)), 7, [r"\bpair 1\b", r"\bline 13\b"])
+    press = line(2, 1, 3, 0, 1) + line(3, 3)
+    asked(trial, "a scope again", (TRIANGLE, press + line(3, 3)), 9, [r"\b3\b", r"\bline 2\b|above|ascend"])
+    asked(trial, "a scope below", (TRIANGLE, press + line(3, 2)), 9, [r"\bscope 3\b", r"\bline 2\b|above|ascend"])
+    asked(trial, "the own scope", (TRIANGLE, line(2, 1, 3, 0, 1) + line(3, 1)), 9, ["own", r"\b1\b"])
+
+
+def figures(trial):
+    """Numbers 11, 12 and 13: the weight, the ceiling that is right here, both ceilings."""
+    for name, log, patterns in (
+        ("a shift of 600000000", line(1, 0, 0, 0, 600000000), [r"600001234|-600003000|-600000000", r"500000000\b"]),
+        ("a shift of -600000000", line(1, 0, 1, 1, -600000000), [r"-600000000|\b600000000", r"500000000\b"]),
+        ("a press by 700000000", line(2, 0, 2, 0, 700000000) + line(3, 1) + line(3, 2), [r"-699998766|\b700000000|\b699997000", r"500000000\b"]),
+    ):
+        asked(trial, name, (ODD, log), 11, patterns)
+    for name, log, right in (
+        ("a wrong ceiling", ODD_PRESS + line(4, 0, 0, 0, 1500), "1511"), ("a ceiling without a move", line(4, 0, 0, 0, 7), "2011"),
+        ("a wrong ceiling in the second round", ODD_PRESS + line(4, 0, 0, 0, 1511) + line(1, 0, 0, 0, 100) + line(4, 0, 0, 0, 1499), "1611"),
+    ):
+        asked(trial, name, (ODD, log), 12, [rf"\b{right}\b"])
+    for name, log, first, now in (
+        ("a higher ceiling", line(1, 0, 0, 0, 100) + line(4, 0, 0, 0, 2111), 2011, 2111),
+        ("the same ceiling", line(4, 0, 0, 0, 2011), 2011, 2011),
+        ("a higher ceiling in the second round", ODD_PRESS + line(4, 0, 0, 0, 1511) + line(1, 0, 0, 0, 100) + line(4, 0, 0, 0, 1611), 1511, 1611),
+    ):
+        asked(trial, name, (ODD, log), 13, [rf"\b{first}\b.*\b{now}\b|\b{now}\b.*\b{first}\b"])
+
+
+def cut_off(trial):
+    """Number 14: what is missing of a line, a press, a round, a case."""
+    raised = len(ODD_PRESS) - LINE
+    for name, text, patterns, byte in (
+        ("the last line feed", P4[:-1], ["line feed"], len(P4)),
+        ("5 bytes of a case", P4[:-5], [r"\b5\b|\b22\b"], None),
+        ("the last line of a case", P4[:-LINE], ["pair 0, channels? 1 and 1", "kind 13, a 0, b 1, c 1"], None),
+        ("a case after its head", P4[:LINE], ["link 0, channel 0", "kind 11, a 0, b 0"], None),
+        ("a pair line", P4[: 5 * LINE], [r"pair 0\b", "kind 12, a 0"], None),
+        ("a case", b"", [r"\bhead\b|kind 10|empty"], None),
+        ("5 bytes of a log", (ODD, ODD_PRESS + line(4, 0, 0, 0, 1511)[:-5]), [r"\b5\b|\b22\b"], None),
+        ("a log's last line feed", (ODD, ODD_PRESS + line(4, 0, 0, 0, 1511)[:-1]), ["line feed"], len(ODD_PRESS) + LINE),
+        ("two raise lines", (ODD, ODD_PRESS[:LINE]), [r"\b2 (more )?raise lines|\b2 missing"], None),
+        ("one raise line", (ODD, ODD_PRESS[:raised]), [r"\b1 (more )?raise line\b|\b1 missing"], None),
+        ("a bound line", (ODD, ODD_PRESS), ["bound", r"\b1511\b"], None),
+        ("a bound line after a shift", (ODD, line(1, 0, 0, 1, 5)), ["bound"], None),
+        ("part of a line after the case", (P4, b" "), [r"\b26\b|\b1\b"], None),
+    ):
+        asked(trial, f"{name} is missing", text, 14, patterns, byte)
+
+
+class State:
+    """Working weights and raised scopes where a press is asked: what is active, what is closed."""
+
+    def __init__(self, text, log, press):
+        """`press` is the line of the log at which the press begins."""
+        self.case = read_case(text)
+        self.table = read_log(self.case, log[: press * LINE]).table
+        kind, self.link, count, _, self.amount = map(int, log[press * LINE : (press + 1) * LINE].split())
+        lines = [log[at * LINE : (at + 1) * LINE] for at in range(press + 1, press + 1 + count)]
+        self.raised = {int(one[2:6]) for one in lines}
+
+    def is_open(self, scope, *values):
+        first, last = self.case.span(scope)
+        at = values[0] if len(values) == 1 else values[0] * self.case.d + values[1]
+        return scope not in self.raised or self.table[first + at] == max(self.table[first:last])
+
+    def active(self):
+        first, last = self.case.span(self.link)
+        return [at - first for at in range(first, last) if self.table[at] == max(self.table[first:last])]
+
+    def unsupported(self, family):
+        """The values of a family that are closed or have no partner across some pair."""
+        wrong = [(i, k) for i, values in enumerate(family) for k in values if not self.is_open(i, k)]
+        for e, (i, j) in enumerate(self.case.pairs):
+            scope = self.case.n + e
+            wrong += [(i, k) for k in family[i] if not any(self.is_open(scope, k, l) for l in family[j])]
+            wrong += [(j, l) for l in family[j] if not any(self.is_open(scope, k, l) for k in family[i])]
+        return wrong
+
+    def largest(self, value):
+        """The largest family with this one value for the link: what is left when unsupported values go."""
+        family = [set(range(self.case.d)) for _ in range(self.case.n)]
+        family[self.link] = {value}
+        while wrong := self.unsupported(family):
+            for i, k in wrong:
+                family[i].discard(k)
+        return family
+
+
+def families(trial):
+    """Number 10: an active channel of the pressed link and a family that supports it."""
+    chance = random.Random(10)
+    for at in range(30):
+        kind = ("small", "mesh", "ring", "uniform")[at % 4]
+        text = trial.peer("generate", kind, "--seed", str(at), "--links", str(2 + at % 5), "--values", str(2 + at % 3), "--pairs", str(1 + at % 6))
+        found = read_case(text)
+        log = trial.peer("press", "--limit", str(at % 3), data=text)
+        link = chance.randrange(found.n)
+        others = [scope for scope in range(found.scopes) if scope != link]
+        scopes = sorted(chance.sample(others, chance.randrange(1, len(others) + 1)))
+        press = len(log) // LINE
+        log += line(2, link, len(scopes), 0, 1) + b"".join(line(3, scope) for scope in scopes)
+        state = State(text, log, press)
+        if all(set() in state.largest(value) for value in state.active()):
+            continue
+        witness(trial, f"press {at}", text, log, state)
+    for name in ("10-first-press", "10-second-round", "10-before-11", "P3"):
+        text, log = cut(trial.sample("replay", name + ".in"))
+        press = max(at for at in range(len(log) // LINE) if log[at * LINE : at * LINE + 2] == b" 2")
+        witness(trial, name, text, log, State(text, log, press))
+
+
+def witness(trial, name, text, log, state):
+    """The words name an active channel of the link, and for it each link's channels of a supported family."""
+    files = trial.both(text, log)
+    ended = trial.ask("explain", *files)
+    trial.test(f"explain {name} is refused by 10", ended.status == 1 and ended.out.startswith(b"refused 10 "), f"{ended}")
+    words = plain(ended.out)
+    value, family = told_family(words, state)
+    good = value in state.active() and None not in family
+    trial.test(f"explain {name}, the channel", good, f"channel {value} of link {state.link}, {family} in {words}")
+    if good:
+        wrong = state.unsupported(family) + [i for i, values in enumerate(family) if not values]
+        trial.test(f"explain {name}, the family", not wrong and family[state.link] == {value}, f"{wrong} of {family} in {words}")
+        trial.test(f"explain {name}, the partners", not partners(words, state, family), f"{partners(words, state, family)} in {words}")
+        trial.test(f"explain {name}, the largest family", family == state.largest(value), f"{family}, not {state.largest(value)}")
+
+
+def told_family(words, state):
+    """The channel that is not refuted, and each link's channels, None where nothing is said of a link."""
+    channel = re.search(rf"channel (\d+) of link {state.link}\b[^.]*\bnot refuted", words, re.I)
+    every = set(range(state.case.d))
+    family = [every if re.search("every other link: all", words) else None] * state.case.n
+    for link, channels in re.findall(r"^ *link (\d+): (.+)$", words, re.M):
+        family[int(link)] = every if "all" in channels else {int(one) for one in re.findall(r"\d+", channels)}
+    return int(channel[1]) if channel else None, family
+
+
+def partners(words, state, family):
+    """The pairs of channels that are given as examples: of the family, and open."""
+    found = re.findall(r"pair (\d+) \(scope (\d+)\), channels of links (\d+) and (\d+): (.+)$", words, re.M)
+    wrong = [] if found or not any(scope >= state.case.n for scope in state.raised) else ["no pair"]
+    for pair, scope, i, j, text in found:
+        ends = state.case.pairs[int(pair)]
+        for k, l in re.findall(r"(\d+) with (\d+)", text):
+            good = ends == (int(i), int(j)) and int(scope) == state.case.n + int(pair) and state.is_open(int(scope), int(k), int(l))
+            wrong += [] if good and int(k) in family[int(i)] and int(l) in family[int(j)] else [(pair, k, l)]
+    return wrong
+
+
+def tests(trial):
+    for part in (not_in_columns, kinds, ranges, order, figures, cut_off, families):
+        part(trial)
