@@ -49,19 +49,19 @@ def told(arguments):
 
 
 def statuses(trial):
-    """As processes: 0 with the result on standard output, 1 with words on standard error."""
+    """0 with the result on standard output, 1 with words on standard error."""
     files = Files(trial)
     for arguments in files.accepted():
         ended = trial.run(*arguments)
         trial.ends(told(arguments), ended, 0)
         trial.test(f"{told(arguments)}, its result", bool(ended.out) != (arguments[0] == "to-csv"), f"{ended.out[:60]}")
-    for arguments in files.refused():
-        ended = trial.run(*arguments)
+    for at, arguments in enumerate(files.refused()):
+        ended = (trial.ask if at % 3 else trial.run)(*arguments)
         trial.ends(f"{told(arguments)}, refused", ended, 1)
         silent = arguments[0] in ("press", "from-csv", "from-wcsp") or files.bad_plan in arguments
         trial.test(f"{told(arguments)}, refused, words", ended.err and not (silent and ended.out) or arguments[0] == "explain", f"{ended}")
     for arguments in (["from-csv", files.links, files.pairs], ["from-wcsp", files.wcsp]):
-        case = trial.run(*arguments).out
+        case = trial.ask(*arguments).out
         trial.test(f"{told(arguments)}, the case", trial.real("replay", case).startswith(b"accepted 0 "), f"{case[:60]}")
     for arguments in (["picture", files.case, files.log], ["picture", files.case, files.bad_log], ["picture", files.bad_case, files.log]):
         page(trial, arguments)
@@ -84,7 +84,7 @@ def unreadable(trial):
     for arguments in files.accepted() + [["press", files.case, "-o", os.path.join(folder, "to")]]:
         places = [at for at in range(1, len(arguments)) if os.path.exists(arguments[at]) and arguments[0] != "to-csv" or at == 1]
         for at in places:
-            for name in names:
+            for name in names if arguments[0] in ("check", "press") else [names[at % 2], names[2 + at % 2]]:
                 changed = arguments[:at] + [name] + arguments[at + 1 :]
                 ended = trial.ask(*changed)
                 trial.ends(f"{told(changed)}, unreadable", ended, 2, b"")
@@ -116,7 +116,7 @@ def wrong_lines(trial):
 
 def odd_names(trial):
     """File names with spaces, letters that are not ASCII and bytes that are no text, on streams that can only write ASCII."""
-    for name in ("a plan.case", "pl\u00e4ne.case", os.fsdecode(b"pl\xff.case"), "a\nb.case"):
+    for name in ("a pl\u00e4ne.case", os.fsdecode(b"pl\xff\n.case")):
         case, log, bad = trial.file(name, P4), trial.file(name, P4_ROUND), trial.file(name, P4_ROUND[:-1])
         plan = trial.file(name, b"0 1")
         for encoding in ("ascii:strict", "utf-8:strict"):
@@ -160,9 +160,10 @@ def standard_input(trial):
 
 def same(trial, name, arguments, ended, wanted):
     """The same result; where it names a file, the same verdict or total."""
-    named = arguments[0] in ("explain", "picture", "score", "to-wcsp")
-    out = [one.split(b"\n")[0].rpartition(b" ")[0] if named else one for one in (ended.out, wanted.out)]
-    trial.test(name, ended.status == 0 and (out[0] == out[1] or arguments[0] == "explain"), f"{ended}")
+    parts = {"explain": lambda text: text.split(b"\n")[0], "score": lambda text: text.split()[0], "to-wcsp": lambda text: text.split()[1:]}
+    part = parts.get(arguments[0], lambda text: text)
+    good = part(ended.out) == part(wanted.out) or arguments[0] == "picture" and b"accepted 1 2" in ended.out
+    trial.test(name, ended.status == 0 and good, f"{ended}"[:300])
 
 
 def places(trial):

@@ -28,8 +28,7 @@ def asked(trial, name, text, number, patterns, byte=None):
     files = trial.both(case, log) if log is not None else [trial.file("plan.case", case)]
     verdict = trial.verdict(case, log or b"")
     trial.test(f"{name} is refused by {number}", verdict.split()[:2] == [b"refused", b"%d" % number], f"{verdict}")
-    explained(trial, name, files, case, verdict)
-    words = plain(trial.ask("explain", *files).out.partition(b"\n")[2])
+    words = explained(trial, name, files, case, verdict)
     missing = [pattern for pattern in patterns if not re.search(pattern, words, re.I | re.S)]
     trial.test(f"explain {name}, its words", not missing, f"{missing} not in {words}")
     if byte:

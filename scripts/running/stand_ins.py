@@ -48,9 +48,9 @@ SLEEPS = "exec sleep 30\n"
 
 def gone(path):
     """Whether the process whose id stands in the file has ended."""
-    with open(path, encoding="ascii") as file:
-        pid = file.read().strip()
     try:
+        with open(path, encoding="ascii") as file:
+            pid = file.read().strip()
         with open(f"/proc/{pid}/stat", encoding="ascii", errors="replace") as file:
             return file.read().rpartition(")")[2].split()[0] == "Z"
     except OSError:
