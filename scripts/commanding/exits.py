@@ -95,6 +95,10 @@ def unreadable(trial):
     ended = trial.end(trial.start("check", files.case, "-", **nowhere))
     trial.ends("check with standard input closed", ended, 2, b"")
     trial.test("check with standard input closed, in words", ended.err.count(b"\n") == 1, f"{ended.err}")
+    root = os.open("/", os.O_RDONLY)
+    ended = trial.end(trial.start("press", "-", stdin=root))
+    os.close(root)
+    trial.ends("press with a folder as standard input", ended, 2, b"")
 
 
 def wrong_lines(trial):
@@ -191,6 +195,7 @@ def places(trial):
     ended = run("check", files.case, files.log)
     trial.test("check installed", (ended.returncode, ended.stdout) == (0, b"accepted 1 2\n"), f"{ended}")
     trial.test("--version installed", run("--version").stdout.startswith(b"ceiling "))
+    trial.test("nothing is compiled beside it", not any("__pycache__" in folders for _, folders, _ in os.walk(prefix)))
     ended = trial.ask("check", files.case, files.log, programs=trial.empty())
     trial.test("check with an empty folder named", ended.status in (0, 2) and (ended.status == 2) == (ended.out == b""), f"{ended}")
 

@@ -61,6 +61,30 @@ def before(name, folder, to):
         os.symlink("real", to)
 
 
+def odd_outputs(trial):
+    """A name without a folder, the longest name, a link to a file not yet there, a pipe, standard output by its name behind other lines."""
+    files, folder = Files(trial), trial.empty()
+    inside = lambda: os.chdir(folder)
+    for name in ("to", "n" * 255):
+        trial.ends(f"press -o in this folder, {len(name)} letters", trial.run("press", files.case, "-o", name, before=inside), 0, b"")
+        trial.test(f"press -o in this folder, {len(name)} letters, the log", read(os.path.join(folder, name)) == P4_ROUND)
+    os.symlink("real", os.path.join(folder, "link"))
+    trial.ends("press -o to a link to nothing", trial.ask("press", files.case, "-o", os.path.join(folder, "link")), 0, b"")
+    trial.test("press -o to a link to nothing, the log", read(os.path.join(folder, "real")) == P4_ROUND)
+    pipe = os.path.join(folder, "pipe")
+    os.mkfifo(pipe)
+    reader = os.open(pipe, os.O_RDONLY | os.O_NONBLOCK)
+    trial.ends("press -o to a pipe", trial.ask("press", files.case, "-o", pipe), 0, b"")
+    trial.test("press -o to a pipe, the log", os.read(reader, 1000) == P4_ROUND)
+    os.close(reader)
+    trial.test("press -o, nothing else", sorted(os.listdir(folder)) == ["link", "n" * 255, "pipe", "real", "to"], f"{os.listdir(folder)}")
+    before("old", folder, os.path.join(folder, "to"))
+    with open(os.path.join(folder, "to"), "ab") as more:
+        trial.ends("press -o /dev/stdout behind other lines", trial.end(trial.start("press", files.case, "-o", "/dev/stdout", stdout=more)), 0)
+    both = read(os.path.join(folder, "to"))
+    trial.test("press -o /dev/stdout behind other lines, both", both == OLD + P4_ROUND, f"{both}")
+
+
 def unwritable(trial):
     """Where nothing can be written: status 2, one line that names the file, nothing left behind, what stood there stays."""
     files = Files(trial)
@@ -105,8 +129,7 @@ def failing_programs(trial):
     """A `press` or `replay` that goes wrong leaves no log behind; what it says is passed on."""
     case, log = inputs.many_rounds()
     path = trial.file("plan.case", case)
-    half = "cat > /dev/null; head -c %d %s\n" % (len(log) // 2 + 5, trial.file("log", log))
-    some = "cat > /dev/null; head -c %d %s\n" % (40 * LINE, trial.file("log", log))
+    half, some = ["cat > /dev/null; head -c %d %s\n" % (size, trial.file("log", log)) for size in (len(log) // 2 + 5, 40 * LINE)]
     long = "cat > /dev/null; for i in 1 2 3 4 5 6 7 8 9 10; do cat %s; done\n" % trial.file("log", log)
     ends = "printf 'refused 11 9999\\n'\n"
     for name, script, status, words in (
@@ -230,7 +253,7 @@ def failing_writes(trial, largest):
 
 
 def tests(trial, largest):
-    for part in (written, unwritable, failing_programs, sleeping):
+    for part in (written, odd_outputs, unwritable, failing_programs, sleeping):
         part(trial)
     signals(trial, largest)
     failing_writes(trial, largest)
