@@ -252,6 +252,14 @@ def witness(trial, name, text, log, state):
         trial.test(f"explain {name}, the family", not wrong and family[state.link] == {value}, f"{wrong} of {family} in {words}")
         trial.test(f"explain {name}, the partners", not partners(words, state, family), f"{partners(words, state, family)} in {words}")
         trial.test(f"explain {name}, the largest family", family == state.largest(value), f"{family}, not {state.largest(value)}")
+        trial.test(f"explain {name}, with all scopes raised", with_all_raised(words, state), words)
+
+
+def with_all_raised(words, state):
+    """Whether the words say rightly that the link could be pressed with all other scopes raised; they may say nothing of it."""
+    told = re.search(rf"all other scopes raised, link {state.link} could be pressed", words)
+    state.raised = set(range(state.case.scopes)) - {state.link}
+    return not told or all(set() in state.largest(value) for value in state.active())
 
 
 def told_family(words, state):
@@ -266,7 +274,7 @@ def told_family(words, state):
 
 def partners(words, state, family):
     """The pairs of channels that are given as examples: of the family, and open."""
-    found = re.findall(r"pair (\d+) \(scope (\d+)\), channels of links (\d+) and (\d+): (.+)$", words, re.M)
+    found = re.findall(r"pair (\d+) \(scope (\d+)\), (?:channels of )?links (\d+) and (\d+): (.+)$", words, re.M)
     wrong = [] if found or not any(scope >= state.case.n for scope in state.raised) else ["no pair"]
     for pair, scope, i, j, text in found:
         ends = state.case.pairs[int(pair)]
