@@ -3,6 +3,7 @@
 import os
 import shutil
 import subprocess
+import time
 
 from running.inputs import P4, P4_ROUND, line
 
@@ -160,6 +161,10 @@ def standard_input(trial):
     refused = trial.run("check", "-", files.log, data=P4 + line(4, 0, 0, 0, 3))
     trial.ends("check - refused", refused, 1, b"refused 12 10\n")
     trial.ends("press - refused", trial.run("press", "-", data=P4[:-1]), 1, b"")
+    process = trial.start("check", "-", files.log, stdin=subprocess.PIPE)
+    os.write(process.stdin.fileno(), P4[:100])
+    time.sleep(0.3)
+    trial.ends("check - in two pieces", trial.end(process, P4[100:]), 0, b"accepted 1 2\n")
 
 
 def same(trial, name, arguments, ended, wanted):
@@ -170,34 +175,34 @@ def same(trial, name, arguments, ended, wanted):
     trial.test(name, ended.status == 0 and good, f"{ended}"[:300])
 
 
-def places(trial):
-    """Installed, by a symbolic link, the programs are found beside it; where there are none, the words say how to build them."""
-    files = Files(trial)
-    scripts = os.path.dirname(trial.command.path)
-    prefix = trial.empty()
-    inside = os.path.join(prefix, "lib", "ceiling")
-    shutil.copytree(scripts, inside, ignore=shutil.ignore_patterns("__pycache__"))
-    shutil.copy(os.path.join(os.path.dirname(scripts), "VERSION"), inside)
-    os.mkdir(os.path.join(prefix, "bin"))
-    command = os.path.join(prefix, "bin", "ceiling")
-    os.symlink(os.path.join("..", "lib", "ceiling", os.path.basename(trial.command.path)), command)
-    environment = {name: value for name, value in os.environ.items() if name != "CEILING_PROGRAMS"}
+def placed(trial, name, scripts, version, programs):
+    """A copy of the scripts, reached by a symbolic link, the programs in this folder beside it: found there, and missed before they are."""
+    files, prefix = Files(trial), trial.empty()
+    ours, inside, beside = os.path.dirname(trial.command.path), os.path.join(prefix, scripts), os.path.join(prefix, programs)
+    shutil.copytree(ours, inside, ignore=shutil.ignore_patterns("__pycache__"))
+    shutil.copy(os.path.join(os.path.dirname(ours), "VERSION"), os.path.join(prefix, version))
+    os.makedirs(beside)
+    command = os.path.join(trial.empty(), "ceiling")
+    os.symlink(os.path.join(inside, "ceiling"), command)
+    environment = {variable: value for variable, value in os.environ.items() if variable != "CEILING_PROGRAMS"}
 
     def run(*arguments):
         return subprocess.run([command, *arguments], env=environment, capture_output=True)
 
-    for name in ("check", "press"):
-        ended = run(name, files.case, *[files.log][: name == "check"])
-        good = ended.returncode == 2 and ended.stdout == b"" and b"rt check press replay" in ended.stderr
-        trial.test(f"{name} without programs", good, f"{ended}")
-    for name in ("press", "replay"):
-        os.symlink(trial.programs[name], os.path.join(prefix, "bin", name))
     ended = run("check", files.case, files.log)
-    trial.test("check installed", (ended.returncode, ended.stdout) == (0, b"accepted 1 2\n"), f"{ended}")
-    trial.test("--version installed", run("--version").stdout.startswith(b"ceiling "))
-    trial.test("nothing is compiled beside it", not any("__pycache__" in folders for _, folders, _ in os.walk(prefix)))
-    ended = trial.ask("check", files.case, files.log, programs=trial.empty())
-    trial.test("check with an empty folder named", ended.status in (0, 2) and (ended.status == 2) == (ended.out == b""), f"{ended}")
+    good = ended.returncode == 2 and ended.stdout == b"" and b"rt check press replay" in ended.stderr
+    trial.test(f"{name} without programs", good, f"{ended}")
+    for program in ("press", "replay"):
+        os.symlink(trial.programs[program], os.path.join(beside, program))
+    ended = run("check", files.case, files.log)
+    trial.test(name, (ended.returncode, ended.stdout) == (0, b"accepted 1 2\n"), f"{ended}")
+    trial.test(f"{name}, --version", run("--version").stdout == trial.ask("--version").out)
+    trial.test(f"{name}, nothing is compiled beside it", not any("__pycache__" in folders for _, folders, _ in os.walk(prefix)))
+
+
+def places(trial):
+    placed(trial, "in a source tree", "scripts", "", os.path.join("target", "bin"))
+    placed(trial, "installed", os.path.join("lib", "ceiling"), os.path.join("lib", "ceiling"), "bin")
 
 
 def tests(trial):

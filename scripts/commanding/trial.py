@@ -19,8 +19,11 @@ class Trial:
         self.command = Command(os.path.join(root, "scripts", "ceiling"), "planning", "CEILING_PROGRAMS", self.stand_ins.folder())
         self.ask, self.run, self.start, self.end = self.command.ask, self.command.run, self.command.start, self.command.end
         self.count = Count()
-        self.test = self.count.test
         self.made = 0
+
+    def test(self, name, good, word=""):
+        """A test; what is wrong is printed on one line."""
+        self.count.test(name, good, ascii(word)[1:-1])
 
     def file(self, name, data):
         """A file of this name in a folder of its own."""
