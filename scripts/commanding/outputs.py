@@ -9,9 +9,10 @@ import time
 from picturing.columns import LINE
 from running import inputs
 from running.inputs import P4, P4_ROUND, line
-from running.stand_ins import COMPLAINS, DIES, SLEEPS, gone, says
+from running.stand_ins import COMPLAINS, DIES, SLEEPS, gone, judges, says
 
 from .exits import Files, told
+from .trial import last_line
 from .verdicts import read
 
 OLD = b"what stood here before\n"
@@ -167,6 +168,24 @@ def failing_programs(trial):
             to_output(trial, name, trial.ask("press", path, programs=programs), status, log)
 
 
+def failing_judge(trial):
+    """What `replay` turns back, or does not judge, is not converted. A page is drawn with what it says."""
+    files = Files(trial)
+    for status, script in ((1, says("refused 8 3\n")), (1, says("accepted 2 4\n")), (2, says("")), (2, says("accepted 0 4\n") + DIES)):
+        programs = trial.stand_ins.folder(replay=script)
+        for good, _ in [one for one in writers(files, None) if one[0][0] not in ("press", "picture")]:
+            folder = trial.empty()
+            ended = trial.ask(*good[:-1], os.path.join(folder, "to"), programs=programs)
+            trial.ends(f"{told(good[:-1])} where replay does {script!r}", ended, status, b"")
+            trial.test(f"{told(good[:-1])} where replay does {script!r}, nothing", os.listdir(folder) == [], f"{os.listdir(folder)}")
+    for words, status in (("accepted 3 -77\n", 0), ("refused 13 12\n", 1), ("", 2)):
+        programs = trial.stand_ins.folder(replay=judges(len(P4), "echo accepted 0 4\n", f"printf '{words}'\n"))
+        ended = trial.ask("picture", files.case, files.log, programs=programs)
+        trial.ends(f"picture where replay says {words!r}", ended, status, None if words else b"")
+        said = last_line(ended.err) == words.strip().encode() and words.strip().encode() in ended.out
+        trial.test(f"picture where replay says {words!r}, on the page", said or not words, f"{ended.err}")
+
+
 def to_output(trial, name, ended, status, log):
     """On standard output stand log lines at most."""
     trial.ends(f"{name}, on standard output", ended, status or ended.status)
@@ -209,10 +228,11 @@ def signals(trial, largest):
 
 
 def sleeping(trial):
-    """Programs that sleep are ended with the command; what was printed before stays printed."""
-    case = trial.file("plan.case", P4)
-    log = trial.file("plan.log", P4_ROUND)
-    for name, arguments in (("press", ["press", case]), ("replay", ["press", case]), ("replay", ["check", case, log]), ("replay", ["explain", case])):
+    """Programs that sleep are ended with the command, and nothing is written."""
+    case, log = trial.both(P4, P4_ROUND)
+    folder = trial.empty()
+    press = ["press", case, "-o", os.path.join(folder, "to")]
+    for name, arguments in (("press", press), ("replay", press), ("replay", ["check", case, log]), ("replay", ["explain", case])):
         for number in (signal.SIGINT, signal.SIGTERM):
             note = os.path.join(trial.empty(), "id")
             programs = trial.stand_ins.folder(**{name: f"echo $$ > {note}; {SLEEPS}"})
@@ -224,6 +244,7 @@ def sleeping(trial):
             trial.test(f"{title}, its status", begun and ended.status == 128 + number, f"{ended}")
             trial.test(f"{title}, the program ends", begun and wait(lambda: gone(note)))
             trial.test(f"{title}, no verdict", b"accepted" not in ended.out + ended.err, f"{ended}")
+            trial.test(f"{title}, no file", os.listdir(folder) == [], f"{os.listdir(folder)}")
 
 
 def failing_writes(trial, largest):
@@ -253,7 +274,7 @@ def failing_writes(trial, largest):
 
 
 def tests(trial, largest):
-    for part in (written, odd_outputs, unwritable, failing_programs, sleeping):
+    for part in (written, odd_outputs, unwritable, failing_programs, failing_judge, sleeping):
         part(trial)
     signals(trial, largest)
     failing_writes(trial, largest)

@@ -19,7 +19,7 @@ class Trial:
         self.command = Command(os.path.join(root, "scripts", "ceiling"), "planning", "CEILING_PROGRAMS", self.stand_ins.folder())
         self.ask, self.run, self.start, self.end = self.command.ask, self.command.run, self.command.start, self.command.end
         self.count = Count()
-        self.made = 0
+        self.made, self.printed = 0, {}
 
     def test(self, name, good, word=""):
         """A test; what is wrong is printed on one line."""
@@ -44,7 +44,9 @@ class Trial:
 
     def real(self, program, data):
         """What a program itself prints."""
-        return process.on_file([self.programs[program]], data).printed
+        if (program, data) not in self.printed:
+            self.printed[program, data] = process.on_file([self.programs[program]], data).printed
+        return self.printed[program, data]
 
     def peer(self, *words, data=b""):
         return process.on_file([self.programs["peer"], *words], data).printed
