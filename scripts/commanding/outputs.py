@@ -8,7 +8,7 @@ import time
 
 from picturing.columns import LINE
 from running import inputs
-from running.inputs import P4, P4_ROUND, line
+from running.inputs import P4, P4_ROUND
 from running.stand_ins import COMPLAINS, DIES, SLEEPS, gone, judges, says
 
 from .exits import Files, told

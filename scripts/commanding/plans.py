@@ -1,6 +1,8 @@
 """`score`: totals against those listed here, ties, plans that do not fit, the ceiling beside the best plan."""
 
 
+from picturing.case import MOST_CHANNELS, MOST_LINKS, MOST_PAIRS, STARTING
+from picturing.columns import LINE
 from running.inputs import P4, P4_ROUND, case, line
 
 
@@ -19,8 +21,8 @@ def every_plan(links, values):
 
 def totals(trial):
     """Every plan of a case of four links and three channels, one order of names and separators after another."""
-    links = [[5, -2, 0], [1000000, -1000000, 3], [0, 0, 7], [-1, -2, -3]]
-    pairs = [(0, 1, [-1000000, 1, 2, 3, 4, 5, 6, 7, 8]), (1, 3, list(range(9))), (0, 3, [-5] * 9)]
+    links = [[5, -2, 0], [STARTING, -STARTING, 3], [0, 0, 7], [-1, -2, -3]]
+    pairs = [(0, 1, [-STARTING, 1, 2, 3, 4, 5, 6, 7, 8]), (1, 3, list(range(9))), (0, 3, [-5] * 9)]
     path = trial.file("plan.case", case(3, links, pairs))
     marks = (b" ", b",", b";", b"\n", b"\r\n", b", ", b"  ", b";\n")
     plans = every_plan(4, 3)
@@ -52,12 +54,12 @@ def ties(trial):
 
 def largest(trial):
     """The largest case at the ends of its weights: what the plan does not use weighs the other end."""
-    for weight in (1000000, -1000000):
-        links = [[-weight] * 7 + [weight]] * 48
-        ends = [(i, j) for i in range(48) for j in range(i + 1, min(i + 4, 48))][:96]
-        text = case(8, links, [(i, j, [-weight] * 63 + [weight]) for i, j in ends])
-        path, plan = trial.file("plan.case", text), trial.file("plan", b" ".join([b"7"] * 48))
-        wanted = 144 * weight
+    n, d, last = MOST_LINKS, MOST_CHANNELS, MOST_CHANNELS - 1
+    ends = [(i, j) for i in range(n) for j in range(i + 1, min(i + 4, n))][:MOST_PAIRS]
+    for weight in (STARTING, -STARTING):
+        text = case(d, [[-weight] * last + [weight]] * n, [(i, j, [-weight] * (d * d - 1) + [weight]) for i, j in ends])
+        path, plan = trial.file("plan.case", text), trial.file("plan", b" ".join([b"%d" % last] * n))
+        wanted = (n + len(ends)) * weight
         trial.ends(f"score {wanted}", trial.ask("score", path, plan), 0, f"{wanted} {plan}\nbest {wanted} {plan}\n".encode())
 
 
@@ -78,7 +80,7 @@ def unfit(trial):
 def beside_ceiling(trial):
     path, log = trial.both(P4, P4_ROUND)
     met, below = trial.file("met", b"0 1"), trial.file("below", b"1 1")
-    higher = trial.file("plan.log", line(2, 0, 2, 0, 1) + P4_ROUND[27:81] + line(4, 0, 0, 0, 3))
+    higher = trial.file("plan.log", line(2, 0, 2, 0, 1) + P4_ROUND[LINE : 3 * LINE] + line(4, 0, 0, 0, 3))
     meets = b"the best plan meets the ceiling: no plan is better"
     for name, plans, used, ceiling, out in (
         ("met", [met], log, 2, f"2 {met}\nbest 2 {met}\n"),
@@ -93,7 +95,7 @@ def beside_ceiling(trial):
             gap = ceiling - int(out.split("best ")[1].split()[0])
             said = meets in ended.err if gap == 0 else meets not in ended.err and str(gap).encode() in ended.err
             trial.test(f"score --log {name}, in words", said, f"{ended.err}")
-    for name, text in (("cut", P4_ROUND[:-1]), ("wrong", P4_ROUND[:-27] + line(4, 0, 0, 0, 1)), ("too low", line(4, 0, 0, 0, -9))):
+    for name, text in (("cut", P4_ROUND[:-1]), ("wrong", P4_ROUND[:-LINE] + line(4, 0, 0, 0, 1)), ("too low", line(4, 0, 0, 0, -9))):
         verdict = trial.verdict(P4, text)
         ended = trial.ask("score", path, met, "--log", trial.file("plan.log", text))
         trial.ends(f"score --log {name}, refused", ended, 1)

@@ -3,9 +3,9 @@
 import random
 import re
 
-from picturing.case import MOST_CHANNELS, MOST_LINKS, MOST_PAIRS, read_case
-from picturing.columns import LINE
-from picturing.log import read_log
+from picturing.case import MOST_CHANNELS, MOST_LINKS, MOST_PAIRS, STARTING, read_case
+from picturing.columns import COLUMNS, LINE
+from picturing.log import MOVE, WORKING, read_log
 from running.inputs import P4, P4_ROUND, case, line, with_line
 
 from .trial import cut, plain
@@ -15,7 +15,6 @@ TRIANGLE = case(2, [[0, 0]] * 3, [(i, j, [-1, 0, 0, -1]) for i, j in ((0, 1), (0
 # A case whose figures nobody takes for others: its ceiling is 2011, and 1511 after the press by 500.
 ODD = case(2, [[1234, 0], [777, 0]], [(0, 1, [-3000, 0, 0, 0])])
 ODD_PRESS = line(2, 0, 2, 0, 500) + line(3, 1) + line(3, 2)
-P4_LINES = len(P4) // LINE
 
 
 def with_byte(text, at, byte):
@@ -41,7 +40,7 @@ def not_in_columns(trial):
     """Number 1 in the case and in the log: line ends, marks and encodings, and every way to write a number wrongly."""
     crlf = P4.replace(b"\n", b"\r\n")
     for name, text, patterns, byte in (
-        ("CRLF", crlf, ["CRLF|carriage return"], 27),
+        ("CRLF", crlf, ["CRLF|carriage return"], LINE),
         ("a byte order mark", b"\xef\xbb\xbf" + P4, ["byte order mark|BOM"], 1),
         ("a byte order mark and CRLF", b"\xef\xbb\xbf" + crlf, ["byte order mark|BOM"], 1),
         ("UTF-16", P4.decode().encode("utf-16"), ["UTF-16"], 1),
@@ -52,21 +51,20 @@ def not_in_columns(trial):
         ("a line feed too early", P4[: 2 * LINE + 3] + P4[2 * LINE + 4 :], ["line feed"], 3 * LINE - 1),
         ("an empty line", P4[: 3 * LINE] + b"\n" + P4[3 * LINE :], ["empty|line feed"], 3 * LINE + 1),
         ("one line with CRLF", P4[: 3 * LINE - 1] + b"\r" + P4[3 * LINE - 1 :], ["carriage return|CRLF"], 3 * LINE),
-        ("a case in the log", (P4, crlf[-28:]), ["CRLF|carriage return"], 27),
+        ("a log with CRLF", (P4, P4_ROUND.replace(b"\n", b"\r\n")), ["CRLF|carriage return"], LINE),
         ("a log with a byte order mark", (P4, b"\xef\xbb\xbf" + P4_ROUND), ["byte order mark|BOM"], 1),
         ("a log in UTF-16", (P4, P4_ROUND.decode().encode("utf-16")), ["UTF-16"], 1),
         ("a tab in the log", (P4, with_byte(P4_ROUND, LINE + 4, b"\t")), [r"\btab"], LINE + 5),
     ):
         asked(trial, name, text, 1, patterns, byte)
-    for name, amount, pattern, column in (
-        ("a number not at the edge", b"          2 ", "right", None), ("a leading zero", b"          02", "leading zero", None),
-        ("minus 0", b"          -0", "-0", None), ("a plus sign", b"          +2", "plus", 25), ("a letter", b"          2x", "letter|x", 26),
-        ("a space after the minus", b"         - 2", "minus|-", None), ("an empty column", b" " * 12, "number", None),
-        ("two minus signs", b"         --2", "minus|-", None), ("a point", b"         2.5", "point|[.]", 25),
-        ("a separator", b"       2,000", ",", 23),
+    first, end = COLUMNS[4]
+    for name, amount, pattern, back in (
+        ("a number not at the edge", b"2 ", "right", None), ("a leading zero", b"02", "leading zero", None), ("minus 0", b"-0", "-0", None),
+        ("a plus sign", b"+2", "plus", 1), ("a letter", b"2x", "letter|x", 0), ("a point", b"2.5", "point|[.]", 1), ("a separator", b"2,000", ",", 3),
+        ("a space after the minus", b"- 2", "minus|-", None), ("two minus signs", b"--2", "minus|-", None), ("an empty column", b"", "number", None),
     ):
-        changed = line(11, 0, 0, 0, 0)[:14] + amount + b"\n"
-        asked(trial, name, with_line(P4, 1, changed), 1, [pattern], LINE + column if column else None)
+        changed = line(11)[:first] + amount.rjust(end - first) + b"\n"
+        asked(trial, name, with_line(P4, 1, changed), 1, [pattern], LINE + end - back if back is not None else None)
 
 
 def kinds(trial):
@@ -94,9 +92,10 @@ def kinds(trial):
 def ranges(trial):
     """Numbers 3, 5 and 8: the limits, the place that is due, the range."""
     for name, head, pattern in (
-        ("49 links", line(10, 49, 2, 1), f"1 to {MOST_LINKS}"), ("no links", line(10, 0, 2, 1), f"1 to {MOST_LINKS}"),
-        ("9 channels", line(10, 2, 9, 1), f"1 to {MOST_CHANNELS}"), ("no channels", line(10, 2, 0, 1), f"1 to {MOST_CHANNELS}"),
-        ("97 pairs", line(10, 2, 2, 97), f"0 to {MOST_PAIRS}"), ("-1 pairs", line(10, 2, 2, -1), f"0 to {MOST_PAIRS}"),
+        ("links past the limit", line(10, MOST_LINKS + 1, 2, 1), f"1 to {MOST_LINKS}"), ("no links", line(10, 0, 2, 1), f"1 to {MOST_LINKS}"),
+        ("channels past the limit", line(10, 2, MOST_CHANNELS + 1, 1), f"1 to {MOST_CHANNELS}"),
+        ("no channels", line(10, 2, 0, 1), f"1 to {MOST_CHANNELS}"),
+        ("pairs past the limit", line(10, 2, 2, MOST_PAIRS + 1), f"0 to {MOST_PAIRS}"), ("-1 pairs", line(10, 2, 2, -1), f"0 to {MOST_PAIRS}"),
     ):
         asked(trial, name, with_line(P4, 0, head), 3, [rf"\b{pattern}\b"])
     for name, at, new, pattern in (
@@ -110,16 +109,16 @@ def ranges(trial):
         asked(trial, name, with_line(TRIANGLE, at, new), 5, [pattern])
     for name, new, pattern in (
         ("a press of link 2", line(2, 2, 2, 0, 1), r"\b0 to 1\b"), ("a press of 3 scopes", line(2, 0, 3, 0, 1), r"\b1 to 2\b"),
-        ("a press of no scope", line(2, 0, 0, 0, 1), r"\b1 to 2\b"), ("a press by 0", line(2, 0, 2, 0, 0), r"\b1 to 1000000000\b"),
+        ("a press of no scope", line(2, 0, 0, 0, 1), r"\b1 to 2\b"), ("a press by 0", line(2, 0, 2, 0, 0), rf"\b1 to {MOVE}\b"),
         ("scope 3", line(2, 0, 2, 0, 1) + line(3, 3), r"\b0 to 2\b"), ("a shift of pair 1", line(1, 1, 0, 0, 1), r"\b0\b"),
         ("a shift at end 2", line(1, 0, 2, 0, 1), r"\b0 (or|to|and) 1\b"), ("a shift of channel 2", line(1, 0, 0, 2, 1), r"\b0 to 1\b"),
-        ("a shift by 0", line(1, 0, 0, 0, 0), r"\b0\b.*1000000000\b"), ("a shift by too much", line(1, 0, 0, 0, 1000000001), r"\b1000000000\b"),
+        ("a shift by 0", line(1, 0, 0, 0, 0), rf"\b0\b.*{MOVE}\b"), ("a shift by too much", line(1, 0, 0, 0, MOVE + 1), rf"\b{MOVE}\b"),
     ):
         asked(trial, name, (P4, new), 5, [pattern])
     for name, at, new in (
-        ("a link weight too great", 1, line(11, 0, 0, 0, 1000001)), ("a pair weight too small", 7, line(13, 0, 0, 1, -1000001))
+        ("a link weight too great", 1, line(11, 0, 0, 0, STARTING + 1)), ("a pair weight too small", 7, line(13, 0, 0, 1, -STARTING - 1))
     ):
-        asked(trial, name, with_line(P4, at, new), 8, [r"-1000000\b", r"[^-]\b1000000\b"])
+        asked(trial, name, with_line(P4, at, new), 8, [rf"-{STARTING}\b", rf"[^-]\b{STARTING}\b"])
 
 
 def order(trial):
@@ -136,12 +135,13 @@ def order(trial):
 
 def figures(trial):
     """Numbers 11, 12 and 13: the weight, the ceiling that is right here, both ceilings."""
-    for name, log, patterns in (
-        ("a shift of 600000000", line(1, 0, 0, 0, 600000000), [r"600001234|-600003000|-600000000", r"500000000\b"]),
-        ("a shift of -600000000", line(1, 0, 1, 1, -600000000), [r"-600000000|\b600000000", r"500000000\b"]),
-        ("a press by 700000000", line(2, 0, 2, 0, 700000000) + line(3, 1) + line(3, 2), [r"-699998766|\b700000000|\b699997000", r"500000000\b"]),
+    far = WORKING + 5000
+    for name, log, weights in (
+        ("a shift too far up", line(1, 0, 0, 0, far), (far + 1234, -far - 3000, -far)),
+        ("a shift too far down", line(1, 0, 1, 1, -far), (-far, far)),
+        ("a press too far", line(2, 0, 2, 0, far) + line(3, 1) + line(3, 2), (1234 - far, far, far - 3000)),
     ):
-        asked(trial, name, (ODD, log), 11, patterns)
+        asked(trial, name, (ODD, log), 11, ["|".join(rf"(?<![-\d]){weight}\b" for weight in weights), rf"\b{WORKING}\b"])
     for name, log, right in (
         ("a wrong ceiling", ODD_PRESS + line(4, 0, 0, 0, 1500), "1511"), ("a ceiling without a move", line(4, 0, 0, 0, 7), "2011"),
         ("a wrong ceiling in the second round", ODD_PRESS + line(4, 0, 0, 0, 1511) + line(1, 0, 0, 0, 100) + line(4, 0, 0, 0, 1499), "1611"),
@@ -160,18 +160,18 @@ def cut_off(trial):
     raised = len(ODD_PRESS) - LINE
     for name, text, patterns, byte in (
         ("the last line feed", P4[:-1], ["line feed"], len(P4)),
-        ("5 bytes of a case", P4[:-5], [r"\b5\b|\b22\b"], None),
+        ("5 bytes of a case", P4[:-5], [rf"\b5\b|\b{LINE - 5}\b"], None),
         ("the last line of a case", P4[:-LINE], ["pair 0, channels? 1 and 1", "kind 13, a 0, b 1, c 1"], None),
         ("a case after its head", P4[:LINE], ["link 0, channel 0", "kind 11, a 0, b 0"], None),
         ("a pair line", P4[: 5 * LINE], [r"pair 0\b", "kind 12, a 0"], None),
         ("a case", b"", [r"\bhead\b|kind 10|empty"], None),
-        ("5 bytes of a log", (ODD, ODD_PRESS + line(4, 0, 0, 0, 1511)[:-5]), [r"\b5\b|\b22\b"], None),
+        ("5 bytes of a log", (ODD, ODD_PRESS + line(4, 0, 0, 0, 1511)[:-5]), [rf"\b5\b|\b{LINE - 5}\b"], None),
         ("a log's last line feed", (ODD, ODD_PRESS + line(4, 0, 0, 0, 1511)[:-1]), ["line feed"], len(ODD_PRESS) + LINE),
         ("two raise lines", (ODD, ODD_PRESS[:LINE]), [r"\b2 (more raise lines|missing)"], None),
         ("one raise line", (ODD, ODD_PRESS[:raised]), [r"\b1 (more raise line|missing)\b"], None),
         ("a bound line", (ODD, ODD_PRESS), ["bound", r"\b1511\b"], None),
         ("a bound line after a shift", (ODD, line(1, 0, 0, 1, 5)), ["bound"], None),
-        ("part of a line after the case", (P4, b" "), [r"\b26\b|\b1\b"], None),
+        ("part of a line after the case", (P4, b" "), [rf"\b{LINE - 1}\b|\b1\b|blank"], None),
     ):
         asked(trial, f"{name} is missing", text, 14, patterns, byte)
 
