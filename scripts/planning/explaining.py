@@ -50,8 +50,8 @@ def accepted_case(case, verdict):
 
 
 def log_place(case, log, verdict):
-    lines = len(case.front()) // LINE
-    return Place(log, verdict.second - lines, verdict.second, case.front(), 0)
+    lines, line = len(case.front()) // LINE, verdict.second
+    return Place(log, line - lines, line, case.front(), 0) if line >= lines else Place(case, line, line, None, 0)
 
 
 def case_place(case, verdict):

@@ -8,7 +8,7 @@ from .failed import Failed
 from .programs import Program, converse
 from .unfit import Unfit
 
-LINE = re.compile(rb"(accepted|refused) (-?[0-9]{1,20}) (-?[0-9]{1,20})\n")
+LINE = re.compile(rb"(?:(accepted) ([0-9]{1,20}) (-?[0-9]{1,20})|refused ([0-9]{1,20}) ([0-9]{1,20}))\n")
 # More than `replay` ever prints.
 MOST = 1000
 
@@ -42,8 +42,8 @@ def verdict(printed):
     match = LINE.fullmatch(printed)
     if not match:
         raise Failed("replay gave no judgement")
-    word, first, second = match.groups()
-    return Verdict(printed, word == b"accepted", int(first), int(second))
+    accepted, *numbers = match.groups()
+    return Verdict(printed, bool(accepted), *(int(number) for number in numbers if number))
 
 
 def judge(*inputs):

@@ -2,12 +2,15 @@
 
 import errno
 import os
+import re
 import stat
 import tempfile
 
 from . import standard
 from .failed import Failed, failed, undisturbed
 
+# Names of what is open already: written to as it stands.
+OPEN = re.compile(r"/dev/(?:stdout|(stderr)|fd/([0-9]{1,9}))")
 # Files that are not in place yet.
 unfinished = set()
 
@@ -16,6 +19,9 @@ def output(name):
     """Where a result goes: standard output, a file that is put in place when it is complete, or a device."""
     if name in (None, "-"):
         return Direct(1, standard.OUTPUT)
+    opened = OPEN.fullmatch(name)
+    if opened:
+        return Direct(int(opened[2] or 1 + bool(opened[1])), name)
     try:
         found = os.stat(name)
     except FileNotFoundError:

@@ -59,8 +59,8 @@ def read_plan(case, source):
 def total(case, plan):
     """The ceiling of the case that has this plan alone."""
     verdict = judge([alone(case, plan)])
-    if not verdict.accepted:
-        raise Failed(f"replay turned back a case of one plan: {line(verdict)}")
+    if not verdict.accepted or verdict.first > 0:
+        raise Failed(f"replay gave no total for a case of one plan: {line(verdict)}")
     return verdict.second
 
 
