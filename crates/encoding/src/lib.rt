@@ -42,14 +42,6 @@ struct Press {
     last: Last,
 }
 
-// ---- the version
-
-pub fn version() -> u64
-    ensures { λ r. ⌜ r ≡ versionNumber ⌝ }
-{
-    10000
-}
-
 // ---- numbers
 
 fn wide(x: u8) -> u64
@@ -403,4 +395,12 @@ pub fn write_record(replay: Replay, out: &mut RecordArray)
     put_numbers(out, replay.rounds, replay.start, press);
     put_tags(out, replay.moved, press, standing);
     put_marks(out, 52, &replay.raised);
+}
+
+// ---- the version
+
+pub fn version() -> u64
+    ensures { λ r. ⌜ r ≡ versionNumber ⌝ }
+{
+    10000
 }
