@@ -8,19 +8,19 @@ commands:
   press      make the log that lowers a case's ceiling
              ceiling press samples/valley.case -o valley.log
   check      judge a log
-             ceiling check samples/valley.case valley.log
+             ceiling check samples/valley.case samples/valley.log
   explain    say in words what was accepted, or why a file was refused
-             ceiling explain samples/valley.case valley.log
+             ceiling explain samples/valley.case samples/valley.log
   picture    draw a case and its log as a page for the browser
-             ceiling picture samples/valley.case valley.log -o valley.html
+             ceiling picture samples/valley.case samples/valley.log -o valley.html
   score      the totals of plans, and how far the best is below the ceiling
-             ceiling score samples/triangle.case first.plan second.plan
+             ceiling score samples/valley.case samples/valley.plan --log samples/valley.log
   from-csv   make a case of two spreadsheets, links and pairs
-             ceiling from-csv links.csv pairs.csv -o valley.case
+             ceiling from-csv samples/valley-links.csv samples/valley-pairs.csv -o valley.case
   to-csv     write a case as two spreadsheets
              ceiling to-csv samples/valley.case links.csv pairs.csv
   from-wcsp  make a case of a file of toulbar2
-             ceiling from-wcsp valley.wcsp -o valley.case
+             ceiling to-wcsp samples/valley.case | ceiling from-wcsp - -o again.case
   to-wcsp    write a case for toulbar2
              ceiling to-wcsp samples/valley.case -o valley.wcsp
 
@@ -47,7 +47,7 @@ Runs `press` on the case. Its log goes to LOG, or to standard output. `replay` j
 meanwhile: LOG is put in place only where it is accepted. The last line on standard
 error says how many rounds there are and what the ceiling is. On a terminal a long run
 shows the rounds so far and the falling ceiling.""",
-        "0 accepted, 1 the case was refused (nothing is written under LOG), 2 otherwise",
+        "0 accepted, 1 the case was refused (nothing is written; an older LOG stays), 2 otherwise",
         ["ceiling press samples/valley.case -o valley.log", "ceiling press - < samples/triangle.case > triangle.log"],
     ),
     "check": (
@@ -57,7 +57,7 @@ Prints the judgement of `replay` on the log: `accepted ROUNDS CEILING`, or `refu
 with the number of the rule and the line, counted from 0 through case and log. The case
 is judged alone first: no line of the log can stand in for one of the case.""",
         "0 accepted, 1 refused, 2 otherwise",
-        ["ceiling check samples/valley.case valley.log", "ceiling press samples/triangle.case | ceiling check samples/triangle.case -"],
+        ["ceiling check samples/valley.case samples/valley.log", "ceiling press samples/triangle.case | ceiling check samples/triangle.case -"],
     ),
     "explain": (
         ["CASE", "[LOG]"],
@@ -66,7 +66,7 @@ Prints the judgement of `replay` on the case, or on case and log as `check` does
 then what it means: what an accepted log shows; of a refused file the rule, the line as
 editors count it, the byte, and what would have been right.""",
         "0 accepted, 1 refused, 2 otherwise",
-        ["ceiling explain samples/valley.case", "ceiling explain samples/valley.case valley.log"],
+        ["ceiling explain samples/valley.case", "ceiling explain samples/valley.case samples/valley.log"],
     ),
     "picture": (
         ["CASE", "LOG", "-o PAGE"],
@@ -75,20 +75,20 @@ Writes an HTML page to PAGE, or to standard output: the network, the fall of the
 and each round beside the rows of the case that it touches. The judgement of `replay` is
 on the page and is the last line on standard error.""",
         "0 accepted, 1 refused (the page is written as far as it can be drawn), 2 otherwise",
-        ["ceiling picture samples/valley.case valley.log -o valley.html"],
+        ["ceiling picture samples/valley.case samples/valley.log -o valley.html"],
     ),
     "score": (
         ["CASE", "PLAN..", "--log LOG"],
         """\
 A PLAN is a file of whole numbers: the channel of each link from link 0 on, separated by
-spaces, commas, semicolons or line ends. Prints `TOTAL NAME` for each plan and then
+spaces, commas, semicolons or line ends. Its total is the figure of `replay` for the case
+with these channels alone. Prints `TOTAL NAME` for each plan and then
 `best TOTAL NAME`, the first of the best. With a log of the case, also `ceiling C`, and on
 standard error how far the best plan is below it.""",
         "0 scored, 1 refused, or a plan does not fit the case, 2 otherwise",
         [
             "echo 0 1 0 | ceiling score samples/triangle.case -",
-            "ceiling score samples/triangle.case first.plan second.plan",
-            "ceiling score samples/triangle.case first.plan --log triangle.log",
+            "ceiling score samples/valley.case samples/valley.plan --log samples/valley.log",
         ],
     ),
     "from-csv": (
@@ -99,14 +99,18 @@ name and its weight on each channel. PAIRS: a header row of five cells, then row
 links, their two channels, and the weight; what no row names weighs 0. The separator is
 a comma, a semicolon or a tab. The case goes to CASE, or to standard output.""",
         "0 converted, 1 a file cannot be converted (nothing is written), 2 otherwise",
-        ["ceiling from-csv links.csv pairs.csv -o valley.case", "ceiling from-csv links.csv pairs.csv | ceiling explain -"],
+        [
+            "ceiling from-csv samples/valley-links.csv samples/valley-pairs.csv -o valley.case",
+            "ceiling from-csv samples/valley-links.csv samples/valley-pairs.csv | ceiling press -",
+        ],
     ),
     "to-csv": (
         ["CASE", "LINKS", "PAIRS"],
         """\
 Writes the case as two spreadsheets: LINKS, a row for each link with its weight on each
-channel; PAIRS, a row for each two links and channels whose weight is not 0. Both files
-are written, or none.""",
+channel; PAIRS, a row for each two links and channels whose weight is not 0. Links and
+channels are named by their numbers: a case has no other names. Both files are written,
+or none.""",
         "0 converted, 1 the case was refused (nothing is written), 2 otherwise",
         ["ceiling to-csv samples/valley.case links.csv pairs.csv"],
     ),
@@ -117,13 +121,14 @@ Makes a case of a weighted CSP in toulbar2's text format. Costs are minimised th
 weight is minus a cost; how totals and costs belong together is said on standard error.
 The case goes to CASE, or to standard output.""",
         "0 converted, 1 the file cannot be converted (nothing is written), 2 otherwise",
-        ["ceiling from-wcsp valley.wcsp -o valley.case", "ceiling from-wcsp valley.wcsp | ceiling press -"],
+        ["ceiling to-wcsp samples/valley.case | ceiling from-wcsp - -o again.case", "ceiling from-wcsp other.wcsp | ceiling press -"],
     ),
     "to-wcsp": (
         ["CASE", "-o FILE"],
         """\
 Writes the case in toulbar2's text format, to FILE or to standard output. The cost of a
-plan is the ceiling minus its total; the number is said on standard error.""",
+plan is the ceiling minus its total; the number is said on standard error. Back again by
+from-wcsp all totals are lower by one number, which the two constants give.""",
         "0 converted, 1 the case was refused (nothing is written), 2 otherwise",
         ["ceiling to-wcsp samples/valley.case -o valley.wcsp"],
     ),
