@@ -205,6 +205,19 @@ def places(trial):
     placed(trial, "installed", os.path.join("lib", "ceiling"), os.path.join("lib", "ceiling"), "bin")
 
 
+def environments(trial):
+    """Python's variables of the environment change nothing; without Python there is a word and status 2."""
+    files, folder = Files(trial), trial.empty()
+    with open(os.path.join(folder, "select.py"), "w", encoding="ascii") as file:
+        file.write("raise SystemExit(0)\n")
+    for variable, value in (("PYTHONSAFEPATH", "1"), ("PYTHONINSPECT", "1"), ("PYTHONHOME", "/x"), ("PYTHONPATH", folder)):
+        for log, status, verdict in ((files.log, 0, b"accepted 1 2\n"), (files.bad_log, 1, b"refused 14 13\n")):
+            ended = trial.run("check", files.case, log, variables={variable: value})
+            trial.ends(f"check {told([log])} with {variable}", ended, status, verdict)
+    ended = trial.run("check", files.case, files.log, variables={"PATH": folder})
+    trial.ends("check without Python", ended, 2, b"", b"ceiling: there is no python3 on the PATH\n")
+
+
 def tests(trial):
-    for part in (statuses, unreadable, wrong_lines, odd_names, help_and_version, standard_input, places):
+    for part in (environments, statuses, unreadable, wrong_lines, odd_names, help_and_version, standard_input, places):
         part(trial)

@@ -62,12 +62,11 @@ class Command:
         finally:
             os._exit(status)
 
-    def start(self, *arguments, stdin=subprocess.DEVNULL, stdout=subprocess.PIPE, stderr=subprocess.PIPE, programs=None, before=None):
-        """The script as a process, left to run."""
-        environment = self.environment(programs)
-        return subprocess.Popen(
-            [self.path, *arguments], stdin=stdin, stdout=stdout, stderr=stderr, env=environment, preexec_fn=before, start_new_session=True
-        )
+    def start(self, *arguments, programs=None, variables=None, before=None, **streams):
+        """The script as a process, left to run, with these variables in its environment."""
+        streams = {"stdin": subprocess.DEVNULL, "stdout": subprocess.PIPE, "stderr": subprocess.PIPE, **streams}
+        environment = {**self.environment(programs), **(variables or {})}
+        return subprocess.Popen([self.path, *arguments], env=environment, preexec_fn=before, start_new_session=True, **streams)
 
     def run(self, *arguments, data=b"", **how):
         """The script as a process, its standard input a pipe."""
