@@ -159,19 +159,25 @@ def cut_off(trial):
     """Number 14: what is missing of a line, a press, a round, a case."""
     raised = len(ODD_PRESS) - LINE
     for name, text, patterns, byte in (
-        ("the last line feed", P4[:-1], ["line feed"], len(P4)),
+        ("the last line feed", P4[:-1], ["line feed", "accepted 0 4"], len(P4)),
         ("5 bytes of a case", P4[:-5], [rf"\b5\b|\b{LINE - 5}\b"], None),
         ("the last line of a case", P4[:-LINE], ["pair 0, channels? 1 and 1", "kind 13, a 0, b 1, c 1"], None),
         ("a case after its head", P4[:LINE], ["link 0, channel 0", "kind 11, a 0, b 0"], None),
         ("a pair line", P4[: 5 * LINE], [r"pair 0\b", "kind 12, a 0"], None),
         ("a case", b"", [r"\bhead\b|kind 10|empty"], None),
         ("5 bytes of a log", (ODD, ODD_PRESS + line(4, 0, 0, 0, 1511)[:-5]), [rf"\b5\b|\b{LINE - 5}\b"], None),
-        ("a log's last line feed", (ODD, ODD_PRESS + line(4, 0, 0, 0, 1511)[:-1]), ["line feed"], len(ODD_PRESS) + LINE),
+        ("a log's last line feed", (ODD, ODD_PRESS + line(4, 0, 0, 0, 1511)[:-1]), ["line feed", "accepted 1 1511"], len(ODD_PRESS) + LINE),
         ("two raise lines", (ODD, ODD_PRESS[:LINE]), [r"\b2 (more raise lines|missing)"], None),
         ("one raise line", (ODD, ODD_PRESS[:raised]), [r"\b1 (more raise line|missing)\b"], None),
         ("a bound line", (ODD, ODD_PRESS), ["bound", r"\b1511\b"], None),
         ("a bound line after a shift", (ODD, line(1, 0, 0, 1, 5)), ["bound"], None),
         ("part of a line after the case", (P4, b" "), [rf"\b{LINE - 1}\b|\b1\b|blank"], None),
+        ("the feed of a wrong bound line", (TRIANGLE, line(4, 0, 0, 0, 99)[:-1]), ["line feed", "refused 12 22", r"ceiling is 0 here"], LINE),
+        ("the feed of a press", (ODD, ODD_PRESS[: LINE - 1]), ["line feed", "refused 14 11", r"\b2 missing"], LINE),
+        ("the feed of a raise line", (ODD, ODD_PRESS[:-1]), ["line feed", "refused 14 13", r"\b1511\b"], len(ODD_PRESS)),
+        ("the feed of a head", P4[: LINE - 1], ["line feed", "refused 14 1`", "kind 11, a 0, b 0"], LINE),
+        ("the feed of a weight too great", P4[:LINE] + line(11, 0, 0, 0, STARTING + 1)[:-1], ["line feed", "refused 8 1`"], 2 * LINE),
+        ("a log's last line feed behind its case", ODD + ODD_PRESS[:-1], ["line feed", "refused 14 13", r"\b1511\b"], len(ODD + ODD_PRESS)),
     ):
         asked(trial, f"{name} is missing", text, 14, patterns, byte)
 

@@ -5,12 +5,12 @@ from picturing.columns import LINE, Refused
 
 from . import standard
 from .in_case import Sheet
-from .judging import judge, judge_case
+from .judging import judge, judge_case, line
 from .places import Place
 from .reason import reason
-from .reasons import find
+from .reasons import find, lacks_feed
 from .rules import RULES, counted
-from .sources import Source
+from .sources import Longer, Source
 
 
 def run(options):
@@ -23,8 +23,8 @@ def run(options):
     else:
         words = accepted_case(case, verdict) if verdict.accepted else refused(case_place(case, verdict), verdict)
     standard.write(verdict.printed)
-    for line in words:
-        standard.write(standard.encoded(line + "\n"))
+    for row in words:
+        standard.write(standard.encoded(row + "\n"))
     return 0 if verdict.accepted else 1
 
 
@@ -50,17 +50,17 @@ def accepted_case(case, verdict):
 
 
 def log_place(case, log, verdict):
-    lines, line = len(case.front()) // LINE, verdict.second
-    return Place(log, line - lines, line, case.front(), 0) if line >= lines else Place(case, line, line, None, 0)
+    lines, at = len(case.front()) // LINE, verdict.second
+    return Place(log, at - lines, at, case.front(), 0) if at >= lines else Place(case, at, at, None, 0)
 
 
 def case_place(case, verdict):
     """The place in a case, or in a log that follows it in the same file."""
-    front, line = case.front(), verdict.second
+    front, at = case.front(), verdict.second
     whole = front[: whole_case(front) * LINE]
-    if whole and line >= len(whole) // LINE:
-        return Place(case, line, line, whole, len(whole) // LINE)
-    return Place(case, line, line, None, 0)
+    if whole and at >= len(whole) // LINE:
+        return Place(case, at, at, whole, len(whole) // LINE)
+    return Place(case, at, at, None, 0)
 
 
 def whole_case(front):
@@ -73,13 +73,34 @@ def whole_case(front):
     return count
 
 
+def rule(number):
+    """The name of a rule, and what it asks."""
+    return RULES.get(number, ("this tree's words do not know it", ""))
+
+
 def refused(place, verdict):
     number = verdict.first
-    name, general = RULES.get(number, ("this tree's words do not know it", ""))
+    name, general = rule(number)
     found = find(number, place) or reason(0, general)
     yield f"Rule {number}: {name}."
     yield place.words(found.offset)
     yield from place.shown(found.offset)
     yield from found.words
+    if number == 14 and lacks_feed(place.raw):
+        yield from with_feed(place)
     if place.before:
         yield f"The file holds more than the case, which ends with line {place.before}; what follows was read as a log."
+
+
+def with_feed(place):
+    """What `replay` says when the last line has its line feed, and why."""
+    source = Longer(place.source, place.start + len(place.raw), b"\n")
+    first = [place.case] if place.case and not place.before else []
+    verdict = judge(first, source.blocks(0, None))
+    if verdict.accepted:
+        yield f"With it replay says `{line(verdict)}`."
+        return
+    at = verdict.second - place.counted + place.line
+    found = find(verdict.first, Place(source, at, verdict.second, place.case, place.before))
+    yield f"With it replay says `{line(verdict)}`, rule {verdict.first} in line {at + 1}: {rule(verdict.first)[0]}."
+    yield from found.words if found else []

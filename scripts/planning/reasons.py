@@ -52,7 +52,7 @@ def ended(place, front):
     if whole:
         return whole
     words = cut(part)
-    if in_columns(part + b"\n"):
+    if lacks_feed(part):
         return reason(at, *words)
     try:
         words += case_ends(front, place.line) if place.case is None else log_ends(standing(place), place.before)
@@ -63,14 +63,19 @@ def ended(place, front):
     return reason(at, *words)
 
 
+def lacks_feed(part):
+    """Whether a line feed makes the part of a line at the end a line in columns."""
+    return in_columns(part + b"\n")
+
+
 def cut(part):
     """A part of a line at the end."""
     if not part:
         return []
     if not part.strip():
         return ["An empty line or blanks stand at the end of the file, where no part of a line may be: take them out."]
-    if in_columns(part + b"\n"):
-        return ["The last line lacks its line feed alone: end the line in the editor, and save the file again."]
+    if lacks_feed(part):
+        return ["The last line lacks its line feed: end the line in the editor, and save the file again."]
     if b"\n" in part:
         return [*fault(part, part).words, *properly(part)]
     return [f"The last line is cut off: it has {len(part)} of {LINE} bytes."]

@@ -84,3 +84,21 @@ class Source:
         if len(data) > most:
             raise Unfit(f"{self.label}: the file is longer than {most:,} bytes")
         return data
+
+
+class Longer:
+    """A source with more bytes at its end."""
+
+    def __init__(self, source, size, more):
+        self.source, self.size, self.more = source, size, more
+        self.label = source.label
+
+    def front(self):
+        front = self.source.front()
+        return front + self.more if len(front) == self.size else front
+
+    def blocks(self, at, end):
+        for data in self.source.blocks(at, end):
+            yield data
+            at += len(data)
+        yield self.more[at - self.size : None if end is None else max(end - self.size, 0)]
