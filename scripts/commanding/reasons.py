@@ -28,7 +28,7 @@ def asked(trial, name, text, number, patterns, byte=None):
     verdict = trial.verdict(case, log or b"")
     trial.test(f"{name} is refused by {number}", verdict.split()[:2] == [b"refused", b"%d" % number], f"{verdict}")
     words = explained(trial, name, files, case, verdict)
-    missing = [pattern for pattern in patterns if not re.search(pattern, words, re.I | re.S)]
+    missing = [pattern for pattern in patterns if not re.search(pattern, words, re.I | re.S | re.M)]
     trial.test(f"explain {name}, its words", not missing, f"{missing} not in {words}")
     if byte:
         column = (byte - 1) % LINE + 1
@@ -65,6 +65,24 @@ def not_in_columns(trial):
     ):
         changed = line(11)[:first] + amount.rjust(end - first) + b"\n"
         asked(trial, name, with_line(P4, 1, changed), 1, [pattern], LINE + end - back if back is not None else None)
+    signs(trial)
+
+
+def signs(trial):
+    """Characters of several bytes, as text programs put them: the character and its column as an editor counts it, and the line as it should be."""
+    first = line(11, 0, 0, 0, -5)
+    proper = rf"^    {first.decode()}"
+    for name, at, sign, patterns in (
+        ("a minus sign of text", LINE - 3, "\u2212", ["minus sign", r"U\+2212", "write `-`", proper]),
+        ("a hard space", 3, "\u00a0", ["hard space", r"U\+00A0", proper]),
+        ("a letter of two bytes", 5, "\u00e9", [r"U\+00E9"]),
+        ("a letter of Latin-1", 5, b"\xe9", [r"byte E9"]),
+        ("half a character", LINE - 2, b"\xe2\x88", ["byte E2"]),
+        ("a hard space behind the line", LINE - 1, "\u00a0", ["hard space", f"after {LINE - 1} bytes a line feed is due"]),
+    ):
+        sign = sign if isinstance(sign, bytes) else sign.encode()
+        text = first[:at] + sign + first[at + (at < LINE - 1) :]
+        asked(trial, name, P4[:LINE] + text + P4[2 * LINE :], 1, patterns, LINE + at + 1)
 
 
 def kinds(trial):

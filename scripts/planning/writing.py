@@ -1,6 +1,7 @@
 """Why a line is not in columns (number 1)."""
 
 import re
+import unicodedata
 
 from picturing.columns import COLUMNS, LINE, NUMBER, line
 
@@ -10,6 +11,16 @@ from .rules import NAMES
 
 TEXT = LINE - 1
 NUMBERS = re.compile(rb"[+-]?[0-9]{1,12}")
+FOREIGN = re.compile(rb"[\x7f-\xff]")
+# Signs that text programs put in the place of a sign that a line may hold.
+SIGNS = {
+    "\u2212": ("a minus sign of text", "-"),
+    "\u2010": ("a hyphen of text", "-"),
+    "\u2013": ("a dash", "-"),
+    "\u00a0": ("a hard space", " "),
+    "\u2007": ("a space of a digit's width", " "),
+    "\u202f": ("a narrow hard space", " "),
+}
 BYTES = {0: "a NUL byte", 9: "a tab", 13: "a carriage return", 32: "a space", 43: "a plus sign", 45: "a minus sign", 160: "a hard space"}
 
 
@@ -28,14 +39,18 @@ def not_in_columns(front, start, raw, text):
 def fault(raw, text):
     """What is wrong in the line itself."""
     tab, feed = raw.find(b"\t"), raw.find(b"\n")
-    if 0 <= tab < (feed if feed >= 0 else LINE):
+    end = feed if feed >= 0 else LINE
+    odd = FOREIGN.search(raw, 0, min(end, TEXT))
+    if 0 <= tab < (odd.start() if odd else end):
         return reason(tab, "A tab stands where spaces are due.")
+    if odd:
+        return reason(odd.start(), f"Here stands {sign_named(text[odd.start() :])}: a line holds digits, minus signs and spaces of one byte each.")
     if feed == 0:
         return reason(0, "The line is empty.")
     if 0 <= feed < TEXT:
         if raw[feed - 1] == 13:
-            return reason(feed - 1, f"The line ends with carriage return and line feed; a line feed alone is due, after {TEXT} characters.")
-        return reason(feed, f"The line feed comes too early: the line has {feed} characters, {TEXT} are due.")
+            return reason(feed - 1, f"The line ends with carriage return and line feed; a line feed alone is due, after {TEXT} bytes.")
+        return reason(feed, f"The line feed comes too early: the line has {feed} bytes, {TEXT} are due.")
     if feed < 0:
         return too_long(raw, text)
     for name, (start, end) in zip(NAMES, COLUMNS):
@@ -49,7 +64,7 @@ def too_long(raw, text):
     if raw[TEXT] == 13:
         return reason(TEXT, "A carriage return stands where the line feed is due.")
     more = f"; the line has {len(text) - 1}" if text.endswith(b"\n") else ""
-    return reason(TEXT, f"Here stands {named(raw[TEXT])}, but after {TEXT} characters a line feed is due{more}.")
+    return reason(TEXT, f"Here stands {sign_named(text[TEXT:])}, but after {TEXT} bytes a line feed is due{more}.")
 
 
 def in_columns(raw):
@@ -92,9 +107,22 @@ def named(byte):
     return f"the byte {byte:02X} (hexadecimal)"
 
 
+def sign_named(text):
+    """The character or byte with which the text begins, by its name."""
+    sign = text[:4].decode("utf-8", "ignore")[:1]
+    if sign <= "~" or not text.startswith(sign.encode()):
+        return named(text[0])
+    if sign in SIGNS:
+        return f"{SIGNS[sign][0]}, U+{ord(sign):04X} (write `{SIGNS[sign][1]}`)"
+    return f"the character U+{ord(sign):04X} ({unicodedata.name(sign, 'without a name')})"
+
+
 def properly(text):
     """The line as it should be written, where its five numbers can be seen."""
-    words = [word for word in re.split(rb"[\s,;|\x00\xa0]+", text) if word]
+    plain = text
+    for sign, (_, instead) in SIGNS.items():
+        plain = plain.replace(sign.encode(), instead.encode())
+    words = [word for word in re.split(rb"[\s,;|\x00\xa0]+", plain) if word]
     if len(words) != len(COLUMNS) or not all(map(NUMBERS.fullmatch, words)):
         return []
     proper = line(*map(int, words))
