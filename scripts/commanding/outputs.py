@@ -6,9 +6,10 @@ import signal
 import subprocess
 import time
 
+from picturing.case import MOST_BYTES
 from picturing.columns import LINE
 from running import inputs
-from running.inputs import P4, P4_ROUND
+from running.inputs import P4, P4_ROUND, accepted_log
 from running.stand_ins import COMPLAINS, DIES, SLEEPS, gone, judges, says
 
 from .exits import Files, told
@@ -169,7 +170,7 @@ def failing_programs(trial):
 
 
 def failing_judge(trial):
-    """What `replay` turns back, or does not judge, is not converted. A page is drawn with what it says."""
+    """What `replay` turns back, or does not judge, is not converted. A page is drawn with what it says, if its figures are those of the drawing."""
     files = Files(trial)
     for status, script in ((1, says("refused 8 3\n")), (1, says("accepted 2 4\n")), (2, says("")), (2, says("accepted 0 4\n") + DIES)):
         programs = trial.stand_ins.folder(replay=script)
@@ -178,12 +179,30 @@ def failing_judge(trial):
             ended = trial.ask(*good[:-1], os.path.join(folder, "to"), programs=programs)
             trial.ends(f"{told(good[:-1])} where replay does {script!r}", ended, status, b"")
             trial.test(f"{told(good[:-1])} where replay does {script!r}, nothing", os.listdir(folder) == [], f"{os.listdir(folder)}")
-    for words, status in (("accepted 3 -77\n", 0), ("refused 13 12\n", 1), ("", 2)):
+    for words, status in (("accepted 1 2\n", 0), ("refused 13 12\n", 1), ("accepted 1 3\n", 2), ("accepted 2 2\n", 2), ("", 2)):
         programs = trial.stand_ins.folder(replay=judges(len(P4), "echo accepted 0 4\n", f"printf '{words}'\n"))
         ended = trial.ask("picture", files.case, files.log, programs=programs)
-        trial.ends(f"picture where replay says {words!r}", ended, status, None if words else b"")
+        trial.ends(f"picture where replay says {words!r}", ended, status, b"" if status == 2 else None)
         said = last_line(ended.err) == words.strip().encode() and words.strip().encode() in ended.out
-        trial.test(f"picture where replay says {words!r}, on the page", said or not words, f"{ended.err}")
+        trial.test(f"picture where replay says {words!r}, on the page", said or status == 2, f"{ended.err}")
+
+
+def changing(trial):
+    """A log that changes between two readings: no verdict, no page, no reason."""
+    longer = accepted_log(2 * MOST_BYTES // LINE)[len(P4) :]
+    for name, change, command, log, verdict in (
+        ("grows", "echo >> {0}", "explain", P4_ROUND, "refused 12 13"),
+        ("grows", "echo >> {0}", "picture", longer, "accepted 1 2"),
+        ("is emptied", ": > {0}", "explain", longer, "refused 12 9999"),
+        ("is emptied", ": > {0}", "picture", longer, "refused 12 9999"),
+        ("is emptied", ": > {0}", "picture", longer, "accepted 1 2"),
+        ("loses its columns", "tr ' ' x < {0} > {0}x; cat {0}x > {0}", "picture", longer, "accepted 1 2"),
+    ):
+        case, path = trial.both(P4, log)
+        script = f"{change.format(path)}\necho {verdict}\n"
+        programs = trial.stand_ins.folder(replay=judges(len(P4), "echo accepted 0 4\n", script))
+        ended = trial.ask(command, case, path, programs=programs)
+        trial.ends(f"{command} {verdict} where the log {name}", ended, 2, b"", f"ceiling: {path}: changed while it was read\n".encode())
 
 
 def to_output(trial, name, ended, status, log):
@@ -274,7 +293,7 @@ def failing_writes(trial, largest):
 
 
 def tests(trial, largest):
-    for part in (written, odd_outputs, unwritable, failing_programs, failing_judge, sleeping):
+    for part in (written, odd_outputs, unwritable, failing_programs, failing_judge, changing, sleeping):
         part(trial)
     signals(trial, largest)
     failing_writes(trial, largest)

@@ -11,7 +11,7 @@ from . import outputs
 from .judging import judge_case, judge, line
 from .places import Place
 from .rules import RULES
-from .sources import Source
+from .sources import Source, changed
 from .standard import say
 
 
@@ -35,12 +35,23 @@ def run(options):
 def draw(names, case, log, verdict):
     """The page of a case and a log; of a refused log the lines before the refused one."""
     sheet = read_case(case.front())
+    at = None if verdict.accepted else verdict.second - len(case.front()) // LINE
+    moves = read_again(sheet, log, at)
     if verdict.accepted:
-        return page.picture(names, sheet, read_log(sheet, b"".join(log.chunks())), line(verdict))
-    at = verdict.second - len(case.front()) // LINE
-    moves = read_log(sheet, b"".join(log.blocks(0, at * LINE)))
-    moves.stopped = turned_back("log", Place(log, at, verdict.second, None, 0), verdict)
+        if (moves.stopped, moves.rounds, moves.ceilings[-1]) != (None, verdict.first, verdict.second):
+            raise changed(log)
+    else:
+        moves.stopped = turned_back("log", Place(log, at, verdict.second, None, 0), verdict)
+    log.same()
     return page.picture(names, sheet, moves, line(verdict))
+
+
+def read_again(sheet, log, lines):
+    """The moves of a log that `replay` has read, all or so many lines."""
+    try:
+        return read_log(sheet, b"".join(log.chunks() if lines is None else log.blocks(0, lines * LINE)))
+    except Refused:
+        raise changed(log) from None
 
 
 def turned_back(file, place, verdict):

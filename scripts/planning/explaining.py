@@ -22,6 +22,9 @@ def run(options):
         words = accepted_log(start, verdict) if verdict.accepted else refused(log_place(case, log, verdict), verdict)
     else:
         words = accepted_case(case, verdict) if verdict.accepted else refused(case_place(case, verdict), verdict)
+    words = list(words)
+    for source in () if verdict.accepted else filter(None, (case, log)):
+        source.same()
     standard.write(verdict.printed)
     for row in words:
         standard.write(standard.encoded(row + "\n"))

@@ -6,7 +6,7 @@ import tempfile
 
 from picturing.case import MOST_BYTES
 
-from .failed import failed
+from .failed import Failed, failed
 from .unfit import Unfit
 
 BLOCK = 1 << 16
@@ -14,6 +14,15 @@ BLOCK = 1 << 16
 IN_MEMORY = 1 << 20
 # No file of other programs that a case could be made of is longer.
 MOST = 1 << 26
+
+
+def state(found):
+    """What tells a file from what it was before."""
+    return found.st_size, found.st_mtime_ns
+
+
+def changed(source):
+    return Failed(f"{source.label}: changed while it was read")
 
 
 class Source:
@@ -27,7 +36,9 @@ class Source:
         try:
             self.file = open(0, "rb", buffering=0, closefd=False) if name == "-" else open(name, "rb", buffering=0)
             self.descriptor = self.file.fileno()
-            regular = stat.S_ISREG(os.fstat(self.descriptor).st_mode)
+            found = os.fstat(self.descriptor)
+            self.state = state(found)
+            regular = stat.S_ISREG(found.st_mode)
             self.start = os.lseek(self.descriptor, 0, os.SEEK_CUR) if regular else 0
         except OSError as error:
             raise failed(self.label, error) from None
@@ -77,6 +88,15 @@ class Source:
         self.kept.write(data)
         self.length += len(data)
         return bool(data)
+
+    def same(self):
+        """Fails where a file that is read by place has changed meanwhile: what was read twice may not be the same."""
+        try:
+            same = self.kept is not None or state(os.fstat(self.descriptor)) == self.state
+        except OSError as error:
+            raise failed(self.label, error) from None
+        if not same:
+            raise changed(self)
 
     def whole(self, most=MOST):
         """All bytes of a file that is not too long."""
