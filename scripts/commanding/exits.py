@@ -1,6 +1,7 @@
 """Exit status of every command, inputs that cannot be read, wrong command lines, help, version, where the programs are found."""
 
 import os
+import resource
 import shutil
 import subprocess
 import time
@@ -205,6 +206,18 @@ def places(trial):
     placed(trial, "installed", os.path.join("lib", "ceiling"), os.path.join("lib", "ceiling"), "bin")
 
 
+def many_open(trial):
+    """Whoever starts the command may have left it more open files than `select` can number."""
+    files = Files(trial)
+    limits = resource.getrlimit(resource.RLIMIT_NOFILE)
+    resource.setrlimit(resource.RLIMIT_NOFILE, (max(limits[0], 2000), limits[1]))
+    left = [os.open(os.devnull, os.O_RDONLY) for _ in range(1100)]
+    trial.ends("check with 1100 open files", trial.ask("check", files.case, files.log), 0, b"accepted 1 2\n")
+    for number in left:
+        os.close(number)
+    resource.setrlimit(resource.RLIMIT_NOFILE, limits)
+
+
 def environments(trial):
     """Python's variables of the environment change nothing; without Python there is a word and status 2."""
     files, folder = Files(trial), trial.empty()
@@ -219,5 +232,5 @@ def environments(trial):
 
 
 def tests(trial):
-    for part in (environments, statuses, unreadable, wrong_lines, odd_names, help_and_version, standard_input, places):
+    for part in (environments, many_open, statuses, unreadable, wrong_lines, odd_names, help_and_version, standard_input, places):
         part(trial)

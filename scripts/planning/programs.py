@@ -113,6 +113,16 @@ class Program:
             raise Failed(f"{self.name} did not end as it should: {words or ended}")
 
 
+def wait_for(readers, writers):
+    """The streams that can be read or written to; descriptors may have any number."""
+    poll = select.poll()
+    for streams, event in ((readers, select.POLLIN), (writers, select.POLLOUT)):
+        for stream in streams:
+            poll.register(stream, event)
+    found = {number for number, _ in poll.poll()}
+    return {stream for stream in (*readers, *writers) if stream.fileno() in found}
+
+
 def converse(programs):
     """Feeds and reads the programs of a list until all have ended; the list may grow meanwhile."""
     while True:
@@ -125,10 +135,10 @@ def converse(programs):
         if not readers:
             break
         writers = {program.process.stdin: program for program in programs if program.wants()}
-        readable, writable, _ = select.select(list(readers), list(writers), [])
-        for stream in readable:
+        ready = wait_for(readers, writers)
+        for stream in filter(ready.__contains__, readers):
             readers[stream].read(stream)
-        for stream in writable:
+        for stream in filter(ready.__contains__, writers):
             writers[stream].feed()
     for program in programs:
         program.end()

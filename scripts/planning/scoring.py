@@ -8,7 +8,7 @@ from picturing.columns import line as case_line
 from . import standard
 from .failed import Failed
 from .judging import TurnedBack, judge, judge_case, judge_log, line, why
-from .sources import Source
+from .sources import Source, read
 from .unfit import Unfit
 
 # No plan file is longer.
@@ -19,7 +19,7 @@ CHANNEL = re.compile(r"[0-9]{1,9}")
 
 def run(options):
     case = Source(options.case, once=True)
-    plans = [Source(name) for name in options.plan]
+    plans = [read(name, MOST) for name in options.plan]
     log = Source(options.log, once=True) if options.log is not None else None
     verdict = judge_case(case)
     if not verdict.accepted:
@@ -27,10 +27,10 @@ def run(options):
         standard.say(why(case.name))
         return 1
     table = read_case(case.front())
-    channels = [read_plan(table, plan) for plan in plans]
+    channels = [read_plan(table, *plan) for plan in plans]
     totals = [total(table, plan) for plan in channels]
     best = max(range(len(totals)), key=lambda at: (totals[at], -at))
-    text = [f"{figure} {plan.name}" for figure, plan in zip(totals, plans)]
+    text = [f"{figure} {name}" for figure, name in zip(totals, options.plan)]
     text.append(f"best {text[best]}")
     words = []
     if log:
@@ -44,15 +44,14 @@ def run(options):
     return 0
 
 
-def read_plan(case, source):
+def read_plan(case, label, data):
     """The channels of a plan, one for each link."""
-    text = source.whole(MOST).decode("utf-8-sig", "replace")
-    words = [word for word in SEPARATORS.split(text) if word]
+    words = [word for word in SEPARATORS.split(data.decode("utf-8-sig", "replace")) if word]
     if len(words) != case.n:
-        raise Unfit(f"{source.label}: {len(words)} channels, but the case has {case.n} links")
+        raise Unfit(f"{label}: {len(words)} channels, but the case has {case.n} links")
     for link, word in enumerate(words):
         if not CHANNEL.fullmatch(word) or int(word) >= case.d:
-            raise Unfit(f"{source.label}: link {link}: `{word[:40]}` is none of the channels 0 to {case.d - 1}")
+            raise Unfit(f"{label}: link {link}: `{word[:40]}` is none of the channels 0 to {case.d - 1}")
     return [int(word) for word in words]
 
 

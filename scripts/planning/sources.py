@@ -122,3 +122,12 @@ class Longer:
             yield data
             at += len(data)
         yield self.more[at - self.size : None if end is None else max(end - self.size, 0)]
+
+
+def read(name, most):
+    """All bytes of a file that is not too long, and its name in words; nothing is left open."""
+    source = Source(name)
+    try:
+        return source.label, source.whole(most)
+    finally:
+        source.file.close()
