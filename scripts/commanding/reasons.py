@@ -142,6 +142,8 @@ def ranges(trial):
 def order(trial):
     """Numbers 6, 7 and 9: the links, the line of the earlier pair, the raise line before."""
     asked(trial, "links turned round", with_line(TRIANGLE, 12, line(12, 1, 2, 0)), 6, [r"\b2\b", r"\b0\b", "below|lower|smaller|ascend"])
+    there = [r"links 0 and 1 are joined by pair 0 already, in line 8", r"\A(?!.*other way round)"]
+    asked(trial, "links turned round and paired twice", with_line(TRIANGLE, 12, line(12, 1, 1, 0)), 6, there)
     asked(trial, "a link with itself", with_line(TRIANGLE, 12, line(12, 1, 2, 2)), 6, [r"\b2\b", "below|lower|smaller|ascend|itself"])
     asked(trial, "links paired twice", with_line(TRIANGLE, 12, line(12, 1, 0, 1)), 7, [r"\bpair 0\b", r"\bline 8\b"])
     asked(trial, "the last pair again", with_line(TRIANGLE, 17, line(12, 2, 0, 2)), 7, [r"\bpair 1\b", r"\bline 13\b"])

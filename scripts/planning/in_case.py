@@ -84,7 +84,7 @@ def in_case(number, front, line):
     if number == 5:
         return misplaced(sheet, line, numbers, due)
     if number == 6 and numbers[2] >= numbers[3]:
-        return descending(numbers)
+        return descending(sheet, numbers)
     if number == 7:
         return paired(sheet, numbers)
     if number == 8 and abs(numbers[4]) > STARTING:
@@ -102,11 +102,14 @@ def misplaced(sheet, line, numbers, due):
     return None
 
 
-def descending(numbers):
+def descending(sheet, numbers):
     first, second = numbers[2:4]
     words = f"The pair names links {first} and {second}: the first has to be below the second."
+    if first == second:
+        return reason(edge(2), words, "A pair joins two different links.")
+    twice = paired(sheet, [12, numbers[1], second, first])
     turned = f"The other way round it would be right: b {second}, c {first}, and b and c exchanged in the pair's weights."
-    return reason(edge(2), words, turned if first > second else "A pair joins two different links.")
+    return reason(edge(2), words, *(twice.words if twice else [turned]))
 
 
 def paired(sheet, numbers):
