@@ -6,6 +6,8 @@ import signal
 import subprocess
 import time
 
+import planning.outputs
+import planning.pressing
 from picturing.case import MOST_BYTES
 from picturing.columns import LINE
 from running import inputs
@@ -246,6 +248,19 @@ def signals(trial, largest):
         trial.test(f"press with {name}, the programs end", wait(lambda: all(map(gone, ids))))
 
 
+def late_signals(trial):
+    """A signal when the log has its name, before and after the folder is flushed: the log is whole and the status says so."""
+    for number in (signal.SIGINT, signal.SIGTERM):
+        for module, name in ((planning.outputs, "flush_folder"), (planning.pressing, "say")):
+            files, to = Files(trial), os.path.join(trial.empty(), "to")
+            kept = getattr(module, name)
+            setattr(module, name, lambda *words: (os.kill(os.getpid(), number), kept(*words)))
+            ended = trial.ask("press", files.case, "-o", to)
+            setattr(module, name, kept)
+            trial.ends(f"press with {number.name} at {name}", ended, 0, b"")
+            trial.test(f"press with {number.name} at {name}, the log", read(to) == P4_ROUND and b"accepted 1 2" in ended.err, f"{ended}")
+
+
 def sleeping(trial):
     """Programs that sleep are ended with the command, and nothing is written."""
     case, log = trial.both(P4, P4_ROUND)
@@ -293,7 +308,7 @@ def failing_writes(trial, largest):
 
 
 def tests(trial, largest):
-    for part in (written, odd_outputs, unwritable, failing_programs, failing_judge, changing, sleeping):
+    for part in (written, odd_outputs, unwritable, failing_programs, failing_judge, changing, late_signals, sleeping):
         part(trial)
     signals(trial, largest)
     failing_writes(trial, largest)

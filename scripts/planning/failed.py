@@ -46,8 +46,10 @@ def interrupt(number, frame):
 
 
 def ignore_signals():
+    """From now on nothing is interrupted, by a signal that waits neither."""
     for number in SIGNALS:
         signal.signal(number, signal.SIG_IGN)
+    Waiting.number = None
 
 
 @contextlib.contextmanager

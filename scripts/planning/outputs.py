@@ -7,7 +7,7 @@ import stat
 import tempfile
 
 from . import standard
-from .failed import Failed, failed, undisturbed
+from .failed import Failed, failed, ignore_signals, undisturbed
 
 # Names of what is open already: written to as it stands.
 OPEN = re.compile(r"/dev/(?:stdout|(stderr)|fd/([0-9]{1,9}))")
@@ -132,12 +132,13 @@ def flush_folder(path):
 
 
 def put_in_place(*results):
-    """All of the results, or none as far as the system can."""
+    """All of the results, or none as far as the system can. Once they are there, no signal says otherwise."""
     for result in results:
         result.finish()
     with undisturbed():
         for result in results:
             result.place()
+        ignore_signals()
 
 
 def write_all(pairs):
