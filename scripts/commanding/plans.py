@@ -1,6 +1,8 @@
 """`score`: totals against those listed here, ties, plans that do not fit, the ceiling beside the best plan."""
 
+import os
 import resource
+import shutil
 
 from picturing.case import MOST_CHANNELS, MOST_LINKS, MOST_PAIRS, STARTING
 from picturing.columns import LINE
@@ -52,6 +54,21 @@ def ties(trial):
     plan = trial.file("plan", b"0")
     trial.ends("score one link", trial.ask("score", single, plan), 0, f"-7 {plan}\nbest -7 {plan}\n".encode())
     trial.ends("score a plan by -", trial.run("score", path, "-", data=b"0;1"), 0, b"2 -\nbest 2 -\n")
+
+
+def names_of_lines(trial):
+    """A name that holds a line makes no line: its control characters are shown as question marks."""
+    path, log = trial.both(P4, P4_ROUND[:-1])
+    folder = trial.empty()
+    plan = os.path.join(folder, "x\nbest 999 y\x1b[K\u2028\x9b")
+    shown = os.path.join(folder, "x?best 999 y?[K??")
+    shutil.copy(trial.file("plan", b"0 1"), plan)
+    trial.ends("score a name with a line", trial.ask("score", path, plan), 0, f"2 {shown}\nbest 2 {shown}\n".encode())
+    shutil.copy(log, plan)
+    ended = trial.ask("explain", path, plan)
+    trial.test("explain a name with a line", shown.encode() in ended.out and plan.encode() not in ended.out, f"{ended}")
+    ended = trial.ask("check", path, plan + "x")
+    trial.ends("check a name with a line", ended, 2, b"", f"ceiling: {shown}x: No such file or directory\n".encode())
 
 
 def largest(trial):
@@ -124,5 +141,5 @@ def passed_on(trial):
 
 
 def tests(trial):
-    for part in (totals, ties, largest, unfit, beside_ceiling, passed_on):
+    for part in (totals, ties, names_of_lines, largest, unfit, beside_ceiling, passed_on):
         part(trial)

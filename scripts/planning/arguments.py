@@ -30,7 +30,7 @@ class Parser(argparse.ArgumentParser):
         standard.write(standard.encoded(self.format_help()))
 
     def error(self, message):
-        standard.say(self.format_usage().rstrip(), f"ceiling: {message}")
+        standard.say(*self.format_usage().rstrip().split("\n"), f"ceiling: {message}")
         raise SystemExit(2)
 
 

@@ -26,8 +26,7 @@ def run(options):
     for source in () if verdict.accepted else filter(None, (case, log)):
         source.same()
     standard.write(verdict.printed)
-    for row in words:
-        standard.write(standard.encoded(row + "\n"))
+    standard.write(standard.rows(words))
     return 0 if verdict.accepted else 1
 
 

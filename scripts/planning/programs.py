@@ -108,7 +108,7 @@ class Program:
         status = self.process.wait()
         running.remove(self)
         if status != 0 or self.words:
-            words = self.words.decode("utf-8", "replace").strip()
+            words = " ".join(self.words.decode("utf-8", "replace").split())
             ended = f"it was ended by signal {-status}" if status < 0 else f"its exit status is {status}"
             raise Failed(f"{self.name} did not end as it should: {words or ended}")
 

@@ -39,7 +39,7 @@ def run(options):
             raise TurnedBack(line(verdict), why(case.name, log.name))
         text.append(f"ceiling {verdict.second}")
         words.append(distance(verdict.second - totals[best]))
-    standard.write(standard.encoded("".join(f"{row}\n" for row in text)))
+    standard.write(standard.rows(text))
     standard.say(*words)
     return 0
 

@@ -1,10 +1,13 @@
 """Standard output and standard error."""
 
 import os
+import re
 
 from .failed import failed
 
 OUTPUT = "standard output"
+# What would end a line, or move a terminal's cursor.
+CONTROL = re.compile("[\x00-\x1f\x7f-\x9f\u2028\u2029]")
 
 
 def hold():
@@ -35,9 +38,14 @@ def encoded(text):
     return text.encode("utf-8", "surrogateescape")
 
 
+def rows(lines):
+    """Lines as they are printed: whatever a file's name holds, each stays one line."""
+    return encoded("".join(CONTROL.sub("?", line) + "\n" for line in lines))
+
+
 def say(*lines):
     """Words on standard error; nobody is told where that fails."""
-    left = encoded("".join(line + "\n" for line in lines))
+    left = rows(lines)
     try:
         while left:
             left = left[os.write(2, left) :]
