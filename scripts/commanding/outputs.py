@@ -56,6 +56,20 @@ def written(trial):
     trial.test("/dev/null is as it was", not os.path.isfile("/dev/null"))
 
 
+def over_inputs(trial):
+    """An output that is an input too, by its name or as standard input: status 2, and it stays."""
+    for good, _ in writers(Files(trial), None):
+        for place in range(1, len(good) - 2):
+            kept = read(good[place])
+            trial.ends(f"{told(good[:-1])} over its input", trial.ask(*good[:-1], good[place]), 2, b"")
+            with open(good[place], "rb") as file:
+                ended = trial.end(trial.start(*good[:place], "-", *good[place + 1 : -1], good[place], stdin=file))
+            trial.ends(f"{told(good[:-1])} over standard input", ended, 2, b"")
+            trial.test(f"{told(good[:-1])} over its input stays", read(good[place]) == kept)
+    ended = trial.end(trial.start("press", "-", "-o", "/dev/null", stdin=subprocess.DEVNULL))
+    trial.ends("press from /dev/null to /dev/null", ended, 1, b"")
+
+
 def before(name, folder, to):
     real = os.path.join(folder, "real") if name == "linked" else to
     if name != "new":
@@ -308,7 +322,7 @@ def failing_writes(trial, largest):
 
 
 def tests(trial, largest):
-    for part in (written, odd_outputs, unwritable, failing_programs, failing_judge, changing, late_signals, sleeping):
+    for part in (written, over_inputs, odd_outputs, unwritable, failing_programs, failing_judge, changing, late_signals, sleeping):
         part(trial)
     signals(trial, largest)
     failing_writes(trial, largest)

@@ -3,6 +3,7 @@
 import argparse
 import importlib
 import os
+import stat
 
 from . import standard
 from .failed import Failed, failed
@@ -123,6 +124,8 @@ def look_over(options, parser):
     for at, name in enumerate(outputs):
         if any(same(name, other) for other in inputs + outputs[:at]):
             parser.error(f"{name} is named twice: it would be overwritten")
+        if "-" in inputs and name != "-" and is_input(name):
+            parser.error(f"{name} is standard input as well: it would be overwritten")
 
 
 def same(name, other):
@@ -131,3 +134,12 @@ def same(name, other):
         return False
     first, second = os.path.realpath(name), os.path.realpath(other)
     return first == second and (os.path.isfile(first) or not os.path.exists(first))
+
+
+def is_input(name):
+    """Whether a name means the regular file that standard input comes from."""
+    try:
+        found = os.fstat(0)
+        return stat.S_ISREG(found.st_mode) and os.path.samestat(found, os.stat(name))
+    except OSError:
+        return False
