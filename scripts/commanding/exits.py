@@ -6,6 +6,7 @@ import shutil
 import subprocess
 import time
 
+import planning.sources
 from running.inputs import P4, P4_ROUND, line
 
 from .trial import last_line
@@ -101,6 +102,17 @@ def unreadable(trial):
     ended = trial.end(trial.start("press", "-", stdin=root))
     os.close(root)
     trial.ends("press with a folder as standard input", ended, 2, b"")
+
+
+def endless(trial):
+    """Of a stream without an end so many bytes are kept and no more, on this test's scale."""
+    files = Files(trial)
+    kept, planning.sources.MOST_KEPT = planning.sources.MOST_KEPT, 1 << 21
+    for arguments in (["explain", files.case, "/dev/zero"], ["explain", "/dev/zero"], ["picture", files.case, "/dev/zero"]):
+        ended = trial.ask(*arguments)
+        trial.ends(f"{told(arguments)}, without an end", ended, 1, b"")
+        trial.test(f"{told(arguments)}, without an end, in words", ended.err.startswith(b"ceiling: /dev/zero: longer than"), f"{ended.err}")
+    planning.sources.MOST_KEPT = kept
 
 
 def wrong_lines(trial):
@@ -232,5 +244,5 @@ def environments(trial):
 
 
 def tests(trial):
-    for part in (environments, many_open, statuses, unreadable, wrong_lines, odd_names, help_and_version, standard_input, places):
+    for part in (environments, many_open, statuses, unreadable, endless, wrong_lines, odd_names, help_and_version, standard_input, places):
         part(trial)

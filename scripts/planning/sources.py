@@ -12,6 +12,8 @@ from .unfit import Unfit
 BLOCK = 1 << 16
 # Bytes of a stream that are kept in memory; more are kept in a temporary file.
 IN_MEMORY = 1 << 20
+# Bytes of a stream that are kept at all.
+MOST_KEPT = 1 << 30
 # No file of other programs that a case could be made of is longer.
 MOST = 1 << 26
 
@@ -84,6 +86,8 @@ class Source:
     def keep(self):
         """Reads more of the stream and keeps it; whether there was more."""
         data = os.read(self.descriptor, BLOCK)
+        if self.length + len(data) > MOST_KEPT:
+            raise Unfit(f"{self.label}: longer than {MOST_KEPT:,} bytes, which is the most that is kept of a stream; save it as a file")
         self.kept.seek(self.length)
         self.kept.write(data)
         self.length += len(data)
