@@ -39,18 +39,30 @@ def not_due(standing, numbers, before):
 def out_of_range(standing, numbers, before):
     case = standing.log.case
     kind, a, b, c, amount = numbers
-    wide = (1, MOVE)
+    by = (f"it lies between 1 and {MOVE}", 1, MOVE)
     asked = {
-        1: [(1, a, (0, case.m - 1), "pair"), (2, b, (0, 1), "end"), (3, c, (0, case.d - 1), "channel")],
-        2: [(1, a, (0, case.n - 1), "link"), (2, b, (1, case.scopes - 1), "count of raise lines"), (4, amount, wide, "amount")],
-        3: [(1, a, (0, case.scopes - 1), "scope")],
+        1: [(1, a, "pair", *there(case.m, "pair")), (2, b, "end", "the ends are 0 and 1", 0, 1), (3, c, "channel", *there(case.d, "channel"))],
+        2: [(1, a, "link", *there(case.n, "link")), (2, b, "count of raise lines", *raisable(case)), (4, amount, "amount", *by)],
+        3: [(1, a, "scope", *there(case.scopes, "scope"))],
     }
-    asked[1].append((4, abs(amount), wide, "amount, without its sign,"))
-    for column, value, (least, most), name in asked.get(kind, []):
+    asked[1].append((4, abs(amount), "amount, without its sign,", *by))
+    for column, value, name, words, least, most in asked.get(kind, []):
         if not least <= value <= most:
-            range_words = f"{least} to {most} would be right" if least < most else f"{least} would be right" if least == most else "the case has none"
-            return reason(edge(column), f"The {KINDS[kind]} line's {name} is {value}: {range_words}.")
+            return reason(edge(column), f"The {KINDS[kind]} line's {name} is {value}: {words}.")
     return None
+
+
+def there(count, name):
+    """What the case has, in words and as least and greatest number."""
+    has = f"{name}s 0 to {count - 1}" if count > 1 else f"{name} 0 alone" if count else f"no {name}s"
+    return f"the case has {has}", 0, count - 1
+
+
+def raisable(case):
+    """How many scopes a press can raise: all but the link's own."""
+    most = case.scopes - 1
+    counts = f"1 to {most} can be raised" if most > 1 else "1 can be raised" if most else "none can be raised"
+    return f"of the case's scopes, without the link's own, {counts}", 1, most
 
 
 def not_upwards(standing, numbers, before):
@@ -157,7 +169,7 @@ def log_ends(standing, before):
         missing = press.count - len(press.raised)
         return [
             f"{held_words(press, before).capitalize()} has {len(press.raised)} of its {press.count} raise lines: {missing} missing.",
-            "After them a bound line is due, kind 4 with the ceiling.",
+            "Then come further moves or the round's bound line, kind 4 with the ceiling.",
         ]
     if standing.line == log.ends[-1]:
         return ["What stands before is complete: nothing has to follow."]
