@@ -1,4 +1,4 @@
-"""Progress of a long press where standard error is a terminal, and none where it is not."""
+"""Progress of a long press or explanation where standard error is a terminal, and none where it is not."""
 
 import os
 import pty
@@ -64,7 +64,19 @@ def visible(shown):
     return [row for row in rows if row]
 
 
+def explaining(trial):
+    """A reason that takes a while: on a terminal a word meanwhile, and none is left."""
+    for lines, word in ((100, b""), (60_000, b"looking")):
+        files = trial.both(inputs.P4, inputs.accepted_log(lines)[len(inputs.P4) : -LINE] + inputs.line(4, 0, 0, 0, 3))
+        ended, shown = on_terminal(trial, "explain", *files)
+        trial.test(f"explain {lines} lines on a terminal", ended.out.startswith(b"refused 12 ") and b"ceiling is 2 here" in ended.out, f"{ended}")
+        trial.test(f"explain {lines} lines on a terminal, a word meanwhile", shown.startswith(word) and bool(shown) == bool(word), f"{shown}")
+        trial.test(f"explain {lines} lines on a terminal, none is left", visible(shown) == [], f"{shown}")
+    trial.ends("explain without a terminal", trial.run("explain", *files), 1, err=b"")
+
+
 def tests(trial):
+    explaining(trial)
     case, log = inputs.many_rounds()
     path = trial.file("plan.case", case)
     programs = trial.stand_ins.folder(press=slow_press(trial, log))

@@ -7,10 +7,14 @@ from . import standard
 from .in_case import Sheet
 from .judging import judge, judge_case, line
 from .places import Place
+from .progress import working
 from .reason import reason
 from .reasons import find, lacks_feed
 from .rules import RULES, counted
 from .sources import Longer, Source
+
+# Lines before a refused one that are not read again at once.
+LONG = 50_000
 
 
 def run(options):
@@ -80,10 +84,15 @@ def rule(number):
     return RULES.get(number, ("this tree's words do not know it", ""))
 
 
+def look(number, place):
+    with working("looking for the reason ..", place.counted > LONG):
+        return find(number, place)
+
+
 def refused(place, verdict):
     number = verdict.first
     name, general = rule(number)
-    found = find(number, place) or reason(0, general)
+    found = look(number, place) or reason(0, general)
     yield f"Rule {number}: {name}."
     yield place.words(found.offset)
     yield from place.shown(found.offset)
@@ -103,6 +112,6 @@ def with_feed(place):
         yield f"With it replay says `{line(verdict)}`."
         return
     at = verdict.second - place.counted + place.line
-    found = find(verdict.first, Place(source, at, verdict.second, place.case, place.before))
+    found = look(verdict.first, Place(source, at, verdict.second, place.case, place.before))
     yield f"With it replay says `{line(verdict)}`, rule {verdict.first} in line {at + 1}: {rule(verdict.first)[0]}."
     yield from found.words if found else []

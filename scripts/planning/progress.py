@@ -1,5 +1,6 @@
-"""The rounds so far and the falling ceiling, on one line of a terminal."""
+"""What is shown on one line of a terminal meanwhile: the rounds so far and the falling ceiling, or that there is work."""
 
+import contextlib
 import os
 import time
 
@@ -10,6 +11,27 @@ from .standard import is_terminal
 FIRST, EVERY = 0.4, 0.2
 BOUND = b"4"
 CLEAR = b"\r\x1b[K"
+
+
+@contextlib.contextmanager
+def working(words, long):
+    """Shows on a terminal that there is long work, until the block is done."""
+    shown = long and is_terminal(2)
+    if shown:
+        put(words.encode())
+    try:
+        yield
+    finally:
+        if shown:
+            put(CLEAR)
+
+
+def put(data):
+    """Whether the data could be written to standard error."""
+    try:
+        return os.write(2, data) > 0
+    except OSError:
+        return False
 
 
 class Progress:
@@ -34,15 +56,9 @@ class Progress:
     def draw(self):
         self.next = time.monotonic() + EVERY
         self.drawn = True
-        self.put(CLEAR + f"{self.rounds:,} rounds, ceiling {self.ceiling}".encode())
+        self.shown = put(CLEAR + f"{self.rounds:,} rounds, ceiling {self.ceiling}".encode())
 
     def clear(self):
         if self.drawn:
-            self.put(CLEAR)
+            put(CLEAR)
             self.drawn = False
-
-    def put(self, data):
-        try:
-            os.write(2, data)
-        except OSError:
-            self.shown = False
