@@ -2,6 +2,7 @@
 
 import glob
 import os
+import re
 from collections import namedtuple
 
 File = namedtuple("File", "data mode")
@@ -45,10 +46,10 @@ def contents(root, prefix):
     found = {"bin/ceiling": Link("../lib/ceiling/ceiling")}
     for path, source, program in sources(root):
         found[path] = File(read(os.path.join(root, source)), 0o755 if program else 0o644)
-    version = found["lib/ceiling/VERSION"].data.strip()
+    places = {b"@prefix@": os.fsencode(prefix), b"@version@": found["lib/ceiling/VERSION"].data.strip()}
     for name in ("ceiling", "ceiling-checker"):
         text = read(os.path.join(root, f"library/{name}.pc.in"))
-        text = text.replace(b"@prefix@", os.fsencode(prefix)).replace(b"@version@", version)
+        text = re.sub(b"|".join(places), lambda place: places[place.group()], text)
         found[f"lib/pkgconfig/{name}.pc"] = File(text, 0o644)
     return found
 
