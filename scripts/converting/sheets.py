@@ -6,6 +6,7 @@ from picturing.case import MOST_CHANNELS, MOST_LINKS, MOST_PAIRS, STARTING
 from picturing.columns import LINE, line
 from planning import spreadsheets
 from planning.cells import letters
+from planning.unfit import Unfit
 
 from .asking import converts, refuses, unfit_at_most
 from .cases import damaged, made, sizes, small_size, WEIGHTS
@@ -108,6 +109,26 @@ def pair_rows(random, case, turned):
     return rows
 
 
+# Separators in names, where the header's own is another.
+SEPARATED = {
+    "commas": "link;5,8;6,2\nx;1;2\n",
+    "semicolons": "link\t5;8\t6;2\nx\t1\t2\n",
+    "commas in quotes": 'link;"1,5, GHz";"2,5, GHz"\nx;1;2\n',
+    "semicolons in quotes": 'link,"a;b;c","d;e;f"\nx,1,2\n',
+    "doubled quotes and semicolons": 'link,"a;b;c", "d;""e;"\nx,1,2\n',
+    "semicolons and inch marks": 'link,5" mast; old,6" mast\nx,1,2\n',
+    "line ends in quotes": '"a;\nb;";"1,,,"; "2\r\n,,,"\nx;1;2\n',
+    "tabs after empty rows": '\n"";"";\n;;;;\n"a\tb\tc\td";1;2\nx;1;2\n',
+}
+
+
+def same_case(count, name, sheets, others):
+    try:
+        count.test(name, read(*sheets) == read(*others), "gives another case")
+    except Unfit as unfit:
+        count.test(name, False, str(unfit))
+
+
 def cells(count):
     """What single cells mean."""
     same = [
@@ -116,14 +137,20 @@ def cells(count):
         ("empty cells beyond the header", "link,a,b\nx,1,2,,\ny,0,0\n", "link,a,b\nx,1,2\ny,0,0\n"),
         ("no line end at the end", "link,a,b\nx,1,2\ny,0,0", "link,a,b\nx,1,2\ny,0,0\n"),
         ("any first cell", "name,a,b\nx,1,2\ny,0,0\n", ",a,b\nx,1,2\ny,0,0\n"),
+        ("empty cells at the header's end", "link,a,b,, \nx,1,2\ny,0,0,,\n", "link,a,b\nx,1,2\ny,0,0\n"),
+        ("a row that names the separator", "sep=;\r\nlink;a;b\r\nx;1;2\r\ny;0;0", "link,a,b\nx,1,2\ny,0,0\n"),
+        ("such a row in quotes", '"SEP=\t"\nlink\ta\tb\nx\t1\t2\ny\t0\t0', "link,a,b\nx,1,2\ny,0,0\n"),
     ]
     pairs = HEADER + "y,x,a,b,-7\n"
     for name, one, other in same:
-        count.test(name, read(one, pairs) == read(other, pairs))
+        same_case(count, name, (one, pairs), (other, pairs))
     count.test("a pair of weight 0", line(12, 0, 0, 1) in read(LINKS, HEADER + "x,y,a,a,0\n"))
     count.test("Latin-1 beside UTF-8", len(read("link,grün\nHöhe,1\nTal,2\n".encode("latin-1"), HEADER + "Tal,Höhe,grün,grün,1\n")) == 5 * LINE)
-    for name, text in (("commas", "link;5,8;6,2\nx;1;2\n"), ("semicolons", "link\t5;8\t6;2\nx\t1\t2\n")):
-        count.test(f"{name} in names", read(text, HEADER) == read("link,a,b\nx,1,2\n", HEADER))
+    same_case(count, "an empty cell at the header's end", (LINKS, PAIRS.replace("weight\n", "weight,\n")), (LINKS, PAIRS))
+    same_case(count, "Windows' own signs", ("link,a\nA\u2026,1\nA,2\n".encode("cp1252"), HEADER), ("link,a\nA,1\nB,2\n", HEADER))
+    same_case(count, "bytes that are no sign of Windows", (b"link,a\nA\x81,1\nA,2\n", HEADER), ("link,a\nA,1\nB,2\n", HEADER))
+    for name, text in SEPARATED.items():
+        same_case(count, f"{name} in names", (text, HEADER), ("link,a,b\nx,1,2\n", HEADER))
     count.test("no pairs", read(LINKS, HEADER).startswith(line(10, 3, 2, 0)))
 
 
@@ -152,13 +179,15 @@ def borders(count):
 # What is put in place of what, in which spreadsheet, and what the reason says.
 REFUSED = [
     ("links", LINKS, "", ["LINKS", "no header"]),
-    ("links", LINKS, "\n ,,\n", ["LINKS: row 2", "no channel"]),
+    ("links", LINKS, "\n ,,\n", ["LINKS", "no header"]),
+    ("links", LINKS, "sep=;\n", ["LINKS", "no header"]),
+    ("links", LINKS, "sep=;\nlink;a\nx;1.5\n", ["LINKS: row 3, column B", "'1.5'"]),
     ("links", LINKS, "link\nx\n", ["LINKS: row 1", "no channel"]),
     ("links", LINKS, "link,a,b\n", ["LINKS", "no link"]),
     ("links", LINKS, "link,a,b\nx,1;2\n", ["LINKS: row 2", "2 of the header's 3 cells"]),
     ("links", LINKS, LINKS.encode("utf-16"), ["LINKS", "UTF-16"]),
     ("links", "link,a,b", "link,a,a", ["LINKS: row 1, column C", "'a' is there already"]),
-    ("links", "link,a,b", "link,a, ", ["LINKS: row 1, column C", "name of a channel"]),
+    ("links", "link,a,b", "link,a, ", ["LINKS: row 2, column C", "'2' stands beyond"]),
     ("links", "link,a,b", "link,,b", ["LINKS: row 1, column B", "name of a channel"]),
     ("links", "y,3", "x,3", ["LINKS: row 3, column A", "'x' is there already"]),
     ("links", "y,3", "\n,3", ["LINKS: row 4, column A", "name of a link"]),

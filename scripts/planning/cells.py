@@ -6,8 +6,14 @@ import re
 
 from .unfit import Unfit, shown
 
-# Where two separators make as many cells of a header, the first of these is taken.
+# Where two separators stand as often in a header, the first of these is taken.
 SEPARATORS = "\t;,"
+# A cell in quotes, with the spaces before it; a row, with line ends in quotes only; a first row that names the separator, as Excel takes it.
+QUOTED = re.compile(rf'(?<![^{SEPARATORS}\r\n]) *"[^"]*(?:""[^"]*)*"?')
+ROW = re.compile(rf"(?:{QUOTED.pattern}|[^\r\n])+")
+NAMING = re.compile(rf'"?sep=([{SEPARATORS}])"?(?:\r\n|\r|\n|\Z)', re.IGNORECASE)
+# What Windows has where Latin-1 has control signs.
+WINDOWS = {code: bytes([code]).decode("cp1252", "ignore") or chr(code) for code in range(0x80, 0xA0)}
 NUMBER = re.compile(r"-?[0-9]+")
 
 
@@ -51,13 +57,18 @@ def letters(column):
 
 
 def table(file, data):
-    """The header and an iterator over the rows after it, without those that are empty."""
+    """The header and an iterator over the rows after it, without those that are empty. Empty cells at the header's end are dropped."""
     text = decoded(file, data)
-    made = [(heading(text, separator), separator) for separator in SEPARATORS]
-    rows = split(file, text, max(made, key=lambda one: one[0])[1])
+    naming = NAMING.match(text)
+    if naming:
+        rows = split(file, text[naming.end() :], naming.group(1), 1)
+    else:
+        rows = split(file, text, separator(text), 0)
     header = next(rows, None)
     if header is None:
         raise Unfit(f"{file}: has no header row")
+    while not header.cells[-1]:
+        header.cells.pop()
     return header, rows
 
 
@@ -67,19 +78,18 @@ def decoded(file, data):
     try:
         return data.decode("utf-8-sig")
     except UnicodeDecodeError:
-        return data.decode("latin-1")
+        return data.decode("latin-1").translate(WINDOWS)
 
 
-def heading(text, separator):
-    """How many cells the header has with a separator; 0 where its quotes do not fit it."""
-    try:
-        return len(next(split("", text, separator)).cells)
-    except (StopIteration, Unfit):
-        return 0
+def separator(text):
+    """The one that stands most often in the header, quotes left out."""
+    headers = (row.group() for row in ROW.finditer(text) if row.group().strip(f'{SEPARATORS}" '))
+    bare = QUOTED.sub("", next(headers, text))
+    return max(SEPARATORS, key=bare.count)
 
 
-def split(file, text, separator):
-    number = 0
+def split(file, text, separator, number):
+    """The rows of a text that has so many rows before it."""
     try:
         for cells in csv.reader(io.StringIO(text, newline=""), delimiter=separator, skipinitialspace=True, strict=True):
             number += 1
