@@ -1,6 +1,7 @@
 """Tests of toulbar2's wcsp format."""
 
 import re
+import tracemalloc
 
 from picturing.case import MOST_CHANNELS, MOST_LINKS, MOST_PAIRS, STARTING
 from planning import wcsp
@@ -83,17 +84,14 @@ BY_HAND = {
     "a forbidden default": "p 1 3 1 5\n3\n1 0 5 1\n1 4\n",
     "a forbidden pair": "p 2 2 1 50\n2 2\n2 0 1 0 1\n0 0 70\n",
     "forbidden by two functions": "p 2 2 2 50\n2 2\n2 0 1 0 1\n0 0 30\n2 1 0 0 1\n0 0 20\n",
-    "forbidden by one function, another one below 0": "p 1 2 2 50\n2\n1 0 0 1\n0 50\n1 0 0 1\n0 -20\n",
-    "above and below again": "p 1 2 3 50\n2\n1 0 0 1\n0 30\n1 0 0 1\n0 30\n1 0 0 1\n0 -20\n",
     "unequal domains": "p 3 4 3 50\n2 4 1\n1 0 0 1\n1 3\n2 0 1 7 3\n0 3 0\n1 0 2\n0 0 1\n2 1 2 4 1\n3 0 0\n",
     "a larger domain in the head": "p 2 7 1 50\n2 3\n2 0 1 7 1\n1 2 0\n",
     "several functions on one scope": "p 2 2 4 99\n2 2\n2 0 1 0 1\n0 0 4\n2 0 1 3 1\n1 1 0\n1 1 2 0\n1 1 0 1\n0 5\n",
     "a pair turned round": "p 2 3 2 99\n2 3\n2 1 0 1 2\n2 0 8\n1 1 6\n2 0 1 0 1\n1 2 5\n",
     "a constant": "p 1 2 3 99\n2\n0 5 0\n1 0 0 1\n1 3\n0 7 0\n",
-    "a constant below 0": "p 1 2 2 99\n2\n0 -5 0\n1 0 0 1\n1 3\n",
     "a constant as a tuple": "p 1 2 2 99\n2\n0 5 1 7\n1 0 0 1\n1 3\n",
-    "costs far from 0": "p 2 2 2 9000000\n2 2\n1 0 1500000 1\n0 3400000\n2 0 1 0 4\n0 0 -1600000\n0 1 -1500000\n1 0 -1400000\n1 1 -1300000\n",
-    "costs below 0": "p 2 2 2 99\n2 2\n1 0 0 2\n0 -3\n1 -1000\n2 0 1 2 1\n1 1 -9\n",
+    "costs far from 0": "p 2 2 2 9000000\n2 2\n1 0 1500000 1\n0 3400000\n2 0 1 0 4\n0 0 1600000\n0 1 1500000\n1 0 1400000\n1 1 1300000\n",
+    "costs below the default": "p 2 2 2 50\n2 2\n2 0 1 9 2\n0 0 0\n1 1 20\n2 0 1 30 1\n0 1 0\n",
     "shared functions": "p 4 2 5 50\n2 2 2 2\n-2 0 1 1 1\n0 1 5\n-2 2 0 1 -1\n-2 1 2 0 1\n1 1 7\n2 1 3 0 -2\n2 3 2 1 -1\n",
     "a shared function of one variable": "p 2 2 2 50\n2 2\n-1 0 0 1 1 3\n1 1 0 -1\n",
     "no functions": "p 2 2 0 1\n2 2\n",
@@ -158,14 +156,23 @@ def borders(count):
     refuses(count, "a value too many", lambda: read(grid(1, MOST_CHANNELS + 1, 0)), "FILE: line 2", "domain's size", f"at most {MOST_CHANNELS}")
     many = grid(MOST_LINKS, 1, MOST_PAIRS + 1)
     refuses(count, "a pair of variables too many", lambda: read(many), f"FILE: line {MOST_PAIRS + 4}", f"more than {MOST_PAIRS} pairs")
-    for sign in (1, -1):
-        keeps(count, f"cost {sign * STARTING}", grid(2, 2, 1, sign * STARTING))
-        keeps(count, f"cost {sign * 2 * STARTING}", grid(2, 2, 1, sign * 2 * STARTING))
-        far = sign * (2 * STARTING + 1)
-        refuses(count, f"cost {far} of a value", lambda: read(grid(2, 2, 0, far)), "FILE: variable 0:", str(far), str(STARTING))
-        pair = grid(2, 2, 1).replace("1 0 0 0\n", f"1 0 0 {far}\n")
-        refuses(count, f"cost {far} of a pair", lambda: read(pair), "FILE: variables 0 and 1:", str(far))
-        refuses(count, f"cost {far} by two functions", lambda: read(grid(2, 2, 1, sign * (STARTING + 1), True)), str(sign * (2 * STARTING + 2)))
+    keeps(count, f"cost {STARTING}", grid(2, 2, 1, STARTING))
+    keeps(count, f"cost {2 * STARTING}", grid(2, 2, 1, 2 * STARTING))
+    far = 2 * STARTING + 1
+    refuses(count, f"cost {far} of a value", lambda: read(grid(2, 2, 0, far)), "FILE: variable 0:", str(far), str(STARTING))
+    pair = grid(2, 2, 1).replace("1 0 0 0\n", f"1 0 0 {far}\n")
+    refuses(count, f"cost {far} of a pair", lambda: read(pair), "FILE: variables 0 and 1:", str(far))
+    refuses(count, f"cost {far + 1} by two functions", lambda: read(grid(2, 2, 1, STARTING + 1, True)), str(far + 1))
+
+
+def many_shared(count):
+    """Shared functions take as much memory as they have tuples, not combinations."""
+    functions = 3000
+    text = f"p 2 {MOST_CHANNELS} {functions} 9\n{MOST_CHANNELS} {MOST_CHANNELS}\n" + "-2 0 1 0 0\n" * functions
+    tracemalloc.start()
+    converts(count, "many shared functions", lambda: read(text)[0])
+    count.test("memory of many shared functions", tracemalloc.get_traced_memory()[1] < 1000 * functions)
+    tracemalloc.stop()
 
 
 def barred_borders(count):
@@ -208,6 +215,10 @@ REFUSED = [
     ("p 2 2 1 9\n2 2\n2 0 1 -1 salldiff var 1\n", ["line 3", "default cost -1", "rule"]),
     ("p 2 2 1 9\n2 2\n2 0 1 -1 < 0 0\n", ["line 3", "default cost -1", "rule"]),
     ("p 1 2 1 9\n2\n1 0 -2 0\n", ["line 3", "default cost -2", "rule"]),
+    ("p 1 2 1 9\n2\n1 0 0 2\n0 0\n1 -3\n", ["line 5", "a cost is -3", "below 0"]),
+    ("p 2 2 1 9\n2 2\n-2 0 1 9 1\n1 1 -1\n", ["line 4", "a cost is -1", "below 0"]),
+    ("p 1 2 1 9\n2\n0 -5 0\n", ["line 3", "the constant is -5", "below 0"]),
+    ("p 1 2 1 9\n2\n0 0 1 -5\n", ["line 3", "a cost is -5", "below 0"]),
     ("p 2 2 1 9\n2 2\n2 0 2 0 0\n", ["line 3", "a variable is 2"]),
     ("p 2 2 1 9\n2 2\n1 -1 0 0\n", ["line 3", "a variable is -1"]),
     ("p 2 2 1 9\n2 2\n2 1 1 0 0\n", ["line 3", "variable 1 with itself"]),
@@ -247,6 +258,7 @@ def tests(count, random):
     names(count)
     by_hand(count, random)
     borders(count)
+    many_shared(count)
     barred_borders(count)
     refusals(count)
     damages(count, random)

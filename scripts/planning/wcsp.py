@@ -52,27 +52,36 @@ class Words:
 
 
 class Network:
-    """Variables and the costs of each scope: of no variable (the constant), of one, of two in ascending order."""
+    """Variables and the costs of each scope: of no variable (the constant), of one, of two in ascending order. A scope's costs are the sum of its
+    functions' defaults and what each combination costs more or less."""
 
     def __init__(self, sizes):
         self.sizes = sizes
-        self.scopes = {(): {(): 0}}
-        self.scopes.update({(i,): {(k,): 0 for k in range(size)} for i, size in enumerate(sizes)})
+        self.defaults, self.scopes = {}, {}
         self.shared = []
+        for scope in [(), *((i,) for i in range(len(sizes)))]:
+            self.add(scope, 0, {})
 
-    def combinations(self, scope):
-        return itertools.product(*(range(self.sizes[i]) for i in scope))
+    def domains(self, scope):
+        return [self.sizes[i] for i in scope]
 
     def pairs(self):
         return [scope for scope in self.scopes if len(scope) == 2]
 
-    def add(self, scope, costs):
+    def add(self, scope, default, costs):
+        """A function by its default cost and its tuples' own."""
         if list(scope) != sorted(scope):
             scope = scope[::-1]
             costs = {combination[::-1]: cost for combination, cost in costs.items()}
-        sums = self.scopes.setdefault(scope, dict.fromkeys(costs, 0))
+        if scope not in self.scopes:
+            self.defaults[scope] = 0
+            self.scopes[scope] = dict.fromkeys(itertools.product(*map(range, self.domains(scope))), 0)
+        self.defaults[scope] += default
         for combination, cost in costs.items():
-            sums[combination] += cost
+            self.scopes[scope][combination] += cost - default
+
+    def costs(self, scope):
+        return {combination: self.defaults[scope] + more for combination, more in self.scopes[scope].items()}
 
 
 def read(name, data):
@@ -85,7 +94,7 @@ def read(name, data):
     top = words.number("the upper bound")
     network = Network([domain(words, largest) for _ in range(n)])
     for _ in range(functions):
-        read_function(words, network, top)
+        read_function(words, network)
     if words.more() is not None:
         words.refuse(f"the file goes on after its last function; its head says {functions}")
     return converted(name, network, top)
@@ -98,7 +107,7 @@ def domain(words, largest):
     return size
 
 
-def read_function(words, network, top):
+def read_function(words, network):
     arity = words.number("a function's number of variables")
     if abs(arity) > 2:
         words.refuse(f"a function over {abs(arity)} variables; a case has functions of one link and of two")
@@ -109,27 +118,32 @@ def read_function(words, network, top):
     default = words.number("a default cost")
     if scope and default < 0:
         words.refuse(f"the default cost {default} stands for a function given by a rule (global or in intension); only lists of costs are read")
+    at_least_0(words, "the constant", default)
     count = words.number("the number of tuples")
     if count < 0:
         costs = reused(words, network, scope, default, -count)
     else:
-        costs = listed(words, network, scope, default, count)
-        network.shared += [(default, costs)] if arity < 0 else []
+        costs = listed(words, network, scope, count)
+        network.shared += [(default, network.domains(scope), costs)] if arity < 0 else []
     if len(scope) == 2 and tuple(sorted(scope)) not in network.scopes and len(network.pairs()) == MOST_PAIRS:
         words.refuse(f"more than {MOST_PAIRS} pairs of variables")
-    network.add(scope, {combination: math.inf if cost >= top else cost for combination, cost in costs.items()})
+    network.add(scope, default, costs)
 
 
-def listed(words, network, scope, default, count):
-    """The cost of each combination of a function, from the tuples that follow."""
-    costs = dict.fromkeys(network.combinations(scope), default)
-    given = set()
+def at_least_0(words, what, cost):
+    if cost < 0:
+        words.refuse(f"{what} is {cost}; programs read costs below 0 differently, so none is taken")
+    return cost
+
+
+def listed(words, network, scope, count):
+    """The costs of a function's own tuples, which follow."""
+    costs = {}
     for _ in range(count):
         combination = tuple(words.within("a value", 0, network.sizes[i] - 1) for i in scope)
-        if combination in given:
+        if combination in costs:
             words.refuse("a tuple that the function has had before")
-        given.add(combination)
-        costs[combination] = words.number("a cost")
+        costs[combination] = at_least_0(words, "a cost", words.number("a cost"))
     return costs
 
 
@@ -137,8 +151,8 @@ def reused(words, network, scope, default, number):
     """The costs of a shared function, one that was given with a number of variables below 0; they count from 1."""
     if number > len(network.shared):
         words.refuse(f"shared function {number} is not there")
-    shared_default, costs = network.shared[number - 1]
-    if default != shared_default or list(costs) != list(network.combinations(scope)):
+    shared_default, domains, costs = network.shared[number - 1]
+    if default != shared_default or domains != network.domains(scope):
         words.refuse(f"the default cost or the domains are not those of shared function {number}")
     return costs
 
@@ -146,8 +160,8 @@ def reused(words, network, scope, default, number):
 def converted(name, network, top):
     values = max(network.sizes)
     constant, weights = 0, {}
-    for scope, costs in network.scopes.items():
-        allowed = {combination: cost for combination, cost in costs.items() if cost < top}
+    for scope in network.scopes:
+        allowed = {combination: cost for combination, cost in network.costs(scope).items() if cost < top}
         lifted = lift(name, scope, allowed, top)
         constant += lifted
         weights[scope] = {combination: lifted - cost for combination, cost in allowed.items()}
@@ -174,7 +188,7 @@ def lift(name, scope, allowed, top):
         return most
     if most - least > 2 * STARTING:
         raise Unfit(f"{name}: {variables(scope)}: the costs {least} and {most} do not fit; weights lie within {STARTING} of 0")
-    return max(0, most - STARTING) + min(0, least + STARTING)
+    return max(0, most - STARTING)
 
 
 def variables(scope):
