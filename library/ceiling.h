@@ -12,8 +12,12 @@
 #include <stddef.h>
 #include <stdint.h>
 
+/* How the functions at the end are declared: in C++ one for the whole program, so that other inline functions may call them. */
 #ifdef __cplusplus
+#define CEILING_INLINE inline
 extern "C" {
+#else
+#define CEILING_INLINE static inline
 #endif
 
 /* The version that this header is of: major * 10000 + minor * 100 + patch. */
@@ -106,69 +110,69 @@ struct ceiling_run_answer ceiling_run(const uint8_t case_bytes[CEILING_CASE], in
  * names above stand for the functions below: where a length is 0 they hand on a pointer of their own, through which nothing is read or
  * written. A caller that has the symbols by another way (dlsym, another language) hands over no null. */
 
-static inline struct ceiling_size_answer ceiling_case_size_or_empty(const uint8_t *text, size_t text_length) {
+CEILING_INLINE struct ceiling_size_answer ceiling_case_size_or_empty(const uint8_t *text, size_t text_length) {
     uint8_t none = 0;
     return ceiling_case_size(text_length ? text : &none, text_length);
 }
 
-static inline struct ceiling_lines_answer ceiling_read_case_or_empty(const uint8_t *text, size_t text_length,
-                                                                     uint8_t case_bytes[CEILING_CASE], int64_t *table, size_t table_length) {
+CEILING_INLINE struct ceiling_lines_answer ceiling_read_case_or_empty(const uint8_t *text, size_t text_length,
+                                                                      uint8_t case_bytes[CEILING_CASE], int64_t *table, size_t table_length) {
     uint8_t none = 0;
     int64_t no_weight = 0;
     return ceiling_read_case(text_length ? text : &none, text_length, case_bytes, table_length ? table : &no_weight, table_length);
 }
 
-static inline struct ceiling_total_answer ceiling_upper_bound_or_empty(const uint8_t case_bytes[CEILING_CASE], const int64_t *table,
-                                                                       size_t table_length) {
+CEILING_INLINE struct ceiling_total_answer ceiling_upper_bound_or_empty(const uint8_t case_bytes[CEILING_CASE], const int64_t *table,
+                                                                        size_t table_length) {
     int64_t no_weight = 0;
     return ceiling_upper_bound(case_bytes, table_length ? table : &no_weight, table_length);
 }
 
-static inline struct ceiling_total_answer ceiling_objective_or_empty(const uint8_t case_bytes[CEILING_CASE], const int64_t *table,
-                                                                     size_t table_length, const uint8_t *plan, size_t plan_length) {
+CEILING_INLINE struct ceiling_total_answer ceiling_objective_or_empty(const uint8_t case_bytes[CEILING_CASE], const int64_t *table,
+                                                                      size_t table_length, const uint8_t *plan, size_t plan_length) {
     uint8_t none = 0;
     int64_t no_weight = 0;
     return ceiling_objective(case_bytes, table_length ? table : &no_weight, table_length, plan_length ? plan : &none, plan_length);
 }
 
-static inline struct ceiling_choice_answer ceiling_better_of_or_empty(const uint8_t case_bytes[CEILING_CASE], const int64_t *table,
-                                                                      size_t table_length, const uint8_t *first, size_t first_length,
-                                                                      const uint8_t *second, size_t second_length) {
+CEILING_INLINE struct ceiling_choice_answer ceiling_better_of_or_empty(const uint8_t case_bytes[CEILING_CASE], const int64_t *table,
+                                                                       size_t table_length, const uint8_t *first, size_t first_length,
+                                                                       const uint8_t *second, size_t second_length) {
     uint8_t none = 0;
     int64_t no_weight = 0;
     return ceiling_better_of(case_bytes, table_length ? table : &no_weight, table_length, first_length ? first : &none, first_length,
                              second_length ? second : &none, second_length);
 }
 
-static inline uint64_t ceiling_replay_start_or_empty(const uint8_t case_bytes[CEILING_CASE], const int64_t *table, size_t table_length,
-                                                     uint8_t record[CEILING_RECORD]) {
+CEILING_INLINE uint64_t ceiling_replay_start_or_empty(const uint8_t case_bytes[CEILING_CASE], const int64_t *table, size_t table_length,
+                                                      uint8_t record[CEILING_RECORD]) {
     int64_t no_weight = 0;
     return ceiling_replay_start(case_bytes, table_length ? table : &no_weight, table_length, record);
 }
 
-static inline struct ceiling_lines_answer ceiling_replay_lines_or_empty(const uint8_t case_bytes[CEILING_CASE], int64_t *table,
-                                                                        size_t table_length, uint8_t record[CEILING_RECORD],
-                                                                        const uint8_t *lines, size_t lines_length) {
+CEILING_INLINE struct ceiling_lines_answer ceiling_replay_lines_or_empty(const uint8_t case_bytes[CEILING_CASE], int64_t *table,
+                                                                         size_t table_length, uint8_t record[CEILING_RECORD],
+                                                                         const uint8_t *lines, size_t lines_length) {
     uint8_t none = 0;
     int64_t no_weight = 0;
     return ceiling_replay_lines(case_bytes, table_length ? table : &no_weight, table_length, record, lines_length ? lines : &none,
                                 lines_length);
 }
 
-static inline struct ceiling_span_answer ceiling_round_span_or_empty(const uint8_t *log, size_t log_length, uint64_t round) {
+CEILING_INLINE struct ceiling_span_answer ceiling_round_span_or_empty(const uint8_t *log, size_t log_length, uint64_t round) {
     uint8_t none = 0;
     return ceiling_round_span(log_length ? log : &none, log_length, round);
 }
 
-static inline struct ceiling_round_answer ceiling_round_or_empty(const uint8_t case_bytes[CEILING_CASE], int64_t *table, size_t table_length,
-                                                                 uint8_t *out, size_t out_length) {
+CEILING_INLINE struct ceiling_round_answer ceiling_round_or_empty(const uint8_t case_bytes[CEILING_CASE], int64_t *table, size_t table_length,
+                                                                  uint8_t *out, size_t out_length) {
     uint8_t none = 0;
     int64_t no_weight = 0;
     return ceiling_round(case_bytes, table_length ? table : &no_weight, table_length, out_length ? out : &none, out_length);
 }
 
-static inline struct ceiling_run_answer ceiling_run_or_empty(const uint8_t case_bytes[CEILING_CASE], int64_t *table, size_t table_length,
-                                                             uint8_t *out, size_t out_length, uint64_t limit) {
+CEILING_INLINE struct ceiling_run_answer ceiling_run_or_empty(const uint8_t case_bytes[CEILING_CASE], int64_t *table, size_t table_length,
+                                                              uint8_t *out, size_t out_length, uint64_t limit) {
     uint8_t none = 0;
     int64_t no_weight = 0;
     return ceiling_run(case_bytes, table_length ? table : &no_weight, table_length, out_length ? out : &none, out_length, limit);
