@@ -118,7 +118,7 @@ SEPARATED = {
     "doubled quotes and semicolons": 'link,"a;b;c", "d;""e;"\nx,1,2\n',
     "semicolons and inch marks": 'link,5" mast; old,6" mast\nx,1,2\n',
     "line ends in quotes": '"a;\nb;";"1,,,"; "2\r\n,,,"\nx;1;2\n',
-    "tabs after empty rows": '\n"";"";\n;;;;\n"a\tb\tc\td";1;2\nx;1;2\n',
+    "tabs after empty rows": '\n"";"";\n;;;;\n"a\tb\tc\td";1;c2\nx;1;2\n',
 }
 
 
@@ -132,7 +132,6 @@ def same_case(count, name, sheets, others):
 def cells(count):
     """What single cells mean."""
     same = [
-        ("an empty cell is 0", "link,a,b\nx,,2\ny,0,\n", "link,a,b\nx,0,2\ny,0,0\n"),
         ("zeros before a number", "link,a,b\nx,007,-00\ny,0,0\n", "link,a,b\nx,7,0\ny,0,0\n"),
         ("empty cells beyond the header", "link,a,b\nx,1,2,,\ny,0,0\n", "link,a,b\nx,1,2\ny,0,0\n"),
         ("no line end at the end", "link,a,b\nx,1,2\ny,0,0", "link,a,b\nx,1,2\ny,0,0\n"),
@@ -195,6 +194,9 @@ REFUSED = [
     ("links", "y,3,4", "y,3,4,,5", ["LINKS: row 3, column E", "'5' stands beyond"]),
     ("links", "y,3,4", 'y,"3,4', ["LINKS: row 3", "cannot be split"]),
     ("links", LINKS, 'link\ta\nx\t"1"2\n', ["LINKS: row 2", "cannot be split"]),
+    ("links", "y,3,4", "y,3,", ["LINKS: row 3, column C", "weight is due"]),
+    ("links", "link,a,b\n", "", ["LINKS: row 1, column A", "header is due"]),
+    ("links", "link,a,b", "name,1,2", ["LINKS: row 1, column A", "header is due"]),
     ("links", "y,3,4", "y,3,4.0", ["LINKS: row 3, column C", "'4.0' is no whole number"]),
     ("links", "y,3,4", 'y,"3,0",4', ["LINKS: row 3, column B", "'3,0' is no whole number"]),
     ("links", "y,3,4", "y,1 000,4", ["LINKS: row 3, column B", "'1 000' is no whole number"]),
@@ -207,6 +209,7 @@ REFUSED = [
     ("links", "y,3,4", "y," + "9" * 5000 + ",4", ["LINKS: row 3, column B", "no weight"]),
     ("links", "y,3,4", 'y,"3\n\x1b",4', ["LINKS: row 3, column B", "'3??' is no whole number"]),
     ("pairs", PAIRS, "", ["PAIRS", "no header"]),
+    ("pairs", HEADER, "", ["PAIRS: row 1, column A", "header is due"]),
     ("pairs", ",weight", "", ["PAIRS: row 1", "4 cells"]),
     ("pairs", ",weight", ",weight,why", ["PAIRS: row 1", "6 cells"]),
     ("pairs", "x,y,a", "x,w,a", ["PAIRS: row 2, column B", "no link 'w'"]),

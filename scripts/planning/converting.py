@@ -1,14 +1,19 @@
 """`ceiling from-csv`, `to-csv`, `from-wcsp` and `to-wcsp`: cases made of other programs' files, and the other way round."""
 
+from picturing.case import read_case
+
 from . import outputs, spreadsheets, standard, wcsp
 from .judging import TurnedBack, judge, line, valid_case
+from .rules import counted
 from .sources import Source
 
 
 def from_csv(options):
     links, pairs = Source(options.links), Source(options.pairs)
     case = spreadsheets.read(links.label, links.whole(), pairs.label, pairs.whole())
-    return write_case(options.output, case, "")
+    known = read_case(case)
+    sizes = ", ".join(counted(count, what) for count, what in ((known.n, "link"), (known.d, "channel"), (known.m, "pair")))
+    return write_case(options.output, case, f"{sizes}, numbered from 0 in the order of the spreadsheets")
 
 
 def to_csv(options):

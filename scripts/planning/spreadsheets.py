@@ -2,9 +2,10 @@
 
 from picturing.case import MOST_CHANNELS, MOST_LINKS, MOST_PAIRS, STARTING, read_case, write_case
 
-from .cells import table
+from .cells import NUMBER, table
 from .unfit import Unfit, shown
 
+LINKS_HEADER = "link"
 PAIRS_HEADER = "first link,second link,first channel,second channel,weight"
 
 
@@ -27,11 +28,13 @@ def read_links(file, data):
         channels[name] = column - 1
     if not channels:
         header.refuse("the header names no channel (after the first cell, separated by commas, semicolons or tabs)")
+    if all(map(NUMBER.fullmatch, channels)) and header.cells[0].casefold() != LINKS_HEADER:
+        header.refuse(f"the header is due here; where the channels' names are numbers, its first cell is the word {LINKS_HEADER}", 0)
     links = {}
     for row in rows:
         row.as_wide_as(header)
         name = unused(row, 0, links, "link", MOST_LINKS)
-        links[name] = [row.number_in(column, STARTING) if row.cells[column] else 0 for column in range(1, len(header.cells))]
+        links[name] = [weight(row, column) for column in range(1, len(header.cells))]
     if not links:
         raise Unfit(f"{file}: has no link after its header row")
     return channels, links
@@ -54,6 +57,8 @@ def read_pairs(file, data, links, channels):
     header, rows = table(file, data)
     if len(header.cells) != 5:
         header.refuse(f"the header has {len(header.cells)} cells; due are five, separated by commas, semicolons or tabs: {PAIRS_HEADER}")
+    if header.cells[0] in links:
+        header.refuse(f"the header is due here, and no link is named in it: {PAIRS_HEADER}", 0)
     pairs, seen = {}, {}
     for row in rows:
         row.as_wide_as(header)
@@ -68,10 +73,14 @@ def read_pairs(file, data, links, channels):
         before = seen.setdefault((first, second, k, l), row.number)
         if before != row.number:
             row.refuse(f"these links and channels have their weight in row {before}")
-        if not row.cells[4]:
-            row.refuse("here a weight is due", 4)
-        pairs.setdefault((first, second), {})[k, l] = row.number_in(4, STARTING)
+        pairs.setdefault((first, second), {})[k, l] = weight(row, 4)
     return pairs
+
+
+def weight(row, column):
+    if not row.cells[column]:
+        row.refuse("here a weight is due, 0 where nothing is gained or lost", column)
+    return row.number_in(column, STARTING)
 
 
 def known(row, column, numbers, what):
@@ -86,7 +95,7 @@ def known(row, column, numbers, what):
 def write(data):
     """The two spreadsheets of a case, names being the numbers."""
     case = read_case(data)
-    links = [",".join(["link", *map(str, range(case.d))])]
+    links = [",".join([LINKS_HEADER, *map(str, range(case.d))])]
     for link in range(case.n):
         links.append(",".join(map(str, [link, *case.weights[slice(*case.span(link))]])))
     pairs = [PAIRS_HEADER]

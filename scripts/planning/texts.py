@@ -94,10 +94,12 @@ standard error how far the best plan is below it.""",
     "from-csv": (
         ["LINKS", "PAIRS", "-o CASE"],
         """\
-LINKS: a header row (a word, then the channels' names), then a row for each link: its
-name and its weight on each channel. PAIRS: a header row of five cells, then rows: two
-links, their two channels, and the weight; what no row names weighs 0. The separator is
-a comma, a semicolon or a tab. The case goes to CASE, or to standard output.""",
+LINKS: a header row (`link`, then the channels' names), then a row for each link: its
+name and its weight on each channel. PAIRS: a header row (`first link`, `second link`,
+`first channel`, `second channel`, `weight`), then rows: two links, their two channels,
+and the weight; what no row names weighs 0. Links, channels and pairs are numbered in the
+order of the rows and columns. The separator is a comma, a semicolon or a tab. The case
+goes to CASE, or to standard output.""",
         "0 converted, 1 a file cannot be converted (nothing is written), 2 otherwise",
         [
             "ceiling from-csv samples/valley-links.csv samples/valley-pairs.csv -o valley.case",
