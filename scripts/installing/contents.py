@@ -10,7 +10,6 @@ Link = namedtuple("Link", "target")
 
 PROGRAMS = ["press", "replay"]
 LIBRARIES = ["checker_library", "engine_library"]
-DOCUMENTS = ["README.md", "docs/RULES.md", "docs/LIBRARY.md", "docs/PICTURE.md"]
 
 # Sources in the tree as patterns, the folder that they are taken from, and the one under the prefix that they go to with the rest of their path.
 TREES = [
@@ -20,8 +19,11 @@ TREES = [
     ("library/rust/Cargo.*", "library", "share/ceiling"),
     ("library/rust/build.rs", "library", "share/ceiling"),
     ("library/rust/*/*.rs", "library", "share/ceiling"),
+    ("README.md", ".", "share/doc/ceiling"),
+    ("docs/*", ".", "share/doc/ceiling"),
+    ("samples/*", ".", "share/doc/ceiling"),
 ]
-ENDINGS = (".py", ".css", ".js", ".c", ".cpp", ".toml", ".lock", ".rs")
+ENDINGS = (".py", ".css", ".js", ".c", ".cpp", ".toml", ".lock", ".rs", ".md", ".case", ".csv", ".log", ".plan")
 
 
 def sources(root):
@@ -33,8 +35,6 @@ def sources(root):
     yield "include/ceiling.h", "library/ceiling.h", False
     yield "lib/ceiling/ceiling", "scripts/ceiling", True
     yield "lib/ceiling/VERSION", "VERSION", False
-    for name in DOCUMENTS:
-        yield "share/doc/ceiling/" + os.path.basename(name), name, False
     for pattern, base, to in TREES:
         found = [os.path.relpath(name, root) for name in glob.glob(os.path.join(glob.escape(root), pattern)) if name.endswith(ENDINGS)]
         for name in sorted(found) or [pattern]:
