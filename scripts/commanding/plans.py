@@ -101,16 +101,16 @@ def beside_ceiling(trial):
     met, below = trial.file("met", b"0 1"), trial.file("below", b"1 1")
     higher = trial.file("plan.log", line(2, 0, 2, 0, 1) + P4_ROUND[LINE : 3 * LINE] + line(4, 0, 0, 0, 3))
     meets = b"the best plan meets the ceiling: no plan is better"
-    for name, plans, used, ceiling, out in (
-        ("met", [met], log, 2, f"2 {met}\nbest 2 {met}\n"),
-        ("not met", [below], log, 2, f"0 {below}\nbest 0 {below}\n"),
-        ("met by the second", [below, met], log, 2, f"0 {below}\n2 {met}\nbest 2 {met}\n"),
-        ("one below", [met], higher, 3, f"2 {met}\nbest 2 {met}\n"),
-        ("no round", [met], trial.file("plan.log", b""), 4, f"2 {met}\nbest 2 {met}\n"),
+    for name, plans, used, rounds, ceiling, out in (
+        ("met", [met], log, 1, 2, f"2 {met}\nbest 2 {met}\n"),
+        ("not met", [below], log, 1, 2, f"0 {below}\nbest 0 {below}\n"),
+        ("met by the second", [below, met], log, 1, 2, f"0 {below}\n2 {met}\nbest 2 {met}\n"),
+        ("one below", [met], higher, 1, 3, f"2 {met}\nbest 2 {met}\n"),
+        ("no round", [met], trial.file("plan.log", b""), 0, 4, f"2 {met}\nbest 2 {met}\n"),
     ):
         for order in (plans + ["--log", used], ["--log", used] + plans):
             ended = trial.ask("score", path, *order)
-            trial.ends(f"score --log {name}", ended, 0, f"{out}ceiling {ceiling}\n".encode())
+            trial.ends(f"score --log {name}", ended, 0, f"{out}accepted {rounds} {ceiling}\n".encode())
             gap = ceiling - int(out.split("best ")[1].split()[0])
             said = meets in ended.err if gap == 0 else meets not in ended.err and str(gap).encode() in ended.err
             trial.test(f"score --log {name}, in words", said, f"{ended.err}")
@@ -118,7 +118,7 @@ def beside_ceiling(trial):
         verdict = trial.verdict(P4, text)
         ended = trial.ask("score", path, met, "--log", trial.file("plan.log", text))
         trial.ends(f"score --log {name}, refused", ended, 1)
-        trial.test(f"score --log {name}, the verdict", verdict in ended.err and b"ceiling " not in ended.out and meets not in ended.err, f"{ended}")
+        trial.test(f"score --log {name}, the verdict", verdict in ended.err and b"accepted" not in ended.out and meets not in ended.err, f"{ended}")
     bad = trial.file("plan.case", P4[:-1])
     ended = trial.ask("score", bad, met)
     trial.test("score a refused case, the verdict", b"refused 14 9" in ended.out + ended.err, f"{ended}")

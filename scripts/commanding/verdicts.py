@@ -7,7 +7,7 @@ from picturing.columns import LINE
 from running.inputs import P4, P4_ROUND, line
 from running.stand_ins import COMPLAINS, DIES, judges, says
 
-from .trial import cut, last_line, plain
+from .trial import cut, plain
 
 
 def status(verdict):
@@ -81,16 +81,16 @@ def pressed(trial):
                 trial.test(title + ", no file", not kept or os.listdir(os.path.dirname(to)) == [])
             else:
                 trial.ends(title, ended, 0, b"" if kept else printed)
-                trial.test(title + ", the summary", last_line(ended.err) in summaries(trial.real("replay", data + printed)), f"{ended.err}")
+                trial.test(title + ", the summary", ended.err in summaries(trial.real("replay", data + printed)), f"{ended.err}")
                 trial.test(title + ", the file", not kept or read(to) == printed)
 
 
 def summaries(verdict):
-    """The last line of `press` for a verdict: one round may be said so."""
-    word, rounds, ceiling = verdict.decode().split()
+    """What `press` says for a verdict, the verdict itself first: one round may be said so."""
+    rounds, ceiling = verdict.decode().split()[1:]
     settled = {0: ["settled at once"], 1: ["settled after 1 round", "settled after 1 rounds"]}
     how = settled.get(int(rounds), [f"settled after {rounds} rounds"])
-    return [f"{word} {rounds} {ceiling}: {one}, no plan's total is above {ceiling}".encode() for one in how]
+    return [verdict + f"{one}: no plan's total is above {ceiling}\n".encode() for one in how]
 
 
 def read(path):
@@ -149,15 +149,15 @@ def bounds(trial):
     """The summary of `press` by what `replay` says of the log."""
     case = trial.file("plan.case", P4)
     for verdict, words in (
-        ("accepted 3 -77", b"accepted 3 -77: settled after 3 rounds, no plan's total is above -77"),
-        ("accepted 0 5", b"accepted 0 5: settled at once, no plan's total is above 5"),
-        ("accepted 99999 5", b"accepted 99999 5: settled after 99999 rounds, no plan's total is above 5"),
-        ("accepted 100000 5", b"accepted 100000 5: the limit of 100000 rounds was reached, perhaps not settled; no plan's total is above 5"),
+        ("accepted 3 -77", "settled after 3 rounds: no plan's total is above -77"),
+        ("accepted 0 5", "settled at once: no plan's total is above 5"),
+        ("accepted 99999 5", "settled after 99999 rounds: no plan's total is above 5"),
+        ("accepted 100000 5", "the limit of 100000 rounds was reached, perhaps not settled: no plan's total is above 5"),
     ):
         programs = trial.stand_ins.folder(replay=says(verdict + "\n"))
         ended = trial.ask("press", case, programs=programs)
         trial.ends(f"press where replay says {verdict}", ended, 0, P4_ROUND)
-        trial.test(f"press where replay says {verdict}, its summary", last_line(ended.err) == words, f"{ended.err}")
+        trial.test(f"press where replay says {verdict}, its summary", ended.err == f"{verdict}\n{words}\n".encode(), f"{ended.err}")
 
 
 def apart(trial):

@@ -4,6 +4,7 @@ from . import outputs
 from .judging import MOST, Judge, TurnedBack, line, why
 from .programs import Program, converse
 from .progress import Progress
+from .rules import counted
 from .sources import Source
 from .standard import is_terminal, say
 
@@ -27,15 +28,15 @@ def run(options):
     if not verdict.accepted:
         raise TurnedBack("ceiling: replay turned back the log that press made", line(verdict))
     outputs.put_in_place(result)
-    say(f"{line(verdict)}: {summary(verdict.first, verdict.second)}")
+    say(line(verdict), summary(verdict.first, verdict.second))
     return 0
 
 
 def summary(rounds, ceiling):
+    how = f"settled after {counted(rounds, 'round')}" if rounds else "settled at once"
     if rounds >= MOST_ROUNDS:
-        return f"the limit of {rounds} rounds was reached, perhaps not settled; no plan's total is above {ceiling}"
-    settled = f"after {rounds} round{'s' * (rounds > 1)}" if rounds else "at once"
-    return f"settled {settled}, no plan's total is above {ceiling}"
+        how = f"the limit of {rounds} rounds was reached, perhaps not settled"
+    return f"{how}: no plan's total is above {ceiling}"
 
 
 class Press:

@@ -32,14 +32,14 @@ def run(options):
     best = max(range(len(totals)), key=lambda at: (totals[at], -at))
     text = [f"{figure} {name}" for figure, name in zip(totals, options.plan)]
     text.append(f"best {text[best]}")
-    words = []
+    words, judgement = [], b""
     if log:
         verdict = judge_log(case, log)
         if not verdict.accepted:
             raise TurnedBack(line(verdict), why(case.name, log.name))
-        text.append(f"ceiling {verdict.second}")
+        judgement = verdict.printed
         words.append(distance(verdict.second - totals[best]))
-    standard.write(standard.rows(text))
+    standard.write(standard.rows(text) + judgement)
     standard.say(*words)
     return 0
 

@@ -44,8 +44,8 @@ COMMANDS = {
         ["CASE", "-o LOG"],
         """\
 Runs `press` on the case. Its log goes to LOG, or to standard output. `replay` judges it
-meanwhile: LOG is put in place only where it is accepted. The last line on standard
-error says how many rounds there are and what the ceiling is. On a terminal a long run
+meanwhile: LOG is put in place only where it is accepted. Its judgement is on standard
+error, `accepted ROUNDS CEILING`, and below it what that means. On a terminal a long run
 shows the rounds so far and the falling ceiling.""",
         "0 accepted, 1 the case was refused (nothing is written; an older LOG stays), 2 otherwise",
         ["ceiling press samples/valley.case -o valley.log", "ceiling press - < samples/triangle.case > triangle.log"],
@@ -83,8 +83,9 @@ on the page and is the last line on standard error.""",
 A PLAN is a file of whole numbers: the channel of each link from link 0 on, separated by
 spaces, commas, semicolons or line ends. Its total is the figure of `replay` for the case
 with these channels alone. Prints `TOTAL NAME` for each plan and then
-`best TOTAL NAME`, the first of the best. With a log of the case, also `ceiling C`, and on
-standard error how far the best plan is below it.""",
+`best TOTAL NAME`, the first of the best. With a log of the case, also the judgement of
+`replay` on it, `accepted ROUNDS CEILING`, and on standard error how far the best plan is
+below the ceiling.""",
         "0 scored, 1 refused, or a plan does not fit the case, 2 otherwise",
         [
             "echo 0 1 0 | ceiling score samples/triangle.case -",
