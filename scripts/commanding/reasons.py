@@ -128,6 +128,7 @@ def ranges(trial):
         ("a pair of a link that is not there", 12, line(12, 1, 0, 3), r"\b0 to 2\b"),
     ):
         asked(trial, name, with_line(TRIANGLE, at, new), 5, [pattern])
+    neighbours(trial)
     for name, new, pattern in (
         ("a press of link 2", line(2, 2, 2, 0, 1), "the case has links 0 to 1"), ("a press of 3 scopes", line(2, 0, 3, 0, 1), r"\b1 to 2\b"),
         ("a press of no scope", line(2, 0, 0, 0, 1), r"\b1 to 2\b"), ("a press by 0", line(2, 0, 2, 0, 0), rf"\b1 and {MOVE}\b"),
@@ -145,6 +146,21 @@ def ranges(trial):
         ("a link weight too great", 1, line(11, 0, 0, 0, STARTING + 1)), ("a pair weight too small", 7, line(13, 0, 0, 1, -STARTING - 1))
     ):
         asked(trial, name, with_line(P4, at, new), 8, [rf"-{STARTING}\b", rf"[^-]\b{STARTING}\b"])
+
+
+def neighbours(trial):
+    """A line that is missing, doubled or exchanged with the next: its numbers may be right where it stands."""
+    rows = [TRIANGLE[at : at + LINE] for at in range(0, len(TRIANGLE), LINE)]
+    for name, at, number in (("a link weight", 2, 5), ("a pair weight", 9, 5), ("the last weight of a link", 4, 5), ("a pair's last weight", 11, 2)):
+        missing = b"".join(rows[:at] + rows[at + 1 :])
+        asked(trial, f"{name} missing", missing, number, [rf"Line {at + 1}: here", "perhaps a line is missing before it"])
+    for name, at, number in (("a link weight", 2, 5), ("a pair weight", 9, 5), ("a pair", 7, 2), ("the first link weight", 1, 5)):
+        twice = b"".join(rows[: at + 1] + rows[at:])
+        asked(trial, f"{name} twice", twice, number, [rf"Line {at + 2}: here", "perhaps that line stands twice"])
+        turned = b"".join(rows[:at] + [rows[at + 1], rows[at]] + rows[at + 2 :])
+        asked(trial, f"{name} after the next line", turned, number, ["this line and the next one have changed places"])
+    far = with_line(TRIANGLE, 2, line(11, 2, 1))
+    asked(trial, "a place far away", far, 5, [r"another place than the one that is due\.$", r"\A(?!.*perhaps)"])
 
 
 def order(trial):

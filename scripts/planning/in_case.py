@@ -1,7 +1,7 @@
 """Why a line of a case was refused."""
 
 from picturing.case import MOST_CHANNELS, MOST_LINKS, MOST_PAIRS, STARTING, line_count
-from picturing.columns import COLUMNS, Lines
+from picturing.columns import COLUMNS, Lines, Refused
 
 from .reason import reason
 from .rules import NAMES, UNUSED, kind_named
@@ -34,6 +34,16 @@ class Sheet:
         if rest == 0:
             return [12, pair, None, None]
         return [13, pair, (rest - 1) // self.d, (rest - 1) % self.d]
+
+    def stands_at(self, line, place):
+        """Whether a line is the one that is due at the place of a line."""
+        if not 0 < place < self.count or line >= self.lines.count:
+            return False
+        try:
+            numbers = self.lines.read(line)
+        except Refused:
+            return False
+        return all(due in (None, number) for due, number in zip(self.due(place), numbers))
 
     def due_words(self, line):
         """What is due at a line, in words."""
@@ -79,7 +89,7 @@ def in_case(number, front, line):
     numbers, due = sheet.lines.read(line), sheet.due(line)
     if number == 2:
         if numbers[0] != due[0]:
-            return reason(edge(0), f"{sheet.due_words(line)}.", f"The line is {kind_named(numbers[0])}.")
+            return reason(edge(0), f"{sheet.due_words(line)}.", f"The line is {kind_named(numbers[0])}.", *neighbour(sheet, line))
         return unused(numbers)
     if number == 5:
         return misplaced(sheet, line, numbers, due)
@@ -96,10 +106,21 @@ def misplaced(sheet, line, numbers, due):
     for column in (1, 2, 3):
         if due[column] is not None and numbers[column] != due[column]:
             words = f"Column {NAMES[column]} holds {numbers[column]}, {due[column]} is due."
-            return reason(edge(column), f"{sheet.due_words(line)}.", words)
+            return reason(edge(column), f"{sheet.due_words(line)}.", words, *neighbour(sheet, line))
         if due[column] is None and not 0 <= numbers[column] < sheet.n:
             return reason(edge(column), f"Column {NAMES[column]} names link {numbers[column]}: the case has the links 0 to {sheet.n - 1}.")
     return None
+
+
+def neighbour(sheet, line):
+    """What may have happened where the line is that of the place before or after the one that is due."""
+    if sheet.stands_at(line, line + 1):
+        if sheet.stands_at(line + 1, line):
+            return ["Perhaps this line and the next one have changed places."]
+        return ["It is the line that is due next: perhaps a line is missing before it."]
+    if sheet.stands_at(line, line - 1):
+        return ["It names the place of the line before: perhaps that line stands twice, and one of them has to go."]
+    return []
 
 
 def descending(sheet, numbers):

@@ -20,7 +20,7 @@ RULES = {
     ),
     4: ("something lent has the wrong length", "This concerns callers of the library and no file."),
     5: (
-        "a number names nothing there is, or an amount or count is out of range",
+        "a number names nothing there is, an amount or count is out of range, or a case line names another place than the one that is due",
         "Links, channels, pairs and scopes count from 0, and the lines of a case come in the order of its table.",
     ),
     6: ("a pair's links do not ascend", "A pair names its lower link first, in b, and its higher link in c."),
