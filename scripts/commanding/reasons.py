@@ -128,6 +128,7 @@ def ranges(trial):
         ("a pair of a link that is not there", 12, line(12, 1, 0, 3), r"\b0 to 2\b"),
     ):
         asked(trial, name, with_line(TRIANGLE, at, new), 5, [pattern])
+    heads(trial)
     neighbours(trial)
     for name, new, pattern in (
         ("a press of link 2", line(2, 2, 2, 0, 1), "the case has links 0 to 1"), ("a press of 3 scopes", line(2, 0, 3, 0, 1), r"\b1 to 2\b"),
@@ -146,6 +147,20 @@ def ranges(trial):
         ("a link weight too great", 1, line(11, 0, 0, 0, STARTING + 1)), ("a pair weight too small", 7, line(13, 0, 0, 1, -STARTING - 1))
     ):
         asked(trial, name, with_line(P4, at, new), 8, [rf"-{STARTING}\b", rf"[^-]\b{STARTING}\b"])
+
+
+def heads(trial):
+    """A head that counts too little or too much: the words say what it counts."""
+    counts = "By its head the case has"
+    for name, text, size, ends in (
+        ("a pair too few", with_line(TRIANGLE, 0, line(10, 3, 2, 2)), "3 links, 2 channels and 2 pairs", 17),
+        ("all pairs too few", with_line(TRIANGLE, 0, line(10, 3, 2, 0)), "3 links, 2 channels and 0 pairs", 7),
+        ("a link too few", with_line(case(2, [[0, 1]] * 3, []), 0, line(10, 2, 2)), "2 links, 2 channels and 0 pairs", 5),
+    ):
+        asked(trial, f"a head with {name}", text, 2, [f"{counts} {size} and ends with line {ends};", "head .* too few", r"\A(?!.*(shift|a log))"])
+    for name, links, size in (("a link too few, and pairs", 2, "2 links"), ("a link too many", 4, "4 links")):
+        asked(trial, f"a head with {name}", with_line(TRIANGLE, 0, line(10, links, 2, 3)), 2, [f"{counts} {size}, 2 channels and 3 pairs"])
+    asked(trial, "a case line after a log", P4 + P4_ROUND + line(13, 0, 1, 1), 2, ["line of a case", "which ends with line 10"])
 
 
 def neighbours(trial):

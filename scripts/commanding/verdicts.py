@@ -132,6 +132,10 @@ def other_words(trial):
         trial.test(f"explain where replay says {text!r}, its first line", ended.out.startswith(wanted), f"{ended.out[:80]}")
         foreign = re.search(r"\bceiling (here )?is 2\b", plain(ended.out)) and "refused" in text
         trial.test(f"explain where replay says {text!r}, no reason of its own", not foreign, f"{ended.out[:300]}")
+    for said in (b"refused 2 10\n", b"refused 5 10\n", b"refused 1 0\n", b"refused 14 0\n", b"refused 2 99\n"):
+        ended = trial.ask("explain", files[0], programs=trial.stand_ins.folder(replay=says(said.decode())))
+        trial.ends(f"explain a case where replay says {said}", ended, 1, err=b"")
+        trial.test(f"explain a case where replay says {said}, its first line", ended.out.startswith(said), f"{ended.out[:80]}")
     verdict = "printf 'accepted 1 2\\n'\n"
     for name, script in (
         ("nothing", "\n"), ("half a line", "printf 'accepted 1 2'\n"), ("something else", "echo hello\n"), ("two lines", verdict * 2),

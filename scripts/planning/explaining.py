@@ -1,7 +1,7 @@
 """`ceiling explain`: the judgement of `replay` in words."""
 
 from picturing.case import read_case
-from picturing.columns import LINE, Refused
+from picturing.columns import LINE, Lines, Refused
 
 from . import standard
 from .in_case import Sheet
@@ -10,7 +10,7 @@ from .places import Place
 from .progress import working
 from .reason import reason
 from .reasons import find, lacks_feed
-from .rules import RULES, counted
+from .rules import AFTER_HEAD, RULES, counted
 from .sources import Longer, Source
 
 # Lines before a refused one that are not read again at once.
@@ -63,10 +63,18 @@ def log_place(case, log, verdict):
 def case_place(case, verdict):
     """The place in a case, or in a log that follows it in the same file."""
     front, at = case.front(), verdict.second
-    whole = front[: whole_case(front) * LINE]
-    if whole and at >= len(whole) // LINE:
-        return Place(case, at, at, whole, len(whole) // LINE)
+    lines = whole_case(front)
+    if lines and at >= lines and not uncounted(front, lines, verdict):
+        return Place(case, at, at, front[: lines * LINE], lines)
     return Place(case, at, at, None, 0)
+
+
+def uncounted(front, lines, verdict):
+    """Whether the line after a case was refused as one of the case, which its head does not count."""
+    try:
+        return (verdict.first, verdict.second) == (2, lines) and Lines("case", front).read(lines)[0] in AFTER_HEAD
+    except Refused:
+        return False
 
 
 def whole_case(front):

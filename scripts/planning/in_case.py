@@ -4,7 +4,7 @@ from picturing.case import MOST_CHANNELS, MOST_LINKS, MOST_PAIRS, STARTING, line
 from picturing.columns import COLUMNS, Lines, Refused
 
 from .reason import reason
-from .rules import NAMES, UNUSED, kind_named
+from .rules import NAMES, UNUSED, counted, kind_named
 
 
 def edge(column):
@@ -44,6 +44,10 @@ class Sheet:
         except Refused:
             return False
         return all(due in (None, number) for due, number in zip(self.due(place), numbers))
+
+    def head_words(self):
+        sizes = [counted(*size) for size in ((self.n, "link"), (self.d, "channel"), (self.m, "pair"))]
+        return f"By its head the case has {sizes[0]}, {sizes[1]} and {sizes[2]}"
 
     def due_words(self, line):
         """What is due at a line, in words."""
@@ -88,9 +92,7 @@ def in_case(number, front, line):
     sheet = Sheet(front)
     numbers, due = sheet.lines.read(line), sheet.due(line)
     if number == 2:
-        if numbers[0] != due[0]:
-            return reason(edge(0), f"{sheet.due_words(line)}.", f"The line is {kind_named(numbers[0])}.", *neighbour(sheet, line))
-        return unused(numbers)
+        return other_kind(sheet, line, numbers, due) if numbers[0] != due[0] or line >= sheet.count else unused(numbers)
     if number == 5:
         return misplaced(sheet, line, numbers, due)
     if number == 6 and numbers[2] >= numbers[3]:
@@ -100,6 +102,15 @@ def in_case(number, front, line):
     if number == 8 and abs(numbers[4]) > STARTING:
         return reason(edge(4), f"The weight is {numbers[4]}: between {-STARTING} and {STARTING} it would be right.")
     return None
+
+
+def other_kind(sheet, line, numbers, due):
+    """A line of another kind than the one that is due, or one that the head does not count."""
+    if line >= sheet.count:
+        head = f"{sheet.head_words()} and ends with line {sheet.count}; after it stands {kind_named(numbers[0])}."
+        return reason(edge(0), head, "Either the head (line 1) counts too few, or this line is too many.")
+    words = [f"{sheet.due_words(line)}.", f"The line is {kind_named(numbers[0])}.", *neighbour(sheet, line)]
+    return reason(edge(0), *words, *([f"{sheet.head_words()}."] if {numbers[0], due[0]} == {11, 12} else []))
 
 
 def misplaced(sheet, line, numbers, due):

@@ -53,6 +53,8 @@ KINDS = {
     12: "pair",
     13: "pair weight",
 }
+# The kinds of a case after its head.
+AFTER_HEAD = (11, 12, 13)
 # The columns that a kind does not use.
 UNUSED = {1: (), 2: (3,), 3: (2, 3, 4), 4: (1, 2, 3), 10: (4,), 11: (3,), 12: (4,), 13: ()}
 
