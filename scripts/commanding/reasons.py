@@ -35,8 +35,8 @@ def asked(trial, name, text, number, patterns, byte=None):
     trial.test(f"explain {name}, its words", not missing, f"{missing} not in {words}")
     if byte:
         column = (byte - 1) % LINE + 1
-        good = re.search(rf"\bbyte {byte}\b", words) and re.search(rf"\bcolumn {column}\b", words)
-        trial.test(f"explain {name}, the byte", good, f"column {column}, byte {byte} not in {words}")
+        good = re.search(rf"\bbyte {byte}\b", words) and re.search(rf"\bcharacter {column} of the line\b", words)
+        trial.test(f"explain {name}, the byte", good, f"character {column}, byte {byte} not in {words}")
 
 
 def not_in_columns(trial):
@@ -86,6 +86,23 @@ def signs(trial):
         sign = sign if isinstance(sign, bytes) else sign.encode()
         text = first[:at] + sign + first[at + (at < LINE - 1) :]
         asked(trial, name, P4[:LINE] + text + P4[2 * LINE :], 1, patterns, LINE + at + 1)
+
+
+def foreign(trial):
+    """A file that is neither case nor log: what it is, and what makes a case of it."""
+    judgement, pages = "judgement that a program printed, not a", trial.sample("valley-links.csv")
+    for name, data, number, patterns in (
+        ("a refusal", b"refused 10 91\n", 14, [judgement]), ("an acceptance", b"accepted 5 44\n", 14, [judgement]),
+        ("a long acceptance", b"accepted 5 44\n" * 3, 1, [judgement]), ("a workbook", b"PK\x03\x04" + bytes(60), 1, ["workbook", "from-csv"]),
+        ("links", pages, 1, ["CSV", "from-csv"]), ("links with a mark", b"\xef\xbb\xbf" + pages, 1, ["CSV", "from-csv"]),
+        ("pairs", trial.sample("valley-pairs.csv"), 1, ["CSV", "from-csv"]), ("a corner that is empty", b'"";A;B\r\n' * 9, 1, ["CSV", "from-csv"]),
+        ("a wcsp file", b"plan 2 2 3 4\n2 2\n1 0 0 1\n1 2\n", 1, ["wcsp", "from-wcsp"]),
+    ):
+        asked(trial, f"{name} as a case", data, number, [*patterns, "not a case sheet"])
+        asked(trial, f"{name} as a log", (P4, data), number, [patterns[0], "not a log", "ceiling press"])
+    asked(trial, "a head with commas", b"10,2,2,1,0\n" + P4[LINE:], 1, ["Written in columns", r"\A(?!.*(CSV|wcsp))"])
+    asked(trial, "a tab first", (P4, with_byte(P4_ROUND, 0, b"\t")), 1, [r"\btab", r"\A(?!.*CSV)"], 1)
+    asked(trial, "a head without columns", b"10 2 2 1 0\n" + P4[LINE:], 1, ["Written in columns", r"\A(?!.*(CSV|wcsp))"])
 
 
 def kinds(trial):
@@ -350,5 +367,5 @@ def partners(words, state, family):
 
 
 def tests(trial):
-    for part in (not_in_columns, kinds, ranges, order, figures, cut_off, families):
+    for part in (not_in_columns, foreign, kinds, ranges, order, figures, cut_off, families):
         part(trial)

@@ -56,7 +56,7 @@ def place(trial, name, words, files, before, at):
     found = any(os.path.basename(file) in one and re.search(rf"\bline {number}\b", one) for one in words.split("\n"))
     trial.test(f"explain {name}, file and line", found, f"{os.path.basename(file)}, line {number}, in {words[:300]}")
     trial.test(f"explain {name}, the line as replay counts it", re.search(rf"\bline {at}\b", words), f"line {at} in {words[:300]}")
-    column, byte = [int(found[1]) if found else 0 for found in (re.search(rf"\b{word} (\d+)\b", words) for word in ("column", "byte"))]
+    column, byte = [int(found[1]) if found else 0 for found in (re.search(rf"\b{word} (\d+)\b", words) for word in ("character", "byte"))]
     data = read(file)[: max(byte, 1) - 1]
     good = data.count(b"\n") + 1 == number and len(data) - data.rfind(b"\n") == column
     trial.test(f"explain {name}, the byte", good, f"{words[:300]}")

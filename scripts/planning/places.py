@@ -23,7 +23,7 @@ class Place:
     def words(self, offset):
         byte = self.start + offset + 1
         return (
-            f"{self.source.label}: line {self.line + 1}, column {offset + 1}, byte {byte}, counted from 1; "
+            f"{self.source.label}: line {self.line + 1}, character {offset + 1} of the line, byte {byte} of the file, counted from 1; "
             f"for replay line {self.counted}, counted from 0 through case and log."
         )
 

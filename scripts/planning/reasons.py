@@ -5,6 +5,7 @@ from picturing.columns import LINE
 
 from .encoding import whole_file
 from .failed import Failed
+from .foreign import foreign
 from .in_case import case_ends, in_case
 from .in_log import in_log, log_ends
 from .moves import Stretch, stand_before
@@ -24,6 +25,9 @@ def find(number, place):
 
 def reason_at(number, place):
     front = place.source.front()
+    other = foreign(front, place.case is None) if place.line == 0 and number in (1, 14) else None
+    if other:
+        return other
     if number == 14:
         return ended(place, front)
     if len(place.raw) < LINE:
