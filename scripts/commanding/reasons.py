@@ -1,5 +1,6 @@
 """What `explain` says of each number: the figures that the words must hold, the place in the file, and for number 10 the family."""
 
+import os
 import random
 import re
 
@@ -115,16 +116,21 @@ def kinds(trial):
         ("a pair for its weight", with_line(P4, 6, line(12, 0, 0, 0)), [r"\b13\b"]),
         ("a head with an amount", with_line(P4, 0, line(10, 2, 2, 1, 5)), ["amount"]),
         ("a link weight with c", with_line(P4, 2, line(11, 0, 1, 7, 0)), [r"\bc\b"]),
-        ("a raise line first", (P4, line(3, 1)), [r"\b1\b.*\b2\b.*\b4\b"]),
+        ("a raise line first", (P4, line(3, 1)), [r"\b1\b.*\b2\b.*\b4\b", r"\A(?!.*too small)"]),
         ("a kind that nobody knows", (P4, line(77)), [r"\b1\b.*\b2\b.*\b4\b"]),
         ("a bound line in a press", (P4, press + raised + line(4, 0, 0, 0, 2)), [r"\b3\b|raise"]),
-        ("a raise line too many", (P4, P4_ROUND[:-LINE] + line(3, 2)), [r"\b1\b.*\b2\b.*\b4\b"]),
+        ("a raise line too many", (P4, P4_ROUND[:-LINE] + line(3, 2)), [r"\b1\b.*\b2\b.*\b4\b", "press of link 0 in line 1 counts 2 .*too small"]),
+        ("a raise line after a bound line", (P4, P4_ROUND + line(3, 2)), [r"\b4\b", r"\A(?!.*too small)"]),
         ("a bound line with a", (P4, P4_ROUND[:-LINE] + line(4, 1, 0, 0, 2)), [r"\ba\b"]),
         ("a raise line with an amount", (P4, press + line(3, 1, 0, 0, 1) + rest), ["amount"]),
         ("a raise line with b", (P4, press + line(3, 1, 5) + rest), [r"\bb\b"]),
         ("a press with c", (P4, line(2, 0, 2, 1, 2) + raised + rest), [r"\bc\b"]),
     ):
         asked(trial, name, text, 2, patterns)
+    with open(os.path.join(trial.root, "docs", "RULES.md"), encoding="utf-8") as file:
+        parts = re.split(r"^## ", file.read(), flags=re.M)
+    named = {part.partition(".")[0]: part for part in parts}
+    trial.test("the parts of the rules that are named", "line feed" in named.get("2", "") and "| 14 |" in named.get("8", ""), f"{list(named)}")
 
 
 def ranges(trial):

@@ -41,6 +41,8 @@ def explained(trial, name, files, case, wanted):
         number, at = map(int, wanted.split()[1:])
         before = None if trial.real("replay", case) == wanted else len(case) // LINE
         place(trial, name, plain(words), files, before, at)
+        rules = f"docs/RULES.md, part {2 if number == 1 else 8}, has the rules."
+        trial.test(f"explain {name}, where the rules are", plain(words).endswith(f"\n{rules}\n"), plain(words)[-200:])
         trial.test(f"explain {name}, the rule", re.search(rf"\b(rule|number) {number}\b", plain(words), re.I), plain(words)[:200])
     else:
         trial.test(f"explain {name}, in words", wanted.split()[2].decode() in plain(words), plain(words)[:200])

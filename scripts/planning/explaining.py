@@ -10,7 +10,7 @@ from .places import Place
 from .progress import working
 from .reason import reason
 from .reasons import find, lacks_feed
-from .rules import AFTER_HEAD, RULES, counted
+from .rules import AFTER_HEAD, RULES, counted, where
 from .sources import Longer, Source
 
 # Lines before a refused one that are not read again at once.
@@ -109,6 +109,7 @@ def refused(place, verdict):
         yield from with_feed(place)
     if place.before:
         yield f"The file holds more than the case, which ends with line {place.before}; what follows was read as a log."
+    yield where(number)
 
 
 def with_feed(place):

@@ -6,7 +6,7 @@ from picturing.log import MOVE, WORKING, pressed, raised as raised_weights
 from .family import active, family_words, listed, not_refuted
 from .in_case import edge, unused
 from .reason import reason
-from .rules import KINDS, kind_named
+from .rules import KINDS, counted, kind_named
 
 
 def in_log(number, standing, before):
@@ -30,10 +30,23 @@ def not_due(standing, numbers, before):
         words = [f"A shift (kind 1), a press (kind 2) or a bound line (kind 4) is due. The line is {kind_named(kind)}."]
         if kind == 3:
             words.append("No press waits for a raise line here.")
+            words += count_too_small(standing, before)
         elif kind in KINDS:
             words.append("It is a line of a case: a log holds kinds 1 to 4 only, and the case is not repeated in it.")
         return reason(edge(0), *words)
     return unused(numbers)
+
+
+def count_too_small(standing, before):
+    """A hint where the line before ends a press."""
+    lines, at = standing.log.lines, standing.line - 1
+    while at >= 0 and lines.read(at)[0] == 3:
+        at -= 1
+    if at < 0 or lines.read(at)[0] != 2:
+        return []
+    _, link, count, _, _ = lines.read(at)
+    has = f"counts {counted(count, 'raise line')} and has as many"
+    return [f"The press of link {link} in line {before + at + 1} {has}: perhaps its count is too small."]
 
 
 def out_of_range(standing, numbers, before):

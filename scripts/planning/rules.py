@@ -59,6 +59,11 @@ AFTER_HEAD = (11, 12, 13)
 UNUSED = {1: (), 2: (3,), 3: (2, 3, 4), 4: (1, 2, 3), 10: (4,), 11: (3,), 12: (4,), 13: ()}
 
 
+def where(number):
+    """Where the rule is told in full: lines in part 2, all numbers in part 8."""
+    return f"docs/RULES.md, part {2 if number == 1 else 8}, has the rules."
+
+
 def kind_named(kind):
     """A kind with its name, where it has one."""
     return f"kind {kind} ({KINDS.get(kind, 'there is no such kind')})"
