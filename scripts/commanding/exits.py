@@ -7,7 +7,8 @@ import subprocess
 import time
 
 import planning.sources
-from running.inputs import P4, P4_ROUND, line
+from picturing.columns import LINE
+from running.inputs import P4, P4_ROUND, line, with_line
 
 from .trial import last_line
 
@@ -68,6 +69,23 @@ def statuses(trial):
         trial.test(f"{told(arguments)}, the case", trial.real("replay", case).startswith(b"accepted 0 "), f"{case[:60]}")
     for arguments in (["picture", files.case, files.log], ["picture", files.case, files.bad_log], ["picture", files.bad_case, files.log]):
         page(trial, arguments)
+    refused_pages(trial)
+
+
+def refused_pages(trial):
+    """A refused line as editors and as `replay` count it, its rule, and how lines are written for rule 1 alone."""
+    columns = b"Each column holds"
+    for name, case, log, rule, counts in (
+        ("a log", P4, P4_ROUND[:-LINE] + line(4, 0, 0, 0, 3), b"rule 12,", (4, 13)),
+        ("a case", with_line(P4, 2, line(11, 1, 1)), b"", b"Rule 5,", (3, 2)),
+        ("a case's columns", b"x" + P4[1:], b"", b"Rule 1,", (1, 0)),
+    ):
+        out = trial.ask("picture", *trial.both(case, log)).out
+        counted = b"line %d, counted from 1; for <code>replay</code> line %d, counted from 0" % counts
+        trial.test(f"picture {name} that is refused, the line", counted in out and rule in out, f"{out[-800:]}")
+        unread = rule == b"Rule 1,"
+        told = [columns in out, b"cannot be read" in out, b"ceiling explain" not in out]
+        trial.test(f"picture {name} that is refused, its words", told == [unread] * 3, f"{told} in {out[-800:]}")
 
 
 def page(trial, arguments):

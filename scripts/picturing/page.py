@@ -4,7 +4,7 @@ import os
 from html import escape
 
 from .axes import number
-from .columns import LINE, SHAPE
+from .columns import LINE, SHAPE, NotInColumns
 from .curve import curve
 from .network import network
 
@@ -41,21 +41,35 @@ def judged(judgement):
 
 
 def refusal(names, refused, judgement=None):
-    """The page for a line that cannot be read: nothing is drawn."""
+    """The page for a line of the case that is refused, or one that cannot be read: nothing is drawn."""
     name = names[0] if refused.file == "case" else names[1]
-    title = f"No picture: line {refused.line} of the {refused.file} cannot be read"
+    unread = isinstance(refused, NotInColumns)
+    how = "cannot be read" if unread else "is refused" if judgement else "cannot be drawn"
+    title = f"No picture: line {number(refused.line + 1)} of the {refused.file} {how}"
     return frame(
         title,
         f"<h1>{title}</h1>\n{judged(judgement)}"
-        f"<p>The file is {escape(name)}, its lines counted from 0. In case and log together, "
-        f"as <code>replay</code> counts, it is line {number(refused.input_line)}.</p>\n"
+        f"<p>The file is {escape(name)}: {both_counts(refused)}.</p>\n"
         f'<p class="stop">{escape(refused.why[0].upper() + refused.why[1:])}.</p>\n'
-        f'<pre class="raw">{shown(refused.raw)}</pre>\n'
-        f"<p>A line has {LINE} bytes: {SHAPE} (kind, a, b, c, amount) "
-        "and a line feed. Each column holds a whole number at its right edge, filled up with "
-        "spaces on the left, without leading zeros. The case comes first on the command line, "
-        "the log second.</p>",
+        f'<pre class="raw">{shown(refused.raw)}</pre>\n{IN_COLUMNS if unread else EXPLAIN}',
     )
+
+
+def both_counts(refused):
+    """A line as editors count it, and as `replay` does."""
+    return (
+        f"line {number(refused.line + 1)}, counted from 1; for <code>replay</code> "
+        f"line {number(refused.input_line)}, counted from 0 through case and log"
+    )
+
+
+IN_COLUMNS = (
+    f"<p>A line has {LINE} bytes: {SHAPE} (kind, a, b, c, amount) "
+    "and a line feed. Each column holds a whole number at its right edge, filled up with "
+    "spaces on the left, without leading zeros. The case comes first on the command line, "
+    "the log second.</p>"
+)
+EXPLAIN = "<p><code>ceiling explain</code> says what would have been right; docs/RULES.md has the rules.</p>"
 
 
 def shown(raw):
@@ -118,9 +132,8 @@ def stop(log):
     refused = log.stopped
     return (
         f'<div class="stop"><p><strong>The picture ends after {counted(log.rounds, "round")}.'
-        f"</strong> Line {number(refused.line)} of the log, line {number(refused.input_line)} of "
-        f"case and log together: {escape(refused.why)}.</p>"
-        f'<pre class="raw">{shown(refused.raw)}</pre></div>'
+        f"</strong> The log\u2019s {both_counts(refused)}: {escape(refused.why)}.</p>"
+        f'<pre class="raw">{shown(refused.raw)}</pre>{EXPLAIN}</div>'
     )
 
 

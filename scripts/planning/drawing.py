@@ -4,7 +4,7 @@ import os
 
 from picturing import page
 from picturing.case import read_case
-from picturing.columns import LINE, Refused
+from picturing.columns import LINE, NotInColumns, Refused
 from picturing.log import read_log
 
 from . import outputs
@@ -56,5 +56,6 @@ def read_again(sheet, log, lines):
 
 def turned_back(file, place, verdict):
     """The refused line as the page shows it."""
-    why = f"number {verdict.first}, {RULES[verdict.first][0]}" if verdict.first in RULES else f"number {verdict.first}"
-    return Refused(file, place.line, place.counted, place.raw, why)
+    why = f"rule {verdict.first}, {RULES[verdict.first][0]}" if verdict.first in RULES else f"rule {verdict.first}"
+    kind = NotInColumns if verdict.first == 1 else Refused
+    return kind(file, place.line, place.counted, place.raw, why)
