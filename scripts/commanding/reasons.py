@@ -183,6 +183,10 @@ def heads(trial):
         asked(trial, f"a head with {name}", text, 2, [f"{counts} {size} and ends with line {ends};", "head .* too few", r"\A(?!.*(shift|a log))"])
     for name, links, size in (("a link too few, and pairs", 2, "2 links"), ("a link too many", 4, "4 links")):
         asked(trial, f"a head with {name}", with_line(TRIANGLE, 0, line(10, links, 2, 3)), 2, [f"{counts} {size}, 2 channels and 3 pairs"])
+    for channels in (1, 3):
+        head = line(10, 3, channels, 3)
+        size = "1 channel" if channels == 1 else f"{channels} channels"
+        asked(trial, f"a head with {size} of 2", with_line(TRIANGLE, 0, head), 5, [f"{counts} 3 links, {size} and 3 pairs"])
     asked(trial, "a case line after a log", P4 + P4_ROUND + line(13, 0, 1, 1), 2, ["line of a case", "which ends with line 10"])
 
 

@@ -117,7 +117,7 @@ def misplaced(sheet, line, numbers, due):
     for column in (1, 2, 3):
         if due[column] is not None and numbers[column] != due[column]:
             words = f"Column {NAMES[column]} holds {numbers[column]}, {due[column]} is due."
-            return reason(edge(column), f"{sheet.due_words(line)}.", words, *neighbour(sheet, line))
+            return reason(edge(column), f"{sheet.due_words(line)}.", words, *neighbour(sheet, line), f"{sheet.head_words()}.")
         if due[column] is None and not 0 <= numbers[column] < sheet.n:
             return reason(edge(column), f"Column {NAMES[column]} names link {numbers[column]}: the case has the links 0 to {sheet.n - 1}.")
     return None
