@@ -86,7 +86,7 @@ def dressed(count, random):
     for _ in range(4):
         case = made(random, small_size(random, len(LINK_NAMES)), "small")
         for name, dress in DRESSES.items():
-            rows = [["Name, kurz", *CHANNEL_NAMES[: case.values]]]
+            rows = [["Link", *CHANNEL_NAMES[: case.values]]]
             rows += [[LINK_NAMES[i], *weights] for i, weights in enumerate(case.links)]
             made_of = read(dress.text(rows), dress.text(pair_rows(random, case, dress.turned)))
             count.test(f"spreadsheets with {name}", made_of == case.text())
@@ -94,7 +94,7 @@ def dressed(count, random):
 
 def pair_rows(random, case, turned):
     """The rows of the pairs; each pair's in any order, links and channels in either order if turned."""
-    rows = [["von", "nach", "Kanal", "Kanal", "Gewicht"]]
+    rows = [HEADER.strip().split(",")]
     for i, j, weights in case.pairs:
         own = []
         for place, weight in enumerate(weights):
@@ -117,8 +117,8 @@ SEPARATED = {
     "semicolons in quotes": 'link,"a;b;c","d;e;f"\nx,1,2\n',
     "doubled quotes and semicolons": 'link,"a;b;c", "d;""e;"\nx,1,2\n',
     "semicolons and inch marks": 'link,5" mast; old,6" mast\nx,1,2\n',
-    "line ends in quotes": '"a;\nb;";"1,,,"; "2\r\n,,,"\nx;1;2\n',
-    "tabs after empty rows": '\n"";"";\n;;;;\n"a\tb\tc\td";1;c2\nx;1;2\n',
+    "line ends in quotes": 'link;"1,,,\n"; "2\r\n,,,"\nx;1;2\n',
+    "tabs after empty rows": '\n"";"";\n;;;;\nlink;"a\tb\tc\td";c2\nx;1;2\n',
 }
 
 
@@ -135,7 +135,7 @@ def cells(count):
         ("zeros before a number", "link,a,b\nx,007,-00\ny,0,0\n", "link,a,b\nx,7,0\ny,0,0\n"),
         ("empty cells beyond the header", "link,a,b\nx,1,2,,\ny,0,0\n", "link,a,b\nx,1,2\ny,0,0\n"),
         ("no line end at the end", "link,a,b\nx,1,2\ny,0,0", "link,a,b\nx,1,2\ny,0,0\n"),
-        ("any first cell", "name,a,b\nx,1,2\ny,0,0\n", ",a,b\nx,1,2\ny,0,0\n"),
+        ("large letters in the header", "LINK,a,b\nx,1,2\ny,0,0\n", "link,a,b\nx,1,2\ny,0,0\n"),
         ("empty cells at the header's end", "link,a,b,, \nx,1,2\ny,0,0,,\n", "link,a,b\nx,1,2\ny,0,0\n"),
         ("a row that names the separator", "sep=;\r\nlink;a;b\r\nx;1;2\r\ny;0;0", "link,a,b\nx,1,2\ny,0,0\n"),
         ("such a row in quotes", '"SEP=\t"\nlink\ta\tb\nx\t1\t2\ny\t0\t0', "link,a,b\nx,1,2\ny,0,0\n"),
@@ -196,7 +196,8 @@ REFUSED = [
     ("links", LINKS, 'link\ta\nx\t"1"2\n', ["LINKS: row 2", "cannot be split"]),
     ("links", "y,3,4", "y,3,", ["LINKS: row 3, column C", "weight is due"]),
     ("links", "link,a,b\n", "", ["LINKS: row 1, column A", "header is due"]),
-    ("links", "link,a,b", "name,1,2", ["LINKS: row 1, column A", "header is due"]),
+    ("links", "link,a,b", "x,a,+2", ["LINKS: row 1, column A", "header is due"]),
+    ("links", "link,a,b", ",a,b", ["LINKS: row 1, column A", "header is due"]),
     ("links", "y,3,4", "y,3,4.0", ["LINKS: row 3, column C", "'4.0' is no whole number"]),
     ("links", "y,3,4", 'y,"3,0",4', ["LINKS: row 3, column B", "'3,0' is no whole number"]),
     ("links", "y,3,4", "y,1 000,4", ["LINKS: row 3, column B", "'1 000' is no whole number"]),
@@ -209,9 +210,10 @@ REFUSED = [
     ("links", "y,3,4", "y," + "9" * 5000 + ",4", ["LINKS: row 3, column B", "no weight"]),
     ("links", "y,3,4", 'y,"3\n\x1b",4', ["LINKS: row 3, column B", "'3??' is no whole number"]),
     ("pairs", PAIRS, "", ["PAIRS", "no header"]),
-    ("pairs", HEADER, "", ["PAIRS: row 1, column A", "header is due"]),
-    ("pairs", ",weight", "", ["PAIRS: row 1", "4 cells"]),
-    ("pairs", ",weight", ",weight,why", ["PAIRS: row 1", "6 cells"]),
+    ("pairs", HEADER, "", ["PAIRS: row 1", "header is due"]),
+    ("pairs", HEADER, "x-,y,a,a,100\n", ["PAIRS: row 1", "header is due"]),
+    ("pairs", ",weight", "", ["PAIRS: row 1", "header is due"]),
+    ("pairs", ",weight", ",weight,why", ["PAIRS: row 1", "header is due"]),
     ("pairs", "x,y,a", "x,w,a", ["PAIRS: row 2, column B", "no link 'w'"]),
     ("pairs", "x,y,a", "X,y,a", ["PAIRS: row 2, column A", "no link 'X'"]),
     ("pairs", "x,y,a", "x,,a", ["PAIRS: row 2, column B", "name of a link"]),

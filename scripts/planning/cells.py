@@ -7,6 +7,8 @@ import re
 from .unfit import Unfit, shown
 
 # Where two separators stand as often in a header, the first of these is taken.
+# So many signs are looked at for the separator.
+HEADER = 1 << 16
 SEPARATORS = "\t;,"
 # A cell in quotes, with the spaces before it; a row, with line ends in quotes only; a first row that names the separator, as Excel takes it.
 QUOTED = re.compile(rf'(?<![^{SEPARATORS}\r\n]) *"[^"]*(?:""[^"]*)*"?')
@@ -63,7 +65,7 @@ def table(file, data):
     if naming:
         rows = split(file, text[naming.end() :], naming.group(1), 1)
     else:
-        rows = split(file, text, separator(text), 0)
+        rows = split(file, text, separator(text[:HEADER]), 0)
     header = next(rows, None)
     if header is None:
         raise Unfit(f"{file}: has no header row")

@@ -25,6 +25,7 @@ def run(options):
         text = draw(names, case, log, verdict)
     else:
         refused = turned_back("case", Place(case, verdict.second, verdict.second, None, 0), verdict)
+        case.same()
         text = page.refusal(names, refused, line(verdict))
     result.write(text.encode("utf-8", "replace"))
     outputs.put_in_place(result)

@@ -1,6 +1,5 @@
 """Files that are neither case nor log, told by their beginnings: a judgement that was saved, other programs' files."""
 
-import codecs
 import re
 
 from .reason import reason
@@ -24,7 +23,7 @@ def foreign(front, is_case):
     if found is None:
         return None
     what, makes = found
-    return reason(0, f"This file holds {what}, not a {'case sheet' if is_case else 'log'}.", *(makes if is_case else [PRESS]))
+    return reason(0, f"This file seems to hold {what}, not a {'case sheet' if is_case else 'log'}.", *(makes if is_case else [PRESS]))
 
 
 def kind_of(front):
@@ -33,7 +32,7 @@ def kind_of(front):
         return "a judgement that a program printed", []
     if front.startswith(WORKBOOKS):
         return "a spreadsheet program's workbook (or another packed file)", ["Save its sheets as CSV files.", FROM_CSV]
-    first = front[: 1 << 12].removeprefix(codecs.BOM_UTF8).decode("utf-8", "replace").partition("\n")[0]
+    first = front[: 1 << 12].decode("utf-8-sig", "replace").partition("\n")[0]
     if WCSP.fullmatch(first):
         return "a weighted CSP in toulbar2's format (wcsp)", [FROM_WCSP]
     if CSV.match(first):

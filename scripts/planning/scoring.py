@@ -8,6 +8,7 @@ from picturing.columns import line as case_line
 from . import standard
 from .failed import Failed
 from .judging import TurnedBack, judge, judge_case, judge_log, line, why
+from .rules import counted
 from .sources import Source, read
 from .unfit import Unfit
 
@@ -48,7 +49,7 @@ def read_plan(case, label, data):
     """The channels of a plan, one for each link."""
     words = [word for word in SEPARATORS.split(data.decode("utf-8-sig", "replace")) if word]
     if len(words) != case.n:
-        raise Unfit(f"{label}: {len(words)} channels, but the case has {case.n} links")
+        raise Unfit(f"{label}: {counted(len(words), 'channel')}, but the case has {counted(case.n, 'link')}")
     for link, word in enumerate(words):
         if not CHANNEL.fullmatch(word) or int(word) >= case.d:
             raise Unfit(f"{label}: link {link}: `{word[:40]}` is none of the channels 0 to {case.d - 1}")

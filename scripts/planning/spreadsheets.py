@@ -2,9 +2,10 @@
 
 from picturing.case import MOST_CHANNELS, MOST_LINKS, MOST_PAIRS, STARTING, read_case, write_case
 
-from .cells import NUMBER, table
+from .cells import table
 from .unfit import Unfit, shown
 
+# Just these words, in large or small letters: a row of weights that is taken for the header would be lost in silence.
 LINKS_HEADER = "link"
 PAIRS_HEADER = "first link,second link,first channel,second channel,weight"
 
@@ -22,14 +23,14 @@ def read(links_name, links_data, pairs_name, pairs_data):
 def read_links(file, data):
     """The number of each channel, and the weights of each link, by name."""
     header, rows = table(file, data)
+    if header.cells[0].casefold() != LINKS_HEADER:
+        header.refuse(f"the header is due here: the word {LINKS_HEADER}, then the channels' names", 0)
     channels = {}
     for column in range(1, len(header.cells)):
         name = unused(header, column, channels, "channel", MOST_CHANNELS)
         channels[name] = column - 1
     if not channels:
         header.refuse("the header names no channel (after the first cell, separated by commas, semicolons or tabs)")
-    if all(map(NUMBER.fullmatch, channels)) and header.cells[0].casefold() != LINKS_HEADER:
-        header.refuse(f"the header is due here; where the channels' names are numbers, its first cell is the word {LINKS_HEADER}", 0)
     links = {}
     for row in rows:
         row.as_wide_as(header)
@@ -55,10 +56,8 @@ def unused(row, column, known, what, most):
 def read_pairs(file, data, links, channels):
     """The weights of each pair (lower link, higher link) by its channels, in the order of the pairs' first rows."""
     header, rows = table(file, data)
-    if len(header.cells) != 5:
-        header.refuse(f"the header has {len(header.cells)} cells; due are five, separated by commas, semicolons or tabs: {PAIRS_HEADER}")
-    if header.cells[0] in links:
-        header.refuse(f"the header is due here, and no link is named in it: {PAIRS_HEADER}", 0)
+    if ",".join(header.cells).casefold() != PAIRS_HEADER:
+        header.refuse(f"the header is due here, five cells separated by commas, semicolons or tabs: {PAIRS_HEADER}")
     pairs, seen = {}, {}
     for row in rows:
         row.as_wide_as(header)

@@ -122,6 +122,7 @@ or none.""",
         """\
 Makes a case of a weighted CSP in toulbar2's text format. Costs are minimised there, so a
 weight is minus a cost; how totals and costs belong together is said on standard error.
+Costs below 0 are refused, since programs read them differently.
 The case goes to CASE, or to standard output.""",
         "0 converted, 1 the file cannot be converted (nothing is written), 2 otherwise",
         ["ceiling to-wcsp samples/valley.case | ceiling from-wcsp - -o again.case", "ceiling from-wcsp other.wcsp | ceiling press -"],
