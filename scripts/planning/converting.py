@@ -4,16 +4,14 @@ from picturing.case import read_case
 
 from . import outputs, spreadsheets, standard, wcsp
 from .judging import TurnedBack, judge, line, valid_case
-from .rules import counted
+from .rules import sizes
 from .sources import Source
 
 
 def from_csv(options):
     links, pairs = Source(options.links), Source(options.pairs)
     case = spreadsheets.read(links.label, links.whole(), pairs.label, pairs.whole())
-    known = read_case(case)
-    sizes = ", ".join(counted(count, what) for count, what in ((known.n, "link"), (known.d, "channel"), (known.m, "pair")))
-    return write_case(options.output, case, f"{sizes}, numbered from 0 in the order of the spreadsheets")
+    return write_case(options.output, case, f"{', '.join(sizes(read_case(case)))}, numbered from 0 in the order of the spreadsheets")
 
 
 def to_csv(options):

@@ -10,7 +10,7 @@ from .places import Place
 from .progress import working
 from .reason import reason
 from .reasons import find, lacks_feed
-from .rules import AFTER_HEAD, RULES, counted, where
+from .rules import AFTER_HEAD, RULES, counted, sizes, where
 from .sources import Longer, Source
 
 # Lines before a refused one that are not read again at once.
@@ -45,8 +45,7 @@ def accepted_log(start, verdict):
 
 def accepted_case(case, verdict):
     sheet = Sheet(case.front())
-    sizes = ((sheet.n, "link"), (sheet.d, "channel"), (sheet.m, "pair"), (sheet.count, "line"))
-    size = ", ".join(counted(count, name) for count, name in sizes)
+    size = ", ".join([*sizes(sheet), counted(sheet.count, "line")])
     if verdict.first == 0:
         yield f"The case is valid: {size}."
         yield f"Its ceiling at the start is {verdict.second}: no plan's total is above it. `ceiling press` lowers it."

@@ -4,7 +4,7 @@ from picturing.case import MOST_CHANNELS, MOST_LINKS, MOST_PAIRS, STARTING, line
 from picturing.columns import COLUMNS, Lines, Refused
 
 from .reason import reason
-from .rules import NAMES, UNUSED, counted, kind_named
+from .rules import NAMES, UNUSED, kind_named, sizes
 
 
 def edge(column):
@@ -24,7 +24,7 @@ class Sheet:
         return line_count(self.n, self.d, self.m)
 
     def pair_line(self, pair):
-        return 1 + self.n * self.d + pair * (1 + self.d * self.d)
+        return line_count(self.n, self.d, pair)
 
     def due(self, line):
         """Kind, a, b and c that are due; None where any link may stand."""
@@ -46,8 +46,8 @@ class Sheet:
         return all(due in (None, number) for due, number in zip(self.due(place), numbers))
 
     def head_words(self):
-        sizes = [counted(*size) for size in ((self.n, "link"), (self.d, "channel"), (self.m, "pair"))]
-        return f"By its head the case has {sizes[0]}, {sizes[1]} and {sizes[2]}"
+        links, channels, pairs = sizes(self)
+        return f"By its head the case has {links}, {channels} and {pairs}"
 
     def due_words(self, line):
         """What is due at a line, in words."""

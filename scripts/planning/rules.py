@@ -71,3 +71,8 @@ def kind_named(kind):
 
 def counted(count, one):
     return f"{count} {one}{'' if count == 1 else 's'}"
+
+
+def sizes(case):
+    """How many links, channels and pairs a case has."""
+    return counted(case.n, "link"), counted(case.d, "channel"), counted(case.m, "pair")

@@ -2,8 +2,7 @@
 
 import re
 
-from picturing.case import read_case
-from picturing.columns import line as case_line
+from picturing.case import read_case, write_case
 
 from . import standard
 from .failed import Failed
@@ -66,13 +65,11 @@ def total(case, plan):
 
 def alone(case, plan):
     """The case with one channel for each link, the plan's."""
-    n, d = case.n, case.d
-    rows = [case_line(10, n, 1, case.m)]
-    rows += [case_line(11, link, 0, 0, case.weights[link * d + plan[link]]) for link in range(n)]
-    for pair, (low, high) in enumerate(case.pairs):
-        at = case.span(n + pair)[0] + plan[low] * d + plan[high]
-        rows += [case_line(12, pair, low, high), case_line(13, pair, 0, 0, case.weights[at])]
-    return b"".join(rows)
+    links = [[case.weights[case.span(link)[0] + channel]] for link, channel in enumerate(plan)]
+    pairs = []
+    for scope, (low, high) in enumerate(case.pairs, case.n):
+        pairs.append((low, high, [case.weights[case.span(scope)[0] + plan[low] * case.d + plan[high]]]))
+    return write_case(1, links, pairs)
 
 
 def distance(below):
