@@ -17,8 +17,8 @@ class Silent(Exception):
 
 def asked(text, *options):
     ended = process.on_file(["toulbar2", "--stdin=wcsp", *options], text)
-    if not ended.well:
-        raise Silent(f"toulbar2 {' '.join(options)} did not end by itself or had words on standard error")
+    if not ended.well or ended.said:
+        raise Silent(f"toulbar2 {' '.join(options)} ended badly or had words on standard error")
     return ended.printed.decode("utf-8", "replace"), ended.seconds
 
 
