@@ -19,7 +19,7 @@ use Rattle.definitions.specs.declared.Outcome.{Outcome}
 use Rattle.definitions.specs.declared.Refusal.{Refusal}
 use Rattle.definitions.specs.declared.Refusal.the-variants.{OutsideLimits, WrongLength, OutOfRange}
 use Rattle.definitions.specs.declared.Verdict.{Verdict}
-use Rattle.definitions.specs.Rules.{standard}
+use Rattle.definitions.specs.Rules.{rulesOf}
 use Rattle.definitions.specs.Refusals.{Test, _when_}
 use Rattle.definitions.specs.Answers.{outcomeOf}
 use Rattle.definitions.specs.Case.{scopeCount, lentLength, active}
@@ -30,7 +30,7 @@ use Rattle.definitions.specs.Moves.{activeValues}
 use Rattle.theory.proofs.Validity.{none-applies, Handed}
 use Rattle.theory.proofs.Words.{none-below}
 use Rattle.tables.specs.Scopes.{BestOf}
-use Rattle.tables.proofs.Order.{outcome-done, outcome-refused}
+use Rattle.tables.proofs.Order.{limited-by, outcome-done, outcome-refused}
 use Rattle.tables.proofs.Answered.{limits-true}
 use Rattle.marks.specs.Marks.{mark, fullOf, onlyOf}
 use Rattle.marks.proofs.Laws.{mark-byteOf}
@@ -72,15 +72,15 @@ module _ (c : Case) (w best : List ℤ) (raised : List ℕ) where
 
 module _ (c : Case) (w best : List ℤ) (raised : List ℕ) (i : ℕ) where
   abbrev tests-of : List Test
-  tests-of = limitTest standard c ∷ lengthTest c w (tooFew c best raised) ∷ OutOfRange when (not (ltb i (c .n)) || someEdge c (endOutside c)) ∷ []
+  tests-of = limitTest (rulesOf c) c ∷ lengthTest c w (tooFew c best raised) ∷ OutOfRange when (not (ltb i (c .n)) || someEdge c (endOutside c)) ∷ []
 
   abbrev checked : Outcome
-  checked = outcomeOf (bestRefusal standard c w best raised i)
+  checked = outcomeOf (bestRefusal (rulesOf c) c w best raised i)
 
-  pub limits-refused : withinLimits standard (c .n) (c .d) (c .m) ≡ false → Outcome.Refused OutsideLimits ≡ checked
+  pub limits-refused : withinLimits (rulesOf c) (c .n) (c .d) (c .m) ≡ false → Outcome.Refused OutsideLimits ≡ checked
   limits-refused e = rw e
 
-  module _ (e : withinLimits standard (c .n) (c .d) (c .m) ≡ true) where
+  module _ (e : withinLimits (rulesOf c) (c .n) (c .d) (c .m) ≡ true) where
     pub length-refused : (length w ≡ lentLength c → ⊥) → Outcome.Refused WrongLength ≡ checked
     length-refused ne = rw (e, ne-eqb (length w) (lentLength c) ne)
 
@@ -100,21 +100,21 @@ module _ (c : Case) (w best : List ℤ) (raised : List ℕ) (i : ℕ) where
           none-refused t = rw (e, eq-eqb (length w) (lentLength c) long, f, lt-ltb i (c .n) g, t)
 
   -- the answers, by what was asked
-  pub answer-refused : {x : Refusal} → Outcome.Refused x ≡ checked → (values : ℕ) → Verdict.Refused x ≡ valuesUnsupportedAnswer standard c w best raised i values
+  pub answer-refused : {x : Refusal} → Outcome.Refused x ≡ checked → (values : ℕ) → Verdict.Refused x ≡ valuesUnsupportedAnswer (rulesOf c) c w best raised i values
   unfolding valuesUnsupportedAnswer
-  answer-refused {x} e values = let d : bestRefusal standard c w best raised i ≡ some x = outcome-refused e in rw d
+  answer-refused {x} e values = let d : bestRefusal (rulesOf c) c w best raised i ≡ some x = outcome-refused e in rw d
 
   module _ (e : Outcome.Done ≡ checked) where
-    pub answer-given : (values : ℕ) → (if areUnsupported c w best raised i values then Verdict.Yes else Verdict.No) ≡ valuesUnsupportedAnswer standard c w best raised i values
+    pub answer-given : (values : ℕ) → (if areUnsupported c w best raised i values then Verdict.Yes else Verdict.No) ≡ valuesUnsupportedAnswer (rulesOf c) c w best raised i values
     unfolding valuesUnsupportedAnswer
-    answer-given values = let d : bestRefusal standard c w best raised i ≡ none = outcome-done e in rw d
+    answer-given values = let d : bestRefusal (rulesOf c) c w best raised i ≡ none = outcome-done e in rw d
 
     pub arguments-known : Sized c w × ((scopeCount c ≤ length best) × (scopeCount c ≤ length raised)) × (i < c .n)
     arguments-known =
-        let d : bestRefusal standard c w best raised i ≡ none = outcome-done e in
+        let d : bestRefusal (rulesOf c) c w best raised i ≡ none = outcome-done e in
         let p = simp tests at (none-applies tests-of .0 (rw d tt)) in (
           record {
-            limits = record { some-variable = p .0 .0 .0 .0; variables = p .0 .0 .0 .1; some-value = p .0 .0 .1 .0; values = p .0 .0 .1 .1; edges = p .0 .1 .1 };
+            limits = limited-by c (p .0 .0 .0 .0) (p .0 .0 .0 .1) (p .0 .0 .1 .0) (p .0 .0 .1 .1) (p .0 .1 .1);
             long = p .1 .0 .0;
           },
           (omega (arith, p .1 .0 .1 .0), omega (arith, p .1 .0 .1 .1)),
@@ -123,7 +123,7 @@ module _ (c : Case) (w best : List ℤ) (raised : List ℕ) (i : ℕ) where
 
 -- ---- where `best` holds the greatest weights, the answer is refutation
 
-module _ (c : Case) (w : List ℤ) (h : Handed standard (workingWeight standard) c w) (best : List ℤ) (b : BestOf c w best) (raised : List ℕ) (room : scopeCount c ≤ length raised)
+module _ (c : Case) (w : List ℤ) (h : Handed (rulesOf c) (workingWeight (rulesOf c)) c w) (best : List ℤ) (b : BestOf c w best) (raised : List ℕ) (room : scopeCount c ≤ length raised)
     (lowers : c .m ≤ length (c .lower)) (uppers : c .m ≤ length (c .upper)) where
   set-active : (j : ℕ) → j < c .n → setWhere c (hasBest c w best) j ≡ activeSet c w j
   set-active j u = ap (λ (z : ℤ). setWhere c (hasWeight c w z) j) (b .holds j (omega arith))
@@ -172,14 +172,14 @@ module _ (c : Case) (w : List ℤ) (h : Handed standard (workingWeight standard)
 
     -- the values of a set below D
     pub values-unsupported-is-refuted : (i : ℕ) → i < c .n → (values : ℕ) (set : ℕ → Bool) → ((k : ℕ) → k < 8 → mark values k ≡ (ltb k (c .d) && set k))
-        → valuesUnsupportedAnswer standard c w best raised i values ≡ (if allRefuted c w R i set then Verdict.Yes else Verdict.No)
+        → valuesUnsupportedAnswer (rulesOf c) c w best raised i values ≡ (if allRefuted c w R i set then Verdict.Yes else Verdict.No)
     values-unsupported-is-refuted i g values set is =
         sym (answer-given c w best raised i (none-refused c w best raised i (limits-true h) (h .long) enough g ends) values)
         ∙ ap (λ (x : Bool). if x then Verdict.Yes else Verdict.No) (unsupported-refuted i g values set is)
 
     -- one value
     pub value-unsupported-is-refuted : (i k : ℕ) → i < c .n → k < c .d
-        → valuesUnsupportedAnswer standard c w best raised i (onlyOf k) ≡ (if refuted c w R i k then Verdict.Yes else Verdict.No)
+        → valuesUnsupportedAnswer (rulesOf c) c w best raised i (onlyOf k) ≡ (if refuted c w R i k then Verdict.Yes else Verdict.No)
     value-unsupported-is-refuted i k g l =
         values-unsupported-is-refuted i g (onlyOf k) (λ v. eqb v k) (λ v u. mark-byteOf (λ v. eqb v k) v u ∙ in-range v (eqb v k) refl)
         ∙ ap (λ (x : Bool). if x then Verdict.Yes else Verdict.No) (same-test (allRefuted c w R i (λ v. eqb v k)) (refuted c w R i k)
@@ -193,7 +193,7 @@ module _ (c : Case) (w : List ℤ) (h : Handed standard (workingWeight standard)
         in-range v false e = sym (and-false (ltb v (c .d)))
 
   -- the active values, with the scopes raised whose byte is not 0
-  pub best-unsupported-is-refuted : (i : ℕ) → i < c .n → bestUnsupportedAnswer standard c w best raised i ≡ (if allRefuted c w (isRaised raised) i (activeValues c w i) then Verdict.Yes else Verdict.No)
+  pub best-unsupported-is-refuted : (i : ℕ) → i < c .n → bestUnsupportedAnswer (rulesOf c) c w best raised i ≡ (if allRefuted c w (isRaised raised) i (activeValues c w i) then Verdict.Yes else Verdict.No)
   best-unsupported-is-refuted i g =
       values-unsupported-is-refuted (isRaised raised) (λ x u. refl) i g (setWhere c (hasBest c w best) i) (activeValues c w i) (λ k l.
       ap (λ (s : ℕ). mark s k) (set-active i g) ∙ mark-byteOf (λ v. ltb v (c .d) && active c w i v 0) k l)

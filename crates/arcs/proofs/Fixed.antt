@@ -12,13 +12,14 @@ use lib.ListN.{length, getD}
 use Rattle.integers.specs.Words.{if_then_else_, _⇒_}
 use Rattle.integers.specs.Tests.{and-left, either, same-test}
 use Rattle.definitions.specs.declared.Case.{Case}
-use Rattle.definitions.specs.Rules.{standard}
+use Rattle.definitions.specs.Rules.{rulesOf}
 use Rattle.definitions.specs.Case.{active}
 use Rattle.definitions.specs.Valid.{workingWeight}
 use Rattle.definitions.specs.Consistency.{allowed, refuted}
 use Rattle.theory.specs.Network.{Network, networkOf, fixedSets}
 use Rattle.theory.proofs.Validity.{Handed}
 use Rattle.theory.proofs.Networks.{None, Alike, to-fewer, to-more, case-ends, refuted-none, none-tried, some-tried}
+use Rattle.tables.proofs.Answered.{limits-known}
 use Rattle.marks.specs.Marks.{mark, fullOf, onlyOf, inBoth}
 use Rattle.marks.proofs.Laws.{mark-byteOf}
 use Rattle.arcs.specs.Closure.{networkOfBytes, setsOf, isMalformed, someFamily, closureAnswer}
@@ -94,7 +95,7 @@ pub record Edges (c : Case) (w : List ℤ) (R : ℕ → Bool) (rows edges : List
   pub raised : (e : ℕ) → e < c .m → eqb (getD edges e 0) 0 ≡ not (R (c .n + e))
   pub partners : (e p : ℕ) → e < c .m → p < 16 → T (R (c .n + e)) → getD rows (16 * e + p) 0 ≡ activeRow c w e p
 
-module _ (c : Case) (w : List ℤ) (h : Handed standard (workingWeight standard) c w) (R : ℕ → Bool) (i k : ℕ) (rows edges S : List ℕ)
+module _ (c : Case) (w : List ℤ) (h : Handed (rulesOf c) (workingWeight (rulesOf c)) c w) (R : ℕ → Bool) (i k : ℕ) (rows edges S : List ℕ)
     (known : Edges c w R rows edges)
     (sets-length : length S ≡ c .n) (sets-are : (j : ℕ) → j < c .n → getD S j 0 ≡ fixedSet c w R i k j) where
   abbrev N : Network
@@ -104,7 +105,7 @@ module _ (c : Case) (w : List ℤ) (h : Handed standard (workingWeight standard)
   M = networkOfBytes (length S) (c .lower) (c .upper) rows edges
 
   few-values : c .d ≤ 8
-  few-values = h .values-most
+  few-values = limits-known h .values-few
 
   alike : Alike N M
   alike = record {

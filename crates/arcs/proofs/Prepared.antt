@@ -11,7 +11,7 @@ use Rattle.integers.specs.Tests.{tests}
 use Rattle.definitions.specs.declared.Case.{Case}
 use Rattle.definitions.specs.declared.Outcome.{Outcome}
 use Rattle.definitions.specs.declared.Refusal.{Refusal}
-use Rattle.definitions.specs.Rules.{standard}
+use Rattle.definitions.specs.Rules.{rulesOf}
 use Rattle.definitions.specs.Answers.{outcomeOf}
 use Rattle.definitions.specs.Valid.{workingWeight}
 use Rattle.definitions.specs.Lines.{overwritten}
@@ -20,20 +20,20 @@ use Rattle.tables.proofs.Answered.{known, limits-known}
 use Rattle.tables.proofs.Order.{outcome-done, outcome-refused}
 use Rattle.arcs.specs.Active.{Sized, activeSets, activeRows, tooShort, activeRefusal, activeAnswer, setsAfter, rowsAfter}
 
-pub sized : {c : Case} {w : List ℤ} → Handed standard (workingWeight standard) c w → Sized c w
+pub sized : {c : Case} {w : List ℤ} → Handed (rulesOf c) (workingWeight (rulesOf c)) c w → Sized c w
 sized h = record { limits = limits-known h; long = h .long }
 
 module _ (c : Case) (w : List ℤ) (sets rows : List ℕ) where
-  pub prepared-refused : {x : Refusal} → Outcome.Refused x ≡ outcomeOf (activeRefusal standard c w sets rows)
-      → (Outcome.Refused x ≡ activeAnswer standard c w sets rows) × ((sets ≡ setsAfter standard c w sets rows) × (rows ≡ rowsAfter standard c w sets rows))
+  pub prepared-refused : {x : Refusal} → Outcome.Refused x ≡ outcomeOf (activeRefusal (rulesOf c) c w sets rows)
+      → (Outcome.Refused x ≡ activeAnswer (rulesOf c) c w sets rows) × ((sets ≡ setsAfter (rulesOf c) c w sets rows) × (rows ≡ rowsAfter (rulesOf c) c w sets rows))
   unfolding activeAnswer setsAfter rowsAfter
-  prepared-refused {x} e = let r : activeRefusal standard c w sets rows ≡ some x = outcome-refused e in (e, (rw r, rw r))
+  prepared-refused {x} e = let r : activeRefusal (rulesOf c) c w sets rows ≡ some x = outcome-refused e in (e, (rw r, rw r))
 
-  module _ (e : Outcome.Done ≡ outcomeOf (activeRefusal standard c w sets rows)) where
+  module _ (e : Outcome.Done ≡ outcomeOf (activeRefusal (rulesOf c) c w sets rows)) where
     pub prepared-done : (sets′ rows′ : List ℕ) → sets′ ≡ overwritten (activeSets c w) sets → rows′ ≡ overwritten (activeRows c w) rows
-        → (Outcome.Done ≡ activeAnswer standard c w sets rows) × ((sets′ ≡ setsAfter standard c w sets rows) × (rows′ ≡ rowsAfter standard c w sets rows))
+        → (Outcome.Done ≡ activeAnswer (rulesOf c) c w sets rows) × ((sets′ ≡ setsAfter (rulesOf c) c w sets rows) × (rows′ ≡ rowsAfter (rulesOf c) c w sets rows))
     unfolding activeAnswer setsAfter rowsAfter
-    prepared-done sets′ rows′ p q = let r : activeRefusal standard c w sets rows ≡ none = outcome-done e in (e, (rw r p, rw r q))
+    prepared-done sets′ rows′ p q = let r : activeRefusal (rulesOf c) c w sets rows ≡ none = outcome-done e in (e, (rw r p, rw r q))
 
     pub prepared-known : Sized c w × (c .n ≤ length sets) × (16 * c .m ≤ length rows)
     prepared-known =

@@ -14,13 +14,14 @@ use Rattle.integers.specs.Tests.{tests, if-true, if-false, true-is, false-is, o
 use Rattle.integers.specs.Lists.{all-at, all-of}
 use Rattle.theory.proofs.Words.{none-below}
 use Rattle.definitions.specs.declared.Case.{Case}
-use Rattle.definitions.specs.Rules.{standard}
+use Rattle.definitions.specs.Rules.{rulesOf, variablePlaces}
 use Rattle.definitions.specs.Case.{active}
 use Rattle.definitions.specs.Valid.{workingWeight}
 use Rattle.definitions.specs.Consistency.{refuted, allRefuted}
 use Rattle.definitions.specs.Moves.{activeValues}
 use Rattle.theory.specs.Network.{Network}
 use Rattle.theory.proofs.Validity.{Handed}
+use Rattle.tables.proofs.Answered.{limits-known}
 use Rattle.marks.specs.Marks.{mark, onlyOf, inBoth}
 use Rattle.marks.proofs.Laws.{mark-byteOf}
 use Rattle.arcs.specs.Closure.{networkOfBytes, setsOf, isMalformed, someFamily}
@@ -33,7 +34,7 @@ use Rattle.arcs.proofs.Fixed.{Edges, some-family}
 
 module _ (lower upper rows raised S : List ℕ) (i values : ℕ) where
   abbrev out : Bool
-  out = isMalformed (length S) lower upper rows raised || not (ltb i (length S)) || ltb (standard .variables) (length S)
+  out = isMalformed (length S) lower upper rows raised || not (ltb i (length S)) || ltb variablePlaces (length S)
 
   tried-malformed : T out → Malformed ≡ triedAnswer lower upper rows raised S i values
   unfolding triedAnswer
@@ -43,19 +44,19 @@ module _ (lower upper rows raised S : List ℕ) (i values : ℕ) where
   unfolding triedAnswer
   tried-answer t = if-false _ _ out t
 
-  pub too-many : standard .variables < length S → Malformed ≡ triedAnswer lower upper rows raised S i values
-  too-many h = tried-malformed (or-right (isMalformed (length S) lower upper rows raised || not (ltb i (length S))) _ (lt→ltb (standard .variables) (length S) h))
+  pub too-many : variablePlaces < length S → Malformed ≡ triedAnswer lower upper rows raised S i values
+  too-many h = tried-malformed (or-right (isMalformed (length S) lower upper rows raised || not (ltb i (length S))) _ (lt→ltb variablePlaces (length S) h))
 
   pub no-variable : length S ≤ i → Malformed ≡ triedAnswer lower upper rows raised S i values
-  no-variable h = tried-malformed (or-left (isMalformed (length S) lower upper rows raised || not (ltb i (length S))) (ltb (standard .variables) (length S)) (or-right (isMalformed (length S) lower upper rows raised) (not (ltb i (length S))) (false-is (ltb i (length S)) (le-ltb i (length S) h))))
+  no-variable h = tried-malformed (or-left (isMalformed (length S) lower upper rows raised || not (ltb i (length S))) (ltb variablePlaces (length S)) (or-right (isMalformed (length S) lower upper rows raised) (not (ltb i (length S))) (false-is (ltb i (length S)) (le-ltb i (length S) h))))
 
   pub malformed : isMalformed (length S) lower upper rows raised ≡ true → Malformed ≡ triedAnswer lower upper rows raised S i values
-  malformed e = tried-malformed (or-left (isMalformed (length S) lower upper rows raised || not (ltb i (length S))) (ltb (standard .variables) (length S)) (or-left (isMalformed (length S) lower upper rows raised) (not (ltb i (length S))) (true-is _ e)))
+  malformed e = tried-malformed (or-left (isMalformed (length S) lower upper rows raised || not (ltb i (length S))) (ltb variablePlaces (length S)) (or-left (isMalformed (length S) lower upper rows raised) (not (ltb i (length S))) (true-is _ e)))
 
   -- nothing is malformed
-  pub tried-known : length S ≤ standard .variables → i < length S → isMalformed (length S) lower upper rows raised ≡ false
+  pub tried-known : length S ≤ variablePlaces → i < length S → isMalformed (length S) lower upper rows raised ≡ false
       → triedAnswer lower upper rows raised S i values ≡ (if noneHas (hasFamily (networkOfBytes (length S) lower upper rows raised) S i) values then Unsupported else Supported)
-  tried-known few h e = tried-answer (rw (e, lt-ltb i (length S) h, le-ltb (standard .variables) (length S) few) tt)
+  tried-known few h e = tried-answer (rw (e, lt-ltb i (length S) h, le-ltb variablePlaces (length S) few) tt)
 
 -- ---- refutation over the bytes of a table
 
@@ -69,7 +70,7 @@ pub record Bytes (c : Case) (w : List ℤ) (R : ℕ → Bool) (rows raised S : L
   pub sets-length : length S ≡ c .n
   pub sets : (j : ℕ) → j < c .n → getD S j 0 ≡ allowedSet c w R j
 
-module _ (c : Case) (w : List ℤ) (h : Handed standard (workingWeight standard) c w) (R : ℕ → Bool) (rows edges S : List ℕ) (bytes : Bytes c w R rows edges S)
+module _ (c : Case) (w : List ℤ) (h : Handed (rulesOf c) (workingWeight (rulesOf c)) c w) (R : ℕ → Bool) (rows edges S : List ℕ) (bytes : Bytes c w R rows edges S)
     (i : ℕ) (g : i < c .n) where
   abbrev N : Network
   N = networkOfBytes (length S) (c .lower) (c .upper) rows edges
@@ -103,7 +104,7 @@ module _ (c : Case) (w : List ℤ) (h : Handed standard (workingWeight standard)
       same-test (noneHas (hasFamily N S i) values) (allRefuted c w R i set)
       (λ t.
       all-of (λ k. set k ⇒ refuted c w R i k) (c .d) (λ k l.
-      let small : k < 8 = omega (arith, h .values-most) in
+      let small : k < 8 = omega (arith, limits-known h .values-few) in
       imp-intro (set k) (refuted c w R i k) (λ s.
       not-not-iff (refuted c w R i k) .0 (rw (has-family k) at
       (imp-elim (mark values k) (not (hasFamily N S i k)) (all-at (λ k. mark values k ⇒ not (hasFamily N S i k)) 8 t k small)
@@ -121,7 +122,7 @@ module _ (c : Case) (w : List ℤ) (h : Handed standard (workingWeight standard)
   pub tried-refuted : (values : ℕ) (set : ℕ → Bool) → ((k : ℕ) → k < 8 → mark values k ≡ (ltb k (c .d) && set k))
       → triedAnswer (c .lower) (c .upper) rows edges S i values ≡ (if allRefuted c w R i set then Unsupported else Supported)
   tried-refuted values set same =
-      tried-known (c .lower) (c .upper) rows edges S i values (rw (bytes .sets-length) (h .variables-most)) (rw (bytes .sets-length) g) well ∙ ap (λ (b : Bool). if b then Unsupported else Supported) (none-has values set same)
+      tried-known (c .lower) (c .upper) rows edges S i values (rw (bytes .sets-length) (limits-known h .variables-placed)) (rw (bytes .sets-length) g) well ∙ ap (λ (b : Bool). if b then Unsupported else Supported) (none-has values set same)
 
   pub tried-active : triedAnswer (c .lower) (c .upper) rows edges S i (activeSet c w i) ≡ (if allRefuted c w R i (activeValues c w i) then Unsupported else Supported)
   tried-active = tried-refuted (activeSet c w i) (activeValues c w i) (λ k l. mark-byteOf (λ v. ltb v (c .d) && active c w i v 0) k l)

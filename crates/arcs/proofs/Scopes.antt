@@ -12,6 +12,7 @@ use lib.ListN.{length, getD, take, drop}
 use Rattle.integers.specs.Words.{if_then_else_, greatestOf, eqZ}
 use Rattle.integers.specs.Tests.{either, if-true, if-false}
 use Rattle.definitions.specs.declared.Case.{Case}
+use Rattle.definitions.specs.Rules.{edgePlaces}
 use Rattle.definitions.specs.Case.{scopeCount, place, greatest, isVariable}
 use Rattle.theory.proofs.Places.{variable-is, edge-is, place-variable, place-edge}
 use Rattle.tables.specs.Scopes.{sizeOf}
@@ -28,16 +29,16 @@ firstOfEdge c e = c .n * c .d + e * (c .d * c .d)
 module _ (c : Case) (w : List ℤ) (h : Sized c w) where
   -- products within the limits
   pub record Few : Type 0 where
-    pub variables : c .n * c .d ≤ 384
+    pub variables : c .n * c .d ≤ 2048
     pub values : c .d * c .d ≤ 64
     pub one : c .d ≤ 8
-    pub table : length w ≤ 6528
+    pub table : length w ≤ 2048 + edgePlaces * 64
 
   pub few : Few
   few = record {
     variables = variables-small c (h .limits);
     values = values-small c (h .limits);
-    one = h .limits .values;
+    one = h .limits .values-few;
     table = omega (arith, h .long, variables-small c (h .limits), edges-small c (h .limits));
   }
 

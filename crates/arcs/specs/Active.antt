@@ -11,7 +11,7 @@ use Rattle.integers.specs.Words.{if_then_else_, below, joined, eqZ}
 use Rattle.definitions.specs.declared.Case.{Case}
 use Rattle.definitions.specs.declared.Outcome.{Outcome}
 use Rattle.definitions.specs.declared.Refusal.{Refusal}
-use Rattle.definitions.specs.Rules.{Rules, standard}
+use Rattle.definitions.specs.Rules.{Rules}
 use Rattle.definitions.specs.Refusals.{firstOf}
 use Rattle.definitions.specs.Answers.{outcomeOf, unlessRefused}
 use Rattle.definitions.specs.Case.{lentLength, weight, active}
@@ -73,7 +73,7 @@ module _ (r : Rules) where
 
 -- a case within the limits and a table of its length
 pub record Sized (c : Case) (w : List ℤ) : Type 0 where
-  pub limits : Limited standard c
+  pub limits : Limited c
   pub long : length w ≡ lentLength c
 
 -- the tuple has the weight `best`

@@ -5,11 +5,19 @@ use Prim.Native.Nat.{ℕ, _+_, _*_}
 use lib.Dec.{ltb, eqb}
 use lib.ListN.{length, getD}
 use Rattle.integers.specs.Words.{if_then_else_, below, any}
+use Rattle.definitions.specs.Rules.{edgePlaces}
 use Rattle.definitions.specs.Consistency.{Family, marks}
 use Rattle.theory.specs.Network.{Network, supportedIn, familiesOf, largest}
 use Rattle.marks.specs.Marks.{mark, byteOf}
 use Rattle.arcs.specs.declared.Closed.{Closed}
 use Rattle.arcs.specs.declared.Closed.the-variants.{Malformed, Empty, Family as SomeFamily}
+
+-- the places of arrays: two arcs for each edge, eight rows for each arc
+abbrev pub arcPlaces : ℕ
+arcPlaces = 2 * edgePlaces
+
+abbrev pub rowPlaces : ℕ
+rowPlaces = 8 * arcPlaces
 
 -- the sets of a list of bytes, a byte for each variable
 abbrev pub setsOf : List ℕ → Family

@@ -5,7 +5,7 @@ use Prim.Native.Nat.{ℕ}
 use lib.Dec.{ltb}
 use lib.ListN.{length, getD, set}
 use Rattle.integers.specs.Words.{if_then_else_, below, all, _⇒_}
-use Rattle.definitions.specs.Rules.{standard}
+use Rattle.definitions.specs.Rules.{variablePlaces}
 use Rattle.theory.specs.Network.{Network}
 use Rattle.marks.specs.Marks.{mark, onlyOf, inBoth}
 use Rattle.arcs.specs.Closure.{networkOfBytes, setsOf, isMalformed, someFamily}
@@ -22,7 +22,7 @@ noneHas has values = all (λ k. mark values k ⇒ not (has k)) (below 8)
 
 unfoldable pub triedAnswer : List ℕ → List ℕ → List ℕ → List ℕ → List ℕ → ℕ → ℕ → Tried
 triedAnswer lower upper rows raised sets i values =
-    if isMalformed (length sets) lower upper rows raised || not (ltb i (length sets)) || ltb (standard .variables) (length sets)
+    if isMalformed (length sets) lower upper rows raised || not (ltb i (length sets)) || ltb variablePlaces (length sets)
     then Malformed
     else if noneHas (hasFamily (networkOfBytes (length sets) lower upper rows raised) sets i) values
     then Unsupported

@@ -1,8 +1,10 @@
 // Arc consistency over bytes and marks: the search for partners, the closure of given sets, values tried one by one, and the marks of a
 // table. Inner functions, for other crates: each asks only what is said at it. Document 01's refutation is `consistency::refuted`.
 use definitions::Case;
+use definitions::EDGE_PLACES;
 use definitions::Outcome;
 use definitions::Refusal;
+use definitions::VARIABLE_PLACES;
 use definitions::Verdict;
 ghost use mathlib.Core.Path.{_≡_};
 ghost use mathlib.Core.Bool.{not, _&&_, _||_};
@@ -10,7 +12,7 @@ ghost use Prim.Native.Nat.{ℕ, _+_, _*_, _≤_, _<_};
 ghost use lib.Dec.{T, ltb, eqb};
 ghost use lib.ListN.{length, getD, set, replicate};
 ghost use Rattle.integers.specs.Words.{if_then_else_, below, any, eqZ};
-ghost use Rattle.definitions.specs.Rules.{standard};
+ghost use Rattle.definitions.specs.Rules.{rulesOf};
 ghost use Rattle.definitions.specs.Case.{scopeCount, lentLength, greatest};
 ghost use Rattle.definitions.specs.Answers.{outcomeOf};
 ghost use Rattle.definitions.specs.Valid.{someEdge, endOutside as edgeOutside};
@@ -44,8 +46,10 @@ pub enum Tried {
     Malformed,
 }
 
-// The most variables that a case has (document 01).
-const VARIABLES: usize = 48;
+// Places in arrays: two arcs for each edge, eight rows for each arc.
+const ARC_PLACES: usize = 2 * EDGE_PLACES;
+
+pub const ROW_PLACES: usize = 8 * ARC_PLACES;
 
 // ---- the search for partners
 
@@ -246,7 +250,7 @@ fn narrow(lower: &[u8], upper: &[u8], rows: &[u8], raised: &[u8], sets: &mut [u8
     if has_empty(sets) {
         return false;
     }
-    let mut seen = [0u16; 192];
+    let mut seen = [0u16; ARC_PLACES];
     settle(lower, upper, rows, raised, sets, &mut seen)
 }
 
@@ -321,7 +325,7 @@ fn has_family(
     sets: &[u8],
     variable: usize,
     k: u8,
-    seen: [u16; 192],
+    seen: [u16; ARC_PLACES],
     work: &mut [u8],
 ) -> bool
     requires { ⌜ WellFormed (length (now sets)) (now lower) (now upper) (now rows) (now raised) ⌝ }
@@ -344,7 +348,7 @@ fn none_alone(
     sets: &[u8],
     variable: usize,
     values: u8,
-    seen: [u16; 192],
+    seen: [u16; ARC_PLACES],
     work: &mut [u8],
 ) -> bool
     requires { ⌜ WellFormed (length (now sets)) (now lower) (now upper) (now rows) (now raised) ⌝ }
@@ -378,7 +382,7 @@ fn none_has(
     requires { ⌜ Filled (now sets) × (variable < length (now sets)) × (length (now near) ≡ length (now sets)) × (length (now work) ≡ length (now sets)) ⌝ }
     ensures { λ r. ⌜ r ≡ noneHas (hasFamily (networkOfBytes (length (now (sets .entry))) (now (lower .entry)) (now (upper .entry)) (now (rows .entry)) (now (raised .entry))) (now (sets .entry)) variable) values ⌝ }
 {
-    let mut seen = [0u16; 192];
+    let mut seen = [0u16; ARC_PLACES];
     let left = marks::common(sets[variable], values);
     if left == 0 {
         return true;
@@ -650,8 +654,8 @@ fn are_unsupported(
     let long = 16 * case.m;
     let lower = case.lower;
     let upper = case.upper;
-    let mut sets = [0u8; 48];
-    let mut rows = [0u8; 1536];
+    let mut sets = [0u8; VARIABLE_PLACES];
+    let mut rows = [0u8; ROW_PLACES];
     prepare_sets(case, table, best, raised, &mut sets);
     prepare_rows(case, table, best, raised, &mut rows);
     is_unsupported(none_supported(
@@ -666,7 +670,7 @@ fn are_unsupported(
 }
 
 fn too_few(case: Case, best: usize, raised: usize) -> bool
-    requires { ⌜ Limited standard case ⌝ }
+    requires { ⌜ Limited case ⌝ }
     ensures { λ r. ⌜ r ≡ (ltb best (scopeCount case) || ltb raised (scopeCount case)) ⌝ }
 {
     let s = case.n + case.m;
@@ -677,14 +681,14 @@ fn too_few(case: Case, best: usize, raised: usize) -> bool
 }
 
 fn table_length(case: Case) -> usize
-    requires { ⌜ Limited standard case ⌝ }
+    requires { ⌜ Limited case ⌝ }
     ensures { λ r. ⌜ r ≡ lentLength case ⌝ }
 {
     case.n * case.d + case.m * (case.d * case.d)
 }
 
 fn edge_outside(case: Case) -> bool
-    requires { ⌜ Limited standard case ⌝ }
+    requires { ⌜ Limited case ⌝ }
     ensures { λ r. ⌜ r ≡ someEdge case (edgeOutside case) ⌝ }
 {
     let lower = case.lower;
@@ -700,7 +704,7 @@ fn check_arguments(
     raised: &[u8],
     variable: usize,
 ) -> Outcome
-    ensures { λ r. ⌜ r ≡ outcomeOf (bestRefusal standard case (now (table .entry)) (now (best .entry)) (now (raised .entry)) variable) ⌝ }
+    ensures { λ r. ⌜ r ≡ outcomeOf (bestRefusal (rulesOf case) case (now (table .entry)) (now (best .entry)) (now (raised .entry)) variable) ⌝ }
 {
     if !tables::within_limits(case) {
         return Outcome::Refused(Refusal::OutsideLimits);
@@ -767,7 +771,7 @@ pub fn closure(lower: &[u8], upper: &[u8], rows: &[u8], raised: &[u8], sets: &mu
 }
 
 // Whether each of `values` (marks), fixed alone in the set of `variable`, leaves no supported family inside `sets`. The other bytes are as
-// `closure` takes them; Malformed also where there are more than 48 sets or `variable` has none.
+// `closure` takes them; Malformed also where there are more sets than VARIABLE_PLACES or `variable` has none.
 pub fn none_supported(
     lower: &[u8],
     upper: &[u8],
@@ -780,7 +784,7 @@ pub fn none_supported(
     ensures { λ r. ⌜ r ≡ triedAnswer (now (lower .entry)) (now (upper .entry)) (now (rows .entry)) (now (raised .entry)) (now (sets .entry)) variable values ⌝ }
 {
     let n = sets.len();
-    if VARIABLES < n {
+    if VARIABLE_PLACES < n {
         return Tried::Malformed;
     }
     if n <= variable {
@@ -792,8 +796,8 @@ pub fn none_supported(
     if has_empty(sets) {
         return Tried::Unsupported;
     }
-    let mut near = [0u8; 48];
-    let mut work = [0u8; 48];
+    let mut near = [0u8; VARIABLE_PLACES];
+    let mut work = [0u8; VARIABLE_PLACES];
     tried_of(none_has(
         lower,
         upper,
@@ -810,9 +814,9 @@ pub fn none_supported(
 // Writes the active values of each variable to the first n bytes of `sets`, and the active partners on each edge to the first 16 · m bytes
 // of `rows`, as `closure` takes them. Asks 3 to 8.
 pub fn active_marks(case: Case, table: &[i64], sets: &mut [u8], rows: &mut [u8]) -> Outcome
-    ensures { λ r. ⌜ r ≡ activeAnswer standard case (now (table .entry)) (now (sets .entry)) (now (rows .entry)) ⌝ }
-    ensures { λ r. ⌜ now (sets .exit) ≡ setsAfter standard case (now (table .entry)) (now (sets .entry)) (now (rows .entry)) ⌝ }
-    ensures { λ r. ⌜ now (rows .exit) ≡ rowsAfter standard case (now (table .entry)) (now (sets .entry)) (now (rows .entry)) ⌝ }
+    ensures { λ r. ⌜ r ≡ activeAnswer (rulesOf case) case (now (table .entry)) (now (sets .entry)) (now (rows .entry)) ⌝ }
+    ensures { λ r. ⌜ now (sets .exit) ≡ setsAfter (rulesOf case) case (now (table .entry)) (now (sets .entry)) (now (rows .entry)) ⌝ }
+    ensures { λ r. ⌜ now (rows .exit) ≡ rowsAfter (rulesOf case) case (now (table .entry)) (now (sets .entry)) (now (rows .entry)) ⌝ }
 {
     let wrong = too_short(case, sets.len(), rows.len());
     let checked = tables::check_working(case, table, wrong, false);
@@ -836,7 +840,7 @@ pub fn values_unsupported(
     variable: usize,
     values: u8,
 ) -> Verdict
-    ensures { λ r. ⌜ r ≡ valuesUnsupportedAnswer standard case (now (table .entry)) (now (best .entry)) (now (raised .entry)) variable values ⌝ }
+    ensures { λ r. ⌜ r ≡ valuesUnsupportedAnswer (rulesOf case) case (now (table .entry)) (now (best .entry)) (now (raised .entry)) variable values ⌝ }
 {
     let checked = check_arguments(case, table, best, raised, variable);
     match checked {
@@ -853,7 +857,7 @@ pub fn best_unsupported(
     raised: &[u8],
     variable: usize,
 ) -> Verdict
-    ensures { λ r. ⌜ r ≡ bestUnsupportedAnswer standard case (now (table .entry)) (now (best .entry)) (now (raised .entry)) variable ⌝ }
+    ensures { λ r. ⌜ r ≡ bestUnsupportedAnswer (rulesOf case) case (now (table .entry)) (now (best .entry)) (now (raised .entry)) variable ⌝ }
 {
     let checked = check_arguments(case, table, best, raised, variable);
     match checked {

@@ -25,10 +25,12 @@ use arcs::Closed;
 use arcs::Partner;
 use arcs::Tried;
 use definitions::Case;
+use definitions::EDGE_PLACES;
 use definitions::Figure;
 use definitions::Line;
 use definitions::Outcome;
 use definitions::Refusal;
+use definitions::Rulebook;
 use definitions::Verdict;
 ghost use Prim.Native.Nat.{_≤_};
 ghost use lib.ListN.{length};
@@ -312,7 +314,7 @@ fn sized(call: Call, case: Case) -> Case {
 fn joined(call: Call, case: Case) -> Case {
     let e = call.a;
     let mut c = case;
-    if e < 96 {
+    if e < EDGE_PLACES {
         c.lower[e] = drivers::byte(call.b);
         c.upper[e] = drivers::byte(call.c);
     }
@@ -564,7 +566,7 @@ fn close(
     let raised_to = length_of(lengths, 6, raised.len());
     let sets_to = length_of(lengths, 7, sets.len());
     let rows_to = length_of(lengths, 8, rows.len());
-    let ends = length_of(lengths, 3, 96);
+    let ends = length_of(lengths, 3, EDGE_PLACES);
     of_case(
         call,
         case,
@@ -612,8 +614,9 @@ fn no_case() -> Case {
         n: 0,
         d: 0,
         m: 0,
-        lower: [0u8; 96],
-        upper: [0u8; 96],
+        lower: [0u8; EDGE_PLACES],
+        upper: [0u8; EDGE_PLACES],
+        rulebook: Rulebook::Desk,
     }
 }
 

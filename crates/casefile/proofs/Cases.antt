@@ -12,6 +12,7 @@ use lib.ListN.{length, length-drop}
 use borrow.Author.Tests.{eq-eqb, ne-eqb}
 use Rattle.integers.specs.Words.{if_then_else_}
 use Rattle.integers.specs.Tests.{is-true, false-is, either, and-left, and-right, not-not-iff}
+use Rattle.definitions.specs.declared.Rulebook.{Rulebook}
 use Rattle.definitions.specs.declared.Case.{Case}
 use Rattle.definitions.specs.declared.Line.{Line}
 use Rattle.definitions.specs.declared.FileAnswer.{FileAnswer}
@@ -19,7 +20,7 @@ use Rattle.definitions.specs.declared.CaseRead.{CaseRead}
 use Rattle.definitions.specs.declared.CaseSize.{CaseSize}
 use Rattle.definitions.specs.declared.Refusal.{Refusal}
 use Rattle.definitions.specs.declared.Refusal.the-variants.{WrongLength, CutShort}
-use Rattle.definitions.specs.Rules.{standard}
+use Rattle.definitions.specs.Rules.{rulesIn}
 use Rattle.definitions.specs.Refusals.{firstOf}
 use Rattle.definitions.specs.Lines.{notDue}
 use Rattle.definitions.specs.Case.{lentLength}
@@ -29,16 +30,17 @@ use Rattle.casefile.specs.declared.Sizes.{Sizes}
 use Rattle.casefile.specs.Steps.{Limited, reading, tableOf, leftFrom, noEnds, callOf}
 use Rattle.casefile.specs.Reads.{limitsZ, lineBytes}
 use Rattle.casefile.proofs.Heads.{limits-known}
-use Rattle.casefile.proofs.Left.{dues-whole}
+use Rattle.casefile.proofs.Dues.{limited-by}
+use Rattle.casefile.proofs.Left.{left-first, dues-whole}
 
 -- ---- what is handed back of a call
 
-module _ {call : CaseCall} {u : CaseRead} (r : FileAnswer) (g : Reading) (e : callOf r g ≡ call) where
-  pub handed-refused : {x : Refusal} {at : ℕ} → r ≡ FileAnswer.Refused x at → u ≡ caseRefused standard x at (g .table) .read → (u ≡ call .read) × (g .table ≡ call .table)
-  handed-refused p q = let d = sym (ap (λ r. callOf r g) p) ∙ e in (q ∙ ap (λ c. c .read) d, ap (λ c. c .table) d)
+module _ (b : Rulebook) {call : CaseCall} {u : CaseRead} (r : FileAnswer) (g : Reading) (e : callOf b r g ≡ call) where
+  pub handed-refused : {x : Refusal} {at : ℕ} → r ≡ FileAnswer.Refused x at → u ≡ caseRefused b x at (g .table) .read → (u ≡ call .read) × (g .table ≡ call .table)
+  handed-refused p q = let d = sym (ap (λ r. callOf b r g) p) ∙ e in (q ∙ ap (λ c. c .read) d, ap (λ c. c .table) d)
 
-  pub handed-taken : {lines : ℕ} → r ≡ FileAnswer.Read lines → u ≡ caseTaken standard g lines .read → (u ≡ call .read) × (g .table ≡ call .table)
-  handed-taken p q = let d = sym (ap (λ r. callOf r g) p) ∙ e in (q ∙ ap (λ c. c .read) d, ap (λ c. c .table) d)
+  pub handed-taken : {lines : ℕ} → r ≡ FileAnswer.Read lines → u ≡ caseTaken g lines .read → (u ≡ call .read) × (g .table ≡ call .table)
+  handed-taken p q = let d = sym (ap (λ r. callOf b r g) p) ∙ e in (q ∙ ap (λ c. c .read) d, ap (λ c. c .table) d)
 
 pub handed-same : {call other : CaseCall} {u : CaseRead} {v : List ℤ} → other ≡ call → (u ≡ call .read) × (v ≡ call .table) → (u ≡ other .read) × (v ≡ other .table)
 handed-same e (p, q) = (p ∙ sym (ap (λ c. c .read) e), q ∙ sym (ap (λ c. c .table) e))
@@ -61,92 +63,94 @@ unfolding sizeBy
 size-some none c e = cc
 size-some (some y) c e = cc
 
-headed-is : (o : Option Line) → headed standard o ≡ caseOf standard (headed standard o .n) (headed standard o .d) (headed standard o .m)
-headed-is none = refl
-headed-is (some l) = refl
+headed-is : (b : Rulebook) (o : Option Line) → headed b o ≡ caseOf b (headed b o .n) (headed b o .d) (headed b o .m)
+headed-is b none = refl
+headed-is b (some l) = refl
 
-module _ (t : List ℕ) (w : List ℤ) where
+module _ (b : Rulebook) (t : List ℕ) (w : List ℤ) where
   caseBy : Option Refusal → Case → CaseCall
   caseBy o c = elim o [
     | none ↦
         if eqb (length w) (lentLength c)
-        then readDues standard (record { case = c; table = w }) 1 (dues c) (afterFirst standard t)
-        else caseRefused standard WrongLength 0 w
-    | some x ↦ caseRefused standard x 0 w
+        then readDues b (record { case = c; table = w }) 1 (dues c) (afterFirst (rulesIn b) t)
+        else caseRefused b WrongLength 0 w
+    | some x ↦ caseRefused b x 0 w
   ]
 
-  case-is : readCase standard t w ≡ caseBy (headRefusal standard t) (headed standard (firstLine standard t))
+  case-is : readCase b t w ≡ caseBy (headRefusal (rulesIn b) t) (headed b (firstLine (rulesIn b) t))
   unfolding caseBy
   case-is = refl
 
-  size-is : caseSize standard t ≡ sizeBy (headRefusal standard t) (headed standard (firstLine standard t))
+  size-is : caseSize b t ≡ sizeBy (headRefusal (rulesIn b) t) (headed b (firstLine (rulesIn b) t))
   unfolding sizeBy
   size-is = refl
 
-  pub case-refused : {x : Refusal} → caseSize standard t ≡ CaseSize.Refused x → readCase standard t w ≡ caseRefused standard x 0 w
+  pub case-refused : {x : Refusal} → caseSize b t ≡ CaseSize.Refused x → readCase b t w ≡ caseRefused b x 0 w
   unfolding caseBy
   case-refused {x} e =
-      let o : headRefusal standard t ≡ some x = size-some (headRefusal standard t) (headed standard (firstLine standard t)) (sym size-is ∙ e) in
-      case-is ∙ ap (λ o. caseBy o (headed standard (firstLine standard t))) o
+      let o : headRefusal (rulesIn b) t ≡ some x = size-some (headRefusal (rulesIn b) t) (headed b (firstLine (rulesIn b) t)) (sym size-is ∙ e) in
+      case-is ∙ ap (λ o. caseBy o (headed b (firstLine (rulesIn b) t))) o
 
-  module _ (s : Sizes) {long : ℕ} (e : caseSize standard t ≡ CaseSize.Size (s .n) (s .d) (s .m) long) where
-    named : (headRefusal standard t ≡ none) × (headed standard (firstLine standard t) ≡ caseOf standard (s .n) (s .d) (s .m)) × (tableOf s ≡ long)
+  module _ (n d m : ℕ) {long : ℕ} (e : caseSize b t ≡ CaseSize.Size n d m long) where
+    abbrev s : Sizes
+    s = record { n = n; d = d; m = m; rulebook = b }
+
+    named : (headRefusal (rulesIn b) t ≡ none) × (headed b (firstLine (rulesIn b) t) ≡ caseOf b (s .n) (s .d) (s .m)) × (tableOf s ≡ long)
     named =
-        let (o, n, d, m, l) = size-none (headRefusal standard t) (headed standard (firstLine standard t)) (sym size-is ∙ e) in
-        (o, headed-is (firstLine standard t) ∙ cc, cc)
+        let (o, n, d, m, l) = size-none (headRefusal (rulesIn b) t) (headed b (firstLine (rulesIn b) t)) (sym size-is ∙ e) in
+        (o, headed-is b (firstLine (rulesIn b) t) ∙ cc, cc)
 
-    case-none : readCase standard t w ≡ caseBy none (caseOf standard (s .n) (s .d) (s .m))
+    case-none : readCase b t w ≡ caseBy none (caseOf b (s .n) (s .d) (s .m))
     case-none = case-is ∙ ap₂ caseBy (named .0) (named .1)
 
-    pub case-wrong : length w ≢ long → readCase standard t w ≡ caseRefused standard WrongLength 0 w
+    pub case-wrong : length w ≢ long → readCase b t w ≡ caseRefused b WrongLength 0 w
     unfolding caseBy
     case-wrong h = case-none ∙ rw (ne-eqb (length w) (tableOf s) (λ q. h (q ∙ named .2)))
 
-    pub case-right : length w ≡ long → readCase standard t w ≡ leftFrom s (reading s noEnds noEnds w) 0 t
-    unfolding caseBy leftFrom
-    case-right h = case-none ∙ rw (eq-eqb (length w) (tableOf s) (h ∙ sym (named .2)))
+    pub case-right : length w ≡ long → readCase b t w ≡ leftFrom s (reading s noEnds noEnds w) 0 t
+    unfolding caseBy
+    case-right h = case-none ∙ rw (eq-eqb (length w) (tableOf s) (h ∙ sym (named .2))) (sym (left-first s (reading s noEnds noEnds w) t))
 
     pub case-length : length w ≡ long → length w ≡ tableOf s
     case-length h = h ∙ sym (named .2)
 
-    refusal-parts : (b : Bool) (o : Option Refusal) → (if b then some CutShort else o) ≡ none → (b ≡ false) × (o ≡ none)
+    refusal-parts : (short : Bool) (o : Option Refusal) → (if short then some CutShort else o) ≡ none → (short ≡ false) × (o ≡ none)
     refusal-parts true o p = ((cc), (cc))
     refusal-parts false o p = (refl, p)
 
-    not-cut : (isCut standard t ≡ false) × (firstOf (headTests standard (firstLine standard t)) ≡ none)
-    not-cut = refusal-parts (isCut standard t) (firstOf (headTests standard (firstLine standard t))) (named .0)
+    not-cut : (isCut (rulesIn b) t ≡ false) × (firstOf (headTests (rulesIn b) (firstLine (rulesIn b) t)) ≡ none)
+    not-cut = refusal-parts (isCut (rulesIn b) t) (firstOf (headTests (rulesIn b) (firstLine (rulesIn b) t))) (named .0)
 
-    pub head-whole : lineBytes ≤ length t
-    head-whole = ⊎-elim (λ u. let z : true ≡ false = sym (is-true (isCut standard t) u) ∙ not-cut .0 in let y : _≡_ {A = ℕ} 0 1 = cc in omega arith) (λ u. nltb→le (length t) lineBytes u) (either (isCut standard t))
+    pub head-whole : lineBytes b ≤ length t
+    head-whole = ⊎-elim (λ u. let z : true ≡ false = sym (is-true (isCut (rulesIn b) t) u) ∙ not-cut .0 in let y : _≡_ {A = ℕ} 0 1 = cc in omega arith) (λ u. nltb→le (length t) (lineBytes b) u) (either (isCut (rulesIn b) t))
 
     pub sizes-limited : Limited s
-    sizes-limited = go (firstLine standard t) (not-cut .1) (named .1)
+    sizes-limited = go (firstLine (rulesIn b) t) (not-cut .1) (named .1)
       where
-        go : (o : Option Line) → firstOf (headTests standard o) ≡ none → headed standard o ≡ caseOf standard (s .n) (s .d) (s .m) → Limited s
+        go : (o : Option Line) → firstOf (headTests (rulesIn b) o) ≡ none → headed b o ≡ caseOf b (s .n) (s .d) (s .m) → Limited s
         go none p q = let z : _≡_ {A = ℕ} 0 1 = cc in absurd (omega arith)
         go (some l) p q =
-            let limits = limitsZ (l .a) (l .b) (l .c) in
-            let k = and-left (not (not limits)) true (and-right (not (notDue standard (10 ∷ []) l)) (not (not limits) && true) (none-applies (headTests standard (some l)) .0 (rw p tt))) in
-            let (n, d, m) = limits-known (l .a) (l .b) (l .c) (not-not-iff limits .0 k) in
-            record {
-              variables = omega (arith, ap (λ c. c .n) q, n .2);
-              some-value = omega (arith, ap (λ c. c .d) q, d .1);
-              values = omega (arith, ap (λ c. c .d) q, d .2);
-              edges = omega (arith, ap (λ c. c .m) q, m .2);
-            }
+            let limits = limitsZ b (l .a) (l .b) (l .c) in
+            let k = and-left (not (not limits)) true (and-right (not (notDue (rulesIn b) (10 ∷ []) l)) (not (not limits) && true) (none-applies (headTests (rulesIn b) (some l)) .0 (rw p tt))) in
+            let (n, d, m) = limits-known b (l .a) (l .b) (l .c) (not-not-iff limits .0 k) in
+            limited-by s
+            (omega (arith, ap (λ c. c .n) q, n .2))
+            (omega (arith, ap (λ c. c .d) q, d .1))
+            (omega (arith, ap (λ c. c .d) q, d .2))
+            (omega (arith, ap (λ c. c .m) q, m .2))
 
 -- ---- a case that was read has all its lines
 
-module _ (t : List ℕ) (w : List ℤ) {lines : ℕ} where
-  whole-length : (b : Bool) (c : Case) → lineBytes ≤ length t → (if b then readDues standard (record { case = c; table = w }) 1 (dues c) (afterFirst standard t) else caseRefused standard WrongLength 0 w) .read .answer ≡ FileAnswer.Read lines → lines * lineBytes ≤ length t
-  whole-length true c h e = omega (arith, dues-whole (dues c) (record { case = c; table = w }) 1 (afterFirst standard t) e, length-drop lineBytes t)
+module _ (b : Rulebook) (t : List ℕ) (w : List ℤ) {lines : ℕ} where
+  whole-length : (fits : Bool) (c : Case) → lineBytes b ≤ length t → (if fits then readDues b (record { case = c; table = w }) 1 (dues c) (afterFirst (rulesIn b) t) else caseRefused b WrongLength 0 w) .read .answer ≡ FileAnswer.Read lines → lines * lineBytes b ≤ length t
+  whole-length true c h e = omega (arith, dues-whole b (dues c) (record { case = c; table = w }) 1 (afterFirst (rulesIn b) t) e, length-drop (lineBytes b) t)
   whole-length false c h e = let z : _≡_ {A = ℕ} 0 1 = cc in omega arith
 
-  whole-by : (b : Bool) (o : Option Refusal) → isCut standard t ≡ b → (c : Case) → caseBy t w (if b then some CutShort else o) c .read .answer ≡ FileAnswer.Read lines → lines * lineBytes ≤ length t
+  whole-by : (short : Bool) (o : Option Refusal) → isCut (rulesIn b) t ≡ short → (c : Case) → caseBy b t w (if short then some CutShort else o) c .read .answer ≡ FileAnswer.Read lines → lines * lineBytes b ≤ length t
   unfolding caseBy
   whole-by true o d c e = let z : _≡_ {A = ℕ} 0 1 = cc in omega arith
-  whole-by false none d c e = whole-length (eqb (length w) (lentLength c)) c (nltb→le (length t) lineBytes (false-is (isCut standard t) d)) e
+  whole-by false none d c e = whole-length (eqb (length w) (lentLength c)) c (nltb→le (length t) (lineBytes b) (false-is (isCut (rulesIn b) t) d)) e
   whole-by false (some x) d c e = let z : _≡_ {A = ℕ} 0 1 = cc in omega arith
 
-  pub read-whole : readCase standard t w .read .answer ≡ FileAnswer.Read lines → lines * lineBytes ≤ length t
-  read-whole e = whole-by (isCut standard t) (firstOf (headTests standard (firstLine standard t))) refl (headed standard (firstLine standard t)) (sym (ap (λ c. c .read .answer) (case-is t w)) ∙ e)
+  pub read-whole : readCase b t w .read .answer ≡ FileAnswer.Read lines → lines * lineBytes b ≤ length t
+  read-whole e = whole-by (isCut (rulesIn b) t) (firstOf (headTests (rulesIn b) (firstLine (rulesIn b) t))) refl (headed b (firstLine (rulesIn b) t)) (sym (ap (λ c. c .read .answer) (case-is b t w)) ∙ e)

@@ -12,11 +12,13 @@ use lib.Seq.{getD-append-add}
 use borrow.Author.Tests.{lt-ltb, le-ltb, eq-eqb, ne-eqb}
 use Rattle.integers.specs.Words.{below, joined}
 use Rattle.integers.specs.Tables.{length-tab, getD-tab, length-rows, getD-rows-at}
-use Rattle.definitions.specs.Rules.{standard}
+use Rattle.definitions.specs.Rules.{rulesIn, coherent, edgePlaces}
+use Rattle.definitions.specs.declared.Rulebook.{Rulebook}
 use Rattle.definitions.specs.CaseFiles.{CaseDue, variable-weight, edge-ends, edge-weight, dues, caseOf}
 use Rattle.casefile.specs.declared.Sizes.{Sizes}
 use Rattle.casefile.specs.declared.Awaited.{Awaited}
 use Rattle.casefile.specs.declared.Awaited.the-variants.{VariableWeight, EdgeEnds, EdgeWeight}
+use Rattle.casefile.specs.Reads.{lineBytes}
 use Rattle.casefile.specs.Steps.{dueOf, InCase, AtLine, Limited, edgeDue, edgeDueAt, dueAt, linesDue}
 
 some-wide : (a b q : ℕ) → q < a * b → 0 < b
@@ -79,22 +81,22 @@ module _ (n d m : ℕ) where
   unfolding back
   at-back p z h = getD-rows-at edge-dues m (1 + d * d) (λ e h. edge-length e) p z h ∙ at-edge (p / (1 + d * d)) (p % (1 + d * d)) z (mod-lt p {m = 1 + d * d} (omega arith))
 
-  dues-are : dues (caseOf standard n d m) ≡ front ++ back
+  dues-are : (b : Rulebook) → dues (caseOf b n d m) ≡ front ++ back
   unfolding front back variable-dues edge-dues row
-  dues-are = refl
+  dues-are b = refl
 
 module _ (s : Sizes) where
   abbrev pub allDues : List CaseDue
-  allDues = dues (caseOf standard (s .n) (s .d) (s .m))
+  allDues = dues (caseOf (s .rulebook) (s .n) (s .d) (s .m))
 
   pub dues-length : length allDues ≡ linesDue s
   dues-length =
-      ap length (dues-are (s .n) (s .d) (s .m)) ∙ length-append (front (s .n) (s .d) (s .m)) (back (s .n) (s .d) (s .m))
+      ap length (dues-are (s .n) (s .d) (s .m) (s .rulebook)) ∙ length-append (front (s .n) (s .d) (s .m)) (back (s .n) (s .d) (s .m))
       ∙ omega (arith, front-length (s .n) (s .d) (s .m), back-length (s .n) (s .d) (s .m))
 
   pub dues-at : (q : ℕ) (z : CaseDue) → q < linesDue s → getD allDues q z ≡ dueAt s q
   dues-at q z h =
-      ap (λ ds. getD ds q z) (dues-are (s .n) (s .d) (s .m)) ∙ ⊎-elim
+      ap (λ ds. getD ds q z) (dues-are (s .n) (s .d) (s .m) (s .rulebook)) ∙ ⊎-elim
       (λ t.
       let l : q < s .n * s .d = ltb→lt q (s .n * s .d) t in
       List·getD-append (front (s .n) (s .d) (s .m)) (back (s .n) (s .d) (s .m)) z q (omega (arith, front-length (s .n) (s .d) (s .m)))
@@ -107,28 +109,45 @@ module _ (s : Sizes) where
       ∙ at-back (s .n) (s .d) (s .m) (q - s .n * s .d) z (omega arith) ∙ sym (rw (le-ltb q (s .n * s .d) l)))
       (either (ltb q (s .n * s .d)))
 
--- the most that the limits allow
+-- the limits of coherent rules are few
+pub limited-by : (s : Sizes) → s .n ≤ rulesIn (s .rulebook) .variables → 1 ≤ s .d → s .d ≤ rulesIn (s .rulebook) .values → s .m ≤ rulesIn (s .rulebook) .edges → Limited s
+limited-by s n some d m =
+    let h = coherent (s .rulebook) in
+    record {
+      variables = n;
+      some-value = some;
+      values = d;
+      edges = m;
+      variables-few = omega (arith, n, h .variables-few);
+      values-few = omega (arith, d, h .values-few);
+      edges-placed = omega (arith, m, h .edges-placed);
+    }
+
+-- the most that plain bounds allow
 abbrev pub mostWeights : ℕ
-mostWeights = standard .variables * standard .values
+mostWeights = 256 * 8
 
 abbrev pub mostSquare : ℕ
-mostSquare = standard .values * standard .values
+mostSquare = 8 * 8
 
 abbrev pub mostLines : ℕ
-mostLines = mostWeights + (standard .edges + standard .edges * mostSquare)
+mostLines = mostWeights + (edgePlaces + edgePlaces * mostSquare)
 
 module _ (s : Sizes) (l : Limited s) where
   pub variables-small : s .n * s .d ≤ mostWeights
-  variables-small = mul-le-mul (l .variables) (l .values)
+  variables-small = mul-le-mul (l .variables-few) (l .values-few)
 
   pub square-small : s .d * s .d ≤ mostSquare
-  square-small = mul-le-mul (l .values) (l .values)
+  square-small = mul-le-mul (l .values-few) (l .values-few)
 
-  pub edges-small : s .m * (s .d * s .d) ≤ standard .edges * mostSquare
-  edges-small = mul-le-mul (l .edges) square-small
+  pub edges-small : s .m * (s .d * s .d) ≤ edgePlaces * mostSquare
+  edges-small = mul-le-mul (l .edges-placed) square-small
 
   pub lines-small : linesDue s ≤ mostLines
-  lines-small = omega (arith, variables-small, edges-small, l .edges)
+  lines-small = omega (arith, variables-small, edges-small, l .edges-placed)
+
+pub bytes-small : (b : Rulebook) (lines : ℕ) → lines ≤ mostLines + 1 → lineBytes b * lines ≤ (15 + 18) * (mostLines + 1)
+bytes-small b lines h = mul-le-mul {n₁ = lineBytes b} {m₁ = lines} {n₂ = 15 + 18} {m₂ = mostLines + 1} (omega (arith, coherent b .amount-fits)) h
 
 -- ---- by the place of the line
 

@@ -13,10 +13,11 @@ use borrow.Author.Tests.{le-ltb}
 use Rattle.integers.specs.Words.{eqZ, withinZ}
 use Rattle.integers.specs.Tests.{tests, eqb-iff, same-test, and-left}
 use Rattle.integers.specs.Linear.{zs, T-eq, read-back}
+use Rattle.definitions.specs.declared.Rulebook.{Rulebook}
 use Rattle.definitions.specs.declared.Line.{Line}
-use Rattle.definitions.specs.Rules.{standard}
+use Rattle.definitions.specs.Rules.{rulesIn, coherent}
 use Rattle.definitions.specs.Lines.{notDue}
-use Rattle.theory.proofs.CaseTests.{CaseKinds, standard-case-kinds}
+use Rattle.theory.proofs.CaseTests.{CaseKinds, case-kinds}
 use Rattle.casefile.specs.Reads.{ofKind}
 
 module _ (a b : Bool) where
@@ -51,21 +52,21 @@ within-nat low high (pos n) t = (let (p, q) = simp tests at t in (le-ltb n 0 (om
 within-nat low high (negsuc n) t = absurd (and-left (leZ (pos low) (negsuc n)) (leZ (negsuc n) (pos high)) t)
 
 -- a line of one kind that is due
-abbrev kinds : CaseKinds standard
-kinds = standard-case-kinds standard refl
+module _ (b : Rulebook) (l : Line) where
+  abbrev kinds : CaseKinds (rulesIn b)
+  kinds = case-kinds (coherent b)
 
-module _ (l : Line) where
-  pub due-10 : notDue standard (10 ∷ []) l ≡ not (ofKind (pos 10) true false l)
+  pub due-10 : notDue (rulesIn b) (10 ∷ []) l ≡ not (ofKind (pos 10) true false l)
   due-10 = kinds .head-due l ∙ simp and-true
 
-  pub due-11 : notDue standard (11 ∷ []) l ≡ not (ofKind (pos 11) false true l)
+  pub due-11 : notDue (rulesIn b) (11 ∷ []) l ≡ not (ofKind (pos 11) false true l)
   due-11 = kinds .variable-due l ∙ simp and-true
 
-  pub due-12 : notDue standard (12 ∷ []) l ≡ not (ofKind (pos 12) true false l)
+  pub due-12 : notDue (rulesIn b) (12 ∷ []) l ≡ not (ofKind (pos 12) true false l)
   due-12 = kinds .ends-due l ∙ simp and-true
 
-  pub due-13 : notDue standard (13 ∷ []) l ≡ not (ofKind (pos 13) true true l)
+  pub due-13 : notDue (rulesIn b) (13 ∷ []) l ≡ not (ofKind (pos 13) true true l)
   due-13 = kinds .edge-due l ∙ simp and-true
 
-  pub due-none : notDue standard [] l ≡ true
-  due-none = simp (and-false, and-true)
+  pub due-none : notDue (rulesIn b) [] l ≡ true
+  due-none = rw (coherent b .known-kinds) (simp (and-false, and-true))

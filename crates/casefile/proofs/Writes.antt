@@ -1,21 +1,21 @@
 -- A case file written line by line. Assumes nothing.
 use Rattle.casefile.specs.Reads.{lineBytes}
-use mathlib.Core.Path.{_≡_, refl, sym, ap, ap₂, subst, _∙_}
+use mathlib.Core.Path.{_≡_, sym, ap, ap₂, subst, _∙_}
 use mathlib.Core.Bool.{true, false}
 use mathlib.Core.Option.{Option, none, some}
 use mathlib.Core.List.{List, [], _∷_, _++_, map, append-assoc, append-nil}
 use Prim.Native.Nat.{ℕ, _+_, _*_, _-_, _≤_, _<_}
 use native.Mathlib.Numerals.{add-one}
+use native.Mathlib.Nat.{mul-le-mul-right}
 use native.Mathlib.Omega.{arith}
 use lib.IntN.{ℤ}
 use lib.Dec.{ltb, nltb→le}
-use lib.ListN.{length, take, drop, length-append, length-take, length-drop, drop-of-length-le}
+use lib.ListN.{length, take, drop, length-append, length-take, length-drop}
 use lib.Seq.{take-suc, take-all, drop-drop, drop-append-add}
 use Rattle.integers.specs.Words.{joined}
 use Rattle.integers.specs.Lists.{_∈_, map-append, map-map, joined-append}
 use Rattle.integers.specs.Tables.{getD-in}
 use Rattle.definitions.specs.declared.Case.{Case}
-use Rattle.definitions.specs.declared.Line.{Line}
 use Rattle.definitions.specs.declared.Outcome.{Outcome}
 use Rattle.definitions.specs.declared.Written.{Written}
 use Rattle.definitions.specs.declared.Refusal.{Refusal}
@@ -23,31 +23,28 @@ use Rattle.definitions.specs.declared.Refusal.the-variants.{OutsideLimits}
 use Rattle.definitions.specs.Refusals.{firstOf}
 use Rattle.definitions.specs.Answers.{outcomeOf, unlessRefused}
 use Rattle.definitions.specs.Valid.{startingWeight, withinLimits, handedOver}
-use Rattle.definitions.specs.Rules.{standard, standard-coherent}
+use Rattle.definitions.specs.Rules.{rulesIn, rulesOf, coherent}
 use Rattle.definitions.specs.Lines.{lineText, lineTooWide, overwritten}
-use Rattle.definitions.specs.Calls.{writeLineCall, writtenOf, fileBytes, writeCaseCall}
+use Rattle.definitions.specs.Calls.{writtenOf, fileBytes, writeCaseCall}
 use Rattle.definitions.specs.CaseFiles.{CaseDue, edge-ends, headLine, caseText}
 use Rattle.definitions.proofs.LineLaws.{line-length}
 use Rattle.theory.proofs.Validity.{Valid, handed}
 use Rattle.theory.proofs.CaseDues.{lineOf, case-lines, in-dues}
 use Rattle.theory.proofs.CaseTests.{due-fits, head-fits}
 use Rattle.tables.proofs.Order.{limited, outcome-done, outcome-refused}
-use Rattle.lines.proofs.Answers.{write-done}
 use Rattle.lines.proofs.Stores.{column-next}
 use Rattle.casefile.specs.declared.Sizes.{Sizes}
 use Rattle.casefile.specs.Steps.{Limited, dueAt, linesDue, caseWith}
-use Rattle.casefile.proofs.Dues.{allDues, dues-length, dues-at}
+use Rattle.casefile.proofs.Dues.{allDues, dues-length, dues-at, limited-by}
 
 -- ---- a line in its place
 
--- a part as long as a line holds the line alone
-pub line-over : (part : List ℕ) (l : Line) → length part ≡ lineBytes → lineTooWide (standard .amountWidth) l ≡ false → writeLineCall standard part l .out ≡ lineText (standard .amountWidth) l
-line-over part l n f =
-    ap (λ c. c .out) (write-done (standard .amountWidth) standard refl part l (omega arith) f)
-    ∙ ap (λ t. lineText (standard .amountWidth) l ++ t) (drop-of-length-le part {i = length (lineText (standard .amountWidth) l)} (omega (arith, line-length (standard .amountWidth) l f))) ∙ append-nil (lineText (standard .amountWidth) l)
+pub put-length : (o y : List ℕ) (n long : ℕ) → n + long ≤ length o → length y ≡ long → length (take n o ++ (y ++ drop (n + long) o)) ≡ length o
+put-length o y n long h e = simp (length-append, length-take, length-drop) (omega arith)
 
-pub put-length : (o y : List ℕ) (n : ℕ) → n + lineBytes ≤ length o → length y ≡ lineBytes → length (take n o ++ (y ++ drop (n + lineBytes) o)) ≡ length o
-put-length o y n h e = simp (length-append, length-take, length-drop) (omega arith)
+-- where all lines have room, line q has
+pub line-room : (long q most all : ℕ) → q < most → long * (most + 1) ≤ all → long * (q + 1) + long ≤ all
+line-room long q most all h k = omega (arith, mul-le-mul-right {m = q + 2} {n = most + 1} long (omega arith))
 
 pub over-twice : (p x out : List ℕ) → length p ≤ length x → overwritten x (overwritten p out) ≡ overwritten x out
 over-twice p x out h =
@@ -58,104 +55,104 @@ over-twice p x out h =
 
 module _ (s : Sizes) (lower upper : List ℕ) (w : List ℤ) where
   text : CaseDue → List ℕ
-  text due = lineText (standard .amountWidth) (lineOf (caseWith s lower upper) w due)
+  text due = lineText (rulesIn (s .rulebook) .amountWidth) (lineOf (caseWith s lower upper) w due)
 
   -- the head and q lines after it
   pub written : ℕ → List ℕ
-  written q = lineText (standard .amountWidth) (headLine (caseWith s lower upper)) ++ joined (map text (take q (allDues s)))
+  written q = lineText (rulesIn (s .rulebook) .amountWidth) (headLine (caseWith s lower upper)) ++ joined (map text (take q (allDues s)))
 
-  written-first : written 0 ≡ lineText (standard .amountWidth) (headLine (caseWith s lower upper))
+  written-first : written 0 ≡ lineText (rulesIn (s .rulebook) .amountWidth) (headLine (caseWith s lower upper))
   unfolding written
-  written-first = append-nil (lineText (standard .amountWidth) (headLine (caseWith s lower upper)))
+  written-first = append-nil (lineText (rulesIn (s .rulebook) .amountWidth) (headLine (caseWith s lower upper)))
 
-  written-next : (q : ℕ) → q < linesDue s → written (q + 1) ≡ written q ++ lineText (standard .amountWidth) (lineOf (caseWith s lower upper) w (dueAt s q))
+  written-next : (q : ℕ) → q < linesDue s → written (q + 1) ≡ written q ++ lineText (rulesIn (s .rulebook) .amountWidth) (lineOf (caseWith s lower upper) w (dueAt s q))
   unfolding written text
   written-next q h =
       let e : take (q + 1) (allDues s) ≡ take q (allDues s) ++ (dueAt s q ∷ []) =
       rw add-one (take-suc (allDues s) q (edge-ends 0) (omega (arith, dues-length s)) ∙ ap (λ due. take q (allDues s) ++ (due ∷ [])) (dues-at s q (edge-ends 0) h)) in
-      ap (λ ds. lineText (standard .amountWidth) (headLine (caseWith s lower upper)) ++ joined (map text ds)) e
-      ∙ ap (λ ts. lineText (standard .amountWidth) (headLine (caseWith s lower upper)) ++ joined ts) (map-append text (take q (allDues s)) (dueAt s q ∷ []))
-      ∙ ap (λ t. lineText (standard .amountWidth) (headLine (caseWith s lower upper)) ++ t) (joined-append (map text (take q (allDues s))) (text (dueAt s q) ∷ []) ∙ ap (λ t. joined (map text (take q (allDues s))) ++ t) (append-nil (text (dueAt s q))))
-      ∙ sym (append-assoc (lineText (standard .amountWidth) (headLine (caseWith s lower upper))) (joined (map text (take q (allDues s)))) (text (dueAt s q)))
+      ap (λ ds. lineText (rulesIn (s .rulebook) .amountWidth) (headLine (caseWith s lower upper)) ++ joined (map text ds)) e
+      ∙ ap (λ ts. lineText (rulesIn (s .rulebook) .amountWidth) (headLine (caseWith s lower upper)) ++ joined ts) (map-append text (take q (allDues s)) (dueAt s q ∷ []))
+      ∙ ap (λ t. lineText (rulesIn (s .rulebook) .amountWidth) (headLine (caseWith s lower upper)) ++ t) (joined-append (map text (take q (allDues s))) (text (dueAt s q) ∷ []) ∙ ap (λ t. joined (map text (take q (allDues s))) ++ t) (append-nil (text (dueAt s q))))
+      ∙ sym (append-assoc (lineText (rulesIn (s .rulebook) .amountWidth) (headLine (caseWith s lower upper))) (joined (map text (take q (allDues s)))) (text (dueAt s q)))
 
-  pub written-all : (q : ℕ) → linesDue s ≤ q → written q ≡ caseText standard (caseWith s lower upper) w
+  pub written-all : (q : ℕ) → linesDue s ≤ q → written q ≡ caseText (rulesIn (s .rulebook)) (caseWith s lower upper) w
   unfolding written text
   written-all q h =
-      ap (λ ds. lineText (standard .amountWidth) (headLine (caseWith s lower upper)) ++ joined (map text ds)) (take-all q (allDues s) (omega (arith, dues-length s)))
-      ∙ sym (ap (λ ls. joined (map (lineText (standard .amountWidth)) ls)) (case-lines (caseWith s lower upper) w)
-      ∙ ap (λ ts. lineText (standard .amountWidth) (headLine (caseWith s lower upper)) ++ joined ts) (map-map (lineText (standard .amountWidth)) (lineOf (caseWith s lower upper) w) (allDues s)))
+      ap (λ ds. lineText (rulesIn (s .rulebook) .amountWidth) (headLine (caseWith s lower upper)) ++ joined (map text ds)) (take-all q (allDues s) (omega (arith, dues-length s)))
+      ∙ sym (ap (λ ls. joined (map (lineText (rulesIn (s .rulebook) .amountWidth)) ls)) (case-lines (caseWith s lower upper) w)
+      ∙ ap (λ ts. lineText (rulesIn (s .rulebook) .amountWidth) (headLine (caseWith s lower upper)) ++ joined ts) (map-map (lineText (rulesIn (s .rulebook) .amountWidth)) (lineOf (caseWith s lower upper) w) (allDues s)))
 
-  module _ (v : Valid standard (caseWith s lower upper) w) where
+  module _ (v : Valid (rulesIn (s .rulebook)) (caseWith s lower upper) w) where
     pub valid-limited : Limited s
-    valid-limited = record { variables = v .variables-most; some-value = v .shape .some-value; values = v .values-most; edges = v .edges-most }
+    valid-limited = limited-by s (v .variables-most) (v .shape .some-value) (v .values-most) (v .edges-most)
 
-    pub first-fits : lineTooWide (standard .amountWidth) (headLine (caseWith s lower upper)) ≡ false
-    first-fits = head-fits standard-coherent v
+    pub first-fits : lineTooWide (rulesIn (s .rulebook) .amountWidth) (headLine (caseWith s lower upper)) ≡ false
+    first-fits = head-fits (coherent (s .rulebook)) v
 
-    pub line-fits : (q : ℕ) → q < linesDue s → lineTooWide (standard .amountWidth) (lineOf (caseWith s lower upper) w (dueAt s q)) ≡ false
-    line-fits q h = due-fits standard-coherent v (dueAt s q)
+    pub line-fits : (q : ℕ) → q < linesDue s → lineTooWide (rulesIn (s .rulebook) .amountWidth) (lineOf (caseWith s lower upper) w (dueAt s q)) ≡ false
+    line-fits q h = due-fits (coherent (s .rulebook)) v (dueAt s q)
         (in-dues (caseWith s lower upper) (subst (λ (due : CaseDue). due ∈ allDues s) (dues-at s q (edge-ends 0) h) (getD-in (allDues s) {i = q} (edge-ends 0) (omega (arith, dues-length s)))))
 
     -- the head is put, and then each line
-    pub put-first : (entry out : List ℕ) → out ≡ take 0 entry ++ (lineText (standard .amountWidth) (headLine (caseWith s lower upper)) ++ drop (0 + lineBytes) entry)
-        → lineBytes ≤ length entry → (length (written 0) ≡ lineBytes) × (length out ≡ length entry) × (out ≡ overwritten (written 0) entry)
+    pub put-first : (entry out : List ℕ) → out ≡ take 0 entry ++ (lineText (rulesIn (s .rulebook) .amountWidth) (headLine (caseWith s lower upper)) ++ drop (0 + lineBytes (s .rulebook)) entry)
+        → lineBytes (s .rulebook) ≤ length entry → (length (written 0) ≡ lineBytes (s .rulebook) * (0 + 1)) × (length out ≡ length entry) × (out ≡ overwritten (written 0) entry)
     put-first entry out e h =
-        let n = line-length (standard .amountWidth) (headLine (caseWith s lower upper)) first-fits in (
-          ap length written-first ∙ n,
-          ap length e ∙ put-length entry (lineText (standard .amountWidth) (headLine (caseWith s lower upper))) 0 (omega arith) n,
-          e ∙ ap₂ (λ p n. p ++ drop n entry) (sym written-first) (sym (ap length written-first ∙ n)),
+        let n = line-length (rulesIn (s .rulebook) .amountWidth) (headLine (caseWith s lower upper)) first-fits in (
+          ap length written-first ∙ n ∙ omega arith,
+          ap length e ∙ put-length entry (lineText (rulesIn (s .rulebook) .amountWidth) (headLine (caseWith s lower upper))) 0 (lineBytes (s .rulebook)) (omega arith) n,
+          e ∙ ap₂ (λ p n. p ++ drop n entry) (sym written-first) (let z : 0 + lineBytes (s .rulebook) ≡ lineBytes (s .rulebook) = omega arith in z ∙ sym (ap length written-first ∙ n)),
         )
 
-    pub put-next : (entry out next : List ℕ) (q : ℕ) → q < linesDue s → length (written q) ≡ lineBytes * (q + 1) → out ≡ overwritten (written q) entry → lineBytes * (q + 1) + lineBytes ≤ length out
-        → next ≡ take (lineBytes * (q + 1)) out ++ (lineText (standard .amountWidth) (lineOf (caseWith s lower upper) w (dueAt s q)) ++ drop (lineBytes * (q + 1) + lineBytes) out)
-        → (length (written (q + 1)) ≡ lineBytes * (q + 1 + 1)) × (length next ≡ length out) × (next ≡ overwritten (written (q + 1)) entry)
+    pub put-next : (entry out next : List ℕ) (q : ℕ) → q < linesDue s → length (written q) ≡ lineBytes (s .rulebook) * (q + 1) → out ≡ overwritten (written q) entry → lineBytes (s .rulebook) * (q + 1) + lineBytes (s .rulebook) ≤ length out
+        → next ≡ take (lineBytes (s .rulebook) * (q + 1)) out ++ (lineText (rulesIn (s .rulebook) .amountWidth) (lineOf (caseWith s lower upper) w (dueAt s q)) ++ drop (lineBytes (s .rulebook) * (q + 1) + lineBytes (s .rulebook)) out)
+        → (length (written (q + 1)) ≡ lineBytes (s .rulebook) * (q + 1 + 1)) × (length next ≡ length out) × (next ≡ overwritten (written (q + 1)) entry)
     put-next entry out next q h n e m f =
-        let y = lineText (standard .amountWidth) (lineOf (caseWith s lower upper) w (dueAt s q)) in
-        let k : length y ≡ lineBytes = line-length (standard .amountWidth) (lineOf (caseWith s lower upper) w (dueAt s q)) (line-fits q h) in (
+        let y = lineText (rulesIn (s .rulebook) .amountWidth) (lineOf (caseWith s lower upper) w (dueAt s q)) in
+        let k : length y ≡ lineBytes (s .rulebook) = line-length (rulesIn (s .rulebook) .amountWidth) (lineOf (caseWith s lower upper) w (dueAt s q)) (line-fits q h) in (
           ap length (written-next q h) ∙ length-append (written q) y ∙ omega arith,
-          ap length f ∙ put-length out y (lineBytes * (q + 1)) m k,
-          f ∙ column-next (written q) entry out (lineBytes * (q + 1)) n e y lineBytes k ∙ ap (λ p. overwritten p entry) (sym (written-next q h)),
+          ap length f ∙ put-length out y (lineBytes (s .rulebook) * (q + 1)) (lineBytes (s .rulebook)) m k,
+          f ∙ column-next (written q) entry out (lineBytes (s .rulebook) * (q + 1)) n e y (lineBytes (s .rulebook)) k ∙ ap (λ p. overwritten p entry) (sym (written-next q h)),
         )
 
 -- ---- the call
 
 module _ (c : Case) (w : List ℤ) (out : List ℕ) where
   abbrev sizesOf : Sizes
-  sizesOf = record { n = c .n; d = c .d; m = c .m }
+  sizesOf = record { n = c .n; d = c .d; m = c .m; rulebook = c .rulebook }
 
   abbrev pub asked : Option Refusal
-  asked = firstOf (handedOver standard (startingWeight standard) c w (ltb (length out) (lineBytes * (linesDue sizesOf + 1))) false)
+  asked = firstOf (handedOver (rulesOf c) (startingWeight (rulesOf c)) c w (ltb (length out) (lineBytes (c .rulebook) * (linesDue sizesOf + 1))) false)
 
-  bytes-are : fileBytes standard c ≡ lineBytes * (linesDue sizesOf + 1)
+  bytes-are : fileBytes (rulesOf c) c ≡ lineBytes (c .rulebook) * (linesDue sizesOf + 1)
   bytes-are = omega arith
 
-  call-is : writeCaseCall standard c w out ≡ record { answer = writtenOf asked (lineBytes * (linesDue sizesOf + 1)); out = unlessRefused asked (overwritten (caseText standard c w) out) out }
+  call-is : writeCaseCall (rulesOf c) c w out ≡ record { answer = writtenOf asked (lineBytes (c .rulebook) * (linesDue sizesOf + 1)); out = unlessRefused asked (overwritten (caseText (rulesOf c) c w) out) out }
   unfolding writeCaseCall
   call-is = ap (λ n.
-      let o = firstOf (handedOver standard (startingWeight standard) c w (ltb (length out) n) false) in
-      record { answer = writtenOf o n; out = unlessRefused o (overwritten (caseText standard c w) out) out }) bytes-are
+      let o = firstOf (handedOver (rulesOf c) (startingWeight (rulesOf c)) c w (ltb (length out) n) false) in
+      record { answer = writtenOf o n; out = unlessRefused o (overwritten (caseText (rulesOf c) c w) out) out }) bytes-are
 
-  refused-is : {x : Refusal} → asked ≡ some x → writeCaseCall standard c w out ≡ record { answer = Written.Refused x; out = out }
-  refused-is e = call-is ∙ ap (λ o. record { answer = writtenOf o (lineBytes * (linesDue sizesOf + 1)); out = unlessRefused o (overwritten (caseText standard c w) out) out }) e
+  refused-is : {x : Refusal} → asked ≡ some x → writeCaseCall (rulesOf c) c w out ≡ record { answer = Written.Refused x; out = out }
+  refused-is e = call-is ∙ ap (λ o. record { answer = writtenOf o (lineBytes (c .rulebook) * (linesDue sizesOf + 1)); out = unlessRefused o (overwritten (caseText (rulesOf c) c w) out) out }) e
 
-  pub write-limits : withinLimits standard (c .n) (c .d) (c .m) ≡ false → (Written.Refused OutsideLimits ≡ writeCaseCall standard c w out .answer) × (out ≡ writeCaseCall standard c w out .out)
+  pub write-limits : withinLimits (rulesOf c) (c .n) (c .d) (c .m) ≡ false → (Written.Refused OutsideLimits ≡ writeCaseCall (rulesOf c) c w out .answer) × (out ≡ writeCaseCall (rulesOf c) c w out .out)
   write-limits h = let e = refused-is {x = OutsideLimits} (rw h) in (sym (ap (λ c. c .answer) e), sym (ap (λ c. c .out) e))
 
-  pub write-refused : {x : Refusal} → Outcome.Refused x ≡ outcomeOf asked → (Written.Refused x ≡ writeCaseCall standard c w out .answer) × (out ≡ writeCaseCall standard c w out .out)
+  pub write-refused : {x : Refusal} → Outcome.Refused x ≡ outcomeOf asked → (Written.Refused x ≡ writeCaseCall (rulesOf c) c w out .answer) × (out ≡ writeCaseCall (rulesOf c) c w out .out)
   write-refused h = let e = refused-is (outcome-refused h) in (sym (ap (λ c. c .answer) e), sym (ap (λ c. c .out) e))
 
   module _ (h : Outcome.Done ≡ outcomeOf asked) where
-    pub write-valid : Valid standard c w × (lineBytes * (linesDue sizesOf + 1) ≤ length out)
+    pub write-valid : Valid (rulesOf c) c w × (lineBytes (c .rulebook) * (linesDue sizesOf + 1) ≤ length out)
     write-valid =
         let d : asked ≡ none = outcome-done h in
-        let (v, short, o) = handed standard (startingWeight standard) c w (ltb (length out) (lineBytes * (linesDue sizesOf + 1))) false .0 (rw d tt) in
-        (v, nltb→le (length out) (lineBytes * (linesDue sizesOf + 1)) short)
+        let (v, short, o) = handed (rulesOf c) (startingWeight (rulesOf c)) c w (ltb (length out) (lineBytes (c .rulebook) * (linesDue sizesOf + 1))) false .0 (rw d tt) in
+        (v, nltb→le (length out) (lineBytes (c .rulebook) * (linesDue sizesOf + 1)) short)
 
-    pub write-done-is : {n : ℕ} {u : List ℕ} → n ≡ lineBytes * (linesDue sizesOf + 1) → u ≡ overwritten (caseText standard c w) out → (Written.Bytes n ≡ writeCaseCall standard c w out .answer) × (u ≡ writeCaseCall standard c w out .out)
+    pub write-done-is : {n : ℕ} {u : List ℕ} → n ≡ lineBytes (c .rulebook) * (linesDue sizesOf + 1) → u ≡ overwritten (caseText (rulesOf c) c w) out → (Written.Bytes n ≡ writeCaseCall (rulesOf c) c w out .answer) × (u ≡ writeCaseCall (rulesOf c) c w out .out)
     write-done-is p q =
         let d : asked ≡ none = outcome-done h in
-        let e = call-is ∙ ap (λ o. record { answer = writtenOf o (lineBytes * (linesDue sizesOf + 1)); out = unlessRefused o (overwritten (caseText standard c w) out) out }) d in
+        let e = call-is ∙ ap (λ o. record { answer = writtenOf o (lineBytes (c .rulebook) * (linesDue sizesOf + 1)); out = unlessRefused o (overwritten (caseText (rulesOf c) c w) out) out }) d in
         (ap Written.Bytes p ∙ sym (ap (λ c. c .answer) e), q ∙ sym (ap (λ c. c .out) e))
 
-pub limits-are : (c : Case) → withinLimits standard (c .n) (c .d) (c .m) ≡ true → Limited (record { n = c .n; d = c .d; m = c .m })
-limits-are c e = let l = limited standard c e in record { variables = l .variables; some-value = l .some-value; values = l .values; edges = l .edges }
+pub limits-are : (c : Case) → withinLimits (rulesOf c) (c .n) (c .d) (c .m) ≡ true → Limited (record { n = c .n; d = c .d; m = c .m; rulebook = c .rulebook })
+limits-are c e = let l = limited c e in limited-by (record { n = c .n; d = c .d; m = c .m; rulebook = c .rulebook }) (l .variables) (l .some-value) (l .values) (l .edges)

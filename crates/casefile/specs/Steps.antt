@@ -3,35 +3,39 @@ use mathlib.Core.Bool.{Bool, true, false, not, _&&_, _||_}
 use mathlib.Core.Option.{Option, some}
 use mathlib.Core.List.{List, [], _∷_}
 use Prim.Native.Nat.{ℕ, _+_, _*_, _-_, _/_, _%_, _≤_, _<_}
-use lib.IntN.{ℤ}
+use lib.IntN.{ℤ, pos}
 use mathlib.Core.Path.{_≡_}
 use lib.Dec.{ltb, eqb}
 use lib.Signed.{ltZ}
 use lib.ListN.{getD, drop, replicate}
 use Rattle.integers.specs.Words.{if_then_else_, any, below}
+use Rattle.definitions.specs.declared.Rulebook.{Rulebook}
 use Rattle.definitions.specs.declared.Case.{Case}
 use Rattle.definitions.specs.declared.Line.{Line}
 use Rattle.definitions.specs.declared.FileAnswer.{FileAnswer}
 use Rattle.definitions.specs.declared.Outcome.{Outcome}
 use Rattle.definitions.specs.declared.Refusal.{Refusal}
 use Rattle.definitions.specs.declared.Refusal.the-variants.{NotDue, OutOfRange, EndsNotAscending, EdgeRepeated, WeightOutOfRange, CutShort}
-use Rattle.definitions.specs.Rules.{standard, edgePlaces}
+use Rattle.definitions.specs.Rules.{rulesIn, edgePlaces}
 use Rattle.definitions.specs.Refusals.{Test, _when_, firstOf}
 use Rattle.definitions.specs.Answers.{outcomeOf, unlessRefused}
 use Rattle.definitions.specs.Valid.{startingWeight}
-use Rattle.definitions.specs.Lines.{notDue, outside}
+use Rattle.definitions.specs.Lines.{outside}
 use Rattle.definitions.specs.CaseFiles.{CaseDue, variable-weight, edge-ends, edge-weight, dues, dueTests, names, caseOf, Reading, took, CaseCall, caseRefused, caseTaken, isCut, firstLine, readDues}
-use Rattle.casefile.specs.Reads.{lineBytes}
+use Rattle.casefile.specs.Reads.{lineBytes, ofKind}
 use Rattle.casefile.specs.declared.Sizes.{Sizes}
 use Rattle.casefile.specs.declared.Awaited.{Awaited}
 use Rattle.casefile.specs.declared.Awaited.the-variants.{VariableWeight, EdgeEnds, EdgeWeight}
 
--- sizes within the limits
+-- sizes within the limits of their rules, and so within plain bounds
 pub record Limited (s : Sizes) : Type 0 where
-  pub variables : s .n ≤ standard .variables
+  pub variables : s .n ≤ rulesIn (s .rulebook) .variables
   pub some-value : 1 ≤ s .d
-  pub values : s .d ≤ standard .values
-  pub edges : s .m ≤ standard .edges
+  pub values : s .d ≤ rulesIn (s .rulebook) .values
+  pub edges : s .m ≤ rulesIn (s .rulebook) .edges
+  pub variables-few : s .n ≤ 256
+  pub values-few : s .d ≤ 8
+  pub edges-placed : s .m ≤ edgePlaces
 
 -- ---- what is due at line q after the head
 
@@ -76,16 +80,16 @@ abbrev pub isDone : Outcome → Bool
 isDone Outcome.Done = true
 isDone (Outcome.Refused x) = false
 
-abbrev pub weightTests : Bool → ℕ → ℕ → ℕ → Line → List Test
-weightTests due a b c l =
+abbrev pub weightTests : Rulebook → Bool → ℕ → ℕ → ℕ → Line → List Test
+weightTests rulebook due a b c l =
     NotDue when (not due)
     ∷ OutOfRange when (not (names a (l .a) && names b (l .b) && names c (l .c)))
-    ∷ WeightOutOfRange when (not (startingWeight standard (l .amount)))
+    ∷ WeightOutOfRange when (not (startingWeight (rulesIn rulebook) (l .amount)))
     ∷ []
 
 abbrev pub endsTests : ℕ → ℕ → Line → List Test
 endsTests n e l =
-    NotDue when (notDue standard (12 ∷ []) l)
+    NotDue when (not (ofKind (pos 12) true false l))
     ∷ OutOfRange when (not (names e (l .a)) || outside n (l .b) || outside n (l .c))
     ∷ EndsNotAscending when (not (ltZ (l .b) (l .c)))
     ∷ []
@@ -98,37 +102,37 @@ abbrev pub repeatTest : List ℕ → List ℕ → ℕ → ℕ → ℕ → List T
 repeatTest lower upper e i j = EdgeRepeated when (joinedBefore lower upper e i j) ∷ []
 
 abbrev pub caseWith : Sizes → List ℕ → List ℕ → Case
-caseWith s lower upper = record { n = s .n; d = s .d; m = s .m; lower = lower; upper = upper }
+caseWith s lower upper = record { n = s .n; d = s .d; m = s .m; lower = lower; upper = upper; rulebook = s .rulebook }
 
 abbrev pub reading : Sizes → List ℕ → List ℕ → List ℤ → Reading
 reading s lower upper w = record { case = caseWith s lower upper; table = w }
 
-unfoldable pub lineRefusal : Case → CaseDue → Option Line → Option Refusal
-lineRefusal c due l = firstOf (dueTests standard c due l)
+unfoldable pub lineRefusal : Rulebook → Case → CaseDue → Option Line → Option Refusal
+lineRefusal b c due l = firstOf (dueTests (rulesIn b) c due l)
 
 -- at the front of the bytes t
-unfoldable pub dueRefusal : Case → CaseDue → List ℕ → Option Refusal
-dueRefusal c due t = if isCut standard t then some CutShort else firstOf (dueTests standard c due (firstLine standard t))
+unfoldable pub dueRefusal : Rulebook → Case → CaseDue → List ℕ → Option Refusal
+dueRefusal b c due t = if isCut (rulesIn b) t then some CutShort else firstOf (dueTests (rulesIn b) c due (firstLine (rulesIn b) t))
 
 -- one line that was read: the answer is that of the definition, and what was lent is as it says
 pub record Stepped (s : Sizes) (lower upper : List ℕ) (w : List ℤ) (l : Line) (due : CaseDue) (r : Outcome) (g : Reading) : Type 0 where
-  pub answer : r ≡ outcomeOf (lineRefusal (caseWith s lower upper) due (some l))
-  pub left : g ≡ unlessRefused (lineRefusal (caseWith s lower upper) due (some l)) (took (reading s lower upper w) due (some l)) (reading s lower upper w)
+  pub answer : r ≡ outcomeOf (lineRefusal (s .rulebook) (caseWith s lower upper) due (some l))
+  pub left : g ≡ unlessRefused (lineRefusal (s .rulebook) (caseWith s lower upper) due (some l)) (took (reading s lower upper w) due (some l)) (reading s lower upper w)
 
 -- the same of the bytes at whose front the line stands
 pub record SteppedAt (s : Sizes) (lower upper : List ℕ) (w : List ℤ) (t : List ℕ) (due : CaseDue) (r : Outcome) (g : Reading) : Type 0 where
-  pub answer : r ≡ outcomeOf (dueRefusal (caseWith s lower upper) due t)
-  pub left : g ≡ unlessRefused (dueRefusal (caseWith s lower upper) due t) (took (reading s lower upper w) due (firstLine standard t)) (reading s lower upper w)
+  pub answer : r ≡ outcomeOf (dueRefusal (s .rulebook) (caseWith s lower upper) due t)
+  pub left : g ≡ unlessRefused (dueRefusal (s .rulebook) (caseWith s lower upper) due t) (took (reading s lower upper w) due (firstLine (rulesIn (s .rulebook)) t)) (reading s lower upper w)
 
 -- ---- what is left to read after q lines
 
 unfoldable pub leftFrom : Sizes → Reading → ℕ → List ℕ → CaseCall
-leftFrom s g q t = readDues standard g (q + 1) (drop q (dues (caseOf standard (s .n) (s .d) (s .m)))) (drop (lineBytes * (q + 1)) t)
+leftFrom s g q t = readDues (s .rulebook) g (q + 1) (drop q (dues (caseOf (s .rulebook) (s .n) (s .d) (s .m)))) (drop (lineBytes (s .rulebook) * (q + 1)) t)
 
 abbrev pub noEnds : List ℕ
 noEnds = replicate edgePlaces 0
 
 -- the call that the answer and what was lent make
-abbrev pub callOf : FileAnswer → Reading → CaseCall
-callOf (FileAnswer.Read lines) g = caseTaken standard g lines
-callOf (FileAnswer.Refused x at) g = caseRefused standard x at (g .table)
+abbrev pub callOf : Rulebook → FileAnswer → Reading → CaseCall
+callOf b (FileAnswer.Read lines) g = caseTaken g lines
+callOf b (FileAnswer.Refused x at) g = caseRefused b x at (g .table)

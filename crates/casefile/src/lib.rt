@@ -2,11 +2,13 @@
 use definitions::Case;
 use definitions::CaseRead;
 use definitions::CaseSize;
+use definitions::EDGE_PLACES;
 use definitions::FileAnswer;
 use definitions::Line;
 use definitions::LineRead;
 use definitions::Outcome;
 use definitions::Refusal;
+use definitions::Rulebook;
 use definitions::Written;
 ghost use mathlib.Core.Path.{_≡_};
 ghost use mathlib.Core.Bool.{false, not, _&&_, _||_};
@@ -14,11 +16,12 @@ ghost use mathlib.Core.Option.{none, some};
 ghost use Prim.Native.Nat.{ℕ, _+_, _*_, _≤_, _<_};
 ghost use mathlib.Core.List.{List, _++_};
 ghost use lib.IntN.{ℤ, pos, natAbs};
-ghost use lib.Dec.{T, eqb};
+ghost use lib.Dec.{eqb};
 ghost use lib.Signed.{ltZ, leZ};
 ghost use lib.ListN.{length, getD, set, take, drop};
 ghost use Rattle.integers.specs.Words.{withinZ};
-ghost use Rattle.definitions.specs.Rules.{standard, edgePlaces};
+ghost use Rattle.definitions.specs.declared.Rulebook.the-variants.{Desk};
+ghost use Rattle.definitions.specs.Rules.{rulesIn, rulesOf, edgePlaces};
 ghost use Rattle.definitions.specs.Refusals.{firstOf};
 ghost use Rattle.definitions.specs.Lines.{zeroUnless, outside, line, lineText, lineTooWide, overwritten};
 ghost use Rattle.definitions.specs.Valid.{startingWeight};
@@ -28,29 +31,14 @@ ghost use Rattle.definitions.specs.Calls.{writeCaseCall};
 ghost use Rattle.theory.proofs.Validity.{Valid};
 ghost use Rattle.theory.proofs.CaseDues.{lineOf};
 ghost use Rattle.casefile.specs.Steps.{isDone, Limited, dueOf, InCase, AtLine, linesDue, weightTests, endsTests, joinedBefore, repeatTest, caseWith, reading, lineRefusal, tableOf, Stepped, SteppedAt, leftFrom, callOf, noEnds};
-ghost use Rattle.casefile.specs.Reads.{lineBytes, lineFrom, ofKind, limitsZ, sizeOf};
+ghost use Rattle.casefile.specs.Reads.{lineBytes, lineFrom, ofKind, limitsZ, Few, sizeOf};
 
-// The length of a line.
-const LINE: usize = 27;
-
-// The limits of a case.
-const VARIABLES: i64 = 48;
-
-const VALUES: i64 = 8;
-
-const EDGES: i64 = 96;
-
-// The places for edges in a case's record.
-const EDGE_PLACES: usize = 96;
-
-// The greatest starting weight on either side of 0.
-const STARTING: i64 = 1_000_000;
-
-// How many variables, values and edges a case has.
+// How many variables, values and edges a case has, and the rules it is under.
 struct Sizes {
     n: usize,
     d: usize,
     m: usize,
+    rulebook: Rulebook,
 }
 
 // What is due at a line after the head.
@@ -63,15 +51,16 @@ enum Awaited {
 // ---- a line
 
 // The line at byte `from`.
-fn line_at(bytes: &[u8], from: usize) -> LineRead
+fn line_at(rulebook: Rulebook, bytes: &[u8], from: usize) -> LineRead
     requires { ⌜ from ≤ length (now bytes) ⌝ }
-    ensures { λ r. ⌜ r ≡ lineFrom (drop from (now (bytes .entry))) ⌝ }
+    ensures { λ r. ⌜ r ≡ lineFrom rulebook (drop from (now (bytes .entry))) ⌝ }
 {
-    if bytes.len() - from < LINE {
+    let long = rules::line_length(rulebook);
+    if bytes.len() - from < long {
         return LineRead::Refused(Refusal::CutShort);
     }
-    let to = from + LINE;
-    lines::read_line(&bytes[from..to])
+    let to = from + long;
+    lines::read_line_in(&bytes[from..to], rules::amount_width(rulebook))
 }
 
 fn in_range(z: i64, low: i64, high: i64) -> bool
@@ -102,14 +91,23 @@ fn index(z: i64) -> usize
 
 // ---- the head
 
-fn within_limits(line: Line) -> bool
-    ensures { λ r. ⌜ r ≡ limitsZ (line .a) (line .b) (line .c) ⌝ }
+fn in_limit(z: i64, low: i64, most: usize) -> bool
+    requires { ⌜ most < 65536 ⌝ }
+    ensures { λ r. ⌜ r ≡ withinZ low (pos most) z ⌝ }
 {
-    in_range(line.a, 1, VARIABLES) & in_range(line.b, 1, VALUES) & in_range(line.c, 0, EDGES)
+    in_range(z, low, most as i64)
+}
+
+fn within_limits(rulebook: Rulebook, line: Line) -> bool
+    ensures { λ r. ⌜ r ≡ limitsZ rulebook (line .a) (line .b) (line .c) ⌝ }
+{
+    in_limit(line.a, 1, rules::variables(rulebook))
+        & in_limit(line.b, 1, rules::values(rulebook))
+        & in_limit(line.c, 0, rules::edges(rulebook))
 }
 
 fn sized(n: usize, d: usize, m: usize) -> CaseSize
-    requires { ⌜ (n ≤ standard .variables) × (d ≤ standard .values) × (m ≤ standard .edges) ⌝ }
+    requires { ⌜ (n ≤ 256) × (d ≤ 8) × (m ≤ edgePlaces) ⌝ }
     ensures { λ r. ⌜ r ≡ CaseSize.Size n d m (n * d + m * (d * d)) ⌝ }
 {
     CaseSize::Size {
@@ -121,19 +119,19 @@ fn sized(n: usize, d: usize, m: usize) -> CaseSize
 }
 
 fn head_size(line: Line) -> CaseSize
-    requires { ⌜ T (limitsZ (line .a) (line .b) (line .c)) ⌝ }
+    requires { ⌜ Few 256 (line .a) × Few 8 (line .b) × Few edgePlaces (line .c) ⌝ }
     ensures { λ r. ⌜ r ≡ sizeOf none line ⌝ }
 {
     sized(index(line.a), index(line.b), index(line.c))
 }
 
-fn size_of(line: Line) -> CaseSize
-    ensures { λ r. ⌜ r ≡ sizeOf (firstOf (headTests standard (some line))) line ⌝ }
+fn size_of(rulebook: Rulebook, line: Line) -> CaseSize
+    ensures { λ r. ⌜ r ≡ sizeOf (firstOf (headTests (rulesIn rulebook) (some line))) line ⌝ }
 {
     if !is_due(line, 10, true, false) {
         return CaseSize::Refused(Refusal::NotDue);
     }
-    if !within_limits(line) {
+    if !within_limits(rulebook, line) {
         return CaseSize::Refused(Refusal::OutsideLimits);
     }
     head_size(line)
@@ -218,29 +216,33 @@ fn next_due(sizes: Sizes, due: Awaited) -> Awaited
 
 // The column names this place.
 fn names(z: i64, place: usize) -> bool
-    requires { ⌜ place < 1000 ⌝ }
+    requires { ⌜ place < 65536 ⌝ }
     ensures { λ r. ⌜ r ≡ namesPlace place z ⌝ }
 {
     z == place as i64
 }
 
 fn names_places(line: Line, a: usize, b: usize, c: usize) -> bool
-    requires { ⌜ (a < 1000) × (b < 1000) × (c < 1000) ⌝ }
+    requires { ⌜ (a < 65536) × (b < 65536) × (c < 65536) ⌝ }
     ensures { λ r. ⌜ r ≡ (namesPlace a (line .a) && namesPlace b (line .b) && namesPlace c (line .c)) ⌝ }
 {
     names(line.a, a) & names(line.b, b) & names(line.c, c)
 }
 
-fn starting(line: Line) -> bool
-    ensures { λ r. ⌜ r ≡ startingWeight standard (line .amount) ⌝ }
+fn starting(rulebook: Rulebook, line: Line) -> bool
+    ensures { λ r. ⌜ r ≡ startingWeight (rulesIn rulebook) (line .amount) ⌝ }
 {
-    in_range(line.amount, -STARTING, STARTING)
+    in_range(
+        line.amount,
+        rules::least_starting(rulebook),
+        rules::most_starting(rulebook),
+    )
 }
 
 // `due` says that the line's kind is due.
-fn weigh(line: Line, due: bool, a: usize, b: usize, c: usize) -> Outcome
-    requires { ⌜ (a < 1000) × (b < 1000) × (c < 1000) ⌝ }
-    ensures { λ r. ⌜ r ≡ outcomeOf (firstOf (weightTests due a b c line)) ⌝ }
+fn weigh(rulebook: Rulebook, line: Line, due: bool, a: usize, b: usize, c: usize) -> Outcome
+    requires { ⌜ (a < 65536) × (b < 65536) × (c < 65536) ⌝ }
+    ensures { λ r. ⌜ r ≡ outcomeOf (firstOf (weightTests rulebook due a b c line)) ⌝ }
 {
     if !due {
         return Outcome::Refused(Refusal::NotDue);
@@ -248,7 +250,7 @@ fn weigh(line: Line, due: bool, a: usize, b: usize, c: usize) -> Outcome
     if !names_places(line, a, b, c) {
         return Outcome::Refused(Refusal::OutOfRange);
     }
-    if !starting(line) {
+    if !starting(rulebook, line) {
         return Outcome::Refused(Refusal::WeightOutOfRange);
     }
     Outcome::Done
@@ -265,6 +267,7 @@ fn is_done(checked: Outcome) -> bool
 
 // Puts the weight at its place, if nothing refuses the line.
 fn take_weight(
+    rulebook: Rulebook,
     line: Line,
     due: bool,
     a: usize,
@@ -273,11 +276,11 @@ fn take_weight(
     place: usize,
     table: &mut [i64],
 ) -> Outcome
-    requires { ⌜ (a < 1000) × (b < 1000) × (c < 1000) ⌝ }
+    requires { ⌜ (a < 65536) × (b < 65536) × (c < 65536) ⌝ }
     requires { ⌜ place < length (now table) ⌝ }
-    ensures { λ r. ⌜ (r ≡ outcomeOf (firstOf (weightTests due a b c line))) × (now (table .exit) ≡ unlessRefused (firstOf (weightTests due a b c line)) (set (now (table .entry)) place (line .amount)) (now (table .entry))) ⌝ }
+    ensures { λ r. ⌜ (r ≡ outcomeOf (firstOf (weightTests rulebook due a b c line))) × (now (table .exit) ≡ unlessRefused (firstOf (weightTests rulebook due a b c line)) (set (now (table .entry)) place (line .amount)) (now (table .entry))) ⌝ }
 {
-    let checked = weigh(line, due, a, b, c);
+    let checked = weigh(rulebook, line, due, a, b, c);
     if is_done(checked) {
         let weight = line.amount;
         table[place] = weight;
@@ -288,14 +291,14 @@ fn take_weight(
 // ---- an edge's line
 
 fn is_below(z: i64, n: usize) -> bool
-    requires { ⌜ n < 1000 ⌝ }
+    requires { ⌜ n < 65536 ⌝ }
     ensures { λ r. ⌜ r ≡ (leZ (pos 0) z && ltZ z (pos n)) ⌝ }
 {
     0 <= z && z < n as i64
 }
 
 fn ends_out(line: Line, n: usize, e: usize) -> bool
-    requires { ⌜ (n < 1000) × (e < 1000) ⌝ }
+    requires { ⌜ (n < 65536) × (e < 65536) ⌝ }
     ensures { λ r. ⌜ r ≡ (not (namesPlace e (line .a)) || outside n (line .b) || outside n (line .c)) ⌝ }
 {
     !names(line.a, e) | !is_below(line.b, n) | !is_below(line.c, n)
@@ -308,7 +311,7 @@ fn ascending(line: Line) -> bool
 }
 
 fn check_ends(line: Line, n: usize, e: usize) -> Outcome
-    requires { ⌜ (n < 1000) × (e < 1000) ⌝ }
+    requires { ⌜ (n < 65536) × (e < 65536) ⌝ }
     ensures { λ r. ⌜ r ≡ outcomeOf (firstOf (endsTests n e line)) ⌝ }
 {
     if !is_due(line, 12, true, false) {
@@ -391,7 +394,7 @@ fn take_ends(
 ) -> Outcome
     requires { ⌜ Limited sizes ⌝ }
     requires { ⌜ e < edgePlaces ⌝ }
-    ensures { λ r. ⌜ (r ≡ outcomeOf (lineRefusal (caseWith sizes (now (lower .entry)) (now (upper .entry))) (edge-ends e) (some line))) × (now (lower .exit) ≡ unlessRefused (lineRefusal (caseWith sizes (now (lower .entry)) (now (upper .entry))) (edge-ends e) (some line)) (set (now (lower .entry)) e (natAbs (line .b))) (now (lower .entry))) × (now (upper .exit) ≡ unlessRefused (lineRefusal (caseWith sizes (now (lower .entry)) (now (upper .entry))) (edge-ends e) (some line)) (set (now (upper .entry)) e (natAbs (line .c))) (now (upper .entry))) ⌝ }
+    ensures { λ r. ⌜ (r ≡ outcomeOf (lineRefusal (sizes .rulebook) (caseWith sizes (now (lower .entry)) (now (upper .entry))) (edge-ends e) (some line))) × (now (lower .exit) ≡ unlessRefused (lineRefusal (sizes .rulebook) (caseWith sizes (now (lower .entry)) (now (upper .entry))) (edge-ends e) (some line)) (set (now (lower .entry)) e (natAbs (line .b))) (now (lower .entry))) × (now (upper .exit) ≡ unlessRefused (lineRefusal (sizes .rulebook) (caseWith sizes (now (lower .entry)) (now (upper .entry))) (edge-ends e) (some line)) (set (now (upper .entry)) e (natAbs (line .c))) (now (upper .entry))) ⌝ }
 {
     let checked = check_ends(line, sizes.n, e);
     match checked {
@@ -433,8 +436,10 @@ fn take(
     requires { ⌜ length (now table) ≡ tableOf sizes ⌝ }
     ensures { λ r. ⌜ Stepped sizes (now (lower .entry)) (now (upper .entry)) (now (table .entry)) line (dueOf due) r (reading sizes (now (lower .exit)) (now (upper .exit)) (now (table .exit))) ⌝ }
 {
+    let rulebook = sizes.rulebook;
     match due {
         Awaited::VariableWeight { variable, value } => take_weight(
+            rulebook,
             line,
             is_due(line, 11, false, true),
             variable,
@@ -445,6 +450,7 @@ fn take(
         ),
         Awaited::EdgeEnds(edge) => take_ends(line, sizes, edge, lower, upper),
         Awaited::EdgeWeight { edge, k, l } => take_weight(
+            rulebook,
             line,
             is_due(line, 13, true, true),
             edge,
@@ -466,11 +472,12 @@ fn take_at(
     table: &mut [i64],
 ) -> Outcome
     requires { ⌜ Limited sizes ⌝ }
-    requires { ⌜ (q < linesDue sizes) × (lineBytes * (q + 1) ≤ length (now bytes)) × InCase sizes due ⌝ }
+    requires { ⌜ (q < linesDue sizes) × (lineBytes (sizes .rulebook) * (q + 1) ≤ length (now bytes)) × InCase sizes due ⌝ }
     requires { ⌜ length (now table) ≡ tableOf sizes ⌝ }
-    ensures { λ r. ⌜ SteppedAt sizes (now (lower .entry)) (now (upper .entry)) (now (table .entry)) (drop (lineBytes * (q + 1)) (now (bytes .entry))) (dueOf due) r (reading sizes (now (lower .exit)) (now (upper .exit)) (now (table .exit))) ⌝ }
+    ensures { λ r. ⌜ SteppedAt sizes (now (lower .entry)) (now (upper .entry)) (now (table .entry)) (drop (lineBytes (sizes .rulebook) * (q + 1)) (now (bytes .entry))) (dueOf due) r (reading sizes (now (lower .exit)) (now (upper .exit)) (now (table .exit))) ⌝ }
 {
-    let read = line_at(bytes, LINE * (q + 1));
+    let rulebook = sizes.rulebook;
+    let read = line_at(rulebook, bytes, rules::line_length(rulebook) * (q + 1));
     match read {
         LineRead::Refused(refusal) => Outcome::Refused(refusal),
         LineRead::Read(line) => take(line, sizes, due, lower, upper, table),
@@ -494,9 +501,9 @@ fn read_lines(
     table: &mut [i64],
 ) -> FileAnswer
     requires { ⌜ Limited sizes ⌝ }
-    requires { ⌜ lineBytes ≤ length (now bytes) ⌝ }
+    requires { ⌜ lineBytes (sizes .rulebook) ≤ length (now bytes) ⌝ }
     requires { ⌜ length (now table) ≡ tableOf sizes ⌝ }
-    ensures { λ r. ⌜ callOf r (reading sizes (now (lower .exit)) (now (upper .exit)) (now (table .exit))) ≡ leftFrom sizes (reading sizes (now (lower .entry)) (now (upper .entry)) (now (table .entry))) 0 (now (bytes .entry)) ⌝ }
+    ensures { λ r. ⌜ callOf (sizes .rulebook) r (reading sizes (now (lower .exit)) (now (upper .exit)) (now (table .exit))) ≡ leftFrom sizes (reading sizes (now (lower .entry)) (now (upper .entry)) (now (table .entry))) 0 (now (bytes .entry)) ⌝ }
 {
     let total = lines_due(sizes);
     let mut q: usize = 0;
@@ -521,8 +528,8 @@ fn read_lines(
 
 // ---- a case
 
-fn refused(refusal: Refusal, line: usize) -> CaseRead
-    ensures { λ r. ⌜ ((w : List ℤ) → r ≡ caseRefused standard refusal line w .read) ⌝ }
+fn refused(rulebook: Rulebook, refusal: Refusal, line: usize) -> CaseRead
+    ensures { λ r. ⌜ ((w : List ℤ) → r ≡ caseRefused rulebook refusal line w .read) ⌝ }
 {
     let answer = FileAnswer::Refused { refusal, line };
     let lower = [0u8; EDGE_PLACES];
@@ -533,6 +540,7 @@ fn refused(refusal: Refusal, line: usize) -> CaseRead
         m: 0,
         lower,
         upper,
+        rulebook,
     };
     CaseRead { answer, case }
 }
@@ -543,30 +551,33 @@ fn accepted(
     lower: [u8; EDGE_PLACES],
     upper: [u8; EDGE_PLACES],
 ) -> CaseRead
-    ensures { λ r. ⌜ ((w : List ℤ) → r ≡ caseTaken standard (reading sizes lower upper w) lines .read) ⌝ }
+    ensures { λ r. ⌜ ((w : List ℤ) → r ≡ caseTaken (reading sizes lower upper w) lines .read) ⌝ }
 {
     let answer = FileAnswer::Read { lines };
+    let rulebook = sizes.rulebook;
     let case = Case {
         n: sizes.n,
         d: sizes.d,
         m: sizes.m,
         lower,
         upper,
+        rulebook,
     };
     CaseRead { answer, case }
 }
 
 fn read_body(bytes: &[u8], sizes: Sizes, table: &mut [i64]) -> CaseRead
     requires { ⌜ Limited sizes ⌝ }
-    requires { ⌜ lineBytes ≤ length (now bytes) ⌝ }
+    requires { ⌜ lineBytes (sizes .rulebook) ≤ length (now bytes) ⌝ }
     requires { ⌜ length (now table) ≡ tableOf sizes ⌝ }
     ensures { λ r. ⌜ (r ≡ leftFrom sizes (reading sizes noEnds noEnds (now (table .entry))) 0 (now (bytes .entry)) .read) × (now (table .exit) ≡ leftFrom sizes (reading sizes noEnds noEnds (now (table .entry))) 0 (now (bytes .entry)) .table) ⌝ }
 {
+    let rulebook = sizes.rulebook;
     let mut lower = [0u8; EDGE_PLACES];
     let mut upper = [0u8; EDGE_PLACES];
     let answer = read_lines(bytes, sizes, &mut lower, &mut upper, table);
     match answer {
-        FileAnswer::Refused { refusal, line } => refused(refusal, line),
+        FileAnswer::Refused { refusal, line } => refused(rulebook, refusal, line),
         FileAnswer::Read { lines } => accepted(lines, sizes, lower, upper),
     }
 }
@@ -574,14 +585,14 @@ fn read_body(bytes: &[u8], sizes: Sizes, table: &mut [i64]) -> CaseRead
 // ---- a case alone
 
 // What is asked of the bytes after a case.
-fn check_rest(bytes: &[u8], from: usize) -> Outcome
+fn check_rest(rulebook: Rulebook, bytes: &[u8], from: usize) -> Outcome
     requires { ⌜ from ≤ length (now bytes) ⌝ }
-    ensures { λ r. ⌜ r ≡ outcomeOf (restRefusal standard (drop from (now (bytes .entry)))) ⌝ }
+    ensures { λ r. ⌜ r ≡ outcomeOf (restRefusal (rulesIn rulebook) (drop from (now (bytes .entry)))) ⌝ }
 {
     if from == bytes.len() {
         return Outcome::Done;
     }
-    let read = line_at(bytes, from);
+    let read = line_at(rulebook, bytes, from);
     match read {
         LineRead::Refused(refusal) => Outcome::Refused(refusal),
         LineRead::Read(_) => Outcome::Refused(Refusal::NotDue),
@@ -597,7 +608,7 @@ fn wide(x: u8) -> usize
 }
 
 fn make_line(kind: usize, a: usize, b: usize, c: usize, amount: i64) -> Line
-    requires { ⌜ (kind < 1000) × (a < 1000) × (b < 1000) × (c < 1000) ⌝ }
+    requires { ⌜ (kind < 65536) × (a < 65536) × (b < 65536) × (c < 65536) ⌝ }
     ensures { λ r. ⌜ r ≡ line kind (pos a) (pos b) (pos c) amount ⌝ }
 {
     Line {
@@ -643,12 +654,12 @@ fn line_after<'a>(
 }
 
 // Puts a line that fits its columns at byte `from`.
-fn put_at(out: &mut [u8], from: usize, line: Line)
-    requires { ⌜ (from + lineBytes ≤ length (now out)) × (lineTooWide (standard .amountWidth) line ≡ false) ⌝ }
-    ensures { λ _. ⌜ now (out .exit) ≡ take from (now (out .entry)) ++ (lineText (standard .amountWidth) line ++ drop (from + lineBytes) (now (out .entry))) ⌝ }
+fn put_at(rulebook: Rulebook, out: &mut [u8], from: usize, line: Line)
+    requires { ⌜ (from + lineBytes rulebook ≤ length (now out)) × (lineTooWide (rulesIn rulebook .amountWidth) line ≡ false) ⌝ }
+    ensures { λ _. ⌜ now (out .exit) ≡ take from (now (out .entry)) ++ (lineText (rulesIn rulebook .amountWidth) line ++ drop (from + lineBytes rulebook) (now (out .entry))) ⌝ }
 {
-    let to = from + LINE;
-    lines::write_line(&mut out[from..to], line);
+    let to = from + rules::line_length(rulebook);
+    lines::write_line_in(&mut out[from..to], line, rules::amount_width(rulebook));
 }
 
 fn put_lines<'a>(
@@ -658,17 +669,19 @@ fn put_lines<'a>(
     table: &[i64],
     out: &mut [u8],
 )
-    requires { ⌜ Valid standard (caseWith sizes (now lower) (now upper)) (now table) ⌝ }
-    requires { ⌜ lineBytes * (linesDue sizes + 1) ≤ length (now out) ⌝ }
-    ensures { λ _. ⌜ now (out .exit) ≡ overwritten (caseText standard (caseWith sizes (now (lower .entry)) (now (upper .entry))) (now (table .entry))) (now (out .entry)) ⌝ }
+    requires { ⌜ Valid (rulesIn (sizes .rulebook)) (caseWith sizes (now lower) (now upper)) (now table) ⌝ }
+    requires { ⌜ lineBytes (sizes .rulebook) * (linesDue sizes + 1) ≤ length (now out) ⌝ }
+    ensures { λ _. ⌜ now (out .exit) ≡ overwritten (caseText (rulesIn (sizes .rulebook)) (caseWith sizes (now (lower .entry)) (now (upper .entry))) (now (table .entry))) (now (out .entry)) ⌝ }
 {
+    let rulebook = sizes.rulebook;
+    let long = rules::line_length(rulebook);
     let total = lines_due(sizes);
-    put_at(out, 0, head_line(sizes));
+    put_at(rulebook, out, 0, head_line(sizes));
     let mut q: usize = 0;
     let mut due = first_due(sizes);
     while q < total {
         let line = line_after(sizes, lower, upper, table, due);
-        put_at(out, LINE * (q + 1), line);
+        put_at(rulebook, out, long * (q + 1), line);
         due = next_due(sizes, due);
         q += 1;
     }
@@ -677,29 +690,30 @@ fn put_lines<'a>(
 // The bytes of the whole file.
 fn file_bytes(sizes: Sizes) -> usize
     requires { ⌜ Limited sizes ⌝ }
-    ensures { λ r. ⌜ r ≡ lineBytes * (linesDue sizes + 1) ⌝ }
+    ensures { λ r. ⌜ r ≡ lineBytes (sizes .rulebook) * (linesDue sizes + 1) ⌝ }
 {
-    LINE * (lines_due(sizes) + 1)
+    let rulebook = sizes.rulebook;
+    rules::line_length(rulebook) * (lines_due(sizes) + 1)
 }
 
-// ---- the calls
+// ---- the calls under any rules
 
-pub fn case_size(bytes: &[u8]) -> CaseSize
-    ensures { λ r. ⌜ r ≡ caseSize standard (now (bytes .entry)) ⌝ }
+fn case_size_in(rulebook: Rulebook, bytes: &[u8]) -> CaseSize
+    ensures { λ r. ⌜ r ≡ caseSize rulebook (now (bytes .entry)) ⌝ }
 {
-    let head = line_at(bytes, 0);
+    let head = line_at(rulebook, bytes, 0);
     match head {
         LineRead::Refused(refusal) => CaseSize::Refused(refusal),
-        LineRead::Read(line) => size_of(line),
+        LineRead::Read(line) => size_of(rulebook, line),
     }
 }
 
-pub fn read_case(bytes: &[u8], table: &mut [i64]) -> CaseRead
-    ensures { λ r. ⌜ (r ≡ readCase standard (now (bytes .entry)) (now (table .entry)) .read) × (now (table .exit) ≡ readCase standard (now (bytes .entry)) (now (table .entry)) .table) ⌝ }
+fn read_case_in(rulebook: Rulebook, bytes: &[u8], table: &mut [i64]) -> CaseRead
+    ensures { λ r. ⌜ (r ≡ readCase rulebook (now (bytes .entry)) (now (table .entry)) .read) × (now (table .exit) ≡ readCase rulebook (now (bytes .entry)) (now (table .entry)) .table) ⌝ }
 {
-    let size = case_size(bytes);
+    let size = case_size_in(rulebook, bytes);
     match size {
-        CaseSize::Refused(refusal) => refused(refusal, 0),
+        CaseSize::Refused(refusal) => refused(rulebook, refusal, 0),
         CaseSize::Size {
             n,
             d,
@@ -707,18 +721,18 @@ pub fn read_case(bytes: &[u8], table: &mut [i64]) -> CaseRead
             table: long,
         } => {
             if table.len() != long {
-                return refused(Refusal::WrongLength, 0);
+                return refused(rulebook, Refusal::WrongLength, 0);
             }
-            read_body(bytes, Sizes { n, d, m }, table)
+            let sizes = Sizes { n, d, m, rulebook };
+            read_body(bytes, sizes, table)
         }
     }
 }
 
-// A case with nothing after it.
-pub fn read_case_alone(bytes: &[u8], table: &mut [i64]) -> CaseRead
-    ensures { λ r. ⌜ (r ≡ readCaseAlone standard (now (bytes .entry)) (now (table .entry)) .read) × (now (table .exit) ≡ readCaseAlone standard (now (bytes .entry)) (now (table .entry)) .table) ⌝ }
+fn read_case_alone_in(rulebook: Rulebook, bytes: &[u8], table: &mut [i64]) -> CaseRead
+    ensures { λ r. ⌜ (r ≡ readCaseAlone rulebook (now (bytes .entry)) (now (table .entry)) .read) × (now (table .exit) ≡ readCaseAlone rulebook (now (bytes .entry)) (now (table .entry)) .table) ⌝ }
 {
-    let read = read_case(bytes, table);
+    let read = read_case_in(rulebook, bytes, table);
     let answer = read.answer;
     match answer {
         FileAnswer::Refused {
@@ -726,26 +740,51 @@ pub fn read_case_alone(bytes: &[u8], table: &mut [i64]) -> CaseRead
             line: _,
         } => read,
         FileAnswer::Read { lines } => {
-            let rest = check_rest(bytes, lines * LINE);
+            let rest = check_rest(rulebook, bytes, lines * rules::line_length(rulebook));
             match rest {
                 Outcome::Done => read,
-                Outcome::Refused(refusal) => refused(refusal, lines),
+                Outcome::Refused(refusal) => refused(rulebook, refusal, lines),
             }
         }
     }
 }
 
+// ---- the standard calls
+
+pub fn case_size(bytes: &[u8]) -> CaseSize
+    ensures { λ r. ⌜ r ≡ caseSize Desk (now (bytes .entry)) ⌝ }
+{
+    case_size_in(Rulebook::Desk, bytes)
+}
+
+pub fn read_case(bytes: &[u8], table: &mut [i64]) -> CaseRead
+    ensures { λ r. ⌜ (r ≡ readCase Desk (now (bytes .entry)) (now (table .entry)) .read) × (now (table .exit) ≡ readCase Desk (now (bytes .entry)) (now (table .entry)) .table) ⌝ }
+{
+    read_case_in(Rulebook::Desk, bytes, table)
+}
+
+// A case with nothing after it.
+pub fn read_case_alone(bytes: &[u8], table: &mut [i64]) -> CaseRead
+    ensures { λ r. ⌜ (r ≡ readCaseAlone Desk (now (bytes .entry)) (now (table .entry)) .read) × (now (table .exit) ≡ readCaseAlone Desk (now (bytes .entry)) (now (table .entry)) .table) ⌝ }
+{
+    read_case_alone_in(Rulebook::Desk, bytes, table)
+}
+
+// ---- writing a case
+
 // Writes the case and its starting weights at out's first bytes.
 pub fn write_case(case: Case, table: &[i64], out: &mut [u8]) -> Written
-    ensures { λ r. ⌜ (r ≡ writeCaseCall standard case (now (table .entry)) (now (out .entry)) .answer) × (now (out .exit) ≡ writeCaseCall standard case (now (table .entry)) (now (out .entry)) .out) ⌝ }
+    ensures { λ r. ⌜ (r ≡ writeCaseCall (rulesOf case) case (now (table .entry)) (now (out .entry)) .answer) × (now (out .exit) ≡ writeCaseCall (rulesOf case) case (now (table .entry)) (now (out .entry)) .out) ⌝ }
 {
     if !tables::within_limits(case) {
         return Written::Refused(Refusal::OutsideLimits);
     }
+    let rulebook = case.rulebook;
     let sizes = Sizes {
         n: case.n,
         d: case.d,
         m: case.m,
+        rulebook,
     };
     let bytes = file_bytes(sizes);
     let short = out.len() < bytes;

@@ -9,8 +9,10 @@
 use definitions::Case;
 use definitions::CaseRead;
 use definitions::CaseSize;
+use definitions::EDGE_PLACES;
 use definitions::FileAnswer;
 use definitions::Line;
+use definitions::Rulebook;
 use definitions::Written;
 ghost use Prim.Native.Nat.{_<_};
 
@@ -127,8 +129,8 @@ fn byte(z: i64) -> u8 {
 }
 
 fn two(n: usize, m: usize, line: Line) -> Case {
-    let mut lower = [0u8; 96];
-    let mut upper = [0u8; 96];
+    let mut lower = [0u8; EDGE_PLACES];
+    let mut upper = [0u8; EDGE_PLACES];
     lower[0] = byte(line.kind);
     upper[0] = byte(line.a);
     lower[1] = byte(line.b);
@@ -139,6 +141,7 @@ fn two(n: usize, m: usize, line: Line) -> Case {
         m: m,
         lower: lower,
         upper: upper,
+        rulebook: Rulebook::Desk,
     }
 }
 
@@ -213,8 +216,8 @@ fn fill(table: &mut [i64]) {
 
 // Links 0 to 3 joined to links 4 to 27.
 fn full() -> Case {
-    let mut lower = [0u8; 96];
-    let mut upper = [0u8; 96];
+    let mut lower = [0u8; EDGE_PLACES];
+    let mut upper = [0u8; EDGE_PLACES];
     let mut e: usize = 0;
     while e < 96 {
         lower[e] = (e / 24) as u8;
@@ -227,6 +230,7 @@ fn full() -> Case {
         m: 96,
         lower: lower,
         upper: upper,
+        rulebook: Rulebook::Desk,
     }
 }
 

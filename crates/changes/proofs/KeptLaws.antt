@@ -19,7 +19,7 @@ use Rattle.definitions.specs.declared.Case.{Case}
 use Rattle.definitions.specs.declared.Outcome.{Outcome}
 use Rattle.definitions.specs.declared.Refusal.{Refusal}
 use Rattle.definitions.specs.declared.Refusal.the-variants.{OutsideLimits, WrongLength, OutOfRange, LeavesRange}
-use Rattle.definitions.specs.Rules.{Rules, standard}
+use Rattle.definitions.specs.Rules.{Rules, rulesOf}
 use Rattle.definitions.specs.Refusals.{Test, _when_, firstOf}
 use Rattle.definitions.specs.Answers.{outcomeOf, unlessRefused}
 use Rattle.definitions.specs.Case.{scopeCount, eachTuple, ownLength, lentLength, weight, greatest}
@@ -107,12 +107,12 @@ module _ (f : ℕ → ℤ) (best : List ℤ) (a b s : ℕ) (room : s ≤ length 
 -- ---- a call, by what was asked
 module _ (c : Case) (w best : List ℤ) (m : Change) (wrong out : Bool) where
   abbrev pub call : KeptCall
-  call = keptCall c w best m (firstOf (keptTests standard c w m wrong out))
+  call = keptCall c w best m (firstOf (keptTests (rulesOf c) c w m wrong out))
 
-  pub outside : withinLimits standard (c .n) (c .d) (c .m) ≡ false → Gives call (Outcome.Refused OutsideLimits) w best
+  pub outside : withinLimits (rulesOf c) (c .n) (c .d) (c .m) ≡ false → Gives call (Outcome.Refused OutsideLimits) w best
   outside e = (rw e, rw e, rw e)
 
-  module _ (e : withinLimits standard (c .n) (c .d) (c .m) ≡ true) where
+  module _ (e : withinLimits (rulesOf c) (c .n) (c .d) (c .m) ≡ true) where
     pub wrong-length : (not (eqb (length w) (lentLength c)) || wrong) ≡ true → Gives call (Outcome.Refused WrongLength) w best
     wrong-length d = (rw (e, d), rw (e, d), rw (e, d))
 
@@ -120,10 +120,10 @@ module _ (c : Case) (w best : List ℤ) (m : Change) (wrong out : Bool) where
       pub out-of-range : out ≡ true → Gives call (Outcome.Refused OutOfRange) w best
       out-of-range f = (rw (e, d, f), rw (e, d, f), rw (e, d, f))
 
-      pub in-order : out ≡ false → firstOf (keptTests standard c w m wrong out) ≡ firstOf (LeavesRange when (not (staysWorking standard c w m)) ∷ [])
+      pub in-order : out ≡ false → firstOf (keptTests (rulesOf c) c w m wrong out) ≡ firstOf (LeavesRange when (not (staysWorking (rulesOf c) c w m)) ∷ [])
       in-order f = rw (e, d, f)
 
-      pub kept-next : out ≡ false → {o : Outcome} {t b : List ℤ} → KeptIs c w best m (staysWorking standard c w m) o t b → Gives call o t b
+      pub kept-next : out ≡ false → {o : Outcome} {t b : List ℤ} → KeptIs c w best m (staysWorking (rulesOf c) c w m) o t b → Gives call o t b
       kept-next f (p, q, s) = let g = in-order f in (
         p ∙ ap outcomeOf (sym g),
         q ∙ ap (λ x. unlessRefused x (plus c (m .adds) w) w) (sym g),
@@ -173,27 +173,27 @@ module _ (c : Case) (w best : List ℤ) (m : Change) (b : Bool) where
   kept-made e p q = (rw e, rw e p, rw e q)
 
 -- ---- the call on a case and a table that were checked, where `best` holds the greatest weights
-module _ {c : Case} {w best : List ℤ} (h : Handed standard (workingWeight standard) c w) (b : BestOf c w best) (m : Change)
+module _ {c : Case} {w best : List ℤ} (h : Handed (rulesOf c) (workingWeight (rulesOf c)) c w) (b : BestOf c w best) (m : Change)
     (still : (x k l : ℕ) → IsTuple c x k l → T (not (m .touches x k l)) → m .adds x k l ≡ pos 0)
     (off : (x k l : ℕ) → IsTuple c x k l → T (not (m .inScope x)) → m .adds x k l ≡ pos 0)
     (δ : Difference) (same : (x k l : ℕ) → IsTuple c x k l → m .adds x k l ≡ δ x k l) (wrong out : Bool) (right : wrong ≡ false) (inside : out ≡ false) where
   abbrev leaves : Option Refusal
-  leaves = firstOf (LeavesRange when (leavesRange standard c (plus c δ w)) ∷ [])
+  leaves = firstOf (LeavesRange when (leavesRange (rulesOf c) c (plus c δ w)) ∷ [])
 
-  pub left-to-ask : firstOf (keptTests standard c w m wrong out) ≡ firstOf (LeavesRange when (leavesRange standard c (plus c δ w)) ∷ [])
+  pub left-to-ask : firstOf (keptTests (rulesOf c) c w m wrong out) ≡ firstOf (LeavesRange when (leavesRange (rulesOf c) c (plus c δ w)) ∷ [])
   left-to-ask =
       in-order c w best m wrong out (limits-true h) (rw (eq-eqb (length w) (lentLength c) (h .long), right)) inside
       ∙ ap (λ (b : Bool). firstOf (LeavesRange when (not b) ∷ []))
-      (stays-all standard c w m (omega (arith, h .long)) (h .in-range) still ∙ ap (allWeights (workingWeight standard) c) (plus-cong c (m .adds) w δ same))
+      (stays-all (rulesOf c) c w m (omega (arith, h .long)) (h .in-range) still ∙ ap (allWeights (workingWeight (rulesOf c)) c) (plus-cong c (m .adds) w δ same))
 
-  pub call-answer : call c w best m wrong out .answer ≡ outcomeOf (firstOf (LeavesRange when (leavesRange standard c (plus c δ w)) ∷ []))
+  pub call-answer : call c w best m wrong out .answer ≡ outcomeOf (firstOf (LeavesRange when (leavesRange (rulesOf c) c (plus c δ w)) ∷ []))
   call-answer = ap outcomeOf left-to-ask
 
-  pub call-table : call c w best m wrong out .table ≡ unlessRefused (firstOf (LeavesRange when (leavesRange standard c (plus c δ w)) ∷ [])) (plus c δ w) w
+  pub call-table : call c w best m wrong out .table ≡ unlessRefused (firstOf (LeavesRange when (leavesRange (rulesOf c) c (plus c δ w)) ∷ [])) (plus c δ w) w
   call-table = ap₂ (λ (o : Option Refusal) (t : List ℤ). unlessRefused o t w) left-to-ask (plus-cong c (m .adds) w δ same)
 
   pub call-best : BestOf c (call c w best m wrong out .table) (call c w best m wrong out .best)
-  call-best = go (firstOf (keptTests standard c w m wrong out))
+  call-best = go (firstOf (keptTests (rulesOf c) c w m wrong out))
     where
       go : (o : Option Refusal) → BestOf c (unlessRefused o (plus c (m .adds) w) w) (unlessRefused o (bestAfter c w best m) best)
       go none = best-kept c w best m b off

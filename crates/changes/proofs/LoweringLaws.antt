@@ -10,13 +10,13 @@ use lib.Dec.{T, eqb, ltb, eqb→eq, ltb→lt, lt→ltb}
 use lib.ListN.{length, getD, set, length-set}
 use lib.Seq.{getD-set-same, getD-set-other}
 use borrow.Author.Tests.{eq-eqb, lt-ltb, le-ltb}
-use Rattle.integers.specs.Words.{if_then_else_, greatestOf, eqZ, withinZ, minus}
+use Rattle.integers.specs.Words.{if_then_else_, greatestOf, eqZ}
 use Rattle.integers.specs.Tests.{either, is-true, is-false, same-test, imp-intro, imp-elim, not-or-iff, false-is, not-not-iff, not-eqb-iff}
 use Rattle.integers.specs.Lists.{all-at, all-of}
 use Rattle.integers.specs.Linear.{zs, flat, _▸_}
 use Rattle.definitions.specs.declared.Case.{Case}
 use Rattle.definitions.specs.declared.Refusal.the-variants.{LeavesRange}
-use Rattle.definitions.specs.Rules.{standard}
+use Rattle.definitions.specs.Rules.{Rules, rulesOf}
 use Rattle.definitions.specs.Refusals.{_when_, firstOf}
 use Rattle.definitions.specs.Answers.{outcomeOf, unlessRefused}
 use Rattle.definitions.specs.Case.{scopeCount, ownLength, lentLength, weight, greatest}
@@ -26,28 +26,29 @@ use Rattle.theory.proofs.Places.{IsTuple, each-cong, weight-plus, plus-length, 
 use Rattle.theory.proofs.Validity.{Handed}
 use Rattle.tables.specs.Scopes.{partOf, bestAt, BestOf}
 use Rattle.tables.proofs.Best.{over-is}
+use Rattle.changes.specs.Spaced.{amountWithin}
 use Rattle.changes.specs.Scopes.{Amounts, scopeBy, topOf, restOf, isTouched, scopeLets, loweringLets}
 use Rattle.changes.specs.Kept.{isRaised, isBest, Change, loweringChange, staysWorking, bestAfter, loweringOut, lowerAndRaiseCall}
 use Rattle.changes.proofs.ScopeLaws.{part-stays-iff, same-weight, same-part}
 use Rattle.changes.proofs.KeptLaws.{stays-iff, call-answer, call-table, call-best}
 
 -- ---- amounts
-pub lowering-amounts : (i x mark : ℕ) (a : ℤ) → T (pressAmount standard a) → Amounts standard (topOf i a x) (restOf mark a)
-lowering-amounts i x mark a t = record { top-within = top (eqb x i); rest-within = rest (not (eqb mark 0)) }
+pub lowering-amounts : (r : Rules) (i x mark : ℕ) (a : ℤ) → T (pressAmount r a) → Amounts r (topOf i a x) (restOf mark a)
+lowering-amounts r i x mark a t = record { top-within = top (eqb x i); rest-within = rest (not (eqb mark 0)) }
   where
-    top : (b : Bool) → T (withinZ (minus 1_000_000_000) (pos 1_000_000_000) (onlyWhere b (negℤ a)))
+    top : (b : Bool) → T (amountWithin r (onlyWhere b (negℤ a)))
     top true = t ▸ simp flat (omega zs)
-    top false = tt
+    top false = t ▸ simp flat (omega zs)
 
-    rest : (b : Bool) → T (withinZ (minus 1_000_000_000) (pos 1_000_000_000) (onlyWhere b a))
+    rest : (b : Bool) → T (amountWithin r (onlyWhere b a))
     rest true = t ▸ simp flat (omega zs)
-    rest false = tt
+    rest false = t ▸ simp flat (omega zs)
 
 -- arguments that are not out
-pub lowering-in : (c : Case) (i : ℕ) (a : ℤ) → loweringOut standard c i a ≡ false → (i < c .n) × T (pressAmount standard a)
+pub lowering-in : (c : Case) (i : ℕ) (a : ℤ) → loweringOut (rulesOf c) c i a ≡ false → (i < c .n) × T (pressAmount (rulesOf c) a)
 lowering-in c i a e =
-    let (s, t) = not-or-iff (not (ltb i (c .n))) (not (pressAmount standard a)) .0 (false-is _ e) in
-    (ltb→lt i (c .n) (not-not-iff (ltb i (c .n)) .0 s), not-not-iff (pressAmount standard a) .0 t)
+    let (s, t) = not-or-iff (not (ltb i (c .n))) (not (pressAmount (rulesOf c) a)) .0 (false-is _ e) in
+    (ltb→lt i (c .n) (not-not-iff (ltb i (c .n)) .0 s), not-not-iff (pressAmount (rulesOf c) a) .0 t)
 
 -- ---- tests
 split : (e b r : Bool) (a : ℤ) → onlyWhere (e && b) (negℤ a) +ℤ onlyWhere (r && not b) a ≡ (if b then onlyWhere e (negℤ a) else onlyWhere r a)
@@ -104,15 +105,15 @@ module _ (c : Case) (w best : List ℤ) (raised : List ℕ) (i : ℕ) (a : ℤ) 
   pub lowering-still : (x k l : ℕ) → T (not (eqb x i || isRaised raised x)) → δ x k l ≡ pos 0
   lowering-still x k l t = let (s, u) = not-or-iff (eqb x i) (isRaised raised x) .0 t in rw (is-false (eqb x i) s, is-false (isRaised raised x) u)
 
-  pub lets-is : length w ≡ ownLength c → loweringLets standard c w best raised i a ≡ staysWorking standard c w (loweringChange c w best raised i a)
-  lets-is long = same-test (loweringLets standard c w best raised i a) (staysWorking standard c w m)
-      (λ s. stays-iff standard c w m .1 (λ x k l t u.
-      let p = imp-elim (isTouched i x (getD raised x 0)) _ (all-at (λ x. scopeLets standard c w x (bestAt best x) (getD raised x 0) i a) (scopeCount c) s x (t .scope)) u in
-      subst (λ (z : ℤ). T (workingWeight standard (weight c w x k l +ℤ z))) (sym (added-at x k l t))
-      (part-stays-iff c w long x (t .scope) (bestAt best x) (topOf i a x) (restOf (getD raised x 0) a) standard .0 p k l t)))
-      (λ s. all-of (λ x. scopeLets standard c w x (bestAt best x) (getD raised x 0) i a) (scopeCount c) (λ x h. imp-intro (isTouched i x (getD raised x 0)) _ (λ u.
-      part-stays-iff c w long x h (bestAt best x) (topOf i a x) (restOf (getD raised x 0) a) standard .1 (λ k l t.
-      subst (λ (z : ℤ). T (workingWeight standard (weight c w x k l +ℤ z))) (added-at x k l t) (stays-iff standard c w m .0 s x k l t u)))))
+  pub lets-is : length w ≡ ownLength c → loweringLets (rulesOf c) c w best raised i a ≡ staysWorking (rulesOf c) c w (loweringChange c w best raised i a)
+  lets-is long = same-test (loweringLets (rulesOf c) c w best raised i a) (staysWorking (rulesOf c) c w m)
+      (λ s. stays-iff (rulesOf c) c w m .1 (λ x k l t u.
+      let p = imp-elim (isTouched i x (getD raised x 0)) _ (all-at (λ x. scopeLets (rulesOf c) c w x (bestAt best x) (getD raised x 0) i a) (scopeCount c) s x (t .scope)) u in
+      subst (λ (z : ℤ). T (workingWeight (rulesOf c) (weight c w x k l +ℤ z))) (sym (added-at x k l t))
+      (part-stays-iff c w long x (t .scope) (bestAt best x) (topOf i a x) (restOf (getD raised x 0) a) (rulesOf c) .0 p k l t)))
+      (λ s. all-of (λ x. scopeLets (rulesOf c) c w x (bestAt best x) (getD raised x 0) i a) (scopeCount c) (λ x h. imp-intro (isTouched i x (getD raised x 0)) _ (λ u.
+      part-stays-iff c w long x h (bestAt best x) (topOf i a x) (restOf (getD raised x 0) a) (rulesOf c) .1 (λ k l t.
+      subst (λ (z : ℤ). T (workingWeight (rulesOf c) (weight c w x k l +ℤ z))) (added-at x k l t) (stays-iff (rulesOf c) c w m .0 s x k l t u)))))
 
   -- ---- one scope after the other
   pub lowering-none : length w ≡ ownLength c → plus c (upTo 0 δ) w ≡ w
@@ -176,11 +177,11 @@ module _ (c : Case) (w best : List ℤ) (raised : List ℕ) (i : ℕ) (a : ℤ) 
     lowered-long = ap length (p .table-is) ∙ plus-length c (upTo x (loweringChange c w best raised i a .adds)) w (omega arith) ∙ long
 
     module _ (h : x < scopeCount c) where
-      pub lowered-lets : T (loweringLets standard c w best raised i a) → T (scopeLets standard c t x (bestAt b x) (getD raised x 0) i a)
+      pub lowered-lets : T (loweringLets (rulesOf c) c w best raised i a) → T (scopeLets (rulesOf c) c t x (bestAt b x) (getD raised x 0) i a)
       lowered-lets s =
           let e : partOf c t x ≡ partOf c w x = ap (λ (t : List ℤ). partOf c t x) (p .table-is)
           ∙ same-part c (upTo x (loweringChange c w best raised i a .adds)) w x h (nothing-yet c w best raised i a variable x h) long in
-          rw (e, p .due x (omega arith)) (all-at (λ x. scopeLets standard c w x (bestAt best x) (getD raised x 0) i a) (scopeCount c) s x h)
+          rw (e, p .due x (omega arith)) (all-at (λ x. scopeLets (rulesOf c) c w x (bestAt best x) (getD raised x 0) i a) (scopeCount c) s x h)
 
       pub lowered-next : {t′ b′ : List ℤ} → t′ ≡ plus c (scopeBy c t x (bestAt b x) (topOf i a x) (restOf (getD raised x 0) a)) t
           → b′ ≡ set b x (if isTouched i x (getD raised x 0) then greatest c t′ x else bestAt b x) → Lowered c w best raised i a (x + 1) t′ b′
@@ -208,21 +209,21 @@ lowering-same {c} {w} {best} b raised i a variable x k l t =
     ap₂ (λ (p q : Bool). onlyWhere (eqb x i && p) (negℤ a) +ℤ onlyWhere (isRaised raised x && not q) a)
     (ap (eqZ (weight c w i k 0)) (b .holds i (omega arith))) (ap (eqZ (weight c w x k l)) (b .holds x (t .scope)))
 
-module _ {c : Case} {w best : List ℤ} (h : Handed standard (workingWeight standard) c w) (b : BestOf c w best) (raised : List ℕ) (i : ℕ) (a : ℤ)
-    (room : scopeCount c ≤ length raised) (variable : i < c .n) (amount : T (pressAmount standard a)) where
+module _ {c : Case} {w best : List ℤ} (h : Handed (rulesOf c) (workingWeight (rulesOf c)) c w) (b : BestOf c w best) (raised : List ℕ) (i : ℕ) (a : ℤ)
+    (room : scopeCount c ≤ length raised) (variable : i < c .n) (amount : T (pressAmount (rulesOf c) a)) where
   pub lower-and-raise-is-press :
-      (lowerAndRaiseCall standard c w best raised i a .answer
-      ≡ outcomeOf (firstOf (LeavesRange when (leavesRange standard c (plus c (pressBy c w i (activeValues c w i) (isRaised raised) a) w)) ∷ [])))
-      × (lowerAndRaiseCall standard c w best raised i a .table
-      ≡ unlessRefused (firstOf (LeavesRange when (leavesRange standard c (plus c (pressBy c w i (activeValues c w i) (isRaised raised) a) w)) ∷ [])) (plus c (pressBy c w i (activeValues c w i) (isRaised raised) a) w) w)
-      × BestOf c (lowerAndRaiseCall standard c w best raised i a .table) (lowerAndRaiseCall standard c w best raised i a .best)
+      (lowerAndRaiseCall (rulesOf c) c w best raised i a .answer
+      ≡ outcomeOf (firstOf (LeavesRange when (leavesRange (rulesOf c) c (plus c (pressBy c w i (activeValues c w i) (isRaised raised) a) w)) ∷ [])))
+      × (lowerAndRaiseCall (rulesOf c) c w best raised i a .table
+      ≡ unlessRefused (firstOf (LeavesRange when (leavesRange (rulesOf c) c (plus c (pressBy c w i (activeValues c w i) (isRaised raised) a) w)) ∷ [])) (plus c (pressBy c w i (activeValues c w i) (isRaised raised) a) w) w)
+      × BestOf c (lowerAndRaiseCall (rulesOf c) c w best raised i a .table) (lowerAndRaiseCall (rulesOf c) c w best raised i a .best)
   unfolding lowerAndRaiseCall
   lower-and-raise-is-press =
       let m = loweringChange c w best raised i a in
       let wrong = ltb (length best) (scopeCount c) || ltb (length raised) (scopeCount c) in
-      let out = loweringOut standard c i a in
+      let out = loweringOut (rulesOf c) c i a in
       let n : wrong ≡ false = rw (le-ltb (length best) (scopeCount c) (b .enough), le-ltb (length raised) (scopeCount c) room) in
-      let o : out ≡ false = rw (lt-ltb i (c .n) variable, is-true (pressAmount standard a) amount) in
+      let o : out ≡ false = rw (lt-ltb i (c .n) variable, is-true (pressAmount (rulesOf c) a) amount) in
       let still = lowering-still c w best raised i a variable in
       let same = lowering-same b raised i a variable in (
         call-answer h b m (λ x k l t. still x k l) (λ x k l t. still x k l) (pressBy c w i (activeValues c w i) (isRaised raised) a) same wrong out n o,

@@ -14,21 +14,26 @@ use borrow.Author.Tests.{eq-eqb}
 use Rattle.integers.specs.Words.{if_then_else_, greatestOf, eqZ}
 use Rattle.integers.specs.Tests.{either, is-false, if-true, if-false, not-eqb-iff}
 use Rattle.integers.specs.Lists.{_∈_, all-in}
-use Rattle.integers.specs.Tables.{getD-map}
+use Rattle.integers.specs.Tables.{getD-map, all-getD}
 use Rattle.definitions.specs.declared.Case.{Case}
-use Rattle.definitions.specs.Rules.{Rules}
+use Rattle.definitions.specs.Rules.{Rules, Coherent}
 use Rattle.definitions.specs.Case.{scopeCount, isVariable, place, ownLength, weight, greatest}
 use Rattle.definitions.specs.Valid.{workingWeight}
 use Rattle.definitions.specs.Moves.{Difference, plus, onlyWhere}
 use Rattle.theory.proofs.Places.{IsTuple, by-scope, by-tuple, variable-tuple, edge-tuple, variable-is, edge-is, place-variable, place-edge, place-apart, tuple-in, in-tuples, each-cong, weight-plus, plus-length, plus-is}
 use Rattle.tables.specs.Scopes.{sizeOf, partOf}
 use Rattle.tables.proofs.Parts.{part-own, scope-part}
-use Rattle.changes.specs.Scopes.{changed, partStays, scopeBy}
+use Rattle.changes.specs.Scopes.{changed, partStays, ChangedFit, scopeBy}
+use Rattle.changes.proofs.SpacedLaws.{working-fits}
 
 -- a list with these elements
 pub map-is : (f : ℤ → ℤ) (w u : List ℤ) → length u ≡ length w → ((k : ℕ) → k < length w → getD u k (pos 0) ≡ f (getD w k (pos 0))) → u ≡ map f w
 map-is f w u long at =
     ext-getD (pos 0) u (map f w) (long ∙ sym (length-map w f)) (λ k h. at k (omega arith) ∙ sym (getD-map f w k (pos 0) (pos 0) (omega arith)))
+
+-- weights that stay working fit a machine word
+pub part-fits : {r : Rules} → Coherent r → (best top rest : ℤ) (part : List ℤ) → T (partStays r best top rest part) → ChangedFit best top rest part
+part-fits {r} limits best top rest part t k h = working-fits limits _ (all-getD (λ z. workingWeight r (changed best top rest z)) part (pos 0) .0 t k h)
 
 -- ---- a part in the middle of a list, mapped
 module _ (f : ℤ → ℤ) (w : List ℤ) (a n : ℕ) (fits : a + n ≤ length w) where

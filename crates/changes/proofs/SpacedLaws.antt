@@ -16,44 +16,48 @@ use mir.Facts.{toZ-ofZ}
 use Rattle.integers.specs.Words.{if_then_else_, withinZ, minus}
 use Rattle.integers.specs.Tests.{either, same-test, not-eqb-iff}
 use Rattle.integers.specs.Linear.{zs, flat, _▸_}
-use Rattle.integers.specs.Lists.{all-same}
-use Rattle.definitions.specs.Rules.{standard}
+use Rattle.integers.specs.Lists.{all-same, all-at}
+use Rattle.definitions.specs.Rules.{Rules, Coherent}
+use Rattle.definitions.proofs.RulesLaws.{fits}
 use Rattle.definitions.specs.Valid.{workingWeight}
 use Rattle.definitions.specs.Moves.{pressAmount}
 use Rattle.changes.specs.Scopes.{Amounts}
-use Rattle.changes.specs.Spaced.{weightAt, Inside, spacedStay, spacedAdd}
+use Rattle.changes.specs.Spaced.{amountWithin, weightAt, Inside, SumsFit, spacedStay, spacedAdd}
 
-pub working-fits : (z : ℤ) → T (workingWeight standard z) → SFits w64 z
-working-fits z = simp flat (omega zs)
+-- what coherent rules say in machine words
+module _ {r : Rules} (limits : Coherent r) where
+  pub working-fits : (z : ℤ) → T (workingWeight r z) → SFits w64 z
+  working-fits z t = t ▸ fits limits .working ▸ simp flat (omega zs)
 
--- a range moved by an amount
-module _ (z by : ℤ) (h : T (withinZ (minus 1_000_000_000) (pos 1_000_000_000) by)) where
-  pub low-fits : SFits w64 (minus 500_000_000 -ℤ by)
-  low-fits = h ▸ simp flat (omega zs)
+  pub press-back : (a : ℤ) → T (pressAmount r a) → SFits w64 (pos 0 -ℤ a)
+  press-back a t = t ▸ fits limits .moving ▸ simp flat (omega zs)
 
-  pub high-fits : SFits w64 (pos 500_000_000 -ℤ by)
-  high-fits = h ▸ simp flat (omega zs)
+  module _ (by : ℤ) (h : T (amountWithin r by)) where
+    pub back-fits : SFits w64 (pos 0 -ℤ by)
+    back-fits = h ▸ fits limits .moving ▸ simp flat (omega zs)
 
-  pub range-moved : withinZ (minus 500_000_000 -ℤ by) (pos 500_000_000 -ℤ by) z ≡ workingWeight standard (z +ℤ by)
-  range-moved = same-test (withinZ (minus 500_000_000 -ℤ by) (pos 500_000_000 -ℤ by) z) (workingWeight standard (z +ℤ by))
+    pub low-fits : SFits w64 (minus (r .working) -ℤ by)
+    low-fits = h ▸ fits limits .working ▸ fits limits .moving ▸ simp flat (omega zs)
+
+    pub high-fits : SFits w64 (pos (r .working) -ℤ by)
+    high-fits = h ▸ fits limits .working ▸ fits limits .moving ▸ simp flat (omega zs)
+
+-- the code's 0 − by
+pub back-is : (by : ℤ) → SFits w64 by → SFits w64 (pos 0 -ℤ by) → toZ w64 (ofZ w64 (pos 0 -ℤ toZ w64 (ofZ w64 by))) ≡ negℤ by
+back-is by f b = rw (toZ-ofZ f) (toZ-ofZ b ∙ +ℤ-idl (negℤ by))
+
+module _ (r : Rules) where
+  -- a range moved by an amount
+  pub range-moved : (z by : ℤ) → withinZ (minus (r .working) -ℤ by) (pos (r .working) -ℤ by) z ≡ workingWeight r (z +ℤ by)
+  range-moved z by = same-test (withinZ (minus (r .working) -ℤ by) (pos (r .working) -ℤ by) z) (workingWeight r (z +ℤ by))
       (λ t. t ▸ simp flat (omega zs)) (λ t. t ▸ simp flat (omega zs))
 
-pub added-within : (b : Bool) (z top rest : ℤ) → z ≡ (if b then top else rest) → Amounts standard top rest → T (withinZ (minus 1_000_000_000) (pos 1_000_000_000) z)
-added-within true z top rest e h = rw e (h .top-within)
-added-within false z top rest e h = rw e (h .rest-within)
+  pub added-within : (b : Bool) (z top rest : ℤ) → z ≡ (if b then top else rest) → Amounts r top rest → T (amountWithin r z)
+  added-within true z top rest e h = rw e (h .top-within)
+  added-within false z top rest e h = rw e (h .rest-within)
 
-pub press-moves : (a : ℤ) → T (pressAmount standard a) → T (withinZ (minus 1_000_000_000) (pos 1_000_000_000) a)
-press-moves a t = t ▸ simp flat (omega zs)
-
-pub back-within : (a : ℤ) → T (withinZ (minus 1_000_000_000) (pos 1_000_000_000) a) → T (withinZ (minus 1_000_000_000) (pos 1_000_000_000) (negℤ a))
-back-within a = simp flat (omega zs)
-
-pub back-fits : (a : ℤ) → T (withinZ (minus 1_000_000_000) (pos 1_000_000_000) a) → SFits w64 (pos 0 -ℤ a)
-back-fits a = simp flat (omega zs)
-
--- the code's 0 − a
-pub back-is : (a : ℤ) → SFits w64 a → T (withinZ (minus 1_000_000_000) (pos 1_000_000_000) a) → toZ w64 (ofZ w64 (pos 0 -ℤ toZ w64 (ofZ w64 a))) ≡ negℤ a
-back-is a f t = rw (toZ-ofZ f) (toZ-ofZ (back-fits a t) ∙ +ℤ-idl (negℤ a))
+  pub back-within : (a : ℤ) → T (amountWithin r a) → T (amountWithin r (negℤ a))
+  back-within a = simp flat (omega zs)
 
 -- places of different numbers differ
 pub spaced-apart : (start step i j : ℕ) → 0 < step → i < j → start + i * step ≡ start + j * step → ⊥
@@ -90,10 +94,14 @@ module _ (w : List ℤ) (start step : ℕ) (by : ℤ) where
 pub one-place : (own i : ℕ) → i < 1 → own + i * 1 ≡ own
 one-place own i h = omega arith
 
+-- weights that stay working fit a machine word
+pub stay-fits : {r : Rules} → Coherent r → (w : List ℤ) (start step count : ℕ) (by : ℤ) → T (spacedStay r w start step count by) → SumsFit w start step count by
+stay-fits {r} limits w start step count by t j h = working-fits limits _ (all-at (λ j. workingWeight r (weightAt w (start + j * step) +ℤ by)) count t j h)
+
 -- after something is added at a place apart from them
 module _ (w : List ℤ) (own start step count : ℕ) (a : ℤ) (apart : (j : ℕ) → j < count → start + j * step ≡ own → ⊥) where
   pub inside-kept : Inside w start step count → Inside (spacedAdd w own 1 1 a) start step count
   inside-kept s j h = omega (arith, s j h, spaced-long w own 1 a 1)
 
-  pub stay-kept : (by : ℤ) → spacedStay standard (spacedAdd w own 1 1 a) start step count by ≡ spacedStay standard w start step count by
-  stay-kept by = all-same count (λ j h. ap (λ (z : ℤ). workingWeight standard (z +ℤ by)) (spaced-miss w own 1 a 1 (start + j * step) (λ i u e. apart j h (e ∙ one-place own i u))))
+  pub stay-kept : (r : Rules) (by : ℤ) → spacedStay r (spacedAdd w own 1 1 a) start step count by ≡ spacedStay r w start step count by
+  stay-kept r by = all-same count (λ j h. ap (λ (z : ℤ). workingWeight r (z +ℤ by)) (spaced-miss w own 1 a 1 (start + j * step) (λ i u e. apart j h (e ∙ one-place own i u))))

@@ -11,12 +11,12 @@ use lib.Dec.{T, T-not, eqb, ltb, eqb→eq}
 use lib.Signed.{leZ}
 use lib.ListN.{length, set}
 use borrow.Author.Tests.{eq-eqb, ne-eqb, lt-ltb, le-ltb}
-use Rattle.integers.specs.Words.{if_then_else_, withinZ, minus}
+use Rattle.integers.specs.Words.{if_then_else_, minus}
 use Rattle.integers.specs.Tests.{either, is-true, is-false, false-is, and-intro, and-left, and-right, or-left, or-right, not-or-iff, same-test, eqb-iff, tests}
 use Rattle.integers.specs.Lists.{all-at, all-of}
 use Rattle.definitions.specs.declared.Case.{Case}
 use Rattle.definitions.specs.declared.Refusal.the-variants.{LeavesRange}
-use Rattle.definitions.specs.Rules.{Rules, standard}
+use Rattle.definitions.specs.Rules.{Rules, rulesOf}
 use Rattle.definitions.specs.Refusals.{_when_, firstOf}
 use Rattle.definitions.specs.Answers.{outcomeOf, unlessRefused}
 use Rattle.definitions.specs.Case.{scopeCount, lowerEnd, upperEnd, place, ownLength, lentLength, weight, greatest}
@@ -28,7 +28,7 @@ use Rattle.theory.proofs.Places.{IsTuple, by-tuple, variable-tuple, edge-tuple,
 use Rattle.theory.proofs.Shape.{Shape}
 use Rattle.theory.proofs.Validity.{Handed}
 use Rattle.tables.specs.Scopes.{BestOf}
-use Rattle.changes.specs.Spaced.{weightAt, Inside, spacedStay, spacedAdd, transferStays, transferred}
+use Rattle.changes.specs.Spaced.{amountWithin, weightAt, Inside, spacedStay, spacedAdd, transferStays, transferred}
 use Rattle.changes.specs.Kept.{Change, transferChange, staysWorking, bestAfter, transferCall}
 use Rattle.changes.proofs.SpacedLaws.{spaced-long, spaced-miss, spaced-hit, one-place}
 use Rattle.changes.proofs.KeptLaws.{stays-iff, two-kept, call-answer, call-table, call-best}
@@ -264,12 +264,12 @@ module _ (c : Case) (w : List ℤ) (long : length w ≡ lentLength c) (e end v o
   pub transfer-separate : (j : ℕ) → j < c .d → start + j * step ≡ own → ⊥
   transfer-separate = own-apart c e end v own start step a edge value p
 
-  pub transfer-is : transferStays standard w own start step (c .d) a ≡ staysWorking standard c w (transferChange c e end v a)
-  transfer-is = transfer-stays standard c w (transferChange c e end v a) own start step a (transfer-touched c e end v own start step a edge value p) (p .spread)
+  pub transfer-is : transferStays (rulesOf c) w own start step (c .d) a ≡ staysWorking (rulesOf c) c w (transferChange c e end v a)
+  transfer-is = transfer-stays (rulesOf c) c w (transferChange c e end v a) own start step a (transfer-touched c e end v own start step a edge value p) (p .spread)
       (own-apart c e end v own start step a edge value p) long (own-in c e end v own start step a edge value p) (used-in c e end v own start step a edge value p)
 
   pub transfer-made : transferred w own start step (c .d) a ≡ plus c (shiftBy c e end v a) w
-  transfer-made = sym (transferred-is standard c w (transferChange c e end v a) own start step a (transfer-touched c e end v own start step a edge value p) (p .spread)
+  transfer-made = sym (transferred-is (rulesOf c) c w (transferChange c e end v a) own start step a (transfer-touched c e end v own start step a edge value p) (p .spread)
       (own-apart c e end v own start step a edge value p) long (own-in c e end v own start step a edge value p) (used-in c e end v own start step a edge value p))
 
 -- ---- nothing is added elsewhere
@@ -303,28 +303,30 @@ end-inside {c} s e end h = go (eqb end 0)
     go false = s .below-n e h
 
 -- arguments that are not out
-pub transfer-in : (c : Case) (e end v : ℕ) (a : ℤ) → T (not (shiftOut standard c e end v a))
-    → ((e < c .m) × (end < 2) × (v < c .d)) × T (withinZ (minus 1_000_000_000) (pos 1_000_000_000) a)
-transfer-in c e end v a t = let (((p, q), s), (u, z)) = simp tests at t in ((p, q, s), and-intro (leZ (minus 1_000_000_000) a) (leZ a (pos 1_000_000_000)) (u .0) (u .1))
+pub transfer-in : (c : Case) (e end v : ℕ) (a : ℤ) → T (not (shiftOut (rulesOf c) c e end v a))
+    → ((e < c .m) × (end < 2) × (v < c .d)) × T (amountWithin (rulesOf c) a)
+transfer-in c e end v a t =
+    let (((p, q), s), (u, z)) = simp tests at t in
+    ((p, q, s), and-intro (leZ (minus (rulesOf c .moving)) a) (leZ a (pos (rulesOf c .moving))) (u .0) (u .1))
 
 -- where the table was checked and `best` holds the greatest weights, it is the shift
-module _ {c : Case} {w best : List ℤ} (h : Handed standard (workingWeight standard) c w) (b : BestOf c w best) (e end v : ℕ) (a : ℤ)
-    (inside : shiftOut standard c e end v a ≡ false) where
-  out-false : (shiftOut standard c e end v a || not (ltb (endVariable c e end) (c .n))) ≡ false
+module _ {c : Case} {w best : List ℤ} (h : Handed (rulesOf c) (workingWeight (rulesOf c)) c w) (b : BestOf c w best) (e end v : ℕ) (a : ℤ)
+    (inside : shiftOut (rulesOf c) c e end v a ≡ false) where
+  out-false : (shiftOut (rulesOf c) c e end v a || not (ltb (endVariable c e end) (c .n))) ≡ false
   out-false =
-      let q = transfer-in c e end v a (false-is (shiftOut standard c e end v a) inside) in
+      let q = transfer-in c e end v a (false-is (shiftOut (rulesOf c) c e end v a) inside) in
       rw (inside, lt-ltb (endVariable c e end) (c .n) (end-inside (h .shape) e end (q .0 .0)))
 
   pub transfer-is-shift :
-      (transferCall standard c w best e end v a .answer ≡ outcomeOf (firstOf (LeavesRange when (leavesRange standard c (plus c (shiftBy c e end v a) w)) ∷ [])))
-      × (transferCall standard c w best e end v a .table
-      ≡ unlessRefused (firstOf (LeavesRange when (leavesRange standard c (plus c (shiftBy c e end v a) w)) ∷ [])) (plus c (shiftBy c e end v a) w) w)
-      × BestOf c (transferCall standard c w best e end v a .table) (transferCall standard c w best e end v a .best)
+      (transferCall (rulesOf c) c w best e end v a .answer ≡ outcomeOf (firstOf (LeavesRange when (leavesRange (rulesOf c) c (plus c (shiftBy c e end v a) w)) ∷ [])))
+      × (transferCall (rulesOf c) c w best e end v a .table
+      ≡ unlessRefused (firstOf (LeavesRange when (leavesRange (rulesOf c) c (plus c (shiftBy c e end v a) w)) ∷ [])) (plus c (shiftBy c e end v a) w) w)
+      × BestOf c (transferCall (rulesOf c) c w best e end v a .table) (transferCall (rulesOf c) c w best e end v a .best)
   unfolding transferCall
   transfer-is-shift =
       let m = transferChange c e end v a in
       let n : ltb (length best) (scopeCount c) ≡ false = le-ltb (length best) (scopeCount c) (b .enough) in
-      let out = shiftOut standard c e end v a || not (ltb (endVariable c e end) (c .n)) in
+      let out = shiftOut (rulesOf c) c e end v a || not (ltb (endVariable c e end) (c .n)) in
       let wrong = ltb (length best) (scopeCount c) in (
         call-answer h b m (λ x k l t. transfer-still c e end v a x k l) (λ x k l t. transfer-off c e end v a x k l) (shiftBy c e end v a) (λ x k l t. refl) wrong out n out-false,
         call-table h b m (λ x k l t. transfer-still c e end v a x k l) (λ x k l t. transfer-off c e end v a x k l) (shiftBy c e end v a) (λ x k l t. refl) wrong out n out-false,

@@ -4,16 +4,19 @@ use mathlib.Core.Path.{_≡_}
 use mathlib.Core.Bool.{Bool, not, _||_}
 use mathlib.Core.List.{List}
 use Prim.Native.Nat.{ℕ, _<_}
-use lib.IntN.{ℤ, pos, negℤ, _+ℤ_}
+use lib.IntN.{ℤ, negℤ, _+ℤ_}
 use lib.Dec.{T, eqb}
 use lib.ListN.{length, getD}
-use Rattle.integers.specs.Words.{if_then_else_, _⇒_, all, eqZ, withinZ, minus}
+use mir.Syntax.{w64}
+use mir.Val.{SFits}
+use Rattle.integers.specs.Words.{if_then_else_, _⇒_, all, eqZ}
 use Rattle.definitions.specs.declared.Case.{Case}
 use Rattle.definitions.specs.Rules.{Rules}
 use Rattle.definitions.specs.Case.{scopeCount, scopes, lentLength, weight}
 use Rattle.definitions.specs.Valid.{workingWeight}
 use Rattle.definitions.specs.Moves.{Difference, onlyWhere}
 use Rattle.tables.specs.Scopes.{Limited, partOf, bestAt}
+use Rattle.changes.specs.Spaced.{weightAt, amountWithin}
 
 -- `top` is added to a weight that is `best`, `rest` to any other
 abbrev pub changed : ℤ → ℤ → ℤ → ℤ → ℤ
@@ -23,14 +26,18 @@ changed best top rest z = z +ℤ (if eqZ z best then top else rest)
 abbrev pub partStays : Rules → ℤ → ℤ → ℤ → List ℤ → Bool
 partStays r best top rest part = all (λ z. workingWeight r (changed best top rest z)) part
 
+-- weights that fit a machine word then
+abbrev pub ChangedFit : ℤ → ℤ → ℤ → List ℤ → Type 0
+ChangedFit best top rest part = (k : ℕ) → k < length part → SFits w64 (changed best top rest (weightAt part k))
+
 -- amounts that may be added
 pub record Amounts (r : Rules) (top rest : ℤ) : Type 0 where
-  pub top-within : T (withinZ (minus (r .moving)) (pos (r .moving)) top)
-  pub rest-within : T (withinZ (minus (r .moving)) (pos (r .moving)) rest)
+  pub top-within : T (amountWithin r top)
+  pub rest-within : T (amountWithin r rest)
 
 -- scope x of a table of the case's length
-pub record InScope (r : Rules) (c : Case) (w : List ℤ) (x : ℕ) : Type 0 where
-  pub limited : Limited r c
+pub record InScope (c : Case) (w : List ℤ) (x : ℕ) : Type 0 where
+  pub limited : Limited c
   pub long : length w ≡ lentLength c
   pub scope : x < scopeCount c
 

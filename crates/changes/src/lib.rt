@@ -3,29 +3,27 @@
 use definitions::Case;
 use definitions::Outcome;
 use definitions::Refusal;
+use definitions::Rulebook;
 ghost use mathlib.Core.Path.{_≡_};
 ghost use mathlib.Core.Bool.{not, _||_};
 ghost use mathlib.Core.List.{map};
 ghost use Prim.Native.Nat.{ℕ, _+_, _*_, _≤_, _<_};
 ghost use lib.Dec.{T, ltb, eqb};
 ghost use lib.ListN.{length, set};
-ghost use lib.IntN.{pos, _+ℤ_};
-ghost use Rattle.integers.specs.Words.{if_then_else_, eqZ, withinZ, minus};
-ghost use Rattle.definitions.specs.Rules.{standard};
+ghost use lib.IntN.{pos, _+ℤ_, _-ℤ_};
+ghost use mir.Syntax.{w64};
+ghost use mir.Val.{SFits};
+ghost use Rattle.integers.specs.Words.{if_then_else_, eqZ, withinZ};
+ghost use Rattle.definitions.specs.Rules.{rulesIn, rulesOf, edgePlaces};
 ghost use Rattle.definitions.specs.declared.Refusal.the-variants.{LeavesRange};
 ghost use Rattle.definitions.specs.Valid.{workingWeight};
 ghost use Rattle.definitions.specs.Moves.{shiftAmount, pressAmount, plus, endVariable, shiftBy};
 ghost use Rattle.definitions.specs.Calls.{shiftOut};
 ghost use Rattle.definitions.specs.Case.{scopeCount, place, lentLength, greatest};
 ghost use Rattle.tables.specs.Scopes.{Limited, sizeOf, partOf, bestAt};
-ghost use Rattle.changes.specs.Spaced.{Inside, spacedStay, spacedAdd, transferStays, transferred};
-ghost use Rattle.changes.specs.Scopes.{changed, partStays, Amounts, InScope, scopeBy, topOf, restOf, isTouched, scopeLets, loweringLets};
+ghost use Rattle.changes.specs.Spaced.{amountWithin, Inside, SumsFit, spacedStay, spacedAdd, transferStays, transferred};
+ghost use Rattle.changes.specs.Scopes.{changed, partStays, ChangedFit, Amounts, InScope, scopeBy, topOf, restOf, isTouched, scopeLets, loweringLets};
 ghost use Rattle.changes.specs.Kept.{transferChange, loweringChange, staysWorking, bestAfter, KeptIs, loweringOut, transferCall, lowerAndRaiseCall};
-
-// The greatest working weight and the greatest amount of a move, on either side of 0.
-const WORKING: i64 = 500_000_000;
-
-const MOVING: i64 = 1_000_000_000;
 
 fn is_within(z: i64, low: i64, high: i64) -> bool
     ensures { λ r. ⌜ r ≡ withinZ low high z ⌝ }
@@ -34,26 +32,33 @@ fn is_within(z: i64, low: i64, high: i64) -> bool
 }
 
 // `by` added to the weight makes a working weight; nothing is added here, so that any weight can be asked.
-fn stays_with(weight: i64, by: i64) -> bool
-    requires { ⌜ T (withinZ (minus 1_000_000_000) (pos 1_000_000_000) by) ⌝ }
-    ensures { λ r. ⌜ r ≡ workingWeight standard (weight +ℤ by) ⌝ }
+fn stays_with(rulebook: Rulebook, weight: i64, by: i64) -> bool
+    requires { ⌜ T (amountWithin (rulesIn rulebook) by) ⌝ }
+    ensures { λ r. ⌜ r ≡ workingWeight (rulesIn rulebook) (weight +ℤ by) ⌝ }
 {
-    let low = -WORKING - by;
-    let high = WORKING - by;
+    let low = rules::least_working(rulebook) - by;
+    let high = rules::most_working(rulebook) - by;
     is_within(weight, low, high)
 }
 
 // ---- weights that stand `step` apart
 
 // All are working weights with `by` added.
-fn spaced_stay(table: &[i64], start: usize, step: usize, count: usize, by: i64) -> bool
+fn spaced_stay(
+    rulebook: Rulebook,
+    table: &[i64],
+    start: usize,
+    step: usize,
+    count: usize,
+    by: i64,
+) -> bool
     requires { ⌜ Inside (now table) start step count ⌝ }
-    requires { ⌜ T (withinZ (minus 1_000_000_000) (pos 1_000_000_000) by) ⌝ }
-    ensures { λ r. ⌜ r ≡ spacedStay standard (now (table .entry)) start step count by ⌝ }
+    requires { ⌜ T (amountWithin (rulesIn rulebook) by) ⌝ }
+    ensures { λ r. ⌜ r ≡ spacedStay (rulesIn rulebook) (now (table .entry)) start step count by ⌝ }
 {
     let mut j: usize = 0;
     while j < count {
-        if !stays_with(table[start + j * step], by) {
+        if !stays_with(rulebook, table[start + j * step], by) {
             return false;
         }
         j += 1;
@@ -63,7 +68,7 @@ fn spaced_stay(table: &[i64], start: usize, step: usize, count: usize, by: i64) 
 
 fn spaced_add(table: &mut [i64], start: usize, step: usize, count: usize, by: i64)
     requires { ⌜ Inside (now table) start step count ⌝ }
-    requires { ⌜ T (spacedStay standard (now table) start step count by) × (0 < step) ⌝ }
+    requires { ⌜ SumsFit (now table) start step count by × (0 < step) ⌝ }
     ensures { λ _. ⌜ now (table .exit) ≡ spacedAdd (now (table .entry)) start step count by ⌝ }
 {
     let mut j: usize = 0;
@@ -78,6 +83,7 @@ fn spaced_add(table: &mut [i64], start: usize, step: usize, count: usize, by: i6
 
 // Adds `amount` to the weight at `own` and subtracts it from the others, unless one would leave its range.
 fn transfer_by(
+    rulebook: Rulebook,
     table: &mut [i64],
     own: usize,
     start: usize,
@@ -87,16 +93,16 @@ fn transfer_by(
 ) -> Outcome
     requires { ⌜ Inside (now table) own 1 1 ⌝ }
     requires { ⌜ Inside (now table) start step count ⌝ }
-    requires { ⌜ T (withinZ (minus 1_000_000_000) (pos 1_000_000_000) amount) × (0 < step) ⌝ }
+    requires { ⌜ T (amountWithin (rulesIn rulebook) amount) × (0 < step) ⌝ }
     requires { ⌜ ((j : ℕ) → j < count → start + j * step ≡ own → ⊥) ⌝ }
-    ensures { λ r. ⌜ r ≡ (if transferStays standard (now (table .entry)) own start step count amount then Outcome.Done else Outcome.Refused LeavesRange) ⌝ }
-    ensures { λ r. ⌜ now (table .exit) ≡ (if transferStays standard (now (table .entry)) own start step count amount then transferred (now (table .entry)) own start step count amount else now (table .entry)) ⌝ }
+    ensures { λ r. ⌜ r ≡ (if transferStays (rulesIn rulebook) (now (table .entry)) own start step count amount then Outcome.Done else Outcome.Refused LeavesRange) ⌝ }
+    ensures { λ r. ⌜ now (table .exit) ≡ (if transferStays (rulesIn rulebook) (now (table .entry)) own start step count amount then transferred (now (table .entry)) own start step count amount else now (table .entry)) ⌝ }
 {
     let back = 0 - amount;
-    if !spaced_stay(table, own, 1, 1, amount) {
+    if !spaced_stay(rulebook, table, own, 1, 1, amount) {
         return Outcome::Refused(Refusal::LeavesRange);
     }
-    if !spaced_stay(table, start, step, count, back) {
+    if !spaced_stay(rulebook, table, start, step, count, back) {
         return Outcome::Refused(Refusal::LeavesRange);
     }
     spaced_add(table, own, 1, 1, amount);
@@ -105,7 +111,7 @@ fn transfer_by(
 }
 
 fn end_variable(case: Case, edge: usize, end: usize) -> usize
-    requires { ⌜ edge < 96 ⌝ }
+    requires { ⌜ edge < edgePlaces ⌝ }
     ensures { λ r. ⌜ r ≡ endVariable case edge end ⌝ }
 {
     if end == 0 {
@@ -123,19 +129,20 @@ fn transfer_checked(
     value: usize,
     amount: i64,
 ) -> Outcome
-    requires { ⌜ Limited standard case × (length (now table) ≡ lentLength case) ⌝ }
+    requires { ⌜ Limited case × (length (now table) ≡ lentLength case) ⌝ }
     requires { ⌜ (edge < case .m) × (end < 2) × (value < case .d) × (endVariable case edge end < case .n) ⌝ }
-    requires { ⌜ T (withinZ (minus 1_000_000_000) (pos 1_000_000_000) amount) ⌝ }
-    ensures { λ r. ⌜ r ≡ (if staysWorking standard case (now (table .entry)) (transferChange case edge end value amount) then Outcome.Done else Outcome.Refused LeavesRange) ⌝ }
-    ensures { λ r. ⌜ now (table .exit) ≡ (if staysWorking standard case (now (table .entry)) (transferChange case edge end value amount) then plus case (shiftBy case edge end value amount) (now (table .entry)) else now (table .entry)) ⌝ }
+    requires { ⌜ T (amountWithin (rulesOf case) amount) ⌝ }
+    ensures { λ r. ⌜ r ≡ (if staysWorking (rulesOf case) case (now (table .entry)) (transferChange case edge end value amount) then Outcome.Done else Outcome.Refused LeavesRange) ⌝ }
+    ensures { λ r. ⌜ now (table .exit) ≡ (if staysWorking (rulesOf case) case (now (table .entry)) (transferChange case edge end value amount) then plus case (shiftBy case edge end value amount) (now (table .entry)) else now (table .entry)) ⌝ }
 {
+    let rulebook = case.rulebook;
     let d = case.d;
     let first = case.n * d + edge * (d * d);
     let own = end_variable(case, edge, end) * d + value;
     if end == 0 {
-        transfer_by(table, own, first + value * d, 1, d, amount)
+        transfer_by(rulebook, table, own, first + value * d, 1, d, amount)
     } else {
-        transfer_by(table, own, first + value, d, d, amount)
+        transfer_by(rulebook, table, own, first + value, d, d, amount)
     }
 }
 
@@ -145,10 +152,14 @@ fn wide(variable: u8) -> usize
     variable as usize
 }
 
-fn is_shift_amount(amount: i64) -> bool
-    ensures { λ r. ⌜ r ≡ shiftAmount standard amount ⌝ }
+fn is_shift_amount(rulebook: Rulebook, amount: i64) -> bool
+    ensures { λ r. ⌜ r ≡ shiftAmount (rulesIn rulebook) amount ⌝ }
 {
-    if !is_within(amount, -MOVING, MOVING) {
+    if !is_within(
+        amount,
+        rules::least_moving(rulebook),
+        rules::most_moving(rulebook),
+    ) {
         return false;
     }
     amount != 0
@@ -166,14 +177,14 @@ fn added(weight: i64, best: i64, top: i64, rest: i64) -> i64
     rest
 }
 
-fn part_stays(part: &[i64], best: i64, top: i64, rest: i64) -> bool
-    requires { ⌜ Amounts standard top rest ⌝ }
-    ensures { λ r. ⌜ r ≡ partStays standard best top rest (now (part .entry)) ⌝ }
+fn part_stays(rulebook: Rulebook, part: &[i64], best: i64, top: i64, rest: i64) -> bool
+    requires { ⌜ Amounts (rulesIn rulebook) top rest ⌝ }
+    ensures { λ r. ⌜ r ≡ partStays (rulesIn rulebook) best top rest (now (part .entry)) ⌝ }
 {
     let mut i: usize = 0;
     while i < part.len() {
         let weight = part[i];
-        if !stays_with(weight, added(weight, best, top, rest)) {
+        if !stays_with(rulebook, weight, added(weight, best, top, rest)) {
             return false;
         }
         i += 1;
@@ -182,14 +193,14 @@ fn part_stays(part: &[i64], best: i64, top: i64, rest: i64) -> bool
 }
 
 fn changed_weight(weight: i64, best: i64, top: i64, rest: i64) -> i64
-    requires { ⌜ T (workingWeight standard (changed best top rest weight)) ⌝ }
+    requires { ⌜ SFits w64 (changed best top rest weight) ⌝ }
     ensures { λ r. ⌜ r ≡ changed best top rest weight ⌝ }
 {
     weight + added(weight, best, top, rest)
 }
 
 fn change_part(part: &mut [i64], best: i64, top: i64, rest: i64)
-    requires { ⌜ T (partStays standard best top rest (now part)) ⌝ }
+    requires { ⌜ ChangedFit best top rest (now part) ⌝ }
     ensures { λ _. ⌜ now (part .exit) ≡ map (changed best top rest) (now (part .entry)) ⌝ }
 {
     let mut at: usize = 0;
@@ -201,7 +212,7 @@ fn change_part(part: &mut [i64], best: i64, top: i64, rest: i64)
 }
 
 fn first_place(case: Case, x: usize) -> usize
-    requires { ⌜ Limited standard case ⌝ }
+    requires { ⌜ Limited case ⌝ }
     requires { ⌜ x < case .n + case .m ⌝ }
     ensures { λ r. ⌜ r ≡ place case x 0 0 ⌝ }
 {
@@ -212,7 +223,7 @@ fn first_place(case: Case, x: usize) -> usize
 }
 
 fn size_of(case: Case, x: usize) -> usize
-    requires { ⌜ Limited standard case ⌝ }
+    requires { ⌜ Limited case ⌝ }
     ensures { λ r. ⌜ r ≡ sizeOf case x ⌝ }
 {
     if x < case.n {
@@ -223,18 +234,19 @@ fn size_of(case: Case, x: usize) -> usize
 
 // With `top` added to its weights that are `best` and `rest` to the others, the scope has working weights.
 fn scope_stays(case: Case, table: &[i64], x: usize, best: i64, top: i64, rest: i64) -> bool
-    requires { ⌜ InScope standard case (now table) x ⌝ }
-    requires { ⌜ Amounts standard top rest ⌝ }
-    ensures { λ r. ⌜ r ≡ partStays standard best top rest (partOf case (now (table .entry)) x) ⌝ }
+    requires { ⌜ InScope case (now table) x ⌝ }
+    requires { ⌜ Amounts (rulesOf case) top rest ⌝ }
+    ensures { λ r. ⌜ r ≡ partStays (rulesOf case) best top rest (partOf case (now (table .entry)) x) ⌝ }
 {
     let first = first_place(case, x);
     let end = first + size_of(case, x);
-    part_stays(&table[first..end], best, top, rest)
+    let rulebook = case.rulebook;
+    part_stays(rulebook, &table[first..end], best, top, rest)
 }
 
 fn change_scope(case: Case, table: &mut [i64], x: usize, best: i64, top: i64, rest: i64)
-    requires { ⌜ InScope standard case (now table) x ⌝ }
-    requires { ⌜ T (partStays standard best top rest (partOf case (now table) x)) ⌝ }
+    requires { ⌜ InScope case (now table) x ⌝ }
+    requires { ⌜ T (partStays (rulesOf case) best top rest (partOf case (now table) x)) ⌝ }
     ensures { λ _. ⌜ now (table .exit) ≡ plus case (scopeBy case (now (table .entry)) x best top rest) (now (table .entry)) ⌝ }
 {
     let first = first_place(case, x);
@@ -244,7 +256,7 @@ fn change_scope(case: Case, table: &mut [i64], x: usize, best: i64, top: i64, re
 
 // Writes the scope's greatest weight to its place in `best`.
 fn keep_greatest(case: Case, table: &[i64], best: &mut [i64], x: usize)
-    requires { ⌜ InScope standard case (now table) x ⌝ }
+    requires { ⌜ InScope case (now table) x ⌝ }
     requires { ⌜ x < length (now best) ⌝ }
     ensures { λ _. ⌜ now (best .exit) ≡ set (now (best .entry)) x (greatest case (now (table .entry)) x) ⌝ }
 {
@@ -257,7 +269,7 @@ fn keep_greatest(case: Case, table: &[i64], best: &mut [i64], x: usize)
 // ---- a variable's weights lowered and those of raised scopes raised, scope by scope
 
 fn top_of(x: usize, variable: usize, amount: i64) -> i64
-    requires { ⌜ T (pressAmount standard amount) ⌝ }
+    requires { ⌜ SFits w64 (pos 0 -ℤ amount) ⌝ }
     ensures { λ r. ⌜ r ≡ topOf variable amount x ⌝ }
 {
     if x == variable {
@@ -293,9 +305,9 @@ fn scope_lets(
     variable: usize,
     amount: i64,
 ) -> bool
-    requires { ⌜ InScope standard case (now table) x ⌝ }
-    requires { ⌜ T (pressAmount standard amount) ⌝ }
-    ensures { λ r. ⌜ r ≡ scopeLets standard case (now (table .entry)) x best mark variable amount ⌝ }
+    requires { ⌜ InScope case (now table) x ⌝ }
+    requires { ⌜ T (pressAmount (rulesOf case) amount) ⌝ }
+    ensures { λ r. ⌜ r ≡ scopeLets (rulesOf case) case (now (table .entry)) x best mark variable amount ⌝ }
 {
     if !is_touched(x, variable, mark) {
         return true;
@@ -312,10 +324,10 @@ fn lowering_stays(
     variable: usize,
     amount: i64,
 ) -> bool
-    requires { ⌜ Limited standard case × (length (now table) ≡ lentLength case) ⌝ }
+    requires { ⌜ Limited case × (length (now table) ≡ lentLength case) ⌝ }
     requires { ⌜ (scopeCount case ≤ length (now best)) × (scopeCount case ≤ length (now raised)) ⌝ }
-    requires { ⌜ T (pressAmount standard amount) ⌝ }
-    ensures { λ r. ⌜ r ≡ loweringLets standard case (now (table .entry)) (now (best .entry)) (now (raised .entry)) variable amount ⌝ }
+    requires { ⌜ T (pressAmount (rulesOf case) amount) ⌝ }
+    ensures { λ r. ⌜ r ≡ loweringLets (rulesOf case) case (now (table .entry)) (now (best .entry)) (now (raised .entry)) variable amount ⌝ }
 {
     let scopes = case.n + case.m;
     let mut x: usize = 0;
@@ -338,9 +350,9 @@ fn lower_scope(
     variable: usize,
     amount: i64,
 )
-    requires { ⌜ InScope standard case (now table) x × (x < length (now best)) ⌝ }
-    requires { ⌜ T (scopeLets standard case (now table) x held mark variable amount) ⌝ }
-    requires { ⌜ T (pressAmount standard amount) ⌝ }
+    requires { ⌜ InScope case (now table) x × (x < length (now best)) ⌝ }
+    requires { ⌜ T (scopeLets (rulesOf case) case (now table) x held mark variable amount) ⌝ }
+    requires { ⌜ T (pressAmount (rulesOf case) amount) ⌝ }
     ensures { λ _. ⌜ now (table .exit) ≡ plus case (scopeBy case (now (table .entry)) x held (topOf variable amount x) (restOf mark amount)) (now (table .entry)) ⌝ }
     ensures { λ _. ⌜ now (best .exit) ≡ set (now (best .entry)) x (if isTouched variable x mark then greatest case (now (table .exit)) x else bestAt (now (best .entry)) x) ⌝ }
 {
@@ -359,10 +371,10 @@ fn lower_scopes(
     variable: usize,
     amount: i64,
 )
-    requires { ⌜ Limited standard case × (length (now table) ≡ lentLength case) ⌝ }
+    requires { ⌜ Limited case × (length (now table) ≡ lentLength case) ⌝ }
     requires { ⌜ (scopeCount case ≤ length (now best)) × (scopeCount case ≤ length (now raised)) ⌝ }
-    requires { ⌜ (variable < case .n) × T (pressAmount standard amount) ⌝ }
-    requires { ⌜ T (loweringLets standard case (now table) (now best) (now raised) variable amount) ⌝ }
+    requires { ⌜ (variable < case .n) × T (pressAmount (rulesOf case) amount) ⌝ }
+    requires { ⌜ T (loweringLets (rulesOf case) case (now table) (now best) (now raised) variable amount) ⌝ }
     ensures { λ _. ⌜ now (table .exit) ≡ plus case (loweringChange case (now (table .entry)) (now (best .entry)) (now (raised .entry)) variable amount .adds) (now (table .entry)) ⌝ }
     ensures { λ _. ⌜ now (best .exit) ≡ bestAfter case (now (table .entry)) (now (best .entry)) (loweringChange case (now (table .entry)) (now (best .entry)) (now (raised .entry)) variable amount) ⌝ }
 {
@@ -378,7 +390,7 @@ fn lower_scopes(
 // ---- the calls on what was checked
 
 fn lengths_wrong(case: Case, table: usize, best: usize) -> bool
-    requires { ⌜ Limited standard case ⌝ }
+    requires { ⌜ Limited case ⌝ }
     ensures { λ r. ⌜ r ≡ (not (eqb table (lentLength case)) || ltb best (scopeCount case)) ⌝ }
 {
     if table != case.n * case.d + case.m * (case.d * case.d) {
@@ -397,10 +409,10 @@ fn transfer_kept(
     value: usize,
     amount: i64,
 ) -> Outcome
-    requires { ⌜ Limited standard case × (length (now table) ≡ lentLength case) × (scopeCount case ≤ length (now best)) ⌝ }
+    requires { ⌜ Limited case × (length (now table) ≡ lentLength case) × (scopeCount case ≤ length (now best)) ⌝ }
     requires { ⌜ (edge < case .m) × (end < 2) × (value < case .d) × (endVariable case edge end < case .n) ⌝ }
-    requires { ⌜ T (withinZ (minus 1_000_000_000) (pos 1_000_000_000) amount) ⌝ }
-    ensures { λ r. ⌜ KeptIs case (now (table .entry)) (now (best .entry)) (transferChange case edge end value amount) (staysWorking standard case (now (table .entry)) (transferChange case edge end value amount)) r (now (table .exit)) (now (best .exit)) ⌝ }
+    requires { ⌜ T (amountWithin (rulesOf case) amount) ⌝ }
+    ensures { λ r. ⌜ KeptIs case (now (table .entry)) (now (best .entry)) (transferChange case edge end value amount) (staysWorking (rulesOf case) case (now (table .entry)) (transferChange case edge end value amount)) r (now (table .exit)) (now (best .exit)) ⌝ }
 {
     let made = transfer_checked(case, table, edge, end, value, amount);
     match made {
@@ -421,10 +433,10 @@ fn lowering_kept(
     variable: usize,
     amount: i64,
 ) -> Outcome
-    requires { ⌜ Limited standard case × (length (now table) ≡ lentLength case) ⌝ }
+    requires { ⌜ Limited case × (length (now table) ≡ lentLength case) ⌝ }
     requires { ⌜ (scopeCount case ≤ length (now best)) × (scopeCount case ≤ length (now raised)) ⌝ }
-    requires { ⌜ (variable < case .n) × T (pressAmount standard amount) ⌝ }
-    ensures { λ r. ⌜ KeptIs case (now (table .entry)) (now (best .entry)) (loweringChange case (now (table .entry)) (now (best .entry)) (now (raised .entry)) variable amount) (staysWorking standard case (now (table .entry)) (loweringChange case (now (table .entry)) (now (best .entry)) (now (raised .entry)) variable amount)) r (now (table .exit)) (now (best .exit)) ⌝ }
+    requires { ⌜ (variable < case .n) × T (pressAmount (rulesOf case) amount) ⌝ }
+    ensures { λ r. ⌜ KeptIs case (now (table .entry)) (now (best .entry)) (loweringChange case (now (table .entry)) (now (best .entry)) (now (raised .entry)) variable amount) (staysWorking (rulesOf case) case (now (table .entry)) (loweringChange case (now (table .entry)) (now (best .entry)) (now (raised .entry)) variable amount)) r (now (table .exit)) (now (best .exit)) ⌝ }
 {
     if !lowering_stays(case, table, best, raised, variable, amount) {
         return Outcome::Refused(Refusal::LeavesRange);
@@ -437,7 +449,7 @@ fn lowering_kept(
 
 // The edge, the end, the value or the amount is outside its range.
 pub fn transfer_out(case: Case, edge: usize, end: usize, value: usize, amount: i64) -> bool
-    ensures { λ r. ⌜ r ≡ shiftOut standard case edge end value amount ⌝ }
+    ensures { λ r. ⌜ r ≡ shiftOut (rulesOf case) case edge end value amount ⌝ }
 {
     if case.m <= edge {
         return true;
@@ -448,17 +460,19 @@ pub fn transfer_out(case: Case, edge: usize, end: usize, value: usize, amount: i
     if case.d <= value {
         return true;
     }
-    !is_shift_amount(amount)
+    let rulebook = case.rulebook;
+    !is_shift_amount(rulebook, amount)
 }
 
 // The variable or the amount is outside its range.
 pub fn lowering_out(case: Case, variable: usize, amount: i64) -> bool
-    ensures { λ r. ⌜ r ≡ loweringOut standard case variable amount ⌝ }
+    ensures { λ r. ⌜ r ≡ loweringOut (rulesOf case) case variable amount ⌝ }
 {
     if case.n <= variable {
         return true;
     }
-    !is_within(amount, 1, MOVING)
+    let rulebook = case.rulebook;
+    !is_within(amount, 1, rules::most_moving(rulebook))
 }
 
 // Adds `amount` to the weight of a value of the variable at that end of the edge and subtracts it from the edge's d tuples that use the value
@@ -473,7 +487,7 @@ pub fn transfer(
     value: usize,
     amount: i64,
 ) -> Outcome
-    ensures { λ r. ⌜ (r ≡ transferCall standard case (now (table .entry)) (now (best .entry)) edge end value amount .answer) × (now (table .exit) ≡ transferCall standard case (now (table .entry)) (now (best .entry)) edge end value amount .table) × (now (best .exit) ≡ transferCall standard case (now (table .entry)) (now (best .entry)) edge end value amount .best) ⌝ }
+    ensures { λ r. ⌜ (r ≡ transferCall (rulesOf case) case (now (table .entry)) (now (best .entry)) edge end value amount .answer) × (now (table .exit) ≡ transferCall (rulesOf case) case (now (table .entry)) (now (best .entry)) edge end value amount .table) × (now (best .exit) ≡ transferCall (rulesOf case) case (now (table .entry)) (now (best .entry)) edge end value amount .best) ⌝ }
 {
     if !tables::within_limits(case) {
         return Outcome::Refused(Refusal::OutsideLimits);
@@ -501,7 +515,7 @@ pub fn lower_and_raise(
     variable: usize,
     amount: i64,
 ) -> Outcome
-    ensures { λ r. ⌜ (r ≡ lowerAndRaiseCall standard case (now (table .entry)) (now (best .entry)) (now (raised .entry)) variable amount .answer) × (now (table .exit) ≡ lowerAndRaiseCall standard case (now (table .entry)) (now (best .entry)) (now (raised .entry)) variable amount .table) × (now (best .exit) ≡ lowerAndRaiseCall standard case (now (table .entry)) (now (best .entry)) (now (raised .entry)) variable amount .best) ⌝ }
+    ensures { λ r. ⌜ (r ≡ lowerAndRaiseCall (rulesOf case) case (now (table .entry)) (now (best .entry)) (now (raised .entry)) variable amount .answer) × (now (table .exit) ≡ lowerAndRaiseCall (rulesOf case) case (now (table .entry)) (now (best .entry)) (now (raised .entry)) variable amount .table) × (now (best .exit) ≡ lowerAndRaiseCall (rulesOf case) case (now (table .entry)) (now (best .entry)) (now (raised .entry)) variable amount .best) ⌝ }
 {
     if !tables::within_limits(case) {
         return Outcome::Refused(Refusal::OutsideLimits);

@@ -8,7 +8,7 @@ use Rattle.definitions.specs.declared.Case.{Case}
 use Rattle.definitions.specs.declared.Outcome.{Outcome}
 use Rattle.definitions.specs.declared.Refusal.{Refusal}
 use Rattle.definitions.specs.declared.Refusal.the-variants.{CutShort}
-use Rattle.definitions.specs.Rules.{standard, standard-coherent}
+use Rattle.definitions.specs.Rules.{coherent, rulesOf}
 use Rattle.definitions.specs.Refusals.{Test, _when_, firstOf}
 use Rattle.definitions.specs.Answers.{outcomeOf}
 use Rattle.definitions.specs.Case.{upperBound}
@@ -28,16 +28,16 @@ use Rattle.checker.specs.Taken.{goodReplay, freshFrom}
 
 module _ (c : Case) (w : List ℤ) where
   abbrev asked : Option Refusal
-  asked = firstOf (handedOver standard (startingWeight standard) c w false false)
+  asked = firstOf (handedOver (rulesOf c) (startingWeight (rulesOf c)) c w false false)
 
-  pub fresh-refused : {x : Refusal} → Outcome.Refused x ≡ outcomeOf asked → freshOf (some x) (pos 0) ≡ freshReplay standard c w
+  pub fresh-refused : {x : Refusal} → Outcome.Refused x ≡ outcomeOf asked → freshOf (some x) (pos 0) ≡ freshReplay (rulesOf c) c w
   unfolding freshReplay
   fresh-refused {x} e = let d : asked ≡ some x = outcome-refused e in ap (λ (o : Option Refusal). freshOf o (upperBound c w)) (sym d)
 
   module _ (e : Outcome.Done ≡ outcomeOf asked) where
-    pub fresh-handed : Handed standard (workingWeight standard) c w
+    pub fresh-handed : Handed (rulesOf c) (workingWeight (rulesOf c)) c w
     fresh-handed =
-        let h = handed standard (startingWeight standard) c w false false .0 (none-iff asked .1 (outcome-done e)) .0 in
+        let h = handed (rulesOf c) (startingWeight (rulesOf c)) c w false false .0 (none-iff asked .1 (outcome-done e)) .0 in
         record {
           variables-most = h .variables-most;
           values-most = h .values-most;
@@ -45,10 +45,10 @@ module _ (c : Case) (w : List ℤ) where
           long = h .long;
           shape = h .shape;
           apart = h .apart;
-          in-range = working-weights standard-coherent h;
+          in-range = working-weights (coherent (c .rulebook)) h;
         }
 
-    pub fresh-good : freshFrom (greatestSum standard c w) ≡ freshReplay standard c w
+    pub fresh-good : freshFrom (greatestSum (rulesOf c) c w) ≡ freshReplay (rulesOf c) c w
     unfolding freshReplay
     fresh-good =
         let n : asked ≡ none = outcome-done e in
@@ -56,27 +56,27 @@ module _ (c : Case) (w : List ℤ) where
 
 -- ---- the end
 
-module _ (c : Case) (p : Replay) {out : Bool} {r : Outcome} (o : out ≡ recordOut standard c p) (e : r ≡ outcomeOf (firstOf (limitTest standard c ∷ edgeTests c out))) where
+module _ (c : Case) (p : Replay) {out : Bool} {r : Outcome} (o : out ≡ recordOut (rulesOf c) c p) (e : r ≡ outcomeOf (firstOf (limitTest (rulesOf c) c ∷ edgeTests c out))) where
   abbrev front : List Test
-  front = limitTest standard c ∷ edgeTests c (recordOut standard c p)
+  front = limitTest (rulesOf c) c ∷ edgeTests c (recordOut (rulesOf c) c p)
 
   abbrev cut : List Test
   cut = CutShort when (isHeld (p .due) || p .moved) ∷ []
 
   answered : r ≡ outcomeOf (firstOf front)
-  answered = e ∙ ap (λ (b : Bool). outcomeOf (firstOf (limitTest standard c ∷ edgeTests c b))) o
+  answered = e ∙ ap (λ (b : Bool). outcomeOf (firstOf (limitTest (rulesOf c) c ∷ edgeTests c b))) o
 
-  pub end-refused : {x : Refusal} → r ≡ Outcome.Refused x → Outcome.Refused x ≡ outcomeOf (firstOf (endTests standard c p))
+  pub end-refused : {x : Refusal} → r ≡ Outcome.Refused x → Outcome.Refused x ≡ outcomeOf (firstOf (endTests (rulesOf c) c p))
   end-refused d = ap outcomeOf (sym (first-stops cut front (outcome-refused (sym d ∙ answered))))
 
   module _ (d : r ≡ Outcome.Done) where
-    next : outcomeOf (firstOf cut) ≡ outcomeOf (firstOf (endTests standard c p))
+    next : outcomeOf (firstOf cut) ≡ outcomeOf (firstOf (endTests (rulesOf c) c p))
     next = ap outcomeOf (sym (first-next cut front (outcome-done (sym d ∙ answered))))
 
-    pub end-cut : (isHeld (p .due) || p .moved) ≡ true → Outcome.Refused CutShort ≡ outcomeOf (firstOf (endTests standard c p))
+    pub end-cut : (isHeld (p .due) || p .moved) ≡ true → Outcome.Refused CutShort ≡ outcomeOf (firstOf (endTests (rulesOf c) c p))
     end-cut b = ap (λ (k : Bool). outcomeOf (firstOf (CutShort when k ∷ []))) (sym b) ∙ next
 
-    pub end-done : (isHeld (p .due) || p .moved) ≡ false → Outcome.Done ≡ outcomeOf (firstOf (endTests standard c p))
+    pub end-done : (isHeld (p .due) || p .moved) ≡ false → Outcome.Done ≡ outcomeOf (firstOf (endTests (rulesOf c) c p))
     end-done b = ap (λ (k : Bool). outcomeOf (firstOf (CutShort when k ∷ []))) (sym b) ∙ next
 
 -- ---- the parts of a record that stands good make it whole

@@ -4,7 +4,8 @@ use mathlib.Core.Path.{_≡_, refl, sym, ap, subst, _∙_}
 use mathlib.Core.Bool.{not}
 use mathlib.Core.Option.{Option, none, some}
 use mathlib.Core.List.{List, [], _∷_}
-use Prim.Native.Nat.{ℕ, suc, _+_, _≤_, _<_}
+use Prim.Native.Nat.{ℕ, suc, _+_, _-_, _/_, _≤_, _<_}
+use native.Mathlib.Nat.{div-eq-of-lt, add-div-left}
 use native.Mathlib.Numerals.{add-one}
 use native.Mathlib.Omega.{arith}
 use borrow.Author.Tests.{ne-eqb}
@@ -15,11 +16,11 @@ use Rattle.definitions.specs.declared.Case.{Case}
 use Rattle.definitions.specs.declared.Line.{Line}
 use Rattle.definitions.specs.declared.Outcome.{Outcome}
 use Rattle.definitions.specs.declared.Refusal.{Refusal}
-use Rattle.definitions.specs.Rules.{Rules, standard}
+use Rattle.definitions.specs.Rules.{Rules, rulesOf}
 use Rattle.definitions.specs.Refusals.{firstOf}
 use Rattle.definitions.specs.Answers.{outcomeOf}
 use Rattle.definitions.specs.Valid.{workingWeight}
-use Rattle.definitions.specs.Lines.{readLine, linesIn, wholeLines}
+use Rattle.definitions.specs.Lines.{readLine, lineLength, linesIn, wholeLines}
 use Rattle.theory.proofs.Validity.{Handed}
 use Rattle.tables.proofs.Order.{outcome-done, outcome-refused}
 use Rattle.checker.specs.declared.Standing.{Standing}
@@ -27,7 +28,7 @@ use Rattle.checker.specs.declared.Replay.{Replay}
 use Rattle.checker.specs.declared.Stepped.{Stepped}
 use Rattle.checker.specs.declared.Taken.{Taken}
 use Rattle.checker.specs.Checker.{Between, StepCall, BlockCall, Asked, refusedReplay, recordOut, ofKind, stepBy, stepTests, stepLine, stepStanding, stepReplay, stepBetween, takenLines, firstRefused, afterLines, lineAnswers, noLine, lentStanding, foldReplay, blockReplay}
-use Rattle.checker.specs.Taken.{standingAfter, replayOf, goodReplay, stepOf, moreBy}
+use Rattle.checker.specs.Taken.{standingAfter, replayOf, goodReplay, stepOf, lineBytes, moreBy}
 use Rattle.checker.proofs.Leaves.{Left, step-leaves}
 
 pub more-by : (n : ℕ) (x : BlockCall) → moreBy n (moreBy 1 x) ≡ moreBy (n + 1) x
@@ -45,13 +46,18 @@ ended n p o w = ap (λ (k : ℕ). block k p o w) (omega arith)
 
 -- ---- lines
 
-no-line : (t : List ℕ) → length t < 27 → linesIn 12 t ≡ []
-no-line t h = let e : wholeLines 12 t ≡ 0 = omega arith in rw e
+module _ (width : ℕ) (t : List ℕ) where
+  no-line : length t < lineLength width → wholeLines width t ≡ 0
+  no-line h = div-eq-of-lt h
 
-first-line : (t : List ℕ) → 27 ≤ length t → linesIn 12 t ≡ take 27 t ∷ linesIn 12 (drop 27 t)
-first-line t h =
-    let e : wholeLines 12 t ≡ suc (wholeLines 12 (drop 27 t)) = rw (← (add-one (wholeLines 12 (drop 27 t))), length-drop 27 t) (omega arith) in
-    rw e
+  some-line : lineLength width ≤ length t → wholeLines width t ≡ suc (wholeLines width (drop (lineLength width) t))
+  some-line h =
+      let k : ℕ = lineLength width in
+      let e : length t ≡ k + (length t - k) = omega arith in
+      ap (λ (n : ℕ). n / k) e ∙ add-div-left (length t - k) {k = k} (omega arith) ∙ rw (length-drop k t) (add-one ((length t - k) / k))
+
+  first-line : lineLength width ≤ length t → linesIn width t ≡ take (lineLength width) t ∷ linesIn width (drop (lineLength width) t)
+  first-line h = rw (some-line h)
 
 -- ---- a record that stands refused answers every line by the same refusal
 
@@ -71,7 +77,7 @@ module _ (r : Rules) where
 
 module _ (c : Case) (w : List ℤ) (p : Replay) where
   abbrev asked : Option Refusal
-  asked = lentStanding standard c w p (p .standing)
+  asked = lentStanding (rulesOf c) c w p (p .standing)
 
   pub lent-done : Outcome.Done ≡ outcomeOf asked → record { replay = p; lines = 0; answer = Outcome.Done } ≡ noLine w p asked .block
   lent-done e = ap (λ (o : Option Refusal). noLine w p o .block) (sym (outcome-done {o = asked} e))
@@ -79,55 +85,57 @@ module _ (c : Case) (w : List ℤ) (p : Replay) where
   pub lent-refused : {x : Refusal} → Outcome.Refused x ≡ outcomeOf asked → record { replay = refusedReplay p x; lines = 0; answer = Outcome.Refused x } ≡ noLine w p asked .block
   lent-refused e = ap (λ (o : Option Refusal). noLine w p o .block) (sym (outcome-refused {o = asked} e))
 
-  pub block-none : (t : List ℕ) → length t < 27 → (blockReplay standard c w p t .block ≡ noLine w p asked .block) × (blockReplay standard c w p t .table ≡ w)
+  pub block-none : (t : List ℕ) → length t < lineBytes c → (blockReplay (rulesOf c) c w p t .block ≡ noLine w p asked .block) × (blockReplay (rulesOf c) c w p t .table ≡ w)
   unfolding blockReplay
-  block-none t h = let e : wholeLines 12 t ≡ 0 = omega arith in rw e (refl, table asked)
+  block-none t h = rw (no-line (rulesOf c .amountWidth) t h) (refl, table asked)
     where
       table : (o : Option Refusal) → noLine w p o .table ≡ w
       table none = refl
       table (some x) = refl
 
 module _ (c : Case) (w : List ℤ) (p : Replay) (t : List ℕ) where
-  fold-none : length t < 27 → foldReplay standard c w p t ≡ record { block = record { replay = p; lines = 0; answer = Outcome.Done }; table = w }
+  fold-none : length t < lineBytes c → foldReplay (rulesOf c) c w p t ≡ record { block = record { replay = p; lines = 0; answer = Outcome.Done }; table = w }
   unfolding foldReplay
-  fold-none h = rw (no-line t h)
+  fold-none h = rw (no-line (rulesOf c .amountWidth) t h)
 
-  block-some : 27 ≤ length t → blockReplay standard c w p t ≡ foldReplay standard c w p t
+  block-some : lineBytes c ≤ length t → blockReplay (rulesOf c) c w p t ≡ foldReplay (rulesOf c) c w p t
   unfolding blockReplay
-  block-some h = rw (ne-eqb (wholeLines 12 t) 0 (λ e. omega arith))
+  block-some h =
+      let e = some-line (rulesOf c .amountWidth) t h in
+      rw (ne-eqb (wholeLines (rulesOf c .amountWidth) t) 0 (λ d. omega arith))
 
-  pub no-more : (n : ℕ) → length t < 27 → moreBy n (foldReplay standard c w p t) ≡ record { block = record { replay = p; lines = n; answer = Outcome.Done }; table = w }
+  pub no-more : (n : ℕ) → length t < lineBytes c → moreBy n (foldReplay (rulesOf c) c w p t) ≡ record { block = record { replay = p; lines = n; answer = Outcome.Done }; table = w }
   no-more n h = ap (moreBy n) (fold-none h) ∙ ended n p Outcome.Done w
 
   -- the fold by the step of the first line
   abbrev stepped : StepCall → BlockCall
   stepped call =
       let b : Between = record { case = c; table = call .table; replay = call .stepped .replay } in
-      let ts = linesIn 12 (drop 27 t) in
-      let os = call .stepped .answer ∷ lineAnswers standard b ts in
+      let ts = linesIn (rulesOf c .amountWidth) (drop (lineBytes c) t) in
+      let os = call .stepped .answer ∷ lineAnswers (rulesOf c) b ts in
       record {
-        block = record { replay = afterLines standard b ts .replay; lines = takenLines os; answer = firstRefused os };
-        table = afterLines standard b ts .table;
+        block = record { replay = afterLines (rulesOf c) b ts .replay; lines = takenLines os; answer = firstRefused os };
+        table = afterLines (rulesOf c) b ts .table;
       }
 
-  module _ (h : 27 ≤ length t) (call : StepCall) (s : stepReplay standard c w p (take 27 t) ≡ call) where
-    first-step : foldReplay standard c w p t ≡ stepped call
+  module _ (h : lineBytes c ≤ length t) (call : StepCall) (s : stepReplay (rulesOf c) c w p (take (lineBytes c) t) ≡ call) where
+    first-step : foldReplay (rulesOf c) c w p t ≡ stepped call
     unfolding foldReplay
     first-step =
         ap (λ (ts : List (List ℕ)).
         let b : Between = record { case = c; table = w; replay = p } in
         record {
-          block = record { replay = afterLines standard b ts .replay; lines = takenLines (lineAnswers standard b ts); answer = firstRefused (lineAnswers standard b ts) };
-          table = afterLines standard b ts .table;
-        }) (first-line t h)
+          block = record { replay = afterLines (rulesOf c) b ts .replay; lines = takenLines (lineAnswers (rulesOf c) b ts); answer = firstRefused (lineAnswers (rulesOf c) b ts) };
+          table = afterLines (rulesOf c) b ts .table;
+        }) (first-line (rulesOf c .amountWidth) t h)
         ∙ ap stepped s
 
-    pub fold-done : call .stepped .answer ≡ Outcome.Done → foldReplay standard c w p t ≡ moreBy 1 (foldReplay standard c (call .table) (call .stepped .replay) (drop 27 t))
+    pub fold-done : call .stepped .answer ≡ Outcome.Done → foldReplay (rulesOf c) c w p t ≡ moreBy 1 (foldReplay (rulesOf c) c (call .table) (call .stepped .replay) (drop (lineBytes c) t))
     unfolding foldReplay
     fold-done e = first-step ∙ rw e
 
-    pub fold-refused : {x : Refusal} → call .stepped .answer ≡ Outcome.Refused x → call .stepped .replay .standing ≡ Standing.Refused x → foldReplay standard c w p t ≡ endsWith call
-    fold-refused e f = first-step ∙ rw (e, all-stay standard (record { case = c; table = call .table; replay = call .stepped .replay }) f (linesIn 12 (drop 27 t)))
+    pub fold-refused : {x : Refusal} → call .stepped .answer ≡ Outcome.Refused x → call .stepped .replay .standing ≡ Standing.Refused x → foldReplay (rulesOf c) c w p t ≡ endsWith call
+    fold-refused e f = first-step ∙ rw (e, all-stay (rulesOf c) (record { case = c; table = call .table; replay = call .stepped .replay }) f (linesIn (rulesOf c .amountWidth) (drop (lineBytes c) t)))
 
 -- a refused line leaves a record that stands refused
 module _ (r : Rules) (c : Case) (w : List ℤ) (p : Replay) {x : Refusal} where
@@ -149,21 +157,21 @@ module _ (r : Rules) (c : Case) (w : List ℤ) (p : Replay) {x : Refusal} where
 
 -- ---- a turn: the block's first line taken with the record in parts
 
-module _ (c : Case) (w : List ℤ) (p : Replay) (t : List ℕ) (h : 27 ≤ length t) (k : Taken) (raised : List ℕ) (v : List ℤ) (s : stepOf k raised v ≡ stepReplay standard c w p (take 27 t)) where
+module _ (c : Case) (w : List ℤ) (p : Replay) (t : List ℕ) (h : lineBytes c ≤ length t) (k : Taken) (raised : List ℕ) (v : List ℤ) (s : stepOf k raised v ≡ stepReplay (rulesOf c) c w p (take (lineBytes c) t)) where
   pub turn-done : (n : ℕ) → k .answer ≡ Outcome.Done
-      → (moreBy n (foldReplay standard c w p t) ≡ moreBy (n + 1) (foldReplay standard c v (goodReplay (k .progress) raised) (drop 27 t)))
-      × Handed standard (workingWeight standard) c v × T (not (recordOut standard c (goodReplay (k .progress) raised)))
+      → (moreBy n (foldReplay (rulesOf c) c w p t) ≡ moreBy (n + 1) (foldReplay (rulesOf c) c v (goodReplay (k .progress) raised) (drop (lineBytes c) t)))
+      × Handed (rulesOf c) (workingWeight (rulesOf c)) c v × T (not (recordOut (rulesOf c) c (goodReplay (k .progress) raised)))
   turn-done n e =
-      let l = subst (Left standard c) (sym s) (step-leaves standard c w p (take 27 t) (ap (λ (x : StepCall). x .stepped .answer) (sym s) ∙ e)) in
+      let l = subst (Left (rulesOf c) c) (sym s) (step-leaves (rulesOf c) c w p (take (lineBytes c) t) (ap (λ (x : StepCall). x .stepped .answer) (sym s) ∙ e)) in
       let g = ap standingAfter e in (
-        ap (moreBy n) (fold-done c w p t h (stepOf k raised v) (sym s) e ∙ ap (λ (d : Standing). moreBy 1 (foldReplay standard c v (replayOf (k .progress) raised d) (drop 27 t))) g)
-            ∙ more-by n (foldReplay standard c v (goodReplay (k .progress) raised) (drop 27 t)),
+        ap (moreBy n) (fold-done c w p t h (stepOf k raised v) (sym s) e ∙ ap (λ (d : Standing). moreBy 1 (foldReplay (rulesOf c) c v (replayOf (k .progress) raised d) (drop (lineBytes c) t))) g)
+            ∙ more-by n (foldReplay (rulesOf c) c v (goodReplay (k .progress) raised) (drop (lineBytes c) t)),
         l .handed-over,
-        subst (λ (d : Standing). T (not (recordOut standard c (replayOf (k .progress) raised d)))) g (l .record-in),
+        subst (λ (d : Standing). T (not (recordOut (rulesOf c) c (replayOf (k .progress) raised d)))) g (l .record-in),
       )
 
   pub turn-refused : (n : ℕ) {x : Refusal} → k .answer ≡ Outcome.Refused x
-      → moreBy n (foldReplay standard c w p t) ≡ record { block = record { replay = replayOf (k .progress) raised (Standing.Refused x); lines = n; answer = Outcome.Refused x }; table = v }
+      → moreBy n (foldReplay (rulesOf c) c w p t) ≡ record { block = record { replay = replayOf (k .progress) raised (Standing.Refused x); lines = n; answer = Outcome.Refused x }; table = v }
   turn-refused n e =
       ap (moreBy n) (fold-refused c w p t h (stepOf k raised v) (sym s) e (ap standingAfter e))
       ∙ ap (λ (o : Outcome). record { block = record { replay = replayOf (k .progress) raised (standingAfter o); lines = n + 0; answer = o }; table = v }) e
@@ -171,19 +179,19 @@ module _ (c : Case) (w : List ℤ) (p : Replay) (t : List ℕ) (h : 27 ≤ lengt
 
 -- ---- a block whose first line is a step of the whole record
 
-module _ (c : Case) (w : List ℤ) (p : Replay) (t : List ℕ) (h : 27 ≤ length t) (k : Stepped) (v : List ℤ) (s : k ≡ stepReplay standard c w p (take 27 t) .stepped) (u : v ≡ stepReplay standard c w p (take 27 t) .table) where
+module _ (c : Case) (w : List ℤ) (p : Replay) (t : List ℕ) (h : lineBytes c ≤ length t) (k : Stepped) (v : List ℤ) (s : k ≡ stepReplay (rulesOf c) c w p (take (lineBytes c) t) .stepped) (u : v ≡ stepReplay (rulesOf c) c w p (take (lineBytes c) t) .table) where
   abbrev call : StepCall
-  call = stepReplay standard c w p (take 27 t)
+  call = stepReplay (rulesOf c) c w p (take (lineBytes c) t)
 
   pub first-done : k .answer ≡ Outcome.Done
-      → (blockReplay standard c w p t ≡ moreBy 1 (foldReplay standard c v (k .replay) (drop 27 t)))
-      × Handed standard (workingWeight standard) c v × T (not (recordOut standard c (k .replay))) × (k .replay .standing ≡ Standing.Good)
+      → (blockReplay (rulesOf c) c w p t ≡ moreBy 1 (foldReplay (rulesOf c) c v (k .replay) (drop (lineBytes c) t)))
+      × Handed (rulesOf c) (workingWeight (rulesOf c)) c v × T (not (recordOut (rulesOf c) c (k .replay))) × (k .replay .standing ≡ Standing.Good)
   first-done e =
       let d = ap (λ (x : Stepped). x .answer) (sym s) ∙ e in
-      let l = step-leaves standard c w p (take 27 t) d in
+      let l = step-leaves (rulesOf c) c w p (take (lineBytes c) t) d in
       rw (s, u) (block-some c w p t h ∙ fold-done c w p t h call refl d, l .handed-over, l .record-in, l .good)
 
-  pub first-refused : {x : Refusal} → k .answer ≡ Outcome.Refused x → blockReplay standard c w p t ≡ record { block = record { replay = k .replay; lines = 0; answer = k .answer }; table = v }
+  pub first-refused : {x : Refusal} → k .answer ≡ Outcome.Refused x → blockReplay (rulesOf c) c w p t ≡ record { block = record { replay = k .replay; lines = 0; answer = k .answer }; table = v }
   first-refused e =
       let d = ap (λ (x : Stepped). x .answer) (sym s) ∙ e in
-      rw (s, u) (block-some c w p t h ∙ fold-refused c w p t h call refl d (refused-stands standard c w p (take 27 t) d))
+      rw (s, u) (block-some c w p t h ∙ fold-refused c w p t h call refl d (refused-stands (rulesOf c) c w p (take (lineBytes c) t) d))

@@ -15,7 +15,7 @@ use Rattle.definitions.specs.declared.Line.{Line}
 use Rattle.definitions.specs.declared.Outcome.{Outcome}
 use Rattle.definitions.specs.declared.Refusal.{Refusal}
 use Rattle.definitions.specs.declared.Refusal.the-variants.{NotDue, OutOfRange}
-use Rattle.definitions.specs.Rules.{Rules, standard}
+use Rattle.definitions.specs.Rules.{Rules, rulesOf}
 use Rattle.definitions.specs.Refusals.{firstOf}
 use Rattle.definitions.specs.Answers.{outcomeOf}
 use Rattle.definitions.specs.Case.{lentLength}
@@ -43,51 +43,51 @@ lent-known r c w p out e =
 
 module _ (c : Case) (w : List ℤ) (p : Replay) (t : Line) where
   abbrev asked : Asked
-  asked = ofKind standard c w p (p .due) t
+  asked = ofKind (rulesOf c) c w p (p .due) t
 
   abbrev front : Option Refusal
   front = firstOf (frontTests c w p t)
 
   -- what is known where none of them applies
   pub record Fronted : Type 0 where
-    pub handed-over : Handed standard (workingWeight standard) c w
-    pub record-in : T (not (recordOut standard c p))
+    pub handed-over : Handed (rulesOf c) (workingWeight (rulesOf c)) c w
+    pub record-in : T (not (recordOut (rulesOf c) c p))
     pub line-in : T (not (asked .out))
 
-  first-front : {x : Refusal} → front ≡ some x → stepLine standard c w p (some t) ≡ stepRefused p w x
+  first-front : {x : Refusal} → front ≡ some x → stepLine (rulesOf c) c w p (some t) ≡ stepRefused p w x
   first-front e = ap (stepBy w p asked) (first-stops (asked .later) (frontTests c w p t) e)
 
-  none-front : front ≡ none → stepLine standard c w p (some t) ≡ stepNext w p asked
+  none-front : front ≡ none → stepLine (rulesOf c) c w p (some t) ≡ stepNext w p asked
   none-front e = ap (stepBy w p asked) (first-next (asked .later) (frontTests c w p t) e)
 
   pub front-known : front ≡ none → Fronted
   front-known e =
-      let (u, f) = neither (notDue standard (dueKinds (p .due)) t) NotDue (firstOf (handedOver standard (workingWeight standard) c w false (recordOut standard c p || asked .out))) e in
-      let (h, r, l) = lent-known standard c w p (asked .out) f in
+      let (u, f) = neither (notDue (rulesOf c) (dueKinds (p .due)) t) NotDue (firstOf (handedOver (rulesOf c) (workingWeight (rulesOf c)) c w false (recordOut (rulesOf c) c p || asked .out))) e in
+      let (h, r, l) = lent-known (rulesOf c) c w p (asked .out) f in
       record { handed-over = h; record-in = r; line-in = l }
 
-  pub front-refused : {x : Refusal} → Outcome.Refused x ≡ outcomeOf front → stepLine standard c w p (some t) ≡ stepRefused p w x
+  pub front-refused : {x : Refusal} → Outcome.Refused x ≡ outcomeOf front → stepLine (rulesOf c) c w p (some t) ≡ stepRefused p w x
   front-refused e = first-front (outcome-refused e)
 
-  pub front-done : Outcome.Done ≡ outcomeOf front → (stepLine standard c w p (some t) ≡ stepNext w p asked) × Fronted
+  pub front-done : Outcome.Done ≡ outcomeOf front → (stepLine (rulesOf c) c w p (some t) ≡ stepNext w p asked) × Fronted
   front-done e = let d : front ≡ none = outcome-done e in (none-front d, front-known d)
 
-  pub not-due : notDue standard (dueKinds (p .due)) t ≡ true → front ≡ some NotDue
+  pub not-due : notDue (rulesOf c) (dueKinds (p .due)) t ≡ true → front ≡ some NotDue
   not-due e = rw e
 
   -- a record that is in range, on what was checked before
-  module _ (h : Handed standard (workingWeight standard) c w) (r : T (not (recordOut standard c p))) (d : notDue standard (dueKinds (p .due)) t ≡ false) where
+  module _ (h : Handed (rulesOf c) (workingWeight (rulesOf c)) c w) (r : T (not (recordOut (rulesOf c) c p))) (d : notDue (rulesOf c) (dueKinds (p .due)) t ≡ false) where
     line-out : asked .out ≡ true → front ≡ some OutOfRange
-    line-out e = rw (d, is-false (recordOut standard c p) r, e, limits-true h, eq-eqb (length w) (lentLength c) (h .long))
+    line-out e = rw (d, is-false (recordOut (rulesOf c) c p) r, e, limits-true h, eq-eqb (length w) (lentLength c) (h .long))
 
     line-in : asked .out ≡ false → front ≡ none
-    line-in e = rw (d, is-false (recordOut standard c p) r, e) (none-iff (firstOf (handedOver standard (workingWeight standard) c w false false)) .0 (handed standard (workingWeight standard) c w false false .1 (h, tt, tt)))
+    line-in e = rw (d, is-false (recordOut (rulesOf c) c p) r, e) (none-iff (firstOf (handedOver (rulesOf c) (workingWeight (rulesOf c)) c w false false)) .0 (handed (rulesOf c) (workingWeight (rulesOf c)) c w false false .1 (h, tt, tt)))
 
-    pub good-out : asked .out ≡ true → stepLine standard c w p (some t) ≡ stepRefused p w OutOfRange
+    pub good-out : asked .out ≡ true → stepLine (rulesOf c) c w p (some t) ≡ stepRefused p w OutOfRange
     good-out e = first-front (line-out e)
 
-    pub good-next : asked .out ≡ false → stepLine standard c w p (some t) ≡ stepNext w p asked
+    pub good-next : asked .out ≡ false → stepLine (rulesOf c) c w p (some t) ≡ stepNext w p asked
     good-next e = none-front (line-in e)
 
-  pub good-not-due : notDue standard (dueKinds (p .due)) t ≡ true → stepLine standard c w p (some t) ≡ stepRefused p w NotDue
+  pub good-not-due : notDue (rulesOf c) (dueKinds (p .due)) t ≡ true → stepLine (rulesOf c) c w p (some t) ≡ stepRefused p w NotDue
   good-not-due e = first-front (not-due e)

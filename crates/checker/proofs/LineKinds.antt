@@ -6,7 +6,7 @@ use Prim.Native.Nat.{ℕ}
 use lib.IntN.{pos}
 use Rattle.integers.specs.Words.{eqZ}
 use Rattle.definitions.specs.declared.Line.{Line}
-use Rattle.definitions.specs.Rules.{standard}
+use Rattle.definitions.specs.Rules.{Rules, Coherent}
 use Rattle.definitions.specs.Lines.{notDue, isKind}
 
 and-false : (b : Bool) → (b && false) ≡ false
@@ -33,18 +33,18 @@ regroup false b c d = refl
 abbrev moveKinds : List ℕ
 moveKinds = 1 ∷ 2 ∷ 4 ∷ []
 
-module _ (l : Line) where
-  pub shift-due : l .kind ≡ pos 1 → true ≡ not (notDue standard moveKinds l)
-  shift-due e = rw e
+module _ {r : Rules} (known : Coherent r) (l : Line) where
+  pub shift-due : l .kind ≡ pos 1 → true ≡ not (notDue r moveKinds l)
+  shift-due e = rw (known .known-kinds, e)
 
-  pub press-due : l .kind ≡ pos 2 → eqZ (l .c) (pos 0) ≡ not (notDue standard moveKinds l)
-  press-due e = rw e (simp (or-false, not-not, and-true))
+  pub press-due : l .kind ≡ pos 2 → eqZ (l .c) (pos 0) ≡ not (notDue r moveKinds l)
+  press-due e = rw (known .known-kinds, e) (simp (or-false, not-not, and-true))
 
-  pub bound-due : l .kind ≡ pos 4 → ((eqZ (l .a) (pos 0) && eqZ (l .b) (pos 0)) && eqZ (l .c) (pos 0)) ≡ not (notDue standard moveKinds l)
-  bound-due e = rw e (simp (or-false, not-not, and-true))
+  pub bound-due : l .kind ≡ pos 4 → ((eqZ (l .a) (pos 0) && eqZ (l .b) (pos 0)) && eqZ (l .c) (pos 0)) ≡ not (notDue r moveKinds l)
+  bound-due e = rw (known .known-kinds, e) (simp (or-false, not-not, and-true))
 
-  pub none-due : isKind 1 l ≡ false → isKind 2 l ≡ false → isKind 4 l ≡ false → false ≡ not (notDue standard moveKinds l)
-  none-due d e f = rw (d, e, f) (simp and-false)
+  pub none-due : isKind 1 l ≡ false → isKind 2 l ≡ false → isKind 4 l ≡ false → false ≡ not (notDue r moveKinds l)
+  none-due d e f = rw (known .known-kinds, d, e, f) (simp and-false)
 
-  pub raise-due : (((isKind 3 l && eqZ (l .b) (pos 0)) && eqZ (l .c) (pos 0)) && eqZ (l .amount) (pos 0)) ≡ not (notDue standard (3 ∷ []) l)
-  raise-due = simp (or-false, and-false, not-not, and-true) (regroup (isKind 3 l) (eqZ (l .b) (pos 0)) (eqZ (l .c) (pos 0)) (eqZ (l .amount) (pos 0)))
+  pub raise-due : (((isKind 3 l && eqZ (l .b) (pos 0)) && eqZ (l .c) (pos 0)) && eqZ (l .amount) (pos 0)) ≡ not (notDue r (3 ∷ []) l)
+  raise-due = rw (known .known-kinds) (simp (or-false, and-false, not-not, and-true) (regroup (isKind 3 l) (eqZ (l .b) (pos 0)) (eqZ (l .c) (pos 0)) (eqZ (l .amount) (pos 0))))

@@ -3,7 +3,7 @@ use mathlib.Core.Path.{_≡_, refl, sym, ap, subst, _∙_}
 use mathlib.Core.Logic.{_≢_}
 use mathlib.Core.Bool.{false, not}
 use mathlib.Core.Option.{some}
-use mathlib.Core.List.{List}
+use mathlib.Core.List.{List, [], _∷_}
 use Prim.Native.Nat.{ℕ, zero, suc, _+_, _-_, _≤_, _<_}
 use native.Mathlib.Numerals.{add-one}
 use native.Mathlib.Omega.{arith}
@@ -11,14 +11,14 @@ use lib.IntN.{ℤ, pos}
 use lib.Dec.{T, eqb, ltb, ltb→lt}
 use lib.ListN.{length, take, drop, set}
 use lib.Seq.{drop-drop}
-use borrow.Author.Tests.{lt-ltb, le-leb, lt-leb, ne-eqb}
+use borrow.Author.Tests.{lt-ltb, le-leb, lt-leb, ne-eqb, not-true}
 use Rattle.integers.specs.Tests.{not-or-iff, not-not-iff}
 use Rattle.definitions.specs.declared.Case.{Case}
 use Rattle.definitions.specs.declared.Outcome.{Outcome}
-use Rattle.definitions.specs.Rules.{standard}
+use Rattle.definitions.specs.Rules.{coherent, rulesOf}
 use Rattle.definitions.specs.Case.{scopeCount}
 use Rattle.definitions.specs.Valid.{workingWeight}
-use Rattle.definitions.specs.Lines.{readLine, outside}
+use Rattle.definitions.specs.Lines.{readLine, lineLength, notDue, outside}
 use Rattle.theory.proofs.Validity.{Handed}
 use Rattle.checker.specs.declared.LastRaised.{LastRaised}
 use Rattle.checker.specs.declared.Due.{Due}
@@ -26,8 +26,9 @@ use Rattle.checker.specs.declared.Progress.{Progress}
 use Rattle.checker.specs.declared.Replay.{Replay}
 use Rattle.checker.specs.declared.Taken.{Taken}
 use Rattle.checker.specs.Checker.{notAboveLast, dueOut, recordOut, ofRaise, stepLine, stepReplay}
-use Rattle.checker.specs.Taken.{goodReplay, stepOf}
+use Rattle.checker.specs.Taken.{goodReplay, stepOf, lineBytes}
 use Rattle.checker.specs.Raising.{raiseLine, holding, lastOf, raising, Onward}
+use Rattle.checker.proofs.LineKinds.{raise-due}
 use Rattle.checker.proofs.Front.{good-next}
 use Rattle.checker.proofs.Fold.{turn-done}
 use Rattle.checker.proofs.Taking.{taken-done, raise-more, raise-table, raise-record}
@@ -43,57 +44,63 @@ scope-before (suc n) h = ap LastRaised.Scope (omega arith)
 in-scopes : (n x : ℕ) → x < n → outside n (pos x) ≡ false
 in-scopes n x h = rw (le-leb 0 x (omega arith), lt-ltb x n h)
 
+raise-line-due : (c : Case) (x : ℕ) → notDue (rulesOf c) (3 ∷ []) (raiseLine x) ≡ false
+raise-line-due c x = not-true _ (sym (raise-due (coherent (c .rulebook)) (raiseLine x)))
+
 -- one line
-module _ (s i left next x : ℕ) (raised t : List ℕ) (long : 27 ≤ length t) (read : readLine 12 (take 27 t) ≡ some (raiseLine x)) (more : 1 < left) (below : x < s) (above : next ≤ x) (other : x ≢ i) (q : Progress) (a : ℤ) where
+module _ (b s i left next x : ℕ) (raised t : List ℕ) (long : b ≤ length t) (read : (width : ℕ) → lineLength width ≡ b → readLine width (take b t) ≡ some (raiseLine x)) (more : 1 < left) (below : x < s) (above : next ≤ x) (other : x ≢ i) (q : Progress) (a : ℤ) where
   abbrev after : Taken
   after = record { progress = holding q i a (left - 1) (LastRaised.Scope x); answer = Outcome.Done }
 
-  step : (c : Case) (w : List ℤ) → Handed standard (workingWeight standard) c w → scopeCount c ≡ s → T (not (recordOut standard c (goodReplay (raising q i a left next) raised)))
-      → stepOf after (set raised x 1) w ≡ stepReplay standard c w (goodReplay (raising q i a left next) raised) (take 27 t)
+  step : (c : Case) (w : List ℤ) → Handed (rulesOf c) (workingWeight (rulesOf c)) c w → lineBytes c ≡ b → scopeCount c ≡ s → T (not (recordOut (rulesOf c) c (goodReplay (raising q i a left next) raised)))
+      → stepOf after (set raised x 1) w ≡ stepReplay (rulesOf c) c w (goodReplay (raising q i a left next) raised) (take b t)
   unfolding stepReplay
-  step c w h e r =
-      let b = raising q i a left next in
-      let p = goodReplay b raised in
+  step c w h l e r =
+      let o = raising q i a left next in
+      let p = goodReplay o raised in
       let m : eqb left 1 ≡ false = ne-eqb left 1 (λ z. absurd (omega arith)) in
-      taken-done after w w (set raised x 1) p (ofRaise standard c w p i a left (lastOf next) (raiseLine x)) refl
-      (raise-table c w b raised i a left (lastOf next) (raiseLine x) m)
-      (raise-record c w b raised i a left (lastOf next) (raiseLine x) m refl refl)
+      taken-done after w w (set raised x 1) p (ofRaise (rulesOf c) c w p i a left (lastOf next) (raiseLine x)) refl
+      (raise-table c w o raised i a left (lastOf next) (raiseLine x) m)
+      (raise-record c w o raised i a left (lastOf next) (raiseLine x) m refl refl)
       (raise-more c w p i a left (lastOf next) (raiseLine x) (above-last next x above) (ne-eqb x i other) m)
-      ∙ sym (good-next c w p (raiseLine x) h r refl (in-scopes (scopeCount c) x (omega arith)))
-      ∙ sym (ap (stepLine standard c w p) read)
+      ∙ sym (good-next c w p (raiseLine x) h r (raise-line-due c x) (in-scopes (scopeCount c) x (omega arith)))
+      ∙ sym (ap (stepLine (rulesOf c) c w p) (read (rulesOf c .amountWidth) l))
 
-  raise-step : (n : ℕ) → Onward s n (raising q i a left next) raised t (n + 1) (raising q i a (left - 1) (x + 1)) (set raised x 1) (drop 27 t)
+  raise-step : (n : ℕ) → Onward b s n (raising q i a left next) raised t (n + 1) (raising q i a (left - 1) (x + 1)) (set raised x 1) (drop b t)
   raise-step n = record {
-    goes = λ c w h e r.
-        let (d, k, o) = turn-done c w (goodReplay (raising q i a left next) raised) t long after (set raised x 1) w (step c w h e r) n refl in
-        rw (add-one x) (d, o);
+    goes = λ c w h l e r.
+        let m : lineBytes c ≤ length t = rw l long in
+        let f = rw (← l) at (step c w h l e r) in
+        let (d, k, o) = turn-done c w (goodReplay (raising q i a left next) raised) t m after (set raised x 1) w f n refl in
+        rw (add-one x, ← l) (d, o);
   }
 
 -- no line, and a line more
-module _ (s i left next : ℕ) (raised bytes : List ℕ) (from : ℕ) where
+module _ (b s i left next : ℕ) (raised bytes : List ℕ) (from : ℕ) where
   -- some lines, after which so many are left
   abbrev pub Raised : ℕ → ℕ → List ℕ → ℕ → Type 0
   Raised more above marked at =
-      (q : Progress) (a : ℤ) (n : ℕ) → Onward s n (raising q i a left next) raised (drop from bytes) (n + (left - more)) (raising q i a more above) marked (drop at bytes)
+      (q : Progress) (a : ℤ) (n : ℕ) → Onward b s n (raising q i a left next) raised (drop from bytes) (n + (left - more)) (raising q i a more above) marked (drop at bytes)
 
   pub none-raised : Raised left next raised from
-  none-raised q a n = record { goes = λ c w h e r. let z : n + (left - left) ≡ n = omega arith in rw z (refl, r) }
+  none-raised q a n = record { goes = λ c w h l e r. let z : n + (left - left) ≡ n = omega arith in rw z (refl, r) }
 
-  pub one-raised : (more above at x : ℕ) (marked : List ℕ) → Raised more above marked at → 27 ≤ length (drop at bytes) → readLine 12 (take 27 (drop at bytes)) ≡ some (raiseLine x)
-      → 1 < more → more ≤ left → x < s → above ≤ x → x ≢ i → Raised (more - 1) (x + 1) (set marked x 1) (at + 27)
+  pub one-raised : (more above at x : ℕ) (marked : List ℕ) → Raised more above marked at → b ≤ length (drop at bytes)
+      → ((width : ℕ) → lineLength width ≡ b → readLine width (take b (drop at bytes)) ≡ some (raiseLine x))
+      → 1 < more → more ≤ left → x < s → above ≤ x → x ≢ i → Raised (more - 1) (x + 1) (set marked x 1) (at + b)
   one-raised more above at x marked before long read h l below up other q a n = record {
-    goes = λ c w k e r.
-        let (d, o) = before q a n .goes c w k e r in
-        let (f, u) = raise-step s i more above x marked (drop at bytes) long read h below up other q a (n + (left - more)) .goes c w k e o in
+    goes = λ c w k m e r.
+        let (d, o) = before q a n .goes c w k m e r in
+        let (f, u) = raise-step b s i more above x marked (drop at bytes) long read h below up other q a (n + (left - more)) .goes c w k m e o in
         let z : n + (left - (more - 1)) ≡ n + (left - more) + 1 = omega arith in
-        rw (z, ← (drop-drop 27 at bytes)) (d ∙ f, u);
+        rw (z, ← (drop-drop b at bytes)) (d ∙ f, u);
   }
 
 -- the last scope of a press in range
 module _ (c : Case) (p : Replay) (i : ℕ) (a : ℤ) (left : ℕ) (lastOne : LastRaised) where
-  pub last-below : p .due ≡ Due.Raise i a left lastOne → T (not (recordOut standard c p)) → (x : ℕ) → lastOne ≡ LastRaised.Scope x → x < scopeCount c
+  pub last-below : p .due ≡ Due.Raise i a left lastOne → T (not (recordOut (rulesOf c) c p)) → (x : ℕ) → lastOne ≡ LastRaised.Scope x → x < scopeCount c
   last-below d r x e =
-      let u = not-or-iff (ltb (standard .rounds) (p .rounds)) (dueOut standard c (p .raised) (p .due)) .0 r .1 in
+      let u = not-or-iff (ltb (rulesOf c .rounds) (p .rounds)) (dueOut (rulesOf c) c (p .raised) (p .due)) .0 r .1 in
       let ((((v, m), l), o), z) = simp (not-or-iff, not-not-iff) at (rw d at u) in
       ltb→lt x (scopeCount c) (not-not-iff (ltb x (scopeCount c)) .0 (rw e at o))
 
@@ -104,12 +111,12 @@ held-as : (q : Progress) (i : ℕ) {a b : ℤ} (left : ℕ) {k l : LastRaised} �
 held-as q i {a} {b} left {k} {l} d e =
     ap (λ (z : ℤ). holding q i z left k) d ∙ ap (λ (x : LastRaised). holding q i b left x) e
 
-pub onward-as : {s n m : ℕ} {p u q v : Progress} {raised marked t x : List ℕ} → p ≡ u → q ≡ v → Onward s n p raised t m q marked x → Onward s n u raised t m v marked x
-onward-as {s} {n} {m} {p} {u} {q} {v} {raised} {marked} {t} {x} d e h =
-    subst (λ (y : Progress). Onward s n y raised t m v marked x) d (subst (λ (y : Progress). Onward s n p raised t m y marked x) e h)
+pub onward-as : {b s n m : ℕ} {p u q v : Progress} {raised marked t x : List ℕ} → p ≡ u → q ≡ v → Onward b s n p raised t m q marked x → Onward b s n u raised t m v marked x
+onward-as {b} {s} {n} {m} {p} {u} {q} {v} {raised} {marked} {t} {x} d e h =
+    subst (λ (y : Progress). Onward b s n y raised t m v marked x) d (subst (λ (y : Progress). Onward b s n p raised t m y marked x) e h)
 
 -- a press begun, its lines taken, with the record put together again
-pub held-on : {s i left more : ℕ} (next above : ℕ) {n m : ℕ} (q : Progress) {a b : ℤ} {k l : LastRaised} {v : Progress} {raised marked t x : List ℕ}
+pub held-on : {o s i left more : ℕ} (next above : ℕ) {n m : ℕ} (q : Progress) {a b : ℤ} {k l : LastRaised} {v : Progress} {raised marked t x : List ℕ}
     → lastOf next ≡ k → l ≡ lastOf above → b ≡ a → v ≡ holding q i b more l
-    → Onward s n (raising q i a left next) raised t m (raising q i a more above) marked x → Onward s n (holding q i a left k) raised t m v marked x
-held-on {s} {i} {left} {more} next above q d e f g h = onward-as (held-as q i left refl d) (sym (g ∙ held-as q i more f e)) h
+    → Onward o s n (raising q i a left next) raised t m (raising q i a more above) marked x → Onward o s n (holding q i a left k) raised t m v marked x
+held-on {i} {left} {more} next above q d e f g h = onward-as (held-as q i left refl d) (sym (g ∙ held-as q i more f e)) h

@@ -19,7 +19,7 @@ use Rattle.definitions.specs.declared.Outcome.{Outcome}
 use Rattle.definitions.specs.declared.Refusal.{Refusal}
 use Rattle.definitions.specs.declared.Verdict.{Verdict}
 use Rattle.definitions.specs.declared.Refusal.the-variants.{NotInColumns, RaiseNotAscending, OtherBound, BoundNotLower}
-use Rattle.definitions.specs.Rules.{standard}
+use Rattle.definitions.specs.Rules.{rulesOf}
 use Rattle.definitions.specs.Refusals.{firstOf}
 use Rattle.definitions.specs.Answers.{outcomeOf, unlessRefused}
 use Rattle.definitions.specs.Case.{scopeCount, upperBound}
@@ -67,26 +67,26 @@ module _ (t : Taken) (u w : List ℤ) where
 -- ---- a bound line, with the upper bound at hand
 
 module _ (c : Case) (w : List ℤ) (p : Replay) (t : Line) {b : ℤ} (k : b ≡ upperBound c w) where
-  pub other-bound : false ≡ eqZ (t .amount) b → firstOf (ofBound standard c w p t .later) ≡ some OtherBound
+  pub other-bound : false ≡ eqZ (t .amount) b → firstOf (ofBound (rulesOf c) c w p t .later) ≡ some OtherBound
   other-bound e = rw (← k, ← e)
 
-  pub not-lower : true ≡ eqZ (t .amount) b → leZ (p .start) b ≡ true → firstOf (ofBound standard c w p t .later) ≡ some BoundNotLower
+  pub not-lower : true ≡ eqZ (t .amount) b → leZ (p .start) b ≡ true → firstOf (ofBound (rulesOf c) c w p t .later) ≡ some BoundNotLower
   not-lower e l = rw (← k, ← e, is-false (ltZ b (p .start)) (simp flat (omega zs)))
 
-  pub lower : true ≡ eqZ (t .amount) b → leZ (p .start) b ≡ false → firstOf (ofBound standard c w p t .later) ≡ none
+  pub lower : true ≡ eqZ (t .amount) b → leZ (p .start) b ≡ false → firstOf (ofBound (rulesOf c) c w p t .later) ≡ none
   lower e l = rw (← k, ← e, is-true (ltZ b (p .start)) (simp flat (omega zs)))
 
 -- ---- a shift's line
 
-module _ (c : Case) (w : List ℤ) (p : Replay) (t : Line) (o : T (not (ofShift standard c w p t .out))) where
+module _ (c : Case) (w : List ℤ) (p : Replay) (t : Line) (o : T (not (ofShift (rulesOf c) c w p t .out))) where
   pub shift-counts : (ltZ (t .a) (pos 0) ≡ false) × (ltZ (t .b) (pos 0) ≡ false) × (ltZ (t .c) (pos 0) ≡ false)
   shift-counts = let (((a, b), k), m) = simp not-or-iff at o in (from-zero (c .m) (t .a) a, from-zero 2 (t .b) b, from-zero (c .d) (t .c) k)
 
-  pub shift-inside : shiftOut standard c (natAbs (t .a)) (natAbs (t .b)) (natAbs (t .c)) (t .amount) ≡ false
+  pub shift-inside : shiftOut (rulesOf c) c (natAbs (t .a)) (natAbs (t .b)) (natAbs (t .c)) (t .amount) ≡ false
   shift-inside =
       let (((a, b), k), m) = simp not-or-iff at o in
       rw (lt-ltb (natAbs (t .a)) (c .m) (inside (c .m) (t .a) a), lt-ltb (natAbs (t .b)) 2 (inside 2 (t .b) b), lt-ltb (natAbs (t .c)) (c .d) (inside (c .d) (t .c) k))
-      (is-false (not (shiftAmount standard (t .amount))) m)
+      (is-false (not (shiftAmount (rulesOf c) (t .amount))) m)
 
 -- ---- a verdict
 
@@ -114,13 +114,13 @@ module _ (b : Bool) where
 
 -- ---- the line that begins a press
 
-pub press-counts : (c : Case) (w : List ℤ) (p : Replay) (t : Line) → T (not (ofPress standard c w p t .out)) → (ltZ (t .a) (pos 0) ≡ false) × (ltZ (t .b) (pos 0) ≡ false)
+pub press-counts : (c : Case) (w : List ℤ) (p : Replay) (t : Line) → T (not (ofPress (rulesOf c) c w p t .out)) → (ltZ (t .a) (pos 0) ≡ false) × (ltZ (t .b) (pos 0) ≡ false)
 press-counts c w p t o =
     let ((a, b), m) = simp not-or-iff at o in
     (from-zero (c .n) (t .a) a, counted (scopeCount c - 1) (t .b) (not-not-iff (withinZ (pos 1) (pos (scopeCount c - 1)) (t .b)) .0 b) .0)
 
 pub press-begun : (c : Case) (w : List ℤ) (q : Progress) (raised : List ℕ) (t : Line) {i n : ℕ} {a : ℤ} {none : List ℕ} → i ≡ natAbs (t .a) → a ≡ t .amount → n ≡ natAbs (t .b) → none ≡ noneRaised
-    → goodReplay (record { rounds = q .rounds; start = q .start; moved = q .moved; due = Due.Raise i a n LastRaised.Nothing }) none ≡ ofPress standard c w (goodReplay q raised) t .next
+    → goodReplay (record { rounds = q .rounds; start = q .start; moved = q .moved; due = Due.Raise i a n LastRaised.Nothing }) none ≡ ofPress (rulesOf c) c w (goodReplay q raised) t .next
 press-begun c w q raised t {n} {a} {none} d e f g =
     ap (λ (i : ℕ). inPress (goodReplay q raised) none (Due.Raise i a n LastRaised.Nothing)) d
     ∙ ap (λ (a : ℤ). inPress (goodReplay q raised) none (Due.Raise (natAbs (t .a)) a n LastRaised.Nothing)) e
@@ -134,34 +134,34 @@ same-step w p a b none d e = rw (d, e)
 same-step w p a b (some x) d e = refl
 
 module _ (c : Case) (w : List ℤ) (p : Replay) (i : ℕ) (a : ℤ) (left : ℕ) (lastOne : LastRaised) (t : Line) where
-  pub raise-below : notAboveLast lastOne (natAbs (t .a)) ≡ true → firstOf (ofRaise standard c w p i a left lastOne t .later) ≡ some RaiseNotAscending
+  pub raise-below : notAboveLast lastOne (natAbs (t .a)) ≡ true → firstOf (ofRaise (rulesOf c) c w p i a left lastOne t .later) ≡ some RaiseNotAscending
   raise-below e = rw e
 
   module _ (above : notAboveLast lastOne (natAbs (t .a)) ≡ false) where
-    pub raise-own : eqb (natAbs (t .a)) i ≡ true → firstOf (ofRaise standard c w p i a left lastOne t .later) ≡ some RaiseNotAscending
+    pub raise-own : eqb (natAbs (t .a)) i ≡ true → firstOf (ofRaise (rulesOf c) c w p i a left lastOne t .later) ≡ some RaiseNotAscending
     raise-own e = rw (above, e)
 
     module _ (other : eqb (natAbs (t .a)) i ≡ false) where
-      pub raise-last : eqb left 1 ≡ true → lastStep c w p i a (natAbs (t .a)) ≡ stepNext w p (ofRaise standard c w p i a left lastOne t)
+      pub raise-last : eqb left 1 ≡ true → lastStep c w p i a (natAbs (t .a)) ≡ stepNext w p (ofRaise (rulesOf c) c w p i a left lastOne t)
       raise-last e =
           let k = lastAsked c w p i a (natAbs (t .a)) in
-          let m = ofRaise standard c w p i a left lastOne t in
+          let m = ofRaise (rulesOf c) c w p i a left lastOne t in
           let o : firstOf (k .later) ≡ firstOf (m .later) = rw (above, other, e) in
           let u : k .table ≡ m .table = rw e in
           let n : k .next ≡ m .next = rw e in
           ap (stepBy w p k) o ∙ same-step w p k m (firstOf (m .later)) u n
 
-      pub raise-more : eqb left 1 ≡ false → firstOf (ofRaise standard c w p i a left lastOne t .later) ≡ none
+      pub raise-more : eqb left 1 ≡ false → firstOf (ofRaise (rulesOf c) c w p i a left lastOne t .later) ≡ none
       raise-more e = rw (above, other, e)
 
 -- a scope raised, and lines left
 module _ (c : Case) (w : List ℤ) (q : Progress) (raised : List ℕ) (i : ℕ) (a : ℤ) (left : ℕ) (lastOne : LastRaised) (t : Line) (e : eqb left 1 ≡ false) where
-  pub raise-table : w ≡ ofRaise standard c w (goodReplay q raised) i a left lastOne t .table
+  pub raise-table : w ≡ ofRaise (rulesOf c) c w (goodReplay q raised) i a left lastOne t .table
   raise-table = rw e
 
   pub raise-record : {x : ℕ} {b : ℤ} → x ≡ natAbs (t .a) → b ≡ a
       → goodReplay (record { rounds = q .rounds; start = q .start; moved = q .moved; due = Due.Raise i b (left - 1) (LastRaised.Scope x) }) (set raised x 1)
-      ≡ ofRaise standard c w (goodReplay q raised) i a left lastOne t .next
+      ≡ ofRaise (rulesOf c) c w (goodReplay q raised) i a left lastOne t .next
   raise-record {x} {b} d f =
       ap (λ (x : ℕ). inPress (goodReplay q raised) (set raised x 1) (Due.Raise i b (left - 1) (LastRaised.Scope x))) d
       ∙ ap (λ (b : ℤ). inPress (goodReplay q raised) (set raised (natAbs (t .a)) 1) (Due.Raise i b (left - 1) (LastRaised.Scope (natAbs (t .a))))) f
@@ -183,20 +183,20 @@ missing : (o : Option Line) {x : Refusal} → elim o [ none ↦ LineRead.Refused
 missing none e = refl
 missing (some l) e = cc
 
-module _ (bytes : List ℕ) {r : LineRead} (e : r ≡ readLineAnswer standard bytes) where
-  pub line-read : {t : Line} → r ≡ LineRead.Read t → readLine 12 bytes ≡ some t
+module _ (c : Case) (bytes : List ℕ) {r : LineRead} (e : r ≡ readLineAnswer (rulesOf c) bytes) where
+  pub line-read : {t : Line} → r ≡ LineRead.Read t → readLine (rulesOf c .amountWidth) bytes ≡ some t
   unfolding readLineAnswer
-  line-read d = found (readLine 12 bytes) (sym e ∙ d)
+  line-read d = found (readLine (rulesOf c .amountWidth) bytes) (sym e ∙ d)
 
-  pub line-missing : {x : Refusal} → r ≡ LineRead.Refused x → readLine 12 bytes ≡ none
+  pub line-missing : {x : Refusal} → r ≡ LineRead.Refused x → readLine (rulesOf c .amountWidth) bytes ≡ none
   unfolding readLineAnswer
-  line-missing d = missing (readLine 12 bytes) (sym e ∙ d)
+  line-missing d = missing (readLine (rulesOf c .amountWidth) bytes) (sym e ∙ d)
 
-  module _ (c : Case) (w : List ℤ) (p : Replay) (good : p .standing ≡ Standing.Good) where
-    pub step-missing : {x : Refusal} → r ≡ LineRead.Refused x → stepReplay standard c w p bytes ≡ stepRefused p w NotInColumns
+  module _ (w : List ℤ) (p : Replay) (good : p .standing ≡ Standing.Good) where
+    pub step-missing : {x : Refusal} → r ≡ LineRead.Refused x → stepReplay (rulesOf c) c w p bytes ≡ stepRefused p w NotInColumns
     unfolding stepReplay
-    step-missing d = ap (stepStanding standard c w p bytes) good ∙ ap (stepLine standard c w p) (line-missing d)
+    step-missing d = ap (stepStanding (rulesOf c) c w p bytes) good ∙ ap (stepLine (rulesOf c) c w p) (line-missing d)
 
-    pub step-line : {t : Line} → r ≡ LineRead.Read t → stepReplay standard c w p bytes ≡ stepLine standard c w p (some t)
+    pub step-line : {t : Line} → r ≡ LineRead.Read t → stepReplay (rulesOf c) c w p bytes ≡ stepLine (rulesOf c) c w p (some t)
     unfolding stepReplay
-    step-line d = ap (stepStanding standard c w p bytes) good ∙ ap (stepLine standard c w p) (line-read d)
+    step-line d = ap (stepStanding (rulesOf c) c w p bytes) good ∙ ap (stepLine (rulesOf c) c w p) (line-read d)

@@ -8,9 +8,10 @@ use lib.IntN.{ℤ, pos}
 use lib.ListN.{length, replicate}
 use Rattle.integers.specs.Words.{joined, minus}
 use Rattle.definitions.specs.declared.Case.{Case}
+use Rattle.definitions.specs.declared.Rulebook.the-variants.{Desk}
 use Rattle.definitions.specs.declared.Outcome.{Outcome}
 use Rattle.definitions.specs.declared.Refusal.the-variants.{WrongLength, RaiseNotAscending}
-use Rattle.definitions.specs.Rules.{standard}
+use Rattle.definitions.specs.Rules.{rulesIn}
 use Rattle.definitions.specs.Answers.{outcomeSays}
 use Rattle.definitions.specs.Case.{upperBound}
 use Rattle.definitions.specs.Programs.{bytesOf}
@@ -60,15 +61,15 @@ use Rattle.checker.specs.Checker.{
 -- ---- the samples of document 01 and ours: a replay is answered by the fold of step
 
 abbrev start : Input → Between
-start i = record { case = i .case; table = i .weights; replay = freshReplay standard (i .case) (i .weights) }
+start i = record { case = i .case; table = i .weights; replay = freshReplay (rulesIn Desk) (i .case) (i .weights) }
 
 abbrev checked : Between → List ℕ → Result
 checked b numbers =
-    replayed numbers (outcomeSays (endReplay standard (b .case) (b .replay)) .number) (b .replay .rounds) (upperBound (b .case) (b .table)) (b .table)
+    replayed numbers (outcomeSays (endReplay (rulesIn Desk) (b .case) (b .replay)) .number) (b .replay .rounds) (upperBound (b .case) (b .table)) (b .table)
 
 abbrev answerByRecord : Question → Result
 answerByRecord (replay-of i ts) =
-    checked (afterLines standard (start i) (texts ts)) (map (λ o. outcomeSays o .number) (lineAnswers standard (start i) (texts ts)))
+    checked (afterLines (rulesIn Desk) (start i) (texts ts)) (map (λ o. outcomeSays o .number) (lineAnswers (rulesIn Desk) (start i) (texts ts)))
 answerByRecord (bound-of i) = answer (bound-of i)
 answerByRecord (run-of i limit) = answer (run-of i limit)
 answerByRecord (all-active i limit) = answer (all-active i limit)
@@ -113,7 +114,7 @@ inside i a left last marks = record {
 }
 
 abbrev onClash : Replay → String → StepCall
-onClash p line = stepReplay standard (clash .case) (clash .weights) p (bytesOf line)
+onClash p line = stepReplay (rulesIn Desk) (clash .case) (clash .weights) p (bytesOf line)
 
 abbrev numberOf : StepCall → ℕ
 numberOf q = outcomeSays (q .stepped .answer) .number
@@ -181,7 +182,7 @@ press-made = refl
 -- ---- fresh and end: number 8 stands, and is answered before anything else is looked at
 
 abbrev tooHigh : Replay
-tooHigh = freshReplay standard (clash .case) (pos 1_000_001 ∷ zeros 7)
+tooHigh = freshReplay (rulesIn Desk) (clash .case) (pos 1_000_001 ∷ zeros 7)
 
 pub fresh-refused :
     _≡_ {A = ℤ × ℕ × ℕ} (tooHigh .start, standingSays (tooHigh .standing) .number, numberOf (onClash tooHigh "x")) (pos 0, 8, 8)
@@ -189,7 +190,7 @@ unfolding freshReplay stepReplay
 fresh-refused = refl
 
 pub ends :
-    map (λ p. outcomeSays (endReplay standard (clash .case) p) .number)
+    map (λ p. outcomeSays (endReplay (rulesIn Desk) (clash .case) p) .number)
     (tooHigh ∷ between 0 ∷ between (most + 1) ∷ inside 0 (pos 1) 1 LastRaised.Nothing [] ∷ inside 2 (pos 1) 1 LastRaised.Nothing [] ∷ [])
     ≡ 8 ∷ 0 ∷ 5 ∷ 14 ∷ 5 ∷ []
 unfolding freshReplay endReplay
@@ -201,12 +202,12 @@ paired n i j = given n 2 1 (i ∷ []) (j ∷ []) [] .case
 
 -- the end asks 3, 5, 6 before 14: 49 links; 48; a link past the last; a pair (1, 0); a press held; and the record's 5 before that
 pub ends-ask :
-    outcomeSays (endReplay standard (paired 49 0 1) (between 0)) .number
-    ∷ outcomeSays (endReplay standard (paired 48 0 1) (between 0)) .number
-    ∷ outcomeSays (endReplay standard (paired 2 0 2) (between 0)) .number
-    ∷ outcomeSays (endReplay standard (paired 2 1 0) (between 0)) .number
-    ∷ outcomeSays (endReplay standard (paired 2 1 0) (inside 0 (pos 1) 1 LastRaised.Nothing [])) .number
-    ∷ outcomeSays (endReplay standard (paired 2 1 0) (between (most + 1))) .number
+    outcomeSays (endReplay (rulesIn Desk) (paired 49 0 1) (between 0)) .number
+    ∷ outcomeSays (endReplay (rulesIn Desk) (paired 48 0 1) (between 0)) .number
+    ∷ outcomeSays (endReplay (rulesIn Desk) (paired 2 0 2) (between 0)) .number
+    ∷ outcomeSays (endReplay (rulesIn Desk) (paired 2 1 0) (between 0)) .number
+    ∷ outcomeSays (endReplay (rulesIn Desk) (paired 2 1 0) (inside 0 (pos 1) 1 LastRaised.Nothing [])) .number
+    ∷ outcomeSays (endReplay (rulesIn Desk) (paired 2 1 0) (between (most + 1))) .number
     ∷ []
     ≡ 3 ∷ 0 ∷ 5 ∷ 6 ∷ 6 ∷ 5 ∷ []
 unfolding endReplay
@@ -218,9 +219,9 @@ abbrev blockSays : BlockCall → ℕ × ℕ
 blockSays q = (q .block .lines, outcomeSays (q .block .answer) .number)
 
 pub blocks :
-    blockSays (blockReplay standard (triangle .case) (triangle .weights) (start triangle .replay) (joined (texts log1) ++ (32 ∷ [])))
-    ∷ blockSays (blockReplay standard (clash .case) (clash .weights) (start clash .replay) (joined (texts (shiftLine ∷ " 4   0   0   0           4\n" ∷ "x" ∷ []))))
-    ∷ blockSays (blockReplay standard (clash .case) (clash .weights) tooHigh (joined (texts log6)))
+    blockSays (blockReplay (rulesIn Desk) (triangle .case) (triangle .weights) (start triangle .replay) (joined (texts log1) ++ (32 ∷ [])))
+    ∷ blockSays (blockReplay (rulesIn Desk) (clash .case) (clash .weights) (start clash .replay) (joined (texts (shiftLine ∷ " 4   0   0   0           4\n" ∷ "x" ∷ []))))
+    ∷ blockSays (blockReplay (rulesIn Desk) (clash .case) (clash .weights) tooHigh (joined (texts log6)))
     ∷ []
     ≡ (5, 0) ∷ (1, 13) ∷ (0, 8) ∷ []
 unfolding freshReplay stepReplay foldReplay blockReplay
@@ -230,7 +231,7 @@ blocks = refl
 
 abbrev without : Case → List ℤ → Replay → String → ℕ × ℕ
 without c w p part =
-    let q = blockReplay standard c w p (bytesOf part) in
+    let q = blockReplay (rulesIn Desk) c w p (bytesOf part) in
     (outcomeSays (q .block .answer) .number, standingSays (q .block .replay .standing) .number)
 
 pub no-lines :
@@ -253,7 +254,7 @@ unfolding freshReplay foldReplay blockReplay
 no-lines = refl
 
 -- refused, the standing changes alone
-pub no-line-keeps : blockReplay standard (clash .case) (zeros 7) (inside 0 (pos 1) 2 (LastRaised.Scope 2) (0 ∷ 0 ∷ 1 ∷ [])) (bytesOf "x")
+pub no-line-keeps : blockReplay (rulesIn Desk) (clash .case) (zeros 7) (inside 0 (pos 1) 2 (LastRaised.Scope 2) (0 ∷ 0 ∷ 1 ∷ [])) (bytesOf "x")
     ≡ record {
       block = record {
         replay = record {

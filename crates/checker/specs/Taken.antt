@@ -10,12 +10,12 @@ use Rattle.definitions.specs.declared.Line.{Line}
 use Rattle.definitions.specs.declared.Outcome.{Outcome}
 use Rattle.definitions.specs.declared.Figure.{Figure}
 use Rattle.definitions.specs.declared.Refusal.the-variants.{NotDue, NotRefuted, LeavesRange}
-use Rattle.definitions.specs.Rules.{standard}
+use Rattle.definitions.specs.Rules.{rulesOf}
 use Rattle.definitions.specs.Refusals.{Test, _when_, firstOf}
 use Rattle.definitions.specs.Valid.{workingWeight, handedOver}
 use Rattle.definitions.specs.Consistency.{allRefuted}
 use Rattle.definitions.specs.Moves.{plus, pressBy, activeValues, leavesRange}
-use Rattle.definitions.specs.Lines.{notDue}
+use Rattle.definitions.specs.Lines.{notDue, lineLength}
 use Rattle.checker.specs.declared.Standing.{Standing}
 use Rattle.checker.specs.declared.Replay.{Replay}
 use Rattle.checker.specs.declared.Progress.{Progress}
@@ -60,8 +60,8 @@ stepNext w p asked = stepBy w p asked (firstOf (asked .later))
 -- numbers 2 to 8 of a line
 abbrev pub frontTests : Case → List ℤ → Replay → Line → List Test
 frontTests c w p t =
-    NotDue when (notDue standard (dueKinds (p .due)) t)
-    ∷ handedOver standard (workingWeight standard) c w false (recordOut standard c p || ofKind standard c w p (p .due) t .out)
+    NotDue when (notDue (rulesOf c) (dueKinds (p .due)) t)
+    ∷ handedOver (rulesOf c) (workingWeight (rulesOf c)) c w false (recordOut (rulesOf c) c p || ofKind (rulesOf c) c w p (p .due) t .out)
 
 -- ---- a press's last raise line: the table after the press, numbers 10 and 11, and the step
 
@@ -69,7 +69,7 @@ abbrev pub pressed : Case → List ℤ → ℕ → List ℕ → ℤ → List ℤ
 pressed c w i raised a = plus c (pressBy c w i (activeValues c w i) (isRaised raised) a) w
 
 abbrev pub rangeTests : Case → List ℤ → List Test
-rangeTests c v = LeavesRange when (leavesRange standard c v) ∷ []
+rangeTests c v = LeavesRange when (leavesRange (rulesOf c) c v) ∷ []
 
 abbrev pub wholeTests : Case → List ℤ → ℕ → List ℕ → ℤ → List Test
 wholeTests c w i raised a =
@@ -83,7 +83,13 @@ lastAsked c w p i a x =
 abbrev pub lastStep : Case → List ℤ → Replay → ℕ → ℤ → ℕ → StepCall
 lastStep c w p i a x = stepNext w p (lastAsked c w p i a x)
 
--- ---- a block with so many lines more
+-- ---- lines
+
+-- a line has so many bytes under the case's rules
+abbrev pub lineBytes : Case → ℕ
+lineBytes c = lineLength (rulesOf c .amountWidth)
+
+-- a block with so many lines more
 abbrev pub moreBy : ℕ → BlockCall → BlockCall
 moreBy n x = record {
   block = record { replay = x .block .replay; lines = n + x .block .lines; answer = x .block .answer };

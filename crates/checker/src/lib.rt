@@ -6,30 +6,33 @@ use definitions::Line;
 use definitions::LineRead;
 use definitions::Outcome;
 use definitions::Refusal;
+use definitions::SCOPE_PLACES;
 use definitions::Verdict;
 ghost use mathlib.Core.Path.{_≡_};
 ghost use mathlib.Core.Bool.{not, _||_, true, false};
 ghost use mathlib.Core.Option.{some};
 ghost use mathlib.Core.List.{List, [], _∷_};
-ghost use Prim.Native.Nat.{ℕ, _+_, _-_, _≤_, _<_};
+ghost use Prim.Native.Nat.{ℕ, _+_, _-_, _^_, _≤_, _<_};
 ghost use lib.IntN.{ℤ, pos, natAbs};
 ghost use lib.Dec.{T, ltb, eqb};
 ghost use lib.Signed.{ltZ};
 ghost use lib.ListN.{length, drop, replicate};
 ghost use Rattle.integers.specs.Words.{all, within, withinZ};
-ghost use Rattle.definitions.specs.Rules.{standard};
+ghost use Rattle.definitions.specs.declared.Rulebook.{Rulebook};
+ghost use Rattle.definitions.specs.Rules.{rulesIn, rulesOf, scopePlaces};
 ghost use Rattle.definitions.specs.Refusals.{firstOf};
 ghost use Rattle.definitions.specs.Answers.{outcomeOf, unlessRefused};
 ghost use Rattle.definitions.specs.Case.{scopeCount, upperBound};
 ghost use Rattle.definitions.specs.Valid.{workingWeight, handedOver};
 ghost use Rattle.definitions.specs.Consistency.{allRefuted};
 ghost use Rattle.definitions.specs.Moves.{shiftAmount, pressAmount, activeValues};
-ghost use Rattle.definitions.specs.Lines.{readLine, outside, notDue};
+ghost use Rattle.definitions.specs.Lines.{readLine, columnAt, lineLength, outside, notDue};
+ghost use Rattle.definitions.specs.Calls.{readLineAnswer};
 ghost use Rattle.theory.proofs.Validity.{Handed};
 ghost use Rattle.tables.specs.Scopes.{Limited, BestOf};
 ghost use Rattle.lines.specs.Words.{Word};
 ghost use Rattle.checker.specs.Checker.{isRaised, lastOut, notAboveLast, dueKinds, isHeld, refusedReplay, dueOut, recordOut, freshReplay, ofShift, ofPress, ofBound, ofRaise, ofKind, stepLine, stepReplay, endTests, endReplay, noLine, lentStanding, foldReplay, blockReplay};
-ghost use Rattle.checker.specs.Taken.{standingAfter, replayOf, goodReplay, freshFrom, stepOf, stepNext, pressed, rangeTests, wholeTests, lastStep, frontTests, moreBy};
+ghost use Rattle.checker.specs.Taken.{standingAfter, replayOf, goodReplay, freshFrom, stepOf, stepNext, pressed, rangeTests, wholeTests, lastStep, frontTests, lineBytes, moreBy};
 ghost use Rattle.checker.specs.Raising.{raiseLine, Digit, Small, RaiseText, lastOf, holding, raising, Onward};
 
 // The last scope that a press has raised.
@@ -60,7 +63,7 @@ pub struct Replay {
     pub rounds: u64,
     pub start: i64,
     pub moved: bool,
-    pub raised: [u8; 144],
+    pub raised: [u8; SCOPE_PLACES],
     pub due: Due,
     pub standing: Standing,
 }
@@ -106,21 +109,36 @@ struct Place {
     done: usize,
 }
 
-// The greatest count of rounds, and the greatest amount of a move.
-const ROUNDS: u64 = 999_999_999_999_999_999;
-
-const MOVING: i64 = 1_000_000_000;
-
-// The length of a line.
-const LINE: usize = 27;
-
 // Four spaces, and three spaces and a 0, as words.
 const BLANKS: usize = 538976288;
 
 const ZERO: usize = 807411744;
 
-// No scope.
-const NONE: usize = 1000;
+// No scope: scopes are numbered from 0.
+const NONE: usize = SCOPE_PLACES;
+
+// ---- the numbers of the case's rules
+
+fn most_rounds(case: Case) -> u64
+    ensures { λ r. ⌜ r ≡ rulesOf case .rounds ⌝ }
+{
+    let rulebook = case.rulebook;
+    rules::most_rounds(rulebook)
+}
+
+fn line_length(case: Case) -> usize
+    ensures { λ r. ⌜ r ≡ lineBytes case ⌝ }
+{
+    let rulebook = case.rulebook;
+    rules::line_length(rulebook)
+}
+
+fn read_line(case: Case, bytes: &[u8]) -> LineRead
+    ensures { λ r. ⌜ r ≡ readLineAnswer (rulesOf case) (now (bytes .entry)) ⌝ }
+{
+    let rulebook = case.rulebook;
+    lines::read_line_in(bytes, rules::amount_width(rulebook))
+}
 
 // ---- numbers in columns
 
@@ -149,7 +167,7 @@ fn index(z: i64) -> usize
 // ---- number 2
 
 fn move_due(line: Line) -> bool
-    ensures { λ r. ⌜ r ≡ not (notDue standard (1 ∷ 2 ∷ 4 ∷ []) line) ⌝ }
+    ensures { λ r. ⌜ ((b : Rulebook) → r ≡ not (notDue (rulesIn b) (1 ∷ 2 ∷ 4 ∷ []) line)) ⌝ }
 {
     if line.kind == 1 {
         return true;
@@ -164,13 +182,13 @@ fn move_due(line: Line) -> bool
 }
 
 fn raise_due(line: Line) -> bool
-    ensures { λ r. ⌜ r ≡ not (notDue standard (3 ∷ []) line) ⌝ }
+    ensures { λ r. ⌜ ((b : Rulebook) → r ≡ not (notDue (rulesIn b) (3 ∷ []) line)) ⌝ }
 {
     (line.kind == 3) & (line.b == 0) & (line.c == 0) & (line.amount == 0)
 }
 
 fn is_due(due: Due, line: Line) -> bool
-    ensures { λ r. ⌜ r ≡ not (notDue standard (dueKinds due) line) ⌝ }
+    ensures { λ r. ⌜ ((b : Rulebook) → r ≡ not (notDue (rulesIn b) (dueKinds due) line)) ⌝ }
 {
     match due {
         Due::MoveOrBound => move_due(line),
@@ -186,7 +204,7 @@ fn is_due(due: Due, line: Line) -> bool
 // ---- number 5 of the record
 
 fn last_out(case: Case, last: LastRaised) -> bool
-    requires { ⌜ Limited standard case ⌝ }
+    requires { ⌜ Limited case ⌝ }
     ensures { λ r. ⌜ r ≡ lastOut case last ⌝ }
 {
     match last {
@@ -215,6 +233,13 @@ fn in_range(x: usize, low: usize, high: usize) -> bool
     low <= x && x <= high
 }
 
+fn is_press_amount(case: Case, amount: i64) -> bool
+    ensures { λ r. ⌜ r ≡ pressAmount (rulesOf case) amount ⌝ }
+{
+    let rulebook = case.rulebook;
+    is_within(amount, 1, rules::most_moving(rulebook))
+}
+
 fn press_out(
     case: Case,
     raised: &[u8],
@@ -223,22 +248,22 @@ fn press_out(
     left: usize,
     last: LastRaised,
 ) -> bool
-    requires { ⌜ Limited standard case ⌝ }
-    ensures { λ r. ⌜ r ≡ dueOut standard case (now (raised .entry)) (Due.Raise variable amount left last) ⌝ }
+    requires { ⌜ Limited case ⌝ }
+    ensures { λ r. ⌜ r ≡ dueOut (rulesOf case) case (now (raised .entry)) (Due.Raise variable amount left last) ⌝ }
 {
     let scopes = case.n + case.m;
     !(variable < case.n)
-        | !is_within(amount, 1, MOVING)
+        | !is_press_amount(case, amount)
         | !in_range(left, 1, scopes - 1)
         | last_out(case, last)
         | !none_from(raised, scopes)
 }
 
 fn record_out(case: Case, raised: &[u8], rounds: u64, due: Due) -> bool
-    requires { ⌜ Limited standard case ⌝ }
-    ensures { λ r. ⌜ r ≡ (ltb (standard .rounds) rounds || dueOut standard case (now (raised .entry)) due) ⌝ }
+    requires { ⌜ Limited case ⌝ }
+    ensures { λ r. ⌜ r ≡ (ltb (rulesOf case .rounds) rounds || dueOut (rulesOf case) case (now (raised .entry)) due) ⌝ }
 {
-    if ROUNDS < rounds {
+    if most_rounds(case) < rounds {
         return true;
     }
     match due {
@@ -254,37 +279,42 @@ fn record_out(case: Case, raised: &[u8], rounds: u64, due: Due) -> bool
 
 // ---- number 5 of the line
 
-fn is_shift_amount(amount: i64) -> bool
-    ensures { λ r. ⌜ r ≡ shiftAmount standard amount ⌝ }
+fn is_shift_amount(case: Case, amount: i64) -> bool
+    ensures { λ r. ⌜ r ≡ shiftAmount (rulesOf case) amount ⌝ }
 {
-    if !is_within(amount, -MOVING, MOVING) {
+    let rulebook = case.rulebook;
+    if !is_within(
+        amount,
+        rules::least_moving(rulebook),
+        rules::most_moving(rulebook),
+    ) {
         return false;
     }
     amount != 0
 }
 
 fn shift_out(case: Case, line: Line) -> bool
-    ensures { λ r. ⌜ ((w : List ℤ) (p : Replay) → r ≡ ofShift standard case w p line .out) ⌝ }
+    ensures { λ r. ⌜ ((w : List ℤ) (p : Replay) → r ≡ ofShift (rulesOf case) case w p line .out) ⌝ }
 {
     is_outside(line.a, case.m)
         | is_outside(line.b, 2)
         | is_outside(line.c, case.d)
-        | !is_shift_amount(line.amount)
+        | !is_shift_amount(case, line.amount)
 }
 
 fn begin_out(case: Case, line: Line) -> bool
-    requires { ⌜ Limited standard case ⌝ }
-    ensures { λ r. ⌜ ((w : List ℤ) (p : Replay) → r ≡ ofPress standard case w p line .out) ⌝ }
+    requires { ⌜ Limited case ⌝ }
+    ensures { λ r. ⌜ ((w : List ℤ) (p : Replay) → r ≡ ofPress (rulesOf case) case w p line .out) ⌝ }
 {
     let most = case.n + case.m - 1;
     is_outside(line.a, case.n)
         | !is_within(line.b, 1, most as i64)
-        | !is_within(line.amount, 1, MOVING)
+        | !is_press_amount(case, line.amount)
 }
 
 fn move_out(case: Case, rounds: u64, line: Line) -> bool
-    requires { ⌜ Limited standard case ⌝ }
-    ensures { λ r. ⌜ ((w : List ℤ) (p : Replay) → p .rounds ≡ rounds → r ≡ ofKind standard case w p Due.MoveOrBound line .out) ⌝ }
+    requires { ⌜ Limited case ⌝ }
+    ensures { λ r. ⌜ ((w : List ℤ) (p : Replay) → p .rounds ≡ rounds → r ≡ ofKind (rulesOf case) case w p Due.MoveOrBound line .out) ⌝ }
 {
     if line.kind == 1 {
         return shift_out(case, line);
@@ -292,12 +322,12 @@ fn move_out(case: Case, rounds: u64, line: Line) -> bool
     if line.kind == 2 {
         return begin_out(case, line);
     }
-    ROUNDS <= rounds
+    most_rounds(case) <= rounds
 }
 
 fn line_out(case: Case, rounds: u64, due: Due, line: Line) -> bool
-    requires { ⌜ Limited standard case ⌝ }
-    ensures { λ r. ⌜ ((w : List ℤ) (p : Replay) → p .rounds ≡ rounds → r ≡ ofKind standard case w p due line .out) ⌝ }
+    requires { ⌜ Limited case ⌝ }
+    ensures { λ r. ⌜ ((w : List ℤ) (p : Replay) → p .rounds ≡ rounds → r ≡ ofKind (rulesOf case) case w p due line .out) ⌝ }
 {
     match due {
         Due::MoveOrBound => move_out(case, rounds, line),
@@ -351,7 +381,7 @@ fn after_move(progress: Progress) -> Taken
 }
 
 fn after_bound(progress: Progress, bound: i64) -> Taken
-    requires { ⌜ progress .rounds < standard .rounds ⌝ }
+    requires { ⌜ progress .rounds < 2 ^ 63 ⌝ }
     ensures { λ r. ⌜ r ≡ record { progress = record { rounds = progress .rounds + 1; start = bound; moved = false; due = Due.MoveOrBound }; answer = Outcome.Done } ⌝ }
 {
     Taken {
@@ -366,7 +396,7 @@ fn after_bound(progress: Progress, bound: i64) -> Taken
 }
 
 // The record of its parts.
-fn record_of(progress: Progress, raised: [u8; 144], standing: Standing) -> Replay
+fn record_of(progress: Progress, raised: [u8; SCOPE_PLACES], standing: Standing) -> Replay
     ensures { λ r. ⌜ r ≡ replayOf progress raised standing ⌝ }
 {
     let due = progress.due;
@@ -414,8 +444,8 @@ fn clear(raised: &mut [u8])
 // ---- what is prepared for many lines: each scope's greatest weight
 
 fn prepare(case: Case, table: &[i64], best: &mut [i64])
-    requires { ⌜ Handed standard (workingWeight standard) case (now table) ⌝ }
-    requires { ⌜ length (now best) ≡ 144 ⌝ }
+    requires { ⌜ Handed (rulesOf case) (workingWeight (rulesOf case)) case (now table) ⌝ }
+    requires { ⌜ length (now best) ≡ scopePlaces ⌝ }
     ensures { λ _. ⌜ BestOf case (now (table .entry)) (now (best .exit)) ⌝ }
 {
     tables::greatest_weights(case, table, best);
@@ -424,10 +454,10 @@ fn prepare(case: Case, table: &[i64], best: &mut [i64])
 // ---- each kind of line, none of whose numbers up to 8 applies
 
 fn shift_made(case: Case, table: &mut [i64], best: &mut [i64], line: Line) -> Outcome
-    requires { ⌜ Handed standard (workingWeight standard) case (now table) ⌝ }
+    requires { ⌜ Handed (rulesOf case) (workingWeight (rulesOf case)) case (now table) ⌝ }
     requires { ⌜ BestOf case (now table) (now best) ⌝ }
-    requires { ⌜ ((p : Replay) → T (not (ofShift standard case (now table) p line .out))) ⌝ }
-    ensures { λ r. ⌜ ((p : Replay) → (r ≡ outcomeOf (firstOf (ofShift standard case (now (table .entry)) p line .later))) × (now (table .exit) ≡ unlessRefused (firstOf (ofShift standard case (now (table .entry)) p line .later)) (ofShift standard case (now (table .entry)) p line .table) (now (table .entry)))) ⌝ }
+    requires { ⌜ ((p : Replay) → T (not (ofShift (rulesOf case) case (now table) p line .out))) ⌝ }
+    ensures { λ r. ⌜ ((p : Replay) → (r ≡ outcomeOf (firstOf (ofShift (rulesOf case) case (now (table .entry)) p line .later))) × (now (table .exit) ≡ unlessRefused (firstOf (ofShift (rulesOf case) case (now (table .entry)) p line .later)) (ofShift (rulesOf case) case (now (table .entry)) p line .table) (now (table .entry)))) ⌝ }
     ensures { λ r. ⌜ BestOf case (now (table .exit)) (now (best .exit)) ⌝ }
 {
     let edge = index(line.a);
@@ -443,10 +473,10 @@ fn shift_line(
     progress: Progress,
     line: Line,
 ) -> Taken
-    requires { ⌜ Handed standard (workingWeight standard) case (now table) ⌝ }
+    requires { ⌜ Handed (rulesOf case) (workingWeight (rulesOf case)) case (now table) ⌝ }
     requires { ⌜ BestOf case (now table) (now best) ⌝ }
-    requires { ⌜ ((p : Replay) → T (not (ofShift standard case (now table) p line .out))) ⌝ }
-    ensures { λ r. ⌜ ((raised : List ℕ) → stepOf r raised (now (table .exit)) ≡ stepNext (now (table .entry)) (goodReplay progress raised) (ofShift standard case (now (table .entry)) (goodReplay progress raised) line)) ⌝ }
+    requires { ⌜ ((p : Replay) → T (not (ofShift (rulesOf case) case (now table) p line .out))) ⌝ }
+    ensures { λ r. ⌜ ((raised : List ℕ) → stepOf r raised (now (table .exit)) ≡ stepNext (now (table .entry)) (goodReplay progress raised) (ofShift (rulesOf case) case (now (table .entry)) (goodReplay progress raised) line)) ⌝ }
     ensures { λ r. ⌜ BestOf case (now (table .exit)) (now (best .exit)) ⌝ }
 {
     let made = shift_made(case, table, best, line);
@@ -458,9 +488,9 @@ fn shift_line(
 
 // A press is begun.
 fn press_line(raised: &mut [u8], progress: Progress, line: Line) -> Taken
-    requires { ⌜ length (now raised) ≡ 144 ⌝ }
+    requires { ⌜ length (now raised) ≡ scopePlaces ⌝ }
     requires { ⌜ (ltZ (line .a) (pos 0) ≡ false) × (ltZ (line .b) (pos 0) ≡ false) ⌝ }
-    ensures { λ r. ⌜ ((c : Case) (w : List ℤ) → stepOf r (now (raised .exit)) w ≡ stepNext w (goodReplay progress (now (raised .entry))) (ofPress standard c w (goodReplay progress (now (raised .entry))) line)) ⌝ }
+    ensures { λ r. ⌜ ((c : Case) (w : List ℤ) → stepOf r (now (raised .exit)) w ≡ stepNext w (goodReplay progress (now (raised .entry))) (ofPress (rulesOf c) c w (goodReplay progress (now (raised .entry))) line)) ⌝ }
 {
     clear(raised);
     let variable = index(line.a);
@@ -478,8 +508,8 @@ fn press_line(raised: &mut [u8], progress: Progress, line: Line) -> Taken
 }
 
 fn stated_bound(progress: Progress, line: Line, bound: i64) -> Taken
-    requires { ⌜ progress .rounds < standard .rounds ⌝ }
-    ensures { λ r. ⌜ ((c : Case) (w : List ℤ) (raised : List ℕ) → bound ≡ upperBound c w → stepOf r raised w ≡ stepNext w (goodReplay progress raised) (ofBound standard c w (goodReplay progress raised) line)) ⌝ }
+    requires { ⌜ progress .rounds < 2 ^ 63 ⌝ }
+    ensures { λ r. ⌜ ((c : Case) (w : List ℤ) (raised : List ℕ) → bound ≡ upperBound c w → stepOf r raised w ≡ stepNext w (goodReplay progress raised) (ofBound (rulesOf c) c w (goodReplay progress raised) line)) ⌝ }
 {
     if line.amount != bound {
         return refused(progress, Refusal::OtherBound);
@@ -491,8 +521,8 @@ fn stated_bound(progress: Progress, line: Line, bound: i64) -> Taken
 }
 
 fn bound_line(case: Case, best: &[i64], progress: Progress, line: Line) -> Taken
-    requires { ⌜ progress .rounds < standard .rounds ⌝ }
-    ensures { λ r. ⌜ ((w : List ℤ) (raised : List ℕ) → Handed standard (workingWeight standard) case w → BestOf case w (now (best .entry)) → stepOf r raised w ≡ stepNext w (goodReplay progress raised) (ofBound standard case w (goodReplay progress raised) line)) ⌝ }
+    requires { ⌜ progress .rounds < rulesOf case .rounds ⌝ }
+    ensures { λ r. ⌜ ((w : List ℤ) (raised : List ℕ) → Handed (rulesOf case) (workingWeight (rulesOf case)) case w → BestOf case w (now (best .entry)) → stepOf r raised w ≡ stepNext w (goodReplay progress raised) (ofBound (rulesOf case) case w (goodReplay progress raised) line)) ⌝ }
 {
     let sum = tables::sum_of_best(case, best);
     match sum {
@@ -513,9 +543,9 @@ fn not_above(last: LastRaised, x: usize) -> bool
 }
 
 fn all_refuted(case: Case, table: &[i64], best: &[i64], raised: &[u8], variable: usize) -> bool
-    requires { ⌜ Handed standard (workingWeight standard) case (now table) ⌝ }
+    requires { ⌜ Handed (rulesOf case) (workingWeight (rulesOf case)) case (now table) ⌝ }
     requires { ⌜ BestOf case (now table) (now best) ⌝ }
-    requires { ⌜ (length (now raised) ≡ 144) × (variable < case .n) ⌝ }
+    requires { ⌜ (length (now raised) ≡ scopePlaces) × (variable < case .n) ⌝ }
     ensures { λ r. ⌜ r ≡ allRefuted case (now (table .entry)) (isRaised (now (raised .entry))) variable (activeValues case (now (table .entry)) variable) ⌝ }
 {
     let verdict = arcs::best_unsupported(case, table, best, raised, variable);
@@ -534,9 +564,9 @@ fn press_made(
     variable: usize,
     amount: i64,
 ) -> Outcome
-    requires { ⌜ Handed standard (workingWeight standard) case (now table) ⌝ }
+    requires { ⌜ Handed (rulesOf case) (workingWeight (rulesOf case)) case (now table) ⌝ }
     requires { ⌜ BestOf case (now table) (now best) ⌝ }
-    requires { ⌜ (length (now raised) ≡ 144) × (variable < case .n) × T (pressAmount standard amount) ⌝ }
+    requires { ⌜ (length (now raised) ≡ scopePlaces) × (variable < case .n) × T (pressAmount (rulesOf case) amount) ⌝ }
     ensures { λ r. ⌜ (r ≡ outcomeOf (firstOf (rangeTests case (pressed case (now (table .entry)) variable (now (raised .entry)) amount)))) × (now (table .exit) ≡ unlessRefused (firstOf (rangeTests case (pressed case (now (table .entry)) variable (now (raised .entry)) amount))) (pressed case (now (table .entry)) variable (now (raised .entry)) amount) (now (table .entry))) ⌝ }
     ensures { λ r. ⌜ BestOf case (now (table .exit)) (now (best .exit)) ⌝ }
 {
@@ -552,9 +582,9 @@ fn press_whole(
     variable: usize,
     amount: i64,
 ) -> Outcome
-    requires { ⌜ Handed standard (workingWeight standard) case (now table) ⌝ }
+    requires { ⌜ Handed (rulesOf case) (workingWeight (rulesOf case)) case (now table) ⌝ }
     requires { ⌜ BestOf case (now table) (now best) ⌝ }
-    requires { ⌜ (length (now raised) ≡ 144) × (variable < case .n) × T (pressAmount standard amount) ⌝ }
+    requires { ⌜ (length (now raised) ≡ scopePlaces) × (variable < case .n) × T (pressAmount (rulesOf case) amount) ⌝ }
     ensures { λ r. ⌜ (r ≡ outcomeOf (firstOf (wholeTests case (now (table .entry)) variable (now (raised .entry)) amount))) × (now (table .exit) ≡ unlessRefused (firstOf (wholeTests case (now (table .entry)) variable (now (raised .entry)) amount)) (pressed case (now (table .entry)) variable (now (raised .entry)) amount) (now (table .entry))) ⌝ }
     ensures { λ r. ⌜ BestOf case (now (table .exit)) (now (best .exit)) ⌝ }
 {
@@ -575,9 +605,9 @@ fn last_raise(
     amount: i64,
     x: usize,
 ) -> Taken
-    requires { ⌜ Handed standard (workingWeight standard) case (now table) ⌝ }
+    requires { ⌜ Handed (rulesOf case) (workingWeight (rulesOf case)) case (now table) ⌝ }
     requires { ⌜ BestOf case (now table) (now best) ⌝ }
-    requires { ⌜ (length (now raised) ≡ 144) × (variable < case .n) × T (pressAmount standard amount) × (x < 144) ⌝ }
+    requires { ⌜ (length (now raised) ≡ scopePlaces) × (variable < case .n) × T (pressAmount (rulesOf case) amount) × (x < scopePlaces) ⌝ }
     ensures { λ r. ⌜ stepOf r (now (raised .exit)) (now (table .exit)) ≡ lastStep case (now (table .entry)) (goodReplay progress (now (raised .entry))) variable amount x ⌝ }
     ensures { λ r. ⌜ BestOf case (now (table .exit)) (now (best .exit)) ⌝ }
 {
@@ -608,11 +638,11 @@ fn raise_line(
     last: LastRaised,
     line: Line,
 ) -> Taken
-    requires { ⌜ Handed standard (workingWeight standard) case (now table) ⌝ }
+    requires { ⌜ Handed (rulesOf case) (workingWeight (rulesOf case)) case (now table) ⌝ }
     requires { ⌜ BestOf case (now table) (now best) ⌝ }
-    requires { ⌜ (length (now raised) ≡ 144) × (variable < case .n) × T (pressAmount standard amount) × (1 ≤ left) ⌝ }
+    requires { ⌜ (length (now raised) ≡ scopePlaces) × (variable < case .n) × T (pressAmount (rulesOf case) amount) × (1 ≤ left) ⌝ }
     requires { ⌜ T (not (outside (scopeCount case) (line .a))) ⌝ }
-    ensures { λ r. ⌜ stepOf r (now (raised .exit)) (now (table .exit)) ≡ stepNext (now (table .entry)) (goodReplay progress (now (raised .entry))) (ofRaise standard case (now (table .entry)) (goodReplay progress (now (raised .entry))) variable amount left last line) ⌝ }
+    ensures { λ r. ⌜ stepOf r (now (raised .exit)) (now (table .exit)) ≡ stepNext (now (table .entry)) (goodReplay progress (now (raised .entry))) (ofRaise (rulesOf case) case (now (table .entry)) (goodReplay progress (now (raised .entry))) variable amount left last line) ⌝ }
     ensures { λ r. ⌜ BestOf case (now (table .exit)) (now (best .exit)) ⌝ }
 {
     let x = index(line.a);
@@ -657,23 +687,37 @@ fn word(t: &[u8], i: usize) -> usize
     a + b * 256 + c * 65536 + d * 16777216
 }
 
+// Whether the amount column, which has four bytes or more and ends before byte `end`, holds a 0.
+fn no_amount(t: &[u8], end: usize) -> bool
+    requires { ⌜ (18 ≤ end) × (end ≤ length (now t)) ⌝ }
+    ensures { λ r. ⌜ (r ≡ true → columnAt 14 (end - 14) (now (t .entry)) ≡ some (pos 0)) ⌝ }
+{
+    let last = end - 4;
+    let mut blank = true;
+    let mut i: usize = 14;
+    while i < last {
+        blank = blank & (word(t, i) == BLANKS);
+        i += 4;
+    }
+    blank & (word(t, last) == ZERO)
+}
+
 // Whether a line is a raise of a scope of at most three digits, but for these digits.
 fn is_raise(t: &[u8]) -> bool
-    requires { ⌜ length (now t) ≡ 27 ⌝ }
+    requires { ⌜ 19 ≤ length (now t) ⌝ }
     ensures { λ r. ⌜ (r ≡ true → RaiseText (now (t .entry))) ⌝ }
 {
+    let end = t.len() - 1;
     (t[0] == 32)
         & (t[1] == 51)
         & (t[2] == 32)
         & (word(t, 6) == ZERO)
         & (word(t, 10) == ZERO)
-        & (word(t, 14) == BLANKS)
-        & (word(t, 18) == BLANKS)
-        & (word(t, 22) == ZERO)
-        & (t[26] == 10)
+        & no_amount(t, end)
+        & (t[end] == 10)
 }
 
-// A digit's number, or 1000.
+// A digit's number, or NONE.
 fn digit(b: u8) -> usize
     ensures { λ r. ⌜ Digit b r ⌝ }
 {
@@ -704,7 +748,7 @@ fn three_digits(a: u8, b: u8, c: u8) -> usize
     digit(a) * 100 + digit(b) * 10 + digit(c)
 }
 
-// The number of at most three digits in a column, or 1000 or more.
+// The number of at most three digits in a column, or NONE or more.
 fn small_number(a: u8, b: u8, c: u8) -> usize
     ensures { λ r. ⌜ Small (32 ∷ a ∷ b ∷ c ∷ []) r ⌝ }
 {
@@ -717,11 +761,13 @@ fn small_number(a: u8, b: u8, c: u8) -> usize
     digit(c)
 }
 
-// The scope of a raise line, or 1000 or more.
+// The scope of a raise line, or NONE or more. A line whose amount column has fewer than four bytes is not looked at.
 fn raise_scope(t: &[u8]) -> usize
-    requires { ⌜ length (now t) ≡ 27 ⌝ }
-    ensures { λ r. ⌜ (r < 1000 → readLine 12 (now (t .entry)) ≡ some (raiseLine r)) ⌝ }
+    ensures { λ r. ⌜ ((width : ℕ) → length (now (t .entry)) ≡ lineLength width → r < scopePlaces → readLine width (now (t .entry)) ≡ some (raiseLine r)) ⌝ }
 {
+    if t.len() < 19 {
+        return NONE;
+    }
     if !is_raise(t) {
         return NONE;
     }
@@ -731,6 +777,7 @@ fn raise_scope(t: &[u8]) -> usize
 // Takes raise lines from the front of a block while more than one is left and they are in order.
 fn raise_lines(
     raised: &mut [u8],
+    line: usize,
     scopes: usize,
     variable: usize,
     left: usize,
@@ -738,22 +785,22 @@ fn raise_lines(
     bytes: &[u8],
     from: usize,
 ) -> Raises
-    requires { ⌜ (length (now raised) ≡ 144) × (scopes ≤ 144) × (from ≤ length (now bytes)) ⌝ }
+    requires { ⌜ (length (now raised) ≡ scopePlaces) × (scopes ≤ scopePlaces) × (from ≤ length (now bytes)) × (1 ≤ line) ⌝ }
     ensures { λ r. ⌜ (r .left ≤ left) × (left + from ≤ r .left + r .from) × (r .from ≤ length (now (bytes .entry))) ⌝ }
-    ensures { λ r. ⌜ ((q : Progress) (a : ℤ) (n : ℕ) → Onward scopes n (raising q variable a left next) (now (raised .entry)) (drop from (now (bytes .entry))) (n + (left - r .left)) (raising q variable a (r .left) (r .next)) (now (raised .exit)) (drop (r .from) (now (bytes .entry)))) ⌝ }
+    ensures { λ r. ⌜ ((q : Progress) (a : ℤ) (n : ℕ) → Onward line scopes n (raising q variable a left next) (now (raised .entry)) (drop from (now (bytes .entry))) (n + (left - r .left)) (raising q variable a (r .left) (r .next)) (now (raised .exit)) (drop (r .from) (now (bytes .entry)))) ⌝ }
 {
     let mut more = left;
     let mut above = next;
     let mut at = from;
     while 1 < more {
-        if bytes.len() - at < LINE {
+        if bytes.len() - at < line {
             return Raises {
                 left: more,
                 next: above,
                 from: at,
             };
         }
-        let to = at + LINE;
+        let to = at + line;
         let x = raise_scope(&bytes[at..to]);
         if !((x < scopes) & (above <= x) & (x != variable)) {
             return Raises {
@@ -775,7 +822,7 @@ fn raise_lines(
 }
 
 fn next_of(last: LastRaised) -> usize
-    requires { ⌜ ((x : ℕ) → last ≡ LastRaised.Scope x → x < 144) ⌝ }
+    requires { ⌜ ((x : ℕ) → last ≡ LastRaised.Scope x → x < scopePlaces) ⌝ }
     ensures { λ r. ⌜ lastOf r ≡ last ⌝ }
 {
     match last {
@@ -806,14 +853,15 @@ fn press_on(
     from: usize,
     done: usize,
 ) -> Place
-    requires { ⌜ Limited standard case ⌝ }
-    requires { ⌜ (length (now raised) ≡ 144) × (done ≤ from) × (from ≤ length (now bytes)) × T (not (recordOut standard case (goodReplay (holding progress variable amount left last) (now raised)))) ⌝ }
+    requires { ⌜ Limited case ⌝ }
+    requires { ⌜ (length (now raised) ≡ scopePlaces) × (done ≤ from) × (from ≤ length (now bytes)) × T (not (recordOut (rulesOf case) case (goodReplay (holding progress variable amount left last) (now raised)))) ⌝ }
     ensures { λ r. ⌜ (r .done ≤ r .from) × (from ≤ r .from) × (r .from ≤ length (now (bytes .entry))) ⌝ }
-    ensures { λ r. ⌜ Onward (scopeCount case) done (holding progress variable amount left last) (now (raised .entry)) (drop from (now (bytes .entry))) (r .done) (r .progress) (now (raised .exit)) (drop (r .from) (now (bytes .entry))) ⌝ }
+    ensures { λ r. ⌜ Onward (lineBytes case) (scopeCount case) done (holding progress variable amount left last) (now (raised .entry)) (drop from (now (bytes .entry))) (r .done) (r .progress) (now (raised .exit)) (drop (r .from) (now (bytes .entry))) ⌝ }
 {
+    let line = line_length(case);
     let scopes = case.n + case.m;
     let next = next_of(last);
-    let rest = raise_lines(raised, scopes, variable, left, next, bytes, from);
+    let rest = raise_lines(raised, line, scopes, variable, left, next, bytes, from);
     let taken = with_due(
         progress,
         Due::Raise {
@@ -839,10 +887,10 @@ fn raise_on(
     from: usize,
     done: usize,
 ) -> Place
-    requires { ⌜ Limited standard case ⌝ }
-    requires { ⌜ (length (now raised) ≡ 144) × (done ≤ from) × (from ≤ length (now bytes)) × T (not (recordOut standard case (goodReplay progress (now raised)))) ⌝ }
+    requires { ⌜ Limited case ⌝ }
+    requires { ⌜ (length (now raised) ≡ scopePlaces) × (done ≤ from) × (from ≤ length (now bytes)) × T (not (recordOut (rulesOf case) case (goodReplay progress (now raised)))) ⌝ }
     ensures { λ r. ⌜ (r .done ≤ r .from) × (from ≤ r .from) × (r .from ≤ length (now (bytes .entry))) ⌝ }
-    ensures { λ r. ⌜ Onward (scopeCount case) done progress (now (raised .entry)) (drop from (now (bytes .entry))) (r .done) (r .progress) (now (raised .exit)) (drop (r .from) (now (bytes .entry))) ⌝ }
+    ensures { λ r. ⌜ Onward (lineBytes case) (scopeCount case) done progress (now (raised .entry)) (drop from (now (bytes .entry))) (r .done) (r .progress) (now (raised .exit)) (drop (r .from) (now (bytes .entry))) ⌝ }
 {
     let due = progress.due;
     match due {
@@ -881,11 +929,11 @@ fn move_line(
     progress: Progress,
     line: Line,
 ) -> Taken
-    requires { ⌜ Handed standard (workingWeight standard) case (now table) ⌝ }
+    requires { ⌜ Handed (rulesOf case) (workingWeight (rulesOf case)) case (now table) ⌝ }
     requires { ⌜ BestOf case (now table) (now best) ⌝ }
-    requires { ⌜ length (now raised) ≡ 144 ⌝ }
-    requires { ⌜ T (not (ofKind standard case (now table) (goodReplay progress (now raised)) Due.MoveOrBound line .out)) ⌝ }
-    ensures { λ r. ⌜ stepOf r (now (raised .exit)) (now (table .exit)) ≡ stepNext (now (table .entry)) (goodReplay progress (now (raised .entry))) (ofKind standard case (now (table .entry)) (goodReplay progress (now (raised .entry))) Due.MoveOrBound line) ⌝ }
+    requires { ⌜ length (now raised) ≡ scopePlaces ⌝ }
+    requires { ⌜ T (not (ofKind (rulesOf case) case (now table) (goodReplay progress (now raised)) Due.MoveOrBound line .out)) ⌝ }
+    ensures { λ r. ⌜ stepOf r (now (raised .exit)) (now (table .exit)) ≡ stepNext (now (table .entry)) (goodReplay progress (now (raised .entry))) (ofKind (rulesOf case) case (now (table .entry)) (goodReplay progress (now (raised .entry))) Due.MoveOrBound line) ⌝ }
     ensures { λ r. ⌜ BestOf case (now (table .exit)) (now (best .exit)) ⌝ }
 {
     if line.kind == 1 {
@@ -906,12 +954,12 @@ fn take_line(
     progress: Progress,
     line: Line,
 ) -> Taken
-    requires { ⌜ Handed standard (workingWeight standard) case (now table) ⌝ }
+    requires { ⌜ Handed (rulesOf case) (workingWeight (rulesOf case)) case (now table) ⌝ }
     requires { ⌜ BestOf case (now table) (now best) ⌝ }
-    requires { ⌜ length (now raised) ≡ 144 ⌝ }
-    requires { ⌜ T (not (recordOut standard case (goodReplay progress (now raised)))) ⌝ }
-    requires { ⌜ T (not (ofKind standard case (now table) (goodReplay progress (now raised)) (progress .due) line .out)) ⌝ }
-    ensures { λ r. ⌜ stepOf r (now (raised .exit)) (now (table .exit)) ≡ stepNext (now (table .entry)) (goodReplay progress (now (raised .entry))) (ofKind standard case (now (table .entry)) (goodReplay progress (now (raised .entry))) (progress .due) line) ⌝ }
+    requires { ⌜ length (now raised) ≡ scopePlaces ⌝ }
+    requires { ⌜ T (not (recordOut (rulesOf case) case (goodReplay progress (now raised)))) ⌝ }
+    requires { ⌜ T (not (ofKind (rulesOf case) case (now table) (goodReplay progress (now raised)) (progress .due) line .out)) ⌝ }
+    ensures { λ r. ⌜ stepOf r (now (raised .exit)) (now (table .exit)) ≡ stepNext (now (table .entry)) (goodReplay progress (now (raised .entry))) (ofKind (rulesOf case) case (now (table .entry)) (goodReplay progress (now (raised .entry))) (progress .due) line) ⌝ }
     ensures { λ r. ⌜ BestOf case (now (table .exit)) (now (best .exit)) ⌝ }
 {
     let due = progress.due;
@@ -947,11 +995,11 @@ fn good_read(
     progress: Progress,
     line: Line,
 ) -> Taken
-    requires { ⌜ Handed standard (workingWeight standard) case (now table) ⌝ }
+    requires { ⌜ Handed (rulesOf case) (workingWeight (rulesOf case)) case (now table) ⌝ }
     requires { ⌜ BestOf case (now table) (now best) ⌝ }
-    requires { ⌜ length (now raised) ≡ 144 ⌝ }
-    requires { ⌜ T (not (recordOut standard case (goodReplay progress (now raised)))) ⌝ }
-    ensures { λ r. ⌜ stepOf r (now (raised .exit)) (now (table .exit)) ≡ stepLine standard case (now (table .entry)) (goodReplay progress (now (raised .entry))) (some line) ⌝ }
+    requires { ⌜ length (now raised) ≡ scopePlaces ⌝ }
+    requires { ⌜ T (not (recordOut (rulesOf case) case (goodReplay progress (now raised)))) ⌝ }
+    ensures { λ r. ⌜ stepOf r (now (raised .exit)) (now (table .exit)) ≡ stepLine (rulesOf case) case (now (table .entry)) (goodReplay progress (now (raised .entry))) (some line) ⌝ }
     ensures { λ r. ⌜ BestOf case (now (table .exit)) (now (best .exit)) ⌝ }
 {
     let due = progress.due;
@@ -972,14 +1020,14 @@ fn good_line(
     progress: Progress,
     bytes: &[u8],
 ) -> Taken
-    requires { ⌜ Handed standard (workingWeight standard) case (now table) ⌝ }
+    requires { ⌜ Handed (rulesOf case) (workingWeight (rulesOf case)) case (now table) ⌝ }
     requires { ⌜ BestOf case (now table) (now best) ⌝ }
-    requires { ⌜ length (now raised) ≡ 144 ⌝ }
-    requires { ⌜ T (not (recordOut standard case (goodReplay progress (now raised)))) ⌝ }
-    ensures { λ r. ⌜ stepOf r (now (raised .exit)) (now (table .exit)) ≡ stepReplay standard case (now (table .entry)) (goodReplay progress (now (raised .entry))) (now (bytes .entry)) ⌝ }
+    requires { ⌜ length (now raised) ≡ scopePlaces ⌝ }
+    requires { ⌜ T (not (recordOut (rulesOf case) case (goodReplay progress (now raised)))) ⌝ }
+    ensures { λ r. ⌜ stepOf r (now (raised .exit)) (now (table .exit)) ≡ stepReplay (rulesOf case) case (now (table .entry)) (goodReplay progress (now (raised .entry))) (now (bytes .entry)) ⌝ }
     ensures { λ r. ⌜ BestOf case (now (table .exit)) (now (best .exit)) ⌝ }
 {
-    let read = lines::read_line(bytes);
+    let read = read_line(case, bytes);
     match read {
         LineRead::Refused(_) => refused(progress, Refusal::NotInColumns),
         LineRead::Read(line) => good_read(case, table, best, raised, progress, line),
@@ -988,18 +1036,19 @@ fn good_line(
 
 // The lines of a block after its first, which left a record that is good.
 fn good_lines(replay: Replay, case: Case, table: &mut [i64], bytes: &[u8]) -> Block
-    requires { ⌜ Handed standard (workingWeight standard) case (now table) ⌝ }
-    requires { ⌜ (replay .standing ≡ Standing.Good) × T (not (recordOut standard case replay)) × (27 ≤ length (now bytes)) ⌝ }
-    ensures { λ r. ⌜ (r ≡ moreBy 1 (foldReplay standard case (now (table .entry)) replay (drop 27 (now (bytes .entry)))) .block) × (now (table .exit) ≡ foldReplay standard case (now (table .entry)) replay (drop 27 (now (bytes .entry))) .table) ⌝ }
+    requires { ⌜ Handed (rulesOf case) (workingWeight (rulesOf case)) case (now table) ⌝ }
+    requires { ⌜ (replay .standing ≡ Standing.Good) × T (not (recordOut (rulesOf case) case replay)) × (lineBytes case ≤ length (now bytes)) ⌝ }
+    ensures { λ r. ⌜ (r ≡ moreBy 1 (foldReplay (rulesOf case) case (now (table .entry)) replay (drop (lineBytes case) (now (bytes .entry)))) .block) × (now (table .exit) ≡ foldReplay (rulesOf case) case (now (table .entry)) replay (drop (lineBytes case) (now (bytes .entry))) .table) ⌝ }
 {
-    let mut best = [0i64; 144];
+    let line = line_length(case);
+    let mut best = [0i64; SCOPE_PLACES];
     prepare(case, table, &mut best);
     let mut raised = replay.raised;
     let mut progress = progress_of(replay);
-    let mut from: usize = LINE;
+    let mut from: usize = line;
     let mut done: usize = 1;
-    while LINE <= bytes.len() - from {
-        let to = from + LINE;
+    while line <= bytes.len() - from {
+        let to = from + line;
         let taken = good_line(
             case,
             table,
@@ -1059,7 +1108,7 @@ fn check_line(case: Case, table: &[i64], raised: &[u8], progress: Progress, line
 
 fn step_read(replay: Replay, case: Case, table: &mut [i64], line: Line) -> Stepped
     requires { ⌜ replay .standing ≡ Standing.Good ⌝ }
-    ensures { λ r. ⌜ (r ≡ stepLine standard case (now (table .entry)) replay (some line) .stepped) × (now (table .exit) ≡ stepLine standard case (now (table .entry)) replay (some line) .table) ⌝ }
+    ensures { λ r. ⌜ (r ≡ stepLine (rulesOf case) case (now (table .entry)) replay (some line) .stepped) × (now (table .exit) ≡ stepLine (rulesOf case) case (now (table .entry)) replay (some line) .table) ⌝ }
 {
     let progress = progress_of(replay);
     let mut raised = replay.raised;
@@ -1067,7 +1116,7 @@ fn step_read(replay: Replay, case: Case, table: &mut [i64], line: Line) -> Stepp
     match checked {
         Outcome::Refused(refusal) => refuse(replay, refusal),
         Outcome::Done => {
-            let mut best = [0i64; 144];
+            let mut best = [0i64; SCOPE_PLACES];
             prepare(case, table, &mut best);
             let taken = take_line(case, table, &mut best, &mut raised, progress, line);
             let after = taken.progress;
@@ -1082,9 +1131,9 @@ fn step_read(replay: Replay, case: Case, table: &mut [i64], line: Line) -> Stepp
 
 fn step_good(replay: Replay, case: Case, table: &mut [i64], bytes: &[u8]) -> Stepped
     requires { ⌜ replay .standing ≡ Standing.Good ⌝ }
-    ensures { λ r. ⌜ (r ≡ stepReplay standard case (now (table .entry)) replay (now (bytes .entry)) .stepped) × (now (table .exit) ≡ stepReplay standard case (now (table .entry)) replay (now (bytes .entry)) .table) ⌝ }
+    ensures { λ r. ⌜ (r ≡ stepReplay (rulesOf case) case (now (table .entry)) replay (now (bytes .entry)) .stepped) × (now (table .exit) ≡ stepReplay (rulesOf case) case (now (table .entry)) replay (now (bytes .entry)) .table) ⌝ }
 {
-    let read = lines::read_line(bytes);
+    let read = read_line(case, bytes);
     match read {
         LineRead::Refused(_) => refuse(replay, Refusal::NotInColumns),
         LineRead::Read(line) => step_read(replay, case, table, line),
@@ -1108,7 +1157,7 @@ fn is_held(due: Due) -> bool
 }
 
 fn end_good(replay: Replay, case: Case) -> Outcome
-    ensures { λ r. ⌜ r ≡ outcomeOf (firstOf (endTests standard case replay)) ⌝ }
+    ensures { λ r. ⌜ r ≡ outcomeOf (firstOf (endTests (rulesOf case) case replay)) ⌝ }
 {
     if !tables::within_limits(case) {
         return Outcome::Refused(Refusal::OutsideLimits);
@@ -1140,7 +1189,7 @@ fn fresh_from(start: Figure) -> Replay
             rounds: 0,
             start: 0,
             moved: false,
-            raised: [0u8; 144],
+            raised: [0u8; SCOPE_PLACES],
             due: Due::MoveOrBound,
             standing: Standing::Refused(refusal),
         },
@@ -1148,7 +1197,7 @@ fn fresh_from(start: Figure) -> Replay
             rounds: 0,
             start: bound,
             moved: false,
-            raised: [0u8; 144],
+            raised: [0u8; SCOPE_PLACES],
             due: Due::MoveOrBound,
             standing: Standing::Good,
         },
@@ -1159,7 +1208,7 @@ fn fresh_from(start: Figure) -> Replay
 
 // Numbers 3 to 8 of what was handed over.
 fn check_lent(replay: Replay, case: Case, table: &[i64]) -> Outcome
-    ensures { λ r. ⌜ r ≡ outcomeOf (firstOf (handedOver standard (workingWeight standard) case (now (table .entry)) false (recordOut standard case replay))) ⌝ }
+    ensures { λ r. ⌜ r ≡ outcomeOf (firstOf (handedOver (rulesOf case) (workingWeight (rulesOf case)) case (now (table .entry)) false (recordOut (rulesOf case) case replay))) ⌝ }
 {
     if !tables::within_limits(case) {
         return Outcome::Refused(Refusal::OutsideLimits);
@@ -1171,7 +1220,7 @@ fn check_lent(replay: Replay, case: Case, table: &[i64]) -> Outcome
 }
 
 fn lent_answer(replay: Replay, case: Case, table: &[i64]) -> Outcome
-    ensures { λ r. ⌜ r ≡ outcomeOf (lentStanding standard case (now (table .entry)) replay (replay .standing)) ⌝ }
+    ensures { λ r. ⌜ r ≡ outcomeOf (lentStanding (rulesOf case) case (now (table .entry)) replay (replay .standing)) ⌝ }
 {
     let standing = replay.standing;
     match standing {
@@ -1181,7 +1230,7 @@ fn lent_answer(replay: Replay, case: Case, table: &[i64]) -> Outcome
 }
 
 fn no_line(replay: Replay, case: Case, table: &[i64]) -> Block
-    ensures { λ r. ⌜ r ≡ noLine (now (table .entry)) replay (lentStanding standard case (now (table .entry)) replay (replay .standing)) .block ⌝ }
+    ensures { λ r. ⌜ r ≡ noLine (now (table .entry)) replay (lentStanding (rulesOf case) case (now (table .entry)) replay (replay .standing)) .block ⌝ }
 {
     let answer = lent_answer(replay, case, table);
     match answer {
@@ -1206,7 +1255,7 @@ fn no_line(replay: Replay, case: Case, table: &[i64]) -> Block
 
 impl Replay {
     pub fn fresh(case: Case, table: &[i64]) -> Replay
-        ensures { λ r. ⌜ r ≡ freshReplay standard case (now (table .entry)) ⌝ }
+        ensures { λ r. ⌜ r ≡ freshReplay (rulesOf case) case (now (table .entry)) ⌝ }
     {
         let checked = tables::check_starting(case, table, false, false);
         match checked {
@@ -1217,7 +1266,7 @@ impl Replay {
 
     // A line of any bytes.
     pub fn step(self, case: Case, table: &mut [i64], line: &[u8]) -> Stepped
-        ensures { λ r. ⌜ (r ≡ stepReplay standard case (now (table .entry)) self (now (line .entry)) .stepped) × (now (table .exit) ≡ stepReplay standard case (now (table .entry)) self (now (line .entry)) .table) ⌝ }
+        ensures { λ r. ⌜ (r ≡ stepReplay (rulesOf case) case (now (table .entry)) self (now (line .entry)) .stepped) × (now (table .exit) ≡ stepReplay (rulesOf case) case (now (table .entry)) self (now (line .entry)) .table) ⌝ }
     {
         let standing = self.standing;
         match standing {
@@ -1227,7 +1276,7 @@ impl Replay {
     }
 
     pub fn end(self, case: Case) -> Outcome
-        ensures { λ r. ⌜ r ≡ endReplay standard case self ⌝ }
+        ensures { λ r. ⌜ r ≡ endReplay (rulesOf case) case self ⌝ }
     {
         let standing = self.standing;
         match standing {
@@ -1238,12 +1287,13 @@ impl Replay {
 
     // A block of whole lines; a part line at its end is not looked at.
     pub fn lines(self, case: Case, table: &mut [i64], bytes: &[u8]) -> Block
-        ensures { λ r. ⌜ (r ≡ blockReplay standard case (now (table .entry)) self (now (bytes .entry)) .block) × (now (table .exit) ≡ blockReplay standard case (now (table .entry)) self (now (bytes .entry)) .table) ⌝ }
+        ensures { λ r. ⌜ (r ≡ blockReplay (rulesOf case) case (now (table .entry)) self (now (bytes .entry)) .block) × (now (table .exit) ≡ blockReplay (rulesOf case) case (now (table .entry)) self (now (bytes .entry)) .table) ⌝ }
     {
-        if bytes.len() < LINE {
+        let line = line_length(case);
+        if bytes.len() < line {
             return no_line(self, case, table);
         }
-        let first = self.step(case, table, &bytes[..LINE]);
+        let first = self.step(case, table, &bytes[..line]);
         let replay = first.replay;
         let answer = first.answer;
         match answer {

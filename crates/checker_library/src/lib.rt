@@ -14,7 +14,8 @@ use definitions::Span;
 use encoding::CaseArray;
 use encoding::RecordArray;
 ghost use mathlib.Core.Path.{_≡_};
-ghost use Rattle.definitions.specs.Rules.{standard};
+ghost use Rattle.definitions.specs.declared.Rulebook.the-variants.{Desk};
+ghost use Rattle.definitions.specs.Rules.{rulesIn, rulesOf};
 ghost use Rattle.definitions.specs.Refusals.{number};
 ghost use Rattle.definitions.specs.Answers.{outcomeSays, figureSays, sizeSays, fileSays, spanSays, choiceSays};
 ghost use Rattle.definitions.specs.CaseFiles.{caseSize};
@@ -225,7 +226,7 @@ fn replay_block(
     replay: Replay,
     lines: &[u8],
 ) -> CeilingLines
-    ensures { λ r. ⌜ (r ≡ blockAnswer (blockReplay standard case (now (table .entry)) replay (now (lines .entry)) .block)) × (now (state .exit) ≡ recordBytes (blockReplay standard case (now (table .entry)) replay (now (lines .entry)) .block .replay)) × (now (table .exit) ≡ blockReplay standard case (now (table .entry)) replay (now (lines .entry)) .table) ⌝ }
+    ensures { λ r. ⌜ (r ≡ blockAnswer (blockReplay (rulesOf case) case (now (table .entry)) replay (now (lines .entry)) .block)) × (now (state .exit) ≡ recordBytes (blockReplay (rulesOf case) case (now (table .entry)) replay (now (lines .entry)) .block .replay)) × (now (table .exit) ≡ blockReplay (rulesOf case) case (now (table .entry)) replay (now (lines .entry)) .table) ⌝ }
 {
     let block = replay.lines(case, table, lines);
     let after = block.replay;
@@ -239,13 +240,13 @@ fn replay_block(
 
 // The number of bytes that say no record, beside a table and at the end.
 fn not_record(case: Case, table: &[i64]) -> u64
-    ensures { λ r. ⌜ r ≡ notRecord standard case (now (table .entry)) ⌝ }
+    ensures { λ r. ⌜ r ≡ notRecord case (now (table .entry)) ⌝ }
 {
     outcome_number(tables::check_working(case, table, false, true))
 }
 
 fn not_record_at_end(case: Case) -> u64
-    ensures { λ r. ⌜ r ≡ notRecordAtEnd standard case ⌝ }
+    ensures { λ r. ⌜ r ≡ notRecordAtEnd case ⌝ }
 {
     outcome_number(tables::check_edges(case, true))
 }
@@ -275,21 +276,21 @@ pub extern "C" fn ceiling_version() -> u64
 
 #[no_mangle]
 pub extern "C" fn ceiling_case_size(text: &[u8]) -> CeilingSize
-    ensures { λ r. ⌜ r ≡ sizeOf (sizeSays (caseSize standard (now (text .entry)))) ⌝ }
+    ensures { λ r. ⌜ r ≡ sizeOf (sizeSays (caseSize Desk (now (text .entry)))) ⌝ }
 {
     size_of(casefile::case_size(text))
 }
 
 #[no_mangle]
 pub extern "C" fn ceiling_upper_bound(case: &CaseArray, table: &[i64]) -> CeilingTotal
-    ensures { λ r. ⌜ r ≡ totalOf (figureSays (upperBoundAnswer standard (caseOf (now (case .entry))) (now (table .entry)))) ⌝ }
+    ensures { λ r. ⌜ r ≡ totalOf (figureSays (upperBoundAnswer (rulesOf (caseOf (now (case .entry)))) (caseOf (now (case .entry))) (now (table .entry)))) ⌝ }
 {
     total_of(figures::upper_bound(encoding::case_of(case), table))
 }
 
 #[no_mangle]
 pub extern "C" fn ceiling_objective(case: &CaseArray, table: &[i64], plan: &[u8]) -> CeilingTotal
-    ensures { λ r. ⌜ r ≡ totalOf (figureSays (objectiveAnswer standard (caseOf (now (case .entry))) (now (table .entry)) (now (plan .entry)))) ⌝ }
+    ensures { λ r. ⌜ r ≡ totalOf (figureSays (objectiveAnswer (rulesOf (caseOf (now (case .entry)))) (caseOf (now (case .entry))) (now (table .entry)) (now (plan .entry)))) ⌝ }
 {
     total_of(figures::objective(encoding::case_of(case), table, plan))
 }
@@ -302,14 +303,14 @@ pub extern "C" fn ceiling_better_of(
     first: &[u8],
     second: &[u8],
 ) -> CeilingChoice
-    ensures { λ r. ⌜ r ≡ choiceOf (choiceSays (betterOf standard (caseOf (now (case .entry))) (now (table .entry)) (now (first .entry)) (now (second .entry)))) ⌝ }
+    ensures { λ r. ⌜ r ≡ choiceOf (choiceSays (betterOf (rulesOf (caseOf (now (case .entry)))) (caseOf (now (case .entry))) (now (table .entry)) (now (first .entry)) (now (second .entry)))) ⌝ }
 {
     choice_of(plans::better_of(encoding::case_of(case), table, first, second))
 }
 
 #[no_mangle]
 pub extern "C" fn ceiling_round_span(log: &[u8], round: u64) -> CeilingSpan
-    ensures { λ r. ⌜ r ≡ spanOf (spanSays (roundSpan standard (now (log .entry)) round)) ⌝ }
+    ensures { λ r. ⌜ r ≡ spanOf (spanSays (roundSpan (rulesIn Desk) (now (log .entry)) round)) ⌝ }
 {
     span_of(views::round_span(log, round))
 }
@@ -321,7 +322,7 @@ pub extern "C" fn ceiling_read_case(
     case: &mut CaseArray,
     table: &mut [i64],
 ) -> CeilingLines
-    ensures { λ r. ⌜ (r ≡ readCall standard (now (text .entry)) (now (case .entry)) (now (table .entry)) .answer) × (now (case .exit) ≡ readCall standard (now (text .entry)) (now (case .entry)) (now (table .entry)) .case) × (now (table .exit) ≡ readCall standard (now (text .entry)) (now (case .entry)) (now (table .entry)) .table) ⌝ }
+    ensures { λ r. ⌜ (r ≡ readCall (now (text .entry)) (now (case .entry)) (now (table .entry)) .answer) × (now (case .exit) ≡ readCall (now (text .entry)) (now (case .entry)) (now (table .entry)) .case) × (now (table .exit) ≡ readCall (now (text .entry)) (now (case .entry)) (now (table .entry)) .table) ⌝ }
 {
     let read = casefile::read_case_alone(text, table);
     let answer = read.answer;
@@ -336,7 +337,7 @@ pub extern "C" fn ceiling_replay_start(
     table: &[i64],
     state: &mut RecordArray,
 ) -> u64
-    ensures { λ r. ⌜ (r ≡ standingSays (startRecord standard (now (case .entry)) (now (table .entry)) .standing) .number) × (now (state .exit) ≡ recordBytes (startRecord standard (now (case .entry)) (now (table .entry)))) ⌝ }
+    ensures { λ r. ⌜ (r ≡ standingSays (startRecord (now (case .entry)) (now (table .entry)) .standing) .number) × (now (state .exit) ≡ recordBytes (startRecord (now (case .entry)) (now (table .entry)))) ⌝ }
 {
     let replay = Replay::fresh(encoding::case_of(case), table);
     let standing = replay.standing;
@@ -352,7 +353,7 @@ pub extern "C" fn ceiling_replay_lines(
     state: &mut RecordArray,
     lines: &[u8],
 ) -> CeilingLines
-    ensures { λ r. ⌜ (r ≡ replayCall standard (now (case .entry)) (now (table .entry)) (now (state .entry)) (now (lines .entry)) .answer) × (now (state .exit) ≡ replayCall standard (now (case .entry)) (now (table .entry)) (now (state .entry)) (now (lines .entry)) .state) × (now (table .exit) ≡ replayCall standard (now (case .entry)) (now (table .entry)) (now (state .entry)) (now (lines .entry)) .table) ⌝ }
+    ensures { λ r. ⌜ (r ≡ replayCall (now (case .entry)) (now (table .entry)) (now (state .entry)) (now (lines .entry)) .answer) × (now (state .exit) ≡ replayCall (now (case .entry)) (now (table .entry)) (now (state .entry)) (now (lines .entry)) .state) × (now (table .exit) ≡ replayCall (now (case .entry)) (now (table .entry)) (now (state .entry)) (now (lines .entry)) .table) ⌝ }
 {
     if encoding::is_record(state) {
         let replay = encoding::record_of(state);
@@ -372,7 +373,7 @@ pub extern "C" fn ceiling_replay_end(
     state: &RecordArray,
     part: usize,
 ) -> CeilingRounds
-    ensures { λ r. ⌜ r ≡ endCall standard (now (case .entry)) (now (state .entry)) part ⌝ }
+    ensures { λ r. ⌜ r ≡ endCall (now (case .entry)) (now (state .entry)) part ⌝ }
 {
     if encoding::is_record(state) {
         let replay = encoding::record_of(state);

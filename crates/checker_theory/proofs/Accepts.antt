@@ -13,7 +13,7 @@ use Rattle.definitions.specs.declared.Case.{Case}
 use Rattle.definitions.specs.declared.Refusal.{Refusal}
 use Rattle.definitions.specs.declared.Outcome.{Outcome}
 use Rattle.definitions.specs.declared.Figure.{Figure}
-use Rattle.definitions.specs.Rules.{Rules, Coherent, standard, standard-coherent}
+use Rattle.definitions.specs.Rules.{Rules, Coherent, coherent, rulesOf}
 use Rattle.definitions.specs.Refusals.{firstOf}
 use Rattle.definitions.specs.Answers.{outcomeOf, outcomeSays, figureSays}
 use Rattle.definitions.specs.Case.{upperBound}
@@ -90,6 +90,6 @@ module _ {r : Rules} (coherent : Coherent r) (c : Case) (w : List ℤ) (t : T (v
     rounds-most = λ p a. rw (rounds-are ts) (rounds-few r c w t ts p a ▸ simp flat (omega zs));
   }
 
--- with the numbers of document 01
-pub standard-trusted : (c : Case) (w : List ℤ) → T (valid standard c w) → ReplayTrusted standard c w
-standard-trusted = replay-trusted standard-coherent
+-- by the rules of the case
+pub rules-trusted : (c : Case) (w : List ℤ) → T (valid (rulesOf c) c w) → ReplayTrusted (rulesOf c) c w
+rules-trusted c = replay-trusted (coherent (c .rulebook)) c

@@ -15,7 +15,7 @@ use Rattle.definitions.specs.declared.Case.{Case}
 use Rattle.definitions.specs.declared.Refusal.{Refusal}
 use Rattle.definitions.specs.declared.Refusal.the-variants.{CutShort}
 use Rattle.definitions.specs.declared.Outcome.{Outcome}
-use Rattle.definitions.specs.Rules.{Rules, Coherent}
+use Rattle.definitions.specs.Rules.{Rules, Coherent, coherent, rulesOf}
 use Rattle.definitions.specs.Answers.{outcomeOf}
 use Rattle.definitions.specs.Case.{upperBound}
 use Rattle.definitions.specs.Refusals.{firstOf}
@@ -35,14 +35,14 @@ logJudged at (Outcome.Refused x) end part good = refused x at
 logJudged at Outcome.Done (Outcome.Refused x) part good = refused x at
 logJudged at Outcome.Done Outcome.Done part good = if part then refused CutShort at else good
 
-number-judged : (r : Rules) (at : ℕ) (os : List (Option Refusal)) (end : Option Refusal) (part : Bool) (good : Judged)
-    → firstNumber r at os end part good ≡ logJudged (at + takenLines (map outcomeOf os)) (firstRefused (map outcomeOf os)) (outcomeOf end) part good
-number-judged r at [] none part good = ap (λ (n : ℕ). if part then refused CutShort n else good) (sym (add-zero at))
-number-judged r at [] (some x) part good = ap (refused x) (sym (add-zero at))
-number-judged r at (none ∷ os) end part good =
-    number-judged r (at + 1) os end part good
+number-judged : (at : ℕ) (os : List (Option Refusal)) (end : Option Refusal) (part : Bool) (good : Judged)
+    → firstNumber at os end part good ≡ logJudged (at + takenLines (map outcomeOf os)) (firstRefused (map outcomeOf os)) (outcomeOf end) part good
+number-judged at [] none part good = ap (λ (n : ℕ). if part then refused CutShort n else good) (sym (add-zero at))
+number-judged at [] (some x) part good = ap (refused x) (sym (add-zero at))
+number-judged at (none ∷ os) end part good =
+    number-judged (at + 1) os end part good
     ∙ ap (λ (n : ℕ). logJudged n (firstRefused (map outcomeOf os)) (outcomeOf end) part good) (omega arith)
-number-judged r at (some x ∷ os) end part good = ap (refused x) (sym (add-zero at))
+number-judged at (some x ∷ os) end part good = ap (refused x) (sym (add-zero at))
 
 first-number : (r : Rules) (s : State) → s .refusal ≡ none → (ts : List (List ℕ)) → firstRefused (map outcomeOf (answers r s ts)) ≡ outcomeOf (after r s ts .refusal)
 first-number r s e [] = rw e
@@ -94,15 +94,22 @@ module _ {r : Rules} (coherent : Coherent r) (c : Case) (w : List ℤ) (t : T (v
   unfolding foldReplay
   log-end = end-is coherent c w t lines
 
-  -- the judgement of a log that begins at line `at`
-  pub log-judged : (at : ℕ) → judgeLog r c w at log
+-- the judgement of a log that begins at line `at`, by the rules of its case
+module _ (c : Case) (w : List ℤ) (t : T (valid (rulesOf c) c w)) (log : List ℕ) where
+  abbrev r : Rules
+  r = rulesOf c
+
+  abbrev whole : Coherent r
+  whole = coherent (c .rulebook)
+
+  pub log-judged : (at : ℕ) → judgeLog c w at log
       ≡ logJudged (at + logFold r c w log .block .lines) (logFold r c w log .block .answer) (endReplay r c (logFold r c w log .block .replay)) (hasPart (r .amountWidth) log)
       (accepted (logFold r c w log .block .replay .rounds) (upperBound c (logFold r c w log .table)))
   unfolding foldReplay
   log-judged at =
-      number-judged r at (answers r (fresh c w) lines) (atEnd (logState r c w log)) (hasPart (r .amountWidth) log) (accepted (logState r c w log .rounds) (upperBound c (logState r c w log .weights)))
-      ∙ sym (ap₂ (λ (os : List Outcome) (end : Outcome). judged os end (logFold r c w log .block .replay .rounds) (logFold r c w log .table)) (answers-are coherent c w t lines) log-end
-      ∙ ap₂ (judged (map outcomeOf (answers r (fresh c w) lines)) (outcomeOf (atEnd (logState r c w log)))) log-rounds log-table)
+      number-judged at (answers r (fresh c w) (linesIn (r .amountWidth) log)) (atEnd (logState r c w log)) (hasPart (r .amountWidth) log) (accepted (logState r c w log .rounds) (upperBound c (logState r c w log .weights)))
+      ∙ sym (ap₂ (λ (os : List Outcome) (end : Outcome). judged os end (logFold r c w log .block .replay .rounds) (logFold r c w log .table)) (answers-are whole c w t (linesIn (r .amountWidth) log)) (log-end whole c w t log)
+      ∙ ap₂ (judged (map outcomeOf (answers r (fresh c w) (linesIn (r .amountWidth) log))) (outcomeOf (atEnd (logState r c w log)))) (log-rounds whole c w t log) (log-table whole c w t log))
     where
       judged : List Outcome → Outcome → ℕ → List ℤ → Judged
       judged os end rounds table = logJudged (at + takenLines os) (firstRefused os) end (hasPart (r .amountWidth) log) (accepted rounds (upperBound c table))

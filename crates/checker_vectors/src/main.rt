@@ -14,6 +14,7 @@ use definitions::FileAnswer;
 use definitions::Line;
 use definitions::Outcome;
 use definitions::Refusal;
+use definitions::SCOPE_PLACES;
 ghost use Prim.Native.Nat.{_≤_, _<_};
 
 // 0 where there is none.
@@ -51,13 +52,13 @@ fn rounds_of(c: i64) -> u64 {
     1_000_000_000_000_000_000
 }
 
-fn marks_of(scope: i64) -> [u8; 144] {
-    let mut raised = [0u8; 144];
+fn marks_of(scope: i64) -> [u8; SCOPE_PLACES] {
+    let mut raised = [0u8; SCOPE_PLACES];
     let x = count(scope);
     if scope < 0 {
         return raised;
     }
-    if x < 144 {
+    if x < SCOPE_PLACES {
         raised[x] = 1;
     }
     raised

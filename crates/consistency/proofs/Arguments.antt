@@ -12,7 +12,7 @@ use Rattle.integers.specs.Tests.{tests}
 use Rattle.integers.specs.Tables.{any-getD}
 use Rattle.definitions.specs.declared.Case.{Case}
 use Rattle.definitions.specs.declared.Outcome.{Outcome}
-use Rattle.definitions.specs.Rules.{standard}
+use Rattle.definitions.specs.Rules.{rulesOf}
 use Rattle.definitions.specs.Refusals.{firstOf}
 use Rattle.definitions.specs.Case.{scopeCount}
 use Rattle.definitions.specs.Answers.{outcomeOf}
@@ -22,8 +22,8 @@ use Rattle.tables.proofs.Answered.{known}
 use Rattle.consistency.specs.Arguments.{argumentsOut}
 
 module _ (c : Case) (w : List ℤ) (raised : List ℕ) (i k : ℕ) where
-  pub arguments-known : Outcome.Done ≡ outcomeOf (firstOf (handedOver standard (workingWeight standard) c w (not (eqb (length raised) (scopeCount c))) (argumentsOut c raised i k)))
-      → Handed standard (workingWeight standard) c w
+  pub arguments-known : Outcome.Done ≡ outcomeOf (firstOf (handedOver (rulesOf c) (workingWeight (rulesOf c)) c w (not (eqb (length raised) (scopeCount c))) (argumentsOut c raised i k)))
+      → Handed (rulesOf c) (workingWeight (rulesOf c)) c w
       × ((length raised ≡ scopeCount c) × ((x : ℕ) → x < scopeCount c → getD raised x 0 ≤ 1) × (i < c .n) × (k < c .d))
   arguments-known e =
       let (handed, right, in-range) = known c w (not (eqb (length raised) (scopeCount c))) (argumentsOut c raised i k) e in

@@ -1,13 +1,14 @@
 // Refutation (document 01, "Refutation"), asked of everything that is handed over: numbers 3 to 8.
 use definitions::Case;
 use definitions::Outcome;
+use definitions::SCOPE_PLACES;
 use definitions::Verdict;
 ghost use mathlib.Core.Path.{_≡_};
 ghost use mathlib.Core.Bool.{not};
 ghost use Prim.Native.Nat.{_+_};
 ghost use lib.Dec.{ltb, eqb};
 ghost use Rattle.integers.specs.Words.{any};
-ghost use Rattle.definitions.specs.Rules.{standard};
+ghost use Rattle.definitions.specs.Rules.{rulesOf};
 ghost use Rattle.definitions.specs.Calls.{refutedAnswer};
 ghost use Rattle.consistency.specs.Arguments.{argumentsOut};
 
@@ -47,7 +48,7 @@ fn arguments_out(case: Case, raised: &[u8], variable: usize, value: usize) -> bo
 
 // Whether a value of a variable is refuted; `raised` has a byte for each scope, 1 where it is raised and else 0.
 pub fn refuted(case: Case, table: &[i64], raised: &[u8], variable: usize, value: usize) -> Verdict
-    ensures { λ r. ⌜ r ≡ refutedAnswer standard case (now (table .entry)) (now (raised .entry)) variable value ⌝ }
+    ensures { λ r. ⌜ r ≡ refutedAnswer (rulesOf case) case (now (table .entry)) (now (raised .entry)) variable value ⌝ }
 {
     let wrong = other_length(raised.len(), case.n, case.m);
     let out = arguments_out(case, raised, variable, value);
@@ -55,7 +56,7 @@ pub fn refuted(case: Case, table: &[i64], raised: &[u8], variable: usize, value:
     match checked {
         Outcome::Refused(refusal) => Verdict::Refused(refusal),
         Outcome::Done => {
-            let mut best = [0i64; 144];
+            let mut best = [0i64; SCOPE_PLACES];
             tables::greatest_weights(case, table, &mut best);
             arcs::values_unsupported(
                 case,

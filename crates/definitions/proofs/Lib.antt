@@ -3,4 +3,5 @@ pub mod AnswerLaws
 pub mod ColumnLaws
 pub mod LineLaws
 pub mod CaseLaws
+pub mod RulesLaws
 pub mod Refutation

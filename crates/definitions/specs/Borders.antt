@@ -9,13 +9,14 @@ use Prim.Native.String.{String}
 use lib.IntN.{ℤ, pos}
 use lib.ListN.{take, drop, replicate}
 use Rattle.integers.specs.Words.{joined, minus}
+use Rattle.definitions.specs.declared.Rulebook.the-variants.{Desk}
 use Rattle.definitions.specs.declared.Case.{Case}
 use Rattle.definitions.specs.declared.CaseRead.{CaseRead}
 use Rattle.definitions.specs.declared.Refusal.the-variants.{WrongLength, WeightOutOfRange, LeavesRange}
 use Rattle.definitions.specs.declared.Run.{Run}
 use Rattle.definitions.specs.declared.RunAnswer.{RunAnswer}
 use Rattle.definitions.specs.declared.RunAnswer.the-variants.{Settled, Limit, Refused}
-use Rattle.definitions.specs.Rules.{standard}
+use Rattle.definitions.specs.Rules.{Rules, standard, edgePlaces}
 use Rattle.definitions.specs.Refusals.{numberOf}
 use Rattle.definitions.specs.Answers.{Says, outcomeSays, figureSays, verdictSays, lineSays, sizeSays}
 use Rattle.definitions.specs.Answers.{fileSays, writtenSays, spanSays, roundSays, choiceSays}
@@ -228,19 +229,19 @@ FileRead = Says × Case × List ℤ
 
 abbrev refusedAt : ℕ → ℕ → ℕ → FileRead
 refusedAt at good n =
-    let zero : List ℕ = replicate 96 0 in
+    let zero : List ℕ = replicate edgePlaces 0 in
     (says n (pos at ∷ []), given 0 0 0 zero zero [] .case, take good (triangle .weights) ++ replicate (18 - good) (pos 7))
 
 pub files :
     let told : CaseCall → FileRead = λ q. (fileSays (q .read .answer), q .read .case, q .table) in
     let sevens : List ℤ = replicate 18 (pos 7) in
-    let front : List ℕ → List FileRead = λ t. told (readCase standard t sevens) ∷ [] in
-    let read : List ℕ → List FileRead = λ t. told (readCase standard t sevens) ∷ told (readCaseAlone standard t sevens) ∷ [] in
+    let front : List ℕ → List FileRead = λ t. told (readCase Desk t sevens) ∷ [] in
+    let read : List ℕ → List FileRead = λ t. told (readCase Desk t sevens) ∷ told (readCaseAlone Desk t sevens) ∷ [] in
     let once : ℕ → ℕ → ℕ → List FileRead = λ at good n. refusedAt at good n ∷ [] in
     let both : ℕ → ℕ → ℕ → List FileRead = λ at good n. refusedAt at good n ∷ refusedAt at good n ∷ [] in
     let put : ℕ → List ℕ → List ℕ = λ at t. cut (27 * at) ++ t ++ drop (27 * (at + 1)) (file triangle) in
-    let zeros93 : List ℕ = replicate 93 0 in
-    let whole : FileRead = (value (pos 22), given 3 2 3 (0 ∷ 0 ∷ 1 ∷ zeros93) (1 ∷ 2 ∷ 2 ∷ zeros93) [] .case, triangle .weights) in
+    let rest : List ℕ = replicate (edgePlaces - 3) 0 in
+    let whole : FileRead = (value (pos 22), given 3 2 3 (0 ∷ 0 ∷ 1 ∷ rest) (1 ∷ 2 ∷ 2 ∷ rest) [] .case, triangle .weights) in
     Hold
     (read (more []) is (whole ∷ whole ∷ []) ∷ read (more (xs 27)) is (whole ∷ refusedAt 22 18 1 ∷ [])
     ∷ read (more (l 4 0 0 0 0)) is (whole ∷ refusedAt 22 18 2 ∷ []) ∷ read (more (xs 26)) is (whole ∷ refusedAt 22 18 14 ∷ [])
@@ -269,10 +270,10 @@ files = refl
 -- the greatest D and m, after which the file is cut; what the head says
 pub heads :
     Hold
-    (fileSays (readCase standard (l 10 2 8 96 0) (zeros 6_160) .read .answer) is says 14 (pos 1 ∷ [])
-    ∷ sizeSays (caseSize standard (cut 27)) is says 0 (pos 3 ∷ pos 2 ∷ pos 3 ∷ pos 18 ∷ [])
-    ∷ sizeSays (caseSize standard (l 10 48 8 96 0)) is says 0 (pos 48 ∷ pos 8 ∷ pos 96 ∷ pos 6_528 ∷ [])
-    ∷ sizeSays (caseSize standard (cut 26)) is no 14 ∷ sizeSays (caseSize standard (l 10 3 2 3 1)) is no 2
+    (fileSays (readCase Desk (l 10 2 8 96 0) (zeros 6_160) .read .answer) is says 14 (pos 1 ∷ [])
+    ∷ sizeSays (caseSize Desk (cut 27)) is says 0 (pos 3 ∷ pos 2 ∷ pos 3 ∷ pos 18 ∷ [])
+    ∷ sizeSays (caseSize Desk (l 10 48 8 96 0)) is says 0 (pos 48 ∷ pos 8 ∷ pos 96 ∷ pos 6_528 ∷ [])
+    ∷ sizeSays (caseSize Desk (cut 26)) is no 14 ∷ sizeSays (caseSize Desk (l 10 3 2 3 1)) is no 2
     ∷ [])
 heads = refl
 
@@ -365,8 +366,8 @@ pub plain-runs :
 plain-runs = refl
 
 -- a round of several moves, as another engine could make it: P5's press after a shift and back
-abbrev detour : Case → List ℤ → Next
-detour c w = round (shift 0 1 0 (pos 3) ∷ shift 0 1 0 (minus 3) ∷ press 0 (1 ∷ 2 ∷ []) (pos 2) ∷ [])
+abbrev detour : Rules → Case → List ℤ → Next
+detour r c w = round (shift 0 1 0 (pos 3) ∷ shift 0 1 0 (minus 3) ∷ press 0 (1 ∷ 2 ∷ []) (pos 2) ∷ [])
 
 pub detours :
     run standard detour (clash .case) 1 (clash .weights)
@@ -478,14 +479,14 @@ views = refl
 -- ---- programs: what they print; at the end the engine refused after a round
 
 pub prints :
-    let replay : List ℕ → List ℕ = λ t. replayPrints standard t in
+    let replay : List ℕ → List ℕ = λ t. replayPrints Desk t in
     Hold
     (replay (cut 100) is bytesOf "refused 14 3\n" ∷ replay [] is bytesOf "refused 14 0\n" ∷ replay (more (xs 28)) is bytesOf "refused 1 22\n"
     ∷ replay (more (l 4 0 0 0 5 ++ l 4 0 0 0 5)) is bytesOf "refused 12 22\n" ∷ replay (more (l 2 0 3 0 1)) is bytesOf "refused 14 23\n"
     ∷ replay (more (l 2 0 3 0 1 ++ l 3 3 0 0 0 ++ xs 1)) is bytesOf "refused 14 24\n"
     ∷ replay (file twoSteps ++ step1 ++ step2) is bytesOf "accepted 2 -1\n"
-    ∷ pressPrints standard (file twoSteps) is (step1 ++ step2) ∷ pressPrints standard (cut 100) is bytesOf "refused 14 3\n"
-    ∷ pressRun standard 22 (run standard engineNext (lastRound .case) 5 (lastRound .weights)) is (byOne ++ bytesOf "refused 11 22\n")
+    ∷ pressPrints Desk (file twoSteps) is (step1 ++ step2) ∷ pressPrints Desk (cut 100) is bytesOf "refused 14 3\n"
+    ∷ pressRun 22 (run standard engineNext (lastRound .case) 5 (lastRound .weights)) is (byOne ++ bytesOf "refused 11 22\n")
     ∷ [])
 prints = refl
 

@@ -60,6 +60,21 @@ pub record WriteCall : Type 0 where
   pub answer : Written
   pub out : List ℕ
 
+-- ---- a line written, at a width of the amount column and by whether a refusal applies
+
+abbrev pub lineWritten : ℕ → List ℕ → Line → Option Refusal → LineCall
+lineWritten width out l refusal = record {
+  answer = outcomeOf refusal;
+  out = unlessRefused refusal (overwritten (lineText width l) out) out;
+}
+
+abbrev pub linePut : ℕ → List ℕ → ℕ → Line → Option Refusal → WriterCall
+linePut width out at l refusal = record {
+  answer = outcomeOf refusal;
+  out = unlessRefused refusal (take at out ++ overwritten (lineText width l) (drop at out)) out;
+  at = unlessRefused refusal (at + lineLength width) at;
+}
+
 -- ---- arguments
 
 -- a scope and its tuple: in a variable's scope l is 0
@@ -141,20 +156,11 @@ module _ (r : Rules) where
       firstOf (WrongLength when (ltb room (lineLength (r .amountWidth))) ∷ OutOfRange when (lineTooWide (r .amountWidth) l) ∷ [])
 
   unfoldable pub writeLineCall : List ℕ → Line → LineCall
-  writeLineCall out l = record {
-    answer = outcomeOf (writeRefusal (length out) l);
-    out = unlessRefused (writeRefusal (length out) l) (overwritten (lineText (r .amountWidth) l) out) out;
-  }
+  writeLineCall out l = lineWritten (r .amountWidth) out l (writeRefusal (length out) l)
 
   -- the log writer fills a lent slice line by line: a line at position `at`, and the position after it; a refusal keeps both
   unfoldable pub putLineCall : List ℕ → ℕ → Line → WriterCall
-  putLineCall out at l =
-      let refusal = writeRefusal (length out - at) l in
-      record {
-        answer = outcomeOf refusal;
-        out = unlessRefused refusal (take at out ++ overwritten (lineText (r .amountWidth) l) (drop at out)) out;
-        at = unlessRefused refusal (at + lineLength (r .amountWidth)) at;
-      }
+  putLineCall out at l = linePut (r .amountWidth) out at l (writeRefusal (length out - at) l)
 
   -- ---- case files: the range is that of starting weights
 

@@ -8,6 +8,7 @@ use lib.Dec.{ltb, eqb}
 use lib.Signed.{ltZ}
 use lib.ListN.{length, take, drop, set, replicate}
 use Rattle.integers.specs.Words.{if_then_else_, below, any, joined, eqZ, withinZ}
+use Rattle.definitions.specs.declared.Rulebook.{Rulebook}
 use Rattle.definitions.specs.declared.Case.{Case}
 use Rattle.definitions.specs.declared.Line.{Line}
 use Rattle.definitions.specs.declared.FileAnswer.{FileAnswer}
@@ -25,7 +26,7 @@ use Rattle.definitions.specs.declared.Refusal.the-variants.{
   WeightOutOfRange,
   CutShort,
 }
-use Rattle.definitions.specs.Rules.{Rules, edgePlaces}
+use Rattle.definitions.specs.Rules.{Rules, rulesIn, edgePlaces}
 use Rattle.definitions.specs.Refusals.{Test, _when_, firstOf}
 use Rattle.definitions.specs.Case.{values, lowerEnd, upperEnd, eachTuple, weight, place, lentLength}
 use Rattle.definitions.specs.Valid.{startingWeight}
@@ -105,18 +106,19 @@ pub record Reading : Type 0 where
   pub case : Case
   pub table : List ℤ
 
-abbrev pub caseOf : Rules → ℕ → ℕ → ℕ → Case
-caseOf r n d m = record { n = n; d = d; m = m; lower = replicate edgePlaces 0; upper = replicate edgePlaces 0 }
+-- a case file does not say its rules: whoever reads it names the rulebook
+abbrev pub caseOf : Rulebook → ℕ → ℕ → ℕ → Case
+caseOf b n d m = record { n = n; d = d; m = m; lower = replicate edgePlaces 0; upper = replicate edgePlaces 0; rulebook = b }
 
-abbrev pub headed : Rules → Option Line → Case
-headed r none = caseOf r 0 0 0
-headed r (some t) = caseOf r (natAbs (t .a)) (natAbs (t .b)) (natAbs (t .c))
+abbrev pub headed : Rulebook → Option Line → Case
+headed b none = caseOf b 0 0 0
+headed b (some t) = caseOf b (natAbs (t .a)) (natAbs (t .b)) (natAbs (t .c))
 
 abbrev pub withWeight : Reading → ℕ → ℕ → ℕ → ℤ → Reading
 withWeight g x k l z = record { case = g .case; table = set (g .table) (place (g .case) x k l) z }
 
 abbrev pub withEnds : Case → ℕ → ℕ → ℕ → Case
-withEnds c e i j = record { n = c .n; d = c .d; m = c .m; lower = set (c .lower) e i; upper = set (c .upper) e j }
+withEnds c e i j = record { n = c .n; d = c .d; m = c .m; lower = set (c .lower) e i; upper = set (c .upper) e j; rulebook = c .rulebook }
 
 abbrev pub took : Reading → CaseDue → Option Line → Reading
 took g due none = g
@@ -131,12 +133,6 @@ pub record CaseCall : Type 0 where
   pub table : List ℤ
 
 module _ (r : Rules) where
-  abbrev pub caseRefused : Refusal → ℕ → List ℤ → CaseCall
-  caseRefused x at w = record { read = record { answer = FileAnswer.Refused x at; case = caseOf r 0 0 0 }; table = w }
-
-  abbrev pub caseTaken : Reading → ℕ → CaseCall
-  caseTaken g at = record { read = record { answer = FileAnswer.Read at; case = g .case }; table = g .table }
-
   -- fewer bytes than a line are number 14 and not 1
   abbrev pub isCut : List ℕ → Bool
   isCut t = ltb (length t) (lineLength (r .amountWidth))
@@ -147,33 +143,8 @@ module _ (r : Rules) where
   abbrev pub afterFirst : List ℕ → List ℕ
   afterFirst t = drop (lineLength (r .amountWidth)) t
 
-  -- `at` is the line, counted from 0
-  abbrev pub readDues : Reading → ℕ → List CaseDue → List ℕ → CaseCall
-  readDues g at [] t = caseTaken g at
-  readDues g at (due ∷ dues) t =
-      elim (isCut t) [
-        | true ↦ caseRefused CutShort at (g .table)
-        | false ↦
-            elim (firstOf (dueTests r (g .case) due (firstLine t))) [
-              | none ↦ readDues (took g due (firstLine t)) (at + 1) dues (afterFirst t)
-              | some x ↦ caseRefused x at (g .table)
-            ]
-      ]
-
   abbrev pub headRefusal : List ℕ → Option Refusal
   headRefusal t = if isCut t then some CutShort else firstOf (headTests r (firstLine t))
-
-  -- a case as the front of a longer input; number 4 belongs to the head's line
-  abbrev pub readCase : List ℕ → List ℤ → CaseCall
-  readCase t w =
-      elim (headRefusal t) [
-        | none ↦
-            let c = headed r (firstLine t) in
-            if eqb (length w) (lentLength c)
-            then readDues (record { case = c; table = w }) 1 (dues c) (afterFirst t)
-            else caseRefused WrongLength 0 w
-        | some x ↦ caseRefused x 0 w
-      ]
 
   -- nothing is due after the last line of a case that is read alone
   abbrev pub endTests : Option Line → List Test
@@ -186,10 +157,42 @@ module _ (r : Rules) where
       else if isCut t then some CutShort
       else firstOf (endTests (firstLine t))
 
+abbrev pub caseTaken : Reading → ℕ → CaseCall
+caseTaken g at = record { read = record { answer = FileAnswer.Read at; case = g .case }; table = g .table }
+
+module _ (b : Rulebook) where
+  abbrev pub caseRefused : Refusal → ℕ → List ℤ → CaseCall
+  caseRefused x at w = record { read = record { answer = FileAnswer.Refused x at; case = caseOf b 0 0 0 }; table = w }
+
+  -- `at` is the line, counted from 0
+  abbrev pub readDues : Reading → ℕ → List CaseDue → List ℕ → CaseCall
+  readDues g at [] t = caseTaken g at
+  readDues g at (due ∷ dues) t =
+      elim (isCut (rulesIn b) t) [
+        | true ↦ caseRefused CutShort at (g .table)
+        | false ↦
+            elim (firstOf (dueTests (rulesIn b) (g .case) due (firstLine (rulesIn b) t))) [
+              | none ↦ readDues (took g due (firstLine (rulesIn b) t)) (at + 1) dues (afterFirst (rulesIn b) t)
+              | some x ↦ caseRefused x at (g .table)
+            ]
+      ]
+
+  -- a case as the front of a longer input; number 4 belongs to the head's line
+  abbrev pub readCase : List ℕ → List ℤ → CaseCall
+  readCase t w =
+      elim (headRefusal (rulesIn b) t) [
+        | none ↦
+            let c = headed b (firstLine (rulesIn b) t) in
+            if eqb (length w) (lentLength c)
+            then readDues (record { case = c; table = w }) 1 (dues c) (afterFirst (rulesIn b) t)
+            else caseRefused WrongLength 0 w
+        | some x ↦ caseRefused x 0 w
+      ]
+
   abbrev pub nothingAfter : List ℕ → CaseCall → FileAnswer → CaseCall
   nothingAfter t call (FileAnswer.Refused x at) = call
   nothingAfter t call (FileAnswer.Read lines) =
-      elim (restRefusal (drop (lines * lineLength (r .amountWidth)) t)) [
+      elim (restRefusal (rulesIn b) (drop (lines * lineLength (rulesIn b .amountWidth)) t)) [
         | none ↦ call
         | some x ↦ caseRefused x lines (call .table)
       ]
@@ -200,9 +203,9 @@ module _ (r : Rules) where
   -- what the head says, with the length of the table to lend
   abbrev pub caseSize : List ℕ → CaseSize
   caseSize t =
-      elim (headRefusal t) [
+      elim (headRefusal (rulesIn b) t) [
         | none ↦
-            let c = headed r (firstLine t) in
+            let c = headed b (firstLine (rulesIn b) t) in
             CaseSize.Size (c .n) (c .d) (c .m) (lentLength c)
         | some x ↦ CaseSize.Refused x
       ]

@@ -71,8 +71,8 @@ abbrev pub pressNext : Case → List ℤ → Option ℕ → Next
 pressNext c w none = nothing
 pressNext c w (some i) = pressRound c w i (leastGap c w i)
 
-abbrev pub engineNext : Case → List ℤ → Next
-engineNext c w = pressNext c w (chosen c w)
+abbrev pub engineNext : Rules → Case → List ℤ → Next
+engineNext r c w = pressNext c w (chosen c w)
 
 -- ---- the lines of a round, and the weights after it
 
@@ -138,11 +138,11 @@ onward settled done w log go = stopped RunAnswer.Settled done w log
 onward (refused x) done w log go = stopped (RunAnswer.Refused x) done w log
 onward (made v lines) done w log go = go v (log ++ lines)
 
-module _ (r : Rules) (next : Case → List ℤ → Next) (c : Case) where
+module _ (r : Rules) (next : Rules → Case → List ℤ → Next) (c : Case) where
   -- with `left` rounds allowed, after `done` rounds that left the weights w and the log
   abbrev pub runFrom : ℕ → ℕ → List ℤ → List (List ℕ) → RunOf
-  runFrom zero done w log = stopped (atLimit (next c w)) done w log
-  runFrom (suc left) done w log = onward (makeNext r c w (next c w)) done w log (λ v lines. runFrom left (suc done) v lines)
+  runFrom zero done w log = stopped (atLimit (next r c w)) done w log
+  runFrom (suc left) done w log = onward (makeNext r c w (next r c w)) done w log (λ v lines. runFrom left (suc done) v lines)
 
   abbrev pub run : ℕ → List ℤ → RunOf
   run limit w = runFrom limit 0 w []

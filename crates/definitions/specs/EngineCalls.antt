@@ -41,7 +41,7 @@ answerAtLimit Round.Settled = RunAnswer.Settled
 answerAtLimit (Round.Made bytes bound) = RunAnswer.Limit
 answerAtLimit (Round.Refused x) = if isLeaving x then RunAnswer.Limit else RunAnswer.Refused x
 
-module _ (r : Rules) (next : Case → List ℤ → Next) (c : Case) where
+module _ (r : Rules) (next : Rules → Case → List ℤ → Next) (c : Case) where
   -- ---- one round: its lines from the output's first byte; settled or refused, table and output keep what they held
 
   abbrev pub roundMade : List ℤ → List ℕ → Made → RoundCall
@@ -59,7 +59,7 @@ module _ (r : Rules) (next : Case → List ℤ → Next) (c : Case) where
   unfoldable pub roundCall : List ℤ → List ℕ → RoundCall
   roundCall w out = elim (engineRefusal w out) [
     | some x ↦ record { answer = Round.Refused x; table = w; out = out }
-    | none ↦ roundMade w out (makeNext r c w (next c w))
+    | none ↦ roundMade w out (makeNext r c w (next r c w))
   ]
 
   -- ---- the run

@@ -7,6 +7,7 @@ pub mod Valid
 pub mod Consistency
 pub mod Moves
 pub mod Lines
+pub mod Places
 pub mod CaseFiles
 pub mod Replay
 pub mod Engine

@@ -8,6 +8,7 @@ use Prim.Native.String.{String, [] as empty, _∷_ as char-and}
 use lib.IntN.{ℤ, pos}
 use lib.ListN.{length, drop, replicate}
 use Rattle.integers.specs.Words.{if_then_else_, joined}
+use Rattle.definitions.specs.declared.Rulebook.{Rulebook}
 use Rattle.definitions.specs.declared.Case.{Case}
 use Rattle.definitions.specs.declared.FileAnswer.{FileAnswer}
 use Rattle.definitions.specs.declared.CaseRead.{CaseRead}
@@ -15,7 +16,7 @@ use Rattle.definitions.specs.declared.CaseSize.{CaseSize}
 use Rattle.definitions.specs.declared.RunAnswer.{RunAnswer}
 use Rattle.definitions.specs.declared.Refusal.{Refusal}
 use Rattle.definitions.specs.declared.Refusal.the-variants.{CutShort}
-use Rattle.definitions.specs.Rules.{Rules}
+use Rattle.definitions.specs.Rules.{rulesOf}
 use Rattle.definitions.specs.Refusals.{number}
 use Rattle.definitions.specs.Case.{upperBound}
 use Rattle.definitions.specs.Lines.{numberText, lineLength, linesIn, hasPart}
@@ -53,52 +54,56 @@ abbrev pub tableFor : CaseSize → List ℤ
 tableFor (CaseSize.Size n d m long) = replicate long (pos 0)
 tableFor (CaseSize.Refused x) = []
 
-module _ (r : Rules) where
-  -- ---- `replay`: a case and its log, one after the other
+-- ---- `replay`: a case and its log, one after the other
 
-  -- the first line answered by a number, counted from `at`; at the end 14 also where a part line is left
-  abbrev pub firstNumber : ℕ → List (Option Refusal) → Option Refusal → Bool → Judged → Judged
-  firstNumber at [] none part good = if part then refused CutShort at else good
-  firstNumber at [] (some x) part good = refused x at
-  firstNumber at (none ∷ xs) end part good = firstNumber (at + 1) xs end part good
-  firstNumber at (some x ∷ xs) end part good = refused x at
+-- the first line answered by a number, counted from `at`; at the end 14 also where a part line is left
+abbrev pub firstNumber : ℕ → List (Option Refusal) → Option Refusal → Bool → Judged → Judged
+firstNumber at [] none part good = if part then refused CutShort at else good
+firstNumber at [] (some x) part good = refused x at
+firstNumber at (none ∷ xs) end part good = firstNumber (at + 1) xs end part good
+firstNumber at (some x ∷ xs) end part good = refused x at
 
-  -- the log begins at line `at`
-  abbrev pub judgeLog : Case → List ℤ → ℕ → List ℕ → Judged
-  judgeLog c w at log =
-      let lines = linesIn (r .amountWidth) log in
-      let s = after r (fresh c w) lines in
-      firstNumber at (answers r (fresh c w) lines) (atEnd s) (hasPart (r .amountWidth) log) (accepted (s .rounds) (upperBound c (s .weights)))
+-- the log begins at line `at`, and is judged by the rules of its case
+abbrev pub judgeLog : Case → List ℤ → ℕ → List ℕ → Judged
+judgeLog c w at log =
+    let r = rulesOf c in
+    let lines = linesIn (r .amountWidth) log in
+    let s = after r (fresh c w) lines in
+    firstNumber at (answers r (fresh c w) lines) (atEnd s) (hasPart (r .amountWidth) log) (accepted (s .rounds) (upperBound c (s .weights)))
 
-  abbrev pub judgeRead : List ℕ → CaseCall → FileAnswer → Judged
-  judgeRead t call (FileAnswer.Refused x at) = refused x at
-  judgeRead t call (FileAnswer.Read lines) =
-      judgeLog (call .read .case) (call .table) lines (drop (lines * lineLength (r .amountWidth)) t)
+abbrev pub judgeRead : List ℕ → CaseCall → FileAnswer → Judged
+judgeRead t call (FileAnswer.Refused x at) = refused x at
+judgeRead t call (FileAnswer.Read lines) =
+    judgeLog (call .read .case) (call .table) lines (drop (lines * lineLength (rulesOf (call .read .case) .amountWidth)) t)
 
+-- ---- `press`: a case alone, and the log of up to 100,000 rounds
+
+-- a refusal by the engine counts as met at the line after the input's last
+abbrev pub pressEnd : ℕ → RunAnswer → List ℕ
+pressEnd at RunAnswer.Settled = []
+pressEnd at RunAnswer.Limit = []
+pressEnd at (RunAnswer.Refused x) = refusedText x at
+
+abbrev pub pressRun : ℕ → RunOf → List ℕ
+pressRun at q = joined (q .log) ++ pressEnd at (q .answer)
+
+abbrev pub pressRead : CaseCall → FileAnswer → List ℕ
+pressRead call (FileAnswer.Refused x at) = refusedText x at
+pressRead call (FileAnswer.Read lines) =
+    pressRun lines (run (rulesOf (call .read .case)) engineNext (call .read .case) pressLimit (call .table))
+
+-- ---- the programs' input is read under a rulebook
+
+module _ (b : Rulebook) where
   abbrev pub judge : List ℕ → Judged
   judge t =
-      let call = readCase r t (tableFor (caseSize r t)) in
+      let call = readCase b t (tableFor (caseSize b t)) in
       judgeRead t call (call .read .answer)
 
   abbrev pub replayPrints : List ℕ → List ℕ
   replayPrints t = judgedText (judge t)
 
-  -- ---- `press`: a case alone, and the log of up to 100,000 rounds
-
-  -- a refusal by the engine counts as met at the line after the input's last
-  abbrev pub pressEnd : ℕ → RunAnswer → List ℕ
-  pressEnd at RunAnswer.Settled = []
-  pressEnd at RunAnswer.Limit = []
-  pressEnd at (RunAnswer.Refused x) = refusedText x at
-
-  abbrev pub pressRun : ℕ → RunOf → List ℕ
-  pressRun at q = joined (q .log) ++ pressEnd at (q .answer)
-
-  abbrev pub pressRead : CaseCall → FileAnswer → List ℕ
-  pressRead call (FileAnswer.Refused x at) = refusedText x at
-  pressRead call (FileAnswer.Read lines) = pressRun lines (run r engineNext (call .read .case) pressLimit (call .table))
-
   abbrev pub pressPrints : List ℕ → List ℕ
   pressPrints t =
-      let call = readCaseAlone r t (tableFor (caseSize r t)) in
+      let call = readCaseAlone b t (tableFor (caseSize b t)) in
       pressRead call (call .read .answer)

@@ -1,9 +1,13 @@
--- The numbers of document 01 as one record, so that other rules can stand beside them, and what they must have in common.
--- Assumes nothing.
+-- The numbers of document 01 as one record, so that other rules can stand beside them, which rules a case is under, and what all rules
+-- must have in common. Assumes nothing.
 use mathlib.Core.Bool.{Bool, true, false}
 use mathlib.Core.List.{List, [], _∷_}
 use Prim.Native.Nat.{ℕ, _+_, _*_, _-_, _^_, _≤_, _<_}
 use lib.Dec.{lit<, lit≤}
+use mathlib.Core.Path.{_≡_, refl}
+use Rattle.definitions.specs.declared.Rulebook.{Rulebook}
+use Rattle.definitions.specs.declared.Rulebook.the-variants.{Desk}
+use Rattle.definitions.specs.declared.Case.{Case}
 
 -- a kind of line, and which of its columns it uses
 pub record Kind : Type 0 where
@@ -31,6 +35,27 @@ pub record Rules : Type 0 where
   pub amountWidth : ℕ
   pub kinds : List Kind
 
+-- the kinds of document 01
+abbrev pub lineKinds : List Kind
+lineKinds =
+    -- shift: edge, end, value, amount
+    uses 1 true true true true
+    -- press: variable, count of raise lines, amount
+    ∷ uses 2 true true false true
+    -- raise: scope
+    ∷ uses 3 true false false false
+    -- bound: the upper bound
+    ∷ uses 4 false false false true
+    -- head of a case: n, D, m
+    ∷ uses 10 true true true false
+    -- variable's weight: variable, value, weight
+    ∷ uses 11 true true false true
+    -- edge: edge, lower variable, upper variable
+    ∷ uses 12 true true true false
+    -- edge's weight: edge, value k, value l, weight
+    ∷ uses 13 true true true true
+    ∷ []
+
 abbrev pub standard : Rules
 standard = record {
   variables = 48;
@@ -41,32 +66,25 @@ standard = record {
   moving = 1_000_000_000;
   rounds = 999_999_999_999_999_999;
   amountWidth = 12;
-  kinds =
-      -- shift: edge, end, value, amount
-      uses 1 true true true true
-      -- press: variable, count of raise lines, amount
-      ∷ uses 2 true true false true
-      -- raise: scope
-      ∷ uses 3 true false false false
-      -- bound: the upper bound
-      ∷ uses 4 false false false true
-      -- head of a case: n, D, m
-      ∷ uses 10 true true true false
-      -- variable's weight: variable, value, weight
-      ∷ uses 11 true true false true
-      -- edge: edge, lower variable, upper variable
-      ∷ uses 12 true true true false
-      -- edge's weight: edge, value k, value l, weight
-      ∷ uses 13 true true true true
-      ∷ [];
+  kinds = lineKinds;
 }
 
--- the places of the arrays in a case's record and in the replay's, which hold what the greatest rules ask
+-- the rules of each rulebook, and the rules that a case is under
+abbrev pub rulesIn : Rulebook → Rules
+rulesIn Desk = standard
+
+abbrev pub rulesOf : Case → Rules
+rulesOf c = rulesIn (c .rulebook)
+
+-- the places of arrays, which hold what the greatest rules ask
+abbrev pub variablePlaces : ℕ
+variablePlaces = 48
+
 abbrev pub edgePlaces : ℕ
 edgePlaces = 96
 
 abbrev pub scopePlaces : ℕ
-scopePlaces = 144
+scopePlaces = variablePlaces + edgePlaces
 
 abbrev pub scopesAtMost : Rules → ℕ
 scopesAtMost r = r .variables + r .edges
@@ -77,6 +95,7 @@ pub record Coherent (r : Rules) : Type 0 where
   pub values-few : r .values ≤ 8
   pub variables-few : r .variables ≤ 256
   pub scopes-few : scopesAtMost r < 10 ^ 4
+  pub variables-placed : r .variables ≤ variablePlaces
   pub edges-placed : r .edges ≤ edgePlaces
   pub scopes-placed : scopesAtMost r ≤ scopePlaces
   -- starting weights are working weights, with room for every press of the engine
@@ -91,12 +110,15 @@ pub record Coherent (r : Rules) : Type 0 where
   -- a count of rounds fits 64 bits, and is never used up from starting weights
   pub rounds-fit : r .rounds < 2 ^ 63
   pub rounds-enough : 2 * (scopesAtMost r * r .starting) ≤ r .rounds
+  -- the kinds are those of document 01
+  pub known-kinds : r .kinds ≡ lineKinds
 
 pub standard-coherent : Coherent standard
 standard-coherent = record {
   values-few = lit≤ tt;
   variables-few = lit≤ tt;
   scopes-few = lit< tt;
+  variables-placed = lit≤ tt;
   edges-placed = lit≤ tt;
   scopes-placed = lit≤ tt;
   room = lit≤ tt;
@@ -107,4 +129,8 @@ standard-coherent = record {
   amount-fits = lit≤ tt;
   rounds-fit = lit< tt;
   rounds-enough = lit≤ tt;
+  known-kinds = refl;
 }
+
+pub coherent : (b : Rulebook) → Coherent (rulesIn b)
+coherent Desk = standard-coherent

@@ -10,6 +10,7 @@ use lib.IntN.{ℤ, pos}
 use lib.Dec.{T}
 use lib.ListN.{take, replicate}
 use Rattle.integers.specs.Words.{below, all, joined, minus}
+use Rattle.definitions.specs.declared.Rulebook.the-variants.{Desk}
 use Rattle.definitions.specs.declared.Case.{Case}
 use Rattle.definitions.specs.declared.RunAnswer.{RunAnswer}
 use Rattle.definitions.specs.Rules.{standard, edgePlaces}
@@ -28,13 +29,13 @@ pub record Input : Type 0 where
   pub case : Case
   pub weights : List ℤ
 
--- A case as a caller hands it over: its record has 96 places for the ends of edges, and those from m on hold what is no variable of any case.
+-- A case as a caller hands it over: its record has edgePlaces places for the ends of edges, and those from m on hold what is no variable of any case.
 -- Every sample is over such a record.
 abbrev padded : List ℕ → List ℕ
 padded ends = take edgePlaces (ends ++ replicate edgePlaces 200)
 
 abbrev pub given : ℕ → ℕ → ℕ → List ℕ → List ℕ → List ℤ → Input
-given n d m lower upper w = record { case = record { n = n; d = d; m = m; lower = padded lower; upper = padded upper }; weights = w }
+given n d m lower upper w = record { case = record { n = n; d = d; m = m; lower = padded lower; upper = padded upper; rulebook = Desk }; weights = w }
 
 abbrev unequal : List ℤ
 unequal = minus 1 ∷ pos 0 ∷ pos 0 ∷ minus 1 ∷ []
@@ -104,8 +105,8 @@ answer (replay-of i ts) =
     let s = fresh (i .case) (i .weights) in
     replayedTo i (map numberOf (answers standard s (texts ts))) (after standard s (texts ts))
 answer (all-active i limit) = yes-no (allActive (i .case) (runOn i limit .weights))
-answer (press-on ts) = prints (pressPrints standard (joined (texts ts)))
-answer (replay-on ts) = prints (replayPrints standard (joined (texts ts)))
+answer (press-on ts) = prints (pressPrints Desk (joined (texts ts)))
+answer (replay-on ts) = prints (replayPrints Desk (joined (texts ts)))
 
 pub record Sample : Type 0 where
   pub ask : Question
@@ -335,5 +336,5 @@ our-samples-valid = tt
 abbrev wide : Input
 wide = given 48 1 0 [] [] (zeros 48)
 
-pub wide-accepted : replayPrints standard (caseText standard (wide .case) (wide .weights)) ≡ bytesOf "accepted 0 0\n"
+pub wide-accepted : replayPrints Desk (caseText standard (wide .case) (wide .weights)) ≡ bytesOf "accepted 0 0\n"
 wide-accepted = refl

@@ -22,7 +22,7 @@ workingWeight r z = withinZ (minus (r .working)) (pos (r .working)) z
 abbrev pub allWeights : (ℤ → Bool) → Case → List ℤ → Bool
 allWeights range c w = all range (take (ownLength c) w)
 
--- a case has 1 to 48 variables, 1 to 8 values, 0 to 96 edges
+-- how many variables, values and edges a case may have
 abbrev pub withinLimits : Rules → ℕ → ℕ → ℕ → Bool
 withinLimits r n d m = within 1 (r .variables) n && within 1 (r .values) d && within 0 (r .edges) m
 

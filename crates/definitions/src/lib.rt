@@ -1,13 +1,33 @@
 // The types that cross the library's border. What each function answers is defined in specs/.
 
+// Places in arrays, which hold what the greatest rules ask (specs/Rules, specs/Places): variables, edges and scopes of a case; and in the
+// programs its table, the input and the output of a round.
+pub const VARIABLE_PLACES: usize = 48;
+
+pub const EDGE_PLACES: usize = 96;
+
+pub const SCOPE_PLACES: usize = VARIABLE_PLACES + EDGE_PLACES;
+
+pub const TABLE_PLACES: usize = 8 * VARIABLE_PLACES + 64 * EDGE_PLACES;
+
+pub const INPUT_PLACES: usize = 262144;
+
+pub const ROUND_PLACES: usize = 3915;
+
+// Which rules a case is under. The planner's desk has those of document 01.
+pub enum Rulebook {
+    Desk,
+}
+
 // A case (document 01): n variables (links), d values (channels) for each, m edges (pairs).
 // Edge e joins variables lower[e] and upper[e]; places from m on are never asked.
 pub struct Case {
     pub n: usize,
     pub d: usize,
     pub m: usize,
-    pub lower: [u8; 96],
-    pub upper: [u8; 96],
+    pub lower: [u8; EDGE_PLACES],
+    pub upper: [u8; EDGE_PLACES],
+    pub rulebook: Rulebook,
 }
 
 // Why something is turned back, in document 01's order: its numbers 1 to 14.

@@ -8,7 +8,8 @@ ghost use mathlib.Core.Path.{_≡_};
 ghost use Prim.Native.Nat.{_<_, _%_, min};
 ghost use lib.ListN.{length};
 ghost use Rattle.definitions.specs.Refusals.{number};
-ghost use Rattle.definitions.specs.Rules.{standard};
+ghost use Rattle.definitions.specs.declared.Rulebook.the-variants.{Desk};
+ghost use Rattle.definitions.specs.Rules.{rulesIn};
 ghost use Rattle.definitions.specs.Calls.{readLineAnswer};
 ghost use Rattle.drivers.specs.Drivers.{lineOf, countOr, digestFrom};
 
@@ -50,7 +51,7 @@ pub fn number_of(refusal: Refusal) -> u64
 
 // The line that the text is, or zeros; a text that is not in columns is a title and is printed.
 pub fn line_of(text: &[u8]) -> Line
-    ensures { λ r. ⌜ r ≡ lineOf (readLineAnswer standard (now (text .entry))) ⌝ }
+    ensures { λ r. ⌜ r ≡ lineOf (readLineAnswer (rulesIn Desk) (now (text .entry))) ⌝ }
 {
     let read = lines::read_line(text);
     match read {

@@ -2,7 +2,7 @@
 use mathlib.Core.Path.{_≡_, refl, ap, _∙_}
 use mathlib.Core.Bool.{Bool, true, false}
 use mathlib.Core.List.{List}
-use Prim.Native.Nat.{ℕ, _^_, _<_}
+use Prim.Native.Nat.{ℕ, _+_, _^_, _<_}
 use native.Mathlib.Omega.{arith}
 use lib.Dec.{leb, eqb}
 use lib.IntN.{ℤ}
@@ -10,6 +10,8 @@ use lib.ListN.{length, take, drop, getD}
 use lib.Seq.{take-at, drop-at, take-all}
 use mir.Syntax.{w64}
 use mir.Val.{SFits}
+use Rattle.definitions.specs.declared.Rulebook.the-variants.{Desk}
+use Rattle.definitions.specs.Rules.{edgePlaces, scopePlaces}
 use Rattle.definitions.specs.declared.Case.{Case}
 use Rattle.definitions.proofs.AnswerLaws.{numbered, same-said}
 use Rattle.checker.specs.declared.LastRaised.{LastRaised}
@@ -30,8 +32,9 @@ pub record CaseHeld (c : Case) : Type 0 where
   pub n : c .n < 2 ^ 64
   pub d : c .d < 2 ^ 64
   pub m : c .m < 2 ^ 64
-  pub lower : length (c .lower) ≡ 96
-  pub upper : length (c .upper) ≡ 96
+  pub lower : length (c .lower) ≡ edgePlaces
+  pub upper : length (c .upper) ≡ edgePlaces
+  pub desk : c .rulebook ≡ Desk
 
 module _ (c : Case) (h : CaseHeld c) where
   n-is : numberAt (caseBytes c) 0 ≡ c .n
@@ -46,17 +49,17 @@ module _ (c : Case) (h : CaseHeld c) where
   unfolding numberAt numberBytes caseBytes
   m-is = number-back (c .m) (h .m)
 
-  lower-is : take 96 (drop 24 (caseBytes c)) ≡ c .lower
+  lower-is : take edgePlaces (drop 24 (caseBytes c)) ≡ c .lower
   unfolding numberBytes caseBytes
-  lower-is = take-at (c .lower) (c .upper) 96 (h .lower)
+  lower-is = take-at (c .lower) (c .upper) edgePlaces (h .lower)
 
-  upper-is : take 96 (drop 120 (caseBytes c)) ≡ c .upper
+  upper-is : take edgePlaces (drop (24 + edgePlaces) (caseBytes c)) ≡ c .upper
   unfolding numberBytes caseBytes
-  upper-is = ap (take 96) (drop-at (c .lower) (c .upper) 96 (h .lower)) ∙ take-all 96 (c .upper) (omega (arith, h .upper))
+  upper-is = ap (take edgePlaces) (drop-at (c .lower) (c .upper) edgePlaces (h .lower)) ∙ take-all edgePlaces (c .upper) (omega (arith, h .upper))
 
   pub case-back : caseOf (caseBytes c) ≡ c
   unfolding caseOf
-  case-back = rw (n-is, d-is, m-is, lower-is, upper-is)
+  case-back = rw (n-is, d-is, m-is, lower-is, upper-is, ← h .desk)
 
 -- ---- what is due and what stands
 
@@ -99,7 +102,7 @@ standing-same = same-said standingSays (λ s. standingAt (s .number)) standing-b
 pub record RecordHeld (p : Replay) : Type 0 where
   pub rounds : p .rounds < 2 ^ 64
   pub start : SFits w64 (p .start)
-  pub raised : length (p .raised) ≡ 144
+  pub raised : length (p .raised) ≡ scopePlaces
   pub variable : pressOf (p .due) .variable < 2 ^ 64
   pub amount : SFits w64 (pressOf (p .due) .amount)
   pub left : pressOf (p .due) .left < 2 ^ 64
@@ -176,9 +179,9 @@ module _ (p : Replay) where
     unfolding numberAt numberBytes recordNumbers recordTags recordBytes
     scope-is = number-back (pressOf (p .due) .last .scope) (h .scope)
 
-    raised-is : take 144 (drop 52 (recordBytes p)) ≡ p .raised
+    raised-is : take scopePlaces (drop 52 (recordBytes p)) ≡ p .raised
     unfolding numberBytes recordNumbers recordTags recordBytes
-    raised-is = take-all 144 (p .raised) (omega (arith, h .raised))
+    raised-is = take-all scopePlaces (p .raised) (omega (arith, h .raised))
 
     press-is : pressAt (recordBytes p) ≡ pressOf (p .due)
     press-is =

@@ -1,5 +1,5 @@
--- The replay's record as 196 bytes: its count of rounds, its bound at the round's start, the variable, amount, lines left and last scope of a press
--- begun (0 where there is none), then a byte each for: moved, a press begun, a last scope, the standing; then the 144 marks of raised scopes.
+-- The replay's record as bytes: its count of rounds, its bound at the round's start, the variable, amount, lines left and last scope of a press
+-- begun (0 where there is none), then a byte each for: moved, a press begun, a last scope, the standing; then the marks of raised scopes, a byte for each place.
 -- Assumes nothing.
 use mathlib.Core.Bool.{Bool, _&&_}
 use mathlib.Core.List.{List, [], _∷_, _++_}
@@ -8,6 +8,7 @@ use lib.IntN.{ℤ, pos}
 use lib.Dec.{leb, eqb}
 use lib.ListN.{getD, take, drop}
 use Rattle.integers.specs.Words.{if_then_else_}
+use Rattle.definitions.specs.Rules.{scopePlaces}
 use Rattle.definitions.specs.Answers.{refusalOf}
 use Rattle.checker.specs.declared.LastRaised.{LastRaised}
 use Rattle.checker.specs.declared.Due.{Due}
@@ -77,7 +78,7 @@ recordOf bytes = record {
   rounds = numberAt bytes 0;
   start = signedOf (numberAt bytes 8);
   moved = eqb (getD bytes 48 0) 1;
-  raised = take 144 (drop 52 bytes);
+  raised = take scopePlaces (drop 52 bytes);
   due = dueOf (pressAt bytes);
   standing = standingAt (getD bytes 51 0);
 }

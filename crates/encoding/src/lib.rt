@@ -5,10 +5,14 @@ use checker::LastRaised;
 use checker::Replay;
 use checker::Standing;
 use definitions::Case;
+use definitions::EDGE_PLACES;
 use definitions::Refusal;
+use definitions::Rulebook;
+use definitions::SCOPE_PLACES;
 ghost use mathlib.Core.Path.{_≡_};
 ghost use Prim.Native.Nat.{_+_, _%_, _≤_, _<_};
 ghost use lib.ListN.{length, take, drop};
+ghost use Rattle.definitions.specs.Rules.{edgePlaces, scopePlaces};
 ghost use Rattle.definitions.specs.Lines.{overwritten};
 ghost use Rattle.texts.specs.Texts.{placed};
 ghost use Rattle.checker.specs.Checker.{standingSays};
@@ -18,9 +22,12 @@ ghost use Rattle.encoding.specs.Version.{versionNumber};
 ghost use Rattle.encoding.specs.RecordBytes.{lastOf, raisedOf, pressOf, dueOf, standingAt, pressAt, recordNumbers, recordTags, recordBytes, isRecord, recordOf};
 
 // The bytes of a case, and those of the replay's record.
-pub type CaseArray = [u8; 216];
+pub type CaseArray = [u8; 24 + 2 * EDGE_PLACES];
 
-pub type RecordArray = [u8; 196];
+pub type RecordArray = [u8; 52 + SCOPE_PLACES];
+
+// Where the upper ends of a case begin.
+const UPPER: usize = 24 + EDGE_PLACES;
 
 // The greatest number of eight bytes, and the least that says a number below 0.
 const GREATEST: u64 = 18_446_744_073_709_551_615;
@@ -138,38 +145,38 @@ fn put_number(out: &mut [u8], at: usize, x: u64)
     put(out, at, &word);
 }
 
-fn put_ends(out: &mut [u8], at: usize, ends: &[u8; 96])
-    requires { ⌜ at + 96 ≤ length (now out) ⌝ }
-    ensures { λ _. ⌜ (now (out .exit) ≡ placed at (now (ends .entry)) (now (out .entry))) × (length (now (ends .entry)) ≡ 96) ⌝ }
+fn put_ends(out: &mut [u8], at: usize, ends: &[u8; EDGE_PLACES])
+    requires { ⌜ at + edgePlaces ≤ length (now out) ⌝ }
+    ensures { λ _. ⌜ (now (out .exit) ≡ placed at (now (ends .entry)) (now (out .entry))) × (length (now (ends .entry)) ≡ edgePlaces) ⌝ }
 {
     put(out, at, ends);
 }
 
-fn put_marks(out: &mut [u8], at: usize, marks: &[u8; 144])
-    requires { ⌜ at + 144 ≤ length (now out) ⌝ }
-    ensures { λ _. ⌜ (now (out .exit) ≡ placed at (now (marks .entry)) (now (out .entry))) × (length (now (marks .entry)) ≡ 144) ⌝ }
+fn put_marks(out: &mut [u8], at: usize, marks: &[u8; SCOPE_PLACES])
+    requires { ⌜ at + scopePlaces ≤ length (now out) ⌝ }
+    ensures { λ _. ⌜ (now (out .exit) ≡ placed at (now (marks .entry)) (now (out .entry))) × (length (now (marks .entry)) ≡ scopePlaces) ⌝ }
 {
     put(out, at, marks);
 }
 
-// The 96 bytes from byte `at` on.
-fn ends_at(bytes: &[u8], at: usize) -> [u8; 96]
-    requires { ⌜ at + 96 ≤ length (now bytes) ⌝ }
-    ensures { λ r. ⌜ r ≡ take 96 (drop at (now (bytes .entry))) ⌝ }
+// A byte for each edge's place, from byte `at` on.
+fn ends_at(bytes: &[u8], at: usize) -> [u8; EDGE_PLACES]
+    requires { ⌜ at + edgePlaces ≤ length (now bytes) ⌝ }
+    ensures { λ r. ⌜ r ≡ take edgePlaces (drop at (now (bytes .entry))) ⌝ }
 {
-    let mut part = [0u8; 96];
-    let end = at + 96;
+    let mut part = [0u8; EDGE_PLACES];
+    let end = at + EDGE_PLACES;
     bytes::copy(&bytes[at..end], &mut part);
     part
 }
 
-// The 144 bytes from byte `at` on.
-fn marks_at(bytes: &[u8], at: usize) -> [u8; 144]
-    requires { ⌜ at + 144 ≤ length (now bytes) ⌝ }
-    ensures { λ r. ⌜ r ≡ take 144 (drop at (now (bytes .entry))) ⌝ }
+// A byte for each scope's place, from byte `at` on.
+fn marks_at(bytes: &[u8], at: usize) -> [u8; SCOPE_PLACES]
+    requires { ⌜ at + scopePlaces ≤ length (now bytes) ⌝ }
+    ensures { λ r. ⌜ r ≡ take scopePlaces (drop at (now (bytes .entry))) ⌝ }
 {
-    let mut part = [0u8; 144];
-    let end = at + 144;
+    let mut part = [0u8; SCOPE_PLACES];
+    let end = at + SCOPE_PLACES;
     bytes::copy(&bytes[at..end], &mut part);
     part
 }
@@ -337,13 +344,14 @@ pub fn case_of(bytes: &CaseArray) -> Case
     let d = number_at(bytes, 8);
     let m = number_at(bytes, 16);
     let lower = ends_at(bytes, 24);
-    let upper = ends_at(bytes, 120);
+    let upper = ends_at(bytes, UPPER);
     Case {
         n: n as usize,
         d: d as usize,
         m: m as usize,
         lower,
         upper,
+        rulebook: Rulebook::Desk,
     }
 }
 
@@ -355,7 +363,7 @@ pub fn write_case(case: Case, out: &mut CaseArray)
     put_number(out, 8, case.d as u64);
     put_number(out, 16, case.m as u64);
     put_ends(out, 24, &case.lower);
-    put_ends(out, 120, &case.upper);
+    put_ends(out, UPPER, &case.upper);
 }
 
 // Whether the bytes say a record.

@@ -4,7 +4,7 @@ use mathlib.Core.Bool.{true, false, not}
 use mathlib.Core.Logic.{_⊎_, inl, inr, ⊎-elim}
 use mathlib.Core.Option.{some}
 use mathlib.Core.List.{List, [], _∷_, List·Memᴰ·head, List·Memᴰ·tail, List·Memᴰ·not-nil}
-use Prim.Native.Nat.{ℕ, suc, _+_, _≤_, _<_}
+use Prim.Native.Nat.{ℕ, suc, _+_, _*_, _≤_, _<_}
 use native.Mathlib.Numerals.{add-one}
 use native.Mathlib.Omega.{arith}
 use lib.IntN.{ℤ, pos, _+ℤ_, _-ℤ_}
@@ -20,7 +20,8 @@ use Rattle.integers.specs.Linear.{flat, zs, _▸_, ≤ℤ-trans, ≤ℤ-antisym
 use Rattle.integers.specs.Maxima.{min-left, min-right, min-cases}
 use Rattle.integers.specs.Lists.{_∈_, all-in, those-in, in-those, below-in}
 use Rattle.definitions.specs.declared.Case.{Case}
-use Rattle.definitions.specs.Rules.{standard}
+use Rattle.definitions.specs.Rules.{Rules, Coherent, coherent, rulesOf}
+use Rattle.definitions.proofs.RulesLaws.{fits}
 use Rattle.definitions.specs.Case.{scopes, scopeCount, eachTuple, weight, greatest, active}
 use Rattle.definitions.specs.Valid.{workingWeight}
 use Rattle.definitions.specs.Engine.{chosen, keptScopes, leastGap}
@@ -29,7 +30,7 @@ use Rattle.theory.proofs.Validity.{Handed}
 use Rattle.engine_theory.proofs.Gaps.{amount, amount-reached, amount-room, amount-most}
 use Rattle.engine.specs.Search.{isRaised}
 use Rattle.engine.specs.Texts.{raisedBelow}
-use Rattle.engine.specs.Gaps.{limits, lesserGap, lessGaps}
+use Rattle.engine.specs.Gaps.{smallWeight, noGap, limits, lesserGap, lessGaps}
 
 -- ---- sums
 
@@ -45,12 +46,15 @@ gap-low z r g a = simp flat (omega zs)
 gap-high : (z r g a : ℤ) → (z +ℤ a) ≤ℤ g → r ≡ g -ℤ z → a ≤ℤ r
 gap-high z r g a = simp flat (omega zs)
 
-no-limit : (r a : ℤ) → r ≤ℤ a → a ≤ℤ pos 1_000_000_000 → r ≡ pos 1_000_000_001 → ⊥
-no-limit r a = simp flat (omega zs)
+no-limit : (r a : ℤ) (n : ℕ) → r ≤ℤ a → a ≤ℤ pos n → n < noGap → r ≡ pos noGap → ⊥
+no-limit r a n = simp flat (omega zs)
 
 -- ---- one weight
 
-pub gap-fits : (z b : ℤ) → T (workingWeight standard z) → T (workingWeight standard b) → SFits w64 (b -ℤ z)
+pub working-small : {r : Rules} → Coherent r → (z : ℤ) → T (workingWeight r z) → T (smallWeight z)
+working-small coherent z h = h ▸ fits coherent .working ▸ simp flat (omega zs)
+
+pub gap-fits : (z b : ℤ) → T (smallWeight z) → T (smallWeight b) → SFits w64 (b -ℤ z)
 gap-fits z b h g = h ▸ g ▸ simp flat (omega zs)
 
 module _ (z best least : ℤ) where
@@ -174,20 +178,20 @@ module _ (c : Case) (w : List ℤ) (raised : List ℕ) (i : ℕ) where
     in-limiting {y} (List·Memᴰ·head e) = or-left (eqb y i) (isRaised raised y) (eqb-iff y i .1 e)
     in-limiting {y} (List·Memᴰ·tail m) = or-right (eqb y i) (isRaised raised y) (in-those (isRaised raised) (scopes c) (subst (λ (l : List ℕ). y ∈ l) (sym same) m) .1)
 
-    pub amount-is : Handed standard (workingWeight standard) c w → chosen c w ≡ some i → {r : ℤ} → LeastTill (pos 1_000_000_001) (scopeCount c) r → leastGap c w i ≡ some r
+    pub amount-is : Handed (rulesOf c) (workingWeight (rulesOf c)) c w → chosen c w ≡ some i → {r : ℤ} → LeastTill (pos noGap) (scopeCount c) r → leastGap c w i ≡ some r
     amount-is h which {r} p =
         let (a, e) = amount c w (h .shape) which in
         let (x, k, l, m, u, t, d) = amount-reached c w (h .shape) which e in
         let low : r ≤ℤ a = gap-low (weight c w x k l) r (greatest c w x) a (p .room x k l (u .scope) (in-limiting m) u t) d in
-        let most : a ≤ℤ pos 1_000_000_000 = amount-most c w (h .shape) which e standard (h .in-range) in
+        let most : a ≤ℤ pos (2 * rulesOf c .working) = amount-most c w (h .shape) which e (rulesOf c) (h .in-range) in
         e ∙ ap some (≤ℤ-antisym (⊎-elim
-        (λ q. absurd (no-limit r a low most q))
+        (λ q. absurd (no-limit r a (2 * rulesOf c .working) low most (omega (arith, fits (coherent (c .rulebook)) .working)) q))
         (λ (y, k, l, s, v, n, q). gap-high (weight c w y k l) r (greatest c w y) a (amount-room c w (h .shape) which e (limiting-in (v .scope) s) v n) q)
         (p .reached)) low)
 
 -- ---- the weights of a scope that was checked
-module _ {c : Case} {w : List ℤ} (h : Handed standard (workingWeight standard) c w) (x : ℕ) (g : x < scopeCount c) where
-  pub part-working : T (all (workingWeight standard) (eachTuple c x (weight c w x)))
-  part-working = all-in (workingWeight standard) (eachTuple c x (weight c w x)) .1 (λ z m.
+module _ {c : Case} {w : List ℤ} (h : Handed (rulesOf c) (workingWeight (rulesOf c)) c w) (x : ℕ) (g : x < scopeCount c) where
+  pub part-small : T (all smallWeight (eachTuple c x (weight c w x)))
+  part-small = all-in smallWeight (eachTuple c x (weight c w x)) .1 (λ z m.
       let (k, l, u, e) = in-tuples c (weight c w x) x g m in
-      subst (λ (y : ℤ). T (workingWeight standard y)) e (h .in-range x k l u))
+      subst (λ (y : ℤ). T (smallWeight y)) e (working-small (coherent (c .rulebook)) (weight c w x k l) (h .in-range x k l u)))

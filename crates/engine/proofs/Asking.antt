@@ -13,13 +13,14 @@ use lib.Seq.{getD-take, getD-drop, length-take-le}
 use Rattle.integers.specs.Words.{if_then_else_, below}
 use Rattle.integers.specs.Tables.{length-tab, getD-tab, length-rows, getD-rows}
 use Rattle.definitions.specs.declared.Case.{Case}
-use Rattle.definitions.specs.Rules.{standard}
+use Rattle.definitions.specs.Rules.{rulesOf, edgePlaces}
 use Rattle.definitions.specs.Case.{scopeCount}
 use Rattle.definitions.specs.Valid.{workingWeight}
 use Rattle.definitions.specs.Consistency.{allRefuted}
 use Rattle.definitions.specs.Moves.{activeValues}
 use Rattle.theory.proofs.Validity.{Handed, handed}
 use Rattle.theory.proofs.Replays.{none-iff}
+use Rattle.tables.proofs.Answered.{limits-known}
 use Rattle.arcs.specs.Active.{activeSet, activeRow, activeSets, activeRows, tooShort, activeRefusal, setsAfter, rowsAfter}
 use Rattle.arcs.specs.Tried.{triedAnswer}
 use Rattle.arcs.specs.declared.Tried.the-variants.{Unsupported, Supported}
@@ -50,8 +51,8 @@ module _ (c : Case) (w : List ℤ) where
       let z : 16 * e + p ≡ e * 16 + p = omega arith in
       ap (λ (q : ℕ). getD (activeRows c w) q 0) z ∙ getD-rows rows-of (c .m) 16 (λ e h. length-tab (activeRow c w e) 0 16) e p 0 h g ∙ getD-tab (activeRow c w e) 16 p 0 g
 
-pub marks-known : {c : Case} {w : List ℤ} → Handed standard (workingWeight standard) c w → (sets rows : List ℕ) → c .n ≤ length sets → 16 * c .m ≤ length rows
-    → Prepared c w (setsAfter standard c w sets rows) (rowsAfter standard c w sets rows)
+pub marks-known : {c : Case} {w : List ℤ} → Handed (rulesOf c) (workingWeight (rulesOf c)) c w → (sets rows : List ℕ) → c .n ≤ length sets → 16 * c .m ≤ length rows
+    → Prepared c w (setsAfter (rulesOf c) c w sets rows) (rowsAfter (rulesOf c) c w sets rows)
 unfolding setsAfter rowsAfter
 marks-known {c} {w} h sets rows room wide = rw taken (record {
   handed = h;
@@ -61,9 +62,9 @@ marks-known {c} {w} h sets rows room wide = rw taken (record {
       List·getD-append (activeRows c w) (drop (length (activeRows c w)) rows) 0 (16 * e + p) (omega (arith, rows-length c w)) ∙ rows-at c w e p g l;
 })
   where
-    taken : activeRefusal standard c w sets rows ≡ none
-    taken = none-iff (activeRefusal standard c w sets rows) .0
-        (handed standard (workingWeight standard) c w (tooShort c sets rows) false .1 (h, rw (le-ltb (length sets) (c .n) room, le-ltb (length rows) (16 * c .m) wide) tt, tt))
+    taken : activeRefusal (rulesOf c) c w sets rows ≡ none
+    taken = none-iff (activeRefusal (rulesOf c) c w sets rows) .0
+        (handed (rulesOf c) (workingWeight (rulesOf c)) c w (tooShort c sets rows) false .1 (h, rw (le-ltb (length sets) (c .n) room, le-ltb (length rows) (16 * c .m) wide) tt, tt))
 
 -- ---- what is asked
 
@@ -82,13 +83,13 @@ edgesOf c raised = take ((c .n + c .m) - c .n) (drop (c .n) raised)
 
 module _ (c : Case) (w : List ℤ) {acts rows : List ℕ} (raised sets : List ℕ) (R : ℕ → Bool) (p : Prepared c w acts rows) (a : Allowing c w R sets)
     (edges-same : (e : ℕ) → e < c .m → isRaised raised (c .n + e) ≡ R (c .n + e))
-    (lowers : length (c .lower) ≡ 96) (uppers : length (c .upper) ≡ 96) (long : scopeCount c ≤ length raised) (room : c .n ≤ length sets) where
+    (lowers : length (c .lower) ≡ edgePlaces) (uppers : length (c .upper) ≡ edgePlaces) (long : scopeCount c ≤ length raised) (room : c .n ≤ length sets) where
   edges-length : length (edgesOf c raised) ≡ c .m
   edges-length = simp (length-take, length-drop) (omega arith)
 
   bytes : Bytes c w R rows (edgesOf c raised) (take (c .n) sets)
   bytes =
-      let few : c .m ≤ 96 = p .handed .edges-most in record {
+      let few : c .m ≤ edgePlaces = limits-known (p .handed) .edges-placed in record {
         lowers = omega arith;
         uppers = omega arith;
         room = p .rows-long;

@@ -15,6 +15,7 @@ use Rattle.integers.specs.Words.{if_then_else_, from, below, any, those, first,
 use Rattle.integers.specs.Tests.{either, is-true, is-false, same-test, not-eqb-iff}
 use Rattle.integers.specs.Lists.{from-split, those-append, those-none, those-same, any-at, in-those, those-in, below-in, isIn-in, first-least}
 use Rattle.definitions.specs.declared.Case.{Case}
+use Rattle.definitions.specs.Rules.{edgePlaces}
 use Rattle.definitions.specs.Case.{scopes, scopeCount}
 use Rattle.definitions.specs.Moves.{activeRefuted}
 use Rattle.definitions.specs.Engine.{others, chosen}
@@ -83,7 +84,7 @@ module _ (c : Case) (w : List ℤ) where
   all-refuted shape raised all i h = own-scope c w i h shape (isRaised raised) (isIn (others c i)) (λ x g ne. all x g ∙ sym (others-in i x g ∙ ap not (ne-eqb x i ne)))
 
   pub lowest-chosen : {acts rows : List ℕ} (raised sets : List ℕ) → Prepared c w acts rows → AllRaised c raised → ((j : ℕ) → j < c .n → getD sets j 0 ≡ getD acts j 0)
-      → length (c .lower) ≡ 96 → length (c .upper) ≡ 96 → scopeCount c ≤ length raised → c .n ≤ length sets
+      → length (c .lower) ≡ edgePlaces → length (c .upper) ≡ edgePlaces → scopeCount c ≤ length raised → c .n ≤ length sets
       → lowestRefuted (c .lower) (c .upper) acts rows (edgesOf c raised) (take (c .n) sets) ≡ chosen c w
   lowest-chosen {acts} {rows} raised sets p all same lowers uppers long room =
       ap (λ (n : ℕ). first (those (λ i. saysRefuted (triedAnswer (c .lower) (c .upper) rows (edgesOf c raised) (take (c .n) sets) i (getD acts i 0))) (below n))) (length-take-le (c .n) sets room)

@@ -12,7 +12,7 @@ use Rattle.definitions.specs.declared.Refusal.{Refusal}
 use Rattle.definitions.specs.declared.Round.{Round}
 use Rattle.definitions.specs.Answers.{runSays}
 use Rattle.definitions.specs.declared.Case.{Case}
-use Rattle.definitions.specs.Rules.{Rules, Coherent, standard, standard-coherent}
+use Rattle.definitions.specs.Rules.{Rules, Coherent, coherent}
 use Rattle.definitions.specs.Case.{objective, upperBound}
 use Rattle.definitions.specs.Valid.{workingWeight, valid}
 use Rattle.definitions.specs.Lines.{linesIn, hasPart}
@@ -22,7 +22,7 @@ use Rattle.definitions.specs.EngineCalls.{RoundCall, RunCall, roundMade, engine
 use Rattle.definitions.proofs.LineLaws.{no-part}
 use Rattle.theory.proofs.Validity.{Handed}
 use Rattle.theory.proofs.Replays.{keeps-iff, handed-after}
-use Rattle.theory.proofs.Rounds.{MoveKinds, standard-kinds}
+use Rattle.theory.proofs.Rounds.{MoveKinds, move-kinds}
 use Rattle.checker_theory.specs.Lists.{ReplayTrusted}
 use Rattle.checker_theory.proofs.Accepts.{replay-trusted}
 use Rattle.engine_theory.proofs.Runs.{engine-lawful, engine-free, run-settled, run-limit, run-log-taken, run-log-ends, run-never-refused, run-settles, run-tallied, run-ends, ends-within}
@@ -48,7 +48,7 @@ module _ (r : Rules) (c : Case) (w : List ℤ) (out : List ℕ) (bytes : ℕ) (b
   round-states = asked (engineRefusal r engineNext c w out) refl
     where
       asked : (o : Option Refusal) → engineRefusal r engineNext c w out ≡ o → Stated (roundCall r engineNext c w out)
-      asked none f = subst Stated (sym (call-taken r engineNext c w out f)) (made-states (makeNext r c w (engineNext c w)))
+      asked none f = subst Stated (sym (call-taken r engineNext c w out f)) (made-states (makeNext r c w (engineNext r c w)))
       asked (some x) f = subst Stated (sym (call-refused r engineNext c w out f)) (made-states (refused x))
 
 pub engine-iterates : {r : Rules} → Coherent r → (c : Case) → RunIterates r c
@@ -107,6 +107,6 @@ module _ {r : Rules} (coherent : Coherent r) (kinds : MoveKinds r) (c : Case) (w
   pub demand3 : Demand3 r c w
   demand3 = record { any-lines = trusted; any-run = run-trusted; any-table = engine-iterates coherent c }
 
--- with document 01's numbers, for every valid case
-pub standard-demand3 : Guarantee
-standard-demand3 = demand3 standard-coherent (standard-kinds standard refl)
+-- for every valid case, by the rules it is under
+pub rules-demand3 : Guarantee
+rules-demand3 c = demand3 (coherent (c .rulebook)) (move-kinds (coherent (c .rulebook))) c

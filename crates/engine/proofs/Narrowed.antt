@@ -12,7 +12,7 @@ use Rattle.integers.specs.Words.{if_then_else_, below, all, _⇒_}
 use Rattle.integers.specs.Tests.{either, if-cases, is-true, is-false, true-is, same-test, and-left, and-right, and-intro, not-eqb-iff}
 use Rattle.integers.specs.Lists.{any-in, all-same}
 use Rattle.integers.specs.Tables.{length-tab, getD-tab}
-use Rattle.definitions.specs.Rules.{standard}
+use Rattle.definitions.specs.Rules.{variablePlaces}
 use Rattle.definitions.specs.Consistency.{Family, marks}
 use Rattle.theory.specs.Network.{Network, SupportedIn, supportedIn, familiesOf, largest}
 use Rattle.theory.proofs.Networks.{Ends, supportedIn-iff, inside-more, largest-in, in-largest, some-tried}
@@ -87,8 +87,8 @@ module _ (lower upper rows edges S : List ℕ) (i : ℕ) (g : i < length S) (end
   tried-same : (values : ℕ) → triedAnswer lower upper rows edges narrow i values ≡ triedAnswer lower upper rows edges S i values
   unfolding triedAnswer noneHas
   tried-same values =
-      ap (λ (n : ℕ). if isMalformed n lower upper rows edges || not (ltb i n) || ltb (standard .variables) n then Malformed else if noneHas (hasFamily (networkOfBytes n lower upper rows edges) narrow i) values then Unsupported else Supported) narrow-length
-      ∙ ap (λ (b : Bool). if isMalformed (length S) lower upper rows edges || not (ltb i (length S)) || ltb (standard .variables) (length S) then Malformed else if b then Unsupported else Supported)
+      ap (λ (n : ℕ). if isMalformed n lower upper rows edges || not (ltb i n) || ltb variablePlaces n then Malformed else if noneHas (hasFamily (networkOfBytes n lower upper rows edges) narrow i) values then Unsupported else Supported) narrow-length
+      ∙ ap (λ (b : Bool). if isMalformed (length S) lower upper rows edges || not (ltb i (length S)) || ltb variablePlaces (length S) then Malformed else if b then Unsupported else Supported)
       (all-same 8 (λ k l. ap (λ (b : Bool). mark values k ⇒ not b) (same-family k)))
 
 -- the same answer over the sets that `closure` leaves

@@ -13,6 +13,7 @@ use Rattle.integers.specs.Words.{if_then_else_, _⇒_}
 use Rattle.integers.specs.Tests.{either, not-eqb-iff}
 use Rattle.integers.specs.Lists.{all-same}
 use Rattle.definitions.specs.declared.Case.{Case}
+use Rattle.definitions.specs.Rules.{scopePlaces}
 use Rattle.definitions.specs.Case.{scopeCount}
 use Rattle.definitions.specs.Consistency.{allRefuted}
 use Rattle.definitions.specs.Moves.{activeValues}
@@ -56,5 +57,5 @@ lowered-more raised S j v h f e y g z = ⊎-elim
     (λ t. let ne = not-eqb-iff y j .0 t in getD-set-other S j y v 0 ne ∙ f y (omega arith) z)
     (either (eqb y j))
 
-pub ones-raised : (c : Case) → scopeCount c ≤ 144 → AllRaised c (replicate 144 1)
-ones-raised c h y g = ap (λ (n : ℕ). not (eqb n 0)) (getD-replicate 144 y 1 0 (omega arith))
+pub ones-raised : (c : Case) → scopeCount c ≤ scopePlaces → AllRaised c (replicate scopePlaces 1)
+ones-raised c h y g = ap (λ (n : ℕ). not (eqb n 0)) (getD-replicate scopePlaces y 1 0 (omega arith))

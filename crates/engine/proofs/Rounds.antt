@@ -4,6 +4,7 @@ use mathlib.Core.Bool.{Bool, true, false, not, _&&_}
 use mathlib.Core.Option.{none, some}
 use mathlib.Core.List.{List, [], _∷_, _++_, map, append-nil, append-assoc, List·Memᴰ·head, Memᴰ·append-right}
 use Prim.Native.Nat.{ℕ, _+_, _*_, _≤_, _<_}
+use native.Mathlib.Nat.{mul-le-mul-left}
 use native.Mathlib.Omega.{arith}
 use lib.IntN.{ℤ, negℤ, _+ℤ_}
 use lib.Dec.{T, eqb}
@@ -18,13 +19,13 @@ use Rattle.definitions.specs.declared.Outcome.{Outcome}
 use Rattle.definitions.specs.declared.Refusal.{Refusal}
 use Rattle.definitions.specs.declared.Refusal.the-variants.{LeavesRange}
 use Rattle.definitions.specs.declared.Round.{Round}
-use Rattle.definitions.specs.Rules.{standard, standard-coherent}
+use Rattle.definitions.specs.Rules.{coherent, rulesOf}
 use Rattle.definitions.specs.Refusals.{_when_, firstOf}
 use Rattle.definitions.specs.Answers.{outcomeOf, unlessRefused}
 use Rattle.definitions.specs.Case.{scopes, scopeCount, active, upperBound}
 use Rattle.definitions.specs.Valid.{workingWeight}
 use Rattle.definitions.specs.Moves.{press, onlyWhere, pressBy, activeValues, pressAmount, leavesRange}
-use Rattle.definitions.specs.Lines.{lineText, lineTooWide, overwritten}
+use Rattle.definitions.specs.Lines.{lineLength, lineText, overwritten}
 use Rattle.definitions.specs.Engine.{chosen, keptScopes, leastGap, Next, raiseLine, boundLine, moveLines, roundText, roundBytes, madeOf, makeNext, engineNext}
 use Rattle.definitions.specs.EngineCalls.{RoundCall, roundMade, roundCall}
 use Rattle.theory.proofs.Validity.{Handed}
@@ -35,6 +36,8 @@ use Rattle.engine_theory.proofs.Gaps.{amount-some, amount-most, next-press}
 use Rattle.engine_theory.proofs.Fall.{enginePressed}
 use Rattle.engine_theory.proofs.Runs.{differ, presses, engine-allowed}
 use Rattle.engine_theory.proofs.Calls.{taken-iff, call-taken}
+use Rattle.lines.specs.AtWidth.{lineOut}
+use Rattle.lines.proofs.AtRules.{width-in}
 use Rattle.tables.specs.Scopes.{BestOf}
 use Rattle.changes.specs.Kept.{lowerAndRaiseCall}
 use Rattle.changes.proofs.LoweringLaws.{lower-and-raise-is-press}
@@ -53,14 +56,14 @@ done-way true e = cc
 done-way false e = refl
 
 -- what `lower_and_raise` gives on a table that was checked
-pub pressed-by : {c : Case} {w best : List ℤ} → Handed standard (workingWeight standard) c w → BestOf c w best → (raised : List ℕ) (i : ℕ) (a : ℤ)
-    → scopeCount c ≤ length raised → i < c .n → T (pressAmount standard a) → {r : Outcome} {after next : List ℤ} → r ≡ lowerAndRaiseCall standard c w best raised i a .answer
-    → after ≡ lowerAndRaiseCall standard c w best raised i a .table → next ≡ lowerAndRaiseCall standard c w best raised i a .best → Pressed c i raised a w after next r
+pub pressed-by : {c : Case} {w best : List ℤ} → Handed (rulesOf c) (workingWeight (rulesOf c)) c w → BestOf c w best → (raised : List ℕ) (i : ℕ) (a : ℤ)
+    → scopeCount c ≤ length raised → i < c .n → T (pressAmount (rulesOf c) a) → {r : Outcome} {after next : List ℤ} → r ≡ lowerAndRaiseCall (rulesOf c) c w best raised i a .answer
+    → after ≡ lowerAndRaiseCall (rulesOf c) c w best raised i a .table → next ≡ lowerAndRaiseCall (rulesOf c) c w best raised i a .best → Pressed c i raised a w after next r
 pressed-by {c} {w} {best} h b raised i a room variable amount e f g =
     let (p, q, k) = lower-and-raise-is-press h b raised i a room variable amount in
     record {
-      answer = e ∙ p ∙ answers (leavesRange standard c (pressedBy c i raised a w));
-      table = f ∙ q ∙ tables (leavesRange standard c (pressedBy c i raised a w));
+      answer = e ∙ p ∙ answers (leavesRange (rulesOf c) c (pressedBy c i raised a w));
+      table = f ∙ q ∙ tables (leavesRange (rulesOf c) c (pressedBy c i raised a w));
       greatest-kept = rw (f, g) k;
     }
   where
@@ -74,18 +77,18 @@ pressed-by {c} {w} {best} h b raised i a room variable amount e f g =
 
 -- ---- the lines of a press
 
-texts-are : (c : Case) (i : ℕ) (xs : List ℕ) (a : ℤ) (v : List ℤ) → joined (roundText standard c (press i xs a ∷ []) v) ≡ pressText i xs a (upperBound c v)
+texts-are : (c : Case) (i : ℕ) (xs : List ℕ) (a : ℤ) (v : List ℤ) → joined (roundText (rulesOf c) c (press i xs a ∷ []) v) ≡ pressText (rulesOf c .amountWidth) i xs a (upperBound c v)
 texts-are c i xs a v =
-    ap (λ (t : List ℕ). lineText 12 (pressLine i (length xs) a) ++ t)
-    (ap (λ (l : List Line). joined (map (lineText 12) (l ++ (boundLine (upperBound c v) ∷ [])))) (append-nil (map raiseLine xs))
-    ∙ ap joined (map-append (lineText 12) (map raiseLine xs) (boundLine (upperBound c v) ∷ []))
-    ∙ joined-append (map (lineText 12) (map raiseLine xs)) (lineText 12 (boundLine (upperBound c v)) ∷ [])
-    ∙ ap₂ (λ (s t : List ℕ). s ++ t) (ap joined (map-map (lineText 12) raiseLine xs)) (append-nil (lineText 12 (boundLine (upperBound c v)))))
-    ∙ sym (append-assoc (lineText 12 (pressLine i (length xs) a)) (raiseTexts xs) (lineText 12 (boundLine (upperBound c v))))
+    ap (λ (t : List ℕ). lineText (rulesOf c .amountWidth) (pressLine i (length xs) a) ++ t)
+    (ap (λ (l : List Line). joined (map (lineText (rulesOf c .amountWidth)) (l ++ (boundLine (upperBound c v) ∷ [])))) (append-nil (map raiseLine xs))
+    ∙ ap joined (map-append (lineText (rulesOf c .amountWidth)) (map raiseLine xs) (boundLine (upperBound c v) ∷ []))
+    ∙ joined-append (map (lineText (rulesOf c .amountWidth)) (map raiseLine xs)) (lineText (rulesOf c .amountWidth) (boundLine (upperBound c v)) ∷ [])
+    ∙ ap₂ (λ (s t : List ℕ). s ++ t) (ap joined (map-map (lineText (rulesOf c .amountWidth)) raiseLine xs)) (append-nil (lineText (rulesOf c .amountWidth) (boundLine (upperBound c v)))))
+    ∙ sym (append-assoc (lineText (rulesOf c .amountWidth) (pressLine i (length xs) a)) (raiseTexts (rulesOf c .amountWidth) xs) (lineText (rulesOf c .amountWidth) (boundLine (upperBound c v))))
 
-module _ {c : Case} {w : List ℤ} {i : ℕ} {a : ℤ} (h : Handed standard (workingWeight standard) c w) (which : chosen c w ≡ some i) (least : leastGap c w i ≡ some a) where
-  pub amount-within : T (pressAmount standard a)
-  amount-within = amount-some c w (h .shape) which least ▸ amount-most c w (h .shape) which least standard (h .in-range) ▸ simp flat (omega zs)
+module _ {c : Case} {w : List ℤ} {i : ℕ} {a : ℤ} (h : Handed (rulesOf c) (workingWeight (rulesOf c)) c w) (which : chosen c w ≡ some i) (least : leastGap c w i ≡ some a) where
+  pub amount-within : T (pressAmount (rulesOf c) a)
+  amount-within = amount-some c w (h .shape) which least ▸ amount-most c w (h .shape) which least (rulesOf c) (h .in-range) ▸ coherent (c .rulebook) .difference ▸ simp flat (omega zs)
 
   module _ (raised : List ℕ) (same : raisedBelow raised (scopeCount c) ≡ keptScopes c w i) where
     kept-in : (x : ℕ) → x < scopeCount c → isRaised raised x ≡ isIn (keptScopes c w i) x
@@ -97,23 +100,25 @@ module _ {c : Case} {w : List ℤ} {i : ℕ} {a : ℤ} (h : Handed standard (wor
     pressed-is = plus-cong c (pressBy c w i (activeValues c w i) (isRaised raised) a) w (pressBy c w i (activeValues c w i) (isIn (keptScopes c w i)) a) (λ x k l t.
         ap (λ (b : Bool). onlyWhere (eqb x i && activeValues c w i k) (negℤ a) +ℤ onlyWhere (b && not (active c w x k l)) a) (kept-in x (t .scope)))
 
-    pub count-room : {n : ℕ} → roundBytes standard c ≤ n → 27 * (length (raisedBelow raised (scopeCount c)) + 2) ≤ n
-    count-room long = omega (arith, ap length same, kept-fewer c w i (chosen-some c w which .0))
+    pub count-room : {n : ℕ} → roundBytes (rulesOf c) c ≤ n → lineLength (rulesOf c .amountWidth) * (length (raisedBelow raised (scopeCount c)) + 2) ≤ n
+    count-room long =
+        let room : length (raisedBelow raised (scopeCount c)) + 2 ≤ scopeCount c + 1 = omega (arith, ap length same, kept-fewer c w i (chosen-some c w which .0)) in
+        omega (arith, mul-le-mul-left {m = length (raisedBelow raised (scopeCount c)) + 2} {n = scopeCount c + 1} (lineLength (rulesOf c .amountWidth)) room)
 
-    module _ (out : List ℕ) (long : roundBytes standard c ≤ length out) where
-      call-is : (b : Bool) → leavesRange standard c (enginePressed c w i a) ≡ b
-          → roundCall standard engineNext c w out ≡ roundMade standard engineNext c w out (madeOf standard c (press i (keptScopes c w i) a ∷ []) (if b then none else some (enginePressed c w i a)))
+    module _ (out : List ℕ) (long : roundBytes (rulesOf c) c ≤ length out) where
+      call-is : (b : Bool) → leavesRange (rulesOf c) c (enginePressed c w i a) ≡ b
+          → roundCall (rulesOf c) engineNext c w out ≡ roundMade (rulesOf c) engineNext c w out (madeOf (rulesOf c) c (press i (keptScopes c w i) a ∷ []) (if b then none else some (enginePressed c w i a)))
       call-is b e =
-          call-taken standard engineNext c w out (taken-iff standard engineNext c w out .1 (h, long))
-          ∙ ap (λ (n : Next). roundMade standard engineNext c w out (makeNext standard c w n)) (next-press c w which least)
-          ∙ ap (λ (q : Bool). roundMade standard engineNext c w out (madeOf standard c (press i (keptScopes c w i) a ∷ []) (if q then none else some (enginePressed c w i a)))) e
+          call-taken (rulesOf c) engineNext c w out (taken-iff (rulesOf c) engineNext c w out .1 (h, long))
+          ∙ ap (λ (n : Next). roundMade (rulesOf c) engineNext c w out (makeNext (rulesOf c) c w n)) (next-press (rulesOf c) c w which least)
+          ∙ ap (λ (q : Bool). roundMade (rulesOf c) engineNext c w out (madeOf (rulesOf c) c (press i (keptScopes c w i) a ∷ []) (if q then none else some (enginePressed c w i a)))) e
 
       -- number 11
       pub made-refused : {x : Refusal} {after best : List ℤ} → Pressed c i raised a w after best (Outcome.Refused x)
           → MadeRound c w out after out (Round.Refused x) × BestOf c after best
       made-refused {x} p =
-          let (e, f) = refused-way (leavesRange standard c (pressedBy c i raised a w)) (p .answer) in
-          let d = call-is true (ap (leavesRange standard c) (sym pressed-is) ∙ e) in (
+          let (e, f) = refused-way (leavesRange (rulesOf c) c (pressedBy c i raised a w)) (p .answer) in
+          let d = call-is true (ap (leavesRange (rulesOf c) c) (sym pressed-is) ∙ e) in (
             record {
               answer = ap Round.Refused f ∙ sym (ap (λ (u : RoundCall). u .answer) d);
               table = p .table ∙ ap (λ (b : Bool). if b then w else pressedBy c i raised a w) e ∙ sym (ap (λ (u : RoundCall). u .table) d);
@@ -123,37 +128,38 @@ module _ {c : Case} {w : List ℤ} {i : ℕ} {a : ℤ} (h : Handed standard (wor
           )
 
       module _ {after best : List ℤ} (p : Pressed c i raised a w after best Outcome.Done) where
-        stays : leavesRange standard c (enginePressed c w i a) ≡ false
-        stays = ap (leavesRange standard c) (sym pressed-is) ∙ done-way (leavesRange standard c (pressedBy c i raised a w)) (p .answer)
+        stays : leavesRange (rulesOf c) c (enginePressed c w i a) ≡ false
+        stays = ap (leavesRange (rulesOf c) c) (sym pressed-is) ∙ done-way (leavesRange (rulesOf c) c (pressedBy c i raised a w)) (p .answer)
 
         after-is : after ≡ enginePressed c w i a
-        after-is = p .table ∙ ap (λ (b : Bool). if b then w else pressedBy c i raised a w) (done-way (leavesRange standard c (pressedBy c i raised a w)) (p .answer)) ∙ pressed-is
+        after-is = p .table ∙ ap (λ (b : Bool). if b then w else pressedBy c i raised a w) (done-way (leavesRange (rulesOf c) c (pressedBy c i raised a w)) (p .answer)) ∙ pressed-is
 
-        allows : AllAllowed standard c w (press i (keptScopes c w i) a ∷ []) (enginePressed c w i a)
-        allows = engine-allowed h standard-coherent (presses which least (false-is (leavesRange standard c (enginePressed c w i a)) stays))
+        allows : AllAllowed (rulesOf c) c w (press i (keptScopes c w i) a ∷ []) (enginePressed c w i a)
+        allows = engine-allowed h (coherent (c .rulebook)) (presses which least (false-is (leavesRange (rulesOf c) c (enginePressed c w i a)) stays))
 
-        pub handed-after : Handed standard (workingWeight standard) c after
+        pub handed-after : Handed (rulesOf c) (workingWeight (rulesOf c)) c after
         handed-after = rw after-is (all-handed allows h)
 
-        pub press-fits : T (not (lineTooWide 12 (pressLine i (length (raisedBelow raised (scopeCount c))) a)))
-        press-fits = rw (same, round-fits standard-coherent h allows {l = pressLine i (length (keptScopes c w i)) a} (List·Memᴰ·head refl)) tt
+        pub press-in : T (not (lineOut (rulesOf c .amountWidth) (pressLine i (length (raisedBelow raised (scopeCount c))) a)))
+        press-in = rw (width-in (rulesOf c) (coherent (c .rulebook)) refl, same, round-fits (coherent (c .rulebook)) h allows {l = pressLine i (length (keptScopes c w i)) a} (List·Memᴰ·head refl)) tt
 
-        pub bound-fits : {bound : ℤ} → bound ≡ upperBound c after → T (not (lineTooWide 12 (boundLine bound)))
-        bound-fits e = rw (
+        pub bound-in : {bound : ℤ} → bound ≡ upperBound c after → T (not (lineOut (rulesOf c .amountWidth) (boundLine bound)))
+        bound-in e = rw (
+          width-in (rulesOf c) (coherent (c .rulebook)) refl,
           e,
           after-is,
-          round-fits standard-coherent h allows {l = boundLine (upperBound c (enginePressed c w i a))}
+          round-fits (coherent (c .rulebook)) h allows {l = boundLine (upperBound c (enginePressed c w i a))}
               (Memᴰ·append-right (joined (map moveLines (press i (keptScopes c w i) a ∷ []))) (List·Memᴰ·head refl)),
         ) tt
 
-        pub made-done : {bytes : ℕ} {bound : ℤ} {written : List ℕ} → bound ≡ upperBound c after
-            → bytes ≡ length (pressText i (raisedBelow raised (scopeCount c)) a bound) → written ≡ overwritten (pressText i (raisedBelow raised (scopeCount c)) a bound) out
+        pub made-done : {bytes width : ℕ} {bound : ℤ} {written : List ℕ} → width ≡ rulesOf c .amountWidth → bound ≡ upperBound c after
+            → bytes ≡ length (pressText width i (raisedBelow raised (scopeCount c)) a bound) → written ≡ overwritten (pressText width i (raisedBelow raised (scopeCount c)) a bound) out
             → MadeRound c w out after written (Round.Made bytes bound) × BestOf c after best
-        made-done {bytes} {bound} e n o =
+        made-done {bytes} {width} {bound} v e n o =
             let d = call-is false stays in
             let b : bound ≡ upperBound c (enginePressed c w i a) = e ∙ ap (upperBound c) after-is in
-            let t : pressText i (raisedBelow raised (scopeCount c)) a bound ≡ joined (roundText standard c (press i (keptScopes c w i) a ∷ []) (enginePressed c w i a)) =
-            ap₂ (λ (l : List ℕ) (z : ℤ). pressText i l a z) same b ∙ sym (texts-are c i (keptScopes c w i) a (enginePressed c w i a)) in (
+            let t : pressText width i (raisedBelow raised (scopeCount c)) a bound ≡ joined (roundText (rulesOf c) c (press i (keptScopes c w i) a ∷ []) (enginePressed c w i a)) =
+            ap (λ (n : ℕ). pressText n i (raisedBelow raised (scopeCount c)) a bound) v ∙ ap₂ (λ (l : List ℕ) (z : ℤ). pressText (rulesOf c .amountWidth) i l a z) same b ∙ sym (texts-are c i (keptScopes c w i) a (enginePressed c w i a)) in (
               record {
                 answer = ap₂ Round.Made (n ∙ ap length t) b ∙ sym (ap (λ (u : RoundCall). u .answer) d);
                 table = after-is ∙ sym (ap (λ (u : RoundCall). u .table) d);

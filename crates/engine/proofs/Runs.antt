@@ -18,7 +18,7 @@ use Rattle.definitions.specs.declared.Refusal.the-variants.{LeavesRange}
 use Rattle.definitions.specs.declared.Round.{Round}
 use Rattle.definitions.specs.declared.RunAnswer.{RunAnswer}
 use Rattle.definitions.specs.declared.Run.{Run}
-use Rattle.definitions.specs.Rules.{standard, standard-coherent}
+use Rattle.definitions.specs.Rules.{coherent, rulesOf}
 use Rattle.definitions.specs.Refusals.{Test, firstOf}
 use Rattle.definitions.specs.Answers.{outcomeOf}
 use Rattle.definitions.specs.Case.{upperBound}
@@ -49,11 +49,11 @@ not-leaving (t ∷ ts) h {x} e = go (t .applies) (and-left (not (isLeaving (t .r
     go false h rest e = rest e
 
 module _ (c : Case) (w : List ℤ) (out : List ℕ) where
-  pub asked-done : Outcome.Done ≡ outcomeOf (engineRefusalOf c w (length out)) → Handed standard (workingWeight standard) c w × (roundBytes standard c ≤ length out)
-  asked-done e = taken-iff standard engineNext c w out .0 (outcome-done e)
+  pub asked-done : Outcome.Done ≡ outcomeOf (engineRefusalOf c w (length out)) → Handed (rulesOf c) (workingWeight (rulesOf c)) c w × (roundBytes (rulesOf c) c ≤ length out)
+  asked-done e = taken-iff (rulesOf c) engineNext c w out .0 (outcome-done e)
 
   pub asked-refused : {x : Refusal} → Outcome.Refused x ≡ outcomeOf (engineRefusalOf c w (length out)) → MadeRound c w out w out (Round.Refused x)
-  asked-refused e = let d = call-refused standard engineNext c w out (outcome-refused e) in record {
+  asked-refused e = let d = call-refused (rulesOf c) engineNext c w out (outcome-refused e) in record {
     answer = sym (ap (λ (u : RoundCall). u .answer) d);
     table = sym (ap (λ (u : RoundCall). u .table) d);
     output = sym (ap (λ (u : RoundCall). u .out) d);
@@ -61,7 +61,7 @@ module _ (c : Case) (w : List ℤ) (out : List ℕ) where
 
   pub run-is-refused : {x : Refusal} (limit : ℕ) → Outcome.Refused x ≡ outcomeOf (engineRefusalOf c w (length out)) → RunIs c limit w out w out (runWith (RunAnswer.Refused x) 0 (pos 0))
   run-is-refused {x} limit e =
-      let d = run-refused standard engineNext c w out limit (outcome-refused e) in
+      let d = run-refused (rulesOf c) engineNext c w out limit (outcome-refused e) in
       let n = not-eleven (outcome-refused e) in record {
         run = ap (runWith (RunAnswer.Refused x) 0) (sym (if-false (upperBound c w) (pos 0) (isLeaving x) n)) ∙ sym (ap (λ (u : RunCall). u .run) d);
         table = sym (ap (λ (u : RunCall). u .table) d);
@@ -69,55 +69,55 @@ module _ (c : Case) (w : List ℤ) (out : List ℕ) where
       }
     where
       not-eleven : {x : Refusal} → engineRefusalOf c w (length out) ≡ some x → T (not (isLeaving x))
-      not-eleven = not-leaving (handedOver standard (workingWeight standard) c w (ltb (length out) (roundBytes standard c)) false) tt
+      not-eleven = not-leaving (handedOver (rulesOf c) (workingWeight (rulesOf c)) c w (ltb (length out) (roundBytes (rulesOf c) c)) false) tt
 
 -- ---- a round on a table that was checked
 
-module _ {c : Case} {w : List ℤ} {out : List ℕ} (h : Handed standard (workingWeight standard) c w) (long : roundBytes standard c ≤ length out) where
+module _ {c : Case} {w : List ℤ} {out : List ℕ} (h : Handed (rulesOf c) (workingWeight (rulesOf c)) c w) (long : roundBytes (rulesOf c) c ≤ length out) where
   pub nothing-made : chosen c w ≡ none → MadeRound c w out w out Round.Settled
   nothing-made e =
-      let s = round-settled standard c w out h long .1 (settled-iff c w (h .shape) .0 e) in
-      let (t, o) = unmade-keeps standard engineNext c w out (λ bytes bound d. differ (cc)) in
+      let s = round-settled (rulesOf c) c w out h long .1 (settled-iff c w (h .shape) .0 e) in
+      let (t, o) = unmade-keeps (rulesOf c) engineNext c w out (λ bytes bound d. differ (cc)) in
       record { answer = sym s; table = sym t; output = sym o }
 
   module _ {after : List ℤ} {written : List ℕ} where
     settled-keeps : MadeRound c w out after written Round.Settled → (after ≡ w) × (written ≡ out)
     settled-keeps p =
         let a = p .answer in
-        let (t, o) = unmade-keeps standard engineNext c w out (λ bytes bound d. differ (cc)) in
+        let (t, o) = unmade-keeps (rulesOf c) engineNext c w out (λ bytes bound d. differ (cc)) in
         (p .table ∙ t, p .output ∙ o)
 
     refused-keeps : {x : Refusal} → MadeRound c w out after written (Round.Refused x) → (after ≡ w) × (written ≡ out) × (x ≡ LeavesRange)
     refused-keeps p =
         let a = p .answer in
-        let (t, o) = unmade-keeps standard engineNext c w out (λ bytes bound d. differ (cc)) in
-        (p .table ∙ t, p .output ∙ o, round-leaves standard c w out h long (sym a) .0)
+        let (t, o) = unmade-keeps (rulesOf c) engineNext c w out (λ bytes bound d. differ (cc)) in
+        (p .table ∙ t, p .output ∙ o, round-leaves (rulesOf c) c w out h long (sym a) .0)
 
-    pub still-settled : MadeRound c w out after written Round.Settled → Handed standard (workingWeight standard) c after
+    pub still-settled : MadeRound c w out after written Round.Settled → Handed (rulesOf c) (workingWeight (rulesOf c)) c after
     still-settled p = rw (settled-keeps p .0) h
 
-    pub still-refused : {x : Refusal} → MadeRound c w out after written (Round.Refused x) → Handed standard (workingWeight standard) c after
+    pub still-refused : {x : Refusal} → MadeRound c w out after written (Round.Refused x) → Handed (rulesOf c) (workingWeight (rulesOf c)) c after
     still-refused p = rw (refused-keeps p .0) h
 
-    pub still-made : {bytes : ℕ} {bound : ℤ} → MadeRound c w out after written (Round.Made bytes bound) → Handed standard (workingWeight standard) c after
-    still-made {bytes} {bound} p = rw (p .table) (go (round-is standard c w out h long) (sym (p .answer)))
+    pub still-made : {bytes : ℕ} {bound : ℤ} → MadeRound c w out after written (Round.Made bytes bound) → Handed (rulesOf c) (workingWeight (rulesOf c)) c after
+    still-made {bytes} {bound} p = rw (p .table) (go (round-is (rulesOf c) c w out h long) (sym (p .answer)))
       where
-        go : {u : RoundCall} → RoundIs standard c w out u → u .answer ≡ Round.Made bytes bound → Handed standard (workingWeight standard) c (u .table)
+        go : {u : RoundCall} → RoundIs (rulesOf c) c w out u → u .answer ≡ Round.Made bytes bound → Handed (rulesOf c) (workingWeight (rulesOf c)) c (u .table)
         go (settles f) e = differ (cc)
         go (leaves d g t) e = differ (cc)
-        go (presses d g t) e = all-handed (engine-allowed h standard-coherent (pressed d g t)) h
+        go (presses d g t) e = all-handed (engine-allowed h (coherent (c .rulebook)) (pressed d g t)) h
 
 -- at its limit a run answers by the variable that is chosen
-limit-answer : {c : Case} {w : List ℤ} (out : List ℕ) → Handed standard (workingWeight standard) c w → roundBytes standard c ≤ length out
-    → answerAtLimit (roundCall standard engineNext c w out .answer) ≡ limitAnswer (chosen c w)
-limit-answer {c} {w} out h long = go (round-is standard c w out h long)
+limit-answer : {c : Case} {w : List ℤ} (out : List ℕ) → Handed (rulesOf c) (workingWeight (rulesOf c)) c w → roundBytes (rulesOf c) c ≤ length out
+    → answerAtLimit (roundCall (rulesOf c) engineNext c w out .answer) ≡ limitAnswer (chosen c w)
+limit-answer {c} {w} out h long = go (round-is (rulesOf c) c w out h long)
   where
-    go : {u : RoundCall} → RoundIs standard c w out u → answerAtLimit (u .answer) ≡ limitAnswer (chosen c w)
+    go : {u : RoundCall} → RoundIs (rulesOf c) c w out u → answerAtLimit (u .answer) ≡ limitAnswer (chosen c w)
     go (settles f) = sym (ap limitAnswer (settled-iff c w (h .shape) .1 f))
     go (presses d g t) = sym (ap limitAnswer d)
     go (leaves d g t) = sym (ap limitAnswer d)
 
-limit-bound : (c : Case) (w : List ℤ) (o : Option ℕ) → boundAt standard engineNext c (limitAnswer o) w ≡ upperBound c w
+limit-bound : (c : Case) (w : List ℤ) (o : Option ℕ) → boundAt (rulesOf c) engineNext c (limitAnswer o) w ≡ upperBound c w
 limit-bound c w none = refl
 limit-bound c w (some i) = refl
 
@@ -126,37 +126,37 @@ limit-bound c w (some i) = refl
 module _ (c : Case) (limit : ℕ) (first : List ℤ) (lent : List ℕ) where
   -- after so many rounds the run goes on from this table and output
   abbrev pub Going : ℕ → List ℤ → List ℕ → Type 0
-  Going done w out = (log : List ℕ) × (runCallFrom standard engineNext c (limit - done) done w out log ≡ runCall standard engineNext c limit first lent)
+  Going done w out = (log : List ℕ) × (runCallFrom (rulesOf c) engineNext c (limit - done) done w out log ≡ runCall (rulesOf c) engineNext c limit first lent)
 
   pub run-starts : Going 0 first lent
   unfolding runCall
-  run-starts = let e : limit - 0 ≡ limit = omega arith in ([], ap (λ (n : ℕ). runCallFrom standard engineNext c n 0 first lent []) e)
+  run-starts = let e : limit - 0 ≡ limit = omega arith in ([], ap (λ (n : ℕ). runCallFrom (rulesOf c) engineNext c n 0 first lent []) e)
 
-  ended : {done : ℕ} {w : List ℤ} {out log : List ℕ} {answer : RunAnswer} → boundAt standard engineNext c answer w ≡ upperBound c w
-      → stopRun standard engineNext c answer done w out log ≡ runCall standard engineNext c limit first lent → RunIs c limit first lent w out (stoppedRun c w answer done)
+  ended : {done : ℕ} {w : List ℤ} {out log : List ℕ} {answer : RunAnswer} → boundAt (rulesOf c) engineNext c answer w ≡ upperBound c w
+      → stopRun (rulesOf c) engineNext c answer done w out log ≡ runCall (rulesOf c) engineNext c limit first lent → RunIs c limit first lent w out (stoppedRun c w answer done)
   ended {done} {w} {out} {log} {answer} b e = record {
     run = ap (runWith answer done) (sym b) ∙ ap (λ (u : RunCall). u .run) e;
     table = ap (λ (u : RunCall). u .table) e;
     output = ap (λ (u : RunCall). u .out) e;
   }
 
-  module _ (done : ℕ) (w : List ℤ) (out : List ℕ) (h : Handed standard (workingWeight standard) c w) (long : roundBytes standard c ≤ length out) (going : Going done w out) where
+  module _ (done : ℕ) (w : List ℤ) (out : List ℕ) (h : Handed (rulesOf c) (workingWeight (rulesOf c)) c w) (long : roundBytes (rulesOf c) c ≤ length out) (going : Going done w out) where
     module _ (more : done < limit) where
       -- what this round's answer leads to
-      leads : {a : Round} → a ≡ roundCall standard engineNext c w out .answer
-          → goOn standard engineNext c a (roundCall standard engineNext c w out) done w out (going .0) (λ v b l. runCallFrom standard engineNext c (limit - (done + 1)) (suc done) v b l)
-          ≡ runCall standard engineNext c limit first lent
+      leads : {a : Round} → a ≡ roundCall (rulesOf c) engineNext c w out .answer
+          → goOn (rulesOf c) engineNext c a (roundCall (rulesOf c) engineNext c w out) done w out (going .0) (λ v b l. runCallFrom (rulesOf c) engineNext c (limit - (done + 1)) (suc done) v b l)
+          ≡ runCall (rulesOf c) engineNext c limit first lent
       leads e =
           let n : suc (limit - (done + 1)) ≡ limit - done = omega arith in
-          ap (λ (a : Round). goOn standard engineNext c a (roundCall standard engineNext c w out) done w out (going .0) (λ v b l. runCallFrom standard engineNext c (limit - (done + 1)) (suc done) v b l)) e
-          ∙ ap (λ (k : ℕ). runCallFrom standard engineNext c k done w out (going .0)) n ∙ going .1
+          ap (λ (a : Round). goOn (rulesOf c) engineNext c a (roundCall (rulesOf c) engineNext c w out) done w out (going .0) (λ v b l. runCallFrom (rulesOf c) engineNext c (limit - (done + 1)) (suc done) v b l)) e
+          ∙ ap (λ (k : ℕ). runCallFrom (rulesOf c) engineNext c k done w out (going .0)) n ∙ going .1
 
       pub run-goes-on : {after : List ℤ} {written : List ℕ} {bytes : ℕ} {bound : ℤ} → MadeRound c w out after written (Round.Made bytes bound) → Going (done + 1) after written
       run-goes-on {bytes = bytes} p =
           let n : done + 1 ≡ suc done = omega arith in (
-            going .0 ++ take bytes (roundCall standard engineNext c w out .out),
-            ap₂ (λ (v : List ℤ) (b : List ℕ). runCallFrom standard engineNext c (limit - (done + 1)) (done + 1) v b (going .0 ++ take bytes (roundCall standard engineNext c w out .out))) (p .table) (p .output)
-                ∙ ap (λ (k : ℕ). runCallFrom standard engineNext c (limit - (done + 1)) k (roundCall standard engineNext c w out .table) (roundCall standard engineNext c w out .out) (going .0 ++ take bytes (roundCall standard engineNext c w out .out))) n
+            going .0 ++ take bytes (roundCall (rulesOf c) engineNext c w out .out),
+            ap₂ (λ (v : List ℤ) (b : List ℕ). runCallFrom (rulesOf c) engineNext c (limit - (done + 1)) (done + 1) v b (going .0 ++ take bytes (roundCall (rulesOf c) engineNext c w out .out))) (p .table) (p .output)
+                ∙ ap (λ (k : ℕ). runCallFrom (rulesOf c) engineNext c (limit - (done + 1)) k (roundCall (rulesOf c) engineNext c w out .table) (roundCall (rulesOf c) engineNext c w out .out) (going .0 ++ take bytes (roundCall (rulesOf c) engineNext c w out .out))) n
                 ∙ leads (p .answer),
           )
 
@@ -166,10 +166,10 @@ module _ (c : Case) (limit : ℕ) (first : List ℤ) (lent : List ℕ) where
       pub run-leaves : {after : List ℤ} {written : List ℕ} {x : Refusal} → MadeRound c w out after written (Round.Refused x) → RunIs c limit first lent after written (stoppedRun c after (RunAnswer.Refused x) done)
       run-leaves {x = x} p =
           let (a, o, e) = refused-keeps h long p in
-          rw (a, o) (ended {answer = RunAnswer.Refused x} (ap (λ (y : Refusal). boundAt standard engineNext c (RunAnswer.Refused y) w) e) (leads (p .answer)))
+          rw (a, o) (ended {answer = RunAnswer.Refused x} (ap (λ (y : Refusal). boundAt (rulesOf c) engineNext c (RunAnswer.Refused y) w) e) (leads (p .answer)))
 
     pub run-limits : limit ≤ done → RunIs c limit first lent w out (stoppedRun c w (limitAnswer (chosen c w)) done)
     run-limits e =
         let z : 0 ≡ limit - done = omega arith in
         ended {answer = limitAnswer (chosen c w)} (limit-bound c w (chosen c w))
-        (ap (λ (a : RunAnswer). stopRun standard engineNext c a done w out (going .0)) (sym (limit-answer out h long)) ∙ ap (λ (k : ℕ). runCallFrom standard engineNext c k done w out (going .0)) z ∙ going .1)
+        (ap (λ (a : RunAnswer). stopRun (rulesOf c) engineNext c a done w out (going .0)) (sym (limit-answer out h long)) ∙ ap (λ (k : ℕ). runCallFrom (rulesOf c) engineNext c k done w out (going .0)) z ∙ going .1)

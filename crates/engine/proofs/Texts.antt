@@ -1,43 +1,60 @@
 -- Lines put one after the other. Assumes nothing.
-use mathlib.Core.Path.{_≡_, refl, sym, ap, _∙_}
+use mathlib.Core.Path.{_≡_, sym, ap, _∙_}
 use mathlib.Core.Bool.{Bool, true, false, not}
 use mathlib.Core.List.{List, [], _∷_, _++_, map, append-nil, append-assoc}
-use Prim.Native.Nat.{ℕ, zero, suc, _+_, _*_, _-_, _≤_, _<_}
+use Prim.Native.Nat.{ℕ, zero, suc, _+_, _*_, _-_, _^_, _≤_, _<_}
+use native.Mathlib.Nat.{mul-add, mul-le-mul-left}
 use native.Mathlib.Omega.{arith}
+use borrow.Author.Tests.{le-ltb}
 use lib.IntN.{pos}
 use lib.Dec.{T, lit<}
 use lib.ListN.{length, take, drop, length-append, drop-of-length-le}
 use Rattle.integers.specs.Words.{if_then_else_, from, those, joined}
-use Rattle.integers.specs.Tests.{is-false, if-cases}
+use Rattle.integers.specs.Tests.{is-false, if-cases, not-or-iff}
 use Rattle.integers.specs.Lists.{joined-append, map-append}
 use Rattle.definitions.specs.declared.Line.{Line}
-use Rattle.definitions.specs.Rules.{standard, standard-coherent}
-use Rattle.definitions.specs.Lines.{lineText, lineTooWide, overwritten}
-use Rattle.definitions.specs.Calls.{writeLineCall}
+use Rattle.definitions.specs.Lines.{lineLength, lineText, lineTooWide, overwritten}
 use Rattle.definitions.specs.Engine.{raiseLine}
-use Rattle.definitions.proofs.LineLaws.{line-length}
-use Rattle.theory.proofs.Rounds.{line-fits}
-use Rattle.lines.proofs.Answers.{write-done}
+use Rattle.definitions.proofs.ColumnLaws.{fits-iff, fits-digits}
+use Rattle.definitions.proofs.LineLaws.{line-length, each-fits}
+use Rattle.lines.specs.AtWidth.{widthOut, lineOut, writeLineAt}
+use Rattle.lines.proofs.Answers.{width-within, line-within, write-done}
 use Rattle.lines.proofs.Stores.{column-next}
 use Rattle.engine.specs.Search.{isRaised}
 use Rattle.engine.specs.Texts.{raisedFrom, raisedBelow, raiseTexts}
 use Rattle.engine.proofs.Trims.{those-next, those-split}
 
 -- a part as long as a line holds the line alone
-pub line-over : (part : List ℕ) (l : Line) → length part ≡ 27 → lineTooWide 12 l ≡ false → writeLineCall standard part l .out ≡ lineText 12 l
-line-over part l n f =
-    ap (λ c. c .out) (write-done 12 standard refl part l (omega arith) f)
-    ∙ ap (λ t. lineText 12 l ++ t) (drop-of-length-le part {i = length (lineText 12 l)} (omega (arith, line-length 12 l f))) ∙ append-nil (lineText 12 l)
+pub line-over : (width : ℕ) (part : List ℕ) (l : Line) → length part ≡ lineLength width → lineOut width l ≡ false → writeLineAt width part l .out ≡ lineText width l
+line-over width part l n f =
+    ap (λ c. c .out) (write-done width part l (le-ltb (length part) (lineLength width) (omega arith)) f)
+    ∙ ap (λ t. lineText width l ++ t) (drop-of-length-le part {i = length (lineText width l)} (omega (arith, line-length width l (line-within width l f)))) ∙ append-nil (lineText width l)
 
 -- a line put after what was put
-pub line-put : (out next p o : List ℕ) (at : ℕ) (l : Line) → T (not (lineTooWide 12 l)) → next ≡ take at out ++ (lineText 12 l ++ drop (at + 27) out)
-    → out ≡ overwritten p o → length p ≡ at → (next ≡ overwritten (p ++ lineText 12 l) o) × (length (p ++ lineText 12 l) ≡ at + 27)
-line-put out next p o at l t e f n =
-    let m : length (lineText 12 l) ≡ 27 = line-length 12 l (is-false (lineTooWide 12 l) t) in
-    (e ∙ column-next p o out at n f (lineText 12 l) 27 m, length-append p (lineText 12 l) ∙ omega arith)
+pub line-put : (width : ℕ) (out next p o : List ℕ) (at : ℕ) (l : Line) → T (not (lineOut width l)) → next ≡ take at out ++ (lineText width l ++ drop (at + lineLength width) out)
+    → out ≡ overwritten p o → length p ≡ at → (next ≡ overwritten (p ++ lineText width l) o) × (length (p ++ lineText width l) ≡ at + lineLength width)
+line-put width out next p o at l t e f n =
+    let m : length (lineText width l) ≡ lineLength width = line-length width l (line-within width l (is-false (lineOut width l) t)) in
+    (e ∙ column-next p o out at n f (lineText width l) (lineLength width) m, length-append p (lineText width l) ∙ omega arith)
 
-pub raise-fits : (x : ℕ) → x < 10000 → T (not (lineTooWide 12 (raiseLine x)))
-raise-fits x h = rw (line-fits standard-coherent 3 x 0 0 (pos 0) (lit< tt) h (lit< tt) (lit< tt) (lit< tt)) tt
+-- where a line is not out its width is not
+pub line-width : (width : ℕ) (l : Line) → T (not (lineOut width l)) → T (not (widthOut width))
+line-width width l t = not-or-iff (widthOut width) (lineTooWide width l) .0 t .0
+
+-- a raise line is not out
+pub raise-in : (width x : ℕ) → T (not (widthOut width)) → x < 10 ^ 4 → T (not (lineOut width (raiseLine x)))
+raise-in width x t h =
+    let (some, most) = width-within width (is-false (widthOut width) t) in
+    rw (
+      is-false (widthOut width) t,
+      each-fits width (raiseLine x) (record {
+        kind = fits-digits 2 3 (omega arith) (lit< tt);
+        a = fits-digits 4 x (omega arith) h;
+        b = fits-digits 4 0 (omega arith) (lit< tt);
+        c = fits-digits 4 0 (omega arith) (lit< tt);
+        amount = fits-iff width (pos 0) .1 some;
+      }),
+    ) tt
 
 -- no line for a scope that is not raised, and one for a scope that is
 module _ (raised : List ℕ) (x : ℕ) where
@@ -50,8 +67,9 @@ module _ (raised : List ℕ) (x : ℕ) where
   pub below-next : raisedBelow raised (x + 1) ≡ raisedBelow raised x ++ raisedFrom raised x 1
   below-next = those-next (isRaised raised) x
 
-pub texts-append : (xs ys : List ℕ) → raiseTexts (xs ++ ys) ≡ raiseTexts xs ++ raiseTexts ys
-texts-append xs ys = ap joined (map-append (λ x. lineText 12 (raiseLine x)) xs ys) ∙ joined-append (map (λ x. lineText 12 (raiseLine x)) xs) (map (λ x. lineText 12 (raiseLine x)) ys)
+pub texts-append : (width : ℕ) (xs ys : List ℕ) → raiseTexts width (xs ++ ys) ≡ raiseTexts width xs ++ raiseTexts width ys
+texts-append width xs ys =
+    ap joined (map-append (λ x. lineText width (raiseLine x)) xs ys) ∙ joined-append (map (λ x. lineText width (raiseLine x)) xs) (map (λ x. lineText width (raiseLine x)) ys)
 
 those-few : (f : ℕ → Bool) (a n : ℕ) → length (those f (from a n)) ≤ n
 those-few f a zero = omega arith
@@ -63,7 +81,7 @@ pub raised-few : (raised : List ℕ) (n : ℕ) → length (raisedBelow raised n)
 raised-few raised n = those-few (isRaised raised) 0 n
 
 -- there is room for the line of scope x
-pub raised-room : (raised : List ℕ) (x n : ℕ) → x < n → length (raisedBelow raised x) + length (raisedFrom raised x 1) ≤ length (raisedBelow raised n)
+raised-room : (raised : List ℕ) (x n : ℕ) → x < n → length (raisedBelow raised x) + length (raisedFrom raised x 1) ≤ length (raisedBelow raised n)
 raised-room raised x n h =
     omega (
       arith,
@@ -75,34 +93,50 @@ raised-room raised x n h =
 
 -- ---- what one raise line, or none, does
 
--- out is what lies over o: the bytes p and then the lines of these scopes, up to byte r
-abbrev pub Put : ℕ → List ℕ → ℕ → List ℕ → List ℕ → Type 0
-Put at xs r out next = (p o : List ℕ) → out ≡ overwritten p o → length p ≡ at → (next ≡ overwritten (p ++ raiseTexts xs) o) × (length (p ++ raiseTexts xs) ≡ r)
+module _ (width : ℕ) where
+  -- out is what lies over o: the bytes p and then the lines of these scopes, up to byte r
+  abbrev pub Put : ℕ → List ℕ → ℕ → List ℕ → List ℕ → Type 0
+  Put at xs r out next = (p o : List ℕ) → out ≡ overwritten p o → length p ≡ at → (next ≡ overwritten (p ++ raiseTexts width xs) o) × (length (p ++ raiseTexts width xs) ≡ r)
 
-module _ (raised : List ℕ) (x : ℕ) where
-  pub put-none : isRaised raised x ≡ false → (at : ℕ) (out : List ℕ) → (at ≡ at + 27 * length (raisedFrom raised x 1)) × Put at (raisedFrom raised x 1) at out out
-  put-none e at out = rw e (omega arith, λ p o q n. (rw (append-nil p) q, rw (append-nil p) n))
+  -- so many bytes for the line of scope x after those below it
+  pub line-room : (raised : List ℕ) (x n : ℕ) → x < n
+      → lineLength width * length (raisedBelow raised x) + lineLength width * length (raisedFrom raised x 1) ≤ lineLength width * length (raisedBelow raised n)
+  line-room raised x n h =
+      omega (
+        arith,
+        mul-le-mul-left {m = length (raisedBelow raised x) + length (raisedFrom raised x 1)} {n = length (raisedBelow raised n)} (lineLength width) (raised-room raised x n h),
+        mul-add (lineLength width) (length (raisedBelow raised x)) (length (raisedFrom raised x 1)),
+      )
 
-  pub put-one : isRaised raised x ≡ true → {at r : ℕ} {out next : List ℕ} → r ≡ at + 27
-      → ((p o : List ℕ) → out ≡ overwritten p o → length p ≡ at → (next ≡ overwritten (p ++ lineText 12 (raiseLine x)) o) × (length (p ++ lineText 12 (raiseLine x)) ≡ at + 27))
-      → (r ≡ at + 27 * length (raisedFrom raised x 1)) × Put at (raisedFrom raised x 1) r out next
-  put-one e h f = rw e (omega arith, λ p o q n. let (a, b) = f p o q n in (rw (append-nil (lineText 12 (raiseLine x))) a, rw (append-nil (lineText 12 (raiseLine x))) (b ∙ sym h)))
+  pub puts-none : (from : ℕ) (out : List ℕ) → (from ≡ from + lineLength width * 0) × Put from [] from out out
+  puts-none from out = (omega arith, λ p o q n. (rw (append-nil p) q, rw (append-nil p) n))
 
-  texts-next : (p : List ℕ) → (p ++ raiseTexts (raisedBelow raised x)) ++ raiseTexts (raisedFrom raised x 1) ≡ p ++ raiseTexts (raisedBelow raised (x + 1))
-  texts-next p =
-      append-assoc p (raiseTexts (raisedBelow raised x)) (raiseTexts (raisedFrom raised x 1))
-      ∙ ap (λ (t : List ℕ). p ++ t) (sym (ap raiseTexts (below-next raised x) ∙ texts-append (raisedBelow raised x) (raisedFrom raised x 1)))
+  module _ (raised : List ℕ) (x : ℕ) where
+    pub put-none : isRaised raised x ≡ false → (at : ℕ) (out : List ℕ) → (at ≡ at + lineLength width * length (raisedFrom raised x 1)) × Put at (raisedFrom raised x 1) at out out
+    put-none e at out = rw e (omega arith, λ p o q n. (rw (append-nil p) q, rw (append-nil p) n))
 
-  pub puts-next : {from at r : ℕ} {first out next : List ℕ} → at ≡ from + 27 * length (raisedBelow raised x) → Put from (raisedBelow raised x) at first out
-      → (r ≡ at + 27 * length (raisedFrom raised x 1)) × Put at (raisedFrom raised x 1) r out next
-      → (r ≡ from + 27 * length (raisedBelow raised (x + 1))) × Put from (raisedBelow raised (x + 1)) r first next
-  puts-next e f (g, h) = (
-    omega (arith, ap length (below-next raised x), length-append (raisedBelow raised x) (raisedFrom raised x 1)),
-    λ p o q n.
-        let (a, b) = f p o q n in
-        let (c, d) = h (p ++ raiseTexts (raisedBelow raised x)) o a b in
-        (c ∙ ap (λ (t : List ℕ). overwritten t o) (texts-next p), ap length (sym (texts-next p)) ∙ d),
-  )
+    pub put-one : isRaised raised x ≡ true → {at r : ℕ} {out next : List ℕ} → r ≡ at + lineLength width
+        → ((p o : List ℕ) → out ≡ overwritten p o → length p ≡ at → (next ≡ overwritten (p ++ lineText width (raiseLine x)) o) × (length (p ++ lineText width (raiseLine x)) ≡ at + lineLength width))
+        → (r ≡ at + lineLength width * length (raisedFrom raised x 1)) × Put at (raisedFrom raised x 1) r out next
+    put-one e h f = rw e (omega arith, λ p o q n. let (a, b) = f p o q n in (rw (append-nil (lineText width (raiseLine x))) a, rw (append-nil (lineText width (raiseLine x))) (b ∙ sym h)))
 
-pub puts-none : (from : ℕ) (out : List ℕ) → (from ≡ from + 27 * 0) × Put from [] from out out
-puts-none from out = (omega arith, λ p o q n. (rw (append-nil p) q, rw (append-nil p) n))
+    texts-next : (p : List ℕ) → (p ++ raiseTexts width (raisedBelow raised x)) ++ raiseTexts width (raisedFrom raised x 1) ≡ p ++ raiseTexts width (raisedBelow raised (x + 1))
+    texts-next p =
+        append-assoc p (raiseTexts width (raisedBelow raised x)) (raiseTexts width (raisedFrom raised x 1))
+        ∙ ap (λ (t : List ℕ). p ++ t) (sym (ap (raiseTexts width) (below-next raised x) ∙ texts-append width (raisedBelow raised x) (raisedFrom raised x 1)))
+
+    lines-next : lineLength width * length (raisedBelow raised (x + 1)) ≡ lineLength width * length (raisedBelow raised x) + lineLength width * length (raisedFrom raised x 1)
+    lines-next =
+        ap (λ (n : ℕ). lineLength width * n) (ap length (below-next raised x) ∙ length-append (raisedBelow raised x) (raisedFrom raised x 1))
+        ∙ mul-add (lineLength width) (length (raisedBelow raised x)) (length (raisedFrom raised x 1))
+
+    pub puts-next : {from at r : ℕ} {first out next : List ℕ} → at ≡ from + lineLength width * length (raisedBelow raised x) → Put from (raisedBelow raised x) at first out
+        → (r ≡ at + lineLength width * length (raisedFrom raised x 1)) × Put at (raisedFrom raised x 1) r out next
+        → (r ≡ from + lineLength width * length (raisedBelow raised (x + 1))) × Put from (raisedBelow raised (x + 1)) r first next
+    puts-next e f (g, h) = (
+      omega (arith, lines-next),
+      λ p o q n.
+          let (a, b) = f p o q n in
+          let (c, d) = h (p ++ raiseTexts width (raisedBelow raised x)) o a b in
+          (c ∙ ap (λ (t : List ℕ). overwritten t o) (texts-next p), ap length (sym (texts-next p)) ∙ d),
+    )

@@ -16,7 +16,7 @@ use Rattle.definitions.specs.declared.Case.{Case}
 use Rattle.definitions.specs.declared.Refusal.{Refusal}
 use Rattle.definitions.specs.declared.Round.{Round}
 use Rattle.definitions.specs.declared.RunAnswer.{RunAnswer}
-use Rattle.definitions.specs.Rules.{Rules, standard}
+use Rattle.definitions.specs.Rules.{Rules, rulesOf}
 use Rattle.definitions.specs.Valid.{valid}
 use Rattle.definitions.specs.Answers.{runSays}
 use Rattle.definitions.specs.Case.{isAssignment, objective, upperBound}
@@ -87,6 +87,6 @@ pub record Demand3 (r : Rules) (c : Case) (w : List ℤ) : Type 0 where
       → RunTrusted r c w limit out (run r engineNext c limit w) (runCall r engineNext c limit w out) (linesIn (r .amountWidth) (runCall r engineNext c limit w out .log))
   pub any-table : RunIterates r c
 
--- "For every valid case", with document 01's numbers
+-- "For every valid case", by the rules it is under
 abbrev pub Guarantee : Type 0
-Guarantee = (c : Case) (w : List ℤ) → T (valid standard c w) → Demand3 standard c w
+Guarantee = (c : Case) (w : List ℤ) → T (valid (rulesOf c) c w) → Demand3 (rulesOf c) c w

@@ -14,7 +14,7 @@ use Rattle.definitions.specs.declared.Run.{Run}
 use Rattle.definitions.specs.declared.RunAnswer.{RunAnswer}
 use Rattle.definitions.specs.declared.Refusal.{Refusal}
 use Rattle.definitions.specs.declared.Refusal.the-variants.{LeavesRange}
-use Rattle.definitions.specs.Rules.{standard}
+use Rattle.definitions.specs.Rules.{rulesOf}
 use Rattle.definitions.specs.Refusals.{firstOf}
 use Rattle.definitions.specs.Case.{upperBound}
 use Rattle.definitions.specs.Valid.{workingWeight, handedOver}
@@ -29,15 +29,15 @@ abbrev pub pressedBy : Case → ℕ → List ℕ → ℤ → List ℤ → List �
 pressedBy c i raised a w = plus c (pressBy c w i (activeValues c w i) (isRaised raised) a) w
 
 pub record Pressed (c : Case) (i : ℕ) (raised : List ℕ) (a : ℤ) (w after best : List ℤ) (r : Outcome) : Type 0 where
-  pub answer : r ≡ (if leavesRange standard c (pressedBy c i raised a w) then Outcome.Refused LeavesRange else Outcome.Done)
-  pub table : after ≡ (if leavesRange standard c (pressedBy c i raised a w) then w else pressedBy c i raised a w)
+  pub answer : r ≡ (if leavesRange (rulesOf c) c (pressedBy c i raised a w) then Outcome.Refused LeavesRange else Outcome.Done)
+  pub table : after ≡ (if leavesRange (rulesOf c) c (pressedBy c i raised a w) then w else pressedBy c i raised a w)
   pub greatest-kept : BestOf c after best
 
 -- what a call of the round answers and leaves
 pub record MadeRound (c : Case) (w : List ℤ) (out : List ℕ) (after : List ℤ) (written : List ℕ) (r : Round) : Type 0 where
-  pub answer : r ≡ roundCall standard engineNext c w out .answer
-  pub table : after ≡ roundCall standard engineNext c w out .table
-  pub output : written ≡ roundCall standard engineNext c w out .out
+  pub answer : r ≡ roundCall (rulesOf c) engineNext c w out .answer
+  pub table : after ≡ roundCall (rulesOf c) engineNext c w out .table
+  pub output : written ≡ roundCall (rulesOf c) engineNext c w out .out
 
 -- ---- the run
 
@@ -51,10 +51,10 @@ stoppedRun c w answer rounds = record { answer = answer; rounds = rounds; bound 
 
 -- what a call of the run answers and leaves
 pub record RunIs (c : Case) (limit : ℕ) (w : List ℤ) (out : List ℕ) (after : List ℤ) (written : List ℕ) (r : Run) : Type 0 where
-  pub run : r ≡ runCall standard engineNext c limit w out .run
-  pub table : after ≡ runCall standard engineNext c limit w out .table
-  pub output : written ≡ runCall standard engineNext c limit w out .out
+  pub run : r ≡ runCall (rulesOf c) engineNext c limit w out .run
+  pub table : after ≡ runCall (rulesOf c) engineNext c limit w out .table
+  pub output : written ≡ runCall (rulesOf c) engineNext c limit w out .out
 
 -- numbers 3 to 8, with an output of so many bytes
 abbrev pub engineRefusalOf : Case → List ℤ → ℕ → Option Refusal
-engineRefusalOf c w length = firstOf (handedOver standard (workingWeight standard) c w (ltb length (roundBytes standard c)) false)
+engineRefusalOf c w length = firstOf (handedOver (rulesOf c) (workingWeight (rulesOf c)) c w (ltb length (roundBytes (rulesOf c) c)) false)

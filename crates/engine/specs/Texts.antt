@@ -1,4 +1,4 @@
--- The lines of a press, from the bytes of raised scopes. Assumes nothing.
+-- The lines of a press, from the bytes of raised scopes, with an amount column of any width. Assumes nothing.
 use mathlib.Core.List.{List, _++_, map}
 use Prim.Native.Nat.{ℕ}
 use lib.IntN.{ℤ, pos}
@@ -16,12 +16,12 @@ raisedFrom raised a n = those (isRaised raised) (from a n)
 abbrev pub raisedBelow : List ℕ → ℕ → List ℕ
 raisedBelow raised n = those (isRaised raised) (below n)
 
-abbrev pub raiseTexts : List ℕ → List ℕ
-raiseTexts xs = joined (map (λ x. lineText 12 (raiseLine x)) xs)
+abbrev pub raiseTexts : ℕ → List ℕ → List ℕ
+raiseTexts width xs = joined (map (λ x. lineText width (raiseLine x)) xs)
 
 abbrev pub pressLine : ℕ → ℕ → ℤ → Line
 pressLine i count a = line 2 (pos i) (pos count) (pos 0) a
 
 -- the lines of a round: press, raise and bound
-abbrev pub pressText : ℕ → List ℕ → ℤ → ℤ → List ℕ
-pressText i xs a bound = (lineText 12 (pressLine i (length xs) a) ++ raiseTexts xs) ++ lineText 12 (boundLine bound)
+abbrev pub pressText : ℕ → ℕ → List ℕ → ℤ → ℤ → List ℕ
+pressText width i xs a bound = (lineText width (pressLine i (length xs) a) ++ raiseTexts width xs) ++ lineText width (boundLine bound)

@@ -1,4 +1,5 @@
 // The engine (document 01, "The engine's round"): one round, and the run that makes rounds one after another.
+use arcs::ROW_PLACES;
 use arcs::Tried;
 use definitions::Case;
 use definitions::Figure;
@@ -8,35 +9,38 @@ use definitions::Refusal;
 use definitions::Round;
 use definitions::Run;
 use definitions::RunAnswer;
+use definitions::SCOPE_PLACES;
+use definitions::VARIABLE_PLACES;
 ghost use mathlib.Core.Path.{_≡_};
 ghost use mathlib.Core.Option.{some};
 ghost use mathlib.Core.Bool.{true, not};
 ghost use mathlib.Core.List.{List, _++_};
-ghost use Prim.Native.Nat.{ℕ, _+_, _*_, _-_, _≤_, _<_};
+ghost use Prim.Native.Nat.{ℕ, _+_, _*_, _-_, _^_, _≤_, _<_};
 ghost use lib.Dec.{T, ltb, eqb};
 ghost use lib.IntN.{ℤ, pos};
 ghost use lib.ListN.{length, getD};
 ghost use Rattle.integers.specs.Words.{if_then_else_, all};
-ghost use Rattle.definitions.specs.Rules.{standard};
+ghost use Rattle.definitions.specs.Rules.{rulesOf, variablePlaces, edgePlaces};
 ghost use Rattle.definitions.specs.Answers.{outcomeOf};
 ghost use Rattle.definitions.specs.Case.{scopeCount, eachTuple, place, weight, greatest, upperBound};
 ghost use Rattle.definitions.specs.Valid.{workingWeight};
 ghost use Rattle.definitions.specs.Moves.{pressAmount};
-ghost use Rattle.definitions.specs.Lines.{lineText, lineTooWide, overwritten};
+ghost use Rattle.definitions.specs.Lines.{lineText, lineLength, overwritten};
 ghost use Rattle.definitions.specs.Engine.{chosen, keptScopes, leastGap, roundBytes, engineNext, raiseLine, boundLine};
 ghost use Rattle.definitions.specs.EngineCalls.{roundCall, runCall};
 ghost use Rattle.theory.proofs.Validity.{Handed};
+ghost use Rattle.lines.specs.AtWidth.{widthOut, lineOut};
 ghost use Rattle.tables.specs.Scopes.{Limited, sizeOf, BestOf};
 ghost use Rattle.engine.specs.Search.{saysRefuted, isRaised, Prepared, refutesIn, AllRaised, OthersRaised, ChosenIn, ChosenIs, chosenOf, lowestRefuted, FoundIs, Enough, Dropped};
-ghost use Rattle.engine.specs.Gaps.{limits, lesserGap, lessGaps};
+ghost use Rattle.engine.specs.Gaps.{smallWeight, limits, lesserGap, lessGaps};
 ghost use Rattle.engine.specs.Texts.{raisedFrom, raisedBelow, raiseTexts, pressLine, pressText};
 ghost use Rattle.engine.specs.Rounds.{Pressed, MadeRound, RunIs, limitAnswer, stoppedRun, engineRefusalOf};
 
-// The bytes of a line today.
-const LINE: usize = 27;
-
 // More than any gap of working weights.
-const NO_GAP: i64 = 1_000_000_001;
+const NO_GAP: i64 = 4_611_686_018_427_387_904;
+
+// The values of all variables.
+const VALUE_PLACES: usize = 8 * VARIABLE_PLACES;
 
 // The variable to press, if there is one.
 enum Chosen {
@@ -90,14 +94,14 @@ fn allow(acts: &[u8], raised: &[u8], full: u8, sets: &mut [u8], n: usize)
 
 // Whether the active values of the variable are all refuted.
 fn refutes(case: Case, acts: &[u8], rows: &[u8], raised: &[u8], variable: usize) -> bool
-    requires { ⌜ (scopeCount case ≤ length (now raised)) × (case .n ≤ length (now acts)) × (variable < case .n) × (case .n ≤ 48) × (case .d ≤ 8) ⌝ }
+    requires { ⌜ (scopeCount case ≤ length (now raised)) × (case .n ≤ length (now acts)) × (variable < case .n) × (case .n ≤ variablePlaces) × (case .d ≤ 8) ⌝ }
     ensures { λ r. ⌜ ((w : List ℤ) → Prepared case w (now (acts .entry)) (now (rows .entry)) → r ≡ refutesIn case w variable (now (raised .entry))) ⌝ }
 {
     let n = case.n;
     let end = n + case.m;
     let lower = case.lower;
     let upper = case.upper;
-    let mut sets = [0u8; 48];
+    let mut sets = [0u8; VARIABLE_PLACES];
     allow(acts, raised, marks::full(case.d as u8), &mut sets, n);
     is_refuted(arcs::none_supported(
         &lower,
@@ -152,14 +156,14 @@ fn lowest_refuted(
 // The lowest variable whose active values are refuted with all other scopes raised. To a variable's active values its own scope makes no
 // difference, so that all scopes may be raised at once.
 fn choose(case: Case, acts: &[u8], rows: &[u8], raised: &[u8]) -> Chosen
-    requires { ⌜ (scopeCount case ≤ length (now raised)) × (case .n ≤ length (now acts)) × (case .n ≤ 48) ⌝ }
+    requires { ⌜ (scopeCount case ≤ length (now raised)) × (case .n ≤ length (now acts)) × (case .n ≤ variablePlaces) ⌝ }
     ensures { λ r. ⌜ ChosenIn case r × ((w : List ℤ) → Prepared case w (now (acts .entry)) (now (rows .entry)) → AllRaised case (now (raised .entry)) → ChosenIs case w r) ⌝ }
 {
     let n = case.n;
     let end = n + case.m;
     let lower = case.lower;
     let upper = case.upper;
-    let mut sets = [0u8; 48];
+    let mut sets = [0u8; VARIABLE_PLACES];
     copy_bytes(acts, &mut sets, n);
     lowest_refuted(&lower, &upper, acts, rows, &raised[n..end], &mut sets[..n])
 }
@@ -202,10 +206,10 @@ fn note_arc(
     i: usize,
     j: usize,
     sets: &mut [u8],
-    noted: &mut [u8],
+    noted: &mut [u16],
     count: usize,
 ) -> usize
-    requires { ⌜ (8 * arc + 8 ≤ length (now rows)) × (arc < 256) × (i < length (now sets)) × (j < length (now sets)) × (count ≤ length (now noted)) ⌝ }
+    requires { ⌜ (8 * arc + 8 ≤ length (now rows)) × (arc < 65536) × (i < length (now sets)) × (j < length (now sets)) × (count ≤ length (now noted)) ⌝ }
     ensures { λ r. ⌜ (count ≤ r) × (r ≤ length (now (noted .entry))) ⌝ }
 {
     let own = sets[i];
@@ -217,7 +221,7 @@ fn note_arc(
     if noted.len() <= count {
         return count;
     }
-    noted[count] = arc as u8;
+    noted[count] = arc as u16;
     count + 1
 }
 
@@ -229,10 +233,10 @@ fn note_edge(
     i: usize,
     j: usize,
     sets: &mut [u8],
-    noted: &mut [u8],
+    noted: &mut [u16],
     count: usize,
 ) -> usize
-    requires { ⌜ (16 * e + 16 ≤ length (now rows)) × (e < 96) × (i < length (now sets)) × (j < length (now sets)) × (count ≤ length (now noted)) ⌝ }
+    requires { ⌜ (16 * e + 16 ≤ length (now rows)) × (e < edgePlaces) × (i < length (now sets)) × (j < length (now sets)) × (count ≤ length (now noted)) ⌝ }
     ensures { λ r. ⌜ (count ≤ r) × (r ≤ length (now (noted .entry))) ⌝ }
 {
     if raised == 0 {
@@ -244,8 +248,8 @@ fn note_edge(
 
 // The edges without a strike since the last one.
 fn quiet_after(quiet: usize, before: usize, count: usize) -> usize
-    requires { ⌜ (quiet < 96) × (before ≤ count) ⌝ }
-    ensures { λ r. ⌜ (r ≤ quiet + 1) × (quiet + 1 ≤ r + 97 * (count - before)) ⌝ }
+    requires { ⌜ (quiet < edgePlaces) × (before ≤ count) ⌝ }
+    ensures { λ r. ⌜ (r ≤ quiet + 1) × (quiet + 1 ≤ r + (edgePlaces + 1) * (count - before)) ⌝ }
 {
     if count == before {
         return quiet + 1;
@@ -263,7 +267,7 @@ fn edge_after(e: usize, edges: usize) -> usize
     0
 }
 
-// How many strikes were noted, and the variable whose set ran empty, 48 if none did.
+// How many strikes were noted, and the variable whose set ran empty, VARIABLE_PLACES if none did.
 struct Strikes {
     count: usize,
     emptied: usize,
@@ -276,9 +280,9 @@ fn note_strikes(
     rows: &[u8],
     edges: &[u8],
     sets: &mut [u8],
-    noted: &mut [u8],
+    noted: &mut [u16],
 ) -> Strikes
-    requires { ⌜ (length (now edges) ≤ length (now lower)) × (length (now edges) ≤ length (now upper)) × (16 * length (now edges) ≤ length (now rows)) × (length (now edges) ≤ 96) ⌝ }
+    requires { ⌜ (length (now edges) ≤ length (now lower)) × (length (now edges) ≤ length (now upper)) × (16 * length (now edges) ≤ length (now rows)) × (length (now edges) ≤ edgePlaces) ⌝ }
     ensures { λ r. ⌜ r .count ≤ length (now (noted .entry)) ⌝ }
 {
     let mut count: usize = 0;
@@ -310,7 +314,10 @@ fn note_strikes(
         count = next;
         e = edge_after(e, edges.len());
     }
-    Strikes { count, emptied: 48 }
+    Strikes {
+        count,
+        emptied: VARIABLE_PLACES,
+    }
 }
 
 // A strike in the set of `own` over scope x counts if that set does, and then the set of `other` does too.
@@ -331,10 +338,17 @@ fn count_strike(own: usize, other: usize, x: usize, counts: &mut [u8], used: &mu
     used[x] = 1;
 }
 
-fn count_arc(lower: &[u8], upper: &[u8], n: usize, arc: u8, counts: &mut [u8], used: &mut [u8])
-    requires { ⌜ n ≤ 48 ⌝ }
+// The edge of an arc.
+fn edge_of(arc: u16) -> usize
+    ensures { λ r. ⌜ r < 65536 ⌝ }
 {
-    let e = wide(arc / 2);
+    (arc / 2) as usize
+}
+
+fn count_arc(lower: &[u8], upper: &[u8], n: usize, arc: u16, counts: &mut [u8], used: &mut [u8])
+    requires { ⌜ n ≤ variablePlaces ⌝ }
+{
+    let e = edge_of(arc);
     if lower.len() <= e {
         return;
     }
@@ -355,11 +369,11 @@ fn count_back(
     lower: &[u8],
     upper: &[u8],
     n: usize,
-    noted: &[u8],
+    noted: &[u16],
     counts: &mut [u8],
     used: &mut [u8],
 )
-    requires { ⌜ n ≤ 48 ⌝ }
+    requires { ⌜ n ≤ variablePlaces ⌝ }
 {
     let mut left = noted.len();
     while 0 < left {
@@ -400,22 +414,22 @@ fn explain(
     values: u8,
 ) -> bool
     requires { ⌜ (scopeCount case ≤ length (now raised)) × (scopeCount case ≤ length (now used)) × (case .n ≤ length (now acts)) × (case .d ≤ 8) ⌝ }
-    requires { ⌜ (variable < case .n) × (case .n ≤ 48) × (case .m ≤ 96) × (16 * case .m ≤ length (now rows)) ⌝ }
+    requires { ⌜ (variable < case .n) × (case .n ≤ variablePlaces) × (case .m ≤ edgePlaces) × (16 * case .m ≤ length (now rows)) ⌝ }
 {
     let n = case.n;
     let end = n + case.m;
     let full = marks::full(case.d as u8);
     let lower = case.lower;
     let upper = case.upper;
-    let mut sets = [0u8; 48];
-    let mut noted = [0u8; 384];
-    let mut counts = [0u8; 48];
+    let mut sets = [0u8; VARIABLE_PLACES];
+    let mut noted = [0u16; VALUE_PLACES];
+    let mut counts = [0u8; VARIABLE_PLACES];
     allow(acts, raised, full, &mut sets, n);
     sets[variable] = values;
     let strikes = note_strikes(&lower, &upper, rows, &raised[n..end], &mut sets, &mut noted);
     let count = strikes.count;
     let emptied = strikes.emptied;
-    if 48 <= emptied {
+    if VARIABLE_PLACES <= emptied {
         return false;
     }
     counts[emptied] = 1;
@@ -435,7 +449,7 @@ fn explain_value(
     k: u8,
 )
     requires { ⌜ (scopeCount case ≤ length (now raised)) × (scopeCount case ≤ length (now used)) × (case .n ≤ length (now acts)) × (case .d ≤ 8) ⌝ }
-    requires { ⌜ (variable < case .n) × (case .n ≤ 48) × (case .m ≤ 96) × (16 * case .m ≤ length (now rows)) ⌝ }
+    requires { ⌜ (variable < case .n) × (case .n ≤ variablePlaces) × (case .m ≤ edgePlaces) × (16 * case .m ≤ length (now rows)) ⌝ }
 {
     let value = marks::common(acts[variable], marks::only(k));
     if value == 0 {
@@ -453,7 +467,7 @@ fn explain_each(
     variable: usize,
 )
     requires { ⌜ (scopeCount case ≤ length (now raised)) × (scopeCount case ≤ length (now used)) × (case .n ≤ length (now acts)) × (case .d ≤ 8) ⌝ }
-    requires { ⌜ (variable < case .n) × (case .n ≤ 48) × (case .m ≤ 96) × (16 * case .m ≤ length (now rows)) ⌝ }
+    requires { ⌜ (variable < case .n) × (case .n ≤ variablePlaces) × (case .m ≤ edgePlaces) × (16 * case .m ≤ length (now rows)) ⌝ }
 {
     let mut k: u8 = 0;
     while k < 8 {
@@ -465,7 +479,7 @@ fn explain_each(
 // All values at once, if a set runs empty then.
 fn guess(case: Case, acts: &[u8], rows: &[u8], raised: &[u8], used: &mut [u8], variable: usize)
     requires { ⌜ (scopeCount case ≤ length (now raised)) × (scopeCount case ≤ length (now used)) × (case .n ≤ length (now acts)) × (case .d ≤ 8) ⌝ }
-    requires { ⌜ (variable < case .n) × (case .n ≤ 48) × (case .m ≤ 96) ⌝ }
+    requires { ⌜ (variable < case .n) × (case .n ≤ variablePlaces) × (case .m ≤ edgePlaces) ⌝ }
 {
     if rows.len() < 16 * case.m {
         return;
@@ -502,11 +516,11 @@ fn keep_raised(raised: &[u8], enough: &mut [u8], n: usize)
 // Raised scopes with which the values are refuted: fewer, if the guess is right, else all.
 fn renew(case: Case, acts: &[u8], rows: &[u8], raised: &[u8], enough: &mut [u8], variable: usize)
     requires { ⌜ (scopeCount case ≤ length (now raised)) × (scopeCount case ≤ length (now enough)) × (case .n ≤ length (now acts)) × (case .d ≤ 8) ⌝ }
-    requires { ⌜ (variable < case .n) × (case .n ≤ 48) × (case .m ≤ 96) ⌝ }
+    requires { ⌜ (variable < case .n) × (case .n ≤ variablePlaces) × (case .m ≤ edgePlaces) ⌝ }
     ensures { λ _. ⌜ ((w : List ℤ) → Prepared case w (now (acts .entry)) (now (rows .entry)) → refutesIn case w variable (now (raised .entry)) ≡ true → Enough case w variable (now (raised .entry)) (now (enough .exit))) ⌝ }
 {
     let scopes = case.n + case.m;
-    let none = [0u8; 144];
+    let none = [0u8; SCOPE_PLACES];
     copy_bytes(&none, enough, scopes);
     guess(case, acts, rows, raised, enough, variable);
     keep_raised(raised, enough, scopes);
@@ -527,7 +541,7 @@ fn drop_scope(
     x: usize,
 )
     requires { ⌜ (scopeCount case ≤ length (now raised)) × (scopeCount case ≤ length (now enough)) × (case .n ≤ length (now acts)) × (case .d ≤ 8) ⌝ }
-    requires { ⌜ (variable < case .n) × (x < scopeCount case) × (case .n ≤ 48) × (case .m ≤ 96) ⌝ }
+    requires { ⌜ (variable < case .n) × (x < scopeCount case) × (case .n ≤ variablePlaces) × (case .m ≤ edgePlaces) ⌝ }
     ensures { λ _. ⌜ ((w : List ℤ) → Prepared case w (now (acts .entry)) (now (rows .entry)) → Enough case w variable (now (raised .entry)) (now (enough .entry)) → Enough case w variable (now (raised .exit)) (now (enough .exit)) × Dropped case w variable x (now (raised .entry)) (now (raised .exit))) ⌝ }
 {
     raised[x] = 0;
@@ -551,7 +565,7 @@ fn drop_scopes(
     variable: usize,
 )
     requires { ⌜ (scopeCount case ≤ length (now raised)) × (scopeCount case ≤ length (now enough)) × (case .n ≤ length (now acts)) × (case .d ≤ 8) ⌝ }
-    requires { ⌜ (variable < case .n) × (case .n ≤ 48) × (case .m ≤ 96) ⌝ }
+    requires { ⌜ (variable < case .n) × (case .n ≤ variablePlaces) × (case .m ≤ edgePlaces) ⌝ }
     ensures { λ _. ⌜ ((w : List ℤ) → Prepared case w (now (acts .entry)) (now (rows .entry)) → OthersRaised case variable (now (raised .entry)) → Enough case w variable (now (raised .entry)) (now (enough .entry)) → raisedBelow (now (raised .exit)) (scopeCount case) ≡ keptScopes case w variable) ⌝ }
 {
     let scopes = case.n + case.m;
@@ -565,10 +579,10 @@ fn drop_scopes(
 // Lowers the variable's own scope and those that are dropped.
 fn trim(case: Case, acts: &[u8], rows: &[u8], raised: &mut [u8], variable: usize)
     requires { ⌜ (scopeCount case ≤ length (now raised)) × (case .n ≤ length (now acts)) × (case .d ≤ 8) ⌝ }
-    requires { ⌜ (variable < case .n) × (case .n ≤ 48) × (case .m ≤ 96) ⌝ }
+    requires { ⌜ (variable < case .n) × (case .n ≤ variablePlaces) × (case .m ≤ edgePlaces) ⌝ }
     ensures { λ _. ⌜ ((w : List ℤ) → Prepared case w (now (acts .entry)) (now (rows .entry)) → AllRaised case (now (raised .entry)) → chosen case w ≡ some variable → raisedBelow (now (raised .exit)) (scopeCount case) ≡ keptScopes case w variable) ⌝ }
 {
-    let mut enough = [0u8; 144];
+    let mut enough = [0u8; SCOPE_PLACES];
     raised[variable] = 0;
     renew(case, acts, rows, raised, &mut enough, variable);
     drop_scopes(case, acts, rows, raised, &mut enough, variable);
@@ -577,7 +591,7 @@ fn trim(case: Case, acts: &[u8], rows: &[u8], raised: &mut [u8], variable: usize
 // ---- the amount
 
 fn lesser_gap(weight: i64, best: i64, least: i64) -> i64
-    requires { ⌜ T (workingWeight standard weight) × T (workingWeight standard best) ⌝ }
+    requires { ⌜ T (smallWeight weight) × T (smallWeight best) ⌝ }
     ensures { λ r. ⌜ r ≡ lesserGap best weight least ⌝ }
 {
     if weight == best {
@@ -591,7 +605,7 @@ fn lesser_gap(weight: i64, best: i64, least: i64) -> i64
 }
 
 fn gap_in(part: &[i64], best: i64, limit: i64) -> i64
-    requires { ⌜ T (all (workingWeight standard) (now part)) × T (workingWeight standard best) ⌝ }
+    requires { ⌜ T (all smallWeight (now part)) × T (smallWeight best) ⌝ }
     ensures { λ r. ⌜ r ≡ lessGaps best (now (part .entry)) limit ⌝ }
 {
     let mut least = limit;
@@ -606,19 +620,19 @@ fn gap_in(part: &[i64], best: i64, limit: i64) -> i64
 // ---- the lines
 
 fn whole(x: usize) -> i64
-    requires { ⌜ x < 10000 ⌝ }
+    requires { ⌜ x < 10 ^ 4 ⌝ }
     ensures { λ r. ⌜ r ≡ pos x ⌝ }
 {
     x as i64
 }
 
 // Puts the line at byte `at`, and answers where it ends.
-fn put_line(out: &mut [u8], at: usize, line: Line) -> usize
-    requires { ⌜ (at + 27 ≤ length (now out)) × T (not (lineTooWide 12 line)) ⌝ }
-    ensures { λ r. ⌜ (r ≡ at + 27) × ((p o : List ℕ) → now (out .entry) ≡ overwritten p o → length p ≡ at → (now (out .exit) ≡ overwritten (p ++ lineText 12 line) o) × (length (p ++ lineText 12 line) ≡ at + 27)) ⌝ }
+fn put_line(out: &mut [u8], at: usize, line: Line, width: usize) -> usize
+    requires { ⌜ (at + lineLength width ≤ length (now out)) × T (not (lineOut width line)) ⌝ }
+    ensures { λ r. ⌜ (r ≡ at + lineLength width) × ((p o : List ℕ) → now (out .entry) ≡ overwritten p o → length p ≡ at → (now (out .exit) ≡ overwritten (p ++ lineText width line) o) × (length (p ++ lineText width line) ≡ at + lineLength width)) ⌝ }
 {
-    let to = at + LINE;
-    lines::write_line(&mut out[at..to], line);
+    let to = at + 15 + width;
+    lines::write_line_in(&mut out[at..to], line, width);
     to
 }
 
@@ -638,7 +652,7 @@ fn count_raised(raised: &[u8], scopes: usize) -> usize
 }
 
 fn raise_line(x: usize) -> Line
-    requires { ⌜ x < 10000 ⌝ }
+    requires { ⌜ x < 10 ^ 4 ⌝ }
     ensures { λ r. ⌜ r ≡ raiseLine x ⌝ }
 {
     Line {
@@ -651,7 +665,7 @@ fn raise_line(x: usize) -> Line
 }
 
 fn press_line(variable: usize, count: usize, amount: i64) -> Line
-    requires { ⌜ (variable < 10000) × (count < 10000) ⌝ }
+    requires { ⌜ (variable < 10 ^ 4) × (count < 10 ^ 4) ⌝ }
     ensures { λ r. ⌜ r ≡ pressLine variable count amount ⌝ }
 {
     Line {
@@ -676,24 +690,24 @@ fn bound_line(bound: i64) -> Line
 }
 
 // The raise line of scope x, if it is raised.
-fn put_raise(out: &mut [u8], at: usize, raised: &[u8], x: usize) -> usize
-    requires { ⌜ (x < length (now raised)) × (x < 10000) × (at + 27 * length (raisedFrom (now raised) x 1) ≤ length (now out)) ⌝ }
-    ensures { λ r. ⌜ (r ≡ at + 27 * length (raisedFrom (now (raised .entry)) x 1)) × ((p o : List ℕ) → now (out .entry) ≡ overwritten p o → length p ≡ at → (now (out .exit) ≡ overwritten (p ++ raiseTexts (raisedFrom (now (raised .entry)) x 1)) o) × (length (p ++ raiseTexts (raisedFrom (now (raised .entry)) x 1)) ≡ r)) ⌝ }
+fn put_raise(out: &mut [u8], at: usize, raised: &[u8], x: usize, width: usize) -> usize
+    requires { ⌜ (x < length (now raised)) × (x < 10 ^ 4) × (at + lineLength width * length (raisedFrom (now raised) x 1) ≤ length (now out)) × T (not (widthOut width)) ⌝ }
+    ensures { λ r. ⌜ (r ≡ at + lineLength width * length (raisedFrom (now (raised .entry)) x 1)) × ((p o : List ℕ) → now (out .entry) ≡ overwritten p o → length p ≡ at → (now (out .exit) ≡ overwritten (p ++ raiseTexts width (raisedFrom (now (raised .entry)) x 1)) o) × (length (p ++ raiseTexts width (raisedFrom (now (raised .entry)) x 1)) ≡ r)) ⌝ }
 {
     if raised[x] == 0 {
         return at;
     }
-    put_line(out, at, raise_line(x))
+    put_line(out, at, raise_line(x), width)
 }
 
-fn put_raises(out: &mut [u8], from: usize, raised: &[u8], scopes: usize) -> usize
-    requires { ⌜ (scopes ≤ length (now raised)) × (scopes < 10000) × (from + 27 * length (raisedBelow (now raised) scopes) ≤ length (now out)) ⌝ }
-    ensures { λ r. ⌜ (r ≡ from + 27 * length (raisedBelow (now (raised .entry)) scopes)) × ((p o : List ℕ) → now (out .entry) ≡ overwritten p o → length p ≡ from → (now (out .exit) ≡ overwritten (p ++ raiseTexts (raisedBelow (now (raised .entry)) scopes)) o) × (length (p ++ raiseTexts (raisedBelow (now (raised .entry)) scopes)) ≡ r)) ⌝ }
+fn put_raises(out: &mut [u8], from: usize, raised: &[u8], scopes: usize, width: usize) -> usize
+    requires { ⌜ (scopes ≤ length (now raised)) × (scopes < 10 ^ 4) × (from + lineLength width * length (raisedBelow (now raised) scopes) ≤ length (now out)) × T (not (widthOut width)) ⌝ }
+    ensures { λ r. ⌜ (r ≡ from + lineLength width * length (raisedBelow (now (raised .entry)) scopes)) × ((p o : List ℕ) → now (out .entry) ≡ overwritten p o → length p ≡ from → (now (out .exit) ≡ overwritten (p ++ raiseTexts width (raisedBelow (now (raised .entry)) scopes)) o) × (length (p ++ raiseTexts width (raisedBelow (now (raised .entry)) scopes)) ≡ r)) ⌝ }
 {
     let mut at = from;
     let mut x: usize = 0;
     while x < scopes {
-        at = put_raise(out, at, raised, x);
+        at = put_raise(out, at, raised, x, width);
         x += 1;
     }
     at
@@ -707,21 +721,22 @@ fn write_round(
     variable: usize,
     amount: i64,
     bound: i64,
+    width: usize,
 ) -> usize
-    requires { ⌜ (scopes ≤ length (now raised)) × (scopes < 10000) × (variable < 10000) × (27 * (length (raisedBelow (now raised) scopes) + 2) ≤ length (now out)) ⌝ }
-    requires { ⌜ T (not (lineTooWide 12 (pressLine variable (length (raisedBelow (now raised) scopes)) amount))) × T (not (lineTooWide 12 (boundLine bound))) ⌝ }
-    ensures { λ r. ⌜ (r ≡ length (pressText variable (raisedBelow (now (raised .entry)) scopes) amount bound)) × (now (out .exit) ≡ overwritten (pressText variable (raisedBelow (now (raised .entry)) scopes) amount bound) (now (out .entry))) ⌝ }
+    requires { ⌜ (scopes ≤ length (now raised)) × (scopes < 10 ^ 4) × (variable < 10 ^ 4) × (lineLength width * (length (raisedBelow (now raised) scopes) + 2) ≤ length (now out)) ⌝ }
+    requires { ⌜ T (not (lineOut width (pressLine variable (length (raisedBelow (now raised) scopes)) amount))) × T (not (lineOut width (boundLine bound))) ⌝ }
+    ensures { λ r. ⌜ (r ≡ length (pressText width variable (raisedBelow (now (raised .entry)) scopes) amount bound)) × (now (out .exit) ≡ overwritten (pressText width variable (raisedBelow (now (raised .entry)) scopes) amount bound) (now (out .entry))) ⌝ }
 {
     let count = count_raised(raised, scopes);
-    let first = put_line(out, 0, press_line(variable, count, amount));
-    let next = put_raises(out, first, raised, scopes);
-    put_line(out, next, bound_line(bound))
+    let first = put_line(out, 0, press_line(variable, count, amount), width);
+    let next = put_raises(out, first, raised, scopes, width);
+    put_line(out, next, bound_line(bound), width)
 }
 
 // ---- the amount, scope by scope
 
 fn first_place(case: Case, x: usize) -> usize
-    requires { ⌜ Limited standard case × (x < scopeCount case) ⌝ }
+    requires { ⌜ Limited case × (x < scopeCount case) ⌝ }
     ensures { λ r. ⌜ r ≡ place case x 0 0 ⌝ }
 {
     if x < case.n {
@@ -731,7 +746,7 @@ fn first_place(case: Case, x: usize) -> usize
 }
 
 fn size_of(case: Case, x: usize) -> usize
-    requires { ⌜ Limited standard case ⌝ }
+    requires { ⌜ Limited case ⌝ }
     ensures { λ r. ⌜ r ≡ sizeOf case x ⌝ }
 {
     if x < case.n {
@@ -741,7 +756,7 @@ fn size_of(case: Case, x: usize) -> usize
 }
 
 fn scope_gap(case: Case, table: &[i64], x: usize, best: i64, least: i64) -> i64
-    requires { ⌜ Handed standard (workingWeight standard) case (now table) ⌝ }
+    requires { ⌜ Handed (rulesOf case) (workingWeight (rulesOf case)) case (now table) ⌝ }
     requires { ⌜ (x < scopeCount case) × (best ≡ greatest case (now table) x) ⌝ }
     ensures { λ r. ⌜ r ≡ lessGaps (greatest case (now (table .entry)) x) (eachTuple case x (weight case (now (table .entry)) x)) least ⌝ }
 {
@@ -760,7 +775,7 @@ fn limited_gap(
     x: usize,
     least: i64,
 ) -> i64
-    requires { ⌜ Handed standard (workingWeight standard) case (now table) ⌝ }
+    requires { ⌜ Handed (rulesOf case) (workingWeight (rulesOf case)) case (now table) ⌝ }
     requires { ⌜ BestOf case (now table) (now best) ⌝ }
     requires { ⌜ (scopeCount case ≤ length (now raised)) × (x < scopeCount case) ⌝ }
     ensures { λ r. ⌜ r ≡ (if limits (now (raised .entry)) variable x then lessGaps (greatest case (now (table .entry)) x) (eachTuple case x (weight case (now (table .entry)) x)) least else least) ⌝ }
@@ -775,7 +790,7 @@ fn limited_gap(
 }
 
 fn least_gap(case: Case, table: &[i64], best: &[i64], raised: &[u8], variable: usize) -> i64
-    requires { ⌜ Handed standard (workingWeight standard) case (now table) ⌝ }
+    requires { ⌜ Handed (rulesOf case) (workingWeight (rulesOf case)) case (now table) ⌝ }
     requires { ⌜ BestOf case (now table) (now best) ⌝ }
     requires { ⌜ scopeCount case ≤ length (now raised) ⌝ }
     requires { ⌜ (chosen case (now table) ≡ some variable) × (raisedBelow (now raised) (scopeCount case) ≡ keptScopes case (now table) variable) ⌝ }
@@ -795,7 +810,7 @@ fn least_gap(case: Case, table: &[i64], best: &[i64], raised: &[u8], variable: u
 
 // What is prepared of a table, and each scope's greatest weight.
 fn prepare(case: Case, table: &[i64], acts: &mut [u8], rows: &mut [u8], best: &mut [i64])
-    requires { ⌜ Handed standard (workingWeight standard) case (now table) ⌝ }
+    requires { ⌜ Handed (rulesOf case) (workingWeight (rulesOf case)) case (now table) ⌝ }
     requires { ⌜ (case .n ≤ length (now acts)) × (16 * case .m ≤ length (now rows)) × (scopeCount case ≤ length (now best)) ⌝ }
     ensures { λ _. ⌜ Prepared case (now (table .entry)) (now (acts .exit)) (now (rows .exit)) × BestOf case (now (table .entry)) (now (best .exit)) ⌝ }
 {
@@ -811,12 +826,19 @@ fn press(
     variable: usize,
     amount: i64,
 ) -> Outcome
-    requires { ⌜ Handed standard (workingWeight standard) case (now table) ⌝ }
+    requires { ⌜ Handed (rulesOf case) (workingWeight (rulesOf case)) case (now table) ⌝ }
     requires { ⌜ BestOf case (now table) (now best) ⌝ }
-    requires { ⌜ (scopeCount case ≤ length (now raised)) × (variable < case .n) × T (pressAmount standard amount) ⌝ }
+    requires { ⌜ (scopeCount case ≤ length (now raised)) × (variable < case .n) × T (pressAmount (rulesOf case) amount) ⌝ }
     ensures { λ r. ⌜ Pressed case variable (now (raised .entry)) amount (now (table .entry)) (now (table .exit)) (now (best .exit)) r ⌝ }
 {
     changes::lower_and_raise(case, table, best, raised, variable, amount)
+}
+
+fn amount_width(case: Case) -> usize
+    ensures { λ r. ⌜ r ≡ rulesOf case .amountWidth ⌝ }
+{
+    let rulebook = case.rulebook;
+    rules::amount_width(rulebook)
 }
 
 // The press of the chosen variable, and its lines.
@@ -828,9 +850,9 @@ fn press_round(
     raised: &[u8],
     variable: usize,
 ) -> Round
-    requires { ⌜ Handed standard (workingWeight standard) case (now table) ⌝ }
+    requires { ⌜ Handed (rulesOf case) (workingWeight (rulesOf case)) case (now table) ⌝ }
     requires { ⌜ BestOf case (now table) (now best) ⌝ }
-    requires { ⌜ (scopeCount case ≤ length (now raised)) × (roundBytes standard case ≤ length (now out)) ⌝ }
+    requires { ⌜ (scopeCount case ≤ length (now raised)) × (roundBytes (rulesOf case) case ≤ length (now out)) ⌝ }
     requires { ⌜ (chosen case (now table) ≡ some variable) × (raisedBelow (now raised) (scopeCount case) ≡ keptScopes case (now table) variable) ⌝ }
     ensures { λ r. ⌜ MadeRound case (now (table .entry)) (now (out .entry)) (now (table .exit)) (now (out .exit)) r × BestOf case (now (table .exit)) (now (best .exit)) ⌝ }
 {
@@ -844,7 +866,8 @@ fn press_round(
             match sum {
                 Figure::Refused(refusal) => Round::Refused(refusal),
                 Figure::Value(bound) => {
-                    let bytes = write_round(out, raised, scopes, variable, amount, bound);
+                    let width = amount_width(case);
+                    let bytes = write_round(out, raised, scopes, variable, amount, bound, width);
                     Round::Made { bytes, bound }
                 }
             }
@@ -854,7 +877,7 @@ fn press_round(
 
 // The variable to press, and the scopes to raise.
 fn search(case: Case, acts: &[u8], rows: &[u8], raised: &mut [u8]) -> Chosen
-    requires { ⌜ (scopeCount case ≤ length (now raised)) × (case .n ≤ length (now acts)) × (case .n ≤ 48) × (case .d ≤ 8) × (case .m ≤ 96) ⌝ }
+    requires { ⌜ (scopeCount case ≤ length (now raised)) × (case .n ≤ length (now acts)) × (case .n ≤ variablePlaces) × (case .d ≤ 8) × (case .m ≤ edgePlaces) ⌝ }
     ensures { λ r. ⌜ ((w : List ℤ) → Prepared case w (now (acts .entry)) (now (rows .entry)) → AllRaised case (now (raised .entry)) → FoundIs case w (now (raised .exit)) r) ⌝ }
 {
     let found = choose(case, acts, rows, raised);
@@ -869,14 +892,14 @@ fn search(case: Case, acts: &[u8], rows: &[u8], raised: &mut [u8]) -> Chosen
 
 // One round on a case and a table that were checked before.
 fn round_checked(case: Case, table: &mut [i64], out: &mut [u8]) -> Round
-    requires { ⌜ Handed standard (workingWeight standard) case (now table) ⌝ }
-    requires { ⌜ roundBytes standard case ≤ length (now out) ⌝ }
+    requires { ⌜ Handed (rulesOf case) (workingWeight (rulesOf case)) case (now table) ⌝ }
+    requires { ⌜ roundBytes (rulesOf case) case ≤ length (now out) ⌝ }
     ensures { λ r. ⌜ MadeRound case (now (table .entry)) (now (out .entry)) (now (table .exit)) (now (out .exit)) r ⌝ }
 {
-    let mut acts = [0u8; 48];
-    let mut rows = [0u8; 1536];
-    let mut best = [0i64; 144];
-    let mut raised = [1u8; 144];
+    let mut acts = [0u8; VARIABLE_PLACES];
+    let mut rows = [0u8; ROW_PLACES];
+    let mut best = [0i64; SCOPE_PLACES];
+    let mut raised = [1u8; SCOPE_PLACES];
     prepare(case, table, &mut acts, &mut rows, &mut best);
     let found = search(case, &acts, &rows, &mut raised);
     match found {
@@ -889,13 +912,13 @@ fn round_checked(case: Case, table: &mut [i64], out: &mut [u8]) -> Round
 
 // What a run answers that may make no more rounds.
 fn at_limit(case: Case, table: &[i64]) -> RunAnswer
-    requires { ⌜ Handed standard (workingWeight standard) case (now table) ⌝ }
+    requires { ⌜ Handed (rulesOf case) (workingWeight (rulesOf case)) case (now table) ⌝ }
     ensures { λ r. ⌜ r ≡ limitAnswer (chosen case (now (table .entry))) ⌝ }
 {
-    let mut acts = [0u8; 48];
-    let mut rows = [0u8; 1536];
-    let mut best = [0i64; 144];
-    let raised = [1u8; 144];
+    let mut acts = [0u8; VARIABLE_PLACES];
+    let mut rows = [0u8; ROW_PLACES];
+    let mut best = [0i64; SCOPE_PLACES];
+    let raised = [1u8; SCOPE_PLACES];
     prepare(case, table, &mut acts, &mut rows, &mut best);
     let found = choose(case, &acts, &rows, &raised);
     match found {
@@ -905,7 +928,7 @@ fn at_limit(case: Case, table: &[i64]) -> RunAnswer
 }
 
 fn stop_run(case: Case, table: &[i64], answer: RunAnswer, rounds: u64) -> Run
-    requires { ⌜ Handed standard (workingWeight standard) case (now table) ⌝ }
+    requires { ⌜ Handed (rulesOf case) (workingWeight (rulesOf case)) case (now table) ⌝ }
     ensures { λ r. ⌜ r ≡ stoppedRun case (now (table .entry)) answer rounds ⌝ }
 {
     let sum = tables::sum_of_greatest(case, table);
@@ -924,8 +947,8 @@ fn stop_run(case: Case, table: &[i64], answer: RunAnswer, rounds: u64) -> Run
 }
 
 fn run_checked(case: Case, table: &mut [i64], out: &mut [u8], limit: u64) -> Run
-    requires { ⌜ Handed standard (workingWeight standard) case (now table) ⌝ }
-    requires { ⌜ roundBytes standard case ≤ length (now out) ⌝ }
+    requires { ⌜ Handed (rulesOf case) (workingWeight (rulesOf case)) case (now table) ⌝ }
+    requires { ⌜ roundBytes (rulesOf case) case ≤ length (now out) ⌝ }
     ensures { λ r. ⌜ RunIs case limit (now (table .entry)) (now (out .entry)) (now (table .exit)) (now (out .exit)) r ⌝ }
 {
     let mut done: u64 = 0;
@@ -946,10 +969,11 @@ fn run_checked(case: Case, table: &mut [i64], out: &mut [u8], limit: u64) -> Run
 
 // An output is too short for a round.
 fn too_short(case: Case, length: usize) -> bool
-    requires { ⌜ Limited standard case ⌝ }
-    ensures { λ r. ⌜ r ≡ ltb length (roundBytes standard case) ⌝ }
+    requires { ⌜ Limited case ⌝ }
+    ensures { λ r. ⌜ r ≡ ltb length (roundBytes (rulesOf case) case) ⌝ }
 {
-    length < LINE * (case.n + case.m + 1)
+    let rulebook = case.rulebook;
+    length < rules::line_length(rulebook) * (case.n + case.m + 1)
 }
 
 fn check_engine(case: Case, table: &[i64], length: usize) -> Outcome
@@ -965,7 +989,7 @@ fn check_engine(case: Case, table: &[i64], length: usize) -> Outcome
 
 // One round: its lines from the output's first byte. Settled or refused, table and output keep what they held.
 pub fn round(case: Case, table: &mut [i64], out: &mut [u8]) -> Round
-    ensures { λ r. ⌜ (r ≡ roundCall standard engineNext case (now (table .entry)) (now (out .entry)) .answer) × (now (table .exit) ≡ roundCall standard engineNext case (now (table .entry)) (now (out .entry)) .table) × (now (out .exit) ≡ roundCall standard engineNext case (now (table .entry)) (now (out .entry)) .out) ⌝ }
+    ensures { λ r. ⌜ (r ≡ roundCall (rulesOf case) engineNext case (now (table .entry)) (now (out .entry)) .answer) × (now (table .exit) ≡ roundCall (rulesOf case) engineNext case (now (table .entry)) (now (out .entry)) .table) × (now (out .exit) ≡ roundCall (rulesOf case) engineNext case (now (table .entry)) (now (out .entry)) .out) ⌝ }
 {
     let checked = check_engine(case, table, out.len());
     match checked {
@@ -976,7 +1000,7 @@ pub fn round(case: Case, table: &mut [i64], out: &mut [u8]) -> Round
 
 // Rounds one after another, at most `limit`.
 pub fn run(case: Case, table: &mut [i64], out: &mut [u8], limit: u64) -> Run
-    ensures { λ r. ⌜ (r ≡ runCall standard engineNext case limit (now (table .entry)) (now (out .entry)) .run) × (now (table .exit) ≡ runCall standard engineNext case limit (now (table .entry)) (now (out .entry)) .table) × (now (out .exit) ≡ runCall standard engineNext case limit (now (table .entry)) (now (out .entry)) .out) ⌝ }
+    ensures { λ r. ⌜ (r ≡ runCall (rulesOf case) engineNext case limit (now (table .entry)) (now (out .entry)) .run) × (now (table .exit) ≡ runCall (rulesOf case) engineNext case limit (now (table .entry)) (now (out .entry)) .table) × (now (out .exit) ≡ runCall (rulesOf case) engineNext case limit (now (table .entry)) (now (out .entry)) .out) ⌝ }
 {
     let checked = check_engine(case, table, out.len());
     match checked {

@@ -6,7 +6,7 @@ use definitions::Run;
 use definitions::RunAnswer;
 use encoding::CaseArray;
 ghost use mathlib.Core.Path.{_≡_};
-ghost use Rattle.definitions.specs.Rules.{standard};
+ghost use Rattle.definitions.specs.Rules.{rulesOf};
 ghost use Rattle.definitions.specs.Refusals.{number};
 ghost use Rattle.definitions.specs.Answers.{roundSays, runSays, countAt};
 ghost use Rattle.definitions.specs.Engine.{engineNext};
@@ -112,7 +112,7 @@ pub extern "C" fn ceiling_engine_version() -> u64
 // One round: its lines from the output's first byte.
 #[no_mangle]
 pub extern "C" fn ceiling_round(case: &CaseArray, table: &mut [i64], out: &mut [u8]) -> CeilingRound
-    ensures { λ r. ⌜ (r ≡ roundOf (roundSays (roundCall standard engineNext (caseOf (now (case .entry))) (now (table .entry)) (now (out .entry)) .answer))) × (now (table .exit) ≡ roundCall standard engineNext (caseOf (now (case .entry))) (now (table .entry)) (now (out .entry)) .table) × (now (out .exit) ≡ roundCall standard engineNext (caseOf (now (case .entry))) (now (table .entry)) (now (out .entry)) .out) ⌝ }
+    ensures { λ r. ⌜ (r ≡ roundOf (roundSays (roundCall (rulesOf (caseOf (now (case .entry)))) engineNext (caseOf (now (case .entry))) (now (table .entry)) (now (out .entry)) .answer))) × (now (table .exit) ≡ roundCall (rulesOf (caseOf (now (case .entry)))) engineNext (caseOf (now (case .entry))) (now (table .entry)) (now (out .entry)) .table) × (now (out .exit) ≡ roundCall (rulesOf (caseOf (now (case .entry)))) engineNext (caseOf (now (case .entry))) (now (table .entry)) (now (out .entry)) .out) ⌝ }
 {
     round_of(engine::round(encoding::case_of(case), table, out))
 }
@@ -125,7 +125,7 @@ pub extern "C" fn ceiling_run(
     out: &mut [u8],
     limit: u64,
 ) -> CeilingRun
-    ensures { λ r. ⌜ (r ≡ runOf (runCall standard engineNext (caseOf (now (case .entry))) limit (now (table .entry)) (now (out .entry)) .run)) × (now (table .exit) ≡ runCall standard engineNext (caseOf (now (case .entry))) limit (now (table .entry)) (now (out .entry)) .table) × (now (out .exit) ≡ runCall standard engineNext (caseOf (now (case .entry))) limit (now (table .entry)) (now (out .entry)) .out) ⌝ }
+    ensures { λ r. ⌜ (r ≡ runOf (runCall (rulesOf (caseOf (now (case .entry)))) engineNext (caseOf (now (case .entry))) limit (now (table .entry)) (now (out .entry)) .run)) × (now (table .exit) ≡ runCall (rulesOf (caseOf (now (case .entry)))) engineNext (caseOf (now (case .entry))) limit (now (table .entry)) (now (out .entry)) .table) × (now (out .exit) ≡ runCall (rulesOf (caseOf (now (case .entry)))) engineNext (caseOf (now (case .entry))) limit (now (table .entry)) (now (out .entry)) .out) ⌝ }
 {
     run_of(engine::run(encoding::case_of(case), table, out, limit))
 }

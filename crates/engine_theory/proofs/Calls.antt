@@ -47,7 +47,7 @@ not-leaving (t ∷ ts) h {x} e = go (t .applies) (and-left (not (isLeaving (t .r
     go true h rest e = subst (λ (y : Refusal). T (not (isLeaving y))) (some-inj e) h
     go false h rest e = rest e
 
-module _ (r : Rules) (next : Case → List ℤ → Next) (c : Case) (w : List ℤ) (out : List ℕ) where
+module _ (r : Rules) (next : Rules → Case → List ℤ → Next) (c : Case) (w : List ℤ) (out : List ℕ) where
   -- what a call asks before its first round
   pub taken-iff : engineRefusal r next c w out ≡ none ↔ Handed r (workingWeight r) c w × (roundBytes r c ≤ length out)
   taken-iff =
@@ -57,7 +57,7 @@ module _ (r : Rules) (next : Case → List ℤ → Next) (c : Case) (w : List �
         λ (p, q). n .0 (h .1 (p, simp tests (omega arith), tt)),
       )
 
-  pub call-taken : engineRefusal r next c w out ≡ none → roundCall r next c w out ≡ roundMade r next c w out (makeNext r c w (next c w))
+  pub call-taken : engineRefusal r next c w out ≡ none → roundCall r next c w out ≡ roundMade r next c w out (makeNext r c w (next r c w))
   unfolding roundCall
   call-taken e = rw (e, roundCall)
 
@@ -75,7 +75,7 @@ module _ (r : Rules) (next : Case → List ℤ → Next) (c : Case) (w : List �
       keeps (made v lines) e = absurd (unmade _ _ (ap (λ (u : RoundCall). u .answer) e))
 
       asked : (o : Option Refusal) → engineRefusal r next c w out ≡ o → (roundCall r next c w out .table ≡ w) × (roundCall r next c w out .out ≡ out)
-      asked none e = keeps (makeNext r c w (next c w)) (call-taken e)
+      asked none e = keeps (makeNext r c w (next r c w)) (call-taken e)
       asked (some x) e = keeps (refused x) (call-refused e)
 
   -- refused before its first round, a run is refused so, with no rounds
@@ -88,7 +88,7 @@ module _ (r : Rules) (next : Case → List ℤ → Next) (c : Case) (w : List �
 
 -- ---- a run is the iteration of the round's call, for every table and every output
 
-module _ (r : Rules) (next : Case → List ℤ → Next) (c : Case) where
+module _ (r : Rules) (next : Rules → Case → List ℤ → Next) (c : Case) where
   stop-preceded : (answer : RunAnswer) (done : ℕ) (w : List ℤ) (out log : List ℕ) → stopRun r next c answer done w out log ≡ preceded done log (stopRun r next c answer 0 w out [])
   stop-preceded answer done w out log = ap₂ (λ (n : ℕ) (l : List ℕ). stopRun r next c answer n w out l) (omega arith) (sym (append-nil log))
 
@@ -146,13 +146,13 @@ drop-written : (n : ℕ) (bytes out : List ℕ) → length bytes ≤ n → drop 
 drop-written n bytes out h = let k = n - length bytes in let e : length bytes + k ≡ n = omega arith in
     ap (λ (m : ℕ). drop m (overwritten bytes out)) (sym e) ∙ drop-append-add bytes (drop (length bytes) out) k ∙ drop-drop k (length bytes) out ∙ ap (λ (m : ℕ). drop m out) e
 
-module _ (r : Rules) (next : Case → List ℤ → Next) (c : Case) where
+module _ (r : Rules) (next : Rules → Case → List ℤ → Next) (c : Case) where
   abbrev TextsOf : RunOf → ℕ → List (List ℕ) → List (List (List ℕ)) → Type 0
   TextsOf q done log texts = (q .log ≡ log ++ joined texts) × (q .rounds ≡ done + length texts)
 
   texts-from : (left done : ℕ) (w : List ℤ) (log : List (List ℕ)) → TextsOf (runFrom r next c left done w log) done log (roundTexts r next c left w)
   texts-from zero done w log = (sym (append-nil log), omega arith)
-  texts-from (suc left) done w log = go (makeNext r c w (next c w)) (λ v l. texts-from left (suc done) v l)
+  texts-from (suc left) done w log = go (makeNext r c w (next r c w)) (λ v l. texts-from left (suc done) v l)
     where
       go : (m : Made) → ((v : List ℤ) (l : List (List ℕ)) → TextsOf (runFrom r next c left (suc done) v l) (suc done) l (roundTexts r next c left v))
           → TextsOf (onward m done w log (λ v lines. runFrom r next c left (suc done) v lines)) done log (textsOf m (λ v. roundTexts r next c left v))
@@ -179,7 +179,7 @@ pub record SameRun (r : Rules) (c : Case) (q : RunOf) (texts : List (List (List 
   -- behind what one round may need
   pub out-rest : drop (roundBytes r c) (u .out) ≡ drop (roundBytes r c) lent
 
-module _ {r : Rules} {next : Case → List ℤ → Next} {c : Case} (coherent : Coherent r) (lawful : Lawful r next c) where
+module _ {r : Rules} {next : Rules → Case → List ℤ → Next} {c : Case} (coherent : Coherent r) (lawful : Lawful r next c) where
   module _ {w v : List ℤ} {moves : List Move} (m : RoundFrom r next c w moves v) where
     -- a round's lines fit an output that number 4 lets through
     pub round-short : length (joined (roundText r c moves v)) ≤ roundBytes r c
@@ -187,9 +187,9 @@ module _ {r : Rules} {next : Case → List ℤ → Next} {c : Case} (coherent : 
         rw (
           length-joined (lineLength (r .amountWidth)) (roundText r c moves v) (round-whole coherent lawful m),
           length-map (roundLines c moves v) (lineText (r .amountWidth)),
-          mul-comm (lineLength (r .amountWidth)) (scopeCount c + 1),
+          mul-comm (length (roundLines c moves v)) (lineLength (r .amountWidth)),
         )
-        (mul-le-mul-right (lineLength (r .amountWidth)) (lawful .short m))
+        (lawful .short m)
 
     kept-length : (out : List ℕ) → roundBytes r c ≤ length out → length (overwritten (joined (roundText r c moves v)) out) ≡ length out
     kept-length out h = simp (length-append, length-drop) (omega (arith, round-short))
@@ -201,8 +201,8 @@ module _ {r : Rules} {next : Case → List ℤ → Next} {c : Case} (coherent : 
   calls-from : (left done : ℕ) (w : List ℤ) (out : List ℕ) (log : List (List ℕ)) → Handed r (workingWeight r) c w → roundBytes r c ≤ length out
       → SameRun r c (runFrom r next c left done w log) (roundTexts r next c left w) out (runCallFrom r next c left done w out (joined log))
   calls-from zero done w out log h long =
-      subst (λ (u : RoundCall). SameRun r c (stopped (atLimit (next c w)) done w log) [] out (stopRun r next c (answerAtLimit (u .answer)) done w out (joined log)))
-      (sym (call-taken r next c w out (taken-iff r next c w out .1 (h, long)))) (go (next c w))
+      subst (λ (u : RoundCall). SameRun r c (stopped (atLimit (next r c w)) done w log) [] out (stopRun r next c (answerAtLimit (u .answer)) done w out (joined log)))
+      (sym (call-taken r next c w out (taken-iff r next c w out .1 (h, long)))) (go (next r c w))
     where
       go : (n : Next) → SameRun r c (stopped (atLimit n) done w log) [] out (stopRun r next c (answerAtLimit (roundMade r next c w out (makeNext r c w n) .answer)) done w out (joined log))
       go nothing = stops RunAnswer.Settled done w out log refl
@@ -213,7 +213,7 @@ module _ {r : Rules} {next : Case → List ℤ → Next} {c : Case} (coherent : 
           leads (some v) = stops RunAnswer.Limit done w out log refl
   calls-from (suc left) done w out log h long =
       subst (λ (u : RoundCall). SameRun r c (runFrom r next c (suc left) done w log) (roundTexts r next c (suc left) w) out (goOn r next c (u .answer) u done w out (joined log) rest))
-      (sym (call-taken r next c w out (taken-iff r next c w out .1 (h, long)))) (go (next c w) refl (λ v out log. calls-from left (suc done) v out log))
+      (sym (call-taken r next c w out (taken-iff r next c w out .1 (h, long)))) (go (next r c w) refl (λ v out log. calls-from left (suc done) v out log))
     where
       rest : List ℤ → List ℕ → List ℕ → RunCall
       rest v bytes log = runCallFrom r next c left (suc done) v bytes log
@@ -221,7 +221,7 @@ module _ {r : Rules} {next : Case → List ℤ → Next} {c : Case} (coherent : 
       Same : Made → RunCall → Type 0
       Same m u = SameRun r c (onward m done w log (λ v lines. runFrom r next c left (suc done) v lines)) (textsOf m (λ v. roundTexts r next c left v)) out u
 
-      go : (n : Next) → next c w ≡ n → ((v : List ℤ) (out : List ℕ) (log : List (List ℕ)) → Handed r (workingWeight r) c v → roundBytes r c ≤ length out
+      go : (n : Next) → next r c w ≡ n → ((v : List ℤ) (out : List ℕ) (log : List (List ℕ)) → Handed r (workingWeight r) c v → roundBytes r c ≤ length out
           → SameRun r c (runFrom r next c left (suc done) v log) (roundTexts r next c left v) out (runCallFrom r next c left (suc done) v out (joined log)))
           → Same (makeNext r c w n) (goOn r next c (roundMade r next c w out (makeNext r c w n) .answer) (roundMade r next c w out (makeNext r c w n)) done w out (joined log) rest)
       go nothing e on = stops RunAnswer.Settled done w out log refl

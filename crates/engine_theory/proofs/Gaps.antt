@@ -113,18 +113,18 @@ module _ (c : Case) (w : List ℤ) {i : ℕ} (shape : Shape c) (which : chosen c
 
 -- ---- the engine's next round
 
-module _ (c : Case) (w : List ℤ) where
-  pub next-press : {i : ℕ} {a : ℤ} → chosen c w ≡ some i → leastGap c w i ≡ some a → engineNext c w ≡ round (press i (keptScopes c w i) a ∷ [])
+module _ (r : Rules) (c : Case) (w : List ℤ) where
+  pub next-press : {i : ℕ} {a : ℤ} → chosen c w ≡ some i → leastGap c w i ≡ some a → engineNext r c w ≡ round (press i (keptScopes c w i) a ∷ [])
   next-press {i} e g = ap (pressNext c w) e ∙ ap (pressRound c w i) g
 
-  pub next-nothing : Shape c → engineNext c w ≡ nothing ↔ chosen c w ≡ none
+  pub next-nothing : Shape c → engineNext r c w ≡ nothing ↔ chosen c w ≡ none
   next-nothing shape = (go (chosen c w) refl, ap (pressNext c w))
     where
-      go : (o : Option ℕ) → chosen c w ≡ o → engineNext c w ≡ nothing → o ≡ none
+      go : (o : Option ℕ) → chosen c w ≡ o → engineNext r c w ≡ nothing → o ≡ none
       go none e d = refl
       go (some i) e d = let (a, g) = amount c w shape e in let f = next-press e g in let z : _≡_ {A = ℕ} 0 1 = cc in absurd (omega arith)
 
-  pub next-round : {moves : List Move} → engineNext c w ≡ round moves → (i : ℕ) × (a : ℤ) × (chosen c w ≡ some i) × (leastGap c w i ≡ some a) × (moves ≡ press i (keptScopes c w i) a ∷ [])
+  pub next-round : {moves : List Move} → engineNext r c w ≡ round moves → (i : ℕ) × (a : ℤ) × (chosen c w ≡ some i) × (leastGap c w i ≡ some a) × (moves ≡ press i (keptScopes c w i) a ∷ [])
   next-round {moves} d = go (chosen c w) refl d
     where
       Pressed : Type 0

@@ -21,6 +21,7 @@ use Rattle.integers.specs.Tables.{length-tab}
 use Rattle.integers.specs.Sums.{only, Σ-most, Σ-least}
 use Rattle.definitions.specs.declared.Case.{Case}
 use Rattle.definitions.specs.Rules.{Rules, Coherent, scopesAtMost}
+use Rattle.definitions.proofs.RulesLaws.{fits}
 use Rattle.definitions.specs.Case.{scopeCount, ownLength, weight, isAssignment, atUsed, objective, greatest, upperBound}
 use Rattle.definitions.specs.Valid.{workingWeight, allWeights}
 use Rattle.definitions.specs.Moves.{Move, leavesRange, difference, press}
@@ -29,7 +30,7 @@ use Rattle.theory.proofs.Shape.{Shape}
 use Rattle.theory.proofs.Places.{IsTuple, first-tuple, all-weights, plus-length, weight-most, greatest-within}
 use Rattle.theory.proofs.Totals.{at-used-holds, bound-above}
 use Rattle.theory.proofs.Presses.{press-moves}
-use Rattle.theory.proofs.Validity.{Valid, starting-working}
+use Rattle.theory.proofs.Validity.{Valid}
 use Rattle.engine_theory.proofs.Trim.{chosen-some, kept-refuted}
 use Rattle.engine_theory.proofs.Gaps.{amount-some, next-round}
 use Rattle.engine_theory.proofs.Fall.{enginePressed, only-within, pressed-weight, no-rise, fall}
@@ -124,7 +125,7 @@ module _ {r : Rules} {c : Case} {w₀ : List ℤ} (coherent : Coherent r) (valid
   reached-working {w} h =
       let m : (2 * scopeCount c + 1) * r .starting ≤ (2 * scopesAtMost r + 1) * r .starting = mul-le-mul-right (r .starting) (omega arith) in
       let o : (2 * scopesAtMost r + 1) * r .starting ≤ r .working = coherent .room in
-      let q : r .starting ≤ r .working = starting-working coherent in
+      let q : r .starting ≤ r .working = fits coherent .starting in
       all-weights c (workingWeight r) w (omega (arith, reached-length shape (omega arith) h)) .1 (λ x k l t. reached-weight h t ▸ simp flat (omega zs))
 
   -- number 11 never meets the next engine press
@@ -132,10 +133,10 @@ module _ {r : Rules} {c : Case} {w₀ : List ℤ} (coherent : Coherent r) (valid
   never-leaves {w} {i} {a} h e g = ap not (is-true (allWeights (workingWeight r) c (enginePressed c w i a)) (reached-working (pressed h e g)))
 
   -- so the engine's round is made, and the upper bound is lower after it
-  pub next-made : {w : List ℤ} {moves : List Move} → Reached c w₀ w → engineNext c w ≡ round moves
+  pub next-made : {w : List ℤ} {moves : List Move} → Reached c w₀ w → engineNext r c w ≡ round moves
       → (v : List ℤ) × (afterMoves r c moves w ≡ some v) × Reached c w₀ v × (upperBound c v <ℤ upperBound c w)
   next-made {w} h d =
-      let (i, a, e, g, q) = next-round c w d in
+      let (i, a, e, g, q) = next-round r c w d in
       let v : List ℤ = enginePressed c w i a in (
         v,
         ap (λ l. afterMoves r c l w) q ∙ if-false none (some v) (leavesRange r c v) (false-is (leavesRange r c v) (never-leaves h e g)),

@@ -14,6 +14,7 @@ use Rattle.integers.specs.Lists.{_∈_, those-same, map-cong}
 use Rattle.definitions.specs.declared.Case.{Case}
 use Rattle.definitions.specs.Case.{ownLength, scopeCount}
 use Rattle.definitions.specs.Moves.{activeRefuted}
+use Rattle.definitions.specs.Rules.{Rules}
 use Rattle.definitions.specs.Engine.{Settled, others, chosen, trimmed, keptScopes, gap, gapAbove, leastGap, engineNext, pressNext, pressRound}
 use Rattle.definitions.proofs.CaseLaws.{eachTuple-same, weight-same, greatest-same, active-same}
 use Rattle.theory.proofs.Shape.{Shape}
@@ -51,8 +52,8 @@ module _ (c : Case) (w u : List ℤ) (own : (p : ℕ) → p < ownLength c → ge
   leastGap-same i h = ap (λ (l : List (List ℤ)). leastOf (joined l))
       (map-cong (i ∷ keptScopes c w i) (λ x m. gap-same x (own-or-kept i h m)) ∙ ap (λ (l : List ℕ). map (gap c u) (i ∷ l)) (kept-same i h))
 
-  pub engineNext-same : engineNext c w ≡ engineNext c u
-  engineNext-same = go (chosen c w) refl ∙ ap (pressNext c u) chosen-same
+  pub engineNext-same : (r : Rules) → engineNext r c w ≡ engineNext r c u
+  engineNext-same r = go (chosen c w) refl ∙ ap (pressNext c u) chosen-same
     where
       go : (o : Option ℕ) → chosen c w ≡ o → pressNext c w o ≡ pressNext c u o
       go none e = refl

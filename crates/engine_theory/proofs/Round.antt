@@ -76,12 +76,12 @@ refusalOf (Round.Refused x) = x
 
 module _ (r : Rules) (c : Case) (w : List ℤ) (out : List ℕ) (h : Handed r (workingWeight r) c w) (long : roundBytes r c ≤ length out) where
   pub round-is : RoundIs r c w out (roundCall r engineNext c w out)
-  round-is = subst (RoundIs r c w out) (sym (call-taken r engineNext c w out (taken-iff r engineNext c w out .1 (h, long)))) (go (engineNext c w) refl)
+  round-is = subst (RoundIs r c w out) (sym (call-taken r engineNext c w out (taken-iff r engineNext c w out .1 (h, long)))) (go (engineNext r c w) refl)
     where
-      go : (n : Next) → engineNext c w ≡ n → RoundIs r c w out (roundMade r engineNext c w out (makeNext r c w n))
-      go nothing e = settles (engine-settled c (h .shape) w .0 e)
+      go : (n : Next) → engineNext r c w ≡ n → RoundIs r c w out (roundMade r engineNext c w out (makeNext r c w n))
+      go nothing e = settles (engine-settled r c (h .shape) w .0 e)
       go (round moves) e =
-          let (i, a, f, g, q) = next-round c w e in
+          let (i, a, f, g, q) = next-round r c w e in
           subst (λ (m : List Move). RoundIs r c w out (roundMade r engineNext c w out (makeNext r c w (round m)))) (sym q)
           (if-cases (λ o. RoundIs r c w out (roundMade r engineNext c w out (madeOf r c (press i (keptScopes c w i) a ∷ []) o))) (leavesRange r c (enginePressed c w i a)) none (some (enginePressed c w i a))
           (λ t. leaves f g t)

@@ -9,7 +9,7 @@ use mathlib.Core.Logic.{_↔_, Iff·trans, _⊎_, inl, inr, ⊎-elim}
 use mathlib.Core.Option.{Option, none, some}
 use mathlib.Core.List.{List, [], _∷_, _++_, map, List·Memᴰ·append-cases, List·Memᴰ·not-nil, Memᴰ·of-map}
 use Prim.Native.Nat.{ℕ, zero, suc, _+_, _*_, _≤_, _<_}
-use native.Mathlib.Nat.{mul-le-mul-right}
+use native.Mathlib.Nat.{mul-le-mul-left, mul-le-mul-right}
 use native.Mathlib.Omega.{arith}
 use lib.IntN.{ℤ, pos, _+ℤ_}
 use lib.Dec.{T}
@@ -31,7 +31,7 @@ use Rattle.definitions.specs.Valid.{workingWeight, valid}
 use Rattle.definitions.specs.Moves.{Move, shift, press, leavesRange}
 use Rattle.definitions.specs.Lines.{lineText, lineLength, lineTooWide, readLine, isKind}
 use Rattle.definitions.specs.Replay.{State, fresh, after, answers, atEnd}
-use Rattle.definitions.specs.Engine.{Settled, chosen, leastGap, Next, nothing, round, keptScopes, engineNext, raiseLine, moveLines, boundLine, afterMoves, roundLines, roundText, madeOf, makeNext, RunOf, stopped, atLimit, onward, runFrom, run}
+use Rattle.definitions.specs.Engine.{Settled, chosen, leastGap, Next, nothing, round, keptScopes, engineNext, raiseLine, moveLines, boundLine, afterMoves, roundLines, roundText, roundBytes, madeOf, makeNext, RunOf, stopped, atLimit, onward, runFrom, run}
 use Rattle.definitions.proofs.LineLaws.{line-read, line-length}
 use Rattle.engine_theory.specs.Runs.{isBound, boundLines}
 use Rattle.theory.proofs.Shape.{Shape}
@@ -48,12 +48,12 @@ differ e = absurd (omega arith)
 
 -- ---- how a run ends, from any table
 
-module _ (r : Rules) (next : Case → List ℤ → Next) (c : Case) where
+module _ (r : Rules) (next : Rules → Case → List ℤ → Next) (c : Case) where
   -- with weights w after so many rounds, of which it was allowed `limit`
   pub data Ends (w : List ℤ) (rounds limit : ℕ) : RunAnswer → Type 0 where
-    settles : rounds ≤ limit → next c w ≡ nothing → Ends w rounds limit RunAnswer.Settled
-    limits : {moves : List Move} → rounds ≡ limit → next c w ≡ round moves → Ends w rounds limit RunAnswer.Limit
-    refuses : {moves : List Move} → rounds < limit → next c w ≡ round moves → afterMoves r c moves w ≡ none → Ends w rounds limit (RunAnswer.Refused LeavesRange)
+    settles : rounds ≤ limit → next r c w ≡ nothing → Ends w rounds limit RunAnswer.Settled
+    limits : {moves : List Move} → rounds ≡ limit → next r c w ≡ round moves → Ends w rounds limit RunAnswer.Limit
+    refuses : {moves : List Move} → rounds < limit → next r c w ≡ round moves → afterMoves r c moves w ≡ none → Ends w rounds limit (RunAnswer.Refused LeavesRange)
 
   pub record Ran (P : ℕ → List ℤ → List (List ℕ) → Type 0) (limit : ℕ) (q : RunOf) : Type 0 where
     pub kept : P (q .rounds) (q .weights) (q .log)
@@ -61,17 +61,17 @@ module _ (r : Rules) (next : Case → List ℤ → Next) (c : Case) where
 
   -- what every round keeps, the run keeps
   module _ (P : ℕ → List ℤ → List (List ℕ) → Type 0)
-      (on : (done : ℕ) (w v : List ℤ) (log : List (List ℕ)) (moves : List Move) → P done w log → next c w ≡ round moves → afterMoves r c moves w ≡ some v
+      (on : (done : ℕ) (w v : List ℤ) (log : List (List ℕ)) (moves : List Move) → P done w log → next r c w ≡ round moves → afterMoves r c moves w ≡ some v
       → P (suc done) v (log ++ roundText r c moves v)) where
     pub run-keeps : (left : ℕ) {done limit : ℕ} {w : List ℤ} {log : List (List ℕ)} → done + left ≡ limit → P done w log → Ran P limit (runFrom r next c left done w log)
-    run-keeps zero {done} {limit} {w} {log} h p = go (next c w) refl
+    run-keeps zero {done} {limit} {w} {log} h p = go (next r c w) refl
       where
-        go : (n : Next) → next c w ≡ n → Ran P limit (stopped (atLimit n) done w log)
+        go : (n : Next) → next r c w ≡ n → Ran P limit (stopped (atLimit n) done w log)
         go nothing e = record { kept = p; ends = settles (omega arith) e }
         go (round moves) e = record { kept = p; ends = limits (omega arith) e }
-    run-keeps (suc left) {done} {limit} {w} {log} h p = go (next c w) refl (λ v lines q. run-keeps left {done = suc done} {limit = limit} {w = v} {log = lines} (omega arith) q)
+    run-keeps (suc left) {done} {limit} {w} {log} h p = go (next r c w) refl (λ v lines q. run-keeps left {done = suc done} {limit = limit} {w = v} {log = lines} (omega arith) q)
       where
-        go : (n : Next) → next c w ≡ n → ((v : List ℤ) (lines : List (List ℕ)) → P (suc done) v lines → Ran P limit (runFrom r next c left (suc done) v lines))
+        go : (n : Next) → next r c w ≡ n → ((v : List ℤ) (lines : List (List ℕ)) → P (suc done) v lines → Ran P limit (runFrom r next c left (suc done) v lines))
             → Ran P limit (onward (makeNext r c w n) done w log (λ v lines. runFrom r next c left (suc done) v lines))
         go nothing e rest = record { kept = p; ends = settles (omega arith) e }
         go (round moves) e rest = leads (afterMoves r c moves w) refl
@@ -85,13 +85,13 @@ module _ (r : Rules) (next : Case → List ℤ → Next) (c : Case) where
 
   module _ {w : List ℤ} {rounds limit : ℕ} where
     -- settled just where nothing comes next
-    pub ends-settled : {answer : RunAnswer} → Ends w rounds limit answer → answer ≡ RunAnswer.Settled ↔ next c w ≡ nothing
+    pub ends-settled : {answer : RunAnswer} → Ends w rounds limit answer → answer ≡ RunAnswer.Settled ↔ next r c w ≡ nothing
     ends-settled (settles h e) = (λ a. e, λ a. refl)
     ends-settled (limits {moves} h e) = (λ a. differ (cc), λ a. differ (cc))
     ends-settled (refuses {moves} h e f) = (λ a. differ (cc), λ a. differ (cc))
 
     -- limit just after so many rounds with more to come
-    pub ends-limit : {answer : RunAnswer} → Ends w rounds limit answer → answer ≡ RunAnswer.Limit ↔ (rounds ≡ limit) × (moves : List Move) × (next c w ≡ round moves)
+    pub ends-limit : {answer : RunAnswer} → Ends w rounds limit answer → answer ≡ RunAnswer.Limit ↔ (rounds ≡ limit) × (moves : List Move) × (next r c w ≡ round moves)
     ends-limit (settles h e) = (λ a. differ (cc), λ (g, moves, f). differ (cc))
     ends-limit (limits {moves} h e) = (λ a. (h, moves, e), λ a. refl)
     ends-limit (refuses {moves} h e f) = (λ a. differ (cc), λ (g, u, d). absurd (omega arith))
@@ -108,15 +108,15 @@ module _ (r : Rules) (next : Case → List ℤ → Next) (c : Case) where
 -- ---- lawful rounds
 
 -- from w, a table that every call takes, these moves come next and lead to v
-pub record RoundFrom (r : Rules) (next : Case → List ℤ → Next) (c : Case) (w : List ℤ) (moves : List Move) (v : List ℤ) : Type 0 where
+pub record RoundFrom (r : Rules) (next : Rules → Case → List ℤ → Next) (c : Case) (w : List ℤ) (moves : List Move) (v : List ℤ) : Type 0 where
   pub handed : Handed r (workingWeight r) c w
-  pub comes : next c w ≡ round moves
+  pub comes : next r c w ≡ round moves
   pub leads : afterMoves r c moves w ≡ some v
 
-pub record Lawful (r : Rules) (next : Case → List ℤ → Next) (c : Case) : Type 0 where
+pub record Lawful (r : Rules) (next : Rules → Case → List ℤ → Next) (c : Case) : Type 0 where
   pub allowed : {w v : List ℤ} {moves : List Move} → RoundFrom r next c w moves v → AllAllowed r c w moves v
   pub lower : {w v : List ℤ} {moves : List Move} → RoundFrom r next c w moves v → upperBound c v <ℤ upperBound c w
-  pub short : {w v : List ℤ} {moves : List Move} → RoundFrom r next c w moves v → length (roundLines c moves v) ≤ scopeCount c + 1
+  pub short : {w v : List ℤ} {moves : List Move} → RoundFrom r next c w moves v → lineLength (r .amountWidth) * length (roundLines c moves v) ≤ roundBytes r c
 
 -- the engine's are
 pub data EngineRound (r : Rules) (c : Case) (w : List ℤ) : List Move → List ℤ → Type 0 where
@@ -124,9 +124,9 @@ pub data EngineRound (r : Rules) (c : Case) (w : List ℤ) : List Move → List 
       → EngineRound r c w (press i (keptScopes c w i) a ∷ []) (enginePressed c w i a)
 
 module _ {r : Rules} {c : Case} {w : List ℤ} where
-  pub engine-round : {moves : List Move} {v : List ℤ} → engineNext c w ≡ round moves → afterMoves r c moves w ≡ some v → EngineRound r c w moves v
+  pub engine-round : {moves : List Move} {v : List ℤ} → engineNext r c w ≡ round moves → afterMoves r c moves w ≡ some v → EngineRound r c w moves v
   engine-round {moves} {v} d l =
-      let (i, a, e, g, q) = next-round c w d in
+      let (i, a, e, g, q) = next-round r c w d in
       let (t, z) = found-else (leavesRange r c (enginePressed c w i a)) (some (enginePressed c w i a)) (ap (λ m. afterMoves r c m w) (sym q) ∙ l) in
       rw (q, ← (some-inj z)) (presses e g t)
 
@@ -147,9 +147,9 @@ module _ {r : Rules} {c : Case} {w : List ℤ} where
     engine-lower : {moves : List Move} {v : List ℤ} → EngineRound r c w moves v → upperBound c v <ℤ upperBound c w
     engine-lower (presses e g t) = fall c w (h .shape) e g ▸ amount-some c w (h .shape) e g ▸ simp flat (omega zs)
 
-  engine-short : {moves : List Move} {v : List ℤ} → EngineRound r c w moves v → length (roundLines c moves v) ≤ scopeCount c + 1
+  engine-short : {moves : List Move} {v : List ℤ} → EngineRound r c w moves v → lineLength (r .amountWidth) * length (roundLines c moves v) ≤ roundBytes r c
   engine-short (presses {i} {a} e g t) =
-      simp length-append (omega (arith, kept-fewer c w i (chosen-some c w e .0), length-map (keptScopes c w i) raiseLine))
+      mul-le-mul-left (lineLength (r .amountWidth)) (simp length-append (omega (arith, kept-fewer c w i (chosen-some c w e .0), length-map (keptScopes c w i) raiseLine)))
 
 pub engine-lawful : {r : Rules} → Coherent r → (c : Case) → Lawful r engineNext c
 engine-lawful coherent c = record {
@@ -175,7 +175,7 @@ pub record Tallied (r : Rules) (c : Case) (rounds : ℕ) (w : List ℤ) (log : L
   pub whole : Parts (lineLength (r .amountWidth)) log
   pub counted : length (boundLines r log) ≡ rounds
 
-module _ {r : Rules} {next : Case → List ℤ → Next} {c : Case} (coherent : Coherent r) (lawful : Lawful r next c) where
+module _ {r : Rules} {next : Rules → Case → List ℤ → Next} {c : Case} (coherent : Coherent r) (lawful : Lawful r next c) where
   module _ {w v : List ℤ} {moves : List Move} (m : RoundFrom r next c w moves v) where
     round-width : {l : Line} → l ∈ roundLines c moves v → lineTooWide (r .amountWidth) l ≡ false
     round-width = round-fits coherent (m .handed) (lawful .allowed m)
@@ -195,7 +195,7 @@ module _ {r : Rules} {next : Case → List ℤ → Next} {c : Case} (coherent : 
     pub handed-on : Handed r (workingWeight r) c v
     handed-on = all-handed (lawful .allowed m) (m .handed)
 
-  tallied-on : (done : ℕ) (w v : List ℤ) (log : List (List ℕ)) (moves : List Move) → Tallied r c done w log → next c w ≡ round moves → afterMoves r c moves w ≡ some v
+  tallied-on : (done : ℕ) (w v : List ℤ) (log : List (List ℕ)) (moves : List Move) → Tallied r c done w log → next r c w ≡ round moves → afterMoves r c moves w ≡ some v
       → Tallied r c (suc done) v (log ++ roundText r c moves v)
   tallied-on done w v log moves p e f =
       let m : RoundFrom r next c w moves v = record { handed = p .handed; comes = e; leads = f } in
@@ -238,11 +238,11 @@ too-many : (rounds limit : ℕ) (b z : ℤ) → rounds ≡ limit → b ≤ℤ (p
 too-many rounds limit b z e h k = e ▸ h ▸ k ▸ simp flat (omega zs)
 
 -- tables from which no round leaves the working range, the first among them
-pub record Free (r : Rules) (next : Case → List ℤ → Next) (c : Case) (w₀ : List ℤ) (Reach : List ℤ → Type 0) : Type 0 where
+pub record Free (r : Rules) (next : Rules → Case → List ℤ → Next) (c : Case) (w₀ : List ℤ) (Reach : List ℤ → Type 0) : Type 0 where
   pub first : Reach w₀
-  pub goes : {w : List ℤ} {moves : List Move} → Reach w → next c w ≡ round moves → (v : List ℤ) × (afterMoves r c moves w ≡ some v) × Reach v
+  pub goes : {w : List ℤ} {moves : List Move} → Reach w → next r c w ≡ round moves → (v : List ℤ) × (afterMoves r c moves w ≡ some v) × Reach v
 
-module _ {r : Rules} {next : Case → List ℤ → Next} {c : Case} (coherent : Coherent r) (kinds : MoveKinds r)
+module _ {r : Rules} {next : Rules → Case → List ℤ → Next} {c : Case} (coherent : Coherent r) (kinds : MoveKinds r)
     (lawful : Lawful r next c) (w₀ : List ℤ) (t : T (valid r c w₀)) where
   module _ {done : ℕ} {w : List ℤ} {log : List (List ℕ)} (p : Replayed r c w₀ done w log) where
     replayed-handed : Handed r (workingWeight r) c w
@@ -256,7 +256,7 @@ module _ {r : Rules} {next : Case → List ℤ → Next} {c : Case} (coherent : 
         (after-append r (fresh c w₀) log lines ∙ ap (λ (u : State). after r u lines) (p .leads) ∙ moves-taken coherent kinds (between c w₀ done w) refl refl replayed-handed a)
         (bound-sound r c w₀ t (log ++ lines) x g)
 
-  replayed-on : (done : ℕ) (w v : List ℤ) (log : List (List ℕ)) (moves : List Move) → Replayed r c w₀ done w log → next c w ≡ round moves → afterMoves r c moves w ≡ some v
+  replayed-on : (done : ℕ) (w v : List ℤ) (log : List (List ℕ)) (moves : List Move) → Replayed r c w₀ done w log → next r c w ≡ round moves → afterMoves r c moves w ≡ some v
       → Replayed r c w₀ (suc done) v (log ++ roundText r c moves v)
   replayed-on done w v log moves p e f =
       let h = replayed-handed p in
@@ -311,26 +311,26 @@ module _ {r : Rules} {next : Case → List ℤ → Next} {c : Case} (coherent : 
 
 -- ---- the engine's run
 
-module _ (c : Case) (shape : Shape c) (w : List ℤ) where
-  pub engine-settled : engineNext c w ≡ nothing ↔ Settled c w
-  engine-settled = (λ e. settled-iff c w shape .0 (next-nothing c w shape .0 e), λ f. next-nothing c w shape .1 (settled-iff c w shape .1 f))
+module _ (r : Rules) (c : Case) (shape : Shape c) (w : List ℤ) where
+  pub engine-settled : engineNext r c w ≡ nothing ↔ Settled c w
+  engine-settled = (λ e. settled-iff c w shape .0 (next-nothing r c w shape .0 e), λ f. next-nothing r c w shape .1 (settled-iff c w shape .1 f))
 
-  pub engine-unsettled : ((moves : List Move) × (engineNext c w ≡ round moves)) ↔ (Settled c w → ⊥)
-  engine-unsettled = (λ (moves, e) f. let g = engine-settled .1 f in differ (cc), go (engineNext c w) refl)
+  pub engine-unsettled : ((moves : List Move) × (engineNext r c w ≡ round moves)) ↔ (Settled c w → ⊥)
+  engine-unsettled = (λ (moves, e) f. let g = engine-settled .1 f in differ (cc), go (engineNext r c w) refl)
     where
-      go : (n : Next) → engineNext c w ≡ n → (Settled c w → ⊥) → (moves : List Move) × (engineNext c w ≡ round moves)
+      go : (n : Next) → engineNext r c w ≡ n → (Settled c w → ⊥) → (moves : List Move) × (engineNext r c w ≡ round moves)
       go nothing e f = absurd (f (engine-settled .0 e))
       go (round moves) e f = (moves, e)
 
 -- the engine's run from any table: settled just where it ends settled, limit just after so many rounds where it does not
 module _ (r : Rules) (c : Case) (shape : Shape c) (limit : ℕ) (w : List ℤ) where
   pub run-settled : run r engineNext c limit w .answer ≡ RunAnswer.Settled ↔ Settled c (run r engineNext c limit w .weights)
-  run-settled = Iff·trans (ends-settled r engineNext c (run-ends r engineNext c limit w)) (engine-settled c shape (run r engineNext c limit w .weights))
+  run-settled = Iff·trans (ends-settled r engineNext c (run-ends r engineNext c limit w)) (engine-settled r c shape (run r engineNext c limit w .weights))
 
   pub run-limit : run r engineNext c limit w .answer ≡ RunAnswer.Limit ↔ (run r engineNext c limit w .rounds ≡ limit) × (Settled c (run r engineNext c limit w .weights) → ⊥)
   run-limit =
       let e = ends-limit r engineNext c (run-ends r engineNext c limit w) in
-      let f = engine-unsettled c shape (run r engineNext c limit w .weights) in
+      let f = engine-unsettled r c shape (run r engineNext c limit w .weights) in
       (λ a. let (n, moves, d) = e .0 a in (n, f .0 (moves, d)), λ (n, u). let (moves, d) = f .1 u in e .1 (n, moves, d))
 
 pub engine-free : {r : Rules} {c : Case} {w₀ : List ℤ} → Coherent r → T (valid r c w₀) → Free r engineNext c w₀ (Reached c w₀)

@@ -26,9 +26,9 @@ textsOf settled go = []
 textsOf (refused x) go = []
 textsOf (made v lines) go = lines ∷ go v
 
-abbrev pub roundTexts : Rules → (Case → List ℤ → Next) → Case → ℕ → List ℤ → List (List (List ℕ))
+abbrev pub roundTexts : Rules → (Rules → Case → List ℤ → Next) → Case → ℕ → List ℤ → List (List (List ℕ))
 roundTexts r next c zero w = []
-roundTexts r next c (suc left) w = textsOf (makeNext r c w (next c w)) (λ v. roundTexts r next c left v)
+roundTexts r next c (suc left) w = textsOf (makeNext r c w (next r c w)) (λ v. roundTexts r next c left v)
 
 -- an output after each round's lines were written from its first byte, one round after another
 abbrev pub writtenOver : List (List (List ℕ)) → List ℕ → List ℕ

@@ -6,8 +6,10 @@
 // The file `stdout` was worked out from document 01 by a small engine of its own; the peer writes the same log of each case that a case file can
 // hold. The largest case's log is the peer's.
 use definitions::Case;
+use definitions::EDGE_PLACES;
 use definitions::Line;
 use definitions::Round;
+use definitions::Rulebook;
 use definitions::Run;
 use definitions::RunAnswer;
 
@@ -124,15 +126,16 @@ fn head(n: usize, d: usize, m: usize) -> Case {
         n: n,
         d: d,
         m: m,
-        lower: [0; 96],
-        upper: [0; 96],
+        lower: [0; EDGE_PLACES],
+        upper: [0; EDGE_PLACES],
+        rulebook: Rulebook::Desk,
     }
 }
 
 fn joined(case: Case, e: usize, i: u8, j: u8) -> Case {
     let mut lower = case.lower;
     let mut upper = case.upper;
-    if e < 96 {
+    if e < EDGE_PLACES {
         lower[e] = i;
         upper[e] = j;
     }
@@ -142,6 +145,7 @@ fn joined(case: Case, e: usize, i: u8, j: u8) -> Case {
         m: case.m,
         lower: lower,
         upper: upper,
+        rulebook: Rulebook::Desk,
     }
 }
 

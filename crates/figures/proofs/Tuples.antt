@@ -13,7 +13,7 @@ use borrow.Author.Tests.{lt-ltb, le-ltb}
 use Rattle.integers.specs.Words.{if_then_else_, greatestOf}
 use Rattle.integers.specs.Tests.{tests}
 use Rattle.definitions.specs.declared.Case.{Case}
-use Rattle.definitions.specs.Rules.{standard}
+use Rattle.definitions.specs.Rules.{rulesOf}
 use Rattle.definitions.specs.Case.{scopeCount, isVariable, place, weight, greatest}
 use Rattle.definitions.specs.Valid.{workingWeight}
 use Rattle.definitions.specs.Calls.{tupleOut}
@@ -22,7 +22,7 @@ use Rattle.tables.specs.Scopes.{sizeOf, partOf, scopeWeights}
 use Rattle.tables.proofs.Parts.{part-own, part-greatest as greatest-of-part}
 use Rattle.tables.proofs.Answered.{scope-weights-known}
 
-module _ {c : Case} {w : List ℤ} (h : Handed standard (workingWeight standard) c w) where
+module _ {c : Case} {w : List ℤ} (h : Handed (rulesOf c) (workingWeight (rulesOf c)) c w) where
   -- a tuple that is not out
   pub tuple-known : (x k l : ℕ) → T (not (tupleOut c x k l)) → (x < scopeCount c) × (k < c .d) × (l < c .d)
   tuple-known x k l t = let ((p, q), u) = simp tests at t in (p, q, go (isVariable c x) u)
@@ -31,7 +31,7 @@ module _ {c : Case} {w : List ℤ} (h : Handed standard (workingWeight standard)
       go true u = omega (arith, h .shape .some-value, eqb→eq l 0 u)
       go false u = ltb→lt l (c .d) u
 
-  module _ {part : List ℤ} (x : ℕ) (s : x < scopeCount c) (e : part ≡ scopeWeights standard c w x) where
+  module _ {part : List ℤ} (x : ℕ) (s : x < scopeCount c) (e : part ≡ scopeWeights (rulesOf c) c w x) where
     part-is : part ≡ partOf c w x
     part-is = e ∙ scope-weights-known h x s
 

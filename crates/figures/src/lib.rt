@@ -7,14 +7,14 @@ ghost use mathlib.Core.Path.{_≡_};
 ghost use lib.Dec.{T};
 ghost use Prim.Native.Nat.{_+_, _<_};
 ghost use Rattle.integers.specs.Words.{if_then_else_};
-ghost use Rattle.definitions.specs.Rules.{standard};
+ghost use Rattle.definitions.specs.Rules.{rulesOf};
 ghost use Rattle.definitions.specs.Case.{weight, valueOf, atUsed, objective as total, isAssignment, active};
 ghost use Rattle.definitions.specs.Valid.{workingWeight};
 ghost use Rattle.definitions.specs.Calls.{objectiveAnswer, upperBoundAnswer, isActiveAnswer, tupleOut};
 ghost use Rattle.theory.proofs.Validity.{Handed};
 
 fn weight_at(case: Case, table: &[i64], x: usize, k: usize, l: usize) -> i64
-    requires { ⌜ Handed standard (workingWeight standard) case (now table) ⌝ }
+    requires { ⌜ Handed (rulesOf case) (workingWeight (rulesOf case)) case (now table) ⌝ }
     requires { ⌜ (x < case .n + case .m) × (k < case .d) × (l < case .d) ⌝ }
     ensures { λ r. ⌜ r ≡ weight case (now (table .entry)) x k l ⌝ }
 {
@@ -44,7 +44,7 @@ fn tuple_out(case: Case, x: usize, k: usize, l: usize) -> bool
 }
 
 fn has_greatest(case: Case, table: &[i64], x: usize, k: usize, l: usize) -> Verdict
-    requires { ⌜ Handed standard (workingWeight standard) case (now table) ⌝ }
+    requires { ⌜ Handed (rulesOf case) (workingWeight (rulesOf case)) case (now table) ⌝ }
     requires { ⌜ (x < case .n + case .m) × (k < case .d) × (l < case .d) ⌝ }
     ensures { λ r. ⌜ r ≡ (if active case (now (table .entry)) x k l then Verdict.Yes else Verdict.No) ⌝ }
 {
@@ -75,7 +75,7 @@ fn value_of(assignment: &[u8], i: usize) -> usize
 }
 
 fn used_weight(case: Case, table: &[i64], assignment: &[u8], x: usize) -> i64
-    requires { ⌜ Handed standard (workingWeight standard) case (now table) ⌝ }
+    requires { ⌜ Handed (rulesOf case) (workingWeight (rulesOf case)) case (now table) ⌝ }
     requires { ⌜ T (isAssignment case (now assignment)) ⌝ }
     requires { ⌜ x < case .n + case .m ⌝ }
     ensures { λ r. ⌜ r ≡ atUsed case (now (assignment .entry)) x (weight case (now (table .entry)) x) ⌝ }
@@ -90,7 +90,7 @@ fn used_weight(case: Case, table: &[i64], assignment: &[u8], x: usize) -> i64
 }
 
 fn sum_of_used(case: Case, table: &[i64], assignment: &[u8]) -> i64
-    requires { ⌜ Handed standard (workingWeight standard) case (now table) ⌝ }
+    requires { ⌜ Handed (rulesOf case) (workingWeight (rulesOf case)) case (now table) ⌝ }
     requires { ⌜ T (isAssignment case (now assignment)) ⌝ }
     ensures { λ r. ⌜ r ≡ total case (now (table .entry)) (now (assignment .entry)) ⌝ }
 {
@@ -107,7 +107,7 @@ fn sum_of_used(case: Case, table: &[i64], assignment: &[u8]) -> i64
 // ---- the calls
 
 pub fn objective(case: Case, table: &[i64], assignment: &[u8]) -> Figure
-    ensures { λ r. ⌜ r ≡ objectiveAnswer standard case (now (table .entry)) (now (assignment .entry)) ⌝ }
+    ensures { λ r. ⌜ r ≡ objectiveAnswer (rulesOf case) case (now (table .entry)) (now (assignment .entry)) ⌝ }
 {
     let wrong = assignment.len() != case.n;
     let out = tables::some_beyond(assignment, case.d);
@@ -119,7 +119,7 @@ pub fn objective(case: Case, table: &[i64], assignment: &[u8]) -> Figure
 }
 
 pub fn upper_bound(case: Case, table: &[i64]) -> Figure
-    ensures { λ r. ⌜ r ≡ upperBoundAnswer standard case (now (table .entry)) ⌝ }
+    ensures { λ r. ⌜ r ≡ upperBoundAnswer (rulesOf case) case (now (table .entry)) ⌝ }
 {
     let checked = tables::check_working(case, table, false, false);
     match checked {
@@ -129,7 +129,7 @@ pub fn upper_bound(case: Case, table: &[i64]) -> Figure
 }
 
 pub fn is_active(case: Case, table: &[i64], scope: usize, k: usize, l: usize) -> Verdict
-    ensures { λ r. ⌜ r ≡ isActiveAnswer standard case (now (table .entry)) scope k l ⌝ }
+    ensures { λ r. ⌜ r ≡ isActiveAnswer (rulesOf case) case (now (table .entry)) scope k l ⌝ }
 {
     let checked = tables::check_working(case, table, false, tuple_out(case, scope, k, l));
     match checked {

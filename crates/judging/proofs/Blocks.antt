@@ -13,7 +13,7 @@ use Rattle.definitions.specs.declared.Case.{Case}
 use Rattle.definitions.specs.declared.FileAnswer.{FileAnswer}
 use Rattle.definitions.specs.declared.Outcome.{Outcome}
 use Rattle.definitions.specs.declared.Refusal.{Refusal}
-use Rattle.definitions.specs.Rules.{Rules}
+use Rattle.definitions.specs.Rules.{Rules, rulesOf}
 use Rattle.definitions.specs.Lines.{lineLength, cutLines, wholeLines, linesIn, hasPart}
 use Rattle.checker.specs.declared.Replay.{Replay}
 use Rattle.checker.specs.Checker.{Between, BlockCall, takenLines, firstRefused, stepBetween, afterLines, lineAnswers, foldReplay}
@@ -74,84 +74,90 @@ module _ (r : Rules) where
     unfolding foldReplay
     fold-short bytes h = let n : wholeLines (r .amountWidth) bytes ≡ 0 = div-eq-of-lt h in rw n
 
-  -- ---- the fold
+-- ---- the fold
 
-  -- what stands after blocks, beside the fold over them all from line `at`
-  pub record Stands (g : JudgingCall) (c : Case) (at : ℕ) (call : BlockCall) : Type 0 where
-    pub answer : g .judging .answer ≡ answerAt (counted at (call .block .lines)) (call .block .answer)
-    pub case-kept : call .block .answer ≡ Outcome.Done → g .judging .case ≡ c
-    pub replay : call .block .answer ≡ Outcome.Done → g .judging .replay ≡ call .block .replay
-    pub table : call .block .answer ≡ Outcome.Done → g .table ≡ call .table
+-- what stands after blocks, beside the fold over them all from line `at`
+pub record Stands (g : JudgingCall) (c : Case) (at : ℕ) (call : BlockCall) : Type 0 where
+  pub answer : g .judging .answer ≡ answerAt (counted at (call .block .lines)) (call .block .answer)
+  pub case-kept : call .block .answer ≡ Outcome.Done → g .judging .case ≡ c
+  pub replay : call .block .answer ≡ Outcome.Done → g .judging .replay ≡ call .block .replay
+  pub table : call .block .answer ≡ Outcome.Done → g .table ≡ call .table
 
-  -- once refused, nothing changes
-  block-stays : (g : JudgingCall) {x : Refusal} {at : ℕ} → g .judging .answer ≡ FileAnswer.Refused x at → (y : List ℕ) → blockJudging r (g .judging) (g .table) y ≡ g
-  unfolding blockJudging
-  block-stays g e y = ap (blockFrom r (g .judging) (g .table) y) e
+-- once refused, nothing changes
+block-stays : (g : JudgingCall) {x : Refusal} {at : ℕ} → g .judging .answer ≡ FileAnswer.Refused x at → (y : List ℕ) → blockJudging (g .judging) (g .table) y ≡ g
+unfolding blockJudging
+block-stays g e y = ap (blockFrom (g .judging) (g .table) y) e
 
-  pub stays : (g : JudgingCall) {x : Refusal} {at : ℕ} → g .judging .answer ≡ FileAnswer.Refused x at → (xs : List (List ℕ)) → afterBlocks r g xs ≡ g
-  stays g e [] = refl
-  stays g e (y ∷ ys) = ap (λ (k : JudgingCall). afterBlocks r k ys) (block-stays g e y) ∙ stays g e ys
+pub stays : (g : JudgingCall) {x : Refusal} {at : ℕ} → g .judging .answer ≡ FileAnswer.Refused x at → (xs : List (List ℕ)) → afterBlocks g xs ≡ g
+stays g e [] = refl
+stays g e (y ∷ ys) = ap (λ (k : JudgingCall). afterBlocks k ys) (block-stays g e y) ∙ stays g e ys
 
-  block-first : (j : Judging) (w : List ℤ) (x : List ℕ) {at : ℕ} → j .answer ≡ FileAnswer.Read at → blockJudging r j w x ≡ blockFrom r j w x (FileAnswer.Read at)
-  unfolding blockJudging
-  block-first j w x e = ap (blockFrom r j w x) e
+block-first : (j : Judging) (w : List ℤ) (x : List ℕ) {at : ℕ} → j .answer ≡ FileAnswer.Read at → blockJudging j w x ≡ blockFrom j w x (FileAnswer.Read at)
+unfolding blockJudging
+block-first j w x e = ap (blockFrom j w x) e
 
-  -- a block and then the others
-  module _ (c : Case) (w : List ℤ) (p : Replay) (at : ℕ) (x rest : List ℕ) (whole : hasPart (r .amountWidth) x ≡ false) where
-    abbrev first : BlockCall
-    first = foldReplay r c w p x
+-- a block and then the others
+module _ (c : Case) (w : List ℤ) (p : Replay) (at : ℕ) (x rest : List ℕ) (whole : hasPart (rulesOf c .amountWidth) x ≡ false) where
+  abbrev r : Rules
+  r = rulesOf c
 
-    abbrev second : BlockCall
-    second = foldReplay r c (first .table) (first .block .replay) rest
+  abbrev first : BlockCall
+  first = foldReplay r c w p x
 
-    abbrev next : Outcome → JudgingCall
-    next o = record {
-      judging = record { case = c; replay = first .block .replay; answer = answerAt (counted at (first .block .lines)) o };
-      table = first .table;
-    }
+  abbrev second : BlockCall
+  second = foldReplay r c (first .table) (first .block .replay) rest
 
-    stand-done : {g : JudgingCall} → first .block .answer ≡ Outcome.Done → Stands g c (counted at (first .block .lines)) second → Stands g c at (foldReplay r c w p (x ++ rest))
-    stand-done {g} d i =
-        let a : orElse (first .block .answer) (second .block .answer) ≡ second .block .answer = rw d in
-        rw (folds-join r c w p x rest whole)
-        (record {
-          answer = i .answer ∙ ap₂ answerAt (counted-more at (first .block .lines) (second .block .lines)) (sym a);
-          case-kept = λ e. i .case-kept (sym a ∙ e);
-          replay = λ e. i .replay (sym a ∙ e);
-          table = λ e. i .table (sym a ∙ e);
-        })
+  abbrev next : Outcome → JudgingCall
+  next o = record {
+    judging = record { case = c; replay = first .block .replay; answer = answerAt (counted at (first .block .lines)) o };
+    table = first .table;
+  }
 
-    never : {y : Refusal} → Outcome.Refused y ≡ Outcome.Done → ⊥
-    never e = let z : _≡_ {A = ℕ} 0 1 = cc in omega arith
+  stand-done : {g : JudgingCall} → first .block .answer ≡ Outcome.Done → Stands g c (counted at (first .block .lines)) second → Stands g c at (foldReplay r c w p (x ++ rest))
+  stand-done {g} d i =
+      let a : orElse (first .block .answer) (second .block .answer) ≡ second .block .answer = rw d in
+      rw (folds-join r c w p x rest whole)
+      (record {
+        answer = i .answer ∙ ap₂ answerAt (counted-more at (first .block .lines) (second .block .lines)) (sym a);
+        case-kept = λ e. i .case-kept (sym a ∙ e);
+        replay = λ e. i .replay (sym a ∙ e);
+        table = λ e. i .table (sym a ∙ e);
+      })
 
-    stand-refused : {y : Refusal} → first .block .answer ≡ Outcome.Refused y → Stands (next (Outcome.Refused y)) c at (foldReplay r c w p (x ++ rest))
-    stand-refused {y} d =
-        let a : foldReplay r c w p (x ++ rest) .block .answer ≡ Outcome.Refused y = ap (λ (k : BlockCall). k .block .answer) (folds-join r c w p x rest whole) ∙ ap (λ (o : Outcome). orElse o (second .block .answer)) d in
-        record {
-          answer = sym (ap₂ (λ (n : ℕ) (o : Outcome). answerAt (counted at n) o) (fold-refused c w p x rest whole d) a);
-          case-kept = λ e. absurd (never (sym a ∙ e));
-          replay = λ e. absurd (never (sym a ∙ e));
-          table = λ e. absurd (never (sym a ∙ e));
-        }
+  never : {y : Refusal} → Outcome.Refused y ≡ Outcome.Done → ⊥
+  never e = let z : _≡_ {A = ℕ} 0 1 = cc in omega arith
 
-    stand-next : (xs : List (List ℕ)) → (first .block .answer ≡ Outcome.Done → Stands (afterBlocks r (next Outcome.Done) xs) c (counted at (first .block .lines)) second)
-        → (o : Outcome) → first .block .answer ≡ o → Stands (afterBlocks r (next o) xs) c at (foldReplay r c w p (x ++ rest))
-    stand-next xs i Outcome.Done d = stand-done d (i d)
-    stand-next xs i (Outcome.Refused y) d = rw (stays (next (Outcome.Refused y)) refl xs) (stand-refused d)
+  stand-refused : {y : Refusal} → first .block .answer ≡ Outcome.Refused y → Stands (next (Outcome.Refused y)) c at (foldReplay r c w p (x ++ rest))
+  stand-refused {y} d =
+      let a : foldReplay r c w p (x ++ rest) .block .answer ≡ Outcome.Refused y = ap (λ (k : BlockCall). k .block .answer) (folds-join r c w p x rest whole) ∙ ap (λ (o : Outcome). orElse o (second .block .answer)) d in
+      record {
+        answer = sym (ap₂ (λ (n : ℕ) (o : Outcome). answerAt (counted at n) o) (fold-refused r c w p x rest whole d) a);
+        case-kept = λ e. absurd (never (sym a ∙ e));
+        replay = λ e. absurd (never (sym a ∙ e));
+        table = λ e. absurd (never (sym a ∙ e));
+      }
 
-  module _ (tail : List ℕ) (short : length tail < lineLength (r .amountWidth)) where
-    pub blocks-stand : (xs : List (List ℕ)) → ((x : List ℕ) → x ∈ xs → hasPart (r .amountWidth) x ≡ false)
-        → (j : Judging) (w : List ℤ) (at : ℕ) → j .answer ≡ FileAnswer.Read at → at ≤ greatestCount → Lent r (j .case) w (j .replay)
-        → Stands (afterBlocks r (record { judging = j; table = w }) xs) (j .case) at (foldReplay r (j .case) w (j .replay) (joined xs ++ tail))
-    blocks-stand [] whole j w at e few l =
-        rw (fold-short (j .case) w (j .replay) tail short)
-        (record { answer = e ∙ ap FileAnswer.Read (sym (counted-few at 0 (omega arith) ∙ omega arith)); case-kept = λ d. refl; replay = λ d. refl; table = λ d. refl })
-    blocks-stand (x ∷ xs) whole j w at e few l =
-        let c : Case = j .case in
-        let p : Replay = j .replay in
-        let rest : List ℕ = joined xs ++ tail in
-        let all-whole = whole x (List·Memᴰ·head refl) in
-        let g : JudgingCall = next c w p at x rest all-whole Outcome.Done in
-        let i : foldReplay r c w p x .block .answer ≡ Outcome.Done → Stands (afterBlocks r g xs) c (counted at (foldReplay r c w p x .block .lines)) (second c w p at x rest all-whole) =
-        λ d. blocks-stand xs (λ k m. whole k (List·Memᴰ·tail m)) (g .judging) (g .table) (counted at (foldReplay r c w p x .block .lines)) refl (omega arith) (lent-after r c w p x l d) in
-        rw (append-assoc x (joined xs) tail, block-first j w x e, block-lent r c w p x l) (stand-next c w p at x rest all-whole xs i (foldReplay r c w p x .block .answer) refl)
+  stand-next : (xs : List (List ℕ)) → (first .block .answer ≡ Outcome.Done → Stands (afterBlocks (next Outcome.Done) xs) c (counted at (first .block .lines)) second)
+      → (o : Outcome) → first .block .answer ≡ o → Stands (afterBlocks (next o) xs) c at (foldReplay r c w p (x ++ rest))
+  stand-next xs i Outcome.Done d = stand-done d (i d)
+  stand-next xs i (Outcome.Refused y) d = rw (stays (next (Outcome.Refused y)) refl xs) (stand-refused d)
+
+-- blocks of whole lines, and fewer bytes than a line
+module _ (c : Case) (tail : List ℕ) (short : length tail < lineLength (rulesOf c .amountWidth)) where
+  abbrev stood : Replay → FileAnswer → List ℤ → JudgingCall
+  stood p a w = record { judging = record { case = c; replay = p; answer = a }; table = w }
+
+  pub blocks-stand : (xs : List (List ℕ)) → ((x : List ℕ) → x ∈ xs → hasPart (rulesOf c .amountWidth) x ≡ false)
+      → (p : Replay) (a : FileAnswer) (w : List ℤ) (at : ℕ) → a ≡ FileAnswer.Read at → at ≤ greatestCount → Lent (rulesOf c) c w p
+      → Stands (afterBlocks (stood p a w) xs) c at (foldReplay (rulesOf c) c w p (joined xs ++ tail))
+  blocks-stand [] whole p a w at e few l =
+      rw (fold-short (rulesOf c) c w p tail short)
+      (record { answer = e ∙ ap FileAnswer.Read (sym (counted-few at 0 (omega arith) ∙ omega arith)); case-kept = λ d. refl; replay = λ d. refl; table = λ d. refl })
+  blocks-stand (x ∷ xs) whole p a w at e few l =
+      let r : Rules = rulesOf c in
+      let rest : List ℕ = joined xs ++ tail in
+      let all-whole = whole x (List·Memᴰ·head refl) in
+      let g : JudgingCall = next c w p at x rest all-whole Outcome.Done in
+      let i : foldReplay r c w p x .block .answer ≡ Outcome.Done → Stands (afterBlocks g xs) c (counted at (foldReplay r c w p x .block .lines)) (second c w p at x rest all-whole) =
+      λ d. blocks-stand xs (λ k m. whole k (List·Memᴰ·tail m)) (g .judging .replay) (g .judging .answer) (g .table) (counted at (foldReplay r c w p x .block .lines)) refl (omega arith) (lent-after r c w p x l d) in
+      rw (append-assoc x (joined xs) tail, block-first (stood p a w .judging) w x e, block-lent r c w p x l) (stand-next c w p at x rest all-whole xs i (foldReplay r c w p x .block .answer) refl)

@@ -15,7 +15,7 @@ use Rattle.definitions.specs.declared.Case.{Case}
 use Rattle.definitions.specs.declared.Outcome.{Outcome}
 use Rattle.definitions.specs.declared.Refusal.{Refusal}
 use Rattle.definitions.specs.declared.Refusal.the-variants.{OutsideLimits, WrongLength, OutOfRange, EndsNotAscending, EdgeRepeated, WeightOutOfRange, CutShort}
-use Rattle.definitions.specs.Rules.{Rules}
+use Rattle.definitions.specs.Rules.{Rules, rulesOf}
 use Rattle.definitions.specs.Refusals.{Test, _when_, firstOf}
 use Rattle.definitions.specs.Answers.{outcomeOf}
 use Rattle.definitions.specs.Case.{lentLength, lowerEnd, upperEnd}
@@ -113,7 +113,10 @@ alike at good false false false false false false false false false false i = re
 
 -- ---- the same of a case, a table and a record
 
-module _ (r : Rules) (c : Case) (w : List ℤ) (p : Replay) where
+module _ (c : Case) (w : List ℤ) (p : Replay) where
+  abbrev r : Rules
+  r = rulesOf c
+
   abbrev limit : Bool
   limit = not (withinLimits r (c .n) (c .d) (c .m))
 
@@ -140,7 +143,7 @@ module _ (r : Rules) (c : Case) (w : List ℤ) (p : Replay) where
   abbrev checked : Option Refusal
   checked = firstOf (handedOver r (workingWeight r) c w false (recordOut r c p))
 
-  stops : (part : Bool) {x : Refusal} → checked ≡ some x → firstOf (finishTests r c w p part) ≡ some x
+  stops : (part : Bool) {x : Refusal} → checked ≡ some x → firstOf (finishTests c w p part) ≡ some x
   stops part e = first-stops (CutShort when (isHeld (p .due) || p .moved || part) ∷ []) (handedOver r (workingWeight r) c w false (recordOut r c p)) e
 
   -- the end's answer, whether it is 5, and what is then checked
@@ -153,19 +156,19 @@ module _ (r : Rules) (c : Case) (w : List ℤ) (p : Replay) where
     check-is : k ≡ outcomeOf checked
     check-is = check ∙ ap outcomeOf (out-checked b (λ t. sym end-is ∙ out .0 t, λ d. out .1 (end-is ∙ d)))
 
-    pub end-refused : (part : Bool) {x : Refusal} → k ≡ Outcome.Refused x → Outcome.Refused x ≡ outcomeOf (firstOf (finishTests r c w p part))
+    pub end-refused : (part : Bool) {x : Refusal} → k ≡ Outcome.Refused x → Outcome.Refused x ≡ outcomeOf (firstOf (finishTests c w p part))
     end-refused part d = ap outcomeOf (sym (stops part (outcome-refused (sym d ∙ check-is))))
 
     module _ (d : k ≡ Outcome.Done) (part : Bool) where
-      pub end-part : part ≡ true → Outcome.Refused CutShort ≡ outcomeOf (firstOf (finishTests r c w p part))
+      pub end-part : part ≡ true → Outcome.Refused CutShort ≡ outcomeOf (firstOf (finishTests c w p part))
       end-part t = rw t (ap outcomeOf (sym (left-part (isHeld (p .due)) (p .moved) limit long (recordOut r c p || outside) descending repeated heavy (outcome-done (sym d ∙ check-is)))))
 
-      pub end-none : part ≡ false → e ≡ outcomeOf (firstOf (finishTests r c w p part))
+      pub end-none : part ≡ false → e ≡ outcomeOf (firstOf (finishTests c w p part))
       end-none t = rw t (end-is ∙ ap outcomeOf (sym (left-none (isHeld (p .due)) (p .moved) limit long (recordOut r c p || outside) descending repeated heavy (outcome-done (sym d ∙ check-is)))))
 
   -- a table that a call takes
   pub finish-judged : Handed r (workingWeight r) c w → (at : ℕ) (part : Bool) (good : Judged) (s : Standing) → p .standing ≡ s
-      → endJudged at (finishStanding r c w p part (p .standing)) good ≡ logJudged at Outcome.Done (endReplay r c p) part good
+      → endJudged at (finishStanding c w p part (p .standing)) good ≡ logJudged at Outcome.Done (endReplay r c p) part good
   unfolding endReplay
   finish-judged h at part good (Standing.Refused x) e = rw e
   finish-judged h at part good Standing.Good e =
@@ -173,7 +176,7 @@ module _ (r : Rules) (c : Case) (w : List ℤ) (p : Replay) where
       rw e (alike at good limit long (recordOut r c p) outside descending repeated heavy (isHeld (p .due)) (p .moved) part i)
 
   -- no number is left
-  pub finish-done : (part : Bool) (s : Standing) → Outcome.Done ≡ finishStanding r c w p part s → Handed r (workingWeight r) c w
+  pub finish-done : (part : Bool) (s : Standing) → Outcome.Done ≡ finishStanding c w p part s → Handed r (workingWeight r) c w
   finish-done part (Standing.Refused x) e = absurd (never e)
     where
       never : Outcome.Done ≡ Outcome.Refused x → ⊥

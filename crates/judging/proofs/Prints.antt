@@ -1,38 +1,40 @@
 -- The start, the blocks and the finish print what document 01 says of the whole input, for every cut of it. Assumes nothing.
-use mathlib.Core.Path.{_≡_, refl, sym, ap, _∙_}
+use mathlib.Core.Path.{_≡_, refl, sym, ap, subst, _∙_}
 use mathlib.Core.Bool.{Bool, true, false, not}
 use mathlib.Core.List.{List, [], _∷_, _++_, append-assoc, List·Memᴰ·head, List·Memᴰ·tail}
 use Prim.Native.Nat.{ℕ, _+_, _*_, _-_, _/_, _%_, _≤_, _<_}
-use native.Mathlib.Nat.{zero-add, mul-comm, mod-add-mod, mod-eq-of-lt, add-mul-div-right}
+use native.Mathlib.Nat.{zero-add, mul-comm, mul-le-mul, mod-add-mod, mod-eq-of-lt, add-mul-div-right}
 use native.Mathlib.Omega.{arith}
 use lib.IntN.{ℤ}
-use lib.Dec.{T, eqb, lit≤}
+use lib.Dec.{T, eqb}
 use lib.ListN.{length, take, drop, length-append, length-drop, length-take}
 use borrow.Author.Tests.{eqb-true}
 use Rattle.integers.specs.Words.{joined}
 use Rattle.integers.specs.Lists.{_∈_}
+use Rattle.definitions.specs.declared.Rulebook.{Rulebook}
 use Rattle.definitions.specs.declared.Case.{Case}
 use Rattle.definitions.specs.declared.FileAnswer.{FileAnswer}
 use Rattle.definitions.specs.declared.Outcome.{Outcome}
 use Rattle.definitions.specs.declared.Refusal.{Refusal}
 use Rattle.definitions.specs.declared.Written.{Written}
-use Rattle.definitions.specs.Rules.{Rules, Coherent, standard, standard-coherent}
+use Rattle.definitions.specs.Rules.{Rules, Coherent, coherent, rulesIn, rulesOf, edgePlaces}
 use Rattle.definitions.specs.Case.{upperBound}
 use Rattle.definitions.specs.Valid.{workingWeight, valid}
 use Rattle.definitions.specs.Lines.{lineLength, wholeLines, linesIn, hasPart, overwritten}
+use Rattle.definitions.specs.Places.{longestLines}
 use Rattle.definitions.specs.CaseFiles.{CaseCall, readCase, caseSize}
 use Rattle.definitions.specs.Programs.{Judged, accepted, refused, judgedText, tableFor, judgeLog, judgeRead, judge, replayPrints}
 use Rattle.checker.specs.Checker.{BlockCall, freshReplay, endReplay, foldReplay}
 use Rattle.theory.proofs.Validity.{Handed}
 use Rattle.theory.proofs.Replays.{sound-fresh, sound-after, handed-after}
-use Rattle.theory.proofs.CaseTests.{CaseKinds, standard-case-kinds}
+use Rattle.theory.proofs.CaseReads.{read-rulebook}
 use Rattle.theory.proofs.CaseTexts.{IsText, written-read, text-length, lineCount}
 use Rattle.checker_theory.proofs.Logs.{logJudged, fresh-lent, log-judged, log-table, log-rounds}
 use Rattle.texts.specs.Texts.{textRoom, greatestCount, writeRefusedCall, writeAcceptedCall}
 use Rattle.texts.proofs.Answers.{text-done}
 use Rattle.judging.specs.Judging.{JudgingCall, answerAt, writeJudged, startJudging, judgedFrom, finishJudging}
 use Rattle.judging.specs.Cuts.{Cut, afterBlocks, printedOf}
-use Rattle.judging.proofs.Fronts.{longestLines, case-line, case-front}
+use Rattle.judging.proofs.Fronts.{case-line, case-front}
 use Rattle.judging.proofs.Blocks.{counted-few, fold-most, Stands, stays, blocks-stand}
 use Rattle.judging.proofs.Ends.{finish-judged}
 
@@ -67,14 +69,16 @@ module _ (width : ℕ) where
       rw length-drop (omega arith)
 
 -- the lines of a case that is read lie in the input's front
-case-within : {r : Rules} → Coherent r → CaseKinds r → (front : List ℕ) (w : List ℤ) {lines : ℕ} → readCase r front w .read .answer ≡ FileAnswer.Read lines
-    → lines * lineLength (r .amountWidth) ≤ length front
-case-within {r} coherent kinds front w {lines} e =
-    let call : CaseCall = readCase r front w in
-    let k : ℕ = lineLength (r .amountWidth) in
-    let text = written-read coherent kinds front w e in
+pub lines-within : (book : Rulebook) (front : List ℕ) (w : List ℤ) {lines : ℕ} → readCase book front w .read .answer ≡ FileAnswer.Read lines
+    → lines * lineLength (rulesIn book .amountWidth) ≤ length front
+lines-within book front w {lines} e =
+    let c : Case = readCase book front w .read .case in
+    let k : ℕ = lineLength (rulesIn book .amountWidth) in
+    let text = written-read book front w e in
+    let width : lineLength (rulesOf c .amountWidth) ≡ k = ap (λ (b : Rulebook). lineLength (rulesIn b .amountWidth)) (read-rulebook book front w) in
     let same : lines * k ≡ length (take (lines * k) front) =
-    ap (λ (n : ℕ). n * k) (text .same-count) ∙ mul-comm (lineCount (call .read .case)) k ∙ sym (text-length coherent (call .read .case) (call .table) (text .accepted)) ∙ ap length (text .same-text) in
+    ap (λ (n : ℕ). n * k) (text .same-count) ∙ mul-comm (lineCount c) k ∙ sym (ap (λ (n : ℕ). n * lineCount c) width)
+    ∙ sym (text-length (coherent (c .rulebook)) c (readCase book front w .table) (text .accepted)) ∙ ap length (text .same-text) in
     omega (arith, length-take (lines * k) front)
 
 -- ---- the text of a judgement
@@ -96,140 +100,160 @@ log-count k at Outcome.Done (Outcome.Refused x) part rounds bound p q = p
 log-count k at Outcome.Done Outcome.Done true rounds bound p q = p
 log-count k at Outcome.Done Outcome.Done false rounds bound p q = q
 
--- ---- any rules
-module _ {r : Rules} (coherent : Coherent r) (kinds : CaseKinds r) (few : longestLines r ≤ greatestCount) where
-  -- a valid case and its log: whole lines and a tail
-  module _ (c : Case) (w : List ℤ) (v : T (valid r c w)) (log : List ℕ) where
-    abbrev all : BlockCall
-    all = foldReplay r c w (freshReplay r c w) log
+-- every case has few lines
+pub few-lines : {r : Rules} → Coherent r → longestLines r ≤ greatestCount
+few-lines {r} whole =
+    let p : r .variables * r .values ≤ 256 * 8 = mul-le-mul (whole .variables-few) (whole .values-few) in
+    let q : r .values * r .values ≤ 8 * 8 = mul-le-mul (whole .values-few) (whole .values-few) in
+    let v : 1 + r .values * r .values ≤ 65 = omega arith in
+    let u : r .edges * (1 + r .values * r .values) ≤ edgePlaces * 65 = mul-le-mul (whole .edges-placed) v in
+    omega arith
 
-    handed-all : Handed r (workingWeight r) c (all .table)
-    handed-all = rw (log-table coherent c w v log) (handed-after r c w v (linesIn (r .amountWidth) log) coherent)
+-- ---- a valid case and its log: whole lines and a tail
+module _ (c : Case) (w : List ℤ) (v : T (valid (rulesOf c) c w)) (log : List ℕ) where
+  abbrev rules : Rules
+  rules = rulesOf c
 
-    rounds-few : all .block .replay .rounds ≤ greatestCount
-    rounds-few =
-        rw (log-rounds coherent c w v log)
-        (omega (arith, sound-after r _ (linesIn (r .amountWidth) log) (sound-fresh r c w v) .few, coherent .rounds-fit))
+  abbrev whole : Coherent rules
+  whole = coherent (c .rulebook)
 
-    -- what stands after the blocks is judged as the log is
-    stands-judged : {g : JudgingCall} {lines : ℕ} (part : Bool) → Stands r g c lines all → lines + all .block .lines ≤ greatestCount
-        → judgedFrom r (g .judging) (g .table) part (g .judging .answer)
-        ≡ logJudged (lines + all .block .lines) (all .block .answer) (endReplay r c (all .block .replay)) part (accepted (all .block .replay .rounds) (upperBound c (all .table)))
-    stands-judged {g} {lines} part s h = go (all .block .answer) refl (s .answer ∙ ap (λ (n : ℕ). answerAt n (all .block .answer)) (counted-few lines (all .block .lines) h))
-      where
-        at : ℕ
-        at = lines + all .block .lines
+  abbrev all : BlockCall
+  all = foldReplay rules c w (freshReplay rules c w) log
 
-        go : (o : Outcome) → all .block .answer ≡ o → g .judging .answer ≡ answerAt (lines + all .block .lines) o
-            → judgedFrom r (g .judging) (g .table) part (g .judging .answer)
-            ≡ logJudged (lines + all .block .lines) o (endReplay r c (all .block .replay)) part (accepted (all .block .replay .rounds) (upperBound c (all .table)))
-        go (Outcome.Refused x) d e = ap (judgedFrom r (g .judging) (g .table) part) e
-        go Outcome.Done d e =
-            ap (judgedFrom r (g .judging) (g .table) part) e
-            ∙ rw (s .case-kept d, s .replay d, s .table d)
-            (finish-judged r c (all .table) (all .block .replay) handed-all (lines + all .block .lines) part (accepted (all .block .replay .rounds) (upperBound c (all .table))) (all .block .replay .standing) refl)
+  handed-all : Handed rules (workingWeight rules) c (all .table)
+  handed-all = rw (log-table whole c w v log) (handed-after rules c w v (linesIn (rules .amountWidth) log) whole)
 
-  module _ (t : List ℕ) (cut : Cut r t) (short : wholeLines (r .amountWidth) t ≤ greatestCount) where
-    abbrev call : CaseCall
-    call = readCase r (cut .front) (tableFor (caseSize r (cut .front)))
+  rounds-few : all .block .replay .rounds ≤ greatestCount
+  rounds-few =
+      rw (log-rounds whole c w v log)
+      (omega (arith, sound-after rules _ (linesIn (rules .amountWidth) log) (sound-fresh rules c w v) .few, whole .rounds-fit))
 
-    abbrev after : JudgingCall
-    after = afterBlocks r (startJudging r (cut .front) (tableFor (caseSize r (cut .front)))) (cut .blocks)
+  -- what stands after the blocks is judged as the log is
+  stands-judged : {g : JudgingCall} {lines : ℕ} (part : Bool) → Stands g c lines all → lines + all .block .lines ≤ greatestCount
+      → judgedFrom (g .judging) (g .table) part (g .judging .answer)
+      ≡ logJudged (lines + all .block .lines) (all .block .answer) (endReplay rules c (all .block .replay)) part (accepted (all .block .replay .rounds) (upperBound c (all .table)))
+  stands-judged {g} {lines} part s h = go (all .block .answer) refl (s .answer ∙ ap (λ (n : ℕ). answerAt n (all .block .answer)) (counted-few lines (all .block .lines) h))
+    where
+      go : (o : Outcome) → all .block .answer ≡ o → g .judging .answer ≡ answerAt (lines + all .block .lines) o
+          → judgedFrom (g .judging) (g .table) part (g .judging .answer)
+          ≡ logJudged (lines + all .block .lines) o (endReplay rules c (all .block .replay)) part (accepted (all .block .replay .rounds) (upperBound c (all .table)))
+      go (Outcome.Refused x) d e = ap (judgedFrom (g .judging) (g .table) part) e
+      go Outcome.Done d e =
+          ap (judgedFrom (g .judging) (g .table) part) e
+          ∙ rw (s .case-kept d, s .replay d, s .table d)
+          (finish-judged c (all .table) (all .block .replay) handed-all (lines + all .block .lines) part (accepted (all .block .replay .rounds) (upperBound c (all .table))) (all .block .replay .standing) refl)
 
-    abbrev judged : Judged
-    judged = judgedFrom r (after .judging) (after .table) (not (eqb (length (cut .tail)) 0)) (after .judging .answer)
+-- ---- a cut of an input that is read under a rulebook
+module _ (book : Rulebook) (t : List ℕ) (cut : Cut book t) (short : wholeLines (rulesIn book .amountWidth) t ≤ greatestCount) where
+  abbrev lent : List ℤ
+  lent = tableFor (caseSize book (cut .front))
 
-    -- the whole input is read as the front is
-    same-read : readCase r t (tableFor (caseSize r t)) ≡ call
-    same-read =
-        let (p, q) = case-front kinds (cut .front) (cut .rest) (cut .enough) in
-        rw (cut .whole) (ap (λ (s : _). readCase r (cut .front ++ cut .rest) (tableFor s)) p ∙ q (tableFor (caseSize r (cut .front))))
+  abbrev call : CaseCall
+  call = readCase book (cut .front) lent
 
-    judge-is : judge r t ≡ judgeRead r t call (call .read .answer)
-    judge-is = ap (λ (k : CaseCall). judgeRead r t k (k .read .answer)) same-read
+  abbrev after : JudgingCall
+  after = afterBlocks (startJudging book (cut .front) lent) (cut .blocks)
 
-    -- the judgement is that of the whole input, and its count can be written
-    abbrev Right : Type 0
-    Right = (judged ≡ judge r t) × (countOf (judge r t) ≤ greatestCount)
+  abbrev judged : Judged
+  judged = judgedFrom (after .judging) (after .table) (not (eqb (length (cut .tail)) 0)) (after .judging .answer)
 
-    abbrev begun : JudgingCall
-    begun = record {
-      judging = record { case = call .read .case; replay = freshReplay r (call .read .case) (call .table); answer = call .read .answer };
-      table = call .table;
-    }
+  -- the whole input is read as the front is
+  same-read : readCase book t (tableFor (caseSize book t)) ≡ call
+  same-read =
+      let (p, q) = case-front book (cut .front) (cut .rest) (cut .enough) in
+      rw (cut .whole) (ap (λ (s : _). readCase book (cut .front ++ cut .rest) (tableFor s)) p ∙ q lent)
 
-    begins : startJudging r (cut .front) (tableFor (caseSize r (cut .front))) ≡ begun
-    unfolding startJudging
-    begins = refl
+  judge-is : judge book t ≡ judgeRead t call (call .read .answer)
+  judge-is = ap (λ (k : CaseCall). judgeRead t k (k .read .answer)) same-read
 
-    right-refused : {x : Refusal} {at : ℕ} → call .read .answer ≡ FileAnswer.Refused x at → Right
-    right-refused {x} {at} e =
-        let stay : after ≡ begun = ap (λ (g : JudgingCall). afterBlocks r g (cut .blocks)) begins ∙ stays r begun e (cut .blocks) in
-        let is : judge r t ≡ refused x at = judge-is ∙ ap (judgeRead r t call) e in
-        let line : at ≤ longestLines r = rw e at (case-line kinds (cut .front) (tableFor (caseSize r (cut .front)))) in (
-          ap (λ (g : JudgingCall). judgedFrom r (g .judging) (g .table) (not (eqb (length (cut .tail)) 0)) (g .judging .answer)) stay
-              ∙ ap (judgedFrom r (begun .judging) (begun .table) (not (eqb (length (cut .tail)) 0))) e ∙ sym is,
-          rw is (omega arith),
+  -- the judgement is that of the whole input, and its count can be written
+  abbrev Right : Type 0
+  Right = (judged ≡ judge book t) × (countOf (judge book t) ≤ greatestCount)
+
+  abbrev c : Case
+  c = call .read .case
+
+  abbrev w : List ℤ
+  w = call .table
+
+  abbrev begun : JudgingCall
+  begun = record {
+    judging = record { case = c; replay = freshReplay (rulesOf c) c w; answer = call .read .answer };
+    table = w;
+  }
+
+  begins : startJudging book (cut .front) lent ≡ begun
+  unfolding startJudging
+  begins = refl
+
+  right-refused : {x : Refusal} {at : ℕ} → call .read .answer ≡ FileAnswer.Refused x at → Right
+  right-refused {x} {at} e =
+      let stay : after ≡ begun = ap (λ (g : JudgingCall). afterBlocks g (cut .blocks)) begins ∙ stays begun e (cut .blocks) in
+      let is : judge book t ≡ refused x at = judge-is ∙ ap (judgeRead t call) e in
+      let line : at ≤ longestLines (rulesIn book) = rw e at (case-line book (cut .front) lent) in (
+        ap (λ (g : JudgingCall). judgedFrom (g .judging) (g .table) (not (eqb (length (cut .tail)) 0)) (g .judging .answer)) stay
+            ∙ ap (judgedFrom (begun .judging) (begun .table) (not (eqb (length (cut .tail)) 0))) e ∙ sym is,
+        rw is (omega (arith, few-lines (coherent book))),
+      )
+
+  module _ {lines : ℕ} (e : call .read .answer ≡ FileAnswer.Read lines) where
+    abbrev log : List ℕ
+    log = joined (cut .blocks) ++ cut .tail
+
+    -- the case is under the reader's rulebook
+    abbrev width : ℕ
+    width = rulesOf c .amountWidth
+
+    same-width : rulesIn book .amountWidth ≡ width
+    same-width = sym (ap (λ (b : Rulebook). rulesIn b .amountWidth) (read-rulebook book (cut .front) lent))
+
+    text : IsText c w lines (take (lines * lineLength (rulesIn book .amountWidth)) (cut .front))
+    text = written-read book (cut .front) lent e
+
+    case-fits : lines * lineLength width ≤ length t
+    case-fits = subst (λ (k : ℕ). lines * lineLength k ≤ length t) same-width
+        (omega (arith, lines-within book (cut .front) lent e, ap length (cut .whole), length-append (cut .front) (cut .rest)))
+
+    log-is : drop (lines * lineLength width) t ≡ log
+    log-is = subst (λ (k : ℕ). drop (lines * lineLength k) t ≡ log) same-width (cut .log lines e)
+
+    blocks-whole : (x : List ℕ) → x ∈ cut .blocks → hasPart width x ≡ false
+    blocks-whole x i = subst (λ (k : ℕ). hasPart k x ≡ false) same-width (cut .lines-whole x i)
+
+    tail-short : length (cut .tail) < lineLength width
+    tail-short = subst (λ (k : ℕ). length (cut .tail) < lineLength k) same-width (cut .tail-short)
+
+    lines-few : lines + all c w (text .accepted) log .block .lines ≤ greatestCount
+    lines-few =
+        let k = rw log-is at (lines-after width lines t case-fits) in
+        let u : wholeLines width t ≤ greatestCount = subst (λ (k : ℕ). wholeLines k t ≤ greatestCount) same-width short in
+        omega (arith, fold-most (rulesOf c) c w (freshReplay (rulesOf c) c w) log)
+
+    stand : Stands after c lines (all c w (text .accepted) log)
+    stand =
+        rw begins
+        (blocks-stand c (cut .tail) tail-short (cut .blocks) blocks-whole (freshReplay (rulesOf c) c w) (call .read .answer) w lines e (omega (arith, lines-few)) (fresh-lent (coherent (c .rulebook)) c w (text .accepted) log))
+
+    right-read : Right
+    right-read =
+        let b : BlockCall = all c w (text .accepted) log in
+        let is = judge-is ∙ ap (judgeRead t call) e ∙ ap (judgeLog c w lines) log-is ∙ log-judged c w (text .accepted) log lines in
+        let part = part-is width (cut .blocks) blocks-whole (cut .tail) tail-short in (
+          stands-judged c w (text .accepted) log (not (eqb (length (cut .tail)) 0)) stand lines-few
+              ∙ ap (λ (p : Bool). logJudged (lines + b .block .lines) (b .block .answer) (endReplay (rulesOf c) c (b .block .replay)) p (accepted (b .block .replay .rounds) (upperBound c (b .table)))) (sym part)
+              ∙ sym is,
+          rw is (log-count greatestCount (lines + b .block .lines) (b .block .answer) (endReplay (rulesOf c) c (b .block .replay)) (hasPart width log) (b .block .replay .rounds) (upperBound c (b .table))
+              lines-few (rounds-few c w (text .accepted) log)),
         )
 
-    module _ {lines : ℕ} (e : call .read .answer ≡ FileAnswer.Read lines) where
-      abbrev c : Case
-      c = call .read .case
+  right : (a : FileAnswer) → call .read .answer ≡ a → Right
+  right (FileAnswer.Refused x at) e = right-refused e
+  right (FileAnswer.Read lines) e = right-read e
 
-      abbrev w : List ℤ
-      w = call .table
-
-      abbrev log : List ℕ
-      log = joined (cut .blocks) ++ cut .tail
-
-      text : IsText r c w lines (take (lines * lineLength (r .amountWidth)) (cut .front))
-      text = written-read coherent kinds (cut .front) (tableFor (caseSize r (cut .front))) e
-
-      case-fits : lines * lineLength (r .amountWidth) ≤ length t
-      case-fits =
-          omega (arith, case-within coherent kinds (cut .front) (tableFor (caseSize r (cut .front))) e, ap length (cut .whole), length-append (cut .front) (cut .rest))
-
-      lines-few : lines + all c w (text .accepted) log .block .lines ≤ greatestCount
-      lines-few =
-          let k = rw (cut .log lines e) at (lines-after (r .amountWidth) lines t case-fits) in
-          omega (arith, fold-most r c w (freshReplay r c w) log)
-
-      stand : Stands r after c lines (all c w (text .accepted) log)
-      stand =
-          rw begins
-          (blocks-stand r (cut .tail) (cut .tail-short) (cut .blocks) (cut .lines-whole) (begun .judging) w lines e (omega (arith, lines-few)) (fresh-lent coherent c w (text .accepted) log))
-
-      right-read : Right
-      right-read =
-          let b : BlockCall = all c w (text .accepted) log in
-          let is = judge-is ∙ ap (judgeRead r t call) e ∙ ap (judgeLog r c w lines) (cut .log lines e) ∙ log-judged coherent c w (text .accepted) log lines in
-          let part = part-is (r .amountWidth) (cut .blocks) (cut .lines-whole) (cut .tail) (cut .tail-short) in (
-            stands-judged c w (text .accepted) log (not (eqb (length (cut .tail)) 0)) stand lines-few
-                ∙ ap (λ (p : Bool). logJudged (lines + b .block .lines) (b .block .answer) (endReplay r c (b .block .replay)) p (accepted (b .block .replay .rounds) (upperBound c (b .table)))) (sym part)
-                ∙ sym is,
-            rw is (log-count greatestCount (lines + b .block .lines) (b .block .answer) (endReplay r c (b .block .replay)) (hasPart (r .amountWidth) log) (b .block .replay .rounds) (upperBound c (b .table))
-                lines-few (rounds-few c w (text .accepted) log)),
-          )
-
-    right : (a : FileAnswer) → call .read .answer ≡ a → Right
-    right (FileAnswer.Refused x at) e = right-refused e
-    right (FileAnswer.Read lines) e = right-read e
-
-    prints : (out : List ℕ) → textRoom ≤ length out
-        → printedOf r (cut .front) (cut .blocks) (cut .tail) out ≡ record { answer = Written.Bytes (length (replayPrints r t)); out = overwritten (replayPrints r t) out }
-    unfolding finishJudging
-    prints out room =
-        let (p, q) = right (call .read .answer) refl in
-        ap (writeJudged out) p ∙ judged-written out (judge r t) room q
-
--- ---- with the numbers of document 01
-
-pub lines-within : (front : List ℕ) (w : List ℤ) {lines : ℕ} → readCase standard front w .read .answer ≡ FileAnswer.Read lines
-    → lines * lineLength (standard .amountWidth) ≤ length front
-lines-within = case-within standard-coherent (standard-case-kinds standard refl)
-
--- for every input of at most so many lines and every cut of it, what is written is what `replay` prints
-pub replay-printed : (t : List ℕ) (cut : Cut standard t) → wholeLines (standard .amountWidth) t ≤ greatestCount → (out : List ℕ) → textRoom ≤ length out
-    → printedOf standard (cut .front) (cut .blocks) (cut .tail) out
-    ≡ record { answer = Written.Bytes (length (replayPrints standard t)); out = overwritten (replayPrints standard t) out }
-replay-printed = prints standard-coherent (standard-case-kinds standard refl) (lit≤ tt)
+  -- for every input of at most so many lines and every cut of it, what is written is what `replay` prints
+  pub replay-printed : (out : List ℕ) → textRoom ≤ length out
+      → printedOf book (cut .front) (cut .blocks) (cut .tail) out ≡ record { answer = Written.Bytes (length (replayPrints book t)); out = overwritten (replayPrints book t) out }
+  unfolding finishJudging
+  replay-printed out room =
+      let (p, q) = right (call .read .answer) refl in
+      ap (writeJudged out) p ∙ judged-written out (judge book t) room q

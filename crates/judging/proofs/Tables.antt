@@ -11,46 +11,47 @@ use lib.ListN.{length, take, replicate, length-replicate}
 use Rattle.integers.specs.Words.{if_then_else_}
 use Rattle.integers.specs.Options.{none-some}
 use Rattle.definitions.specs.declared.Case.{Case}
+use Rattle.definitions.specs.declared.Rulebook.{Rulebook}
 use Rattle.definitions.specs.declared.Line.{Line}
 use Rattle.definitions.specs.declared.CaseSize.{CaseSize}
 use Rattle.definitions.specs.declared.Refusal.{Refusal}
 use Rattle.definitions.specs.declared.Refusal.the-variants.{CutShort}
-use Rattle.definitions.specs.Rules.{Rules, standard}
+use Rattle.definitions.specs.Rules.{Rules, rulesIn, coherent}
+use Rattle.definitions.specs.Places.{longestTable, tablePlaces, placed}
 use Rattle.definitions.specs.Refusals.{firstOf}
 use Rattle.definitions.specs.Case.{lentLength}
 use Rattle.definitions.specs.CaseFiles.{headTests, headed, isCut, firstLine, headRefusal, caseSize}
 use Rattle.definitions.specs.Programs.{tableFor}
-use Rattle.theory.proofs.CaseTests.{CaseKinds, standard-case-kinds, head-passed}
+use Rattle.theory.proofs.CaseTests.{case-kinds, head-passed}
 use Rattle.judging.proofs.Fronts.{sized}
 
--- the longest table
-abbrev longestTable : Rules → ℕ
-longestTable r = r .variables * r .values + r .edges * (r .values * r .values)
+module _ (book : Rulebook) where
+  abbrev r : Rules
+  r = rulesIn book
 
-module _ {r : Rules} (kinds : CaseKinds r) where
   -- a head that is taken asks for no longer one
-  head-long : (b : Bool) (l : Option Line) → (if b then some CutShort else firstOf (headTests r l)) ≡ none → lentLength (headed r l) ≤ longestTable r
+  head-long : (b : Bool) (l : Option Line) → (if b then some CutShort else firstOf (headTests r l)) ≡ none → lentLength (headed book l) ≤ longestTable r
   head-long true l e = absurd (none-some (sym e))
   head-long false none e = absurd (none-some (sym e))
   head-long false (some l) e =
-      let (same, limits) = head-passed kinds l e in
-      let c : Case = headed r (some l) in
+      let (same, limits) = head-passed (case-kinds (coherent book)) l e in
+      let c : Case = headed book (some l) in
       let p : c .n * c .d ≤ r .variables * r .values = mul-le-mul (limits .variables-most) (limits .values-most) in
       let q : c .d * c .d ≤ r .values * r .values = mul-le-mul (limits .values-most) (limits .values-most) in
       let u : c .m * (c .d * c .d) ≤ r .edges * (r .values * r .values) = mul-le-mul {m₁ = c .d * c .d} (limits .edges-most) q in
       omega arith
 
-  table-long : (t : List ℕ) → length (tableFor (caseSize r t)) ≤ longestTable r
+  table-long : (t : List ℕ) → length (tableFor (caseSize book t)) ≤ longestTable r
   unfolding sized
   table-long t = go (headRefusal r t) refl
     where
-      go : (o : Option Refusal) → headRefusal r t ≡ o → length (tableFor (sized r o (firstLine r t))) ≤ longestTable r
-      go none e = let c : Case = headed r (firstLine r t) in omega (arith, length-replicate (lentLength c) (pos 0), head-long (isCut r t) (firstLine r t) e)
+      go : (o : Option Refusal) → headRefusal r t ≡ o → length (tableFor (sized book o (firstLine r t))) ≤ longestTable r
+      go none e = let c : Case = headed book (firstLine r t) in omega (arith, length-replicate (lentLength c) (pos 0), head-long (isCut r t) (firstLine r t) e)
       go (some x) e = omega arith
 
--- with the numbers of document 01
-pub table-most : (t : List ℕ) → length (tableFor (caseSize standard t)) ≤ 6528
-table-most t = table-long (standard-case-kinds standard refl) t
+  -- the programs' tables have places for it
+  pub table-most : (t : List ℕ) → length (tableFor (caseSize book t)) ≤ tablePlaces
+  table-most t = omega (arith, table-long t, placed book .table)
 
 -- its length by what the head says
 pub size-refused : {s : CaseSize} {x : Refusal} → s ≡ CaseSize.Refused x → 0 ≡ length (tableFor s)

@@ -11,7 +11,7 @@ use definitions::Written;
 ghost use mathlib.Core.Path.{_≡_};
 ghost use mathlib.Core.Logic.{_↔_};
 ghost use lib.Dec.{T};
-ghost use Rattle.definitions.specs.Rules.{standard};
+ghost use Rattle.definitions.specs.declared.Rulebook.the-variants.{Desk};
 ghost use Rattle.definitions.specs.Refusals.{firstOf};
 ghost use Rattle.definitions.specs.Answers.{outcomeOf};
 ghost use Rattle.judging.specs.Judging.{counted, answerAt, writeJudged, startJudging, blockFrom, blockJudging, finishTests, finishStanding, judgedFrom, finishJudging};
@@ -52,7 +52,7 @@ fn answer_at(at: usize, answer: Outcome) -> FileAnswer
 
 // A block after so many lines that got no number.
 fn block_from(judging: Judging, table: &mut [i64], bytes: &[u8], passed: usize) -> Judging
-    ensures { λ r. ⌜ (r ≡ blockFrom standard judging (now (table .entry)) (now (bytes .entry)) (FileAnswer.Read passed) .judging) × (now (table .exit) ≡ blockFrom standard judging (now (table .entry)) (now (bytes .entry)) (FileAnswer.Read passed) .table) ⌝ }
+    ensures { λ r. ⌜ (r ≡ blockFrom judging (now (table .entry)) (now (bytes .entry)) (FileAnswer.Read passed) .judging) × (now (table .exit) ≡ blockFrom judging (now (table .entry)) (now (bytes .entry)) (FileAnswer.Read passed) .table) ⌝ }
 {
     let case = judging.case;
     let replay = judging.replay;
@@ -85,7 +85,7 @@ fn is_out(ended: Outcome) -> bool
 // A record that is good. The end asks 5 of the record and of the edges, which are asked here again with the table.
 fn end_good(case: Case, table: &[i64], replay: Replay, part: bool) -> Outcome
     requires { ⌜ replay .standing ≡ Standing.Good ⌝ }
-    ensures { λ r. ⌜ r ≡ outcomeOf (firstOf (finishTests standard case (now (table .entry)) replay part)) ⌝ }
+    ensures { λ r. ⌜ r ≡ outcomeOf (firstOf (finishTests case (now (table .entry)) replay part)) ⌝ }
 {
     let ended = replay.end(case);
     let checked = tables::check_working(case, table, false, is_out(ended));
@@ -99,7 +99,7 @@ fn end_good(case: Case, table: &[i64], replay: Replay, part: bool) -> Outcome
 }
 
 fn end(case: Case, table: &[i64], replay: Replay, part: bool) -> Outcome
-    ensures { λ r. ⌜ r ≡ finishStanding standard case (now (table .entry)) replay part (replay .standing) ⌝ }
+    ensures { λ r. ⌜ r ≡ finishStanding case (now (table .entry)) replay part (replay .standing) ⌝ }
 {
     let standing = replay.standing;
     match standing {
@@ -110,7 +110,7 @@ fn end(case: Case, table: &[i64], replay: Replay, part: bool) -> Outcome
 
 // No line has a number.
 fn write_end(judging: Judging, table: &[i64], part: bool, passed: usize, out: &mut [u8]) -> Written
-    ensures { λ r. ⌜ (r ≡ writeJudged (now (out .entry)) (judgedFrom standard judging (now (table .entry)) part (FileAnswer.Read passed)) .answer) × (now (out .exit) ≡ writeJudged (now (out .entry)) (judgedFrom standard judging (now (table .entry)) part (FileAnswer.Read passed)) .out) ⌝ }
+    ensures { λ r. ⌜ (r ≡ writeJudged (now (out .entry)) (judgedFrom judging (now (table .entry)) part (FileAnswer.Read passed)) .answer) × (now (out .exit) ≡ writeJudged (now (out .entry)) (judgedFrom judging (now (table .entry)) part (FileAnswer.Read passed)) .out) ⌝ }
 {
     let case = judging.case;
     let replay = judging.replay;
@@ -131,7 +131,7 @@ fn write_end(judging: Judging, table: &[i64], part: bool, passed: usize, out: &m
 
 // Reads the case at the front of the input. The front must hold the longest case or the whole input.
 pub fn start(front: &[u8], table: &mut [i64]) -> Judging
-    ensures { λ r. ⌜ (r ≡ startJudging standard (now (front .entry)) (now (table .entry)) .judging) × (now (table .exit) ≡ startJudging standard (now (front .entry)) (now (table .entry)) .table) ⌝ }
+    ensures { λ r. ⌜ (r ≡ startJudging Desk (now (front .entry)) (now (table .entry)) .judging) × (now (table .exit) ≡ startJudging Desk (now (front .entry)) (now (table .entry)) .table) ⌝ }
 {
     let read = casefile::read_case(front, table);
     let case = read.case;
@@ -146,7 +146,7 @@ pub fn start(front: &[u8], table: &mut [i64]) -> Judging
 
 // The next whole lines of the log.
 pub fn block(judging: Judging, table: &mut [i64], bytes: &[u8]) -> Judging
-    ensures { λ r. ⌜ (r ≡ blockJudging standard judging (now (table .entry)) (now (bytes .entry)) .judging) × (now (table .exit) ≡ blockJudging standard judging (now (table .entry)) (now (bytes .entry)) .table) ⌝ }
+    ensures { λ r. ⌜ (r ≡ blockJudging judging (now (table .entry)) (now (bytes .entry)) .judging) × (now (table .exit) ≡ blockJudging judging (now (table .entry)) (now (bytes .entry)) .table) ⌝ }
 {
     let answer = judging.answer;
     match answer {
@@ -160,7 +160,7 @@ pub fn block(judging: Judging, table: &mut [i64], bytes: &[u8]) -> Judging
 
 // Writes what `replay` prints where the input ends here; `part`: fewer bytes than a line are left.
 pub fn finish(judging: Judging, table: &[i64], part: bool, out: &mut [u8]) -> Written
-    ensures { λ r. ⌜ (r ≡ finishJudging standard judging (now (table .entry)) part (now (out .entry)) .answer) × (now (out .exit) ≡ finishJudging standard judging (now (table .entry)) part (now (out .entry)) .out) ⌝ }
+    ensures { λ r. ⌜ (r ≡ finishJudging judging (now (table .entry)) part (now (out .entry)) .answer) × (now (out .exit) ≡ finishJudging judging (now (table .entry)) part (now (out .entry)) .out) ⌝ }
 {
     let answer = judging.answer;
     match answer {

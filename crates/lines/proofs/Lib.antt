@@ -3,4 +3,5 @@ pub mod Steps
 pub mod Signs
 pub mod Stores
 pub mod Answers
+pub mod AtRules
 pub mod Widths

@@ -1,27 +1,28 @@
 // Lines: five numbers in columns and a line feed, read and written (document 01, "Lines"). The width of the amount column is an argument;
-// the calls at the end are the instance at today's width.
+// `read_line` and `write_line` are at the desk's.
 use definitions::Line;
 use definitions::LineRead;
 use definitions::Outcome;
 use definitions::Refusal;
+use definitions::Rulebook;
 use definitions::Written;
 ghost use mathlib.Core.Path.{_≡_};
 ghost use mathlib.Core.Bool.{false};
 ghost use mathlib.Core.List.{_++_};
 ghost use Prim.Native.Nat.{_+_, _-_, _≤_, _<_, _^_};
+ghost use lib.Dec.{ltb};
 ghost use lib.IntN.{pos, natAbs};
 ghost use Rattle.integers.specs.Words.{within};
 ghost use lib.ListN.{length, take, drop, replicate};
-ghost use Rattle.definitions.specs.Rules.{Rules, standard};
+ghost use Rattle.definitions.specs.declared.Rulebook.the-variants.{Desk};
+ghost use Rattle.definitions.specs.Rules.{rulesIn};
 ghost use Rattle.definitions.specs.Lines.{decimal, numberText, tooWide, columnText, readPositive, readNumber, readColumn, columnAt, lineLength, lineText, lineTooWide, overwritten};
 ghost use Rattle.definitions.specs.Calls.{readLineAnswer, writeLineCall};
 ghost use Rattle.lines.specs.Found.{digitsFound, digitsValue, plainFound, negativeFound, columnFound, lineFound, lineAnswer};
+ghost use Rattle.lines.specs.AtWidth.{widthOut, lineOut, readLineAt, writeLineAt};
 ghost use Rattle.lines.specs.WriteNumber.{writeNumberCall};
 ghost use Rattle.lines.specs.Words.{Word};
 ghost use Rattle.lines.specs.Digits.{fourDigits, signByte};
-
-// The width of the amount column today.
-const AMOUNT: usize = 12;
 
 // Four spaces as a word.
 const BLANKS: u64 = 538976288;
@@ -238,26 +239,6 @@ fn line_of(kind: Column, a: Column, b: Column, c: Column, amount: Column) -> Lin
     })
 }
 
-// A line under any rules whose amount column has this width.
-fn read_line_in(bytes: &[u8], width: usize) -> LineRead
-    requires { ⌜ width ≤ 18 ⌝ }
-    ensures { λ r. ⌜ ((s : Rules) → s .amountWidth ≡ width → r ≡ readLineAnswer s (now (bytes .entry))) ⌝ }
-{
-    let end = 14 + width;
-    if bytes.len() != end + 1 {
-        return LineRead::Refused(Refusal::NotInColumns);
-    }
-    if bytes[end] != 10 {
-        return LineRead::Refused(Refusal::NotInColumns);
-    }
-    let kind = read_pair(bytes, 0);
-    let a = read_narrow(bytes, 2);
-    let b = read_narrow(bytes, 6);
-    let c = read_narrow(bytes, 10);
-    let amount = read_wide(&bytes[14..end]);
-    line_of(kind, a, b, c, amount)
-}
-
 // ---- writing
 
 // z without its sign.
@@ -332,6 +313,26 @@ fn line_too_wide(line: Line, width: usize) -> bool
         | too_wide(4, line.b)
         | too_wide(4, line.c)
         | too_wide(width, line.amount)
+}
+
+// No line of this width holds the line.
+fn line_out(line: Line, width: usize) -> bool
+    ensures { λ r. ⌜ r ≡ lineOut width line ⌝ }
+{
+    if width_out(width) {
+        return true;
+    }
+    line_too_wide(line, width)
+}
+
+// So many bytes are fewer than a line.
+fn is_short(room: usize, width: usize) -> bool
+    ensures { λ r. ⌜ r ≡ ltb room (lineLength width) ⌝ }
+{
+    if room < 15 {
+        return true;
+    }
+    room - 15 < width
 }
 
 // Puts n's digits at the end of out, one at a time, and answers where they begin.
@@ -429,36 +430,6 @@ fn put_line(out: &mut [u8], line: Line, width: usize)
     out[14 + width] = 10;
 }
 
-// A line under any rules whose amount column has this width.
-fn write_line_in(out: &mut [u8], line: Line, width: usize) -> Outcome
-    requires { ⌜ (1 ≤ width) × (width ≤ 18) ⌝ }
-    ensures { λ r. ⌜ ((s : Rules) → s .amountWidth ≡ width → (r ≡ writeLineCall s (now (out .entry)) line .answer) × (now (out .exit) ≡ writeLineCall s (now (out .entry)) line .out)) ⌝ }
-{
-    if out.len() < 15 + width {
-        return Outcome::Refused(Refusal::WrongLength);
-    }
-    if line_too_wide(line, width) {
-        return Outcome::Refused(Refusal::OutOfRange);
-    }
-    put_line(out, line, width);
-    Outcome::Done
-}
-
-// ---- the calls
-
-pub fn read_line(bytes: &[u8]) -> LineRead
-    ensures { λ r. ⌜ r ≡ readLineAnswer standard (now (bytes .entry)) ⌝ }
-{
-    read_line_in(bytes, AMOUNT)
-}
-
-// Writes the line at out's first bytes.
-pub fn write_line(out: &mut [u8], line: Line) -> Outcome
-    ensures { λ r. ⌜ (r ≡ writeLineCall standard (now (out .entry)) line .answer) × (now (out .exit) ≡ writeLineCall standard (now (out .entry)) line .out) ⌝ }
-{
-    write_line_in(out, line, AMOUNT)
-}
-
 // Writes z without padding at out's first bytes, and answers how many they are.
 pub fn write_number(out: &mut [u8], z: i64) -> Written
     ensures { λ r. ⌜ (r ≡ writeNumberCall (now (out .entry)) z .answer) × (now (out .exit) ≡ writeNumberCall (now (out .entry)) z .out) ⌝ }
@@ -469,4 +440,64 @@ pub fn write_number(out: &mut [u8], z: i64) -> Written
     }
     put_column(&mut out[..n], z);
     Written::Bytes(n)
+}
+
+// ---- the calls at any width
+
+// No amount column has this width.
+pub fn width_out(width: usize) -> bool
+    ensures { λ r. ⌜ r ≡ widthOut width ⌝ }
+{
+    !((1 <= width) & (width <= 18))
+}
+
+// A line whose amount column has this width.
+pub fn read_line_in(bytes: &[u8], width: usize) -> LineRead
+    ensures { λ r. ⌜ r ≡ readLineAt width (now (bytes .entry)) ⌝ }
+{
+    if width_out(width) {
+        return LineRead::Refused(Refusal::NotInColumns);
+    }
+    let end = 14 + width;
+    if bytes.len() != end + 1 {
+        return LineRead::Refused(Refusal::NotInColumns);
+    }
+    if bytes[end] != 10 {
+        return LineRead::Refused(Refusal::NotInColumns);
+    }
+    let kind = read_pair(bytes, 0);
+    let a = read_narrow(bytes, 2);
+    let b = read_narrow(bytes, 6);
+    let c = read_narrow(bytes, 10);
+    let amount = read_wide(&bytes[14..end]);
+    line_of(kind, a, b, c, amount)
+}
+
+// Writes the line at out's first bytes, with an amount column of this width.
+pub fn write_line_in(out: &mut [u8], line: Line, width: usize) -> Outcome
+    ensures { λ r. ⌜ (r ≡ writeLineAt width (now (out .entry)) line .answer) × (now (out .exit) ≡ writeLineAt width (now (out .entry)) line .out) ⌝ }
+{
+    if is_short(out.len(), width) {
+        return Outcome::Refused(Refusal::WrongLength);
+    }
+    if line_out(line, width) {
+        return Outcome::Refused(Refusal::OutOfRange);
+    }
+    put_line(out, line, width);
+    Outcome::Done
+}
+
+// ---- the calls at the desk's width
+
+pub fn read_line(bytes: &[u8]) -> LineRead
+    ensures { λ r. ⌜ r ≡ readLineAnswer (rulesIn Desk) (now (bytes .entry)) ⌝ }
+{
+    read_line_in(bytes, rules::amount_width(Rulebook::Desk))
+}
+
+// Writes the line at out's first bytes.
+pub fn write_line(out: &mut [u8], line: Line) -> Outcome
+    ensures { λ r. ⌜ (r ≡ writeLineCall (rulesIn Desk) (now (out .entry)) line .answer) × (now (out .exit) ≡ writeLineCall (rulesIn Desk) (now (out .entry)) line .out) ⌝ }
+{
+    write_line_in(out, line, rules::amount_width(Rulebook::Desk))
 }

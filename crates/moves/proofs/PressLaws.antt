@@ -14,7 +14,7 @@ use Rattle.definitions.specs.declared.Case.{Case}
 use Rattle.definitions.specs.declared.Refusal.{Refusal}
 use Rattle.definitions.specs.declared.Refusal.the-variants.{OutsideLimits, LeavesRange}
 use Rattle.definitions.specs.declared.Outcome.{Outcome}
-use Rattle.definitions.specs.Rules.{standard}
+use Rattle.definitions.specs.Rules.{rulesOf}
 use Rattle.definitions.specs.Refusals.{Test, _when_, firstOf}
 use Rattle.definitions.specs.Answers.{outcomeOf, unlessRefused}
 use Rattle.definitions.specs.Case.{scopeCount, active}
@@ -36,8 +36,8 @@ use Rattle.moves.proofs.MarkLaws.{marked-long, raised-is, inside-more, 
 
 -- ---- the arguments, by what is asked of the variable and the amount first
 module _ (c : Case) (raised : List ℕ) (i : ℕ) (a : ℤ) where
-  pub first-out : loweringOut standard c i a ≡ true → true ≡ pressOut standard c i raised a
-  first-out e = go (not (ltb i (c .n))) (not (within 1 (scopeCount c - 1) (length raised))) (any (λ x. not (ltb x (scopeCount c))) raised) (not (pressAmount standard a)) e
+  pub first-out : loweringOut (rulesOf c) c i a ≡ true → true ≡ pressOut (rulesOf c) c i raised a
+  first-out e = go (not (ltb i (c .n))) (not (within 1 (scopeCount c - 1) (length raised))) (any (λ x. not (ltb x (scopeCount c))) raised) (not (pressAmount (rulesOf c) a)) e
     where
       go : (p q r s : Bool) → (p || s) ≡ true → true ≡ (p || q || r || s)
       go true q r s e = refl
@@ -45,16 +45,16 @@ module _ (c : Case) (raised : List ℕ) (i : ℕ) (a : ℤ) where
       go false false true s e = refl
       go false false false s e = sym e
 
-  module _ (e : loweringOut standard c i a ≡ false) where
-    pub count-out : within 1 (scopeCount c - 1) (length raised) ≡ false → true ≡ pressOut standard c i raised a
-    count-out d = rw d (go (not (ltb i (c .n))) (any (λ x. not (ltb x (scopeCount c))) raised) (not (pressAmount standard a)))
+  module _ (e : loweringOut (rulesOf c) c i a ≡ false) where
+    pub count-out : within 1 (scopeCount c - 1) (length raised) ≡ false → true ≡ pressOut (rulesOf c) c i raised a
+    count-out d = rw d (go (not (ltb i (c .n))) (any (λ x. not (ltb x (scopeCount c))) raised) (not (pressAmount (rulesOf c) a)))
       where
         go : (p r s : Bool) → true ≡ (p || true || r || s)
         go true r s = refl
         go false r s = refl
 
-    pub scopes-out : within 1 (scopeCount c - 1) (length raised) ≡ true → any (λ x. not (ltb x (scopeCount c))) raised ≡ pressOut standard c i raised a
-    scopes-out d = rw d (go (not (ltb i (c .n))) (any (λ x. not (ltb x (scopeCount c))) raised) (not (pressAmount standard a)) e)
+    pub scopes-out : within 1 (scopeCount c - 1) (length raised) ≡ true → any (λ x. not (ltb x (scopeCount c))) raised ≡ pressOut (rulesOf c) c i raised a
+    scopes-out d = rw d (go (not (ltb i (c .n))) (any (λ x. not (ltb x (scopeCount c))) raised) (not (pressAmount (rulesOf c) a)) e)
       where
         go : (p r s : Bool) → (p || s) ≡ false → r ≡ (p || false || r || s)
         go true r s e = cc
@@ -64,10 +64,10 @@ module _ (c : Case) (raised : List ℕ) (i : ℕ) (a : ℤ) where
 -- ---- the call that checks: number 11 is left
 module _ (c : Case) (w : List ℤ) (i : ℕ) (raised : List ℕ) (a : ℤ) where
   pub range-left : activeRefuted c w i raised ≡ true
-      → firstOf (askedOfRaised standard c w i raised a) ≡ firstOf (LeavesRange when (leavesRange standard c (moved c (press i raised a) w)) ∷ [])
+      → firstOf (askedOfRaised (rulesOf c) c w i raised a) ≡ firstOf (LeavesRange when (leavesRange (rulesOf c) c (moved c (press i raised a) w)) ∷ [])
   range-left u = rw u
 
-  pub raised-left : isRising raised ≡ true → isIn raised i ≡ false → firstOf (askedOfPress standard c w i raised a) ≡ firstOf (askedOfRaised standard c w i raised a)
+  pub raised-left : isRising raised ≡ true → isIn raised i ≡ false → firstOf (askedOfPress (rulesOf c) c w i raised a) ≡ firstOf (askedOfRaised (rulesOf c) c w i raised a)
   raised-left p q = rw (p, q)
 
   -- marks for the raised scopes
@@ -77,34 +77,34 @@ module _ (c : Case) (w : List ℤ) (i : ℕ) (raised : List ℕ) (a : ℤ) where
 
 module _ (c : Case) (w : List ℤ) (i : ℕ) (raised : List ℕ) (a : ℤ) where
   abbrev asked : List Test
-  asked = handedOver standard (workingWeight standard) c w false (pressOut standard c i raised a)
+  asked = handedOver (rulesOf c) (workingWeight (rulesOf c)) c w false (pressOut (rulesOf c) c i raised a)
 
   pub press-refused : {x : Refusal} → Outcome.Refused x ≡ outcomeOf (firstOf asked)
-      → (Outcome.Refused x ≡ pressCall standard c w i raised a .answer) × (w ≡ pressCall standard c w i raised a .table)
+      → (Outcome.Refused x ≡ pressCall (rulesOf c) c w i raised a .answer) × (w ≡ pressCall (rulesOf c) c w i raised a .table)
   unfolding pressCall
   press-refused d =
-      (refused-answer standard c w (press i raised a) asked (askedOfPress standard c w i raised a) d, refused-table standard c w (press i raised a) asked (askedOfPress standard c w i raised a) d)
+      (refused-answer (rulesOf c) c w (press i raised a) asked (askedOfPress (rulesOf c) c w i raised a) d, refused-table (rulesOf c) c w (press i raised a) asked (askedOfPress (rulesOf c) c w i raised a) d)
 
   pub press-next : Outcome.Done ≡ outcomeOf (firstOf asked)
-      → (moveCall standard c w (press i raised a) (askedOfPress standard c w i raised a) .answer ≡ pressCall standard c w i raised a .answer)
-      × (moveCall standard c w (press i raised a) (askedOfPress standard c w i raised a) .table ≡ pressCall standard c w i raised a .table)
+      → (moveCall (rulesOf c) c w (press i raised a) (askedOfPress (rulesOf c) c w i raised a) .answer ≡ pressCall (rulesOf c) c w i raised a .answer)
+      × (moveCall (rulesOf c) c w (press i raised a) (askedOfPress (rulesOf c) c w i raised a) .table ≡ pressCall (rulesOf c) c w i raised a .table)
   unfolding pressCall
   press-next d =
-      (next-answer standard c w (press i raised a) asked (askedOfPress standard c w i raised a) d, next-table standard c w (press i raised a) asked (askedOfPress standard c w i raised a) d)
+      (next-answer (rulesOf c) c w (press i raised a) asked (askedOfPress (rulesOf c) c w i raised a) d, next-table (rulesOf c) c w (press i raised a) asked (askedOfPress (rulesOf c) c w i raised a) d)
 
-  pub outside-limits : withinLimits standard (c .n) (c .d) (c .m) ≡ false → Outcome.Refused OutsideLimits ≡ outcomeOf (firstOf asked)
+  pub outside-limits : withinLimits (rulesOf c) (c .n) (c .d) (c .m) ≡ false → Outcome.Refused OutsideLimits ≡ outcomeOf (firstOf asked)
   outside-limits e = rw e
 
   -- arguments that are not out
-  pub press-in : T (not (pressOut standard c i raised a)) → ((i < c .n) × T (all (λ x. ltb x (scopeCount c)) raised)) × T (pressAmount standard a)
+  pub press-in : T (not (pressOut (rulesOf c) c i raised a)) → ((i < c .n) × T (all (λ x. ltb x (scopeCount c)) raised)) × T (pressAmount (rulesOf c) a)
   press-in t =
-      let s = none-out (not (ltb i (c .n))) (not (within 1 (scopeCount c - 1) (length raised))) (any (λ x. not (ltb x (scopeCount c))) raised) (not (pressAmount standard a)) t in (
+      let s = none-out (not (ltb i (c .n))) (not (within 1 (scopeCount c - 1) (length raised))) (any (λ x. not (ltb x (scopeCount c))) raised) (not (pressAmount (rulesOf c) a)) t in (
         (
           ltb→lt i (c .n) (not-not-iff (ltb i (c .n)) .0 (s .0)),
           all-in (λ x. ltb x (scopeCount c)) raised .1 (λ x m. not-not-iff (ltb x (scopeCount c)) .0 (not-T (not (ltb x (scopeCount c))) (λ u.
               T-not (any (λ x. not (ltb x (scopeCount c))) raised) (s .1) (any-in (λ x. not (ltb x (scopeCount c))) raised .1 (x, m, u))))),
         ),
-        not-not-iff (pressAmount standard a) .0 (s .2),
+        not-not-iff (pressAmount (rulesOf c) a) .0 (s .2),
       )
     where
       none-out : (p q r s : Bool) → T (not (p || q || r || s)) → T (not p) × T (not r) × T (not s)
@@ -115,10 +115,10 @@ module _ (c : Case) (w : List ℤ) (i : ℕ) (raised : List ℕ) (a : ℤ) where
       none-out true q r s t = absurd t
 
 -- ---- the press with marks and greatest weights made for it
-module _ {c : Case} {w : List ℤ} (h : Handed standard (workingWeight standard) c w) (i : ℕ) (raised : List ℕ) (a : ℤ)
-    (variable : i < c .n) (inside : T (all (λ x. ltb x (scopeCount c)) raised)) (amount : T (pressAmount standard a))
+module _ {c : Case} {w : List ℤ} (h : Handed (rulesOf c) (workingWeight (rulesOf c)) c w) (i : ℕ) (raised : List ℕ) (a : ℤ)
+    (variable : i < c .n) (inside : T (all (λ x. ltb x (scopeCount c)) raised)) (amount : T (pressAmount (rulesOf c) a))
     (zeros : List ℕ) (clear : (y : ℕ) → getD zeros y 0 ≡ 0) (room : scopeCount c ≤ length zeros) (out : List ℤ) (space : scopeCount c ≤ length out) where
-  module _ {marks : List ℕ} {best : List ℤ} (e : marks ≡ marked zeros raised) (d : best ≡ greatestCall standard c w out .best) where
+  module _ {marks : List ℕ} {best : List ℤ} (e : marks ≡ marked zeros raised) (d : best ≡ greatestCall (rulesOf c) c w out .best) where
     pub best-made : BestOf c w best
     best-made = subst (λ (l : List ℤ). BestOf c w l) (sym d) (greatest-known out h space .1)
 
@@ -129,20 +129,20 @@ module _ {c : Case} {w : List ℤ} (h : Handed standard (workingWeight standard)
     marks-are x = ap (λ (l : List ℕ). isRaised l x) e ∙ raised-is zeros raised (inside-more raised (scopeCount c) (length zeros) room inside) clear x
 
     -- what the search for families answers
-    pub press-refuted : c .m ≤ length (c .lower) → c .m ≤ length (c .upper) → saysYes (bestUnsupportedAnswer standard c w best marks i) ≡ activeRefuted c w i raised
+    pub press-refuted : c .m ≤ length (c .lower) → c .m ≤ length (c .upper) → saysYes (bestUnsupportedAnswer (rulesOf c) c w best marks i) ≡ activeRefuted c w i raised
     press-refuted lowers uppers =
         ap saysYes (best-unsupported-is-refuted c w h best best-made marks marks-long lowers uppers i variable) ∙ says-yes (allRefuted c w (isRaised marks) i (activeValues c w i))
         ∙ marks-refute c w i marks raised marks-are
 
     pub press-raised-is : activeRefuted c w i raised ≡ true → {o : Outcome} {t : List ℤ}
-        → o ≡ lowerAndRaiseCall standard c w best marks i a .answer → t ≡ lowerAndRaiseCall standard c w best marks i a .table
-        → (o ≡ moveCall standard c w (press i raised a) (askedOfRaised standard c w i raised a) .answer)
-        × (t ≡ moveCall standard c w (press i raised a) (askedOfRaised standard c w i raised a) .table)
+        → o ≡ lowerAndRaiseCall (rulesOf c) c w best marks i a .answer → t ≡ lowerAndRaiseCall (rulesOf c) c w best marks i a .table
+        → (o ≡ moveCall (rulesOf c) c w (press i raised a) (askedOfRaised (rulesOf c) c w i raised a) .answer)
+        × (t ≡ moveCall (rulesOf c) c w (press i raised a) (askedOfRaised (rulesOf c) c w i raised a) .table)
     press-raised-is u p q =
         let k = lower-and-raise-is-press h best-made marks i a marks-long variable amount in
         let g = press-marked c w i raised a marks marks-are in
         let l = range-left c w i raised a u in (
-          p ∙ k .0 ∙ ap (λ (v : List ℤ). outcomeOf (firstOf (LeavesRange when (leavesRange standard c v) ∷ []))) g ∙ ap outcomeOf (sym l),
-          q ∙ k .1 ∙ ap (λ (v : List ℤ). unlessRefused (firstOf (LeavesRange when (leavesRange standard c v) ∷ [])) v w) g
+          p ∙ k .0 ∙ ap (λ (v : List ℤ). outcomeOf (firstOf (LeavesRange when (leavesRange (rulesOf c) c v) ∷ []))) g ∙ ap outcomeOf (sym l),
+          q ∙ k .1 ∙ ap (λ (v : List ℤ). unlessRefused (firstOf (LeavesRange when (leavesRange (rulesOf c) c v) ∷ [])) v w) g
               ∙ ap (λ o. unlessRefused o (moved c (press i raised a) w) w) (sym l),
         )

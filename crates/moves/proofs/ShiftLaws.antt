@@ -9,7 +9,7 @@ use Rattle.definitions.specs.declared.Case.{Case}
 use Rattle.definitions.specs.declared.Refusal.{Refusal}
 use Rattle.definitions.specs.declared.Refusal.the-variants.{LeavesRange}
 use Rattle.definitions.specs.declared.Outcome.{Outcome}
-use Rattle.definitions.specs.Rules.{standard}
+use Rattle.definitions.specs.Rules.{rulesOf}
 use Rattle.definitions.specs.Refusals.{Test, _when_, firstOf}
 use Rattle.definitions.specs.Answers.{outcomeOf}
 use Rattle.definitions.specs.Case.{scopeCount}
@@ -26,27 +26,27 @@ use Rattle.moves.proofs.Answers.{refused-answer, refused-table, next-an
 -- ---- the call, by what the check answers
 module _ (c : Case) (w : List ℤ) (e end v : ℕ) (a : ℤ) where
   abbrev asked : List Test
-  asked = handedOver standard (workingWeight standard) c w false (shiftOut standard c e end v a)
+  asked = handedOver (rulesOf c) (workingWeight (rulesOf c)) c w false (shiftOut (rulesOf c) c e end v a)
 
   abbrev leaves : List Test
-  leaves = LeavesRange when (leavesRange standard c (moved c (shift e end v a) w)) ∷ []
+  leaves = LeavesRange when (leavesRange (rulesOf c) c (moved c (shift e end v a) w)) ∷ []
 
   pub shift-refused : {x : Refusal} → Outcome.Refused x ≡ outcomeOf (firstOf asked)
-      → (Outcome.Refused x ≡ shiftCall standard c w e end v a .answer) × (w ≡ shiftCall standard c w e end v a .table)
+      → (Outcome.Refused x ≡ shiftCall (rulesOf c) c w e end v a .answer) × (w ≡ shiftCall (rulesOf c) c w e end v a .table)
   unfolding shiftCall
-  shift-refused d = (refused-answer standard c w (shift e end v a) asked leaves d, refused-table standard c w (shift e end v a) asked leaves d)
+  shift-refused d = (refused-answer (rulesOf c) c w (shift e end v a) asked leaves d, refused-table (rulesOf c) c w (shift e end v a) asked leaves d)
 
   shift-next : Outcome.Done ≡ outcomeOf (firstOf asked)
-      → (moveCall standard c w (shift e end v a) leaves .answer ≡ shiftCall standard c w e end v a .answer)
-      × (moveCall standard c w (shift e end v a) leaves .table ≡ shiftCall standard c w e end v a .table)
+      → (moveCall (rulesOf c) c w (shift e end v a) leaves .answer ≡ shiftCall (rulesOf c) c w e end v a .answer)
+      × (moveCall (rulesOf c) c w (shift e end v a) leaves .table ≡ shiftCall (rulesOf c) c w e end v a .table)
   unfolding shiftCall
-  shift-next d = (next-answer standard c w (shift e end v a) asked leaves d, next-table standard c w (shift e end v a) asked leaves d)
+  shift-next d = (next-answer (rulesOf c) c w (shift e end v a) asked leaves d, next-table (rulesOf c) c w (shift e end v a) asked leaves d)
 
   -- the transfer with the greatest weights made for it
-  pub shift-given : Outcome.Done ≡ outcomeOf (firstOf asked) → Handed standard (workingWeight standard) c w → shiftOut standard c e end v a ≡ false
-      → (out : List ℤ) → scopeCount c ≤ length out → {best : List ℤ} → best ≡ greatestCall standard c w out .best
-      → {o : Outcome} {t : List ℤ} → o ≡ transferCall standard c w best e end v a .answer → t ≡ transferCall standard c w best e end v a .table
-      → (o ≡ shiftCall standard c w e end v a .answer) × (t ≡ shiftCall standard c w e end v a .table)
+  pub shift-given : Outcome.Done ≡ outcomeOf (firstOf asked) → Handed (rulesOf c) (workingWeight (rulesOf c)) c w → shiftOut (rulesOf c) c e end v a ≡ false
+      → (out : List ℤ) → scopeCount c ≤ length out → {best : List ℤ} → best ≡ greatestCall (rulesOf c) c w out .best
+      → {o : Outcome} {t : List ℤ} → o ≡ transferCall (rulesOf c) c w best e end v a .answer → t ≡ transferCall (rulesOf c) c w best e end v a .table
+      → (o ≡ shiftCall (rulesOf c) c w e end v a .answer) × (t ≡ shiftCall (rulesOf c) c w e end v a .table)
   shift-given d h inside out space g p q =
       let k = transfer-is-shift h (subst (λ (l : List ℤ). BestOf c w l) (sym g) (greatest-known out h space .1)) e end v a inside in
       let n = shift-next d in

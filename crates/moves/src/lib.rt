@@ -2,6 +2,7 @@
 use definitions::Case;
 use definitions::Outcome;
 use definitions::Refusal;
+use definitions::SCOPE_PLACES;
 use definitions::Verdict;
 ghost use mathlib.Core.Path.{_≡_};
 ghost use mathlib.Core.Bool.{not};
@@ -9,7 +10,7 @@ ghost use Prim.Native.Nat.{_<_};
 ghost use lib.Dec.{T, ltb};
 ghost use lib.ListN.{length};
 ghost use Rattle.integers.specs.Words.{all, any, isIn};
-ghost use Rattle.definitions.specs.Rules.{standard};
+ghost use Rattle.definitions.specs.Rules.{rulesOf};
 ghost use Rattle.definitions.specs.Case.{scopeCount};
 ghost use Rattle.definitions.specs.Valid.{workingWeight};
 ghost use Rattle.definitions.specs.Moves.{press as pressMove, pressAmount};
@@ -66,8 +67,8 @@ fn is_rising(scopes: &[u16]) -> bool
 }
 
 fn press_out(case: Case, variable: usize, raised: &[u16], amount: i64) -> bool
-    requires { ⌜ Limited standard case ⌝ }
-    ensures { λ r. ⌜ r ≡ pressOut standard case variable (now (raised .entry)) amount ⌝ }
+    requires { ⌜ Limited case ⌝ }
+    ensures { λ r. ⌜ r ≡ pressOut (rulesOf case) case variable (now (raised .entry)) amount ⌝ }
 {
     if changes::lowering_out(case, variable, amount) {
         return true;
@@ -116,15 +117,15 @@ fn press_raised(
     raised: &[u16],
     amount: i64,
 ) -> Outcome
-    requires { ⌜ Handed standard (workingWeight standard) case (now table) ⌝ }
+    requires { ⌜ Handed (rulesOf case) (workingWeight (rulesOf case)) case (now table) ⌝ }
     requires { ⌜ (variable < case .n) × T (all (λ x. ltb x (scopeCount case)) (now raised)) ⌝ }
-    requires { ⌜ T (pressAmount standard amount) ⌝ }
-    ensures { λ r. ⌜ r ≡ moveCall standard case (now (table .entry)) (pressMove variable (now (raised .entry)) amount) (askedOfRaised standard case (now (table .entry)) variable (now (raised .entry)) amount) .answer ⌝ }
-    ensures { λ r. ⌜ now (table .exit) ≡ moveCall standard case (now (table .entry)) (pressMove variable (now (raised .entry)) amount) (askedOfRaised standard case (now (table .entry)) variable (now (raised .entry)) amount) .table ⌝ }
+    requires { ⌜ T (pressAmount (rulesOf case) amount) ⌝ }
+    ensures { λ r. ⌜ r ≡ moveCall (rulesOf case) case (now (table .entry)) (pressMove variable (now (raised .entry)) amount) (askedOfRaised (rulesOf case) case (now (table .entry)) variable (now (raised .entry)) amount) .answer ⌝ }
+    ensures { λ r. ⌜ now (table .exit) ≡ moveCall (rulesOf case) case (now (table .entry)) (pressMove variable (now (raised .entry)) amount) (askedOfRaised (rulesOf case) case (now (table .entry)) variable (now (raised .entry)) amount) .table ⌝ }
 {
-    let mut marks = [0u8; 144];
+    let mut marks = [0u8; SCOPE_PLACES];
     mark_scopes(&mut marks, raised);
-    let mut best = [0i64; 144];
+    let mut best = [0i64; SCOPE_PLACES];
     tables::greatest_weights(case, table, &mut best);
     if !is_yes(arcs::best_unsupported(case, table, &best, &marks, variable)) {
         return Outcome::Refused(Refusal::NotRefuted);
@@ -140,11 +141,11 @@ fn press_checked(
     raised: &[u16],
     amount: i64,
 ) -> Outcome
-    requires { ⌜ Handed standard (workingWeight standard) case (now table) ⌝ }
+    requires { ⌜ Handed (rulesOf case) (workingWeight (rulesOf case)) case (now table) ⌝ }
     requires { ⌜ (variable < case .n) × T (all (λ x. ltb x (scopeCount case)) (now raised)) ⌝ }
-    requires { ⌜ T (pressAmount standard amount) ⌝ }
-    ensures { λ r. ⌜ r ≡ moveCall standard case (now (table .entry)) (pressMove variable (now (raised .entry)) amount) (askedOfPress standard case (now (table .entry)) variable (now (raised .entry)) amount) .answer ⌝ }
-    ensures { λ r. ⌜ now (table .exit) ≡ moveCall standard case (now (table .entry)) (pressMove variable (now (raised .entry)) amount) (askedOfPress standard case (now (table .entry)) variable (now (raised .entry)) amount) .table ⌝ }
+    requires { ⌜ T (pressAmount (rulesOf case) amount) ⌝ }
+    ensures { λ r. ⌜ r ≡ moveCall (rulesOf case) case (now (table .entry)) (pressMove variable (now (raised .entry)) amount) (askedOfPress (rulesOf case) case (now (table .entry)) variable (now (raised .entry)) amount) .answer ⌝ }
+    ensures { λ r. ⌜ now (table .exit) ≡ moveCall (rulesOf case) case (now (table .entry)) (pressMove variable (now (raised .entry)) amount) (askedOfPress (rulesOf case) case (now (table .entry)) variable (now (raised .entry)) amount) .table ⌝ }
 {
     if !is_rising(raised) {
         return Outcome::Refused(Refusal::RaiseNotAscending);
@@ -165,14 +166,14 @@ pub fn shift(
     value: usize,
     amount: i64,
 ) -> Outcome
-    ensures { λ r. ⌜ (r ≡ shiftCall standard case (now (table .entry)) edge end value amount .answer) × (now (table .exit) ≡ shiftCall standard case (now (table .entry)) edge end value amount .table) ⌝ }
+    ensures { λ r. ⌜ (r ≡ shiftCall (rulesOf case) case (now (table .entry)) edge end value amount .answer) × (now (table .exit) ≡ shiftCall (rulesOf case) case (now (table .entry)) edge end value amount .table) ⌝ }
 {
     let out = changes::transfer_out(case, edge, end, value, amount);
     let checked = tables::check_working(case, table, false, out);
     match checked {
         Outcome::Refused(refusal) => Outcome::Refused(refusal),
         Outcome::Done => {
-            let mut best = [0i64; 144];
+            let mut best = [0i64; SCOPE_PLACES];
             tables::greatest_weights(case, table, &mut best);
             changes::transfer(case, table, &mut best, edge, end, value, amount)
         }
@@ -180,7 +181,7 @@ pub fn shift(
 }
 
 pub fn press(case: Case, table: &mut [i64], variable: usize, raised: &[u16], amount: i64) -> Outcome
-    ensures { λ r. ⌜ (r ≡ pressCall standard case (now (table .entry)) variable (now (raised .entry)) amount .answer) × (now (table .exit) ≡ pressCall standard case (now (table .entry)) variable (now (raised .entry)) amount .table) ⌝ }
+    ensures { λ r. ⌜ (r ≡ pressCall (rulesOf case) case (now (table .entry)) variable (now (raised .entry)) amount .answer) × (now (table .exit) ≡ pressCall (rulesOf case) case (now (table .entry)) variable (now (raised .entry)) amount .table) ⌝ }
 {
     if !tables::within_limits(case) {
         return Outcome::Refused(Refusal::OutsideLimits);

@@ -14,7 +14,7 @@ use Rattle.definitions.specs.declared.Refusal.{Refusal}
 use Rattle.definitions.specs.declared.Outcome.{Outcome}
 use Rattle.definitions.specs.declared.Choice.{Choice}
 use Rattle.definitions.specs.declared.Figure.{Figure}
-use Rattle.definitions.specs.Rules.{standard, standard-coherent}
+use Rattle.definitions.specs.Rules.{rulesOf, coherent}
 use Rattle.definitions.specs.Refusals.{firstOf}
 use Rattle.definitions.specs.Answers.{outcomeOf}
 use Rattle.definitions.specs.Case.{objective, isAssignment}
@@ -28,8 +28,8 @@ no-refusal : (o : Option Refusal) → T (not (isSome o)) → o ≡ none
 no-refusal none t = refl
 no-refusal (some x) t = absurd t
 
-module _ {c : Case} {w : List ℤ} (h : Valid standard c w) where
-  working : Handed standard (workingWeight standard) c w
+module _ {c : Case} {w : List ℤ} (h : Valid (rulesOf c) c w) where
+  working : Handed (rulesOf c) (workingWeight (rulesOf c)) c w
   working = record {
     variables-most = h .variables-most;
     values-most = h .values-most;
@@ -37,26 +37,26 @@ module _ {c : Case} {w : List ℤ} (h : Valid standard c w) where
     long = h .long;
     shape = h .shape;
     apart = h .apart;
-    in-range = working-weights standard-coherent h;
+    in-range = working-weights (coherent (c .rulebook)) h;
   }
 
-  pub objective-given : (p : List ℕ) → T (isAssignment c p) → objectiveAnswer standard c w p ≡ Figure.Value (objective c w p)
+  pub objective-given : (p : List ℕ) → T (isAssignment c p) → objectiveAnswer (rulesOf c) c w p ≡ Figure.Value (objective c w p)
   unfolding objectiveAnswer
   objective-given p a =
       let (s, t) = lent-assignment c p .1 a in
       ap (λ o. figureOf o (objective c w p))
-      (no-refusal (firstOf (handedOver standard (workingWeight standard) c w (wrongAssignment c p) (valueOut c p)))
-      (handed standard (workingWeight standard) c w (wrongAssignment c p) (valueOut c p) .1 (working, s, t)))
+      (no-refusal (firstOf (handedOver (rulesOf c) (workingWeight (rulesOf c)) c w (wrongAssignment c p) (valueOut c p)))
+      (handed (rulesOf c) (workingWeight (rulesOf c)) c w (wrongAssignment c p) (valueOut c p) .1 (working, s, t)))
 
 module _ (c : Case) (w : List ℤ) (p q : List ℕ) where
   -- what is asked of two assignments
   abbrev pub asked : Option Refusal
-  asked = firstOf (handedOver standard (startingWeight standard) c w (wrongAssignment c p || wrongAssignment c q) (valueOut c p || valueOut c q))
+  asked = firstOf (handedOver (rulesOf c) (startingWeight (rulesOf c)) c w (wrongAssignment c p || wrongAssignment c q) (valueOut c p || valueOut c q))
 
-  pub both-known : Outcome.Done ≡ outcomeOf asked → Valid standard c w × T (isAssignment c p) × T (isAssignment c q)
+  pub both-known : Outcome.Done ≡ outcomeOf asked → Valid (rulesOf c) c w × T (isAssignment c p) × T (isAssignment c q)
   both-known e =
       let d : asked ≡ none = outcome-done e in
-      let (v, s, t) = handed standard (startingWeight standard) c w (wrongAssignment c p || wrongAssignment c q) (valueOut c p || valueOut c q) .0 (rw d tt) in
+      let (v, s, t) = handed (rulesOf c) (startingWeight (rulesOf c)) c w (wrongAssignment c p || wrongAssignment c q) (valueOut c p || valueOut c q) .0 (rw d tt) in
       let (s₁, s₂) = not-or-iff (wrongAssignment c p) (wrongAssignment c q) .0 s in
       let (t₁, t₂) = not-or-iff (valueOut c p) (valueOut c q) .0 t in
       (v, lent-assignment c p .0 (s₁, t₁), lent-assignment c q .0 (s₂, t₂))
@@ -67,8 +67,8 @@ module _ (c : Case) (w : List ℤ) (p q : List ℕ) where
     | none ↦ if ltZ (objective c w p) (objective c w q) then Choice.Second else Choice.First
   ]
 
-  pub choice-refused : {x : Refusal} → Outcome.Refused x ≡ outcomeOf asked → Choice.Refused x ≡ betterOf standard c w p q
+  pub choice-refused : {x : Refusal} → Outcome.Refused x ≡ outcomeOf asked → Choice.Refused x ≡ betterOf (rulesOf c) c w p q
   choice-refused {x} e = let d : asked ≡ some x = outcome-refused e in sym (ap choiceOf d)
 
-  pub choice-made : Outcome.Done ≡ outcomeOf asked → (if ltZ (objective c w p) (objective c w q) then Choice.Second else Choice.First) ≡ betterOf standard c w p q
+  pub choice-made : Outcome.Done ≡ outcomeOf asked → (if ltZ (objective c w p) (objective c w q) then Choice.Second else Choice.First) ≡ betterOf (rulesOf c) c w p q
   choice-made e = let d : asked ≡ none = outcome-done e in sym (ap choiceOf d)

@@ -7,7 +7,7 @@ ghost use mathlib.Core.Path.{_≡_};
 ghost use lib.Dec.{T};
 ghost use lib.Signed.{ltZ};
 ghost use Rattle.integers.specs.Words.{if_then_else_};
-ghost use Rattle.definitions.specs.Rules.{standard};
+ghost use Rattle.definitions.specs.Rules.{rulesOf};
 ghost use Rattle.definitions.specs.Answers.{choiceSays};
 ghost use Rattle.definitions.specs.Case.{objective, isAssignment};
 ghost use Rattle.definitions.specs.Scoring.{betterOf, better as betterPart};
@@ -25,7 +25,7 @@ fn value_in(figure: Figure) -> i64
 }
 
 fn objective_of(case: Case, table: &[i64], assignment: &[u8]) -> i64
-    requires { ⌜ Valid standard case (now table) ⌝ }
+    requires { ⌜ Valid (rulesOf case) case (now table) ⌝ }
     requires { ⌜ T (isAssignment case (now assignment)) ⌝ }
     ensures { λ r. ⌜ r ≡ objective case (now (table .entry)) (now (assignment .entry)) ⌝ }
 {
@@ -46,7 +46,7 @@ fn greater(first: i64, second: i64) -> Choice
 
 // The assignment with the greater objective, the first on a tie.
 pub fn better_of(case: Case, table: &[i64], first: &[u8], second: &[u8]) -> Choice
-    ensures { λ r. ⌜ r ≡ betterOf standard case (now (table .entry)) (now (first .entry)) (now (second .entry)) ⌝ }
+    ensures { λ r. ⌜ r ≡ betterOf (rulesOf case) case (now (table .entry)) (now (first .entry)) (now (second .entry)) ⌝ }
 {
     let wrong = (first.len() != case.n) | (second.len() != case.n);
     let out = tables::some_beyond(first, case.d) | tables::some_beyond(second, case.d);
@@ -68,9 +68,9 @@ pub fn better<'a>(
     second: &'a [u8],
     number: &mut u8,
 ) -> &'a [u8]
-    ensures { λ r. ⌜ now r ≡ betterPart standard case (now (table .entry)) (now (first .entry)) (now (second .entry)) ⌝ }
-    ensures { λ r. ⌜ (betterOf standard case (now (table .entry)) (now (first .entry)) (now (second .entry)) ≡ Choice.First → r ≡ first .entry) × (betterOf standard case (now (table .entry)) (now (first .entry)) (now (second .entry)) ≡ Choice.Second → r ≡ second .entry) ⌝ }
-    ensures { λ _. ⌜ now (number .exit) ≡ choiceSays (betterOf standard case (now (table .entry)) (now (first .entry)) (now (second .entry))) .number ⌝ }
+    ensures { λ r. ⌜ now r ≡ betterPart (rulesOf case) case (now (table .entry)) (now (first .entry)) (now (second .entry)) ⌝ }
+    ensures { λ r. ⌜ (betterOf (rulesOf case) case (now (table .entry)) (now (first .entry)) (now (second .entry)) ≡ Choice.First → r ≡ first .entry) × (betterOf (rulesOf case) case (now (table .entry)) (now (first .entry)) (now (second .entry)) ≡ Choice.Second → r ≡ second .entry) ⌝ }
+    ensures { λ _. ⌜ now (number .exit) ≡ choiceSays (betterOf (rulesOf case) case (now (table .entry)) (now (first .entry)) (now (second .entry))) .number ⌝ }
 {
     let choice = better_of(case, table, first, second);
     match choice {

@@ -9,16 +9,17 @@ use lib.IntN.{ℤ}
 use lib.Dec.{T, eqb, eqb→eq}
 use lib.ListN.{length, take, length-append, length-take}
 use Rattle.definitions.specs.declared.Written.{Written}
-use Rattle.definitions.specs.Rules.{standard}
+use Rattle.definitions.specs.declared.Rulebook.the-variants.{Desk}
+use Rattle.definitions.specs.Rules.{rulesIn}
+use Rattle.definitions.specs.Places.{inputPlaces, longestRound, longestCase}
 use Rattle.definitions.specs.Lines.{lineLength}
 use Rattle.definitions.specs.CaseFiles.{caseSize}
 use Rattle.definitions.specs.Programs.{pressLimit, tableFor}
-use Rattle.judging.specs.Cuts.{longestCase}
 use Rattle.streams.specs.declared.Filled.{Filled}
 use Rattle.streams.specs.Streams.{isOver, isFailed, printedPart}
 use Rattle.pressing.specs.declared.Pressed.{Pressed}
 use Rattle.pressing.specs.Pressing.{PressingCall, startPressing, nextPressing}
-use Rattle.pressing.specs.Prints.{longestRound, printedBytes, textOf, called, afterCalls, printedOf, Over, Printed}
+use Rattle.pressing.specs.Prints.{printedBytes, textOf, called, afterCalls, printedOf, Over, Printed}
 use Rattle.pressing.proofs.Prints.{press-printed}
 use Rattle.press.specs.declared.State.{State}
 use Rattle.press.specs.Rounds.{isLast, Next, Rounds, Presses}
@@ -28,15 +29,15 @@ pub part-is : (x : Written) (out : List ℕ) → printedPart x out ≡ printedBy
 part-is (Written.Bytes n) out = refl
 part-is (Written.Refused x) out = refl
 
-after-last : (n : ℕ) (g : PressingCall) → afterCalls standard (suc n) g ≡ called standard (afterCalls standard n g)
+after-last : (n : ℕ) (g : PressingCall) → afterCalls (suc n) g ≡ called (afterCalls n g)
 after-last zero g = refl
-after-last (suc n) g = after-last n (called standard g)
+after-last (suc n) g = after-last n (called g)
 
-printed-last : (n : ℕ) (g : PressingCall) → printedOf standard (suc n) g ≡ printedOf standard n g ++ textOf (afterCalls standard (suc n) g)
+printed-last : (n : ℕ) (g : PressingCall) → printedOf (suc n) g ≡ printedOf n g ++ textOf (afterCalls (suc n) g)
 printed-last zero g = refl
 printed-last (suc n) g =
-    ap (λ (l : List ℕ). textOf g ++ l) (printed-last n (called standard g))
-    ∙ sym (append-assoc (textOf g) (printedOf standard n (called standard g)) (textOf (afterCalls standard (suc (suc n)) g)))
+    ap (λ (l : List ℕ). textOf g ++ l) (printed-last n (called g))
+    ∙ sym (append-assoc (textOf g) (printedOf n (called g)) (textOf (afterCalls (suc (suc n)) g)))
 
 -- a text is no longer than the output
 pub text-most : (x : Written) (out : List ℕ) → length (printedBytes x out) ≤ length out
@@ -45,17 +46,17 @@ text-most (Written.Refused x) out = omega arith
 
 -- the calls so far
 pub record Made (n : ℕ) (g : PressingCall) (s : State) (w : List ℤ) (out : List ℕ) : Type 0 where
-  pub pressed : s .pressed ≡ afterCalls standard n g .pressed
-  pub table : w ≡ afterCalls standard n g .table
-  pub output : out ≡ afterCalls standard n g .out
-  pub bytes : s .bytes ≡ length (printedOf standard n g)
+  pub pressed : s .pressed ≡ afterCalls n g .pressed
+  pub table : w ≡ afterCalls n g .table
+  pub output : out ≡ afterCalls n g .out
+  pub bytes : s .bytes ≡ length (printedOf n g)
 
 pub made-ends : {n : ℕ} {g : PressingCall} {s : State} {w : List ℤ} {out : List ℕ} → Made n g s w out → T (isLast s) ⊎ (pressLimit ≤ n) → Rounds g s w out
 made-ends {n} m e = record { calls = n; pressed = m .pressed; table = m .table; output = m .output; bytes = m .bytes; ends = e }
 
 -- one call more
 module _ {n : ℕ} {g : PressingCall} {s r : State} {w v : List ℤ} {out after : List ℕ} (m : Made n g s w out) (x : Next s w out r v after) where
-  same-next : nextPressing standard (s .pressed .pressing) w out ≡ afterCalls standard (suc n) g
+  same-next : nextPressing (s .pressed .pressing) w out ≡ afterCalls (suc n) g
   same-next = rw (m .pressed, m .table, m .output) (sym (after-last n g))
 
   pub made-next : Made (suc n) g r v after
@@ -65,13 +66,13 @@ module _ {n : ℕ} {g : PressingCall} {s r : State} {w v : List ℤ} {out after 
     output = x .output ∙ ap (λ (k : PressingCall). k .out) same-next;
     bytes =
         let e = ap (λ (k : PressingCall). length (textOf k)) same-next in
-        let p = ap length (printed-last n g) ∙ length-append (printedOf standard n g) (textOf (afterCalls standard (suc n) g)) in
+        let p = ap length (printed-last n g) ∙ length-append (printedOf n g) (textOf (afterCalls (suc n) g)) in
         omega (arith, m .bytes, x .bytes);
   }
 
   pub bytes-more : r .bytes ≤ s .bytes + length after
   bytes-more =
-      let call : PressingCall = nextPressing standard (s .pressed .pressing) w out in
+      let call : PressingCall = nextPressing (s .pressed .pressing) w out in
       omega (arith, x .bytes, text-most (call .pressed .written) (call .out), ap length (x .output))
 
 -- a call by its parts
@@ -80,7 +81,7 @@ pub same-call : (x : PressingCall) {p : Pressed} {w : List ℤ} {out : List ℕ}
 same-call x e f h = rw (e, f, h) refl
 
 -- a buffer that is full, by the bytes that were read
-pub read-all : {over : Type 0} (buf : List ℕ) (to : ℕ) → length buf ≡ 262144 → length (take to buf) ≡ to → (length buf ≤ to) ⊎ over → (262144 ≤ length (take to buf)) ⊎ over
+pub read-all : {over : Type 0} (buf : List ℕ) (to : ℕ) → length buf ≡ inputPlaces → length (take to buf) ≡ to → (length buf ≤ to) ⊎ over → (inputPlaces ≤ length (take to buf)) ⊎ over
 read-all buf to long count (inl h) = inl (omega arith)
 read-all buf to long count (inr o) = inr o
 
@@ -94,15 +95,15 @@ failed-press front filled e = record {
 }
 
 -- what the rounds after a start print
-module _ (front out : List ℕ) (filled : Filled) {r : State} {v : List ℤ} {after : List ℕ} (enough : (262144 ≤ length front) ⊎ T (isOver filled))
-    (room : longestRound standard ≤ length out) (o : Rounds (startPressing standard front (tableFor (caseSize standard front)) out) r v after) where
+module _ (front out : List ℕ) (filled : Filled) {r : State} {v : List ℤ} {after : List ℕ} (enough : (inputPlaces ≤ length front) ⊎ T (isOver filled))
+    (room : longestRound (rulesIn Desk) ≤ length out) (o : Rounds (startPressing Desk front (tableFor (caseSize Desk front)) out) r v after) where
   abbrev begun : PressingCall
-  begun = startPressing standard front (tableFor (caseSize standard front)) out
+  begun = startPressing Desk front (tableFor (caseSize Desk front)) out
 
-  read : (rest : List ℕ) → (T (isOver filled) → rest ≡ []) → (longestCase standard + lineLength (standard .amountWidth) ≤ length front) ⊎ (rest ≡ [])
+  read : (rest : List ℕ) → (T (isOver filled) → rest ≡ []) → (longestCase (rulesIn Desk) + lineLength (rulesIn Desk .amountWidth) ≤ length front) ⊎ (rest ≡ [])
   read rest e = ⊎-elim (λ h. inl (omega arith)) (λ t. inr (e t)) enough
 
-  over : (rest : List ℕ) → Printed standard (front ++ rest) begun → r .all ≡ true → T (isLast r) ⊎ (pressLimit ≤ o .calls) → Over standard (afterCalls standard (o .calls) begun)
+  over : (rest : List ℕ) → Printed Desk (front ++ rest) begun → r .all ≡ true → T (isLast r) ⊎ (pressLimit ≤ o .calls) → Over (afterCalls (o .calls) begun)
   over rest p e (inr h) = p .ends (o .calls) h
   over rest p e (inl t) =
       let last : T (eqb (r .pressed .pressing .left) 0) = rw e at t in
@@ -110,10 +111,10 @@ module _ (front out : List ℕ) (filled : Filled) {r : State} {v : List ℤ} {af
 
   pub rounds-press : {bytes : ℕ} {all : Bool} → isFailed filled ≡ false → bytes ≡ r .bytes → all ≡ r .all → Presses front filled (record { bytes = bytes; all = all })
   rounds-press done b a = record {
-    printed = printedOf standard (o .calls) begun;
+    printed = printedOf (o .calls) begun;
     bytes = b ∙ o .bytes;
     failed = λ f. absurd (subst T done f);
     says = λ f e rest none.
-        let p = press-printed front rest out (read rest none) room in
+        let p = press-printed Desk front rest out (read rest none) room in
         p .printed (o .calls) (over rest p (sym a ∙ e) (o .ends));
   }

@@ -8,7 +8,7 @@ use Prim.Native.Nat.{ℕ, _+_, _≤_}
 use lib.IntN.{ℤ}
 use lib.Dec.{T, eqb}
 use lib.ListN.{length}
-use Rattle.definitions.specs.Rules.{standard}
+use Rattle.definitions.specs.declared.Rulebook.the-variants.{Desk}
 use Rattle.definitions.specs.Programs.{pressLimit, pressPrints}
 use Rattle.streams.specs.declared.Filled.{Filled}
 use Rattle.streams.specs.Streams.{isOver, isFailed}
@@ -23,18 +23,18 @@ isLast s = not (s .all) || eqb (s .pressed .pressing .left) 0
 
 -- the next call, whose text is handed to be printed
 pub record Next (s : State) (w : List ℤ) (out : List ℕ) (r : State) (v : List ℤ) (after : List ℕ) : Type 0 where
-  pub pressed : r .pressed ≡ nextPressing standard (s .pressed .pressing) w out .pressed
-  pub table : v ≡ nextPressing standard (s .pressed .pressing) w out .table
-  pub output : after ≡ nextPressing standard (s .pressed .pressing) w out .out
-  pub bytes : r .bytes ≡ s .bytes + length (textOf (nextPressing standard (s .pressed .pressing) w out))
+  pub pressed : r .pressed ≡ nextPressing (s .pressed .pressing) w out .pressed
+  pub table : v ≡ nextPressing (s .pressed .pressing) w out .table
+  pub output : after ≡ nextPressing (s .pressed .pressing) w out .out
+  pub bytes : r .bytes ≡ s .bytes + length (textOf (nextPressing (s .pressed .pressing) w out))
 
 -- the texts of a call and of so many calls of `next` after it, handed to be printed until a write failed, nothing more is due or all rounds are made
 pub record Rounds (g : PressingCall) (r : State) (v : List ℤ) (after : List ℕ) : Type 0 where
   pub calls : ℕ
-  pub pressed : r .pressed ≡ afterCalls standard calls g .pressed
-  pub table : v ≡ afterCalls standard calls g .table
-  pub output : after ≡ afterCalls standard calls g .out
-  pub bytes : r .bytes ≡ length (printedOf standard calls g)
+  pub pressed : r .pressed ≡ afterCalls calls g .pressed
+  pub table : v ≡ afterCalls calls g .table
+  pub output : after ≡ afterCalls calls g .out
+  pub bytes : r .bytes ≡ length (printedOf calls g)
   pub ends : T (isLast r) ⊎ (pressLimit ≤ calls)
 
 -- what is handed to be printed where a fill read this front of the input: nothing where a read failed; else, where no write failed, what `press`
@@ -43,4 +43,4 @@ pub record Presses (front : List ℕ) (filled : Filled) (r : Printed) : Type 0 w
   pub printed : List ℕ
   pub bytes : r .bytes ≡ length printed
   pub failed : T (isFailed filled) → printed ≡ []
-  pub says : T (not (isFailed filled)) → r .all ≡ true → (rest : List ℕ) → (T (isOver filled) → rest ≡ []) → printed ≡ pressPrints standard (front ++ rest)
+  pub says : T (not (isFailed filled)) → r .all ≡ true → (rest : List ℕ) → (T (isOver filled) → rest ≡ []) → printed ≡ pressPrints Desk (front ++ rest)

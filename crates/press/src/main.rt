@@ -2,17 +2,21 @@
 // by `pressing` on slices. Of an input that is longer than a case and a line more, only the front is read, and it is printed as the whole is
 // (pressing, Prints.press-printed). Where a read failed nothing is printed; the rounds end where a write fails. Both are told on standard error, since
 // a settled case prints nothing either.
+use definitions::INPUT_PLACES;
+use definitions::ROUND_PLACES;
+use definitions::TABLE_PLACES;
 use libc::STDERR_FILENO;
 use libc::STDOUT_FILENO;
 use pressing::Pressed;
 use streams::Filled;
 ghost use mathlib.Core.Path.{_≡_};
 ghost use mathlib.Core.Logic.{_⊎_};
-ghost use Prim.Native.Nat.{_+_, _≤_};
+ghost use Prim.Native.Nat.{_+_, _≤_, _<_, _^_};
 ghost use lib.IntN.{pos};
 ghost use lib.Dec.{T};
 ghost use lib.ListN.{length, replicate};
-ghost use Rattle.definitions.specs.Rules.{standard};
+ghost use Rattle.definitions.specs.declared.Rulebook.the-variants.{Desk};
+ghost use Rattle.definitions.specs.Places.{inputPlaces, tablePlaces, roundPlaces};
 ghost use Rattle.definitions.specs.CaseFiles.{caseSize};
 ghost use Rattle.definitions.specs.Programs.{tableFor};
 ghost use Rattle.streams.specs.Streams.{isOver};
@@ -35,22 +39,22 @@ struct Printed {
     all: bool,
 }
 
-// Room for more than the longest case, which has 178,875 bytes, and a line.
-fn buffer() -> [u8; 262144]
-    ensures { λ r. ⌜ 262144 ≡ length r ⌝ }
+// Room for the longest case and a line.
+fn buffer() -> [u8; INPUT_PLACES]
+    ensures { λ r. ⌜ inputPlaces ≡ length r ⌝ }
 {
-    [0; 262144]
+    [0; INPUT_PLACES]
 }
 
-fn weights() -> [i64; 6528]
-    ensures { λ r. ⌜ r ≡ replicate 6528 (pos 0) ⌝ }
+fn weights() -> [i64; TABLE_PLACES]
+    ensures { λ r. ⌜ r ≡ replicate tablePlaces (pos 0) ⌝ }
 {
-    [0; 6528]
+    [0; TABLE_PLACES]
 }
 
 // Prints what a call wrote, after so many bytes.
 fn print(pressed: Pressed, out: &[u8], before: usize) -> State
-    requires { ⌜ before + length (now out) ≤ 1000000000 ⌝ }
+    requires { ⌜ before + length (now out) < 2 ^ 62 ⌝ }
     ensures { λ r. ⌜ (r .pressed ≡ pressed) × (r .bytes ≡ before + length (printedBytes (pressed .written) (now (out .entry)))) ⌝ }
 {
     let written = pressed.written;
@@ -77,7 +81,7 @@ fn is_last(state: State) -> bool
 
 // The next call, printed.
 fn print_next(state: State, table: &mut [i64], out: &mut [u8]) -> State
-    requires { ⌜ state .bytes + length (now out) ≤ 1000000000 ⌝ }
+    requires { ⌜ state .bytes + length (now out) < 2 ^ 62 ⌝ }
     ensures { λ r. ⌜ Next state (now (table .entry)) (now (out .entry)) r (now (table .exit)) (now (out .exit)) ⌝ }
 {
     let pressed = state.pressed;
@@ -88,7 +92,7 @@ fn print_next(state: State, table: &mut [i64], out: &mut [u8]) -> State
 
 // The rounds after a start that was printed.
 fn print_rounds(first: State, table: &mut [i64], out: &mut [u8]) -> State
-    requires { ⌜ (length (now out) ≡ 3915) × (first .bytes ≡ length (printedBytes (first .pressed .written) (now out))) ⌝ }
+    requires { ⌜ (length (now out) ≡ roundPlaces) × (first .bytes ≡ length (printedBytes (first .pressed .written) (now out))) ⌝ }
     ensures { λ r. ⌜ Rounds (record { pressed = first .pressed; table = now (table .entry); out = now (out .entry) }) r (now (table .exit)) (now (out .exit)) ⌝ }
 {
     let mut state = first;
@@ -103,9 +107,9 @@ fn print_rounds(first: State, table: &mut [i64], out: &mut [u8]) -> State
     state
 }
 
-// The output has room for the lines of a round: a press, 143 raises and a bound at most.
+// The output has room for the lines of the longest round.
 fn run(input: &[u8], filled: Filled, table: &mut [i64]) -> Printed
-    requires { ⌜ (now table ≡ tableFor (caseSize standard (now input))) × ((262144 ≤ length (now input)) ⊎ T (isOver filled)) ⌝ }
+    requires { ⌜ (now table ≡ tableFor (caseSize Desk (now input))) × ((inputPlaces ≤ length (now input)) ⊎ T (isOver filled)) ⌝ }
     ensures { λ r. ⌜ Presses (now (input .entry)) filled r ⌝ }
 {
     if streams::is_failed(filled) {
@@ -114,7 +118,7 @@ fn run(input: &[u8], filled: Filled, table: &mut [i64]) -> Printed
             all: true,
         };
     }
-    let mut space = [0u8; 3915];
+    let mut space = [0u8; ROUND_PLACES];
     let out: &mut [u8] = &mut space;
     let begun = pressing::start(input, table, out);
     let first = print(begun, out, 0);

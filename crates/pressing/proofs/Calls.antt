@@ -9,6 +9,7 @@ use lib.IntN.{ℤ}
 use lib.Dec.{T, eqb, ltb}
 use lib.ListN.{length}
 use Rattle.integers.specs.Words.{if_then_else_}
+use Rattle.definitions.specs.declared.Rulebook.{Rulebook}
 use Rattle.definitions.specs.declared.Case.{Case}
 use Rattle.definitions.specs.declared.CaseRead.{CaseRead}
 use Rattle.definitions.specs.declared.FileAnswer.{FileAnswer}
@@ -17,7 +18,7 @@ use Rattle.definitions.specs.declared.Round.{Round}
 use Rattle.definitions.specs.declared.RunAnswer.{RunAnswer}
 use Rattle.definitions.specs.declared.Run.{Run}
 use Rattle.definitions.specs.declared.Written.{Written}
-use Rattle.definitions.specs.Rules.{Rules}
+use Rattle.definitions.specs.Rules.{Rules, rulesOf}
 use Rattle.definitions.specs.Calls.{writtenOf}
 use Rattle.definitions.specs.CaseFiles.{CaseCall, caseOf, caseSize, readCaseAlone}
 use borrow.Author.Tests.{ne-eqb}
@@ -109,52 +110,51 @@ module _ (r : Rules) (c : Case) (w : List ℤ) (out : List ℕ) where
       made (round moves) = moved moves (afterMoves r c moves w)
 
       go : (o : Option Refusal) → engineRefusal r engineNext c w out ≡ o → ranNone (answerAtLimit (roundCall r engineNext c w out .answer)) ≡ writtenOf o 0
-      go none e = ap (λ (u : RoundCall). ranNone (answerAtLimit (u .answer))) (call-taken r engineNext c w out e) ∙ made (engineNext c w)
+      go none e = ap (λ (u : RoundCall). ranNone (answerAtLimit (u .answer))) (call-taken r engineNext c w out e) ∙ made (engineNext r c w)
       go (some x) e = ap (λ (u : RunCall). ranNone (u .run .answer)) (run-refused r engineNext c w out 0 e)
 
   pub asked-round : {res : Run} {v : List ℤ} {bytes : List ℕ} → (res ≡ none-ran .run) × (v ≡ none-ran .table) × (bytes ≡ none-ran .out)
       → {a : RunAnswer} → res .answer ≡ a → (ranNone a ≡ writtenOf (engineRefusal r engineNext c w out) 0) × (v ≡ w) × (bytes ≡ out)
   asked-round (p, q, o) e = let (k, t, l) = run-asks in (ap ranNone (sym e ∙ ap (λ (u : Run). u .answer) p) ∙ k, q ∙ t, o ∙ l)
 
-module _ (r : Rules) where
-  module _ (p : Pressing) (w : List ℤ) (out : List ℕ) where
-    abbrev idle : PressingCall
-    idle = record { pressed = toPressed p (writtenOf (engineRefusal r engineNext (p .case) w out) 0); table = w; out = out }
+module _ (p : Pressing) (w : List ℤ) (out : List ℕ) where
+  abbrev idle : PressingCall
+  idle = record { pressed = toPressed p (writtenOf (engineRefusal (rulesOf (p .case)) engineNext (p .case) w out) 0); table = w; out = out }
 
-    pub next-is : {b : Bool} → eqb (p .left) 0 ≡ b → (if b then idle else roundNext r p w out) ≡ nextPressing r p w out
-    unfolding nextPressing
-    next-is e = sym (ap (λ (b : Bool). if b then idle else roundNext r p w out) e)
+  pub next-is : {b : Bool} → eqb (p .left) 0 ≡ b → (if b then idle else roundNext p w out) ≡ nextPressing p w out
+  unfolding nextPressing
+  next-is e = sym (ap (λ (b : Bool). if b then idle else roundNext p w out) e)
 
-    -- where a call has something to print or nothing to say, fewer rounds may follow
-    pub next-falls : 0 < p .left → T (isText (nextPressing r p w out .pressed .written)) → nextPressing r p w out .pressed .pressing .left < p .left
-    next-falls h =
-        subst (λ (g : PressingCall). T (isText (g .pressed .written)) → g .pressed .pressing .left < p .left)
-        (next-is (ne-eqb (p .left) 0 (λ e. omega arith))) (round-falls p (roundCall r engineNext (p .case) w out) (roundCall r engineNext (p .case) w out .answer) h)
+  -- where a call has something to print or nothing to say, fewer rounds may follow
+  pub next-falls : 0 < p .left → T (isText (nextPressing p w out .pressed .written)) → nextPressing p w out .pressed .pressing .left < p .left
+  next-falls h =
+      subst (λ (g : PressingCall). T (isText (g .pressed .written)) → g .pressed .pressing .left < p .left)
+      (next-is (ne-eqb (p .left) 0 (λ e. omega arith))) (round-falls p (roundCall (rulesOf (p .case)) engineNext (p .case) w out) (roundCall (rulesOf (p .case)) engineNext (p .case) w out .answer) h)
 
-  -- ---- the start
-  module _ (t : List ℕ) (w : List ℤ) (out : List ℕ) where
-    abbrev unread : PressingCall
-    unread = record { pressed = toPressed (record { case = caseOf r 0 0 0; lines = 0; left = 0 }) (Written.Refused (headOrShort (caseSize r t))); table = w; out = out }
+-- ---- the start
+module _ (book : Rulebook) (t : List ℕ) (w : List ℤ) (out : List ℕ) where
+  abbrev unread : PressingCall
+  unread = record { pressed = toPressed (record { case = caseOf book 0 0 0; lines = 0; left = 0 }) (Written.Refused (headOrShort (caseSize book t))); table = w; out = out }
 
-    abbrev begun : PressingCall
-    begun = afterCase r out (readCaseAlone r t w) (readCaseAlone r t w .read .answer)
+  abbrev begun : PressingCall
+  begun = afterCase out (readCaseAlone book t w) (readCaseAlone book t w .read .answer)
 
-    pub start-is : {b : Bool} → ltb (length out) textRoom ≡ b → (if b then unread else begun) ≡ startPressing r t w out
-    unfolding startPressing
-    start-is e = sym (ap (λ (b : Bool). if b then unread else begun) e)
+  pub start-is : {b : Bool} → ltb (length out) textRoom ≡ b → (if b then unread else begun) ≡ startPressing book t w out
+  unfolding startPressing
+  start-is e = sym (ap (λ (b : Bool). if b then unread else begun) e)
 
-  module _ (out : List ℕ) (call : CaseCall) {read : CaseRead} {v : List ℤ} (told : (read ≡ call .read) × (v ≡ call .table)) where
-    pub start-refused : {x : Refusal} {at : ℕ} → read .answer ≡ FileAnswer.Refused x at
-        → {y : Written} {bytes : List ℕ} → (y ≡ writeRefusedCall out x at .answer) × (bytes ≡ writeRefusedCall out x at .out)
-        → Leaves (toPressed (record { case = read .case; lines = at; left = 0 }) y) v bytes (afterCase r out call (call .read .answer))
-    start-refused {x} {at} e (a, o) =
-        let (p, q) = told in
-        same-pressing (ap (afterCase r out call) (sym e ∙ ap (λ (k : CaseRead). k .answer) p))
-        (ap₂ (λ (k : CaseRead) (z : Written). toPressed (record { case = k .case; lines = at; left = 0 }) z) p a, q, o)
+module _ (out : List ℕ) (call : CaseCall) {read : CaseRead} {v : List ℤ} (told : (read ≡ call .read) × (v ≡ call .table)) where
+  pub start-refused : {x : Refusal} {at : ℕ} → read .answer ≡ FileAnswer.Refused x at
+      → {y : Written} {bytes : List ℕ} → (y ≡ writeRefusedCall out x at .answer) × (bytes ≡ writeRefusedCall out x at .out)
+      → Leaves (toPressed (record { case = read .case; lines = at; left = 0 }) y) v bytes (afterCase out call (call .read .answer))
+  start-refused {x} {at} e (a, o) =
+      let (p, q) = told in
+      same-pressing (ap (afterCase out call) (sym e ∙ ap (λ (k : CaseRead). k .answer) p))
+      (ap₂ (λ (k : CaseRead) (z : Written). toPressed (record { case = k .case; lines = at; left = 0 }) z) p a, q, o)
 
-    pub start-read : {lines : ℕ} → read .answer ≡ FileAnswer.Read lines
-        → Leaves (toPressed (record { case = read .case; lines = lines; left = pressLimit }) (Written.Bytes 0)) v out (afterCase r out call (call .read .answer))
-    start-read {lines} e =
-        let (p, q) = told in
-        same-pressing (ap (afterCase r out call) (sym e ∙ ap (λ (k : CaseRead). k .answer) p))
-        (ap (λ (k : CaseRead). toPressed (record { case = k .case; lines = lines; left = pressLimit }) (Written.Bytes 0)) p, q, refl)
+  pub start-read : {lines : ℕ} → read .answer ≡ FileAnswer.Read lines
+      → Leaves (toPressed (record { case = read .case; lines = lines; left = pressLimit }) (Written.Bytes 0)) v out (afterCase out call (call .read .answer))
+  start-read {lines} e =
+      let (p, q) = told in
+      same-pressing (ap (afterCase out call) (sym e ∙ ap (λ (k : CaseRead). k .answer) p))
+      (ap (λ (k : CaseRead). toPressed (record { case = k .case; lines = lines; left = pressLimit }) (Written.Bytes 0)) p, q, refl)

@@ -7,11 +7,12 @@ use lib.ListN.{length}
 use Rattle.integers.specs.Words.{if_then_else_}
 use Rattle.definitions.specs.declared.CaseSize.{CaseSize}
 use Rattle.definitions.specs.declared.FileAnswer.{FileAnswer}
+use Rattle.definitions.specs.declared.Rulebook.{Rulebook}
 use Rattle.definitions.specs.declared.Refusal.{Refusal}
 use Rattle.definitions.specs.declared.Refusal.the-variants.{WrongLength}
 use Rattle.definitions.specs.declared.Round.{Round}
 use Rattle.definitions.specs.declared.Written.{Written}
-use Rattle.definitions.specs.Rules.{Rules}
+use Rattle.definitions.specs.Rules.{rulesOf}
 use Rattle.definitions.specs.Refusals.{number}
 use Rattle.definitions.specs.Calls.{WriteCall, writtenOf}
 use Rattle.definitions.specs.CaseFiles.{CaseCall, caseOf, caseSize, readCaseAlone}
@@ -58,44 +59,43 @@ abbrev pub headOrShort : CaseSize → Refusal
 headOrShort (CaseSize.Refused x) = shortOr x
 headOrShort (CaseSize.Size n d m long) = WrongLength
 
-module _ (r : Rules) where
-  -- a refused case is printed and nothing more is due; after a case that was read, up to 100,000 rounds
-  abbrev pub afterCase : List ℕ → CaseCall → FileAnswer → PressingCall
-  afterCase out call (FileAnswer.Refused x at) =
-      let text : WriteCall = writeRefusedCall out x at in
-      record {
-        pressed = record { pressing = record { case = call .read .case; lines = at; left = 0 }; written = text .answer };
-        table = call .table;
-        out = text .out;
-      }
-  afterCase out call (FileAnswer.Read lines) = record {
-    pressed = record { pressing = record { case = call .read .case; lines = lines; left = pressLimit }; written = Written.Bytes 0 };
-    table = call .table;
-    out = out;
-  }
+-- a refused case is printed and nothing more is due; after a case that was read, up to 100,000 rounds
+abbrev pub afterCase : List ℕ → CaseCall → FileAnswer → PressingCall
+afterCase out call (FileAnswer.Refused x at) =
+    let text : WriteCall = writeRefusedCall out x at in
+    record {
+      pressed = record { pressing = record { case = call .read .case; lines = at; left = 0 }; written = text .answer };
+      table = call .table;
+      out = text .out;
+    }
+afterCase out call (FileAnswer.Read lines) = record {
+  pressed = record { pressing = record { case = call .read .case; lines = lines; left = pressLimit }; written = Written.Bytes 0 };
+  table = call .table;
+  out = out;
+}
 
-  -- the case is read alone; with an output that is too short for a text nothing is read, and 4 comes after what the head is asked
-  unfoldable pub startPressing : List ℕ → List ℤ → List ℕ → PressingCall
-  startPressing t w out =
-      if ltb (length out) textRoom
-      then record {
-        pressed = record { pressing = record { case = caseOf r 0 0 0; lines = 0; left = 0 }; written = Written.Refused (headOrShort (caseSize r t)) };
-        table = w;
-        out = out;
-      }
-      else (
-      let call : CaseCall = readCaseAlone r t w in
-      afterCase out call (call .read .answer)
-      )
+-- the case is read alone; with an output that is too short for a text nothing is read, and 4 comes after what the head is asked
+unfoldable pub startPressing : Rulebook → List ℕ → List ℤ → List ℕ → PressingCall
+startPressing b t w out =
+    if ltb (length out) textRoom
+    then record {
+      pressed = record { pressing = record { case = caseOf b 0 0 0; lines = 0; left = 0 }; written = Written.Refused (headOrShort (caseSize b t)) };
+      table = w;
+      out = out;
+    }
+    else (
+    let call : CaseCall = readCaseAlone b t w in
+    afterCase out call (call .read .answer)
+    )
 
-  abbrev pub roundNext : Pressing → List ℤ → List ℕ → PressingCall
-  roundNext p w out =
-      let call : RoundCall = roundCall r engineNext (p .case) w out in
-      afterRound p call (call .answer)
+abbrev pub roundNext : Pressing → List ℤ → List ℕ → PressingCall
+roundNext p w out =
+    let call : RoundCall = roundCall (rulesOf (p .case)) engineNext (p .case) w out in
+    afterRound p call (call .answer)
 
-  -- the next round, if one may follow; if none may, what is handed over is asked as the engine's round asks it, and nothing changes
-  unfoldable pub nextPressing : Pressing → List ℤ → List ℕ → PressingCall
-  nextPressing p w out =
-      if eqb (p .left) 0
-      then record { pressed = record { pressing = p; written = writtenOf (engineRefusal r engineNext (p .case) w out) 0 }; table = w; out = out }
-      else roundNext p w out
+-- the next round, if one may follow; if none may, what is handed over is asked as the engine's round asks it, and nothing changes
+unfoldable pub nextPressing : Pressing → List ℤ → List ℕ → PressingCall
+nextPressing p w out =
+    if eqb (p .left) 0
+    then record { pressed = record { pressing = p; written = writtenOf (engineRefusal (rulesOf (p .case)) engineNext (p .case) w out) 0 }; table = w; out = out }
+    else roundNext p w out

@@ -2,15 +2,18 @@
 // to be printed next to a lent output, and what stands between the calls is a record by value and the lent table.
 use definitions::Case;
 use definitions::CaseSize;
+use definitions::EDGE_PLACES;
 use definitions::FileAnswer;
 use definitions::Refusal;
 use definitions::Round;
+use definitions::Rulebook;
 use definitions::RunAnswer;
 use definitions::Written;
 ghost use mathlib.Core.Path.{_≡_};
 ghost use Prim.Native.Nat.{_<_};
 ghost use lib.ListN.{length};
-ghost use Rattle.definitions.specs.Rules.{standard};
+ghost use Rattle.definitions.specs.declared.Rulebook.the-variants.{Desk};
+ghost use Rattle.definitions.specs.Rules.{rulesOf};
 ghost use Rattle.definitions.specs.CaseFiles.{caseOf, caseSize};
 ghost use Rattle.definitions.specs.Calls.{writtenOf};
 ghost use Rattle.definitions.specs.Engine.{engineNext};
@@ -44,16 +47,17 @@ pub struct Pressed {
 }
 
 fn no_case() -> Case
-    ensures { λ r. ⌜ r ≡ caseOf standard 0 0 0 ⌝ }
+    ensures { λ r. ⌜ r ≡ caseOf Desk 0 0 0 ⌝ }
 {
-    let lower = [0u8; 96];
-    let upper = [0u8; 96];
+    let lower = [0u8; EDGE_PLACES];
+    let upper = [0u8; EDGE_PLACES];
     Case {
         n: 0,
         d: 0,
         m: 0,
         lower,
         upper,
+        rulebook: Rulebook::Desk,
     }
 }
 
@@ -105,7 +109,7 @@ fn after_text(pressing: Pressing, written: Written) -> Pressed
 
 fn one_round(pressing: Pressing, table: &mut [i64], out: &mut [u8]) -> Pressed
     requires { ⌜ 0 < pressing .left ⌝ }
-    ensures { λ r. ⌜ (r ≡ roundNext standard pressing (now (table .entry)) (now (out .entry)) .pressed) × (now (table .exit) ≡ roundNext standard pressing (now (table .entry)) (now (out .entry)) .table) × (now (out .exit) ≡ roundNext standard pressing (now (table .entry)) (now (out .entry)) .out) ⌝ }
+    ensures { λ r. ⌜ (r ≡ roundNext pressing (now (table .entry)) (now (out .entry)) .pressed) × (now (table .exit) ≡ roundNext pressing (now (table .entry)) (now (out .entry)) .table) × (now (out .exit) ≡ roundNext pressing (now (table .entry)) (now (out .entry)) .out) ⌝ }
 {
     let case = pressing.case;
     let round = engine::round(case, table, out);
@@ -127,7 +131,7 @@ fn one_round(pressing: Pressing, table: &mut [i64], out: &mut [u8]) -> Pressed
 
 // No round may follow: a run of no round asks what is handed over, and changes nothing.
 fn ask_round(case: Case, table: &mut [i64], out: &mut [u8]) -> Written
-    ensures { λ r. ⌜ (r ≡ writtenOf (engineRefusal standard engineNext case (now (table .entry)) (now (out .entry))) 0) × (now (table .exit) ≡ now (table .entry)) × (now (out .exit) ≡ now (out .entry)) ⌝ }
+    ensures { λ r. ⌜ (r ≡ writtenOf (engineRefusal (rulesOf case) engineNext case (now (table .entry)) (now (out .entry))) 0) × (now (table .exit) ≡ now (table .entry)) × (now (out .exit) ≡ now (out .entry)) ⌝ }
 {
     let run = engine::run(case, table, out, 0);
     let answer = run.answer;
@@ -149,7 +153,7 @@ fn short_or(refusal: Refusal) -> Refusal
 }
 
 fn head_or_short(bytes: &[u8]) -> Refusal
-    ensures { λ r. ⌜ r ≡ headOrShort (caseSize standard (now (bytes .entry))) ⌝ }
+    ensures { λ r. ⌜ r ≡ headOrShort (caseSize Desk (now (bytes .entry))) ⌝ }
 {
     let size = casefile::case_size(bytes);
     match size {
@@ -167,7 +171,7 @@ fn head_or_short(bytes: &[u8]) -> Refusal
 
 // The length of the table to lend: what the head of the case asks for.
 pub fn table_length(bytes: &[u8]) -> usize
-    ensures { λ r. ⌜ r ≡ length (tableFor (caseSize standard (now (bytes .entry)))) ⌝ }
+    ensures { λ r. ⌜ r ≡ length (tableFor (caseSize Desk (now (bytes .entry)))) ⌝ }
 {
     let size = casefile::case_size(bytes);
     match size {
@@ -183,7 +187,7 @@ pub fn table_length(bytes: &[u8]) -> usize
 
 // Reads the case. Refused, its text is written and nothing more is due.
 pub fn start(bytes: &[u8], table: &mut [i64], out: &mut [u8]) -> Pressed
-    ensures { λ r. ⌜ (r ≡ startPressing standard (now (bytes .entry)) (now (table .entry)) (now (out .entry)) .pressed) × (now (table .exit) ≡ startPressing standard (now (bytes .entry)) (now (table .entry)) (now (out .entry)) .table) × (now (out .exit) ≡ startPressing standard (now (bytes .entry)) (now (table .entry)) (now (out .entry)) .out) ⌝ }
+    ensures { λ r. ⌜ (r ≡ startPressing Desk (now (bytes .entry)) (now (table .entry)) (now (out .entry)) .pressed) × (now (table .exit) ≡ startPressing Desk (now (bytes .entry)) (now (table .entry)) (now (out .entry)) .table) × (now (out .exit) ≡ startPressing Desk (now (bytes .entry)) (now (table .entry)) (now (out .entry)) .out) ⌝ }
 {
     if out.len() < ROOM {
         let refusal = head_or_short(bytes);
@@ -224,7 +228,7 @@ pub fn start(bytes: &[u8], table: &mut [i64], out: &mut [u8]) -> Pressed
 
 // The next round, if one may follow: its lines, or the text of a refusal by the engine. If none may, only what is handed over is asked.
 pub fn next(pressing: Pressing, table: &mut [i64], out: &mut [u8]) -> Pressed
-    ensures { λ r. ⌜ (r ≡ nextPressing standard pressing (now (table .entry)) (now (out .entry)) .pressed) × (now (table .exit) ≡ nextPressing standard pressing (now (table .entry)) (now (out .entry)) .table) × (now (out .exit) ≡ nextPressing standard pressing (now (table .entry)) (now (out .entry)) .out) ⌝ }
+    ensures { λ r. ⌜ (r ≡ nextPressing pressing (now (table .entry)) (now (out .entry)) .pressed) × (now (table .exit) ≡ nextPressing pressing (now (table .entry)) (now (out .entry)) .table) × (now (out .exit) ≡ nextPressing pressing (now (table .entry)) (now (out .entry)) .out) ⌝ }
 {
     if pressing.left == 0 {
         let case = pressing.case;

@@ -3,7 +3,7 @@ use mathlib.Core.Path.{_≡_, refl, sym, ap, ap₂, subst, _∙_}
 use mathlib.Core.Bool.{false, not}
 use mathlib.Core.Logic.{_⊎_, inl, inr}
 use mathlib.Core.List.{List, [], _++_}
-use Prim.Native.Nat.{ℕ, _*_, _/_, _≤_}
+use Prim.Native.Nat.{ℕ, _*_, _/_, _≤_, _-_}
 use native.Mathlib.Nat.{mul-le-mul-left}
 use native.Mathlib.Omega.{arith}
 use lib.IntN.{ℤ}
@@ -15,20 +15,22 @@ use Rattle.integers.specs.Tests.{is-false}
 use Rattle.integers.specs.Words.{joined}
 use Rattle.definitions.specs.declared.FileAnswer.{FileAnswer}
 use Rattle.definitions.specs.declared.Written.{Written}
-use Rattle.definitions.specs.Rules.{standard}
+use Rattle.definitions.specs.declared.Rulebook.the-variants.{Desk}
+use Rattle.definitions.specs.Rules.{rulesIn}
+use Rattle.definitions.specs.Places.{inputPlaces, longestCase, placed}
 use Rattle.definitions.specs.Lines.{wholeLines, overwritten}
 use Rattle.definitions.specs.CaseFiles.{caseSize, readCase}
 use Rattle.definitions.specs.Programs.{tableFor, replayPrints}
 use Rattle.texts.specs.Texts.{textRoom, greatestCount}
 use Rattle.judging.specs.Judging.{startJudging, finishJudging}
-use Rattle.judging.specs.Cuts.{longestCase, Cut}
+use Rattle.judging.specs.Cuts.{Cut}
 use Rattle.judging.proofs.Prints.{lines-within, replay-printed}
 use Rattle.streams.specs.declared.Filled.{Filled}
 use Rattle.streams.specs.Streams.{isOver, isFailed, printedPart}
 use Rattle.replay.specs.declared.Turned.{Turned}
 use Rattle.replay.specs.Turns.{lineBytes, caseBytes, mostTurns, Judges, Prints}
 
-start-answer : (front : List ℕ) (w : List ℤ) → startJudging standard front w .judging .answer ≡ readCase standard front w .read .answer
+start-answer : (front : List ℕ) (w : List ℤ) → startJudging Desk front w .judging .answer ≡ readCase Desk front w .read .answer
 unfolding startJudging
 start-answer front w = refl
 
@@ -36,23 +38,23 @@ start-answer front w = refl
 case-fits : (lines most : ℕ) → lines * lineBytes ≤ most → caseBytes (FileAnswer.Read lines) most ≡ lines * lineBytes
 case-fits lines most h = simp (le-leb lines (most / lineBytes) (omega arith))
 
-module _ {room : ℕ} {front : List ℕ} {first : Filled} {r : Turned} {v : List ℤ} (enough : (longestCase standard ≤ length front) ⊎ T (isOver first))
-    (o : Judges room front (tableFor (caseSize standard front)) first r v) where
+module _ {room : ℕ} {front : List ℕ} {first : Filled} {r : Turned} {v : List ℤ} (enough : (longestCase (rulesIn Desk) ≤ length front) ⊎ T (isOver first))
+    (o : Judges room front (tableFor (caseSize Desk front)) first r v) where
   abbrev w : List ℤ
-  w = tableFor (caseSize standard front)
+  w = tableFor (caseSize Desk front)
 
-  log-is : (lines : ℕ) → readCase standard front w .read .answer ≡ FileAnswer.Read lines → drop (lines * lineBytes) (front ++ o .more) ≡ joined (o .blocks) ++ o .tail
+  log-is : (lines : ℕ) → readCase Desk front w .read .answer ≡ FileAnswer.Read lines → drop (lines * lineBytes) (front ++ o .more) ≡ joined (o .blocks) ++ o .tail
   log-is lines e =
-      let fits = lines-within front w e in
-      let at : caseBytes (startJudging standard front w .judging .answer) (length front) ≡ lines * lineBytes =
+      let fits = lines-within Desk front w e in
+      let at : caseBytes (startJudging Desk front w .judging .answer) (length front) ≡ lines * lineBytes =
       ap (λ (a : FileAnswer). caseBytes a (length front)) (start-answer front w ∙ e) ∙ case-fits lines (length front) fits in
       drop-append-le (lines * lineBytes) front (o .more) fits ∙ ap (λ (n : ℕ). drop n front ++ o .more) (sym at) ∙ o .all
 
-  held-or-all : (longestCase standard ≤ length front) ⊎ T (isOver first) → (longestCase standard ≤ length front) ⊎ (o .more ≡ [])
+  held-or-all : (longestCase (rulesIn Desk) ≤ length front) ⊎ T (isOver first) → (longestCase (rulesIn Desk) ≤ length front) ⊎ (o .more ≡ [])
   held-or-all (inl h) = inl h
   held-or-all (inr e) = inr (o .ends e .0)
 
-  cut : Cut standard (front ++ o .more)
+  cut : Cut Desk (front ++ o .more)
   cut = record {
     front = front;
     rest = o .more;
@@ -65,19 +67,19 @@ module _ {room : ℕ} {front : List ℕ} {first : Filled} {r : Turned} {v : List
     log = log-is;
   }
 
-  finished : (out : List ℕ) → textRoom ≤ length out → wholeLines (standard .amountWidth) (front ++ o .more) ≤ greatestCount
-      → finishJudging standard (r .judging) v (not (eqb (r .held) 0)) out
-      ≡ record { answer = Written.Bytes (length (replayPrints standard (front ++ o .more))); out = overwritten (replayPrints standard (front ++ o .more)) out }
+  finished : (out : List ℕ) → textRoom ≤ length out → wholeLines (rulesIn Desk .amountWidth) (front ++ o .more) ≤ greatestCount
+      → finishJudging (r .judging) v (not (eqb (r .held) 0)) out
+      ≡ record { answer = Written.Bytes (length (replayPrints Desk (front ++ o .more))); out = overwritten (replayPrints Desk (front ++ o .more)) out }
   unfolding cut
-  finished out room few = rw (o .judging, o .table, o .held) (replay-printed (front ++ o .more) cut few out room)
+  finished out room few = rw (o .judging, o .table, o .held) (replay-printed Desk (front ++ o .more) cut few out room)
 
   -- so few lines do not use up the turns
-  read-over : 262117 ≤ room → wholeLines (standard .amountWidth) (front ++ o .more) ≤ greatestCount → T (isOver (r .filled))
+  read-over : inputPlaces - lineBytes ≤ room → wholeLines (rulesIn Desk .amountWidth) (front ++ o .more) ≤ greatestCount → T (isOver (r .filled))
   read-over wide few = go (o .over)
     where
       go : T (isOver (r .filled)) ⊎ (mostTurns * room ≤ length (o .more)) → T (isOver (r .filled))
       go (inl e) = e
-      go (inr h) = absurd (omega (arith, length-append front (o .more), mul-le-mul-left {m = 262117} {n = room} mostTurns wide))
+      go (inr h) = absurd (omega (arith, length-append front (o .more), mul-le-mul-left {m = inputPlaces - lineBytes} {n = room} mostTurns wide))
 
   -- a read failed
   pub failed-prints : T (isFailed (r .filled)) → (text : List ℕ) → Prints room front first text []
@@ -91,8 +93,8 @@ module _ {room : ℕ} {front : List ℕ} {first : Filled} {r : Turned} {v : List
   }
 
   -- what the finish writes after the loop
-  pub judges-prints : 262117 ≤ room → isFailed (r .filled) ≡ false → (out : List ℕ) → textRoom ≤ length out → {a : Written} {after : List ℕ}
-      → (a ≡ finishJudging standard (r .judging) v (not (eqb (r .held) 0)) out .answer) × (after ≡ finishJudging standard (r .judging) v (not (eqb (r .held) 0)) out .out)
+  pub judges-prints : inputPlaces - lineBytes ≤ room → isFailed (r .filled) ≡ false → (out : List ℕ) → textRoom ≤ length out → {a : Written} {after : List ℕ}
+      → (a ≡ finishJudging (r .judging) v (not (eqb (r .held) 0)) out .answer) × (after ≡ finishJudging (r .judging) v (not (eqb (r .held) 0)) out .out)
       → Prints room front first out (printedPart a after)
   judges-prints wide done out fits (p, q) = record {
     state = r;
@@ -103,12 +105,12 @@ module _ {room : ℕ} {front : List ℕ} {first : Filled} {r : Turned} {v : List
     says = λ n few. (
       read-over wide few,
       ap₂ printedPart (p ∙ ap (λ k. k .answer) (finished out fits few)) (q ∙ ap (λ k. k .out) (finished out fits few))
-          ∙ take-append-seam (replayPrints standard (front ++ o .more)) (drop (length (replayPrints standard (front ++ o .more))) out),
+          ∙ take-append-seam (replayPrints Desk (front ++ o .more)) (drop (length (replayPrints Desk (front ++ o .more))) out),
     );
   }
 
 -- a buffer that was filled holds the longest case
-pub enough-read : (buf : List ℕ) (filled : Filled) → filled .to ≤ length buf → length buf ≡ 262144 → (length buf ≤ filled .to) ⊎ T (isOver filled)
-    → (longestCase standard ≤ length (take (filled .to) buf)) ⊎ T (isOver filled)
-enough-read buf filled h e (inl full) = inl (omega (arith, length-take-le (filled .to) buf h))
+pub enough-read : (buf : List ℕ) (filled : Filled) → filled .to ≤ length buf → length buf ≡ inputPlaces → (length buf ≤ filled .to) ⊎ T (isOver filled)
+    → (longestCase (rulesIn Desk) ≤ length (take (filled .to) buf)) ⊎ T (isOver filled)
+enough-read buf filled h e (inl full) = inl (omega (arith, length-take-le (filled .to) buf h, placed Desk .input))
 enough-read buf filled h e (inr over) = inr over

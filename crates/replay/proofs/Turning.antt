@@ -12,7 +12,8 @@ use lib.ListN.{length, take, drop, take-append-drop, length-append, length-drop}
 use lib.Seq.{length-take-le, take-take, take-add, drop-at}
 use Rattle.integers.specs.Words.{joined}
 use Rattle.integers.specs.Lists.{_∈_, joined-append}
-use Rattle.definitions.specs.Rules.{standard}
+use Rattle.definitions.specs.declared.Rulebook.the-variants.{Desk}
+use Rattle.definitions.specs.Rules.{rulesIn}
 use Rattle.definitions.specs.Lines.{hasPart}
 use Rattle.streams.specs.declared.Filled.{Filled}
 use Rattle.streams.specs.Streams.{isOver, Fills}
@@ -22,9 +23,9 @@ use Rattle.judging.specs.Cuts.{afterBlocks}
 use Rattle.replay.specs.declared.Turned.{Turned}
 use Rattle.replay.specs.Turns.{lineBytes, wholeBytes, caseBytes, mostTurns, Turns, Goes, Judges}
 
-after-append : (g : JudgingCall) (xs ys : List (List ℕ)) → afterBlocks standard g (xs ++ ys) ≡ afterBlocks standard (afterBlocks standard g xs) ys
+after-append : (g : JudgingCall) (xs ys : List (List ℕ)) → afterBlocks g (xs ++ ys) ≡ afterBlocks (afterBlocks g xs) ys
 after-append g [] ys = refl
-after-append g (x ∷ xs) ys = after-append (blockJudging standard (g .judging) (g .table) x) xs ys
+after-append g (x ∷ xs) ys = after-append (blockJudging (g .judging) (g .table) x) xs ys
 
 -- the whole lines of some bytes
 module _ (bytes : List ℕ) where
@@ -37,7 +38,7 @@ module _ (bytes : List ℕ) where
   front-rest : front ++ rest ≡ bytes
   front-rest = take-append-drop (wholeBytes bytes) bytes
 
-  front-whole : hasPart (standard .amountWidth) front ≡ false
+  front-whole : hasPart (rulesIn Desk .amountWidth) front ≡ false
   front-whole =
       let n : ℕ = length bytes in
       let e : length front ≡ n / lineBytes * lineBytes = length-take-le (wholeBytes bytes) bytes (omega arith) ∙ omega (arith, div-add-mod' n lineBytes) in
@@ -75,12 +76,12 @@ module _ {turns room : ℕ} {g : JudgingCall} {held : List ℕ} {first : Filled}
       ∙ sym (append-assoc (joined (o .blocks)) (front bytes) (take (q .held) next))
       ∙ ap (λ (l : List ℕ). l ++ take (q .held) next) (sym (joined-append (o .blocks) (front bytes ∷ []) ∙ ap (λ (l : List ℕ). joined (o .blocks) ++ l) (append-nil (front bytes))))
 
-  whole-next : (x : List ℕ) → x ∈ (o .blocks ++ (front bytes ∷ [])) → hasPart (standard .amountWidth) x ≡ false
-  whole-next x i = ⊎-elim (o .lines-whole x) (λ k. subst (λ (y : List ℕ). hasPart (standard .amountWidth) y ≡ false) (sym (List·Memᴰ·eq-of-singleton k)) (front-whole bytes)) (List·Memᴰ·append-cases (o .blocks) i)
+  whole-next : (x : List ℕ) → x ∈ (o .blocks ++ (front bytes ∷ [])) → hasPart (rulesIn Desk .amountWidth) x ≡ false
+  whole-next x i = ⊎-elim (o .lines-whole x) (λ k. subst (λ (y : List ℕ). hasPart (rulesIn Desk .amountWidth) y ≡ false) (sym (List·Memᴰ·eq-of-singleton k)) (front-whole bytes)) (List·Memᴰ·append-cases (o .blocks) i)
 
-  same : blockJudging standard (r .judging) v (front bytes) ≡ afterBlocks standard g (o .blocks ++ (front bytes ∷ []))
+  same : blockJudging (r .judging) v (front bytes) ≡ afterBlocks g (o .blocks ++ (front bytes ∷ []))
   same =
-      let a : JudgingCall = afterBlocks standard g (o .blocks) in
+      let a : JudgingCall = afterBlocks g (o .blocks) in
       rw (o .judging, o .table) (sym (after-append g (o .blocks) (front bytes ∷ [])))
 
   never : T (isOver (r .filled)) → ⊥
@@ -141,9 +142,9 @@ goes-over o e = record {
 call : Judging → List ℤ → JudgingCall
 call j w = record { judging = j; table = w }
 
-in-cons : (bytes : List ℕ) (xs : List (List ℕ)) → ((x : List ℕ) → x ∈ xs → hasPart (standard .amountWidth) x ≡ false)
-    → (x : List ℕ) → x ∈ (front bytes ∷ xs) → hasPart (standard .amountWidth) x ≡ false
-in-cons bytes xs h x (List·Memᴰ·head e) = subst (λ (y : List ℕ). hasPart (standard .amountWidth) y ≡ false) (sym e) (front-whole bytes)
+in-cons : (bytes : List ℕ) (xs : List (List ℕ)) → ((x : List ℕ) → x ∈ xs → hasPart (rulesIn Desk .amountWidth) x ≡ false)
+    → (x : List ℕ) → x ∈ (front bytes ∷ xs) → hasPart (rulesIn Desk .amountWidth) x ≡ false
+in-cons bytes xs h x (List·Memᴰ·head e) = subst (λ (y : List ℕ). hasPart (rulesIn Desk .amountWidth) y ≡ false) (sym e) (front-whole bytes)
 in-cons bytes xs h x (List·Memᴰ·tail i) = h x i
 
 -- the bytes from `from` to `to`
@@ -155,15 +156,15 @@ part-from l from to h g =
 
 -- the first turn, and then the others
 pub judges-all : {room : ℕ} (input : List ℕ) (w : List ℤ) {filled : Filled} {r : Turned} {v : List ℤ} {buf : List ℕ} {q : Turned} {u : List ℤ} {next : List ℕ} (j : Judging) (x : List ℤ) (bytes : List ℕ)
-    → j ≡ startJudging standard input w .judging → x ≡ startJudging standard input w .table
-    → bytes ≡ drop (caseBytes (startJudging standard input w .judging .answer) (length input)) input
+    → j ≡ startJudging Desk input w .judging → x ≡ startJudging Desk input w .table
+    → bytes ≡ drop (caseBytes (startJudging Desk input w .judging .answer) (length input)) input
     → Turns j x bytes filled r v buf
     → Goes mostTurns room (record { judging = r .judging; table = v }) (take (r .held) buf) (r .filled) q u next → Judges room input w filled q u
 unfolding call
 judges-all input w {filled} {r} {v} {buf} {q} {u} {next} j x bytes ej ex eb t o =
-    let begun : JudgingCall = startJudging standard input w in
-    let first : blockJudging standard (begun .judging) (begun .table) (front bytes) ≡ call (r .judging) v =
-    ap₂ (λ (a : Judging) (b : List ℤ). blockJudging standard a b (front bytes)) (sym ej) (sym ex) ∙ sym (ap₂ call (t .judging) (t .table)) in
+    let begun : JudgingCall = startJudging Desk input w in
+    let first : blockJudging (begun .judging) (begun .table) (front bytes) ≡ call (r .judging) v =
+    ap₂ (λ (a : Judging) (b : List ℤ). blockJudging a b (front bytes)) (sym ej) (sym ex) ∙ sym (ap₂ call (t .judging) (t .table)) in
     record {
       more = o .more;
       blocks = front bytes ∷ o .blocks;
@@ -173,8 +174,8 @@ judges-all input w {filled} {r} {v} {buf} {q} {u} {next} j x bytes ej ex eb t o 
           ap (λ (l : List ℕ). l ++ o .more) (sym eb ∙ sym (front-rest bytes) ∙ ap (λ (l : List ℕ). front bytes ++ l) (sym (t .part)))
           ∙ append-assoc (front bytes) (take (r .held) buf) (o .more) ∙ ap (λ (l : List ℕ). front bytes ++ l) (o .all)
           ∙ sym (append-assoc (front bytes) (joined (o .blocks)) (take (q .held) next));
-      judging = o .judging ∙ ap (λ (k : JudgingCall). afterBlocks standard k (o .blocks) .judging) (sym first);
-      table = o .table ∙ ap (λ (k : JudgingCall). afterBlocks standard k (o .blocks) .table) (sym first);
+      judging = o .judging ∙ ap (λ (k : JudgingCall). afterBlocks k (o .blocks) .judging) (sym first);
+      table = o .table ∙ ap (λ (k : JudgingCall). afterBlocks k (o .blocks) .table) (sym first);
       held = sym (length-take-le (q .held) next (o .fits));
       short = omega (arith, length-take-le (q .held) next (o .fits), o .short);
       ends = subst (λ (f : Filled). T (isOver f) → (o .more ≡ []) × (q .filled ≡ f)) (t .filled-last) (o .ends);

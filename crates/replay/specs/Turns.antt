@@ -11,7 +11,8 @@ use lib.ListN.{length, take, drop}
 use Rattle.integers.specs.Words.{if_then_else_, joined}
 use Rattle.integers.specs.Lists.{_∈_}
 use Rattle.definitions.specs.declared.FileAnswer.{FileAnswer}
-use Rattle.definitions.specs.Rules.{standard}
+use Rattle.definitions.specs.declared.Rulebook.the-variants.{Desk}
+use Rattle.definitions.specs.Rules.{rulesIn}
 use Rattle.definitions.specs.Lines.{lineLength, wholeLines, hasPart}
 use Rattle.definitions.specs.CaseFiles.{caseSize}
 use Rattle.definitions.specs.Programs.{tableFor, replayPrints}
@@ -24,7 +25,7 @@ use Rattle.judging.specs.Cuts.{afterBlocks}
 use Rattle.replay.specs.declared.Turned.{Turned}
 
 abbrev pub lineBytes : ℕ
-lineBytes = lineLength (standard .amountWidth)
+lineBytes = lineLength (rulesIn Desk .amountWidth)
 
 -- the bytes of the whole lines
 abbrev pub wholeBytes : List ℕ → ℕ
@@ -41,8 +42,8 @@ mostTurns = 18446744073709551615
 
 -- one turn on the bytes of a fill: the whole lines are a block, and the part line stands at the buffer's front
 pub record Turns (j : Judging) (w : List ℤ) (bytes : List ℕ) (filled : Filled) (r : Turned) (v : List ℤ) (buf : List ℕ) : Type 0 where
-  pub judging : r .judging ≡ blockJudging standard j w (take (wholeBytes bytes) bytes) .judging
-  pub table : v ≡ blockJudging standard j w (take (wholeBytes bytes) bytes) .table
+  pub judging : r .judging ≡ blockJudging j w (take (wholeBytes bytes) bytes) .judging
+  pub table : v ≡ blockJudging j w (take (wholeBytes bytes) bytes) .table
   pub part : take (r .held) buf ≡ drop (wholeBytes bytes) bytes
   pub fits : r .held ≤ length buf
   pub short : r .held < lineBytes
@@ -53,10 +54,10 @@ pub record Turns (j : Judging) (w : List ℤ) (bytes : List ℕ) (filled : Fille
 pub record Goes (turns room : ℕ) (g : JudgingCall) (held : List ℕ) (first : Filled) (r : Turned) (v : List ℤ) (buf : List ℕ) : Type 0 where
   pub more : List ℕ
   pub blocks : List (List ℕ)
-  pub lines-whole : (x : List ℕ) → x ∈ blocks → hasPart (standard .amountWidth) x ≡ false
+  pub lines-whole : (x : List ℕ) → x ∈ blocks → hasPart (rulesIn Desk .amountWidth) x ≡ false
   pub all : held ++ more ≡ joined blocks ++ take (r .held) buf
-  pub judging : r .judging ≡ afterBlocks standard g blocks .judging
-  pub table : v ≡ afterBlocks standard g blocks .table
+  pub judging : r .judging ≡ afterBlocks g blocks .judging
+  pub table : v ≡ afterBlocks g blocks .table
   pub fits : r .held ≤ length buf
   pub short : r .held < lineBytes
   pub ends : T (isOver first) → (more ≡ []) × (r .filled ≡ first)
@@ -67,10 +68,10 @@ pub record Judges (room : ℕ) (front : List ℕ) (w : List ℤ) (first : Filled
   pub more : List ℕ
   pub blocks : List (List ℕ)
   pub tail : List ℕ
-  pub lines-whole : (x : List ℕ) → x ∈ blocks → hasPart (standard .amountWidth) x ≡ false
-  pub all : drop (caseBytes (startJudging standard front w .judging .answer) (length front)) front ++ more ≡ joined blocks ++ tail
-  pub judging : r .judging ≡ afterBlocks standard (startJudging standard front w) blocks .judging
-  pub table : v ≡ afterBlocks standard (startJudging standard front w) blocks .table
+  pub lines-whole : (x : List ℕ) → x ∈ blocks → hasPart (rulesIn Desk .amountWidth) x ≡ false
+  pub all : drop (caseBytes (startJudging Desk front w .judging .answer) (length front)) front ++ more ≡ joined blocks ++ tail
+  pub judging : r .judging ≡ afterBlocks (startJudging Desk front w) blocks .judging
+  pub table : v ≡ afterBlocks (startJudging Desk front w) blocks .table
   pub held : r .held ≡ length tail
   pub short : length tail < lineBytes
   pub ends : T (isOver first) → (more ≡ []) × (r .filled ≡ first)
@@ -79,7 +80,7 @@ pub record Judges (room : ℕ) (front : List ℕ) (w : List ℤ) (first : Filled
 -- the part of a text that is to be printed where the input ends here
 abbrev pub finishText : Turned → List ℤ → List ℕ → List ℕ
 finishText r w text =
-    let call = finishJudging standard (r .judging) w (not (eqb (r .held) 0)) text in
+    let call = finishJudging (r .judging) w (not (eqb (r .held) 0)) text in
     printedPart (call .answer) (call .out)
 
 -- what is to be printed where the first fill read this front: nothing where a read failed; else the finish of what was judged, and so what `replay`
@@ -88,8 +89,8 @@ pub record Prints (room : ℕ) (front : List ℕ) (first : Filled) (text printed
   -- what stands after the last fill
   pub state : Turned
   pub table : List ℤ
-  pub judged : Judges room front (tableFor (caseSize standard front)) first state table
+  pub judged : Judges room front (tableFor (caseSize Desk front)) first state table
   pub failed : T (isFailed (state .filled)) → printed ≡ []
   pub finished : T (not (isFailed (state .filled))) → printed ≡ finishText state table text
-  pub says : T (not (isFailed (state .filled))) → wholeLines (standard .amountWidth) (front ++ judged .more) ≤ greatestCount
-      → T (isOver (state .filled)) × (printed ≡ replayPrints standard (front ++ judged .more))
+  pub says : T (not (isFailed (state .filled))) → wholeLines (rulesIn Desk .amountWidth) (front ++ judged .more) ≤ greatestCount
+      → T (isOver (state .filled)) × (printed ≡ replayPrints Desk (front ++ judged .more))

@@ -3,6 +3,9 @@
 // nothing; where a read failed nothing is printed, since what was read is not the input, and standard error tells it.
 use definitions::CaseSize;
 use definitions::FileAnswer;
+use definitions::INPUT_PLACES;
+use definitions::Rulebook;
+use definitions::TABLE_PLACES;
 use definitions::Written;
 use judging::Judging;
 use libc::STDERR_FILENO;
@@ -10,18 +13,18 @@ use libc::STDOUT_FILENO;
 use streams::Filled;
 ghost use mathlib.Core.Path.{_≡_};
 ghost use mathlib.Core.Logic.{_⊎_};
-ghost use Prim.Native.Nat.{_-_, _≤_, _<_};
+ghost use Prim.Native.Nat.{_-_, _%_, _≤_, _<_};
 ghost use lib.IntN.{pos};
 ghost use lib.Dec.{T};
 ghost use lib.ListN.{length, take, drop, replicate};
-ghost use Rattle.definitions.specs.Rules.{standard};
+ghost use Rattle.definitions.specs.declared.Rulebook.the-variants.{Desk};
+ghost use Rattle.definitions.specs.declared.FileAnswer.{FileAnswer};
+ghost use Rattle.definitions.specs.Places.{inputPlaces, tablePlaces};
 ghost use Rattle.definitions.specs.CaseFiles.{caseSize};
 ghost use Rattle.definitions.specs.Programs.{tableFor};
 ghost use Rattle.texts.specs.Texts.{textRoom};
 ghost use Rattle.streams.specs.Streams.{isOver, printedPart};
 ghost use Rattle.replay.specs.Turns.{lineBytes, caseBytes, mostTurns, Turns, Goes, Judges, Prints};
-
-const LINE: usize = 27;
 
 // What stands between two blocks: so many bytes of a part line are held at the buffer's front; and the last fill.
 struct Turned {
@@ -30,17 +33,17 @@ struct Turned {
     filled: Filled,
 }
 
-// Room for more than the longest case, which has 178,875 bytes.
-fn buffer() -> [u8; 262144]
-    ensures { λ r. ⌜ 262144 ≡ length r ⌝ }
+// Room for more than the longest case.
+fn buffer() -> [u8; INPUT_PLACES]
+    ensures { λ r. ⌜ inputPlaces ≡ length r ⌝ }
 {
-    [0; 262144]
+    [0; INPUT_PLACES]
 }
 
-fn weights() -> [i64; 6528]
-    ensures { λ r. ⌜ r ≡ replicate 6528 (pos 0) ⌝ }
+fn weights() -> [i64; TABLE_PLACES]
+    ensures { λ r. ⌜ r ≡ replicate tablePlaces (pos 0) ⌝ }
 {
-    [0; 6528]
+    [0; TABLE_PLACES]
 }
 
 // Moves the bytes from `from` to `to` to the buffer's front.
@@ -57,13 +60,26 @@ fn to_front(buf: &mut [u8], from: usize, to: usize) -> usize
     i
 }
 
+fn line_bytes() -> usize
+    ensures { λ r. ⌜ r ≡ lineBytes ⌝ }
+{
+    rules::line_length(Rulebook::Desk)
+}
+
+// The bytes of a part line at the end of so many.
+fn part_bytes(count: usize) -> usize
+    ensures { λ r. ⌜ (r ≡ count % lineBytes) × (r ≤ count) × (r < lineBytes) ⌝ }
+{
+    count % line_bytes()
+}
+
 // Hands over the whole lines from byte `from` to where the last fill ended.
 fn turn(judging: Judging, table: &mut [i64], buf: &mut [u8], from: usize, filled: Filled) -> Turned
     requires { ⌜ (from ≤ filled .to) × (filled .to ≤ length (now buf)) ⌝ }
     ensures { λ r. ⌜ Turns judging (now (table .entry)) (take (filled .to - from) (drop from (now (buf .entry)))) filled r (now (table .exit)) (now (buf .exit)) ⌝ }
 {
     let to = filled.to;
-    let end = to - (to - from) % LINE;
+    let end = to - part_bytes(to - from);
     let next = judging::block(judging, table, &buf[from..end]);
     let held = to_front(buf, end, to);
     Turned {
@@ -71,6 +87,17 @@ fn turn(judging: Judging, table: &mut [i64], buf: &mut [u8], from: usize, filled
         held,
         filled,
     }
+}
+
+// The bytes of so many lines, `most` where they are more.
+fn lines_bytes(lines: usize, most: usize) -> usize
+    ensures { λ r. ⌜ (r ≡ caseBytes (FileAnswer.Read lines) most) × (r ≤ most) ⌝ }
+{
+    let long = line_bytes();
+    if lines <= most / long {
+        return lines * long;
+    }
+    most
 }
 
 // The bytes of the case at the front of the input's first `most` bytes: all of these where it was refused.
@@ -82,13 +109,7 @@ fn case_bytes(answer: FileAnswer, most: usize) -> usize
             refusal: _,
             line: _,
         } => most,
-        FileAnswer::Read { lines } => {
-            if lines <= most / LINE {
-                lines * LINE
-            } else {
-                most
-            }
-        }
+        FileAnswer::Read { lines } => lines_bytes(lines, most),
     }
 }
 
@@ -130,8 +151,8 @@ fn judge(buf: &mut [u8], table: &mut [i64], filled: Filled) -> Turned
 // a read failed.
 fn write_judgement(buf: &mut [u8], table: &mut [i64], filled: Filled, text: &mut [u8]) -> Written
     requires { ⌜ (filled .to ≤ length (now buf)) × ((length (now buf) ≤ filled .to) ⊎ T (isOver filled)) ⌝ }
-    requires { ⌜ (length (now buf) ≡ 262144) × (textRoom ≤ length (now text)) ⌝ }
-    requires { ⌜ now table ≡ tableFor (caseSize standard (take (filled .to) (now buf))) ⌝ }
+    requires { ⌜ (length (now buf) ≡ inputPlaces) × (textRoom ≤ length (now text)) ⌝ }
+    requires { ⌜ now table ≡ tableFor (caseSize Desk (take (filled .to) (now buf))) ⌝ }
     ensures { λ r. ⌜ Prints (length (now (buf .entry)) - lineBytes) (take (filled .to) (now (buf .entry))) filled (now (text .entry)) (printedPart r (now (text .exit))) ⌝ }
 {
     let state = judge(buf, table, filled);
@@ -146,8 +167,8 @@ fn write_judgement(buf: &mut [u8], table: &mut [i64], filled: Filled, text: &mut
 // The part of the text that is to be printed.
 fn judgement<'a>(buf: &mut [u8], table: &mut [i64], filled: Filled, text: &'a mut [u8]) -> &'a [u8]
     requires { ⌜ (filled .to ≤ length (now buf)) × ((length (now buf) ≤ filled .to) ⊎ T (isOver filled)) ⌝ }
-    requires { ⌜ (length (now buf) ≡ 262144) × (textRoom ≤ length (now text)) ⌝ }
-    requires { ⌜ now table ≡ tableFor (caseSize standard (take (filled .to) (now buf))) ⌝ }
+    requires { ⌜ (length (now buf) ≡ inputPlaces) × (textRoom ≤ length (now text)) ⌝ }
+    requires { ⌜ now table ≡ tableFor (caseSize Desk (take (filled .to) (now buf))) ⌝ }
     ensures { λ r. ⌜ Prints (length (now (buf .entry)) - lineBytes) (take (filled .to) (now (buf .entry))) filled (now (text .entry)) (now r) ⌝ }
 {
     let written = write_judgement(buf, table, filled, text);
@@ -156,7 +177,7 @@ fn judgement<'a>(buf: &mut [u8], table: &mut [i64], filled: Filled, text: &'a mu
 
 // The length of the table that the head of the case asks for.
 fn table_length(front: &[u8]) -> usize
-    ensures { λ r. ⌜ (r ≡ length (tableFor (caseSize standard (now (front .entry))))) × (r ≤ 6528) ⌝ }
+    ensures { λ r. ⌜ (r ≡ length (tableFor (caseSize Desk (now (front .entry))))) × (r ≤ tablePlaces) ⌝ }
 {
     let size = casefile::case_size(front);
     match size {

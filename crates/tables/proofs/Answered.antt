@@ -16,7 +16,7 @@ use Rattle.definitions.specs.declared.Refusal.{Refusal}
 use Rattle.definitions.specs.declared.Outcome.{Outcome}
 use Rattle.definitions.specs.declared.Figure.{Figure}
 use Rattle.definitions.specs.declared.Verdict.{Verdict}
-use Rattle.definitions.specs.Rules.{standard}
+use Rattle.definitions.specs.Rules.{rulesOf}
 use Rattle.definitions.specs.Refusals.{firstOf}
 use Rattle.definitions.specs.Answers.{outcomeOf}
 use Rattle.definitions.specs.Case.{scopeCount, lentLength, greatest, upperBound}
@@ -25,7 +25,7 @@ use Rattle.definitions.specs.Calls.{figureOf, verdictOf}
 use Rattle.theory.proofs.Places.{first-tuple, greatest-at}
 use Rattle.theory.proofs.Validity.{Handed, handed}
 use Rattle.tables.specs.Scopes.{Limited, partOf, scopeWeights, greatestSum}
-use Rattle.tables.proofs.Order.{outcome-done, outcome-refused}
+use Rattle.tables.proofs.Order.{limited-by, outcome-done, outcome-refused}
 use Rattle.tables.proofs.Bounds.{sum-given}
 
 module _ (o : Option Refusal) where
@@ -38,7 +38,7 @@ module _ (o : Option Refusal) where
 -- a table of working weights
 module _ (c : Case) (w : List ℤ) (wrong out : Bool) where
   abbrev asked : Option Refusal
-  asked = firstOf (handedOver standard (workingWeight standard) c w wrong out)
+  asked = firstOf (handedOver (rulesOf c) (workingWeight (rulesOf c)) c w wrong out)
 
   pub figure-refused : {x : Refusal} (z : ℤ) → Outcome.Refused x ≡ outcomeOf asked → Figure.Refused x ≡ figureOf asked z
   figure-refused z e = refused-figure asked z (outcome-refused e)
@@ -52,32 +52,26 @@ module _ (c : Case) (w : List ℤ) (wrong out : Bool) where
   pub verdict-given : (b : Bool) → Outcome.Done ≡ outcomeOf asked → (if b then Verdict.Yes else Verdict.No) ≡ verdictOf asked b
   verdict-given b e = let d : asked ≡ none = outcome-done e in rw d
 
-  pub known : Outcome.Done ≡ outcomeOf asked → Handed standard (workingWeight standard) c w × T (not wrong) × T (not out)
-  known e = let d : asked ≡ none = outcome-done e in handed standard (workingWeight standard) c w wrong out .0 (rw d tt)
+  pub known : Outcome.Done ≡ outcomeOf asked → Handed (rulesOf c) (workingWeight (rulesOf c)) c w × T (not wrong) × T (not out)
+  known e = let d : asked ≡ none = outcome-done e in handed (rulesOf c) (workingWeight (rulesOf c)) c w wrong out .0 (rw d tt)
 
-module _ {c : Case} {w : List ℤ} (h : Handed standard (workingWeight standard) c w) where
-  pub limits-known : Limited standard c
-  limits-known = record {
-    some-variable = h .shape .some-variable;
-    variables = h .variables-most;
-    some-value = h .shape .some-value;
-    values = h .values-most;
-    edges = h .edges-most;
-  }
+module _ {c : Case} {w : List ℤ} (h : Handed (rulesOf c) (workingWeight (rulesOf c)) c w) where
+  pub limits-known : Limited c
+  limits-known = limited-by c (h .shape .some-variable) (h .variables-most) (h .shape .some-value) (h .values-most) (h .edges-most)
 
-  pub limits-true : withinLimits standard (c .n) (c .d) (c .m) ≡ true
+  pub limits-true : withinLimits (rulesOf c) (c .n) (c .d) (c .m) ≡ true
   limits-true = let s = h .shape in simp tests (((s .some-variable, h .variables-most), (s .some-value, h .values-most)), (omega arith, h .edges-most))
 
-  pub greatest-working : (x : ℕ) → x < scopeCount c → T (workingWeight standard (greatest c w x))
+  pub greatest-working : (x : ℕ) → x < scopeCount c → T (workingWeight (rulesOf c) (greatest c w x))
   greatest-working x l =
       let (k, m, t, e) = greatest-at c w (first-tuple c (h .shape .some-value) x l) in
-      subst (λ (z : ℤ). T (workingWeight standard z)) e (h .in-range x k m t)
+      subst (λ (z : ℤ). T (workingWeight (rulesOf c) z)) e (h .in-range x k m t)
 
   -- on a table that was checked the sum of the greatest weights is the upper bound
-  pub greatest-sum-known : greatestSum standard c w ≡ Figure.Value (upperBound c w)
+  pub greatest-sum-known : greatestSum (rulesOf c) c w ≡ Figure.Value (upperBound c w)
   unfolding greatestSum
   greatest-sum-known = rw (limits-true, eq-eqb (length w) (lentLength c) (h .long)) (sym (sum-given c (greatest c w) greatest-working))
 
-  pub scope-weights-known : (x : ℕ) → x < scopeCount c → scopeWeights standard c w x ≡ partOf c w x
+  pub scope-weights-known : (x : ℕ) → x < scopeCount c → scopeWeights (rulesOf c) c w x ≡ partOf c w x
   unfolding scopeWeights
   scope-weights-known x l = rw (limits-true, eq-eqb (length w) (lentLength c) (h .long), lt-ltb x (scopeCount c) l)

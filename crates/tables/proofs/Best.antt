@@ -17,7 +17,7 @@ use Rattle.definitions.specs.declared.Case.{Case}
 use Rattle.definitions.specs.declared.Figure.{Figure}
 use Rattle.definitions.specs.declared.Outcome.{Outcome}
 use Rattle.definitions.specs.declared.Refusal.the-variants.{OutsideLimits, WrongLength}
-use Rattle.definitions.specs.Rules.{standard}
+use Rattle.definitions.specs.Rules.{rulesOf}
 use Rattle.definitions.specs.Case.{scopeCount, scopes, lentLength, greatest, upperBound}
 use Rattle.definitions.specs.Valid.{workingWeight, withinLimits}
 use Rattle.theory.proofs.Validity.{Handed}
@@ -59,14 +59,14 @@ best-written c w out room = record {
 }
 
 -- on a table that was checked the sum of these is the upper bound
-pub best-sum-known : {c : Case} {w best : List ℤ} → Handed standard (workingWeight standard) c w → BestOf c w best → bestSum standard c best ≡ Figure.Value (upperBound c w)
+pub best-sum-known : {c : Case} {w best : List ℤ} → Handed (rulesOf c) (workingWeight (rulesOf c)) c w → BestOf c w best → bestSum (rulesOf c) c best ≡ Figure.Value (upperBound c w)
 unfolding bestSum
 best-sum-known {c} {w} {best} h b =
     rw (limits-true h, le-ltb (length best) (scopeCount c) (b .enough))
     (sum-same c (bestAt best) (greatest c w) (b .holds) ∙ sym (sum-given c (greatest c w) (greatest-working h)))
 
 pub sum-written : (c : Case) (w out best : List ℤ) → scopeCount c ≤ length out → best ≡ writtenOver (map (greatest c w) (scopes c)) out
-    → sumInRange standard c (bestAt best) ≡ sumInRange standard c (greatest c w)
+    → sumInRange (rulesOf c) c (bestAt best) ≡ sumInRange (rulesOf c) c (greatest c w)
 sum-written c w out best room e =
     sum-same c (bestAt best) (greatest c w)
     (λ x l. ap (λ (b : List ℤ). bestAt b x) e ∙ over-at (greatest c w) (scopeCount c) out room x l)
@@ -74,13 +74,13 @@ sum-written c w out best room e =
 -- ---- the call, by what was asked
 module _ (c : Case) (w best : List ℤ) where
   abbrev Gives : Outcome → List ℤ → Type 0
-  Gives o b = (o ≡ greatestCall standard c w best .answer) × (b ≡ greatestCall standard c w best .best)
+  Gives o b = (o ≡ greatestCall (rulesOf c) c w best .answer) × (b ≡ greatestCall (rulesOf c) c w best .best)
 
-  pub greatest-outside : withinLimits standard (c .n) (c .d) (c .m) ≡ false → Gives (Outcome.Refused OutsideLimits) best
+  pub greatest-outside : withinLimits (rulesOf c) (c .n) (c .d) (c .m) ≡ false → Gives (Outcome.Refused OutsideLimits) best
   unfolding greatestCall
   greatest-outside e = (rw e, rw e)
 
-  module _ (e : withinLimits standard (c .n) (c .d) (c .m) ≡ true) where
+  module _ (e : withinLimits (rulesOf c) (c .n) (c .d) (c .m) ≡ true) where
     pub greatest-other-length : (length w ≡ lentLength c → ⊥) → Gives (Outcome.Refused WrongLength) best
     unfolding greatestCall
     greatest-other-length n = (rw (e, ne-eqb (length w) (lentLength c) n), rw (e, ne-eqb (length w) (lentLength c) n))
@@ -95,8 +95,8 @@ module _ (c : Case) (w best : List ℤ) where
       greatest-done h = let d = le-ltb (length best) (scopeCount c) h in (rw (e, eq-eqb (length w) (lentLength c) long, d), rw (e, eq-eqb (length w) (lentLength c) long, d))
 
 -- on a table that was checked the call is done, and `best` holds the greatest weights
-pub greatest-known : {c : Case} {w : List ℤ} (best : List ℤ) → Handed standard (workingWeight standard) c w → scopeCount c ≤ length best
-    → (greatestCall standard c w best .answer ≡ Outcome.Done) × BestOf c w (greatestCall standard c w best .best)
+pub greatest-known : {c : Case} {w : List ℤ} (best : List ℤ) → Handed (rulesOf c) (workingWeight (rulesOf c)) c w → scopeCount c ≤ length best
+    → (greatestCall (rulesOf c) c w best .answer ≡ Outcome.Done) × BestOf c w (greatestCall (rulesOf c) c w best .best)
 greatest-known {c} {w} best h room =
     let d = greatest-done c w best (limits-true h) (h .long) room in
     (sym (d .0), subst (λ (b : List ℤ). BestOf c w b) (d .1) (best-written c w best room))

@@ -16,32 +16,50 @@ use Rattle.definitions.specs.declared.Case.{Case}
 use Rattle.definitions.specs.declared.Refusal.{Refusal}
 use Rattle.definitions.specs.declared.Refusal.the-variants.{WeightOutOfRange}
 use Rattle.definitions.specs.declared.Outcome.{Outcome}
-use Rattle.definitions.specs.Rules.{Rules, standard}
+use Rattle.definitions.specs.Rules.{Rules, Coherent, coherent, rulesOf, edgePlaces}
 use Rattle.definitions.specs.Refusals.{Test, _when_, firstOf}
 use Rattle.definitions.specs.Answers.{outcomeOf}
 use Rattle.definitions.specs.Case.{ownLength, lentLength}
 use Rattle.definitions.specs.Valid.{withinLimits, edgeTests, handedOver}
 use Rattle.tables.specs.Scopes.{Limited}
 
-module _ (r : Rules) (c : Case) where
-  pub limited : withinLimits r (c .n) (c .d) (c .m) ≡ true → Limited r c
+-- with the bounds that coherent rules give
+module _ (c : Case) where
+  limits : Coherent (rulesOf c)
+  limits = coherent (c .rulebook)
+
+  pub limited-by : 1 ≤ c .n → c .n ≤ rulesOf c .variables → 1 ≤ c .d → c .d ≤ rulesOf c .values → c .m ≤ rulesOf c .edges → Limited c
+  limited-by p q s t v = record {
+    some-variable = p;
+    variables = q;
+    some-value = s;
+    values = t;
+    edges = v;
+    variables-few = omega (arith, limits .variables-few);
+    values-few = omega (arith, limits .values-few);
+    variables-placed = omega (arith, limits .variables-placed);
+    edges-placed = omega (arith, limits .edges-placed);
+    scopes-placed = omega (arith, limits .scopes-placed);
+  }
+
+  pub limited : withinLimits (rulesOf c) (c .n) (c .d) (c .m) ≡ true → Limited c
   limited e =
       let (((p, q), (s, t)), (u, v)) = simp tests at e in
-      record { some-variable = p; variables = q; some-value = s; values = t; edges = v }
+      limited-by p q s t v
 
 -- products within the limits
 pub times-most : (a b m n : ℕ) → a ≤ m → b ≤ n → a * b ≤ m * n
 times-most a b m n h k = mul-le-mul h k
 
-module _ (c : Case) (l : Limited standard c) where
-  pub variables-small : c .n * c .d ≤ 384
-  variables-small = mul-le-mul (l .variables) (l .values)
+module _ (c : Case) (l : Limited c) where
+  pub variables-small : c .n * c .d ≤ 2048
+  variables-small = mul-le-mul (l .variables-few) (l .values-few)
 
   pub values-small : c .d * c .d ≤ 64
-  values-small = mul-le-mul (l .values) (l .values)
+  values-small = mul-le-mul (l .values-few) (l .values-few)
 
-  pub edges-small : c .m * (c .d * c .d) ≤ 6144
-  edges-small = mul-le-mul (l .edges) values-small
+  pub edges-small : c .m * (c .d * c .d) ≤ edgePlaces * 64
+  edges-small = mul-le-mul (l .edges-placed) values-small
 
 -- an outcome tells whether a refusal applies
 pub outcome-done : {o : Option Refusal} → Outcome.Done ≡ outcomeOf o → o ≡ none

@@ -5,6 +5,7 @@ use mathlib.Core.List.{List}
 use Prim.Native.Nat.{ℕ}
 use lib.Dec.{ltb}
 use Rattle.integers.specs.Words.{any, below}
+use Rattle.definitions.specs.declared.Rulebook.the-variants.{Desk}
 use Rattle.definitions.specs.declared.Case.{Case}
 use Rattle.definitions.specs.Case.{lowerEnd, upperEnd}
 use Rattle.definitions.specs.Valid.{someEdge, endOutside, sameEnds}
@@ -13,7 +14,7 @@ use Rattle.tables.specs.declared.Fault.the-variants.{Outside, NotAscendi
 
 -- a case of n variables with these ends of edges, as far as edges are asked
 abbrev pub withEdges : ℕ → List ℕ → List ℕ → Case
-withEdges n lower upper = record { n = n; d = 0; m = 0; lower = lower; upper = upper }
+withEdges n lower upper = record { n = n; d = 0; m = 0; lower = lower; upper = upper; rulebook = Desk }
 
 abbrev pub faulty : Case → Fault → ℕ → Bool
 faulty c Outside e = endOutside c e

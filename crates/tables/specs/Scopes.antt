@@ -4,33 +4,40 @@ use mathlib.Core.Path.{_≡_}
 use mathlib.Core.Bool.{false, not, _&&_}
 use mathlib.Core.Option.{Option}
 use mathlib.Core.List.{List, [], _∷_, _++_, map}
-use Prim.Native.Nat.{ℕ, _*_, _≤_, _<_}
+use Prim.Native.Nat.{ℕ, _+_, _*_, _≤_, _<_}
 use lib.IntN.{ℤ, pos}
 use lib.Dec.{eqb, ltb}
 use lib.ListN.{length, getD, take, drop}
 use Rattle.integers.specs.Words.{if_then_else_, any, sum}
+use Rattle.definitions.specs.declared.Rulebook.the-variants.{Desk}
 use Rattle.definitions.specs.declared.Case.{Case}
 use Rattle.definitions.specs.declared.Outcome.{Outcome}
 use Rattle.definitions.specs.declared.Figure.{Figure}
 use Rattle.definitions.specs.declared.Refusal.{Refusal}
 use Rattle.definitions.specs.declared.Refusal.the-variants.{WrongLength, WeightOutOfRange}
-use Rattle.definitions.specs.Rules.{Rules}
+use Rattle.definitions.specs.Rules.{Rules, rulesOf, variablePlaces, edgePlaces, scopePlaces}
 use Rattle.definitions.specs.Refusals.{Test, _when_, firstOf}
 use Rattle.definitions.specs.Answers.{outcomeOf, unlessRefused}
 use Rattle.definitions.specs.Case.{scopeCount, scopes, isVariable, place, lentLength, greatest, upperBound}
 use Rattle.definitions.specs.Valid.{workingWeight, withinLimits, limitTest, lengthTest}
 use Rattle.definitions.specs.Calls.{figureOf}
 
-pub record Limited (r : Rules) (c : Case) : Type 0 where
+-- the case is within its rules' limits, and so within plain bounds
+pub record Limited (c : Case) : Type 0 where
   pub some-variable : 1 ≤ c .n
-  pub variables : c .n ≤ r .variables
+  pub variables : c .n ≤ rulesOf c .variables
   pub some-value : 1 ≤ c .d
-  pub values : c .d ≤ r .values
-  pub edges : c .m ≤ r .edges
+  pub values : c .d ≤ rulesOf c .values
+  pub edges : c .m ≤ rulesOf c .edges
+  pub variables-few : c .n ≤ 256
+  pub values-few : c .d ≤ 8
+  pub variables-placed : c .n ≤ variablePlaces
+  pub edges-placed : c .m ≤ edgePlaces
+  pub scopes-placed : c .n + c .m ≤ scopePlaces
 
 -- a case of n variables with d values, as far as places are asked
 abbrev pub ofSize : ℕ → ℕ → Case
-ofSize n d = record { n = n; d = d; m = 0; lower = []; upper = [] }
+ofSize n d = record { n = n; d = d; m = 0; lower = []; upper = []; rulebook = Desk }
 
 -- how many tuples scope x has
 abbrev pub sizeOf : Case → ℕ → ℕ

@@ -1,8 +1,11 @@
 // Inner functions of a case and its table: the check of what is handed over, a scope's weights, and sums over scopes.
 use definitions::Case;
+use definitions::EDGE_PLACES;
 use definitions::Figure;
 use definitions::Outcome;
 use definitions::Refusal;
+use definitions::Rulebook;
+use definitions::SCOPE_PLACES;
 ghost use mathlib.Core.Path.{_≡_};
 ghost use mathlib.Core.Bool.{not, _&&_};
 ghost use lib.Dec.{eqb, ltb};
@@ -10,7 +13,7 @@ ghost use mathlib.Core.List.{[], _∷_, map};
 ghost use Prim.Native.Nat.{_+_, _*_, _≤_, _<_};
 ghost use lib.ListN.{length};
 ghost use Rattle.integers.specs.Words.{below, any, all, within, withinZ, greatestOf};
-ghost use Rattle.definitions.specs.Rules.{standard};
+ghost use Rattle.definitions.specs.Rules.{rulesIn, rulesOf, edgePlaces};
 ghost use Rattle.definitions.specs.Refusals.{_when_, firstOf};
 ghost use Rattle.definitions.specs.declared.Refusal.the-variants.{WeightOutOfRange};
 ghost use Rattle.definitions.specs.Answers.{outcomeOf};
@@ -18,18 +21,6 @@ ghost use Rattle.definitions.specs.Case.{place, greatest as greatestWeight, sco
 ghost use Rattle.definitions.specs.Valid.{startingWeight, workingWeight, withinLimits, someEdge, sameEnds, limitTest, edgeTests, handedOver};
 ghost use Rattle.tables.specs.Scopes.{Limited, ofSize, sizeOf, partOf, scopeWeights, bestAt, writtenOver, greatestCall, sumInRange, greatestSum, bestSum};
 ghost use Rattle.tables.specs.Edges.{faulty, withEdges};
-
-// The limits of a case.
-const VARIABLES: usize = 48;
-
-const VALUES: usize = 8;
-
-const EDGES: usize = 96;
-
-// The greatest starting and working weight on either side of 0.
-const STARTING: i64 = 1_000_000;
-
-const WORKING: i64 = 500_000_000;
 
 // What can be wrong with an edge.
 enum Fault {
@@ -46,16 +37,21 @@ fn in_range(x: usize, low: usize, high: usize) -> bool
     low <= x && x <= high
 }
 
-fn same_ends<'a>(lower: &'a [u8; 96], upper: &'a [u8; 96], e: usize, f: usize) -> bool
-    requires { ⌜ (e < 96) × (f < 96) ⌝ }
+fn same_ends<'a>(
+    lower: &'a [u8; EDGE_PLACES],
+    upper: &'a [u8; EDGE_PLACES],
+    e: usize,
+    f: usize,
+) -> bool
+    requires { ⌜ (e < edgePlaces) × (f < edgePlaces) ⌝ }
     ensures { λ r. ⌜ r ≡ sameEnds (withEdges 0 (now (lower .entry)) (now (upper .entry))) e f ⌝ }
 {
     (lower[e] == lower[f]) & (upper[e] == upper[f])
 }
 
 // An edge before e joins the same variables. All are looked at, so that many are at once.
-fn repeated<'a>(lower: &'a [u8; 96], upper: &'a [u8; 96], e: usize) -> bool
-    requires { ⌜ e < 96 ⌝ }
+fn repeated<'a>(lower: &'a [u8; EDGE_PLACES], upper: &'a [u8; EDGE_PLACES], e: usize) -> bool
+    requires { ⌜ e < edgePlaces ⌝ }
     ensures { λ r. ⌜ r ≡ faulty (withEdges 0 (now (lower .entry)) (now (upper .entry))) Fault.Repeated e ⌝ }
 {
     let mut found = false;
@@ -73,8 +69,14 @@ fn both_below(i: u8, j: u8, n: usize) -> bool
     (i as usize) < n && (j as usize) < n
 }
 
-fn is_faulty<'a>(n: usize, lower: &'a [u8; 96], upper: &'a [u8; 96], fault: Fault, e: usize) -> bool
-    requires { ⌜ e < 96 ⌝ }
+fn is_faulty<'a>(
+    n: usize,
+    lower: &'a [u8; EDGE_PLACES],
+    upper: &'a [u8; EDGE_PLACES],
+    fault: Fault,
+    e: usize,
+) -> bool
+    requires { ⌜ e < edgePlaces ⌝ }
     ensures { λ r. ⌜ r ≡ faulty (withEdges n (now (lower .entry)) (now (upper .entry))) fault e ⌝ }
 {
     match fault {
@@ -87,11 +89,11 @@ fn is_faulty<'a>(n: usize, lower: &'a [u8; 96], upper: &'a [u8; 96], fault: Faul
 fn some_faulty<'a>(
     n: usize,
     m: usize,
-    lower: &'a [u8; 96],
-    upper: &'a [u8; 96],
+    lower: &'a [u8; EDGE_PLACES],
+    upper: &'a [u8; EDGE_PLACES],
     fault: Fault,
 ) -> bool
-    requires { ⌜ m ≤ 96 ⌝ }
+    requires { ⌜ m ≤ edgePlaces ⌝ }
     ensures { λ r. ⌜ r ≡ any (faulty (withEdges n (now (lower .entry)) (now (upper .entry))) fault) (below m) ⌝ }
 {
     let mut e: usize = 0;
@@ -104,10 +106,28 @@ fn some_faulty<'a>(
     false
 }
 
+fn are_limited(rulebook: Rulebook, n: usize, d: usize, m: usize) -> bool
+    ensures { λ r. ⌜ r ≡ withinLimits (rulesIn rulebook) n d m ⌝ }
+{
+    in_range(n, 1, rules::variables(rulebook))
+        & in_range(d, 1, rules::values(rulebook))
+        & in_range(m, 0, rules::edges(rulebook))
+}
+
 fn is_within(weight: i64, low: i64, high: i64) -> bool
     ensures { λ r. ⌜ r ≡ withinZ low high weight ⌝ }
 {
     low <= weight && weight <= high
+}
+
+fn is_working(rulebook: Rulebook, weight: i64) -> bool
+    ensures { λ r. ⌜ r ≡ workingWeight (rulesIn rulebook) weight ⌝ }
+{
+    is_within(
+        weight,
+        rules::least_working(rulebook),
+        rules::most_working(rulebook),
+    )
 }
 
 fn all_within(weights: &[i64], low: i64, high: i64) -> bool
@@ -134,21 +154,21 @@ fn weight_outcome(table: &[i64], low: i64, high: i64) -> Outcome
 }
 
 fn table_length(case: Case) -> usize
-    requires { ⌜ Limited standard case ⌝ }
+    requires { ⌜ Limited case ⌝ }
     ensures { λ r. ⌜ r ≡ lentLength case ⌝ }
 {
     case.n * case.d + case.m * (case.d * case.d)
 }
 
 fn has_fault(case: Case, fault: Fault) -> bool
-    requires { ⌜ case .m ≤ 96 ⌝ }
+    requires { ⌜ case .m ≤ edgePlaces ⌝ }
     ensures { λ r. ⌜ r ≡ someEdge case (faulty case fault) ⌝ }
 {
     some_faulty(case.n, case.m, &case.lower, &case.upper, fault)
 }
 
 fn edge_outcome(case: Case, out: bool) -> Outcome
-    requires { ⌜ case .m ≤ 96 ⌝ }
+    requires { ⌜ case .m ≤ edgePlaces ⌝ }
     ensures { λ r. ⌜ r ≡ outcomeOf (firstOf (edgeTests case out)) ⌝ }
 {
     if out || has_fault(case, Fault::Outside) {
@@ -164,7 +184,7 @@ fn edge_outcome(case: Case, out: bool) -> Outcome
 }
 
 fn check(case: Case, table: &[i64], wrong: bool, out: bool, low: i64, high: i64) -> Outcome
-    ensures { λ r. ⌜ r ≡ outcomeOf (firstOf (handedOver standard (withinZ low high) case (now (table .entry)) wrong out)) ⌝ }
+    ensures { λ r. ⌜ r ≡ outcomeOf (firstOf (handedOver (rulesOf case) (withinZ low high) case (now (table .entry)) wrong out)) ⌝ }
 {
     if !within_limits(case) {
         return Outcome::Refused(Refusal::OutsideLimits);
@@ -182,14 +202,14 @@ fn check(case: Case, table: &[i64], wrong: bool, out: bool, low: i64, high: i64)
 // ---- scopes
 
 fn scope_count(case: Case) -> usize
-    requires { ⌜ Limited standard case ⌝ }
+    requires { ⌜ Limited case ⌝ }
     ensures { λ r. ⌜ r ≡ scopeCount case ⌝ }
 {
     case.n + case.m
 }
 
 fn first_place(n: usize, d: usize, x: usize) -> usize
-    requires { ⌜ (n ≤ 48) × (d ≤ 8) × (x < n + 96) ⌝ }
+    requires { ⌜ (n ≤ 256) × (d ≤ 8) × (x < n + edgePlaces) ⌝ }
     ensures { λ r. ⌜ r ≡ place (ofSize n d) x 0 0 ⌝ }
 {
     if x < n {
@@ -207,7 +227,7 @@ fn size_of(n: usize, d: usize, x: usize) -> usize
 }
 
 fn has_scope(case: Case, length: usize, x: usize) -> bool
-    ensures { λ r. ⌜ r ≡ (withinLimits standard (case .n) (case .d) (case .m) && eqb length (lentLength case) && ltb x (scopeCount case)) ⌝ }
+    ensures { λ r. ⌜ r ≡ (withinLimits (rulesOf case) (case .n) (case .d) (case .m) && eqb length (lentLength case) && ltb x (scopeCount case)) ⌝ }
 {
     if !within_limits(case) {
         return false;
@@ -216,7 +236,7 @@ fn has_scope(case: Case, length: usize, x: usize) -> bool
 }
 
 fn scope_part(case: Case, table: &[i64], x: usize) -> &[i64]
-    requires { ⌜ Limited standard case ⌝ }
+    requires { ⌜ Limited case ⌝ }
     requires { ⌜ length (now table) ≡ lentLength case ⌝ }
     requires { ⌜ x < case .n + case .m ⌝ }
     ensures { λ r. ⌜ now r ≡ partOf case (now (table .entry)) x ⌝ }
@@ -227,7 +247,7 @@ fn scope_part(case: Case, table: &[i64], x: usize) -> &[i64]
 }
 
 fn scope_greatest(case: Case, table: &[i64], x: usize) -> i64
-    requires { ⌜ Limited standard case ⌝ }
+    requires { ⌜ Limited case ⌝ }
     requires { ⌜ length (now table) ≡ lentLength case ⌝ }
     requires { ⌜ x < case .n + case .m ⌝ }
     ensures { λ r. ⌜ r ≡ greatestWeight case (now (table .entry)) x ⌝ }
@@ -238,7 +258,7 @@ fn scope_greatest(case: Case, table: &[i64], x: usize) -> i64
 // ---- sums over scopes
 
 fn write_greatest(case: Case, table: &[i64], best: &mut [i64])
-    requires { ⌜ Limited standard case ⌝ }
+    requires { ⌜ Limited case ⌝ }
     requires { ⌜ length (now table) ≡ lentLength case ⌝ }
     requires { ⌜ scopeCount case ≤ length (now best) ⌝ }
     ensures { λ _. ⌜ now (best .exit) ≡ writtenOver (map (greatestWeight case (now (table .entry))) (scopes case)) (now (best .entry)) ⌝ }
@@ -254,16 +274,17 @@ fn write_greatest(case: Case, table: &[i64], best: &mut [i64])
 
 // The numbers are added only while they are in the range, so that the sum fits.
 fn sum_in_range(case: Case, best: &[i64]) -> Figure
-    requires { ⌜ Limited standard case ⌝ }
+    requires { ⌜ Limited case ⌝ }
     requires { ⌜ scopeCount case ≤ length (now best) ⌝ }
-    ensures { λ r. ⌜ r ≡ sumInRange standard case (bestAt (now (best .entry))) ⌝ }
+    ensures { λ r. ⌜ r ≡ sumInRange (rulesOf case) case (bestAt (now (best .entry))) ⌝ }
 {
     let scopes = scope_count(case);
+    let rulebook = case.rulebook;
     let mut sum: i64 = 0;
     let mut x: usize = 0;
     while x < scopes {
         let weight = best[x];
-        if !is_within(weight, -WORKING, WORKING) {
+        if !is_working(rulebook, weight) {
             return Figure::Refused(Refusal::WeightOutOfRange);
         }
         sum += weight;
@@ -273,11 +294,11 @@ fn sum_in_range(case: Case, best: &[i64]) -> Figure
 }
 
 fn add_greatest(case: Case, table: &[i64]) -> Figure
-    requires { ⌜ Limited standard case ⌝ }
+    requires { ⌜ Limited case ⌝ }
     requires { ⌜ length (now table) ≡ lentLength case ⌝ }
-    ensures { λ r. ⌜ r ≡ sumInRange standard case (greatestWeight case (now (table .entry))) ⌝ }
+    ensures { λ r. ⌜ r ≡ sumInRange (rulesOf case) case (greatestWeight case (now (table .entry))) ⌝ }
 {
-    let mut best = [0i64; 144];
+    let mut best = [0i64; SCOPE_PLACES];
     write_greatest(case, table, &mut best);
     sum_in_range(case, &best)
 }
@@ -291,32 +312,43 @@ fn wide(value: u8) -> usize
 // ---- the calls
 
 pub fn within_limits(case: Case) -> bool
-    ensures { λ r. ⌜ r ≡ withinLimits standard (case .n) (case .d) (case .m) ⌝ }
+    ensures { λ r. ⌜ r ≡ withinLimits (rulesOf case) (case .n) (case .d) (case .m) ⌝ }
 {
-    if !in_range(case.n, 1, VARIABLES) {
-        return false;
-    }
-    if !in_range(case.d, 1, VALUES) {
-        return false;
-    }
-    in_range(case.m, 0, EDGES)
+    let rulebook = case.rulebook;
+    are_limited(rulebook, case.n, case.d, case.m)
 }
 
 pub fn check_starting(case: Case, table: &[i64], wrong: bool, out: bool) -> Outcome
-    ensures { λ r. ⌜ r ≡ outcomeOf (firstOf (handedOver standard (startingWeight standard) case (now (table .entry)) wrong out)) ⌝ }
+    ensures { λ r. ⌜ r ≡ outcomeOf (firstOf (handedOver (rulesOf case) (startingWeight (rulesOf case)) case (now (table .entry)) wrong out)) ⌝ }
 {
-    check(case, table, wrong, out, -STARTING, STARTING)
+    let rulebook = case.rulebook;
+    check(
+        case,
+        table,
+        wrong,
+        out,
+        rules::least_starting(rulebook),
+        rules::most_starting(rulebook),
+    )
 }
 
 pub fn check_working(case: Case, table: &[i64], wrong: bool, out: bool) -> Outcome
-    ensures { λ r. ⌜ r ≡ outcomeOf (firstOf (handedOver standard (workingWeight standard) case (now (table .entry)) wrong out)) ⌝ }
+    ensures { λ r. ⌜ r ≡ outcomeOf (firstOf (handedOver (rulesOf case) (workingWeight (rulesOf case)) case (now (table .entry)) wrong out)) ⌝ }
 {
-    check(case, table, wrong, out, -WORKING, WORKING)
+    let rulebook = case.rulebook;
+    check(
+        case,
+        table,
+        wrong,
+        out,
+        rules::least_working(rulebook),
+        rules::most_working(rulebook),
+    )
 }
 
 // What is asked where no table is lent.
 pub fn check_edges(case: Case, out: bool) -> Outcome
-    ensures { λ r. ⌜ r ≡ outcomeOf (firstOf (limitTest standard case ∷ edgeTests case out)) ⌝ }
+    ensures { λ r. ⌜ r ≡ outcomeOf (firstOf (limitTest (rulesOf case) case ∷ edgeTests case out)) ⌝ }
 {
     if within_limits(case) {
         edge_outcome(case, out)
@@ -346,7 +378,7 @@ pub fn greatest(weights: &[i64]) -> i64
 
 // Writes each scope's greatest weight to the first n + m places of `best`.
 pub fn greatest_weights(case: Case, table: &[i64], best: &mut [i64]) -> Outcome
-    ensures { λ r. ⌜ (r ≡ greatestCall standard case (now (table .entry)) (now (best .entry)) .answer) × (now (best .exit) ≡ greatestCall standard case (now (table .entry)) (now (best .entry)) .best) ⌝ }
+    ensures { λ r. ⌜ (r ≡ greatestCall (rulesOf case) case (now (table .entry)) (now (best .entry)) .answer) × (now (best .exit) ≡ greatestCall (rulesOf case) case (now (table .entry)) (now (best .entry)) .best) ⌝ }
 {
     if !within_limits(case) {
         return Outcome::Refused(Refusal::OutsideLimits);
@@ -363,7 +395,7 @@ pub fn greatest_weights(case: Case, table: &[i64], best: &mut [i64]) -> Outcome
 
 // The sum of the first n + m numbers of `best`; a number outside the range of working weights is refused.
 pub fn sum_of_best(case: Case, best: &[i64]) -> Figure
-    ensures { λ r. ⌜ r ≡ bestSum standard case (now (best .entry)) ⌝ }
+    ensures { λ r. ⌜ r ≡ bestSum (rulesOf case) case (now (best .entry)) ⌝ }
 {
     if !within_limits(case) {
         return Figure::Refused(Refusal::OutsideLimits);
@@ -390,7 +422,7 @@ pub fn some_beyond(values: &[u8], d: usize) -> bool
 
 // The sum of each scope's greatest weight; one outside the range of working weights is refused.
 pub fn sum_of_greatest(case: Case, table: &[i64]) -> Figure
-    ensures { λ r. ⌜ r ≡ greatestSum standard case (now (table .entry)) ⌝ }
+    ensures { λ r. ⌜ r ≡ greatestSum (rulesOf case) case (now (table .entry)) ⌝ }
 {
     if !within_limits(case) {
         return Figure::Refused(Refusal::OutsideLimits);
@@ -403,7 +435,7 @@ pub fn sum_of_greatest(case: Case, table: &[i64]) -> Figure
 
 // The part of the table that belongs to scope x; empty where there is none.
 pub fn scope_weights(case: Case, table: &[i64], x: usize) -> &[i64]
-    ensures { λ r. ⌜ now r ≡ scopeWeights standard case (now (table .entry)) x ⌝ }
+    ensures { λ r. ⌜ now r ≡ scopeWeights (rulesOf case) case (now (table .entry)) x ⌝ }
 {
     if has_scope(case, table.len(), x) {
         scope_part(case, table, x)

@@ -13,6 +13,7 @@ use lib.Seq.{getD-set-same, getD-set-other, ext-getD}
 use Rattle.integers.specs.Words.{from, below, joined}
 use Rattle.integers.specs.Tests.{either}
 use Rattle.integers.specs.Lists.{_∈_, below-in, joined-in, map-append, map-joined, map-map, map-same}
+use Rattle.definitions.specs.declared.Rulebook.{Rulebook}
 use Rattle.definitions.specs.declared.Case.{Case}
 use Rattle.definitions.specs.declared.Line.{Line}
 use Rattle.definitions.specs.Rules.{edgePlaces}
@@ -149,9 +150,9 @@ pub record State : Type 0 where
   pub upper : List ℕ
   pub table : List ℤ
 
-module _ (n d m : ℕ) where
+module _ (book : Rulebook) (n d m : ℕ) where
   abbrev pub caseAt : State → Case
-  caseAt s = record { n = n; d = d; m = m; lower = s .lower; upper = s .upper }
+  caseAt s = record { n = n; d = d; m = m; lower = s .lower; upper = s .upper; rulebook = book }
 
   abbrev pub reading : State → Reading
   reading s = record { case = caseAt s; table = s .table }

@@ -16,14 +16,15 @@ use Rattle.integers.specs.Linear.{T-eq}
 use Rattle.integers.specs.Options.{none-some}
 use Rattle.definitions.specs.declared.Case.{Case}
 use Rattle.definitions.specs.declared.Line.{Line}
-use Rattle.definitions.specs.Rules.{Rules, standard, Coherent}
+use Rattle.definitions.specs.Rules.{Rules, Coherent}
+use Rattle.definitions.proofs.RulesLaws.{fits}
 use Rattle.definitions.specs.Refusals.{Test, firstOf}
 use Rattle.definitions.specs.Case.{lowerEnd, upperEnd, weight, lentLength}
 use Rattle.definitions.specs.Valid.{startingWeight}
-use Rattle.definitions.specs.Lines.{isKind, notDue, lineTooWide}
-use Rattle.definitions.specs.CaseFiles.{headLine, CaseDue, variable-weight, edge-ends, edge-weight, dueTests, headTests, headed}
+use Rattle.definitions.specs.Lines.{line, isKind, notDue, lineTooWide}
+use Rattle.definitions.specs.CaseFiles.{headLine, CaseDue, variable-weight, edge-ends, edge-weight, dueTests, headTests}
 use Rattle.theory.proofs.Words.{none-below}
-use Rattle.theory.proofs.Validity.{none-applies, not-and-iff, Valid, starting-working}
+use Rattle.theory.proofs.Validity.{none-applies, not-and-iff, Valid}
 use Rattle.theory.proofs.Places.{variable-tuple, edge-tuple, by-tuple}
 use Rattle.theory.proofs.Rounds.{within-most, line-fits}
 use Rattle.theory.proofs.CaseDues.{lineOf, IsDue, lineFor}
@@ -35,12 +36,12 @@ pub record CaseKinds (r : Rules) : Type 0 where
   pub ends-due : (l : Line) → notDue r (12 ∷ []) l ≡ not (isKind 12 l && eqZ (l .amount) (pos 0))
   pub edge-due : (l : Line) → notDue r (13 ∷ []) l ≡ not (isKind 13 l)
 
-pub standard-case-kinds : (r : Rules) → r .kinds ≡ standard .kinds → CaseKinds r
-standard-case-kinds r same = record {
-  head-due = λ l. rw same (simp (and-false, and-true, or-false));
-  variable-due = λ l. rw same (simp (and-false, and-true, or-false));
-  ends-due = λ l. rw same (simp (and-false, and-true, or-false));
-  edge-due = λ l. rw same (simp (and-false, and-true, or-false));
+pub case-kinds : {r : Rules} → Coherent r → CaseKinds r
+case-kinds {r} coherent = record {
+  head-due = λ l. rw (coherent .known-kinds) (simp (and-false, and-true, or-false));
+  variable-due = λ l. rw (coherent .known-kinds) (simp (and-false, and-true, or-false));
+  ends-due = λ l. rw (coherent .known-kinds) (simp (and-false, and-true, or-false));
+  edge-due = λ l. rw (coherent .known-kinds) (simp (and-false, and-true, or-false));
 }
 
 -- ---- which lines pass the tests of a due
@@ -131,7 +132,7 @@ module _ {r : Rules} {c : Case} {w : List ℤ} where
   -- every line fits its columns
   module _ (coherent : Coherent r) (v : Valid r c w) where
     weight-fits : (z : ℤ) → T (startingWeight r z) → natAbs z < 10 ^ (r .amountWidth - 1)
-    weight-fits z t = omega (arith, weight-most z t, starting-working coherent, coherent .difference, coherent .moving-fits)
+    weight-fits z t = omega (arith, weight-most z t, fits coherent .starting, coherent .difference, coherent .moving-fits)
       where
         weight-most : (z : ℤ) → T (startingWeight r z) → natAbs z ≤ r .starting
         weight-most z = simp tests (λ p. within-most (r .starting) z (record { le = p .0 }) (record { le = p .1 }))
@@ -153,7 +154,7 @@ within-nat low high (pos n) t u = (refl, leb→le low n t, leb→le n high u)
 within-nat low high (negsuc n) t u = absurd t
 
 module _ {r : Rules} (kinds : CaseKinds r) where
-  pub head-passed : (t : Line) → firstOf (headTests r (some t)) ≡ none → (t ≡ headLine (headed r (some t))) × Limited r (natAbs (t .a)) (natAbs (t .b)) (natAbs (t .c))
+  pub head-passed : (t : Line) → firstOf (headTests r (some t)) ≡ none → (t ≡ line 10 (pos (natAbs (t .a))) (pos (natAbs (t .b))) (pos (natAbs (t .c))) (pos 0)) × Limited r (natAbs (t .a)) (natAbs (t .b)) (natAbs (t .c))
   head-passed t e =
       let ((p, z), ((((al, au), (bl, bu)), (cl, cu)), o)) = simp (kinds .head-due, tests, T-eq) at (passes (headTests r (some t)) .0 e) in
       let a = within-nat 1 (r .variables) (t .a) al au in

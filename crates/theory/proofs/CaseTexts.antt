@@ -16,10 +16,11 @@ use Rattle.integers.specs.Words.{below, joined, all, if_then_else_}
 use Rattle.integers.specs.Tests.{either}
 use Rattle.integers.specs.Lists.{_∈_, map-map, map-same}
 use Rattle.integers.specs.Tables.{Parts, length-joined, length-tab, getD-tab}
+use Rattle.definitions.specs.declared.Rulebook.{Rulebook}
 use Rattle.definitions.specs.declared.Case.{Case}
 use Rattle.definitions.specs.declared.Line.{Line}
 use Rattle.definitions.specs.declared.FileAnswer.{FileAnswer}
-use Rattle.definitions.specs.Rules.{Rules, edgePlaces, Coherent}
+use Rattle.definitions.specs.Rules.{Rules, rulesIn, rulesOf, edgePlaces, Coherent, coherent}
 use Rattle.definitions.specs.Case.{lowerEnd, upperEnd, weight, eachTuple, lentLength}
 use Rattle.definitions.specs.Valid.{valid}
 use Rattle.definitions.specs.Lines.{line, lineLength, lineText, lineTooWide, hasPart}
@@ -28,7 +29,7 @@ use Rattle.definitions.specs.Calls.{fileBytes}
 use Rattle.definitions.proofs.LineLaws.{line-length, no-part}
 use Rattle.theory.proofs.Validity.{Valid, valid-facts, facts-valid}
 use Rattle.theory.proofs.CaseDues.{lineOf, case-lines, IsDue, run-length, dues-run, due-in, in-dues, same-ends, caseAt, reading, State, Sized}
-use Rattle.theory.proofs.CaseTests.{Good, valid-limits, valid-good, good-valid, due-fits, head-fits, head-passed, head-passes, CaseKinds, Limited}
+use Rattle.theory.proofs.CaseTests.{Good, valid-limits, valid-good, good-valid, due-fits, head-fits, head-passed, head-passes, CaseKinds, case-kinds, Limited}
 use Rattle.theory.proofs.CaseReads.{front-whole, front-line, front-after, line-front, read-same, take-head, head-taken, ended, alone-taken, dues-written, dues-read, Taken}
 
 -- ---- a case with 0 at the places that belong to no edge
@@ -36,7 +37,7 @@ abbrev trim : ℕ → List ℕ → List ℕ
 trim m xs = map (λ e. if ltb e m then getD xs e 0 else 0) (below edgePlaces)
 
 abbrev pub trimmed : Case → Case
-trimmed c = record { n = c .n; d = c .d; m = c .m; lower = trim (c .m) (c .lower); upper = trim (c .m) (c .upper) }
+trimmed c = record { n = c .n; d = c .d; m = c .m; lower = trim (c .m) (c .lower); upper = trim (c .m) (c .upper); rulebook = c .rulebook }
 
 module _ (m : ℕ) (xs : List ℕ) where
   trim-long : length (trim m xs) ≡ edgePlaces
@@ -66,7 +67,7 @@ trimmed-past c e h = (trim-past (c .m) (c .lower) e h, trim-past (c .m) (c .uppe
 pub trimmed-is : (c : Case) → c .m ≤ edgePlaces → length (c .lower) ≡ edgePlaces → length (c .upper) ≡ edgePlaces
     → ((e : ℕ) → c .m ≤ e → (lowerEnd c e ≡ 0) × (upperEnd c e ≡ 0)) → trimmed c ≡ c
 trimmed-is c few p q past =
-    ap₂ (λ (x y : List ℕ). record { n = c .n; d = c .d; m = c .m; lower = x; upper = y })
+    ap₂ (λ (x y : List ℕ). record { n = c .n; d = c .d; m = c .m; lower = x; upper = y; rulebook = c .rulebook })
     (trim-is (c .m) (c .lower) few p (λ e h. past e h .0)) (trim-is (c .m) (c .upper) few q (λ e h. past e h .1))
 
 module _ (c : Case) (w : List ℤ) (few : c .m ≤ edgePlaces) where
@@ -126,9 +127,9 @@ module _ {r : Rules} (coherent : Coherent r) (c : Case) (w : List ℤ) (t : T (v
   text-whole = no-part (r .amountWidth) (map (lineText (r .amountWidth)) (caseLines c w)) line-parts
 
 -- t is the text of a valid case, of so many lines, with 0 at the places that belong to no edge
-pub record IsText (r : Rules) (c : Case) (w : List ℤ) (lines : ℕ) (t : List ℕ) : Type 0 where
-  pub accepted : T (valid r c w)
-  pub same-text : caseText r c w ≡ t
+pub record IsText (c : Case) (w : List ℤ) (lines : ℕ) (t : List ℕ) : Type 0 where
+  pub accepted : T (valid (rulesOf c) c w)
+  pub same-text : caseText (rulesOf c) c w ≡ t
   pub same-count : lines ≡ lineCount c
   pub plain : trimmed c ≡ c
 
@@ -141,82 +142,89 @@ zeros zero e = refl
 zeros (suc k) zero = refl
 zeros (suc k) (suc e) = zeros k e
 
-start-sized : (n d m : ℕ) (u : List ℤ) → length u ≡ n * d + m * (d * d) → Sized n d m (start u)
-start-sized n d m u long = record { long = long; lower-long = refl; upper-long = refl; lower-past = λ e h. zeros edgePlaces e; upper-past = λ e h. zeros edgePlaces e }
+start-sized : (book : Rulebook) (n d m : ℕ) (u : List ℤ) → length u ≡ n * d + m * (d * d) → Sized book n d m (start u)
+start-sized book n d m u long = record { long = long; lower-long = refl; upper-long = refl; lower-past = λ e h. zeros edgePlaces e; upper-past = λ e h. zeros edgePlaces e }
 
-module _ {r : Rules} (coherent : Coherent r) (kinds : CaseKinds r) where
+module _ (book : Rulebook) where
+  abbrev rules : Rules
+  rules = rulesIn book
+
+  kinds : CaseKinds rules
+  kinds = case-kinds (coherent book)
+
   -- ---- written and read
-  read-state : (n d m : ℕ) (f : State) → Sized n d m f → Valid r (caseAt n d m f) (f .table) → (rest : List ℕ) (u : List ℤ) → length u ≡ length (f .table)
-      → readCase r (caseText r (caseAt n d m f) (f .table) ++ rest) u ≡ caseTaken r (reading n d m f) (lineCount (caseAt n d m f))
+  read-state : (n d m : ℕ) (f : State) → Sized book n d m f → Valid rules (caseAt book n d m f) (f .table) → (rest : List ℕ) (u : List ℤ) → length u ≡ length (f .table)
+      → readCase book (caseText rules (caseAt book n d m f) (f .table) ++ rest) u ≡ caseTaken (reading book n d m f) (lineCount (caseAt book n d m f))
   read-state n d m f size v rest u long =
-      let c : Case = caseAt n d m f in
-      let tail : List ℕ = joined (map (λ due. lineText (r .amountWidth) (lineOf c (f .table) due)) (dues c)) ++ rest in
-      ap (λ (t : List ℕ). readCase r t u) (ap (λ (t : List ℕ). t ++ rest) (case-text r c (f .table)) ∙ append-assoc (lineText (r .amountWidth) (headLine c)) _ rest)
-      ∙ take-head r (lineText (r .amountWidth) (headLine c) ++ tail) u (front-whole r (headLine c) (head-fits coherent v) tail) (front-line r (headLine c) (head-fits coherent v) tail)
+      let c : Case = caseAt book n d m f in
+      let tail : List ℕ = joined (map (λ due. lineText (rules .amountWidth) (lineOf c (f .table) due)) (dues c)) ++ rest in
+      ap (λ (t : List ℕ). readCase book t u) (ap (λ (t : List ℕ). t ++ rest) (case-text rules c (f .table)) ∙ append-assoc (lineText (rules .amountWidth) (headLine c)) _ rest)
+      ∙ take-head book (lineText (rules .amountWidth) (headLine c) ++ tail) u (front-whole rules (headLine c) (head-fits (coherent book) v) tail) (front-line rules (headLine c) (head-fits (coherent book) v) tail)
       (head-passes kinds c (valid-limits v)) (long ∙ v .long)
-      ∙ ap (readDues r (reading n d m (start u)) 1 (dues c)) (front-after r (headLine c) (head-fits coherent v) tail)
-      ∙ dues-written kinds n d m (omega (arith, v .edges-most)) size (valid-good v) (due-fits coherent v) (dues-run c)
-      (start-sized n d m u (long ∙ v .long)) (λ due h l. absurd (omega arith)) 1 rest
-      ∙ ap (caseTaken r (reading n d m f)) (dues-count c)
-
-  module _ (c : Case) (w : List ℤ) (t : T (valid r c w)) where
-    pub read-written : (rest : List ℕ) (u : List ℤ) → length u ≡ lentLength c → readCase r (caseText r c w ++ rest) u ≡ caseTaken r (record { case = trimmed c; table = w }) (lineCount c)
-    read-written rest u long =
-        let v = valid-facts r c w t in
-        let few : c .m ≤ edgePlaces = omega (arith, v .edges-most, coherent .edges-placed) in
-        let size : Sized (c .n) (c .d) (c .m) (record { lower = trim (c .m) (c .lower); upper = trim (c .m) (c .upper); table = w }) = record {
-          long = v .long;
-          lower-long = trim-long (c .m) (c .lower);
-          upper-long = trim-long (c .m) (c .upper);
-          lower-past = trim-past (c .m) (c .lower);
-          upper-past = trim-past (c .m) (c .upper);
-        } in
-        ap (λ (ls : List Line). readCase r (joined (map (lineText (r .amountWidth)) ls) ++ rest) u) (sym (trimmed-lines c w few))
-        ∙ read-state (c .n) (c .d) (c .m) _ size (trimmed-valid c w few v) rest u (long ∙ sym (v .long))
-
-    pub read-written-alone : (u : List ℤ) → length u ≡ lentLength c → readCaseAlone r (caseText r c w) u ≡ caseTaken r (record { case = trimmed c; table = w }) (lineCount c)
-    read-written-alone u long =
-        let end : length (caseText r c w) ≤ lineCount c * lineLength (r .amountWidth) = omega (arith, text-length coherent c w t, mul-comm (lineCount c) (lineLength (r .amountWidth))) in
-        ap (λ (x : CaseCall). nothingAfter r (caseText r c w) x (x .read .answer)) (rw append-nil at (read-written [] u long))
-        ∙ ended r (caseText r c w) (caseTaken r (record { case = trimmed c; table = w }) (lineCount c)) (lineCount c) (drop-of-length-le (caseText r c w) end)
+      ∙ ap (readDues book (reading book n d m (start u)) 1 (dues c)) (front-after rules (headLine c) (head-fits (coherent book) v) tail)
+      ∙ dues-written kinds n d m (omega (arith, v .edges-most, coherent book .edges-placed)) size (valid-good v) (due-fits (coherent book) v) (dues-run c)
+      (start-sized book n d m u (long ∙ v .long)) (λ due h l. absurd (omega arith)) 1 rest
+      ∙ ap (caseTaken (reading book n d m f)) (dues-count c)
 
   -- ---- read and written
 
   -- the lines after a head that was taken
-  taken-text : (t : List ℕ) (u : List ℤ) (n d m : ℕ) → firstLine r t ≡ some (line 10 (pos n) (pos d) (pos m) (pos 0)) → Limited r n d m → m ≤ edgePlaces
-      → (ds : List CaseDue) → ds ≡ dues (caseAt n d m (start u)) → (o : Taken r n d m 0 1 (start u) ds (afterFirst r t))
-      → IsText r (caseAt n d m (o .final)) (o .final .table) (1 + length ds) (take ((1 + length ds) * lineLength (r .amountWidth)) t)
+  taken-text : (t : List ℕ) (u : List ℤ) (n d m : ℕ) → firstLine rules t ≡ some (line 10 (pos n) (pos d) (pos m) (pos 0)) → Limited rules n d m → m ≤ edgePlaces
+      → (ds : List CaseDue) → ds ≡ dues (caseAt book n d m (start u)) → (o : Taken book n d m 0 1 (start u) ds (afterFirst rules t))
+      → IsText (caseAt book n d m (o .final)) (o .final .table) (1 + length ds) (take ((1 + length ds) * lineLength (rules .amountWidth)) t)
   taken-text t u n d m first limits few ds e o =
-      let c : Case = caseAt n d m (o .final) in
+      let c : Case = caseAt book n d m (o .final) in
       let w : List ℤ = o .final .table in
       record {
-        accepted = facts-valid r c w (good-valid limits (o .sized .long) (λ due h. o .good due (rw e (due-in c due h))));
-        same-text = case-text r c w ∙ line-front r t first (length ds) _ (rw (← e) (o .text)) ∙ ap (λ (i : ℕ). take (i * lineLength (r .amountWidth)) t) (omega arith);
+        accepted = facts-valid rules c w (good-valid limits (o .sized .long) (λ due h. o .good due (rw e (due-in c due h))));
+        same-text = case-text rules c w ∙ line-front rules t first (length ds) _ (rw (← e) (o .text)) ∙ ap (λ (i : ℕ). take (i * lineLength (rules .amountWidth)) t) (omega arith);
         same-count = rw e (dues-count c);
         plain = trimmed-is c few (o .sized .lower-long) (o .sized .upper-long) (λ e h. (o .sized .lower-past e h, o .sized .upper-past e h));
       }
 
-  pub written-read : (t : List ℕ) (u : List ℤ) {lines : ℕ} → readCase r t u .read .answer ≡ FileAnswer.Read lines
-      → IsText r (readCase r t u .read .case) (readCase r t u .table) lines (take (lines * lineLength (r .amountWidth)) t)
+  pub written-read : (t : List ℕ) (u : List ℤ) {lines : ℕ} → readCase book t u .read .answer ≡ FileAnswer.Read lines
+      → IsText (readCase book t u .read .case) (readCase book t u .table) lines (take (lines * lineLength (rules .amountWidth)) t)
   written-read t u {lines} p =
-      let (whole, l, first, q, long) = head-taken r t u p in
+      let (whole, l, first, q, long) = head-taken book t u p in
       let (shape, limits) = head-passed kinds l q in
-      let c : Case = headed r (some l) in
-      let few : c .m ≤ edgePlaces = omega (arith, limits .edges-most, coherent .edges-placed) in
-      let begun = take-head r t u whole first q long in
-      let o = dues-read kinds (c .n) (c .d) (c .m) few (dues-run c) (start-sized (c .n) (c .d) (c .m) u long) 1 (afterFirst r t) (sym (ap (λ (x : CaseCall). x .read .answer) begun) ∙ p) in
-      go (readCase r t u) _ (begun ∙ o .result) p (taken-text t u (c .n) (c .d) (c .m) (first ∙ ap some shape) limits few (dues c) refl o)
+      let c : Case = headed book (some l) in
+      let few : c .m ≤ edgePlaces = omega (arith, limits .edges-most, coherent book .edges-placed) in
+      let begun = take-head book t u whole first q long in
+      let o = dues-read kinds (c .n) (c .d) (c .m) few (dues-run c) (start-sized book (c .n) (c .d) (c .m) u long) 1 (afterFirst rules t) (sym (ap (λ (x : CaseCall). x .read .answer) begun) ∙ p) in
+      go (readCase book t u) _ (begun ∙ o .result) p (taken-text t u (c .n) (c .d) (c .m) (first ∙ ap some shape) limits few (dues c) refl o)
     where
-      go : (call : CaseCall) {g : Reading} (k : ℕ) → call ≡ caseTaken r g k → call .read .answer ≡ FileAnswer.Read lines → IsText r (g .case) (g .table) k (take (k * lineLength (r .amountWidth)) t)
-          → IsText r (call .read .case) (call .table) lines (take (lines * lineLength (r .amountWidth)) t)
+      go : (call : CaseCall) {g : Reading} (k : ℕ) → call ≡ caseTaken g k → call .read .answer ≡ FileAnswer.Read lines → IsText (g .case) (g .table) k (take (k * lineLength (rules .amountWidth)) t)
+          → IsText (call .read .case) (call .table) lines (take (lines * lineLength (rules .amountWidth)) t)
       go call {g} k e p h =
-          subst (λ (i : ℕ). IsText r (call .read .case) (call .table) i (take (i * lineLength (r .amountWidth)) t)) (read-same r (sym (ap (λ (x : CaseCall). x .read .answer) e) ∙ p))
-          (subst (λ (x : CaseCall). IsText r (x .read .case) (x .table) k (take (k * lineLength (r .amountWidth)) t)) (sym e) h)
+          subst (λ (i : ℕ). IsText (call .read .case) (call .table) i (take (i * lineLength (rules .amountWidth)) t)) (read-same rules (sym (ap (λ (x : CaseCall). x .read .answer) e) ∙ p))
+          (subst (λ (x : CaseCall). IsText (x .read .case) (x .table) k (take (k * lineLength (rules .amountWidth)) t)) (sym e) h)
 
-  pub written-read-alone : (t : List ℕ) (u : List ℤ) {lines : ℕ} → readCaseAlone r t u .read .answer ≡ FileAnswer.Read lines
-      → IsText r (readCaseAlone r t u .read .case) (readCaseAlone r t u .table) lines t
+  pub written-read-alone : (t : List ℕ) (u : List ℤ) {lines : ℕ} → readCaseAlone book t u .read .answer ≡ FileAnswer.Read lines
+      → IsText (readCaseAlone book t u .read .case) (readCaseAlone book t u .table) lines t
   written-read-alone t u {lines} p =
-      let (same, z) = alone-taken r t u p in
-      let all : take (lines * lineLength (r .amountWidth)) t ≡ t = rw (z, append-nil) at (take-append-drop (lines * lineLength (r .amountWidth)) t) in
-      subst (λ (x : CaseCall). IsText r (x .read .case) (x .table) lines t) (sym same)
-      (subst (IsText r (readCase r t u .read .case) (readCase r t u .table) lines) all (written-read t u (sym (ap (λ (x : CaseCall). x .read .answer) same) ∙ p)))
+      let (same, z) = alone-taken book t u p in
+      let all : take (lines * lineLength (rules .amountWidth)) t ≡ t = rw (z, append-nil) at (take-append-drop (lines * lineLength (rules .amountWidth)) t) in
+      subst (λ (x : CaseCall). IsText (x .read .case) (x .table) lines t) (sym same)
+      (subst (IsText (readCase book t u .read .case) (readCase book t u .table) lines) all (written-read t u (sym (ap (λ (x : CaseCall). x .read .answer) same) ∙ p)))
+
+-- ---- written and read, of any case
+module _ (c : Case) (w : List ℤ) (t : T (valid (rulesOf c) c w)) where
+  pub read-written : (rest : List ℕ) (u : List ℤ) → length u ≡ lentLength c → readCase (c .rulebook) (caseText (rulesOf c) c w ++ rest) u ≡ caseTaken (record { case = trimmed c; table = w }) (lineCount c)
+  read-written rest u long =
+      let v = valid-facts (rulesOf c) c w t in
+      let few : c .m ≤ edgePlaces = omega (arith, v .edges-most, coherent (c .rulebook) .edges-placed) in
+      let size : Sized (c .rulebook) (c .n) (c .d) (c .m) (record { lower = trim (c .m) (c .lower); upper = trim (c .m) (c .upper); table = w }) = record {
+        long = v .long;
+        lower-long = trim-long (c .m) (c .lower);
+        upper-long = trim-long (c .m) (c .upper);
+        lower-past = trim-past (c .m) (c .lower);
+        upper-past = trim-past (c .m) (c .upper);
+      } in
+      ap (λ (ls : List Line). readCase (c .rulebook) (joined (map (lineText (rulesOf c .amountWidth)) ls) ++ rest) u) (sym (trimmed-lines c w few))
+      ∙ read-state (c .rulebook) (c .n) (c .d) (c .m) _ size (trimmed-valid c w few v) rest u (long ∙ sym (v .long))
+
+  pub read-written-alone : (u : List ℤ) → length u ≡ lentLength c → readCaseAlone (c .rulebook) (caseText (rulesOf c) c w) u ≡ caseTaken (record { case = trimmed c; table = w }) (lineCount c)
+  read-written-alone u long =
+      let end : length (caseText (rulesOf c) c w) ≤ lineCount c * lineLength (rulesOf c .amountWidth) = omega (arith, text-length (coherent (c .rulebook)) c w t, mul-comm (lineCount c) (lineLength (rulesOf c .amountWidth))) in
+      ap (λ (x : CaseCall). nothingAfter (c .rulebook) (caseText (rulesOf c) c w) x (x .read .answer)) (rw append-nil at (read-written [] u long))
+      ∙ ended (c .rulebook) (caseText (rulesOf c) c w) (caseTaken (record { case = trimmed c; table = w }) (lineCount c)) (lineCount c) (drop-of-length-le (caseText (rulesOf c) c w) end)

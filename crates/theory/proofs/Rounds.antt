@@ -21,7 +21,7 @@ use Rattle.integers.specs.Sums.{Σ-most, Σ-least}
 use Rattle.definitions.specs.declared.Case.{Case}
 use Rattle.definitions.specs.declared.Line.{Line}
 use Rattle.definitions.specs.declared.Refusal.{Refusal}
-use Rattle.definitions.specs.Rules.{Rules, Coherent, standard, scopesAtMost}
+use Rattle.definitions.specs.Rules.{Rules, Coherent, scopesAtMost}
 use Rattle.definitions.specs.Refusals.{firstOf}
 use Rattle.definitions.specs.Case.{scopeCount, greatest, upperBound}
 use Rattle.definitions.specs.Valid.{workingWeight, allWeights, valid}
@@ -123,12 +123,12 @@ pub record MoveKinds (r : Rules) : Type 0 where
   pub raise-due : (h : Held) (x : ℕ) → T (not (notDue r (kindsDue (some h)) (raiseLine x)))
   pub bound-due : (z : ℤ) → T (not (notDue r (kindsDue none) (boundLine z)))
 
-pub standard-kinds : (r : Rules) → r .kinds ≡ standard .kinds → MoveKinds r
-standard-kinds r same = record {
-  shift-due = λ e end v a. rw same tt;
-  press-due = λ i k a. rw same tt;
-  raise-due = λ h x. rw same tt;
-  bound-due = λ z. rw same tt;
+pub move-kinds : {r : Rules} → Coherent r → MoveKinds r
+move-kinds {r} coherent = record {
+  shift-due = λ e end v a. rw (coherent .known-kinds) tt;
+  press-due = λ i k a. rw (coherent .known-kinds) tt;
+  raise-due = λ h x. rw (coherent .known-kinds) tt;
+  bound-due = λ z. rw (coherent .known-kinds) tt;
 }
 
 -- ---- lines that fit their columns

@@ -18,6 +18,7 @@ use Rattle.integers.specs.Lists.{all-in, any-in}
 use Rattle.definitions.specs.declared.Case.{Case}
 use Rattle.definitions.specs.Case.{lowerEnd, upperEnd, lentLength, weight, isAssignment}
 use Rattle.definitions.specs.Rules.{Rules, Coherent, scopesAtMost}
+use Rattle.definitions.proofs.RulesLaws.{fits}
 use Rattle.definitions.specs.Refusals.{Test, firstOf}
 use Rattle.definitions.specs.Valid.{startingWeight, workingWeight, allWeights, wrongAssignment, valueOut, handedOver, valid}
 use Rattle.theory.proofs.Shape.{Shape}
@@ -103,12 +104,9 @@ module _ (r : Rules) (c : Case) (w : List ℤ) where
   pub facts-valid : Valid r c w → T (valid r c w)
   facts-valid h = handed r (startingWeight r) c w false false .1 (h, tt, tt)
 
-pub starting-working : {r : Rules} → Coherent r → r .starting ≤ r .working
-starting-working {r} h = omega (arith, h .room, mul-le-mul-right {m = 1} {n = 2 * scopesAtMost r + 1} (r .starting) (omega arith))
-
 module _ {r : Rules} {c : Case} {w : List ℤ} (coherent : Coherent r) (h : Valid r c w) where
   pub working-weights : (x k l : ℕ) → IsTuple c x k l → T (workingWeight r (weight c w x k l))
-  working-weights x k l t = starting-working coherent ▸ h .in-range x k l t ▸ simp flat (omega zs)
+  working-weights x k l t = fits coherent .starting ▸ h .in-range x k l t ▸ simp flat (omega zs)
 
   pub all-working : T (allWeights (workingWeight r) c w)
   all-working = let e = h .long in all-weights c (workingWeight r) w (omega arith) .1 working-weights

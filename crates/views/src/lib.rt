@@ -3,21 +3,21 @@
 use definitions::Line;
 use definitions::LineRead;
 use definitions::Refusal;
+use definitions::Rulebook;
 use definitions::Span;
 ghost use mathlib.Core.Path.{_≡_};
-ghost use Prim.Native.Nat.{ℕ, _+_, _*_, _≤_};
+ghost use mathlib.Core.Bool.{false};
+ghost use Prim.Native.Nat.{ℕ, _+_, _*_, _<_, _≤_};
 ghost use lib.ListN.{length, take, drop};
 ghost use Rattle.integers.specs.Words.{if_then_else_};
-ghost use Rattle.definitions.specs.Rules.{standard};
-ghost use Rattle.definitions.specs.Lines.{isKind, hasPart};
+ghost use Rattle.definitions.specs.declared.Rulebook.the-variants.{Desk};
+ghost use Rattle.definitions.specs.Rules.{rulesIn};
+ghost use Rattle.definitions.specs.Lines.{lineLength, isKind, hasPart};
 ghost use Rattle.definitions.specs.declared.Refusal.the-variants.{OutOfRange, CutShort};
 ghost use Rattle.definitions.specs.Answers.{spanSays, lineNamed};
-ghost use Rattle.definitions.specs.Calls.{readLineAnswer};
-ghost use Rattle.definitions.specs.Views.{roundSpan, roundView};
-ghost use Rattle.views.specs.Steps.{long, endedStep, passedStep};
-
-// The length of a line.
-const LINE: usize = 27;
+ghost use Rattle.definitions.specs.Views.{spanIn, roundSpan, roundView};
+ghost use Rattle.lines.specs.AtWidth.{widthOut, readLineAt};
+ghost use Rattle.views.specs.Steps.{endedStep, passedStep, roundSpanAt};
 
 // The kind of a bound line.
 const BOUND: i64 = 4;
@@ -28,15 +28,15 @@ enum Step {
     On { from: usize, left: u64 },
 }
 
-// After the bound line `at`.
-fn round_ended(at: usize, from: usize, left: u64) -> Step
-    requires { ⌜ (from ≤ at) × ((at + 1) * long ≤ 9_223_372_036_854_775_808) ⌝ }
-    ensures { λ r. ⌜ r ≡ endedStep at from left ⌝ }
+// After the bound line `at`, where lines have `long` bytes.
+fn round_ended(long: usize, at: usize, from: usize, left: u64) -> Step
+    requires { ⌜ (from ≤ at) × (at < 9_223_372_036_854_775_808) × ((at + 1) * long ≤ 9_223_372_036_854_775_808) ⌝ }
+    ensures { λ r. ⌜ r ≡ endedStep long at from left ⌝ }
 {
     if left == 0 {
         return Step::Stop(Span::Part {
-            from: from * LINE,
-            to: (at + 1) * LINE,
+            from: from * long,
+            to: (at + 1) * long,
         });
     }
     Step::On {
@@ -51,9 +51,9 @@ fn is_bound(line: Line) -> bool
     line.kind == BOUND
 }
 
-fn passed(read: LineRead, at: usize, from: usize, left: u64) -> Step
-    requires { ⌜ (from ≤ at) × ((at + 1) * long ≤ 9_223_372_036_854_775_808) ⌝ }
-    ensures { λ r. ⌜ r ≡ passedStep read at from left ⌝ }
+fn passed(read: LineRead, long: usize, at: usize, from: usize, left: u64) -> Step
+    requires { ⌜ (from ≤ at) × (at < 9_223_372_036_854_775_808) × ((at + 1) * long ≤ 9_223_372_036_854_775_808) ⌝ }
+    ensures { λ r. ⌜ r ≡ passedStep read long at from left ⌝ }
 {
     let LineRead::Read(line) = read else {
         return Step::Stop(Span::Refused {
@@ -62,43 +62,49 @@ fn passed(read: LineRead, at: usize, from: usize, left: u64) -> Step
         });
     };
     if is_bound(line) {
-        return round_ended(at, from, left);
+        return round_ended(long, at, from, left);
     }
     Step::On { from, left }
 }
 
-fn step_at(log: &[u8], at: usize, from: usize, left: u64) -> Step
-    requires { ⌜ (from ≤ at) × ((at + 1) * long ≤ length (now log)) ⌝ }
-    ensures { λ r. ⌜ r ≡ passedStep (readLineAnswer standard (take long (drop (at * long) (now (log .entry))))) at from left ⌝ }
+fn step_at(log: &[u8], width: usize, at: usize, from: usize, left: u64) -> Step
+    requires { ⌜ (from ≤ at) × ((at + 1) * lineLength width ≤ length (now log)) ⌝ }
+    ensures { λ r. ⌜ r ≡ passedStep (readLineAt width (take (lineLength width) (drop (at * lineLength width) (now (log .entry))))) (lineLength width) at from left ⌝ }
 {
-    let start = at * LINE;
-    let end = start + LINE;
-    passed(lines::read_line(&log[start..end]), at, from, left)
+    let long = 15 + width;
+    let start = at * long;
+    let end = start + long;
+    passed(
+        lines::read_line_in(&log[start..end], width),
+        long,
+        at,
+        from,
+        left,
+    )
 }
 
 // What is said of a round that is not there.
-fn not_there(log: &[u8]) -> Refusal
-    ensures { λ r. ⌜ r ≡ (if hasPart (standard .amountWidth) (now (log .entry)) then CutShort else OutOfRange) ⌝ }
+fn not_there(log: &[u8], width: usize) -> Refusal
+    requires { ⌜ width ≤ 18 ⌝ }
+    ensures { λ r. ⌜ r ≡ (if hasPart width (now (log .entry)) then CutShort else OutOfRange) ⌝ }
 {
-    if log.len() % LINE == 0 {
+    if log.len() % (15 + width) == 0 {
         Refusal::OutOfRange
     } else {
         Refusal::CutShort
     }
 }
 
-// ---- the calls
-
-// Where the round's lines lie in the log.
-pub fn round_span(log: &[u8], round: u64) -> Span
-    ensures { λ r. ⌜ r ≡ roundSpan standard (now (log .entry)) round ⌝ }
+fn span_in(log: &[u8], round: u64, width: usize) -> Span
+    requires { ⌜ widthOut width ≡ false ⌝ }
+    ensures { λ r. ⌜ r ≡ spanIn width (now (log .entry)) round ⌝ }
 {
-    let whole = log.len() / LINE;
+    let whole = log.len() / (15 + width);
     let mut at: usize = 0;
     let mut from: usize = 0;
     let mut left = round;
     while at < whole {
-        let step = step_at(log, at, from, left);
+        let step = step_at(log, width, at, from, left);
         match step {
             Step::Stop(span) => return span,
             Step::On {
@@ -112,18 +118,40 @@ pub fn round_span(log: &[u8], round: u64) -> Span
         at += 1;
     }
     Span::Refused {
-        refusal: not_there(log),
+        refusal: not_there(log, width),
         line: at,
     }
+}
+
+// ---- the calls
+
+// Where the round's lines lie in the log, with an amount column of this width.
+pub fn round_span_in(log: &[u8], round: u64, width: usize) -> Span
+    ensures { λ r. ⌜ r ≡ roundSpanAt width (now (log .entry)) round ⌝ }
+{
+    if lines::width_out(width) {
+        return Span::Refused {
+            refusal: Refusal::NotInColumns,
+            line: 0,
+        };
+    }
+    span_in(log, round, width)
+}
+
+// The same at the desk's width.
+pub fn round_span(log: &[u8], round: u64) -> Span
+    ensures { λ r. ⌜ r ≡ roundSpan (rulesIn Desk) (now (log .entry)) round ⌝ }
+{
+    round_span_in(log, round, rules::amount_width(Rulebook::Desk))
 }
 
 // That part of the log itself, empty where it is refused. The number (0 where none applies) and the refusal's line (else 0) are written to
 // `number` and `line`.
 pub fn round_view<'a>(log: &'a [u8], round: u64, number: &mut u8, line: &mut usize) -> &'a [u8]
-    ensures { λ r. ⌜ now r ≡ roundView standard (now (log .entry)) round ⌝ }
-    ensures { λ r. ⌜ ((from to : ℕ) → roundSpan standard (now (log .entry)) round ≡ Span.Part from to → r .ptr ≡ (log .entry .ptr .0, from + log .entry .ptr .1)) ⌝ }
-    ensures { λ _. ⌜ now (number .exit) ≡ spanSays (roundSpan standard (now (log .entry)) round) .number ⌝ }
-    ensures { λ _. ⌜ now (line .exit) ≡ lineNamed (spanSays (roundSpan standard (now (log .entry)) round)) ⌝ }
+    ensures { λ r. ⌜ now r ≡ roundView (rulesIn Desk) (now (log .entry)) round ⌝ }
+    ensures { λ r. ⌜ ((from to : ℕ) → roundSpan (rulesIn Desk) (now (log .entry)) round ≡ Span.Part from to → r .ptr ≡ (log .entry .ptr .0, from + log .entry .ptr .1)) ⌝ }
+    ensures { λ _. ⌜ now (number .exit) ≡ spanSays (roundSpan (rulesIn Desk) (now (log .entry)) round) .number ⌝ }
+    ensures { λ _. ⌜ now (line .exit) ≡ lineNamed (spanSays (roundSpan (rulesIn Desk) (now (log .entry)) round)) ⌝ }
 {
     let span = round_span(log, round);
     match span {

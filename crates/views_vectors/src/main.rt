@@ -1,9 +1,11 @@
 // Executes the log writer, the view of a round and the scoring of two plans at the borders of their numbers: a line for each call.
 use definitions::Case;
 use definitions::Choice;
+use definitions::EDGE_PLACES;
 use definitions::Line;
 use definitions::Outcome;
 use definitions::Refusal;
+use definitions::Rulebook;
 use definitions::Span;
 use log_writer::Put;
 
@@ -202,8 +204,9 @@ fn clash(n: usize, lower: u8, upper: u8) -> Case {
         n,
         d: 2,
         m: 1,
-        lower: [0u8; 96],
-        upper: [0u8; 96],
+        lower: [0u8; EDGE_PLACES],
+        upper: [0u8; EDGE_PLACES],
+        rulebook: Rulebook::Desk,
     };
     c.lower[0] = lower;
     c.upper[0] = upper;
@@ -300,8 +303,9 @@ fn repeated() {
         n: 2,
         d: 2,
         m: 2,
-        lower: [0u8; 96],
-        upper: [1u8; 96],
+        lower: [0u8; EDGE_PLACES],
+        upper: [1u8; EDGE_PLACES],
+        rulebook: Rulebook::Desk,
     };
     let table = [0i64; 12];
     let first = [0u8, 0];

@@ -3,7 +3,7 @@ use mathlib.Core.Path.{_≡_, sym, _∙_}
 use Prim.Native.Nat.{_*_, _≤_}
 use denote.Ref.{now}
 use lib.ListN.{length}
-use Rattle.definitions.specs.Rules.{standard}
+use Rattle.definitions.specs.Rules.{rulesOf}
 use Rattle.definitions.specs.Answers.{outcomeOf}
 use Rattle.arcs.specs.Active.{Sized, activeRefusal}
 use Rattle.arcs.proofs.Prepared.{prepared-refused, prepared-done, prepared-known}
@@ -25,7 +25,7 @@ enum-told c = search needs
 
 -- what was checked, with the definition for what is lent
 asked : (c : tie.After-check-working) → let a = c .before .before .before .before .args in
-    c .check-working .result ≡ outcomeOf (activeRefusal standard (a .case) (now (a .table)) (now (a .sets)) (now (a .rows)))
+    c .check-working .result ≡ outcomeOf (activeRefusal (rulesOf (a .case)) (a .case) (now (a .table)) (now (a .sets)) (now (a .rows)))
 asked c = rw (c .before .too-short .ensures) at (c .check-working .ensures)
 
 given : (c : tie.After-enum-told) → let a = c .before .before .before .before .before .before .args in

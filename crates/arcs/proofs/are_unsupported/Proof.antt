@@ -1,9 +1,12 @@
 -- `arcs::are_unsupported` meets its contract. Assumes nothing.
-use mathlib.Core.Path.{sym, ap, _∙_}
+use mathlib.Core.Path.{_≡_, sym, ap, _∙_}
 use Prim.Native.Nat.{_*_, _≤_}
 use native.Mathlib.Omega.{arith}
 use denote.Ref.{now}
+use lib.ListN.{length}
 use lib.Seq.{length-take-le}
+use Rattle.definitions.specs.Rules.{edgePlaces}
+use Rattle.arcs.specs.Closure.{rowPlaces}
 use Rattle.arcs.specs.Best.{isUnsupported}
 use Rattle.arcs.proofs.Seen.{zeros-at}
 use Rattle.arcs.proofs.Best.{prepared-answer}
@@ -11,8 +14,11 @@ use borrow.Author.Needs.{needs}
 use Rattle.arcs.proofs.are_unsupported.Statement.{statement}
 use Rattle.arcs.proofs.are_unsupported.Tie as tie
 
-rows-room : (s : tie.Start) → 16 * s .args .case .m ≤ 1536
-rows-room s = omega (arith, s .pre .0 .limits .edges)
+rows-room : (s : tie.Start) → 16 * s .args .case .m ≤ rowPlaces
+rows-room s = omega (arith, s .pre .0 .limits .edges-placed)
+
+upper-places : (s : tie.Start) → length (s .args .case .upper) ≡ edgePlaces
+upper-places s = search needs
 
 add-s : tie.Need-add-s
 add-s c = search needs
@@ -30,13 +36,13 @@ slice-aggregate-prepare-rows : tie.Need-slice-aggregate-prepare-rows
 slice-aggregate-prepare-rows c = search needs
 
 prepare-rows-requires : tie.Need-prepare-rows-requires
-prepare-rows-requires c κs = let s = c .before .before .before .before .before .before .before .before .before in (s .pre .0, ((s .pre .1 .0, s .pre .1 .1, rows-room s), zeros-at 1536))
+prepare-rows-requires c κs = let s = c .before .before .before .before .before .before .before .before .before in (s .pre .0, ((s .pre .1 .0, s .pre .1 .1, rows-room s), zeros-at rowPlaces))
 
 slice-aggregate-none-supported : tie.Need-slice-aggregate-none-supported
 slice-aggregate-none-supported c = search needs
 
 slice-aggregate-none-supported-2 : tie.Need-slice-aggregate-none-supported-2
-slice-aggregate-none-supported-2 c = search needs
+slice-aggregate-none-supported-2 c = search (needs, upper-places (c .before .before .before .before .before .before .before .before .before .before .before .before .before))
 
 array-share-prefix-rows : tie.Need-array-share-prefix-rows
 array-share-prefix-rows c = search needs
@@ -57,7 +63,7 @@ array-share-prefix-sets : tie.Need-array-share-prefix-sets
 array-share-prefix-sets c = search needs
 
 slice-aggregate-none-supported-4 : tie.Need-slice-aggregate-none-supported-4
-slice-aggregate-none-supported-4 c = sym (length-take-le _ _ (omega (arith, c .before .before .before .before .before .before .before .before .before .before .before .before .before .before .before .before .pre .0 .limits .variables, c .before .before .before .before .before .before .before .before .before .prepare-sets .kept .1 .1 .1 .1 .0)))
+slice-aggregate-none-supported-4 c = sym (length-take-le _ _ (omega (arith, c .before .before .before .before .before .before .before .before .before .before .before .before .before .before .before .before .pre .0 .limits .variables-placed, c .before .before .before .before .before .before .before .before .before .prepare-sets .kept .1 .1 .1 .1 .0)))
 
 none-supported-requires : tie.Need-none-supported-requires
 none-supported-requires c κs = search needs
@@ -71,7 +77,7 @@ returns c =
     let a = s .args in
     c .is-unsupported .ensures
     ∙ ap isUnsupported (c .before .none-supported .ensures)
-    ∙ prepared-answer (a .case) (now (a .table)) (now (a .best)) (now (a .raised)) _ _ _ _ (rows-room s) (c .before .before .before .before .before .before .before .before .prepare-rows .ensures) (s .pre .0 .limits .variables) (c .before .before .before .before .before .before .before .before .before .before .before .prepare-sets .ensures) (a .variable) (a .values)
+    ∙ prepared-answer (a .case) (now (a .table)) (now (a .best)) (now (a .raised)) _ _ _ _ (rows-room s) (c .before .before .before .before .before .before .before .before .prepare-rows .ensures) (s .pre .0 .limits .variables-placed) (c .before .before .before .before .before .before .before .before .before .before .before .prepare-sets .ensures) (a .variable) (a .values)
 
 pub are-unsupported-spec : {M : Type 1} → statement M
 are-unsupported-spec =

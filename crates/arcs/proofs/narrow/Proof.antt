@@ -1,6 +1,7 @@
 -- `arcs::narrow` meets its contract. Assumes nothing.
 use mathlib.Core.Path.{sym, _∙_}
 use denote.Ref.{now}
+use Rattle.arcs.specs.Closure.{arcPlaces}
 use Rattle.arcs.proofs.Results.{some-empty, none-empty}
 use Rattle.arcs.proofs.Seen.{seen-none}
 use borrow.Author.Needs.{needs}
@@ -24,7 +25,7 @@ slice-aggregate-settle c = search needs
 settle-requires : tie.Need-settle-requires
 settle-requires c κs =
     let s = c .before .before .before .before .before .before .before .before .before .before in
-    (s .pre, (none-empty (now (s .args .sets)) (sym (c .before .before .before .has-empty .ensures) ∙ c .before .before .if1 .left), seen-none _ 192))
+    (s .pre, (none-empty (now (s .args .sets)) (sym (c .before .before .before .has-empty .ensures) ∙ c .before .before .if1 .left), seen-none _ arcPlaces))
 
 same-length-2 : tie.Need-same-length-2
 same-length-2 c = search needs

@@ -6,7 +6,7 @@ use Prim.Native.Nat.{ℕ}
 use native.Mathlib.Omega.{arith}
 use denote.Ref.{now}
 use lib.ListN.{length, getD}
-use Rattle.arcs.specs.Closure.{networkOfBytes, setsOf}
+use Rattle.arcs.specs.Closure.{arcPlaces, networkOfBytes, setsOf}
 use Rattle.arcs.specs.Sweeps.{Settled}
 use Rattle.arcs.proofs.Seen.{seen-none}
 use Rattle.arcs.proofs.Steps.{well-same}
@@ -49,7 +49,7 @@ is-single-requires : tie.Need-is-single-requires
 is-single-requires c κs = search needs
 
 none-alone-requires : tie.Need-none-alone-requires
-none-alone-requires c κs = let s = c .before .before .before .before .before .before .before .before .before .before .before .before .before in (s .pre .0, (s .pre .1 .0, s .pre .1 .1, s .pre .1 .3, seen-none _ 192))
+none-alone-requires c κs = let s = c .before .before .before .before .before .before .before .before .before .before .before .before .before in (s .pre .0, (s .pre .1 .0, s .pre .1 .1, s .pre .1 .3, seen-none _ arcPlaces))
 
 same-length : tie.Need-same-length
 same-length c = search needs
@@ -71,7 +71,7 @@ settle-requires c κs =
     let s = c .before .before .before .before .before .before .before .before .before .before .before .before .before .before .before .before .before .before in
     let e = c .before .before .before .before .copy-sets .ensures in (
       copy-well (now (s .args .sets)) (s .args .variable) (s .pre .1 .1) _ _ e _ _ _ _ (s .pre .0),
-      (copy-filled (now (s .args .sets)) (s .args .variable) (s .pre .1 .1) _ _ e (c .before .before .before .before .before .before .before .before .if1 .left) (s .pre .1 .0), seen-none _ 192),
+      (copy-filled (now (s .args .sets)) (s .args .variable) (s .pre .1 .1) _ _ e (c .before .before .before .before .before .before .before .before .if1 .left) (s .pre .1 .0), seen-none _ arcPlaces),
     )
 
 none-alone-requires-2 : tie.Need-none-alone-requires-2

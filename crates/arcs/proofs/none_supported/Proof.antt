@@ -8,7 +8,7 @@ use lib.ListN.{length}
 use lib.Seq.{length-take-le}
 use Rattle.integers.specs.Words.{if_then_else_}
 use Rattle.arcs.specs.declared.Tried.{Tried}
-use Rattle.definitions.specs.Rules.{standard}
+use Rattle.definitions.specs.Rules.{variablePlaces}
 use Rattle.arcs.specs.Closure.{isMalformed}
 use Rattle.arcs.specs.Sweeps.{Filled}
 use Rattle.arcs.proofs.Results.{well-formed, none-empty}
@@ -20,7 +20,7 @@ use Rattle.arcs.proofs.none_supported.Tie as tie
 
 -- no test was met
 pub record Known (c : tie.Else4) : Type 0 where
-  pub few : length (now (c .before .before .before .before .before .before .before .before .before .before .before .args .sets)) ≤ standard .variables
+  pub few : length (now (c .before .before .before .before .before .before .before .before .before .before .before .args .sets)) ≤ variablePlaces
   pub in-range : c .before .before .before .before .before .before .before .before .before .before .before .args .variable < length (now (c .before .before .before .before .before .before .before .before .before .before .before .args .sets))
   pub well : isMalformed (length (now (c .before .before .before .before .before .before .before .before .before .before .before .args .sets))) (now (c .before .before .before .before .before .before .before .before .before .before .before .args .lower)) (now (c .before .before .before .before .before .before .before .before .before .before .before .args .upper)) (now (c .before .before .before .before .before .before .before .before .before .before .before .args .rows)) (now (c .before .before .before .before .before .before .before .before .before .before .before .args .raised)) ≡ false
   pub filled : Filled (now (c .before .before .before .before .before .before .before .before .before .before .before .args .sets))

@@ -7,7 +7,7 @@ use lib.ListN.{length}
 use Rattle.integers.specs.Words.{if_then_else_}
 use Rattle.definitions.specs.declared.Outcome.{Outcome}
 use Rattle.definitions.specs.declared.Verdict.{Verdict}
-use Rattle.definitions.specs.Rules.{standard}
+use Rattle.definitions.specs.Rules.{rulesOf}
 use Rattle.definitions.specs.Answers.{outcomeOf}
 use Rattle.definitions.specs.Case.{scopeCount}
 use Rattle.arcs.specs.Active.{Sized}
@@ -27,7 +27,7 @@ enum-told : tie.Need-enum-told
 enum-told c = search needs
 
 -- what is known where none of the numbers applies
-right : (c : tie.After-enum-told) → let a = c .before .before .before .before .args in Outcome.Done ≡ outcomeOf (bestRefusal standard (a .case) (now (a .table)) (now (a .best)) (now (a .raised)) (a .variable))
+right : (c : tie.After-enum-told) → let a = c .before .before .before .before .args in Outcome.Done ≡ outcomeOf (bestRefusal (rulesOf (a .case)) (a .case) (now (a .table)) (now (a .best)) (now (a .raised)) (a .variable))
 right c = sym (c .enum-told .given .1) ∙ c .before .before .check-arguments .ensures
 
 known : (c : tie.After-enum-told) → let a = c .before .before .before .before .args in

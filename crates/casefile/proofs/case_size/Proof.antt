@@ -1,42 +1,13 @@
-use mathlib.Core.Path.{sym, _∙_}
-use denote.Ref.{now}
-use Rattle.casefile.proofs.Heads.{front, size-refused, size-read}
+-- The call under the desk's rules. Assumes nothing.
 use borrow.Author.Needs.{needs}
 use Rattle.casefile.proofs.case_size.Statement.{statement}
 use Rattle.casefile.proofs.case_size.Tie as tie
 
-line-at-requires : tie.Need-line-at-requires
-line-at-requires c κs = search needs
-
-enum-known-head : tie.Need-enum-known-head
-enum-known-head c = search needs
-
-enum-known-head-2 : tie.Need-enum-known-head-2
-enum-known-head-2 c = search needs
-
-size-of-requires : tie.Need-size-of-requires
-size-of-requires c κs = search needs
+case-size-in-requires : tie.Need-case-size-in-requires
+case-size-in-requires c κs = search needs
 
 returns : tie.Need-returns
-returns c =
-    let s = c .before .before .before in
-    let t = now (s .before .before .args .bytes) in
-    size-refused t (front t) (sym (s .line-at .ensures) ∙ c .before .head .given .1)
-
-returns-2 : tie.Need-returns-2
-returns-2 c =
-    let k = c .before .before in
-    let s = k .before .before in
-    let t = now (s .before .before .args .bytes) in
-    c .size-of .ensures ∙ size-read t (front t) (sym (s .line-at .ensures) ∙ k .head2 .given .1)
+returns c = c .case-size-in .ensures
 
 pub case-size-spec : {M : Type 1} → statement M
-case-size-spec =
-    tie.close
-    (tie.spec
-    line-at-requires
-    enum-known-head
-    enum-known-head-2
-    size-of-requires
-    returns
-    returns-2)
+case-size-spec = tie.close (tie.spec case-size-in-requires returns)

@@ -1,6 +1,5 @@
 use mathlib.Core.Path.{sym, _∙_}
 use borrow.Author.Tests.{not-true, not-false}
-use Rattle.casefile.proofs.Tests.{due-12}
 use borrow.Author.Needs.{needs}
 use Rattle.casefile.proofs.check_ends.Statement.{statement}
 use Rattle.casefile.proofs.check_ends.Tie as tie
@@ -11,7 +10,7 @@ is-due-requires c κs = search needs
 returns : tie.Need-returns
 returns c =
     let d = c .before in
-    rw (due-12 (d .before .args .line), sym (d .is-due .ensures) ∙ not-true _ (c .if1 .taken))
+    rw (sym (d .is-due .ensures) ∙ not-true _ (c .if1 .taken))
 
 ends-out-requires : tie.Need-ends-out-requires
 ends-out-requires c κs = search needs
@@ -20,7 +19,7 @@ returns-2 : tie.Need-returns-2
 returns-2 c =
     let o = c .before in
     let d = o .before .before in
-    rw (due-12 (d .before .args .line), sym (d .is-due .ensures) ∙ not-false _ (o .before .if1 .left), sym (o .ends-out .ensures) ∙ c .if2 .taken)
+    rw (sym (d .is-due .ensures) ∙ not-false _ (o .before .if1 .left), sym (o .ends-out .ensures) ∙ c .if2 .taken)
 
 ascending-requires : tie.Need-ascending-requires
 ascending-requires c κs = search needs
@@ -30,14 +29,14 @@ returns-3 c =
     let a = c .before in
     let o = a .before .before in
     let d = o .before .before in
-    rw (due-12 (d .before .args .line), sym (d .is-due .ensures) ∙ not-false _ (o .before .if1 .left), sym (o .ends-out .ensures) ∙ a .before .if2 .left, sym (a .ascending .ensures) ∙ not-true _ (c .if3 .taken))
+    rw (sym (d .is-due .ensures) ∙ not-false _ (o .before .if1 .left), sym (o .ends-out .ensures) ∙ a .before .if2 .left, sym (a .ascending .ensures) ∙ not-true _ (c .if3 .taken))
 
 returns-4 : tie.Need-returns-4
 returns-4 c =
     let a = c .before in
     let o = a .before .before in
     let d = o .before .before in
-    rw (due-12 (d .before .args .line), sym (d .is-due .ensures) ∙ not-false _ (o .before .if1 .left), sym (o .ends-out .ensures) ∙ a .before .if2 .left, sym (a .ascending .ensures) ∙ not-false _ (c .if3 .left))
+    rw (sym (d .is-due .ensures) ∙ not-false _ (o .before .if1 .left), sym (o .ends-out .ensures) ∙ a .before .if2 .left, sym (a .ascending .ensures) ∙ not-false _ (c .if3 .left))
 
 pub check-ends-spec : {M : Type 1} → statement M
 check-ends-spec =

@@ -13,7 +13,7 @@ use Rattle.casefile.proofs.check_rest.Tie as tie
 returns : tie.Need-returns
 returns c =
     let a = c .before .before .args in
-    sym (ap outcomeOf (rest-empty (drop (a .from) (now (a .bytes))) (length-drop (a .from) (now (a .bytes)) ∙ omega arith)))
+    sym (ap outcomeOf (rest-empty (a .rulebook) (drop (a .from) (now (a .bytes))) (length-drop (a .from) (now (a .bytes)) ∙ omega arith)))
 
 line-at-requires : tie.Need-line-at-requires
 line-at-requires c κs = search needs
@@ -31,7 +31,7 @@ returns-2 c =
     let a = e .before .before .args in
     let t = drop (a .from) (now (a .bytes)) in
     let n : length t ≢ 0 = λ z. e .if1 .left (omega (arith, length-drop (a .from) (now (a .bytes)), z, e .before .before .pre)) in
-    sym (ap outcomeOf (rest-refused t n (front t) (sym (l .line-at .ensures) ∙ c .before .read .given .1)))
+    sym (ap outcomeOf (rest-refused (a .rulebook) t n (front (a .rulebook) t) (sym (l .line-at .ensures) ∙ c .before .read .given .1)))
 
 returns-3 : tie.Need-returns-3
 returns-3 c =
@@ -40,7 +40,7 @@ returns-3 c =
     let a = e .before .before .args in
     let t = drop (a .from) (now (a .bytes)) in
     let n : length t ≢ 0 = λ z. e .if1 .left (omega (arith, length-drop (a .from) (now (a .bytes)), z, e .before .before .pre)) in
-    sym (ap outcomeOf (rest-read t n (front t) (sym (l .line-at .ensures) ∙ c .enum-told .given .1)))
+    sym (ap outcomeOf (rest-read (a .rulebook) t n (front (a .rulebook) t) (sym (l .line-at .ensures) ∙ c .enum-told .given .1)))
 
 pub check-rest-spec : {M : Type 1} → statement M
 check-rest-spec =

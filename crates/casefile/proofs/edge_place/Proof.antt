@@ -1,4 +1,4 @@
-use Rattle.definitions.specs.Rules.{standard}
+use Rattle.definitions.specs.Rules.{edgePlaces}
 use mathlib.Core.Path.{refl}
 use Prim.Native.Nat.{_+_, _*_, _≤_, _<_}
 use native.Mathlib.Omega.{arith}
@@ -8,7 +8,7 @@ use Rattle.casefile.proofs.edge_place.Tie as tie
 
 -- the parts of the place, and what they come to at most
 small : (a : tie.Start) → let s = a .args .sizes in let e = a .args .e in let k = a .args .k in let l = a .args .l in
-    (s .n * s .d ≤ mostWeights) × (s .d * s .d ≤ mostSquare) × (s .m * (s .d * s .d) ≤ standard .edges * mostSquare) × (k * s .d + l < s .d * s .d) × (e * (s .d * s .d) + (k * s .d + l) < s .m * (s .d * s .d))
+    (s .n * s .d ≤ mostWeights) × (s .d * s .d ≤ mostSquare) × (s .m * (s .d * s .d) ≤ edgePlaces * mostSquare) × (k * s .d + l < s .d * s .d) × (e * (s .d * s .d) + (k * s .d + l) < s .m * (s .d * s .d))
 small a =
     let s = a .args .sizes in
     let (p, q) = in-squares (a .args .e) (s .m) (a .args .k) (a .args .l) (s .d) (a .pre .1 .0) (a .pre .1 .1) (a .pre .1 .2) in

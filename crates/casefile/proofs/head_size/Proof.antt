@@ -2,24 +2,23 @@ use mathlib.Core.Path.{ap, _∙_}
 use lib.IntN.{natAbs}
 use mir.Syntax.{w64}
 use Rattle.integers.specs.Linear.{read-back}
-use Rattle.casefile.proofs.Heads.{limits-known}
 use Rattle.casefile.proofs.head_size.Statement.{statement}
 use Rattle.casefile.proofs.head_size.Tie as tie
 
 index-requires : tie.Need-index-requires
 index-requires c κs =
     let a = c .before in
-    rw (read-back w64 (a .args .line .a) (c .struct-told .given .1 .0 .1)) (limits-known (a .args .line .a) (a .args .line .b) (a .args .line .c) (a .pre) .0 .0)
+    rw (read-back w64 (a .args .line .a) (c .struct-told .given .1 .0 .1)) (a .pre .0 .0)
 
 index-requires-2 : tie.Need-index-requires-2
 index-requires-2 c κs =
     let a = c .before .before .before in
-    rw (read-back w64 (a .args .line .b) (c .struct-told2 .given .1 .1 .0 .1)) (limits-known (a .args .line .a) (a .args .line .b) (a .args .line .c) (a .pre) .1 .0)
+    rw (read-back w64 (a .args .line .b) (c .struct-told2 .given .1 .1 .0 .1)) (a .pre .1 .0)
 
 index-requires-3 : tie.Need-index-requires-3
 index-requires-3 c κs =
     let a = c .before .before .before .before .before in
-    rw (read-back w64 (a .args .line .c) (c .struct-told3 .given .1 .1 .1 .0 .1)) (limits-known (a .args .line .a) (a .args .line .b) (a .args .line .c) (a .pre) .2 .0)
+    rw (read-back w64 (a .args .line .c) (c .struct-told3 .given .1 .1 .1 .0 .1)) (a .pre .2 .0)
 
 sized-requires : tie.Need-sized-requires
 sized-requires c κs =
@@ -27,10 +26,9 @@ sized-requires c κs =
     let i1 = i2 .before .before in
     let a = i1 .before .before in
     let l = a .args .line in
-    let h = limits-known (l .a) (l .b) (l .c) (a .pre) in
     let s = i1 .before .struct-told .given in
     rw (i1 .index .ensures ∙ ap natAbs (read-back w64 (l .a) (s .1 .0 .1)), i2 .index2 .ensures ∙ ap natAbs (read-back w64 (l .b) (s .1 .1 .0 .1)), c .index3 .ensures ∙ ap natAbs (read-back w64 (l .c) (s .1 .1 .1 .0 .1)))
-    (h .0 .2, h .1 .2, h .2 .2)
+    (a .pre .0 .1, a .pre .1 .1, a .pre .2 .1)
 
 returns : tie.Need-returns
 returns c =

@@ -43,19 +43,19 @@ make-line-requires c κs =
     let d = c .before .before .before in
     let l = d .before .before .pre .0 in
     let h = variable-known d in
-    (omega arith, omega (arith, h .0, l .variables), omega (arith, h .1, l .values), omega arith)
+    (omega arith, omega (arith, h .0, l .variables-few), omega (arith, h .1, l .values-few), omega arith)
 
 enum-known-due-2 : tie.Need-enum-known-due-2
 enum-known-due-2 c = search needs
 
 element-copy-out-wide : tie.Need-element-copy-out-wide
-element-copy-out-wide c = let d = c .before in omega (arith, ends-known d, d .before .before .pre .0 .edges)
+element-copy-out-wide c = let d = c .before in omega (arith, ends-known d, d .before .before .pre .0 .edges-placed)
 
 wide-requires : tie.Need-wide-requires
 wide-requires c κs = search needs
 
 element-copy-out-wide-2 : tie.Need-element-copy-out-wide-2
-element-copy-out-wide-2 c = let d = c .before .before .before in omega (arith, ends-known d, d .before .before .pre .0 .edges)
+element-copy-out-wide-2 c = let d = c .before .before .before in omega (arith, ends-known d, d .before .before .pre .0 .edges-placed)
 
 wide-requires-2 : tie.Need-wide-requires-2
 wide-requires-2 c κs = search needs
@@ -63,7 +63,7 @@ wide-requires-2 c κs = search needs
 make-line-requires-2 : tie.Need-make-line-requires-2
 make-line-requires-2 c κs =
     let d = c .before .before .before .before .before in
-    (omega arith, omega (arith, ends-known d, d .before .before .pre .0 .edges), omega (arith, c .before .before .wide .ensures .1), omega (arith, c .wide2 .ensures .1))
+    (omega arith, omega (arith, ends-known d, d .before .before .pre .0 .edges-placed), omega (arith, c .before .before .wide .ensures .1), omega (arith, c .wide2 .ensures .1))
 
 enum-known-due-3 : tie.Need-enum-known-due-3
 enum-known-due-3 c = search needs
@@ -82,7 +82,7 @@ make-line-requires-3 c κs =
     let d = c .before .before .before in
     let l = d .before .before .pre .0 in
     let h = edge-known d in
-    (omega arith, omega (arith, h .0, l .edges), omega (arith, h .1, l .values), omega (arith, h .2, l .values))
+    (omega arith, omega (arith, h .0, l .edges-placed), omega (arith, h .1, l .values-few), omega (arith, h .2, l .values-few))
 
 returns : tie.Need-returns
 returns c =

@@ -1,50 +1,67 @@
-use Rattle.casefile.specs.Reads.{lineBytes}
 use mathlib.Core.Path.{_≡_, sym, _∙_}
 use Prim.Native.Nat.{_+_, _-_}
 use native.Mathlib.Omega.{arith}
-use lib.ListN.{drop, length-drop}
+use lib.ListN.{take, drop, length-drop}
 use denote.Ref.{now}
+use Rattle.definitions.specs.Rules.{rulesIn, coherent}
+use Rattle.lines.proofs.AtRules.{read-at-rules}
+use Rattle.casefile.specs.Reads.{lineBytes}
 use Rattle.casefile.proofs.Heads.{cut-short, not-cut}
 use borrow.Author.Needs.{needs}
 use Rattle.casefile.proofs.line_at.Statement.{statement}
 use Rattle.casefile.proofs.line_at.Tie as tie
 
+line-length-requires : tie.Need-line-length-requires
+line-length-requires c κs = search needs
+
 sub-if1 : tie.Need-sub-if1
 sub-if1 c = search needs
 
 returns : tie.Need-returns
-returns c = sym (cut-short (drop (c .before .before .args .from) (now (c .before .before .args .bytes))) (rw length-drop (omega arith)))
+returns c =
+    let l = c .before in
+    let a = l .before .before .args in
+    sym (cut-short (a .rulebook) (drop (a .from) (now (a .bytes))) (rw length-drop (omega (arith, l .line-length .ensures))))
 
 add-to : tie.Need-add-to
 add-to c = search needs
 
-sub-read-line : tie.Need-sub-read-line
-sub-read-line c = search needs
+sub-read-line-in : tie.Need-sub-read-line-in
+sub-read-line-in c = search needs
 
-part-read-line-start : tie.Need-part-read-line-start
-part-read-line-start c = search needs
+part-read-line-in-start : tie.Need-part-read-line-in-start
+part-read-line-in-start c = search needs
 
-part-read-line-end : tie.Need-part-read-line-end
-part-read-line-end c = search needs
+part-read-line-in-end : tie.Need-part-read-line-in-end
+part-read-line-in-end c = search needs
 
-read-line-requires : tie.Need-read-line-requires
-read-line-requires c κs = search needs
+amount-width-requires : tie.Need-amount-width-requires
+amount-width-requires c κs = search needs
+
+read-line-in-requires : tie.Need-read-line-in-requires
+read-line-in-requires c κs = search needs
 
 returns-2 : tie.Need-returns-2
 returns-2 c =
-    let a = c .before .before .before .before .args in
-    let n : a .from + lineBytes - a .from ≡ lineBytes = omega arith in
-    (rw n at (c .read-line .ensures)) ∙ sym (not-cut (drop (a .from) (now (a .bytes))) (rw length-drop (omega arith)))
+    let w = c .before in
+    let l = w .before .before .before in
+    let a = l .before .before .args in
+    let t = drop (a .from) (now (a .bytes)) in
+    let n : a .from + l .line-length .result - a .from ≡ lineBytes (a .rulebook) = omega (arith, l .line-length .ensures) in
+    (rw n at (c .read-line-in .ensures)) ∙ read-at-rules (rulesIn (a .rulebook)) (coherent (a .rulebook)) (w .amount-width .ensures) (take (lineBytes (a .rulebook)) t)
+    ∙ sym (not-cut (a .rulebook) t (rw length-drop (omega (arith, l .line-length .ensures))))
 
 pub line-at-spec : {M : Type 1} → statement M
 line-at-spec =
     tie.close
     (tie.spec
+    line-length-requires
     sub-if1
     returns
     add-to
-    sub-read-line
-    part-read-line-start
-    part-read-line-end
-    read-line-requires
+    sub-read-line-in
+    part-read-line-in-start
+    part-read-line-in-end
+    amount-width-requires
+    read-line-in-requires
     returns-2)

@@ -1,8 +1,8 @@
 use Rattle.casefile.specs.Reads.{lineBytes}
-use Rattle.definitions.specs.Rules.{standard}
+use Rattle.definitions.specs.Rules.{rulesIn}
 use Rattle.definitions.specs.CaseFiles.{caseText}
 use Rattle.casefile.specs.Steps.{caseWith}
-use Rattle.casefile.proofs.Dues.{lines-small, due-known, mostLines}
+use Rattle.casefile.proofs.Dues.{lines-small, bytes-small, due-known, mostLines}
 use Rattle.theory.proofs.CaseDues.{lineOf}
 use mathlib.Core.Path.{_≡_, refl, sym, ap, _∙_}
 use Prim.Native.Nat.{_+_, _*_, _-_, _≤_, _<_}
@@ -11,92 +11,111 @@ use denote.Ref.{now}
 use lib.ListN.{length}
 use Rattle.definitions.specs.Lines.{overwritten}
 use Rattle.casefile.specs.Steps.{dueOf, InCase, AtLine, dueAt, linesDue}
-use Rattle.casefile.proofs.Writes.{written, written-all, valid-limited, first-fits, line-fits, put-first, put-next, over-twice}
+use Rattle.casefile.proofs.Writes.{written, written-all, valid-limited, first-fits, line-fits, put-first, put-next, line-room, over-twice}
+use borrow.Author.Needs.{needs}
 use Rattle.casefile.proofs.put_lines.Statement.{statement}
 use Rattle.casefile.proofs.put_lines.Tie as tie
 
 abbrev Inv-loop : tie.InvT-loop
-Inv-loop sizes lower upper table out₀ total q₀ due₀ out q due =
-    (q ≤ linesDue sizes) × (length (written sizes lower upper table q) ≡ lineBytes * (q + 1)) × (length out ≡ length out₀) × (out ≡ overwritten (written sizes lower upper table q) out₀) × (q < linesDue sizes → AtLine sizes q due)
+Inv-loop sizes lower upper table out₀ rulebook long total q₀ due₀ out q due =
+    (q ≤ linesDue sizes) × (length (written sizes lower upper table q) ≡ lineBytes (sizes .rulebook) * (q + 1)) × (length out ≡ length out₀) × (out ≡ overwritten (written sizes lower upper table q) out₀) × (q < linesDue sizes → AtLine sizes q due)
 
 abbrev μ-loop : tie.MeasureT-loop
-μ-loop sizes lower upper table out₀ total q₀ due₀ out q due = linesDue sizes - q
+μ-loop sizes lower upper table out₀ rulebook long total q₀ due₀ out q due = linesDue sizes - q
+
+-- where the function began
+abbrev start : tie.After-put-at Inv-loop μ-loop → tie.Start Inv-loop μ-loop
+start c = c .before .before .before .before .before .before
+
+abbrev start-loop : tie.At-loop Inv-loop μ-loop → tie.Start Inv-loop μ-loop
+start-loop l = start (l .before .before .before .before)
 
 -- the head is in its place
-first : (c : tie.After-put-at Inv-loop μ-loop) → let a = c .before .before .before .before .before .args in
+first : (c : tie.After-put-at Inv-loop μ-loop) → let a = start c .args in
     let t = written (a .sizes) (now (a .lower)) (now (a .upper)) (now (a .table)) 0 in
-    (length t ≡ lineBytes) × (length (c .put-at .last .0) ≡ length (now (a .out))) × (c .put-at .last .0 ≡ overwritten t (now (a .out)))
+    (length t ≡ lineBytes (a .sizes .rulebook) * (0 + 1)) × (length (c .put-at .last .1 .0) ≡ length (now (a .out))) × (c .put-at .last .1 .0 ≡ overwritten t (now (a .out)))
 first c =
-    let a = c .before .before .before .before .before in
-    put-first (a .args .sizes) (now (a .args .lower)) (now (a .args .upper)) (now (a .args .table)) (a .pre .0) (now (a .args .out)) (c .put-at .last .0) (rw (c .before .head-line .ensures) at (c .put-at .ensures)) (omega arith)
+    let a = start c in
+    put-first (a .args .sizes) (now (a .args .lower)) (now (a .args .upper)) (now (a .args .table)) (a .pre .0) (now (a .args .out)) (c .put-at .last .1 .0) (rw (c .before .head-line .ensures) at (c .put-at .ensures)) (omega arith)
 
 -- there is room for line q
-room : (c : tie.In-loop Inv-loop μ-loop) → let l = c .before in let a = l .before .before .before .before .before .before .before .before .before .args in
-    (l .loop .q < linesDue (a .sizes)) × (lineBytes * (l .loop .q + 1) + lineBytes ≤ length (l .loop .out)) × (l .loop .q < mostLines)
+room : (c : tie.In-loop Inv-loop μ-loop) → let l = c .before in let a = start-loop l .args in let b = a .sizes .rulebook in
+    (l .loop .q < linesDue (a .sizes)) × (lineBytes b * (l .loop .q + 1) + lineBytes b ≤ length (l .loop .out)) × (l .loop .q < mostLines)
 room c =
     let l = c .before in
     let p = l .before .before .before .before in
     let n = p .before .before .before in
-    let a = n .before .before in
+    let a = start p in
     let s = a .args .sizes in
     let h : l .loop .q < linesDue s = omega (arith, n .lines-due .ensures, c .loop-test .taken) in
-    (h, omega (arith, h, l .loop .inv .2, first p .1, a .pre .1), omega (arith, h, lines-small s (valid-limited s (now (a .args .lower)) (now (a .args .upper)) (now (a .args .table)) (a .pre .0))))
+    (h, line-room (lineBytes (s .rulebook)) (l .loop .q) (linesDue s) (length (l .loop .out)) h (omega (arith, l .loop .inv .2, first p .1, a .pre .1)), omega (arith, h, lines-small s (valid-limited s (now (a .args .lower)) (now (a .args .upper)) (now (a .args .table)) (a .pre .0))))
+
+-- the byte of line q
+line-byte : (c : tie.In-loop Inv-loop μ-loop) → let l = c .before in let n = l .before .before .before .before .before .before .before .before in
+    n .line-length .result * (l .loop .q + 1) ≡ lineBytes (start-loop l .args .sizes .rulebook) * (l .loop .q + 1)
+line-byte c = let l = c .before in ap (λ n. n * (l .loop .q + 1)) (l .before .before .before .before .before .before .before .before .line-length .ensures)
 
 -- what is due at line q, and its line
-known : (c : tie.In-loop Inv-loop μ-loop) → let l = c .before in let a = l .before .before .before .before .before .before .before .before .before .args in
+known : (c : tie.In-loop Inv-loop μ-loop) → let l = c .before in let a = start-loop l .args in
     (dueOf (l .loop .due) ≡ dueAt (a .sizes) (l .loop .q)) × InCase (a .sizes) (l .loop .due)
-known c = let l = c .before in due-known (l .before .before .before .before .before .before .before .before .before .args .sizes) (l .loop .q) (l .loop .due) (l .loop .inv .4 (room c .0))
+known c = let l = c .before in due-known (start-loop l .args .sizes) (l .loop .q) (l .loop .due) (l .loop .inv .4 (room c .0))
 
-line-is : (c : tie.After-line-after Inv-loop μ-loop) → let l = c .before .before in let a = l .before .before .before .before .before .before .before .before .before .args in
+line-is : (c : tie.After-line-after Inv-loop μ-loop) → let l = c .before .before in let a = start-loop l .args in
     c .line-after .result ≡ lineOf (caseWith (a .sizes) (now (a .lower)) (now (a .upper))) (now (a .table)) (dueAt (a .sizes) (l .loop .q))
 line-is c =
-    let a = c .before .before .before .before .before .before .before .before .before .before .before .args in
+    let a = start-loop (c .before .before) .args in
     c .line-after .ensures ∙ ap (lineOf (caseWith (a .sizes) (now (a .lower)) (now (a .upper))) (now (a .table))) (known (c .before) .0)
 
+line-length-requires : tie.Need-line-length-requires Inv-loop μ-loop
+line-length-requires c κs = search needs
+
 lines-due-requires : tie.Need-lines-due-requires Inv-loop μ-loop
-lines-due-requires c κs = let a = c .before in valid-limited (a .args .sizes) (now (a .args .lower)) (now (a .args .upper)) (now (a .args .table)) (a .pre .0)
+lines-due-requires c κs = let a = c .before .before in valid-limited (a .args .sizes) (now (a .args .lower)) (now (a .args .upper)) (now (a .args .table)) (a .pre .0)
 
 head-line-requires : tie.Need-head-line-requires Inv-loop μ-loop
-head-line-requires c κs = let a = c .before .before .before in valid-limited (a .args .sizes) (now (a .args .lower)) (now (a .args .upper)) (now (a .args .table)) (a .pre .0)
+head-line-requires c κs = let a = c .before .before .before .before in valid-limited (a .args .sizes) (now (a .args .lower)) (now (a .args .upper)) (now (a .args .table)) (a .pre .0)
 
 put-at-requires : tie.Need-put-at-requires Inv-loop μ-loop
 put-at-requires c κs =
-    let a = c .before .before .before .before in
-    let h : lineBytes ≤ length (now (a .args .out)) = omega (arith, a .pre .1) in
-    (h, rw (c .head-line .ensures) (first-fits (a .args .sizes) (now (a .args .lower)) (now (a .args .upper)) (now (a .args .table)) (a .pre .0)))
+    let a = c .before .before .before .before .before in
+    let h : lineBytes (a .args .sizes .rulebook) ≤ length (now (a .args .out)) = omega (arith, a .pre .1) in
+    (omega (arith, h), rw (c .head-line .ensures) (first-fits (a .args .sizes) (now (a .args .lower)) (now (a .args .upper)) (now (a .args .table)) (a .pre .0)))
 
 first-due-requires : tie.Need-first-due-requires Inv-loop μ-loop
-first-due-requires c κs = let a = c .before .before .before .before .before .before .before in valid-limited (a .args .sizes) (now (a .args .lower)) (now (a .args .upper)) (now (a .args .table)) (a .pre .0)
+first-due-requires c κs = let a = start (c .before .before) in valid-limited (a .args .sizes) (now (a .args .lower)) (now (a .args .upper)) (now (a .args .table)) (a .pre .0)
 
 loop-holds : tie.Need-loop-holds Inv-loop μ-loop
 loop-holds c =
     let p = c .before .before .before in
-    let a = p .before .before .before .before .before .args in
+    let a = start p .args in
     let t = written (a .sizes) (now (a .lower)) (now (a .upper)) (now (a .table)) 0 in
     let (n, k, e) = first p in
     (omega arith, n, refl, e ∙ sym (over-twice t t (now (a .out)) (omega arith)) ∙ ap (overwritten t) (sym e), c .first-due .ensures)
 
 line-after-requires : tie.Need-line-after-requires Inv-loop μ-loop
 line-after-requires c κs =
-    let a = c .before .before .before .before .before .before .before .before .before .before in
+    let a = start-loop (c .before) in
     (valid-limited (a .args .sizes) (now (a .args .lower)) (now (a .args .upper)) (now (a .args .table)) (a .pre .0), (known c .1, a .pre .0 .long))
 
 add-put-at : tie.Need-add-put-at Inv-loop μ-loop
 add-put-at c = omega (arith, room (c .before .before))
 
 mul-put-at : tie.Need-mul-put-at Inv-loop μ-loop
-mul-put-at c = omega (arith, room (c .before .before))
+mul-put-at c =
+    let i = c .before .before in
+    let l = i .before in
+    omega (arith, line-byte i, bytes-small (start-loop l .args .sizes .rulebook) (l .loop .q + 1) (omega (arith, room i .2)))
 
 put-at-requires-2 : tie.Need-put-at-requires-2 Inv-loop μ-loop
 put-at-requires-2 c κs =
     let i = c .before .before in
-    let a = i .before .before .before .before .before .before .before .before .before .before in
-    (room i .1, rw (line-is (c .before)) (line-fits (a .args .sizes) (now (a .args .lower)) (now (a .args .upper)) (now (a .args .table)) (a .pre .0) (i .before .loop .q) (room i .0)))
+    let a = start-loop (i .before) in
+    (omega (arith, room i .1, line-byte i), rw (line-is (c .before)) (line-fits (a .args .sizes) (now (a .args .lower)) (now (a .args .upper)) (now (a .args .table)) (a .pre .0) (i .before .loop .q) (room i .0)))
 
 next-due-requires : tie.Need-next-due-requires Inv-loop μ-loop
 next-due-requires c κs =
     let i = c .before .before .before .before .before in
-    let a = i .before .before .before .before .before .before .before .before .before .before in
+    let a = start-loop (i .before) in
     (valid-limited (a .args .sizes) (now (a .args .lower)) (now (a .args .upper)) (now (a .args .table)) (a .pre .0), known i .1)
 
 add-q : tie.Need-add-q Inv-loop μ-loop
@@ -112,9 +131,9 @@ loop-again c =
     let i = m .before in
     let l = i .before in
     let p = l .before .before .before .before in
-    let a = p .before .before .before .before .before in
-    let (n, e, f) = put-next (a .args .sizes) (now (a .args .lower)) (now (a .args .upper)) (now (a .args .table)) (a .pre .0) (p .put-at .last .0) (l .loop .out) (k .put-at2 .last .0) (l .loop .q)
-    (room i .0) (l .loop .inv .1) (l .loop .inv .3) (room i .1) (rw (line-is m) at (k .put-at2 .ensures)) in
+    let a = start p in
+    let (n, e, f) = put-next (a .args .sizes) (now (a .args .lower)) (now (a .args .upper)) (now (a .args .table)) (a .pre .0) (p .put-at .last .1 .0) (l .loop .out) (k .put-at2 .last .1 .0) (l .loop .q)
+    (room i .0) (l .loop .inv .1) (l .loop .inv .3) (room i .1) (rw (line-is m, line-byte i) at (k .put-at2 .ensures)) in
     (omega (arith, room i .0), n, e ∙ l .loop .inv .2, f, c .next-due .ensures (l .loop .q) (l .loop .inv .4 (room i .0)))
 
 same-length : tie.Need-same-length Inv-loop μ-loop
@@ -127,11 +146,11 @@ returns c =
     let l = c .before in
     let p = l .before .before .before .before in
     let n = p .before .before .before in
-    let a = n .before .before .args in
+    let a = start p .args in
     let t = written (a .sizes) (now (a .lower)) (now (a .upper)) (now (a .table)) 0 in
-    let x = caseText standard (caseWith (a .sizes) (now (a .lower)) (now (a .upper))) (now (a .table)) in
+    let x = caseText (rulesIn (a .sizes .rulebook)) (caseWith (a .sizes) (now (a .lower)) (now (a .upper))) (now (a .table)) in
     let w : written (a .sizes) (now (a .lower)) (now (a .upper)) (now (a .table)) (l .loop .q) ≡ x = written-all (a .sizes) (now (a .lower)) (now (a .upper)) (now (a .table)) (l .loop .q) (omega (arith, n .lines-due .ensures, c .loop-test .left)) in
-    l .loop .inv .3 ∙ ap (λ t. overwritten t (p .put-at .last .0)) w ∙ ap (overwritten x) (first p .2)
+    l .loop .inv .3 ∙ ap (λ t. overwritten t (p .put-at .last .1 .0)) w ∙ ap (overwritten x) (first p .2)
     ∙ over-twice t x (now (a .out)) (omega (arith, first p .0, ap length w, l .loop .inv .1))
 
 pub put-lines-spec : {M : Type 1} → statement M
@@ -140,6 +159,7 @@ put-lines-spec =
     (tie.spec
     Inv-loop
     μ-loop
+    line-length-requires
     lines-due-requires
     head-line-requires
     put-at-requires

@@ -25,7 +25,7 @@ same-length c = search needs
 returns : tie.Need-returns
 returns c =
     let k = c .before .before .before .before .before in
-    handed-refused (k .read-lines .result) _ (k .read-lines .ensures) (c .before .before .answer .given .1) (c .refused .ensures [])
+    handed-refused (k .before .before .before .before .before .args .sizes .rulebook) (k .read-lines .result) _ (k .read-lines .ensures) (c .before .before .answer .given .1) (c .refused .ensures [])
 
 same-length-2 : tie.Need-same-length-2
 same-length-2 c = search needs
@@ -33,7 +33,7 @@ same-length-2 c = search needs
 returns-2 : tie.Need-returns-2
 returns-2 c =
     let k = c .before .before .before .before .before in
-    handed-taken (k .read-lines .result) _ (k .read-lines .ensures) (c .before .before .answer2 .given .1) (c .accepted .ensures [])
+    handed-taken (k .before .before .before .before .before .args .sizes .rulebook) (k .read-lines .result) _ (k .read-lines .ensures) (c .before .before .answer2 .given .1) (c .accepted .ensures [])
 
 pub read-body-spec : {M : Type 1} → statement M
 read-body-spec =

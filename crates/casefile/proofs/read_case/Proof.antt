@@ -1,73 +1,16 @@
-use mathlib.Core.Path.{refl, sym, _∙_}
-use mathlib.Core.List.{[]}
-use denote.Ref.{now}
-use Rattle.casefile.specs.declared.Sizes.{Sizes}
-use Rattle.casefile.proofs.Cases.{handed-same, case-wrong, case-right, case-length, case-refused, head-whole, sizes-limited}
+-- The call under the desk's rules. Assumes nothing.
 use borrow.Author.Needs.{needs}
 use Rattle.casefile.proofs.read_case.Statement.{statement}
 use Rattle.casefile.proofs.read_case.Tie as tie
 
-case-size-requires : tie.Need-case-size-requires
-case-size-requires c κs = search needs
-
-enum-known-size : tie.Need-enum-known-size
-enum-known-size c = search needs
-
-refused-requires : tie.Need-refused-requires
-refused-requires c κs = search needs
-
-enum-known-size-2 : tie.Need-enum-known-size-2
-enum-known-size-2 c = search needs
-
-refused-requires-2 : tie.Need-refused-requires-2
-refused-requires-2 c κs = search needs
-
-returns : tie.Need-returns
-returns c =
-    let z = c .before .before .before in
-    let s : Sizes = record { n = z .size2 .given .0 .0; d = z .size2 .given .0 .1 .0; m = z .size2 .given .0 .1 .1 .0 } in
-    let k = z .before .before in
-    let a = k .before .before .args in
-    handed-same (case-wrong (now (a .bytes)) (now (a .table)) s (sym (k .case-size .ensures) ∙ z .size2 .given .1) (c .before .if1 .taken)) (c .refused2 .ensures [], refl)
-
-read-body-requires : tie.Need-read-body-requires
-read-body-requires c κs =
-    let z = c .before .before .before in
-    let s : Sizes = record { n = z .size2 .given .0 .0; d = z .size2 .given .0 .1 .0; m = z .size2 .given .0 .1 .1 .0 } in
-    let k = z .before .before in
-    let a = k .before .before .args in
-    let e = sym (k .case-size .ensures) ∙ z .size2 .given .1 in
-    (sizes-limited (now (a .bytes)) (now (a .table)) s e, (head-whole (now (a .bytes)) (now (a .table)) s e, case-length (now (a .bytes)) (now (a .table)) s e (c .before .if1 .left)))
-
-returns-2 : tie.Need-returns-2
-returns-2 c =
-    let z = c .before .before in
-    let k = z .before .before in
-    let a = k .before .before .args in
-    handed-same (case-refused (now (a .bytes)) (now (a .table)) (sym (k .case-size .ensures) ∙ z .size .given .1)) (c .refused .ensures [], refl)
+read-case-in-requires : tie.Need-read-case-in-requires
+read-case-in-requires c κs = search needs
 
 same-length : tie.Need-same-length
 same-length c = search needs
 
-returns-3 : tie.Need-returns-3
-returns-3 c =
-    let z = c .before .before .before .before .before in
-    let s : Sizes = record { n = z .size2 .given .0 .0; d = z .size2 .given .0 .1 .0; m = z .size2 .given .0 .1 .1 .0 } in
-    let k = z .before .before in
-    let a = k .before .before .args in
-    handed-same (case-right (now (a .bytes)) (now (a .table)) s (sym (k .case-size .ensures) ∙ z .size2 .given .1) (c .before .before .before .if1 .left)) (c .before .read-body .ensures)
+returns : tie.Need-returns
+returns c = c .before .read-case-in .ensures
 
 pub read-case-spec : {M : Type 1} → statement M
-read-case-spec =
-    tie.close
-    (tie.spec
-    case-size-requires
-    enum-known-size
-    refused-requires
-    enum-known-size-2
-    refused-requires-2
-    returns
-    read-body-requires
-    returns-2
-    same-length
-    returns-3)
+read-case-spec = tie.close (tie.spec read-case-in-requires same-length returns)

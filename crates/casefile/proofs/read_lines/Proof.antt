@@ -15,7 +15,7 @@ use Rattle.casefile.proofs.read_lines.Tie as tie
 
 abbrev Inv-loop : tie.InvT-loop
 Inv-loop bytes sizes lower₀ upper₀ table₀ total q₀ due₀ lower upper table q due =
-    (q ≤ linesDue sizes) × (lineBytes * (q + 1) ≤ length bytes) × (length table ≡ tableOf sizes)
+    (q ≤ linesDue sizes) × (lineBytes (sizes .rulebook) * (q + 1) ≤ length bytes) × (length table ≡ tableOf sizes)
     × (leftFrom sizes (reading sizes lower upper table) q bytes ≡ leftFrom sizes (reading sizes lower₀ upper₀ table₀) 0 bytes) × (q < linesDue sizes → AtLine sizes q due)
 
 abbrev μ-loop : tie.MeasureT-loop

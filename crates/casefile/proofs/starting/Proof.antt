@@ -1,22 +1,40 @@
-use Rattle.definitions.specs.Valid.{startingWeight}
-use Rattle.definitions.specs.Rules.{standard}
-use mathlib.Core.Path.{ap, _∙_}
+use mathlib.Core.Path.{ap, ap₂, _∙_}
+use lib.IntN.{ℤ}
 use mir.Syntax.{w64}
+use mir.Val.{toZ, ofZ}
 use Rattle.integers.specs.Linear.{read-back}
+use Rattle.integers.specs.Words.{withinZ}
+use Rattle.definitions.specs.Rules.{rulesIn}
+use Rattle.definitions.specs.Valid.{startingWeight}
 use borrow.Author.Needs.{needs}
 use Rattle.casefile.proofs.starting.Statement.{statement}
 use Rattle.casefile.proofs.starting.Tie as tie
 
-sub-in-range : tie.Need-sub-in-range
-sub-in-range c = search needs
+least-starting-requires : tie.Need-least-starting-requires
+least-starting-requires c κs = search needs
+
+most-starting-requires : tie.Need-most-starting-requires
+most-starting-requires c κs = search needs
 
 in-range-requires : tie.Need-in-range-requires
 in-range-requires c κs = search needs
 
 returns : tie.Need-returns
 returns c =
-    let a = c .before .before in
-    c .in-range .ensures ∙ ap (startingWeight standard) (read-back w64 (a .args .line .amount) (c .before .struct-told .given .1 .1 .1 .1 .0 .1))
+    let high = c .before .before in
+    let low = high .before in
+    let a = low .before .args in
+    c .in-range .ensures
+    ∙ ap₂ (λ (x y : ℤ). withinZ x y (toZ w64 (ofZ w64 (a .line .amount))))
+    (read-back w64 (low .least-starting .result) (low .least-starting .ok) ∙ low .least-starting .ensures)
+    (read-back w64 (high .most-starting .result) (high .most-starting .ok) ∙ high .most-starting .ensures)
+    ∙ ap (startingWeight (rulesIn (a .rulebook))) (read-back w64 (a .line .amount) (c .before .struct-told .given .1 .1 .1 .1 .0 .1))
 
 pub starting-spec : {M : Type 1} → statement M
-starting-spec = tie.close (tie.spec sub-in-range in-range-requires returns)
+starting-spec =
+    tie.close
+    (tie.spec
+    least-starting-requires
+    most-starting-requires
+    in-range-requires
+    returns)

@@ -35,7 +35,7 @@ take-weight-requires c κs =
     let d = c .before .before .before .before in
     let a = d .before .before in
     let h : c .before .variable-place .result < length (now (a .args .table)) = omega (arith, c .before .variable-place .ensures .1, a .pre .1 .1) in
-    ((omega (arith, variable-known d, a .pre .0 .variables), omega (arith, variable-known d, a .pre .0 .values), omega arith), h)
+    ((omega (arith, variable-known d, a .pre .0 .variables-few), omega (arith, variable-known d, a .pre .0 .values-few), omega arith), h)
 
 enum-known-due-2 : tie.Need-enum-known-due-2
 enum-known-due-2 c = search needs
@@ -44,7 +44,7 @@ take-ends-requires : tie.Need-take-ends-requires
 take-ends-requires c κs =
     let d = c .before .before .before in
     let a = d .before .before in
-    (a .pre .0, omega (arith, ends-known d, a .pre .0 .edges))
+    (a .pre .0, omega (arith, ends-known d, a .pre .0 .edges-placed))
 
 enum-known-due-3 : tie.Need-enum-known-due-3
 enum-known-due-3 c = search needs
@@ -60,7 +60,7 @@ take-weight-requires-2 c κs =
     let d = c .before .before .before .before in
     let a = d .before .before in
     let h : c .before .edge-place .result < length (now (a .args .table)) = omega (arith, c .before .edge-place .ensures .1, a .pre .1 .1) in
-    ((omega (arith, edge-known d, a .pre .0 .edges), omega (arith, edge-known d, a .pre .0 .values), omega (arith, edge-known d, a .pre .0 .values)), h)
+    ((omega (arith, edge-known d, a .pre .0 .edges-placed), omega (arith, edge-known d, a .pre .0 .values-few), omega (arith, edge-known d, a .pre .0 .values-few)), h)
 
 same-length : tie.Need-same-length
 same-length c = search needs

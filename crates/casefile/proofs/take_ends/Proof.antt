@@ -28,7 +28,7 @@ byte-requires c κs =
     let a = w .before in
     let l = a .args .line in
     let h = ends-known (a .args .sizes .n) (a .args .e) l (outcome-done (sym (e .enum-told .given .1) ∙ w .check-ends .ensures)) in
-    rw (read-back w64 (l .b) (c .struct-told .given .1 .1 .0 .1)) (h .0 .0, omega (arith, h .0 .1, a .pre .0 .variables))
+    rw (read-back w64 (l .b) (c .struct-told .given .1 .1 .0 .1)) (h .0 .0, omega (arith, h .0 .1, a .pre .0 .variables-few))
 
 byte-requires-2 : tie.Need-byte-requires-2
 byte-requires-2 c κs =
@@ -37,7 +37,7 @@ byte-requires-2 c κs =
     let a = w .before in
     let l = a .args .line in
     let h = ends-known (a .args .sizes .n) (a .args .e) l (outcome-done (sym (e .enum-told .given .1) ∙ w .check-ends .ensures)) in
-    rw (read-back w64 (l .c) (c .struct-told2 .given .1 .1 .1 .0 .1)) (h .1 .0, omega (arith, h .1 .1, a .pre .0 .variables))
+    rw (read-back w64 (l .c) (c .struct-told2 .given .1 .1 .1 .0 .1)) (h .1 .0, omega (arith, h .1 .1, a .pre .0 .variables-few))
 
 join-requires : tie.Need-join-requires
 join-requires c κs = search needs
@@ -46,7 +46,7 @@ returns : tie.Need-returns
 returns c =
     let w = c .before .before .before in
     let a = w .before .args in
-    ends-refused (caseWith (a .sizes) (now (a .lower)) (now (a .upper))) (a .e) (a .line) (set (now (a .lower)) (a .e) (natAbs (a .line .b))) (set (now (a .upper)) (a .e) (natAbs (a .line .c)))
+    ends-refused (a .sizes .rulebook) (caseWith (a .sizes) (now (a .lower)) (now (a .upper))) (a .e) (a .line) (set (now (a .lower)) (a .e) (natAbs (a .line .b))) (set (now (a .upper)) (a .e) (natAbs (a .line .c)))
     (sym (c .before .checked .given .1) ∙ w .check-ends .ensures)
 
 returns-2 : tie.Need-returns-2
@@ -56,7 +56,7 @@ returns-2 c =
     let e = b1 .before .before in
     let w = e .before .before in
     let a = w .before .args in
-    rw (ends-left (caseWith (a .sizes) (now (a .lower)) (now (a .upper))) (a .e) (a .line) (sym (e .enum-told .given .1) ∙ w .check-ends .ensures))
+    rw (ends-left (a .sizes .rulebook) (caseWith (a .sizes) (now (a .lower)) (now (a .upper))) (a .e) (a .line) (sym (e .enum-told .given .1) ∙ w .check-ends .ensures))
     (rw (
       b1 .byte .ensures ∙ ap natAbs (read-back w64 (a .line .b) (b1 .before .struct-told .given .1 .1 .0 .1)),
       b2 .byte2 .ensures ∙ ap natAbs (read-back w64 (a .line .c) (b2 .before .struct-told2 .given .1 .1 .1 .0 .1)),

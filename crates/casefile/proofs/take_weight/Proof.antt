@@ -30,7 +30,7 @@ returns c =
     let d = c .before .before in
     let w = d .before in
     let a = w .before .args in
-    let o = firstOf (weightTests (a .due) (a .a) (a .b) (a .c) (a .line)) in
+    let o = firstOf (weightTests (a .rulebook) (a .due) (a .a) (a .b) (a .c) (a .line)) in
     rw (read-back w64 (a .line .amount) (c .struct-told .given .1 .1 .1 .1 .0 .1))
     (w .weigh .ensures, if-done (set (now (a .table)) (a .place) (a .line .amount)) (now (a .table)) o (sym (d .is-done .ensures ∙ ap isDone (w .weigh .ensures)) ∙ c .before .if1 .taken))
 
@@ -39,7 +39,7 @@ returns-2 c =
     let d = c .before in
     let w = d .before in
     let a = w .before .args in
-    let o = firstOf (weightTests (a .due) (a .a) (a .b) (a .c) (a .line)) in
+    let o = firstOf (weightTests (a .rulebook) (a .due) (a .a) (a .b) (a .c) (a .line)) in
     (w .weigh .ensures, if-not-done (set (now (a .table)) (a .place) (a .line .amount)) (now (a .table)) o (sym (d .is-done .ensures ∙ ap isDone (w .weigh .ensures)) ∙ c .if1 .left))
 
 pub take-weight-spec : {M : Type 1} → statement M

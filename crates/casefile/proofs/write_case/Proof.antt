@@ -1,7 +1,7 @@
 use mathlib.Core.Bool.{false}
 use lib.Dec.{ltb}
 use lib.ListN.{length}
-use Rattle.definitions.specs.Rules.{standard}
+use Rattle.definitions.specs.Rules.{rulesOf}
 use Rattle.definitions.specs.Refusals.{firstOf}
 use Rattle.definitions.specs.Answers.{outcomeOf}
 use Rattle.definitions.specs.Valid.{startingWeight, handedOver}
@@ -17,7 +17,7 @@ use Rattle.casefile.proofs.write_case.Tie as tie
 told : (c : tie.After-check-starting) → let a = c .before .before .before .before .before .args in c .check-starting .result ≡ outcomeOf (asked (a .t1) (now (a .table)) (now (a .out)))
 told c =
     let a = c .before .before .before .before .before .args in
-    c .check-starting .ensures ∙ ap (λ n. outcomeOf (firstOf (handedOver standard (startingWeight standard) (a .t1) (now (a .table)) (ltb (length (now (a .out))) n) false))) (c .before .file-bytes .ensures)
+    c .check-starting .ensures ∙ ap (λ n. outcomeOf (firstOf (handedOver (rulesOf (a .t1)) (startingWeight (rulesOf (a .t1))) (a .t1) (now (a .table)) (ltb (length (now (a .out))) n) false))) (c .before .file-bytes .ensures)
 
 within-limits-requires : tie.Need-within-limits-requires
 within-limits-requires c κs = search needs

@@ -8,10 +8,7 @@ use mir.Syntax.{w64}
 use mir.Val.{toZ, ofZ}
 use mir.Facts.{toZ-ofZ}
 use borrow.Author.Count.{below-more}
-use Rattle.integers.specs.Tables.{all-getD}
 use Rattle.integers.specs.Linear.{read-back}
-use Rattle.definitions.specs.Rules.{standard}
-use Rattle.definitions.specs.Valid.{workingWeight}
 use Rattle.changes.proofs.ScopeLaws.{map-is}
 use Rattle.changes.specs.Scopes.{changed}
 use Rattle.changes.proofs.change_part.Statement.{statement}
@@ -34,10 +31,9 @@ slice-copy-out-changed-weight c = omega arith
 
 changed-weight-requires : tie.Need-changed-weight-requires Inv-loop μ-loop
 changed-weight-requires c κs = let s = c .before .before in
-    let a = s .before .args in
     let f = s .before .fits in
     rw (read-back w64 (getD (s .loop .part) (s .loop .at) (pos 0)) (c .changed-weight-arg .given), s .loop .inv .3 (s .loop .at) (omega arith), toZ-ofZ (f .best), toZ-ofZ (f .top), toZ-ofZ (f .rest))
-    (all-getD (λ z. workingWeight standard (changed (a .best) (a .top) (a .rest) z)) (a .part .now) (pos 0) .0 (s .before .pre) (s .loop .at) (omega arith))
+    (s .before .pre (s .loop .at) (omega arith))
 
 stored : (c : tie.After-changed-weight Inv-loop μ-loop) → let s = c .before .before .before in let a = s .before .args in
     toZ w64 (ofZ w64 (c .changed-weight .result)) ≡ changed (toZ w64 (ofZ w64 (a .best))) (toZ w64 (ofZ w64 (a .top))) (toZ w64 (ofZ w64 (a .rest))) (getD (a .part .now) (s .loop .at) (pos 0))

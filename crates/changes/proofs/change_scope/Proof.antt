@@ -6,11 +6,12 @@ use lib.IntN.{ℤ}
 use lib.ListN.{length, take, drop}
 use mir.Facts.{toZ-ofZ}
 use borrow.Author.Needs.{needs}
+use Rattle.definitions.specs.Rules.{coherent}
 use Rattle.definitions.specs.Case.{place}
 use Rattle.tables.specs.Scopes.{sizeOf, partOf}
 use Rattle.tables.proofs.Parts.{part-own}
 use Rattle.changes.specs.Scopes.{changed}
-use Rattle.changes.proofs.ScopeLaws.{scope-changed}
+use Rattle.changes.proofs.ScopeLaws.{part-fits, scope-changed}
 use Rattle.changes.proofs.change_scope.Statement.{statement}
 use Rattle.changes.proofs.change_scope.Tie as tie
 
@@ -50,7 +51,7 @@ part-change-part-end c = omega (arith, part-at c)
 
 change-part-requires : tie.Need-change-part-requires
 change-part-requires c κs = let s = c .before .before .before in
-    rw (toZ-ofZ (s .fits .best), toZ-ofZ (s .fits .top), toZ-ofZ (s .fits .rest), part-is (c .before)) (s .pre .1)
+    rw (toZ-ofZ (s .fits .best), toZ-ofZ (s .fits .top), toZ-ofZ (s .fits .rest), part-is (c .before)) (part-fits (coherent (s .args .case .rulebook)) (s .args .best) (s .args .top) (s .args .rest) (partOf (s .args .case) (s .args .table .now) (s .args .x)) (s .pre .1))
 
 same-length : tie.Need-same-length
 same-length c = search needs

@@ -5,7 +5,6 @@ use mir.Val.{toZ, ofZ}
 use mir.Facts.{toZ-ofZ}
 use Rattle.integers.specs.Linear.{read-back}
 use Rattle.changes.specs.Scopes.{changed}
-use Rattle.changes.proofs.SpacedLaws.{working-fits}
 use borrow.Author.Needs.{needs}
 use Rattle.changes.proofs.changed_weight.Statement.{statement}
 use Rattle.changes.proofs.changed_weight.Tie as tie
@@ -20,7 +19,7 @@ after c =
     ap₂ _+ℤ_ (toZ-ofZ (f .weight)) (read-back w64 (c .added .result) (c .added .ok) ∙ rw (toZ-ofZ (f .weight), toZ-ofZ (f .best), toZ-ofZ (f .top), toZ-ofZ (f .rest)) at (c .added .ensures))
 
 add-result : tie.Need-add-result
-add-result c = rw (after c) (working-fits _ (c .before .pre))
+add-result c = rw (after c) (c .before .pre)
 
 returns : tie.Need-returns
 returns c = toZ-ofZ (add-result c) ∙ after c

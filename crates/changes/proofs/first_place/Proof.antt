@@ -2,13 +2,14 @@ use mathlib.Core.Path.{sym, _∙_}
 use Prim.Native.Nat.{_*_, _-_, _≤_}
 use native.Mathlib.Omega.{arith}
 use borrow.Author.Tests.{le-ltb}
+use Rattle.definitions.specs.Rules.{edgePlaces}
 use Rattle.theory.proofs.Places.{place-variable}
 use Rattle.tables.proofs.Order.{variables-small, values-small, times-most}
 use Rattle.changes.proofs.first_place.Statement.{statement}
 use Rattle.changes.proofs.first_place.Tie as tie
 
 mul-result : tie.Need-mul-result
-mul-result c = let s = c .before .before .before in omega (arith, times-most (s .args .x) (s .args .case .d) 48 8 (omega (arith, s .pre .0 .variables)) (s .pre .0 .values))
+mul-result c = let s = c .before .before .before in omega (arith, times-most (s .args .x) (s .args .case .d) 256 8 (omega arith) (s .pre .0 .values-few))
 
 returns : tie.Need-returns
 returns c = let a = c .before .before .before .args in sym (place-variable (a .case) (a .x) 0 0 (omega arith) ∙ omega arith)
@@ -19,11 +20,11 @@ mul-result-2 c = let s = c .before .before .before in omega (arith, variables-sm
 mul-result-3 : tie.Need-mul-result-3
 mul-result-3 c = let s = c .before .before .before .before .before in omega (arith, values-small (s .args .case) (s .pre .0))
 
-squares : (c : tie.After-struct-known5) → let s = c .before .before .before .before .before in let a = s .args in (a .x - a .case .n) * (a .case .d * a .case .d) ≤ 6144
+squares : (c : tie.After-struct-known5) → let s = c .before .before .before .before .before in let a = s .args in (a .x - a .case .n) * (a .case .d * a .case .d) ≤ edgePlaces * 64
 squares c =
     let s = c .before .before .before .before .before in
     let a = s .args in
-    times-most (a .x - a .case .n) (a .case .d * a .case .d) 96 64 (omega (arith, s .pre .0 .edges)) (values-small (a .case) (s .pre .0))
+    times-most (a .x - a .case .n) (a .case .d * a .case .d) edgePlaces 64 (omega arith) (values-small (a .case) (s .pre .0))
 
 mul-result-4 : tie.Need-mul-result-4
 mul-result-4 c = omega (arith, squares c)

@@ -7,7 +7,7 @@ use lib.ListN.{length}
 use mir.Facts.{toZ-ofZ}
 use borrow.Author.Needs.{needs}
 use borrow.Author.Tests.{lt-ltb, le-ltb, not-true, not-false}
-use Rattle.definitions.specs.Rules.{standard}
+use Rattle.definitions.specs.Rules.{rulesOf}
 use Rattle.definitions.specs.Case.{scopeCount, lentLength}
 use Rattle.definitions.specs.Valid.{withinLimits}
 use Rattle.tables.proofs.Order.{limited}
@@ -22,27 +22,27 @@ within-limits-requires c κs = search needs
 
 returns : tie.Need-returns
 unfolding lowerAndRaiseCall
-returns c = let z = c .before .before .before in outside (z .args .case) (z .args .table .now) (z .args .best .now) (loweringChange (z .args .case) (z .args .table .now) (z .args .best .now) (z .args .raised .now) (z .args .variable) (z .args .amount)) (ltb (length (z .args .best .now)) (scopeCount (z .args .case)) || ltb (length (z .args .raised .now)) (scopeCount (z .args .case))) (loweringOut standard (z .args .case) (z .args .variable) (z .args .amount)) (sym (c .before .within-limits .ensures) ∙ not-true _ (c .if1 .taken))
+returns c = let z = c .before .before .before in outside (z .args .case) (z .args .table .now) (z .args .best .now) (loweringChange (z .args .case) (z .args .table .now) (z .args .best .now) (z .args .raised .now) (z .args .variable) (z .args .amount)) (ltb (length (z .args .best .now)) (scopeCount (z .args .case)) || ltb (length (z .args .raised .now)) (scopeCount (z .args .case))) (loweringOut (rulesOf (z .args .case)) (z .args .case) (z .args .variable) (z .args .amount)) (sym (c .before .within-limits .ensures) ∙ not-true _ (c .if1 .taken))
 
-right : (c : tie.Else1) → let a = c .before .before .before .args in withinLimits standard (a .case .n) (a .case .d) (a .case .m) ≡ true
+right : (c : tie.Else1) → let a = c .before .before .before .args in withinLimits (rulesOf (a .case)) (a .case .n) (a .case .d) (a .case .m) ≡ true
 right c = sym (c .before .within-limits .ensures) ∙ not-false _ (c .if1 .left)
 
 lengths-wrong-requires : tie.Need-lengths-wrong-requires
-lengths-wrong-requires c κs = limited standard (c .before .before .before .args .case) (right c)
+lengths-wrong-requires c κs = limited (c .before .before .before .args .case) (right c)
 
 returns-2 : tie.Need-returns-2
 unfolding lowerAndRaiseCall
-returns-2 c = let z = c .before .before .before .before .before in let a = z .args in wrong-length (z .args .case) (z .args .table .now) (z .args .best .now) (loweringChange (z .args .case) (z .args .table .now) (z .args .best .now) (z .args .raised .now) (z .args .variable) (z .args .amount)) (ltb (length (z .args .best .now)) (scopeCount (z .args .case)) || ltb (length (z .args .raised .now)) (scopeCount (z .args .case))) (loweringOut standard (z .args .case) (z .args .variable) (z .args .amount)) (right (c .before .before)) (or-left-three (not (eqb (length (a .table .now)) (lentLength (a .case)))) (ltb (length (a .best .now)) (scopeCount (a .case))) _ (sym (c .before .lengths-wrong .ensures) ∙ c .if2 .taken))
+returns-2 c = let z = c .before .before .before .before .before in let a = z .args in wrong-length (z .args .case) (z .args .table .now) (z .args .best .now) (loweringChange (z .args .case) (z .args .table .now) (z .args .best .now) (z .args .raised .now) (z .args .variable) (z .args .amount)) (ltb (length (z .args .best .now)) (scopeCount (z .args .case)) || ltb (length (z .args .raised .now)) (scopeCount (z .args .case))) (loweringOut (rulesOf (z .args .case)) (z .args .case) (z .args .variable) (z .args .amount)) (right (c .before .before)) (or-left-three (not (eqb (length (a .table .now)) (lentLength (a .case)))) (ltb (length (a .best .now)) (scopeCount (a .case))) _ (sym (c .before .lengths-wrong .ensures) ∙ c .if2 .taken))
 
 lens : (c : tie.Else2) → let a = c .before .before .before .before .before .args in (not (eqb (length (a .table .now)) (lentLength (a .case))) || ltb (length (a .best .now)) (scopeCount (a .case))) ≡ false
 lens c = sym (c .before .lengths-wrong .ensures) ∙ c .if2 .left
 
 add-if3 : tie.Need-add-if3
-add-if3 c = let l = limited standard (c .before .before .before .before .before .before .args .case) (right (c .before .before .before)) in omega (arith, l .variables, l .edges)
+add-if3 c = let l = limited (c .before .before .before .before .before .before .args .case) (right (c .before .before .before)) in omega (arith, l .scopes-placed)
 
 returns-3 : tie.Need-returns-3
 unfolding lowerAndRaiseCall
-returns-3 c = let z = c .before .before .before .before .before .before .before in let a = z .args in wrong-length (z .args .case) (z .args .table .now) (z .args .best .now) (loweringChange (z .args .case) (z .args .table .now) (z .args .best .now) (z .args .raised .now) (z .args .variable) (z .args .amount)) (ltb (length (z .args .best .now)) (scopeCount (z .args .case)) || ltb (length (z .args .raised .now)) (scopeCount (z .args .case))) (loweringOut standard (z .args .case) (z .args .variable) (z .args .amount)) (right (c .before .before .before .before)) (or-three (not (eqb (length (a .table .now)) (lentLength (a .case)))) (ltb (length (a .best .now)) (scopeCount (a .case))) _ true (lens (c .before .before)) (lt-ltb (length (a .raised .now)) (scopeCount (a .case)) (omega (arith, c .if3 .taken))))
+returns-3 c = let z = c .before .before .before .before .before .before .before in let a = z .args in wrong-length (z .args .case) (z .args .table .now) (z .args .best .now) (loweringChange (z .args .case) (z .args .table .now) (z .args .best .now) (z .args .raised .now) (z .args .variable) (z .args .amount)) (ltb (length (z .args .best .now)) (scopeCount (z .args .case)) || ltb (length (z .args .raised .now)) (scopeCount (z .args .case))) (loweringOut (rulesOf (z .args .case)) (z .args .case) (z .args .variable) (z .args .amount)) (right (c .before .before .before .before)) (or-three (not (eqb (length (a .table .now)) (lentLength (a .case)))) (ltb (length (a .best .now)) (scopeCount (a .case))) _ true (lens (c .before .before)) (lt-ltb (length (a .raised .now)) (scopeCount (a .case)) (omega (arith, c .if3 .taken))))
 
 room : (c : tie.Else3) → let a = c .before .before .before .before .before .before .before .args in scopeCount (a .case) ≤ length (a .raised .now)
 room c = omega (arith, c .if3 .left)
@@ -56,9 +56,9 @@ lowering-out-requires c κs = search needs
 
 returns-4 : tie.Need-returns-4
 unfolding lowerAndRaiseCall
-returns-4 c = let z = c .before .before .before .before .before .before .before .before .before in out-of-range (z .args .case) (z .args .table .now) (z .args .best .now) (loweringChange (z .args .case) (z .args .table .now) (z .args .best .now) (z .args .raised .now) (z .args .variable) (z .args .amount)) (ltb (length (z .args .best .now)) (scopeCount (z .args .case)) || ltb (length (z .args .raised .now)) (scopeCount (z .args .case))) (loweringOut standard (z .args .case) (z .args .variable) (z .args .amount)) (right (c .before .before .before .before .before .before)) (lengths (c .before .before)) (rw (toZ-ofZ (z .fits .amount)) at (sym (c .before .lowering-out .ensures) ∙ c .if4 .taken))
+returns-4 c = let z = c .before .before .before .before .before .before .before .before .before in out-of-range (z .args .case) (z .args .table .now) (z .args .best .now) (loweringChange (z .args .case) (z .args .table .now) (z .args .best .now) (z .args .raised .now) (z .args .variable) (z .args .amount)) (ltb (length (z .args .best .now)) (scopeCount (z .args .case)) || ltb (length (z .args .raised .now)) (scopeCount (z .args .case))) (loweringOut (rulesOf (z .args .case)) (z .args .case) (z .args .variable) (z .args .amount)) (right (c .before .before .before .before .before .before)) (lengths (c .before .before)) (rw (toZ-ofZ (z .fits .amount)) at (sym (c .before .lowering-out .ensures) ∙ c .if4 .taken))
 
-inside : (c : tie.Else4) → let a = c .before .before .before .before .before .before .before .before .before .args in loweringOut standard (a .case) (a .variable) (a .amount) ≡ false
+inside : (c : tie.Else4) → let a = c .before .before .before .before .before .before .before .before .before .args in loweringOut (rulesOf (a .case)) (a .case) (a .variable) (a .amount) ≡ false
 inside c = rw (toZ-ofZ (c .before .before .before .before .before .before .before .before .before .fits .amount)) at (sym (c .before .lowering-out .ensures) ∙ c .if4 .left)
 
 lowering-kept-requires : tie.Need-lowering-kept-requires
@@ -67,7 +67,7 @@ lowering-kept-requires c κs = let q = c .before .before in
     let a = z .args in
     let l = lengths-right (a .case) (a .table .now) (a .best .now) (lens (q .before .before .before .before)) in
     let i = lowering-in (a .case) (a .variable) (a .amount) (inside q) in
-    ((limited standard (a .case) (right (q .before .before .before .before .before .before)), l .0), ((l .1, room (q .before .before)), (i .0, rw (toZ-ofZ (z .fits .amount)) (i .1))))
+    ((limited (a .case) (right (q .before .before .before .before .before .before)), l .0), ((l .1, room (q .before .before)), (i .0, rw (toZ-ofZ (z .fits .amount)) (i .1))))
 
 same-length : tie.Need-same-length
 same-length c = search needs
@@ -77,7 +77,7 @@ same-length-2 c = search needs
 
 returns-5 : tie.Need-returns-5
 unfolding lowerAndRaiseCall
-returns-5 c = let q = c .before .before .before .before .before in let z = q .before .before .before .before .before .before .before .before .before in kept-next (z .args .case) (z .args .table .now) (z .args .best .now) (loweringChange (z .args .case) (z .args .table .now) (z .args .best .now) (z .args .raised .now) (z .args .variable) (z .args .amount)) (ltb (length (z .args .best .now)) (scopeCount (z .args .case)) || ltb (length (z .args .raised .now)) (scopeCount (z .args .case))) (loweringOut standard (z .args .case) (z .args .variable) (z .args .amount)) (right (q .before .before .before .before .before .before)) (lengths (q .before .before)) (inside q) (rw (toZ-ofZ (z .fits .amount)) at (c .before .before .lowering-kept .ensures))
+returns-5 c = let q = c .before .before .before .before .before in let z = q .before .before .before .before .before .before .before .before .before in kept-next (z .args .case) (z .args .table .now) (z .args .best .now) (loweringChange (z .args .case) (z .args .table .now) (z .args .best .now) (z .args .raised .now) (z .args .variable) (z .args .amount)) (ltb (length (z .args .best .now)) (scopeCount (z .args .case)) || ltb (length (z .args .raised .now)) (scopeCount (z .args .case))) (loweringOut (rulesOf (z .args .case)) (z .args .case) (z .args .variable) (z .args .amount)) (right (q .before .before .before .before .before .before)) (lengths (q .before .before)) (inside q) (rw (toZ-ofZ (z .fits .amount)) at (c .before .before .lowering-kept .ensures))
 
 pub lower-and-raise-spec : {M : Type 1} → statement M
 lower-and-raise-spec =

@@ -9,6 +9,8 @@ use Rattle.integers.specs.Tests.{true-is, imp-elim}
 use Rattle.integers.specs.Linear.{read-back}
 use Rattle.changes.specs.Scopes.{topOf, restOf, isTouched}
 use Rattle.changes.proofs.LoweringLaws.{untouched}
+use Rattle.definitions.specs.Rules.{coherent}
+use Rattle.changes.proofs.SpacedLaws.{press-back}
 use borrow.Author.Needs.{needs}
 use Rattle.changes.proofs.lower_scope.Statement.{statement}
 use Rattle.changes.proofs.lower_scope.Tie as tie
@@ -17,7 +19,7 @@ is-touched-requires : tie.Need-is-touched-requires
 is-touched-requires c κs = search needs
 
 top-of-requires : tie.Need-top-of-requires
-top-of-requires c κs = search needs
+top-of-requires c κs = let s = c .before .before in let a = s .args in rw (toZ-ofZ (s .fits .amount)) (press-back (coherent (a .case .rulebook)) (a .amount) (s .pre .1 .1))
 
 rest-of-requires : tie.Need-rest-of-requires
 rest-of-requires c κs = search needs

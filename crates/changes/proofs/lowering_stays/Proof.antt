@@ -9,7 +9,7 @@ use mir.Facts.{toZ-ofZ}
 use borrow.Author.Count.{below-more}
 use borrow.Author.Tests.{not-true, not-false}
 use Rattle.integers.specs.Linear.{read-back}
-use Rattle.definitions.specs.Rules.{standard}
+use Rattle.definitions.specs.Rules.{rulesOf}
 use Rattle.tables.specs.Scopes.{bestAt}
 use Rattle.changes.specs.Scopes.{scopeLets}
 use Rattle.changes.proofs.Tests.{not-all, all-passed}
@@ -17,7 +17,7 @@ use Rattle.changes.proofs.lowering_stays.Statement.{statement}
 use Rattle.changes.proofs.lowering_stays.Tie as tie
 
 abbrev Inv-loop : tie.InvT-loop
-Inv-loop case table best raised variable amount scopes x₀ x = (x ≤ scopes) × ((y : ℕ) → y < x → scopeLets standard case table y (bestAt best y) (getD raised y 0) variable (toZ w64 amount) ≡ true)
+Inv-loop case table best raised variable amount scopes x₀ x = (x ≤ scopes) × ((y : ℕ) → y < x → scopeLets (rulesOf case) case table y (bestAt best y) (getD raised y 0) variable (toZ w64 amount) ≡ true)
 
 abbrev μ-loop : tie.MeasureT-loop
 μ-loop case table best raised variable amount scopes x₀ x = scopes - x
@@ -41,7 +41,7 @@ scope-lets-requires : tie.Need-scope-lets-requires Inv-loop μ-loop
 scope-lets-requires c κs = let s = c .before .before .before .before .before .before in (record { limited = s .pre .0 .0; long = s .pre .0 .1; scope = omega arith }, rw (toZ-ofZ (s .fits .amount)) (s .pre .1 .1))
 
 told : (c : tie.After-scope-lets Inv-loop μ-loop) → let s = c .before .before .before .before in let a = c .before .before .before .before .before .before .before .args in
-    c .scope-lets .result ≡ scopeLets standard (a .case) (a .table .now) (s .loop .x) (bestAt (a .best .now) (s .loop .x)) (getD (a .raised .now) (s .loop .x) 0) (a .variable) (a .amount)
+    c .scope-lets .result ≡ scopeLets (rulesOf (a .case)) (a .case) (a .table .now) (s .loop .x) (bestAt (a .best .now) (s .loop .x)) (getD (a .raised .now) (s .loop .x) 0) (a .variable) (a .amount)
 told c =
     let s = c .before .before .before .before in
     let z = c .before .before .before .before .before .before .before in
@@ -51,7 +51,7 @@ returns : tie.Need-returns Inv-loop μ-loop
 returns c = let s = c .before .before .before .before .before in
     let z = c .before .before .before .before .before .before .before .before in
     let a = z .args in
-    not-all (λ x. scopeLets standard (a .case) (a .table .now) x (bestAt (a .best .now) x) (getD (a .raised .now) x 0) (a .variable) (a .amount)) (a .case .n + a .case .m) (s .loop .x) (omega arith)
+    not-all (λ x. scopeLets (rulesOf (a .case)) (a .case) (a .table .now) x (bestAt (a .best .now) x) (getD (a .raised .now) x 0) (a .variable) (a .amount)) (a .case .n + a .case .m) (s .loop .x) (omega arith)
     (sym (told (c .before)) ∙ not-true _ (c .if1 .taken))
 
 add-x : tie.Need-add-x Inv-loop μ-loop
@@ -68,7 +68,7 @@ loop-again c = let s = c .before .before .before .before .before in
 returns-2 : tie.Need-returns-2 Inv-loop μ-loop
 returns-2 c = let z = c .before .before .before .before in
     let a = z .args in
-    all-passed (λ x. scopeLets standard (a .case) (a .table .now) x (bestAt (a .best .now) x) (getD (a .raised .now) x 0) (a .variable) (a .amount)) (a .case .n + a .case .m)
+    all-passed (λ x. scopeLets (rulesOf (a .case)) (a .case) (a .table .now) x (bestAt (a .best .now) x) (getD (a .raised .now) x 0) (a .variable) (a .amount)) (a .case .n + a .case .m)
     (λ x h. rw (toZ-ofZ (z .fits .amount)) at (c .before .loop .inv .1 x (omega arith)))
 
 pub lowering-stays-spec : {M : Type 1} → statement M

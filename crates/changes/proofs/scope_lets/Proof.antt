@@ -6,6 +6,8 @@ use borrow.Author.Tests.{not-true, not-false}
 use Rattle.integers.specs.Linear.{read-back}
 use Rattle.changes.specs.Scopes.{topOf, restOf}
 use Rattle.changes.proofs.LoweringLaws.{lowering-amounts}
+use Rattle.definitions.specs.Rules.{coherent}
+use Rattle.changes.proofs.SpacedLaws.{press-back}
 use borrow.Author.Needs.{needs}
 use Rattle.changes.proofs.scope_lets.Statement.{statement}
 use Rattle.changes.proofs.scope_lets.Tie as tie
@@ -17,7 +19,7 @@ returns : tie.Need-returns
 returns c = let e = sym (c .before .is-touched .ensures) ∙ not-true _ (c .if1 .taken) in rw e
 
 top-of-requires : tie.Need-top-of-requires
-top-of-requires c κs = search needs
+top-of-requires c κs = let s = c .before .before in let a = s .args in rw (toZ-ofZ (s .fits .amount)) (press-back (coherent (a .case .rulebook)) (a .amount) (s .pre .1))
 
 rest-of-requires : tie.Need-rest-of-requires
 rest-of-requires c κs = search needs
@@ -29,7 +31,7 @@ rest-is : (c : tie.After-rest-of) → let a = c .before .before .before .before 
 rest-is c = read-back w64 (c .rest-of .result) (c .rest-of .ok) ∙ rw (toZ-ofZ (c .before .before .before .before .fits .amount)) at (c .rest-of .ensures)
 
 scope-stays-requires : tie.Need-scope-stays-requires
-scope-stays-requires c κs = let s = c .before .before .before .before in let a = s .args in (s .pre .0, rw (top-is (c .before), rest-is c) (lowering-amounts (a .variable) (a .x) (a .mark) (a .amount) (s .pre .1)))
+scope-stays-requires c κs = let s = c .before .before .before .before in let a = s .args in (s .pre .0, rw (top-is (c .before), rest-is c) (lowering-amounts _ (a .variable) (a .x) (a .mark) (a .amount) (s .pre .1)))
 
 returns-2 : tie.Need-returns-2
 returns-2 c = let p = c .before in

@@ -8,10 +8,7 @@ use mir.Facts.{toZ-ofZ}
 use mir.Val.{ofZ, toZ}
 use mir.Syntax.{w64}
 use Rattle.integers.specs.Linear.{read-back}
-use Rattle.integers.specs.Lists.{all-at}
-use Rattle.definitions.specs.Rules.{standard}
-use Rattle.definitions.specs.Valid.{workingWeight}
-use Rattle.changes.proofs.SpacedLaws.{working-fits, spaced-long, spaced-next}
+use Rattle.changes.proofs.SpacedLaws.{spaced-long, spaced-next}
 use Rattle.changes.specs.Spaced.{weightAt, spacedAdd}
 use Rattle.changes.proofs.spaced_add.Statement.{statement}
 use Rattle.changes.proofs.spaced_add.Tie as tie
@@ -57,8 +54,7 @@ slice-copy-out-table c = inside c
 
 add-table : tie.Need-add-table Inv-loop μ-loop
 add-table c = let s = c .before .before in
-    let a = s .before .args in
-    rw (toZ-ofZ (s .before .fits .by), held c) (working-fits _ (all-at (λ j. workingWeight standard (weightAt (a .table .now) (a .start + j * a .step) +ℤ a .by)) (a .count) (s .before .pre .1 .0) (s .loop .j) (c .before .loop-test .taken)))
+    rw (toZ-ofZ (s .before .fits .by), held c) (s .before .pre .1 .0 (s .loop .j) (c .before .loop-test .taken))
 
 mul-t13 : tie.Need-mul-t13 Inv-loop μ-loop
 mul-t13 c = let s = c .before .before in let a = s .before .args in omega (arith, s .before .pre .0 (s .loop .j) (c .before .loop-test .taken))

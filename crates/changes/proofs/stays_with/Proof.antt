@@ -1,25 +1,51 @@
-use mathlib.Core.Path.{_∙_}
+use mathlib.Core.Path.{_≡_, _∙_}
+use lib.IntN.{pos}
+use mir.Syntax.{w64}
+use mir.Val.{toZ, ofZ}
 use mir.Facts.{toZ-ofZ}
+use Rattle.integers.specs.Words.{minus}
+use Rattle.integers.specs.Linear.{read-back}
+use Rattle.definitions.specs.Rules.{rulesIn, coherent}
 use Rattle.changes.proofs.SpacedLaws.{low-fits, high-fits, range-moved}
 use borrow.Author.Needs.{needs}
 use Rattle.changes.proofs.stays_with.Statement.{statement}
 use Rattle.changes.proofs.stays_with.Tie as tie
 
-sub-low : tie.Need-sub-low
-sub-low c = search needs
+least-working-requires : tie.Need-least-working-requires
+least-working-requires c κs = search needs
 
-sub-low-2 : tie.Need-sub-low-2
-sub-low-2 c = rw (toZ-ofZ (c .fits .by)) (low-fits (c .args .weight) (c .args .by) (c .pre))
+least-is : (c : tie.After-least-working) → toZ w64 (ofZ w64 (c .least-working .result)) ≡ minus (rulesIn (c .before .args .rulebook) .working)
+least-is c = read-back w64 (c .least-working .result) (c .least-working .ok) ∙ c .least-working .ensures
+
+sub-low : tie.Need-sub-low
+sub-low c = let s = c .before in rw (least-is c, toZ-ofZ (s .fits .by)) (low-fits (coherent (s .args .rulebook)) (s .args .by) (s .pre))
+
+most-working-requires : tie.Need-most-working-requires
+most-working-requires c κs = search needs
+
+most-is : (c : tie.After-most-working) → toZ w64 (ofZ w64 (c .most-working .result)) ≡ pos (rulesIn (c .before .before .args .rulebook) .working)
+most-is c = read-back w64 (c .most-working .result) (c .most-working .ok) ∙ c .most-working .ensures
 
 sub-high : tie.Need-sub-high
-sub-high c = rw (toZ-ofZ (c .fits .by)) (high-fits (c .args .weight) (c .args .by) (c .pre))
+sub-high c = let s = c .before .before in rw (most-is c, toZ-ofZ (s .fits .by)) (high-fits (coherent (s .args .rulebook)) (s .args .by) (s .pre))
 
 is-within-requires : tie.Need-is-within-requires
 is-within-requires c κs = search needs
 
 returns : tie.Need-returns
-returns c = let s = c .before in
-    (rw (toZ-ofZ (sub-low-2 s), toZ-ofZ (sub-high s), toZ-ofZ (s .fits .weight), toZ-ofZ (s .fits .by)) at (c .is-within .ensures)) ∙ range-moved (s .args .weight) (s .args .by) (s .pre)
+returns c = let h = c .before in
+    let l = h .before in
+    let s = l .before in
+    (rw (toZ-ofZ (sub-low l), toZ-ofZ (sub-high h), least-is l, most-is h, toZ-ofZ (s .fits .weight), toZ-ofZ (s .fits .by)) at (c .is-within .ensures))
+    ∙ range-moved (rulesIn (s .args .rulebook)) (s .args .weight) (s .args .by)
 
 pub stays-with-spec : {M : Type 1} → statement M
-stays-with-spec = tie.close (tie.spec sub-low sub-low-2 sub-high is-within-requires returns)
+stays-with-spec =
+    tie.close
+    (tie.spec
+    least-working-requires
+    sub-low
+    most-working-requires
+    sub-high
+    is-within-requires
+    returns)

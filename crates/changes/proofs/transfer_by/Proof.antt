@@ -1,16 +1,26 @@
-use mathlib.Core.Path.{sym, _∙_}
-use lib.IntN.{negℤ}
+use mathlib.Core.Path.{_≡_, sym, _∙_}
+use lib.IntN.{pos, negℤ, _-ℤ_}
+use mir.Syntax.{w64}
+use mir.Val.{SFits, toZ, ofZ}
 use mir.Facts.{toZ-ofZ}
 use borrow.Author.Tests.{not-true, not-false}
 use native.Mathlib.Omega.{arith}
 use borrow.Author.Needs.{needs}
 use Rattle.integers.specs.Tests.{true-is}
-use Rattle.changes.proofs.SpacedLaws.{back-within, back-fits, back-is, inside-kept, stay-kept}
+use Rattle.definitions.specs.Rules.{rulesIn, coherent}
+use Rattle.changes.specs.Spaced.{spacedAdd}
+use Rattle.changes.proofs.SpacedLaws.{back-within, back-fits, back-is, stay-fits, inside-kept, stay-kept}
 use Rattle.changes.proofs.transfer_by.Statement.{statement}
 use Rattle.changes.proofs.transfer_by.Tie as tie
 
+back-room : (s : tie.Start) → SFits w64 (pos 0 -ℤ s .args .amount)
+back-room s = back-fits (coherent (s .args .rulebook)) (s .args .amount) (s .pre .1 .1 .0 .0)
+
 sub-back : tie.Need-sub-back
-sub-back c = let s = c in rw (toZ-ofZ (s .fits .amount)) (back-fits (s .args .amount) (s .pre .1 .1 .0 .0))
+sub-back s = rw (toZ-ofZ (s .fits .amount)) (back-room s)
+
+back-at : (s : tie.Start) → toZ w64 (ofZ w64 (pos 0 -ℤ toZ w64 (ofZ w64 (s .args .amount)))) ≡ negℤ (s .args .amount)
+back-at s = back-is (s .args .amount) (s .fits .amount) (back-room s)
 
 spaced-stay-requires : tie.Need-spaced-stay-requires
 spaced-stay-requires c κs = search needs
@@ -25,7 +35,7 @@ returns c = let s = c .before .before .before in
 
 spaced-stay-requires-2 : tie.Need-spaced-stay-requires-2
 spaced-stay-requires-2 c κs = let s = c .before .before .before .before in
-    (s .pre .1 .0, rw (back-is (s .args .amount) (s .fits .amount) (s .pre .1 .1 .0 .0)) (back-within (s .args .amount) (s .pre .1 .1 .0 .0)))
+    (s .pre .1 .0, rw (back-at s) (back-within (rulesIn (s .args .rulebook)) (s .args .amount) (s .pre .1 .1 .0 .0)))
 
 same-length-2 : tie.Need-same-length-2
 same-length-2 c = search needs
@@ -33,13 +43,14 @@ same-length-2 c = search needs
 returns-2 : tie.Need-returns-2
 returns-2 c = let s = c .before .before .before .before .before .before in
     let d = rw (toZ-ofZ (s .fits .amount)) at (sym (c .before .before .before .before .spaced-stay .ensures) ∙ not-false _ (c .before .before .before .if1 .left)) in
-    let e = rw (back-is (s .args .amount) (s .fits .amount) (s .pre .1 .1 .0 .0)) at (sym (c .before .spaced-stay2 .ensures) ∙ not-true _ (c .if2 .taken)) in
+    let e = rw (back-at s) at (sym (c .before .spaced-stay2 .ensures) ∙ not-true _ (c .if2 .taken)) in
     (rw (d, e), rw (d, e))
 
 spaced-add-requires : tie.Need-spaced-add-requires
 spaced-add-requires c κs = let s = c .before .before .before .before .before .before .before in
+    let a = s .args in
     let d = sym (c .before .before .before .before .before .spaced-stay .ensures) ∙ not-false _ (c .before .before .before .before .if1 .left) in
-    (s .pre .0, (true-is _ d, omega arith))
+    (s .pre .0, (stay-fits (coherent (a .rulebook)) (a .table .now) (a .own) 1 1 _ (true-is _ d), omega arith))
 
 spaced-add-requires-2 : tie.Need-spaced-add-requires-2
 spaced-add-requires-2 c κs = let s = c .before .before .before .before .before .before .before .before .before .before in
@@ -47,8 +58,9 @@ spaced-add-requires-2 c κs = let s = c .before .before .before .before .before 
     let e = sym (c .before .before .before .before .before .spaced-stay2 .ensures) ∙ not-false _ (c .before .before .before .before .if2 .left) in (
       rw (c .before .before .spaced-add .ensures, toZ-ofZ (s .fits .amount)) (inside-kept (a .table .now) (a .own) (a .start) (a .step) (a .count) (a .amount) (s .pre .1 .1 .1) (s .pre .1 .0)),
       (
-        rw (c .before .before .spaced-add .ensures, back-is (a .amount) (s .fits .amount) (s .pre .1 .1 .0 .0), toZ-ofZ (s .fits .amount))
-            (true-is _ (stay-kept (a .table .now) (a .own) (a .start) (a .step) (a .count) (a .amount) (s .pre .1 .1 .1) (negℤ (a .amount)) ∙ rw (back-is (a .amount) (s .fits .amount) (s .pre .1 .1 .0 .0)) at e)),
+        rw (c .before .before .spaced-add .ensures, back-at s, toZ-ofZ (s .fits .amount))
+            (stay-fits (coherent (a .rulebook)) (spacedAdd (a .table .now) (a .own) 1 1 (a .amount)) (a .start) (a .step) (a .count) (negℤ (a .amount))
+            (true-is _ (stay-kept (a .table .now) (a .own) (a .start) (a .step) (a .count) (a .amount) (s .pre .1 .1 .1) (rulesIn (a .rulebook)) (negℤ (a .amount)) ∙ rw (back-at s) at e))),
         s .pre .1 .1 .0 .1,
       ),
     )
@@ -59,8 +71,8 @@ same-length-3 c = search needs
 returns-3 : tie.Need-returns-3
 returns-3 c = let s = c .before .before .before .before .before .before .before .before .before .before .before .before in
     let d = rw (toZ-ofZ (s .fits .amount)) at (sym (c .before .before .before .before .before .before .before .before .before .before .spaced-stay .ensures) ∙ not-false _ (c .before .before .before .before .before .before .before .before .before .if1 .left)) in
-    let e = rw (back-is (s .args .amount) (s .fits .amount) (s .pre .1 .1 .0 .0)) at (sym (c .before .before .before .before .before .before .before .spaced-stay2 .ensures) ∙ not-false _ (c .before .before .before .before .before .before .if2 .left)) in
-    (rw (d, e), rw (d, e, c .before .spaced-add2 .ensures, c .before .before .before .before .spaced-add .ensures, back-is (s .args .amount) (s .fits .amount) (s .pre .1 .1 .0 .0), toZ-ofZ (s .fits .amount)))
+    let e = rw (back-at s) at (sym (c .before .before .before .before .before .before .before .spaced-stay2 .ensures) ∙ not-false _ (c .before .before .before .before .before .before .if2 .left)) in
+    (rw (d, e), rw (d, e, c .before .spaced-add2 .ensures, c .before .before .before .before .spaced-add .ensures, back-at s, toZ-ofZ (s .fits .amount)))
 
 pub transfer-by-spec : {M : Type 1} → statement M
 transfer-by-spec =

@@ -8,6 +8,7 @@ use mir.Facts.{toZ-ofZ}
 use Rattle.integers.specs.Words.{if_then_else_}
 use Rattle.definitions.specs.declared.Outcome.{Outcome}
 use Rattle.definitions.specs.declared.Refusal.the-variants.{LeavesRange}
+use Rattle.definitions.specs.Rules.{edgePlaces}
 use Rattle.tables.proofs.Order.{variables-small, values-small, times-most}
 use Rattle.changes.proofs.TransferLaws.{TransferPlaces, row-places, column-places, used-in, transfer-inside, transfer-separate, transfer-is, transfer-made}
 use borrow.Author.Needs.{needs}
@@ -18,22 +19,22 @@ mul-first : tie.Need-mul-first
 mul-first c = search needs
 
 mul-first-2 : tie.Need-mul-first-2
-mul-first-2 c = let s = c .before in omega (arith, variables-small (s .args .case) (s .pre .0 .0), values-small (s .args .case) (s .pre .0 .0), times-most (s .args .edge) (s .args .case .d * s .args .case .d) 96 64 (omega (arith, s .pre .1 .0 .0, s .pre .0 .0 .edges)) (values-small (s .args .case) (s .pre .0 .0)))
+mul-first-2 c = let s = c .before in omega (arith, variables-small (s .args .case) (s .pre .0 .0), values-small (s .args .case) (s .pre .0 .0), times-most (s .args .edge) (s .args .case .d * s .args .case .d) edgePlaces 64 (omega arith) (values-small (s .args .case) (s .pre .0 .0)))
 
 mul-first-3 : tie.Need-mul-first-3
-mul-first-3 c = let s = c .before in omega (arith, variables-small (s .args .case) (s .pre .0 .0), values-small (s .args .case) (s .pre .0 .0), times-most (s .args .edge) (s .args .case .d * s .args .case .d) 96 64 (omega (arith, s .pre .1 .0 .0, s .pre .0 .0 .edges)) (values-small (s .args .case) (s .pre .0 .0)))
+mul-first-3 c = let s = c .before in omega (arith, variables-small (s .args .case) (s .pre .0 .0), values-small (s .args .case) (s .pre .0 .0), times-most (s .args .edge) (s .args .case .d * s .args .case .d) edgePlaces 64 (omega arith) (values-small (s .args .case) (s .pre .0 .0)))
 
 add-first : tie.Need-add-first
-add-first c = let s = c .before in omega (arith, variables-small (s .args .case) (s .pre .0 .0), values-small (s .args .case) (s .pre .0 .0), times-most (s .args .edge) (s .args .case .d * s .args .case .d) 96 64 (omega (arith, s .pre .1 .0 .0, s .pre .0 .0 .edges)) (values-small (s .args .case) (s .pre .0 .0)))
+add-first c = let s = c .before in omega (arith, variables-small (s .args .case) (s .pre .0 .0), values-small (s .args .case) (s .pre .0 .0), times-most (s .args .edge) (s .args .case .d * s .args .case .d) edgePlaces 64 (omega arith) (values-small (s .args .case) (s .pre .0 .0)))
 
 end-variable-requires : tie.Need-end-variable-requires
 end-variable-requires c κs = search needs
 
 mul-own : tie.Need-mul-own
-mul-own c = let s = c .before .before in omega (arith, s .pre .1 .0 .2, s .pre .0 .0 .values, times-most (c .end-variable .result) (s .args .case .d) 48 8 (omega (arith, c .end-variable .ensures, s .pre .1 .0 .3, s .pre .0 .0 .variables)) (s .pre .0 .0 .values))
+mul-own c = let s = c .before .before in omega (arith, s .pre .1 .0 .2, s .pre .0 .0 .values-few, times-most (c .end-variable .result) (s .args .case .d) 256 8 (omega (arith, c .end-variable .ensures, s .pre .1 .0 .3)) (s .pre .0 .0 .values-few))
 
 add-own : tie.Need-add-own
-add-own c = let s = c .before .before in omega (arith, s .pre .1 .0 .2, s .pre .0 .0 .values, times-most (c .end-variable .result) (s .args .case .d) 48 8 (omega (arith, c .end-variable .ensures, s .pre .1 .0 .3, s .pre .0 .0 .variables)) (s .pre .0 .0 .values))
+add-own c = let s = c .before .before in omega (arith, s .pre .1 .0 .2, s .pre .0 .0 .values-few, times-most (c .end-variable .result) (s .args .case .d) 256 8 (omega (arith, c .end-variable .ensures, s .pre .1 .0 .3)) (s .pre .0 .0 .values-few))
 
 -- the places, at either end
 row : (c : tie.Then1) → let a = c .before .before .before .args in

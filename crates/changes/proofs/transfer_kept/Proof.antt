@@ -4,7 +4,7 @@ use Prim.Native.Nat.{ℕ, _+_}
 use lib.IntN.{ℤ}
 use lib.ListN.{set}
 use mir.Facts.{toZ-ofZ}
-use Rattle.definitions.specs.Rules.{standard}
+use Rattle.definitions.specs.Rules.{rulesOf}
 use Rattle.definitions.specs.Case.{greatest}
 use Rattle.changes.specs.Kept.{transferChange, staysWorking}
 use Rattle.changes.proofs.TransferLaws.{transfer-best}
@@ -42,7 +42,7 @@ returns c = let s = c .before .before .before .before .before .before in
     let a = s .args in
     let m = transferChange (a .case) (a .edge) (a .end) (a .value) (a .amount) in
     let r = rw (toZ-ofZ (s .fits .amount)) at (c .before .before .before .before .transfer-checked .ensures) in
-    kept-refused (a .case) (a .table .now) (a .best .now) m (staysWorking standard (a .case) (a .table .now) m) (sym (c .before .made .given .1) ∙ r .0) (r .1)
+    kept-refused (a .case) (a .table .now) (a .best .now) m (staysWorking (rulesOf (a .case)) (a .case) (a .table .now) m) (sym (c .before .made .given .1) ∙ r .0) (r .1)
 
 same-length-2 : tie.Need-same-length-2
 same-length-2 c = search needs
@@ -57,7 +57,7 @@ returns-2 c = let s = c .before .before .before .before .before .before .before 
     let r = rw (toZ-ofZ (s .fits .amount)) at (c .before .before .before .before .before .before .before .before .before .before .before .before .before .transfer-checked .ensures) in
     let t = c .before .before .before .before .before .before .before .before .before .before .before .before .before .transfer-checked .last .1 .0 in
     let e = c .before .before .before .before .before .before .before .end-variable .ensures in
-    kept-done (a .case) (a .table .now) (a .best .now) m (staysWorking standard (a .case) (a .table .now) m) (sym (c .before .before .before .before .before .before .before .before .before .before .enum-told .given .1) ∙ r .0) (r .1)
+    kept-done (a .case) (a .table .now) (a .best .now) m (staysWorking (rulesOf (a .case)) (a .case) (a .table .now) m) (sym (c .before .before .before .before .before .before .before .before .before .before .enum-told .given .1) ∙ r .0) (r .1)
     (λ d. c .before .keep-greatest2 .ensures
     ∙ ap (λ (b : List ℤ). set b (a .case .n + a .edge) (greatest (a .case) t (a .case .n + a .edge)))
     (c .before .before .before .before .before .before .keep-greatest .ensures ∙ ap (λ (x : ℕ). set (a .best .now) x (greatest (a .case) t x)) e)

@@ -1,11 +1,11 @@
 use mathlib.Core.Path.{ap, _∙_}
 use Prim.Native.Nat.{_+_, _-_}
 use native.Mathlib.Omega.{arith}
-use lib.IntN.{pos}
 use mir.Syntax.{w64}
 use mir.ValLaws.{toZ-pos}
-use Rattle.integers.specs.Words.{withinZ}
 use Rattle.integers.specs.Linear.{read-back}
+use Rattle.definitions.specs.Rules.{rulesOf}
+use Rattle.definitions.specs.Moves.{pressAmount}
 use Rattle.definitions.specs.Lines.{outside}
 use borrow.Author.Needs.{needs}
 use Rattle.checker.proofs.begin_out.Statement.{statement}
@@ -26,16 +26,16 @@ cast-is-within c = search needs
 is-within-requires : tie.Need-is-within-requires
 is-within-requires c κs = search needs
 
-is-within-requires-2 : tie.Need-is-within-requires-2
-is-within-requires-2 c κs = search needs
+is-press-amount-requires : tie.Need-is-press-amount-requires
+is-press-amount-requires c κs = search needs
 
 returns : tie.Need-returns
 returns c = λ w p. let a = c .before .before .before .before .before .before .before .args in let l = a .line in let s = c .before .struct-told3 .given in
     let k = c .before .before .before .before .before .before .before .pre in
     rw (
       c .before .before .before .before .is-outside .ensures ∙ ap (outside (a .case .n)) (read-back w64 (l .a) (s .1 .0 .1)),
-      rw (toZ-pos w64 ((a .case .n + a .case .m) - 1) (omega (arith, k .variables, k .edges)), read-back w64 (l .b) (s .1 .1 .0 .1)) at (c .before .before .is-within .ensures),
-      c .is-within2 .ensures ∙ ap (withinZ (pos 1) (pos 1_000_000_000)) (read-back w64 (l .amount) (s .1 .1 .1 .1 .0 .1)),
+      rw (toZ-pos w64 ((a .case .n + a .case .m) - 1) (omega (arith, k .scopes-placed)), read-back w64 (l .b) (s .1 .1 .0 .1)) at (c .before .before .is-within .ensures),
+      c .is-press-amount .ensures ∙ ap (pressAmount (rulesOf (a .case))) (read-back w64 (l .amount) (s .1 .1 .1 .1 .0 .1)),
     )
 
 pub begin-out-spec : {M : Type 1} → statement M
@@ -47,5 +47,5 @@ begin-out-spec =
     is-outside-requires
     cast-is-within
     is-within-requires
-    is-within-requires-2
+    is-press-amount-requires
     returns)

@@ -1,10 +1,11 @@
 use mathlib.Core.Path.{_≡_, sym, _∙_}
 use mathlib.Core.List.{List}
+use native.Mathlib.Omega.{arith}
 use lib.IntN.{ℤ}
 use mir.Syntax.{w64}
 use Rattle.integers.specs.Linear.{read-back}
 use Rattle.definitions.specs.declared.Figure.{Figure}
-use Rattle.definitions.specs.Rules.{standard}
+use Rattle.definitions.specs.Rules.{coherent, rulesOf}
 use Rattle.definitions.specs.Case.{upperBound}
 use Rattle.definitions.specs.Valid.{workingWeight}
 use Rattle.theory.proofs.Validity.{Handed}
@@ -27,11 +28,11 @@ enum-known-sum-2 : tie.Need-enum-known-sum-2
 enum-known-sum-2 c = search needs
 
 stated-bound-requires : tie.Need-stated-bound-requires
-stated-bound-requires c κs = search needs
+stated-bound-requires c κs = let s = c .before .before .before .before in omega (arith, s .pre, coherent (s .args .case .rulebook) .rounds-fit)
 
 -- the sum is the upper bound
 summed : (c : tie.After-sum-of-best) {x : Figure} (w : List ℤ) → c .sum-of-best .result ≡ x → let a = c .before .args in
-    Handed standard (workingWeight standard) (a .case) w → BestOf (a .case) w (a .best .now) → x ≡ Figure.Value (upperBound (a .case) w)
+    Handed (rulesOf (a .case)) (workingWeight (rulesOf (a .case))) (a .case) w → BestOf (a .case) w (a .best .now) → x ≡ Figure.Value (upperBound (a .case) w)
 summed c w e h k = sym e ∙ c .sum-of-best .ensures ∙ best-sum-known h k
 
 returns : tie.Need-returns

@@ -1,6 +1,5 @@
 use mathlib.Core.Path.{sym, _∙_}
 use borrow.Author.Tests.{not-true, not-false}
-use Rattle.definitions.specs.Rules.{standard}
 use Rattle.tables.proofs.Order.{limited}
 use borrow.Author.Needs.{needs}
 use Rattle.checker.proofs.check_lent.Statement.{statement}
@@ -16,7 +15,7 @@ slice-aggregate-record-out : tie.Need-slice-aggregate-record-out
 slice-aggregate-record-out c = search needs
 
 record-out-requires : tie.Need-record-out-requires
-record-out-requires c κs = limited standard (c .before .before .before .before .args .case) (sym (c .before .before .before .within-limits .ensures) ∙ not-false _ (c .before .before .if1 .left))
+record-out-requires c κs = limited (c .before .before .before .before .args .case) (sym (c .before .before .before .within-limits .ensures) ∙ not-false _ (c .before .before .if1 .left))
 
 check-working-requires : tie.Need-check-working-requires
 check-working-requires c κs = search needs

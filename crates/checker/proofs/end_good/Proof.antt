@@ -1,6 +1,5 @@
 use mathlib.Core.Path.{sym, _∙_}
 use borrow.Author.Tests.{not-true, not-false}
-use Rattle.definitions.specs.Rules.{standard}
 use Rattle.tables.proofs.Order.{limited}
 use Rattle.checker.proofs.Ends.{end-refused, end-cut, end-done}
 use borrow.Author.Needs.{needs}
@@ -17,7 +16,7 @@ slice-aggregate-record-out : tie.Need-slice-aggregate-record-out
 slice-aggregate-record-out c = search needs
 
 record-out-requires : tie.Need-record-out-requires
-record-out-requires c κs = limited standard (c .before .before .before .before .args .case) (sym (c .before .before .before .within-limits .ensures) ∙ not-false _ (c .before .before .if1 .left))
+record-out-requires c κs = limited (c .before .before .before .before .args .case) (sym (c .before .before .before .within-limits .ensures) ∙ not-false _ (c .before .before .if1 .left))
 
 check-edges-requires : tie.Need-check-edges-requires
 check-edges-requires c κs = search needs

@@ -22,7 +22,7 @@ good-read-requires c κs = search needs
 
 returns : tie.Need-returns
 returns c = let a = c .before .before .before .before .before .before .args in let w = a .table .now in let r = a .raised .now in
-    (step-refused (c .refused .result) w w r (c .refused .ensures) refl ∙ sym (step-missing (a .bytes .now) (c .before .before .before .read-line .ensures) (a .case) w (goodReplay (a .progress) r) refl (c .before .enum-told .given .1)), c .before .before .before .before .before .before .pre .1 .0)
+    (step-refused (c .refused .result) w w r (c .refused .ensures) refl ∙ sym (step-missing (a .case) (a .bytes .now) (c .before .before .before .read-line .ensures) w (goodReplay (a .progress) r) refl (c .before .enum-told .given .1)), c .before .before .before .before .before .before .pre .1 .0)
 
 same-length : tie.Need-same-length
 same-length c = search needs
@@ -35,7 +35,7 @@ same-length-3 c = search needs
 
 returns-2 : tie.Need-returns-2
 returns-2 c = let a = c .before .before .before .before .before .before .before .before .before .before .before .before .before .before .args in let w = a .table .now in let r = a .raised .now in
-    (c .before .before .before .before .good-read .ensures .0 ∙ sym (step-line (a .bytes .now) (c .before .before .before .before .before .before .before .before .before .before .before .read-line .ensures) (a .case) w (goodReplay (a .progress) r) refl (c .before .before .before .before .before .before .before .before .before .read .given .1)), c .before .before .before .before .good-read .ensures .1)
+    (c .before .before .before .before .good-read .ensures .0 ∙ sym (step-line (a .case) (a .bytes .now) (c .before .before .before .before .before .before .before .before .before .before .before .read-line .ensures) w (goodReplay (a .progress) r) refl (c .before .before .before .before .before .before .before .before .before .read .given .1)), c .before .before .before .before .good-read .ensures .1)
 
 pub good-line-spec : {M : Type 1} → statement M
 good-line-spec =

@@ -15,10 +15,10 @@ raise-due-requires : tie.Need-raise-due-requires
 raise-due-requires c κs = search needs
 
 returns : tie.Need-returns
-returns c = rw (c .before .enum-told .given .1) (c .move-due .ensures)
+returns c = λ b. rw (c .before .enum-told .given .1) (c .move-due .ensures b)
 
 returns-2 : tie.Need-returns-2
-returns-2 c = rw (c .before .enum-told2 .given .1) (c .raise-due .ensures)
+returns-2 c = λ b. rw (c .before .enum-told2 .given .1) (c .raise-due .ensures b)
 
 pub is-due-spec : {M : Type 1} → statement M
 is-due-spec =

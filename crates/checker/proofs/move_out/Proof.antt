@@ -1,6 +1,7 @@
 use mathlib.Core.Path.{sym}
 use lib.Dec.{lit<}
 use lib.IntN.{pos}
+use Rattle.definitions.specs.Rules.{rulesOf}
 use Rattle.tables.proofs.Bounds.{same-bits, other-bits}
 use Rattle.checker.proofs.Numbers.{from-test}
 use borrow.Author.Needs.{needs}
@@ -21,10 +22,13 @@ returns-2 : tie.Need-returns-2
 returns-2 c = λ w p e. let l = c .before .before .before .before .before .before .before .args .line in let k = c .before .before .struct-told2 .given .0 .1 in
     rw (sym (other-bits (l .kind) (pos 1) k (lit< tt) (c .before .before .before .before .if1 .left)), sym (same-bits (l .kind) (pos 2) k (lit< tt) (c .before .if2 .taken))) (c .begin-out .ensures w p)
 
+most-rounds-requires : tie.Need-most-rounds-requires
+most-rounds-requires c κs = search needs
+
 returns-3 : tie.Need-returns-3
-returns-3 c = λ w p e. let l = c .before .before .before .before .before .before .args .line in let k = c .before .struct-told2 .given .0 .1 in
-    rw (sym (other-bits (l .kind) (pos 1) k (lit< tt) (c .before .before .before .if1 .left)), sym (other-bits (l .kind) (pos 2) k (lit< tt) (c .if2 .left)), e) (from-test 999_999_999_999_999_999 (c .before .before .before .before .before .before .args .rounds))
+returns-3 c = λ w p e. let s = c .before .before .before .before .before .before .before in let l = s .args .line in let k = c .before .before .struct-told2 .given .0 .1 in
+    rw (sym (other-bits (l .kind) (pos 1) k (lit< tt) (c .before .before .before .before .if1 .left)), sym (other-bits (l .kind) (pos 2) k (lit< tt) (c .before .if2 .left)), e, c .most-rounds .ensures) (from-test (rulesOf (s .args .case) .rounds) (s .args .rounds))
 
 pub move-out-spec : {M : Type 1} → statement M
 move-out-spec =
-    tie.close (tie.spec shift-out-requires returns begin-out-requires returns-2 returns-3)
+    tie.close (tie.spec shift-out-requires returns begin-out-requires returns-2 most-rounds-requires returns-3)

@@ -2,7 +2,7 @@ use mathlib.Core.Path.{refl, ap, _∙_}
 use Prim.Native.Nat.{ℕ}
 use lib.IntN.{natAbs}
 use lib.ListN.{replicate}
-use Rattle.definitions.specs.Rules.{standard}
+use Rattle.definitions.specs.Rules.{rulesOf}
 use Rattle.checker.specs.Checker.{ofPress}
 use Rattle.checker.specs.Taken.{goodReplay}
 use Rattle.checker.proofs.Taking.{taken-done, press-begun}
@@ -30,7 +30,7 @@ same-length c = search needs
 returns : tie.Need-returns
 returns c = λ k w. let a = c .before .before .before .before .before .before .before .before .before .before .before .args in let l = a .line in let p = goodReplay (a .progress) (a .raised .now) in
     let s = c .before .struct-told3 .given in
-    taken-done (c .with-due .result) w w (c .before .before .before .before .before .before .before .before .clear .last .0) p (ofPress standard k w p l) (c .with-due .ensures) refl
+    taken-done (c .with-due .result) w w (c .before .before .before .before .before .before .before .before .clear .last .0) p (ofPress (rulesOf k) k w p l) (c .with-due .ensures) refl
     (press-begun k w (a .progress) (a .raised .now) l
     (c .before .before .before .before .index .ensures ∙ ap natAbs (read-back w64 (l .a) (s .1 .0 .1))) (read-back w64 (l .amount) (s .1 .1 .1 .1 .0 .1)) (c .before .before .index2 .ensures ∙ ap natAbs (read-back w64 (l .b) (s .1 .1 .0 .1)))
     (c .before .before .before .before .before .before .before .before .clear .ensures ∙ ap (λ (n : ℕ). replicate n 0) (c .before .before .before .before .before .before .before .before .before .before .before .pre .0)))

@@ -3,6 +3,7 @@ use Prim.Native.Nat.{_+_, _≤_}
 use native.Mathlib.Omega.{arith}
 use lib.ListN.{length}
 use mir.Facts.{toZ-ofZ}
+use Rattle.tables.proofs.Answered.{limits-known}
 use Rattle.changes.proofs.LoweringLaws.{lower-and-raise-is-press}
 use borrow.Author.Needs.{needs}
 use Rattle.checker.proofs.press_made.Statement.{statement}
@@ -19,7 +20,7 @@ same-length-2 c = search needs
 
 returns : tie.Need-returns
 returns c = let a = c .before .before .before .before .before .before .args in let h = c .before .before .before .before .before .before .pre .0 in let q = c .before .before .before .before .before .before .pre .1 .1 in
-    let room : a .case .n + a .case .m ≤ length (a .raised .now) = omega (arith, h .variables-most, h .edges-most, q .0) in
+    let room : a .case .n + a .case .m ≤ length (a .raised .now) = omega (arith, limits-known h .scopes-placed, q .0) in
     let e = rw (toZ-ofZ (c .before .before .before .before .before .before .fits .amount)) at (c .before .before .lower-and-raise .ensures) in
     let k = lower-and-raise-is-press h (c .before .before .before .before .before .before .pre .1 .0) (a .raised .now) (a .variable) (a .amount) room (q .1) (q .2) in
     ((e .0 ∙ k .0, e .1 ∙ k .1), rw (e .1, e .2) (k .2))

@@ -9,12 +9,15 @@ use borrow.Author.Needs.{needs}
 use Rattle.checker.proofs.press_on.Statement.{statement}
 use Rattle.checker.proofs.press_on.Tie as tie
 
+line-length-requires : tie.Need-line-length-requires
+line-length-requires c κs = search needs
+
 add-scopes : tie.Need-add-scopes
 add-scopes c = search needs
 
 next-of-requires : tie.Need-next-of-requires
-next-of-requires c κs = λ x e. let a = c .before .before .before in let p = goodReplay (holding (a .args .progress) (a .args .variable) (a .args .amount) (a .args .left) (a .args .last)) (a .args .raised .now) in
-    omega (arith, last-below (a .args .case) p (a .args .variable) (a .args .amount) (a .args .left) (a .args .last) refl (a .pre .1 .3) x e, a .pre .0 .variables, a .pre .0 .edges)
+next-of-requires c κs = λ x e. let a = c .before .before .before .before in let p = goodReplay (holding (a .args .progress) (a .args .variable) (a .args .amount) (a .args .left) (a .args .last)) (a .args .raised .now) in
+    omega (arith, last-below (a .args .case) p (a .args .variable) (a .args .amount) (a .args .left) (a .args .last) refl (a .pre .1 .3) x e, a .pre .0 .scopes-placed)
 
 raise-lines-requires : tie.Need-raise-lines-requires
 raise-lines-requires c κs = search needs
@@ -25,32 +28,33 @@ last-of-requires c κs = search needs
 with-due-requires : tie.Need-with-due-requires
 with-due-requires c κs = search needs
 
-sub-t20 : tie.Need-sub-t20
-sub-t20 c = search needs
+sub-t21 : tie.Need-sub-t21
+sub-t21 c = search needs
 
-add-t21 : tie.Need-add-t21
-add-t21 c = search needs
+add-t22 : tie.Need-add-t22
+add-t22 c = search needs
 
 same-length : tie.Need-same-length
 same-length c = search needs
 
 returns : tie.Need-returns
-returns c = let a = c .before .before .before .before .before .before .before .before .before .before .before .before in let k = c .before .before .before .before .before .before .raise-lines in (
+returns c = let a = c .before .before .before .before .before .before .before .before .before .before .before .before .before in let k = c .before .before .before .before .before .before .raise-lines in (
   (omega (arith, k .ensures .0, a .pre .1), omega (arith, k .ensures .0), k .ensures .0 .2),
   held-on (c .before .before .before .before .before .before .before .before .next-of .result) (k .result .next) (a .args .progress) (c .before .before .before .before .before .before .before .before .next-of .ensures) (c .before .before .before .last-of .ensures) (toZ-ofZ (a .fits .amount)) (ap (λ (t : Taken). t .progress) (c .before .before .with-due .ensures))
-      (k .ensures .1 (a .args .progress) (a .args .amount) (a .args .done)),
+      (rw (c .before .before .before .before .before .before .before .before .before .before .line-length .ensures) at (k .ensures .1 (a .args .progress) (a .args .amount) (a .args .done))),
 )
 
 pub press-on-spec : {M : Type 1} → statement M
 press-on-spec =
     tie.close
     (tie.spec
+    line-length-requires
     add-scopes
     next-of-requires
     raise-lines-requires
     last-of-requires
     with-due-requires
-    sub-t20
-    add-t21
+    sub-t21
+    add-t22
     same-length
     returns)

@@ -7,9 +7,10 @@ use lib.IntN.{natAbs}
 use mir.Syntax.{w64}
 use mir.Facts.{toZ-ofZ}
 use Rattle.integers.specs.Linear.{read-back}
-use Rattle.definitions.specs.Rules.{standard}
+use Rattle.definitions.specs.Rules.{rulesOf}
 use Rattle.definitions.specs.Case.{scopeCount}
 use Rattle.theory.proofs.Replays.{inside}
+use Rattle.tables.proofs.Answered.{limits-known}
 use Rattle.checker.specs.Checker.{notAboveLast, ofRaise}
 use Rattle.checker.proofs.Numbers.{from-zero}
 use borrow.Author.Needs.{needs}
@@ -28,7 +29,7 @@ refused-requires c κs = search needs
 returns : tie.Need-returns
 returns c = let a = c .before .before .before .before .before .before .args in let w = a .table .now in let r = a .raised .now in let l = a .line in let p = goodReplay (a .progress) r in let q = c .before .before .before .before .before .before .pre in
     let x = c .before .before .before .index .ensures ∙ ap natAbs (read-back w64 (l .a) (c .before .before .before .before .struct-told .given .1 .0 .1)) in
-    let k = ofRaise standard (a .case) w p (a .variable) (a .amount) (a .left) (a .last) l in
+    let k = ofRaise (rulesOf (a .case)) (a .case) w p (a .variable) (a .amount) (a .left) (a .last) l in
     let n = sym (c .before .before .not-above .ensures ∙ ap (notAboveLast (a .last)) x) in
     (taken-refused (c .refused .result) w w r k (c .refused .ensures) refl (raise-below (a .case) w p (a .variable) (a .amount) (a .left) (a .last) l (n ∙ c .before .if1 .taken)), q .1 .0)
 
@@ -38,7 +39,7 @@ refused-requires-2 c κs = search needs
 returns-2 : tie.Need-returns-2
 returns-2 c = let a = c .before .before .before .before .before .before .before .args in let w = a .table .now in let r = a .raised .now in let l = a .line in let p = goodReplay (a .progress) r in let q = c .before .before .before .before .before .before .before .pre in
     let x = c .before .before .before .before .index .ensures ∙ ap natAbs (read-back w64 (l .a) (c .before .before .before .before .before .struct-told .given .1 .0 .1)) in
-    let k = ofRaise standard (a .case) w p (a .variable) (a .amount) (a .left) (a .last) l in
+    let k = ofRaise (rulesOf (a .case)) (a .case) w p (a .variable) (a .amount) (a .left) (a .last) l in
     let n = sym (c .before .before .before .not-above .ensures ∙ ap (notAboveLast (a .last)) x) in
     (taken-refused (c .refused2 .result) w w r k (c .refused2 .ensures) refl (raise-own (a .case) w p (a .variable) (a .amount) (a .left) (a .last) l (n ∙ c .before .before .if1 .left) (eq-eqb (natAbs (l .a)) (a .variable) (sym x ∙ c .before .if2 .taken))), q .1 .0)
 
@@ -46,7 +47,7 @@ last-raise-requires : tie.Need-last-raise-requires
 last-raise-requires c κs = let a = c .before .before .before .before .before .before .before .before .before .before .args in let w = a .table .now in let r = a .raised .now in let l = a .line in let p = goodReplay (a .progress) r in let q = c .before .before .before .before .before .before .before .before .before .before .pre in
     let x = c .before .before .before .before .before .before .before .index .ensures ∙ ap natAbs (read-back w64 (l .a) (c .before .before .before .before .before .before .before .before .struct-told .given .1 .0 .1)) in
     let b = inside (scopeCount (a .case)) (l .a) (q .1 .1 .1) in
-    rw (toZ-ofZ (c .before .before .before .before .before .before .before .before .before .before .fits .amount)) (q .0, (q .1 .0, (q .1 .1 .0 .0, q .1 .1 .0 .1, q .1 .1 .0 .2, omega (arith, q .0 .variables-most, q .0 .edges-most))))
+    rw (toZ-ofZ (c .before .before .before .before .before .before .before .before .before .before .fits .amount)) (q .0, (q .1 .0, (q .1 .1 .0 .0, q .1 .1 .0 .1, q .1 .1 .0 .2, omega (arith, limits-known (q .0) .scopes-placed))))
 
 same-length : tie.Need-same-length
 same-length c = search needs
@@ -70,7 +71,7 @@ returns-3 c = let a = c .before .before .before .before .before .before .before 
 slice-write-raised : tie.Need-slice-write-raised
 slice-write-raised c = let a = c .before .before .before .before .before .before .before .args in let w = a .table .now in let r = a .raised .now in let l = a .line in let p = goodReplay (a .progress) r in let q = c .before .before .before .before .before .before .before .pre in
     let x = c .before .before .before .before .index .ensures ∙ ap natAbs (read-back w64 (l .a) (c .before .before .before .before .before .struct-told .given .1 .0 .1)) in
-    let b = inside (scopeCount (a .case)) (l .a) (q .1 .1 .1) in omega (arith, q .0 .variables-most, q .0 .edges-most, q .1 .1 .0 .0)
+    let b = inside (scopeCount (a .case)) (l .a) (q .1 .1 .1) in omega (arith, limits-known (q .0) .scopes-placed, q .1 .1 .0 .0)
 
 sub-t23 : tie.Need-sub-t23
 sub-t23 c = search needs
@@ -84,7 +85,7 @@ same-length-4 c = search needs
 returns-4 : tie.Need-returns-4
 returns-4 c = let a = c .before .before .before .before .before .before .before .before .args in let w = a .table .now in let r = a .raised .now in let l = a .line in let p = goodReplay (a .progress) r in let q = c .before .before .before .before .before .before .before .before .pre in
     let x = c .before .before .before .before .before .index .ensures ∙ ap natAbs (read-back w64 (l .a) (c .before .before .before .before .before .before .struct-told .given .1 .0 .1)) in
-    let k = ofRaise standard (a .case) w p (a .variable) (a .amount) (a .left) (a .last) l in
+    let k = ofRaise (rulesOf (a .case)) (a .case) w p (a .variable) (a .amount) (a .left) (a .last) l in
     let n = sym (c .before .before .before .before .not-above .ensures ∙ ap (notAboveLast (a .last)) x) in
     let o = ne-eqb (a .left) 1 (c .before .if3 .left) in (
       taken-done (c .with-due .result) w w _ p k (c .with-due .ensures) (raise-table (a .case) w (a .progress) r (a .variable) (a .amount) (a .left) (a .last) l o)

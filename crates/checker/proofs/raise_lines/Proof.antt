@@ -1,25 +1,29 @@
 -- Each line taken goes one line on, and the rest is left. Assumes nothing.
 use mathlib.Core.Path.{_≡_, sym, _∙_}
 use mathlib.Core.Logic.{_≢_}
-use Prim.Native.Nat.{_+_, _-_, _≤_, _<_}
+use mathlib.Core.Option.{some}
+use Prim.Native.Nat.{ℕ, _+_, _-_, _≤_, _<_}
 use native.Mathlib.Omega.{arith}
-use lib.ListN.{length, drop, length-set, length-drop}
+use lib.ListN.{length, take, drop, length-set, length-drop}
 use lib.Seq.{length-take-le}
 use Rattle.integers.specs.Tests.{tests}
+use Rattle.definitions.specs.Rules.{scopePlaces}
+use Rattle.definitions.specs.Lines.{readLine, lineLength}
+use Rattle.checker.specs.Raising.{raiseLine}
 use Rattle.checker.proofs.Raising.{Raised, none-raised, one-raised}
 use borrow.Author.Needs.{needs}
 use Rattle.checker.proofs.raise_lines.Statement.{statement}
 use Rattle.checker.proofs.raise_lines.Tie as tie
 
 abbrev Inv-loop : tie.InvT-loop
-Inv-loop raised₀ scopes variable left next bytes from more₀ above₀ at₀ raised more above at =
-    (more ≤ left) × (left + from ≤ more + at) × (at ≤ length bytes) × (length raised ≡ 144) × Raised scopes variable left next raised₀ bytes from more above raised at
+Inv-loop raised₀ line scopes variable left next bytes from more₀ above₀ at₀ raised more above at =
+    (more ≤ left) × (left + from ≤ more + at) × (at ≤ length bytes) × (length raised ≡ scopePlaces) × Raised line scopes variable left next raised₀ bytes from more above raised at
 
 abbrev μ-loop : tie.MeasureT-loop
-μ-loop raised₀ scopes variable left next bytes from more₀ above₀ at₀ raised more above at = more
+μ-loop raised₀ line scopes variable left next bytes from more₀ above₀ at₀ raised more above at = more
 
 loop-holds : tie.Need-loop-holds Inv-loop μ-loop
-loop-holds c = let a = c .before .before in (omega arith, omega arith, a .pre .2, a .pre .0, none-raised (a .args .scopes) (a .args .variable) (a .args .left) (a .args .next) (a .args .raised .now) (a .args .bytes .now) (a .args .from))
+loop-holds c = let a = c .before .before in (omega arith, omega arith, a .pre .2, a .pre .0, none-raised (a .args .line) (a .args .scopes) (a .args .variable) (a .args .left) (a .args .next) (a .args .raised .now) (a .args .bytes .now) (a .args .from))
 
 sub-if1 : tie.Need-sub-if1 Inv-loop μ-loop
 sub-if1 c = omega arith
@@ -43,9 +47,7 @@ part-raise-scope-end : tie.Need-part-raise-scope-end Inv-loop μ-loop
 part-raise-scope-end c = omega (arith, c .before .before .loop .inv, c .if1 .left)
 
 raise-scope-requires : tie.Need-raise-scope-requires Inv-loop μ-loop
-raise-scope-requires c κs = let l = c .before .before .before .loop in let b = c .before .before .before .before .before .before .args .bytes .now in
-    let z : (l .at + 27) - l .at ≡ 27 = omega arith in
-    rw z (length-take-le 27 (drop (l .at) b) (omega (arith, length-drop (l .at) b, l .inv, c .before .if1 .left)))
+raise-scope-requires c κs = search needs
 
 same-length-2 : tie.Need-same-length-2 Inv-loop μ-loop
 same-length-2 c = c .before .before .before .before .before .loop .inv .3 ∙ sym (c .before .before .before .before .before .before .before .before .pre .0)
@@ -71,14 +73,16 @@ loop-less c = omega (arith, c .before .before .before .before .loop-test .taken)
 
 loop-again : tie.Need-loop-again Inv-loop μ-loop
 loop-again c = let a = c .before .before .before .before .before .before .before .before .args in let l = c .before .before .before .before .before .loop in let b = a .bytes .now in let (below, above, other) = in-order c in
-    let long : 27 ≤ length (drop (l .at) b) = omega (arith, length-drop (l .at) b, l .inv, c .before .before .before .if1 .left) in
-    let z : (l .at + 27) - l .at ≡ 27 = omega arith in
-    let read = rw z at (c .before .raise-scope .ensures (omega (arith, below, c .before .before .before .before .before .before .before .before .pre .1))) in (
+    let long : a .line ≤ length (drop (l .at) b) = omega (arith, length-drop (l .at) b, l .inv, c .before .before .before .if1 .left) in
+    let z : (l .at + a .line) - l .at ≡ a .line = omega arith in
+    let scope = c .before .raise-scope in
+    let read : (width : ℕ) → lineLength width ≡ a .line → readLine width (take (a .line) (drop (l .at) b)) ≡ some (raiseLine (scope .result)) =
+    λ width e. (rw z at (scope .ensures)) width (length-take-le (a .line) (drop (l .at) b) long ∙ sym e) (omega (arith, below, c .before .before .before .before .before .before .before .before .pre .1)) in (
       omega (arith, l .inv),
       omega (arith, l .inv, c .before .before .before .before .loop-test .taken),
       omega (arith, l .inv, c .before .before .before .if1 .left),
       simp length-set (l .inv .3),
-      one-raised (a .scopes) (a .variable) (a .left) (a .next) (a .raised .now) b (a .from) (l .more) (l .above) (l .at) (c .before .raise-scope .result) (l .raised) (l .inv .4) long read (c .before .before .before .before .loop-test .taken) (l .inv .0) below above other,
+      one-raised (a .line) (a .scopes) (a .variable) (a .left) (a .next) (a .raised .now) b (a .from) (l .more) (l .above) (l .at) (c .before .raise-scope .result) (l .raised) (l .inv .4) long read (c .before .before .before .before .loop-test .taken) (l .inv .0) below above other,
     )
 
 same-length-3 : tie.Need-same-length-3 Inv-loop μ-loop

@@ -3,7 +3,7 @@ use mathlib.Core.Bool.{not}
 use lib.Dec.{T}
 use mir.Syntax.{w64}
 use Rattle.integers.specs.Linear.{read-back}
-use Rattle.definitions.specs.Rules.{standard}
+use Rattle.definitions.specs.Rules.{rulesOf}
 use Rattle.checker.specs.declared.Progress.{Progress}
 use Rattle.checker.specs.Checker.{recordOut}
 use Rattle.checker.specs.Taken.{goodReplay}
@@ -21,7 +21,7 @@ enum-known-due c = search needs
 press-on-requires : tie.Need-press-on-requires
 press-on-requires c κs = let a = c .before .before .before .before .before .before in let q = a .pre in let g = c .before .before .due .given in
     rw (read-back w64 (g .0 .1 .0) (c .before .known-told .given .1 .0 .1))
-    (q .0, (q .1 .0, q .1 .1, q .1 .2, subst (λ (p : Progress). T (not (recordOut standard (a .args .case) (goodReplay p (a .args .raised .now))))) (sym (held-whole (a .args .progress) (g .1))) (q .1 .3)))
+    (q .0, (q .1 .0, q .1 .1, q .1 .2, subst (λ (p : Progress). T (not (recordOut (rulesOf (a .args .case)) (a .args .case) (goodReplay p (a .args .raised .now))))) (sym (held-whole (a .args .progress) (g .1))) (q .1 .3)))
 
 returns : tie.Need-returns
 returns c = search needs

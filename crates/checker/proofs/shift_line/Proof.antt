@@ -1,5 +1,5 @@
 use mathlib.Core.Path.{refl}
-use Rattle.definitions.specs.Rules.{standard}
+use Rattle.definitions.specs.Rules.{rulesOf}
 use Rattle.definitions.specs.Refusals.{firstOf}
 use Rattle.checker.specs.Checker.{ofShift}
 use Rattle.checker.specs.Taken.{goodReplay}
@@ -32,7 +32,7 @@ same-length-2 c = search needs
 returns : tie.Need-returns
 returns c = (
   λ raised. let a = c .before .before .before .before .before .before .before .before .before .args in let w = a .table .now in let p = goodReplay (a .progress) raised in
-      let k = ofShift standard (a .case) w p (a .line) in
+      let k = ofShift (rulesOf (a .case)) (a .case) w p (a .line) in
       let (d, e) = c .before .before .before .before .before .before .shift-made .ensures .0 p in
       let (f, u) = call-refused (firstOf (k .later)) (k .table) w d e (c .before .before .made .given .1) in
       taken-refused (c .refused .result) _ w raised k (c .refused .ensures) u f,
@@ -48,7 +48,7 @@ same-length-4 c = search needs
 returns-2 : tie.Need-returns-2
 returns-2 c = (
   λ raised. let a = c .before .before .before .before .before .before .before .before .args in let w = a .table .now in let p = goodReplay (a .progress) raised in
-      let k = ofShift standard (a .case) w p (a .line) in
+      let k = ofShift (rulesOf (a .case)) (a .case) w p (a .line) in
       let (d, e) = c .before .before .before .before .before .shift-made .ensures .0 p in
       let (f, u) = call-done (firstOf (k .later)) (k .table) w d e (c .before .enum-told .given .1) in
       taken-done (c .after-move .result) _ w raised p k (c .after-move .ensures) u refl f,

@@ -1,7 +1,7 @@
 use mathlib.Core.Path.{ap, _∙_}
 use mir.Syntax.{w64}
 use Rattle.integers.specs.Linear.{read-back}
-use Rattle.definitions.specs.Rules.{standard}
+use Rattle.definitions.specs.Rules.{rulesOf}
 use Rattle.definitions.specs.Lines.{outside}
 use Rattle.definitions.specs.Moves.{shiftAmount}
 use borrow.Author.Needs.{needs}
@@ -26,7 +26,7 @@ returns c = λ w p. let a = c .before .before .before .before .before .before .b
       c .before .before .before .before .before .before .is-outside .ensures ∙ ap (outside (a .case .m)) (read-back w64 (l .a) (s .1 .0 .1)),
       c .before .before .before .before .is-outside2 .ensures ∙ ap (outside 2) (read-back w64 (l .b) (s .1 .1 .0 .1)),
       c .before .before .is-outside3 .ensures ∙ ap (outside (a .case .d)) (read-back w64 (l .c) (s .1 .1 .1 .0 .1)),
-      c .is-shift-amount .ensures ∙ ap (shiftAmount standard) (read-back w64 (l .amount) (s .1 .1 .1 .1 .0 .1)),
+      c .is-shift-amount .ensures ∙ ap (shiftAmount (rulesOf (a .case))) (read-back w64 (l .amount) (s .1 .1 .1 .1 .0 .1)),
     )
 
 pub shift-out-spec : {M : Type 1} → statement M

@@ -1,7 +1,7 @@
 use mathlib.Core.Path.{refl}
 use mir.Syntax.{w64}
 use Rattle.integers.specs.Linear.{read-back}
-use Rattle.definitions.specs.Rules.{standard}
+use Rattle.definitions.specs.Rules.{rulesOf}
 use Rattle.tables.proofs.Bounds.{same-bits, other-bits}
 use Rattle.checker.specs.Checker.{ofBound}
 use Rattle.checker.specs.Taken.{goodReplay}
@@ -17,7 +17,7 @@ refused-requires c κs = search needs
 returns : tie.Need-returns
 returns c = λ d w raised e. let s = c .before .before .before .before in let a = s .args in let l = a .line in let p = goodReplay (a .progress) raised in
     let m = c .before .before .struct-told .given .1 .1 .1 .1 .0 .1 in
-    taken-refused (c .refused .result) w w raised (ofBound standard d w p l) (c .refused .ensures) refl
+    taken-refused (c .refused .result) w w raised (ofBound (rulesOf d) d w p l) (c .refused .ensures) refl
     (other-bound d w p l e (other-bits (l .amount) (a .bound) m (s .fits .bound .sfits) (c .before .if1 .taken)))
 
 refused-requires-2 : tie.Need-refused-requires-2
@@ -27,7 +27,7 @@ returns-2 : tie.Need-returns-2
 returns-2 c = λ d w raised e. let k = c .before .before .before .before in let s = k .before .before .before in let a = s .args in let l = a .line in let p = goodReplay (a .progress) raised in
     let m = k .before .struct-told .given .1 .1 .1 .1 .0 .1 in
     let b = s .fits .bound .sfits in
-    taken-refused (c .refused2 .result) w w raised (ofBound standard d w p l) (c .refused2 .ensures) refl
+    taken-refused (c .refused2 .result) w w raised (ofBound (rulesOf d) d w p l) (c .refused2 .ensures) refl
     (not-lower d w p l e (same-bits (l .amount) (a .bound) m b (k .if1 .left))
     (simp (read-back w64 (a .progress .start) (c .before .before .struct-told2 .given .1 .0 .1), read-back w64 (a .bound) b) at (c .before .if2 .taken)))
 
@@ -39,7 +39,7 @@ returns-3 c = λ d w raised e. let k = c .before .before .before .before in let 
     let m = k .before .struct-told .given .1 .1 .1 .1 .0 .1 in
     let b = s .fits .bound .sfits in
     let n = same-numbers (l .amount) (a .bound) m b (k .if1 .left) in
-    taken-done (c .after-bound .result) w w raised p (ofBound standard d w p l) (c .after-bound .ensures) refl (rw (read-back w64 (a .bound) b, n))
+    taken-done (c .after-bound .result) w w raised p (ofBound (rulesOf d) d w p l) (c .after-bound .ensures) refl (rw (read-back w64 (a .bound) b, n))
     (lower d w p l e (same-bits (l .amount) (a .bound) m b (k .if1 .left))
     (simp (read-back w64 (a .progress .start) (c .before .before .struct-told2 .given .1 .0 .1), read-back w64 (a .bound) b) at (c .before .if2 .left)))
 

@@ -22,7 +22,7 @@ step-read-requires c κs = search needs
 
 returns : tie.Need-returns
 returns c = let a = c .before .before .before .before .before .args in
-    let e = step-missing (a .bytes .now) (c .before .before .before .read-line .ensures) (a .case) (a .table .now) (a .replay) (c .before .before .before .before .before .pre) (c .before .enum-told .given .1) in
+    let e = step-missing (a .case) (a .bytes .now) (c .before .before .before .read-line .ensures) (a .table .now) (a .replay) (c .before .before .before .before .before .pre) (c .before .enum-told .given .1) in
     (c .refuse .ensures ∙ sym (ap (λ (x : StepCall). x .stepped) e), sym (ap (λ (x : StepCall). x .table) e))
 
 same-length : tie.Need-same-length
@@ -30,7 +30,7 @@ same-length c = search needs
 
 returns-2 : tie.Need-returns-2
 returns-2 c = let a = c .before .before .before .before .before .before .before .before .args in
-    let e = step-line (a .bytes .now) (c .before .before .before .before .before .before .read-line .ensures) (a .case) (a .table .now) (a .replay) (c .before .before .before .before .before .before .before .before .pre) (c .before .before .before .before .read .given .1) in
+    let e = step-line (a .case) (a .bytes .now) (c .before .before .before .before .before .before .read-line .ensures) (a .table .now) (a .replay) (c .before .before .before .before .before .before .before .before .pre) (c .before .before .before .before .read .given .1) in
     (c .before .step-read .ensures .0 ∙ sym (ap (λ (x : StepCall). x .stepped) e), c .before .step-read .ensures .1 ∙ sym (ap (λ (x : StepCall). x .table) e))
 
 pub step-good-spec : {M : Type 1} → statement M

@@ -1,6 +1,6 @@
 use lib.ListN.{length}
 use mathlib.Core.Path.{_≡_, refl, sym, ap, subst, _∙_}
-use Rattle.definitions.specs.Rules.{standard}
+use Rattle.definitions.specs.Rules.{rulesOf, scopePlaces}
 use Rattle.definitions.specs.Refusals.{firstOf}
 use Rattle.definitions.specs.Answers.{outcomeOf}
 use mathlib.Core.Option.{some}
@@ -13,7 +13,7 @@ use borrow.Author.Needs.{needs}
 use Rattle.checker.proofs.step_read.Statement.{statement}
 use Rattle.checker.proofs.step_read.Tie as tie
 
-marks : (c : tie.Start) → length (c .args .replay .raised) ≡ 144
+marks : (c : tie.Start) → length (c .args .replay .raised) ≡ scopePlaces
 marks c = search needs
 
 progress-of-requires : tie.Need-progress-of-requires
@@ -73,7 +73,7 @@ same-length-2 c = search needs
 returns-2 : tie.Need-returns-2
 returns-2 c = let a = c .before .before .before .before .before .before .before .before .before .before .before .before .before .before .before .before .before .before .before .before .before .args in let w = a .table .now in let g = c .before .before .before .before .before .before .before .before .before .before .before .before .before .before .before .before .before .before .before .before .progress-of .result in let p = goodReplay g (a .replay .raised) in
     let f = front-done (a .case) w p (a .line) (sym (c .before .before .before .before .before .before .before .before .before .before .before .before .before .before .enum-told .given .1) ∙ c .before .before .before .before .before .before .before .before .before .before .before .before .before .before .before .before .check-line .ensures) .0 in
-    let e = c .before .before .before .before .before .before .take-line .ensures .0 ∙ sym f ∙ ap (λ (q : Replay). stepLine standard (a .case) w q (some (a .line))) (whole (a .replay) (c .before .before .before .before .before .before .before .before .before .before .before .before .before .before .before .before .before .before .before .before .before .pre) (c .before .before .before .before .before .before .before .before .before .before .before .before .before .before .before .before .before .before .before .before .progress-of .ensures)) in
+    let e = c .before .before .before .before .before .before .take-line .ensures .0 ∙ sym f ∙ ap (λ (q : Replay). stepLine (rulesOf (a .case)) (a .case) w q (some (a .line))) (whole (a .replay) (c .before .before .before .before .before .before .before .before .before .before .before .before .before .before .before .before .before .before .before .before .before .pre) (c .before .before .before .before .before .before .before .before .before .before .before .before .before .before .before .before .before .before .before .before .progress-of .ensures)) in
     (rw (c .record-of .ensures, c .before .stands .ensures) (ap (λ (x : StepCall). x .stepped) e), ap (λ (x : StepCall). x .table) e)
 
 pub step-read-spec : {M : Type 1} → statement M

@@ -2,7 +2,7 @@
 use mathlib.Core.Path.{ap, _∙_}
 use denote.Ref.{now}
 use Rattle.definitions.specs.declared.Case.{Case}
-use Rattle.definitions.specs.Rules.{standard}
+use Rattle.definitions.specs.Rules.{rulesOf}
 use Rattle.definitions.specs.Answers.{choiceSays}
 use Rattle.definitions.specs.Scoring.{betterOf}
 use Rattle.checker_library.specs.Answers.{choiceOf}
@@ -24,7 +24,7 @@ returns c =
     let s = c .before .before .before .before .before in
     c .choice-of .ensures
     ∙ ap (λ x. choiceOf (choiceSays x)) (c .before .better-of .ensures)
-    ∙ ap (λ (x : Case). choiceOf (choiceSays (betterOf standard x (now (s .args .table)) (now (s .args .first)) (now (s .args .second))))) (c .before .before .case-of .ensures)
+    ∙ ap (λ (x : Case). choiceOf (choiceSays (betterOf (rulesOf x) x (now (s .args .table)) (now (s .args .first)) (now (s .args .second))))) (c .before .before .case-of .ensures)
 
 pub ceiling-better-of-spec : {M : Type 1} → statement M
 ceiling-better-of-spec =

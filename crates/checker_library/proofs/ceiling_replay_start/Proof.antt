@@ -1,7 +1,7 @@
 -- A fresh record, and then its bytes. Assumes nothing.
 use mathlib.Core.Path.{ap, _∙_}
 use denote.Ref.{now}
-use Rattle.definitions.specs.Rules.{standard}
+use Rattle.definitions.specs.Rules.{rulesOf}
 use Rattle.definitions.specs.declared.Case.{Case}
 use Rattle.checker.specs.declared.Replay.{Replay}
 use Rattle.checker.specs.Checker.{standingSays, freshReplay}
@@ -28,7 +28,7 @@ unfolding startRecord
 returns c =
     let f = c .before .before .before in
     let s = f .before .before in
-    let e = f .fresh .ensures ∙ ap (λ (x : Case). freshReplay standard x (now (s .args .table))) (f .before .case-of .ensures) in
+    let e = f .fresh .ensures ∙ ap (λ (x : Case). freshReplay (rulesOf x) x (now (s .args .table))) (f .before .case-of .ensures) in
     (c .standing-number .ensures ∙ ap (λ (p : Replay). standingSays (p .standing) .number) e, c .before .write-record .ensures ∙ ap recordBytes e)
 
 pub ceiling-replay-start-spec : {M : Type 1} → statement M

@@ -6,7 +6,7 @@ use native.Mathlib.Omega.{arith}
 use denote.Ref.{now}
 use lib.Dec.{eqb}
 use lib.ListN.{length, getD}
-use Rattle.definitions.specs.Rules.{standard}
+use Rattle.definitions.specs.Rules.{rulesOf, edgePlaces, scopePlaces}
 use Rattle.definitions.specs.Refusals.{firstOf}
 use Rattle.definitions.specs.Answers.{outcomeOf}
 use Rattle.definitions.specs.Case.{scopeCount}
@@ -15,7 +15,7 @@ use Rattle.definitions.specs.Consistency.{refuted as refutedValue}
 use Rattle.definitions.specs.Calls.{isMarked, refutedAnswer}
 use Rattle.theory.proofs.Validity.{Handed}
 use Rattle.tables.specs.Scopes.{BestOf}
-use Rattle.tables.proofs.Answered.{verdict-refused, verdict-given}
+use Rattle.tables.proofs.Answered.{limits-known, verdict-refused, verdict-given}
 use Rattle.tables.proofs.Best.{greatest-known}
 use Rattle.consistency.specs.Arguments.{argumentsOut}
 use Rattle.consistency.proofs.Arguments.{arguments-known}
@@ -42,12 +42,12 @@ enum-told c = search needs
 
 -- what was checked, with the definitions for the arguments
 asked : (c : tie.After-check-working) → let a = c .before .before .before .before .args in
-    c .check-working .result ≡ outcomeOf (firstOf (handedOver standard (workingWeight standard) (a .case) (now (a .table))
+    c .check-working .result ≡ outcomeOf (firstOf (handedOver (rulesOf (a .case)) (workingWeight (rulesOf (a .case))) (a .case) (now (a .table))
     (not (eqb (length (now (a .raised))) (scopeCount (a .case)))) (argumentsOut (a .case) (now (a .raised)) (a .variable) (a .value))))
 asked c = rw (c .before .before .other-length .ensures, c .before .arguments-out .ensures) at (c .check-working .ensures)
 
 known : (c : tie.After-enum-told) → let a = c .before .before .before .before .before .before .args in
-    Handed standard (workingWeight standard) (a .case) (now (a .table))
+    Handed (rulesOf (a .case)) (workingWeight (rulesOf (a .case))) (a .case) (now (a .table))
     × ((length (now (a .raised)) ≡ scopeCount (a .case)) × ((x : ℕ) → x < scopeCount (a .case) → getD (now (a .raised)) x 0 ≤ 1) × (a .variable < a .case .n) × (a .value < a .case .d))
 known c =
     let a = c .before .before .before .before .before .before .args in
@@ -57,10 +57,10 @@ best-known : (c : tie.After-greatest-weights) → let a = c .before .before .bef
 best-known c =
     let a = c .before .before .before .before .before .before .before .before .args in
     let h = known (c .before .before) .0 in
-    let room : scopeCount (a .case) ≤ 144 = omega (arith, h .variables-most, h .edges-most) in
+    let room : scopeCount (a .case) ≤ scopePlaces = omega (arith, limits-known h .scopes-placed) in
     subst (BestOf (a .case) (now (a .table))) (sym (c .greatest-weights .ensures .1)) (greatest-known _ h room .1)
 
-ends : (c : tie.Start) → (length (c .args .case .lower) ≡ 96) × (length (c .args .case .upper) ≡ 96)
+ends : (c : tie.Start) → (length (c .args .case .lower) ≡ edgePlaces) × (length (c .args .case .upper) ≡ edgePlaces)
 ends c = (search needs, search needs)
 
 slice-aggregate-greatest-weights : tie.Need-slice-aggregate-greatest-weights
@@ -73,7 +73,7 @@ slice-aggregate-values-unsupported : tie.Need-slice-aggregate-values-unsupported
 slice-aggregate-values-unsupported c = search needs
 
 cast-only : tie.Need-cast-only
-cast-only c = let k = known (c .before .before .before .before) in omega (arith, k .1 .3, k .0 .values-most)
+cast-only c = let k = known (c .before .before .before .before) in omega (arith, k .1 .3, limits-known (k .0) .values-few)
 
 only-requires : tie.Need-only-requires
 only-requires c κs = search needs
@@ -94,11 +94,11 @@ returns-2 c =
     let s = c .before .before .before .before .before .before .before .before .before .before .before .before in
     let a = s .args in
     let k = known (c .before .before .before .before .before .before) in
-    let few = k .0 .edges-most in
+    let few = limits-known (k .0) .edges-placed in
     let e = ends s in
     let best = c .before .before .before .before .greatest-weights .last .1 .1 .0 in
     c .values-unsupported .ensures
-    ∙ ap (valuesUnsupportedAnswer standard (a .case) (now (a .table)) best (now (a .raised)) (a .variable)) (c .before .only .ensures)
+    ∙ ap (valuesUnsupportedAnswer (rulesOf (a .case)) (a .case) (now (a .table)) best (now (a .raised)) (a .variable)) (c .before .only .ensures)
     ∙ value-unsupported-is-refuted (a .case) (now (a .table)) (k .0) best (best-known (c .before .before .before .before)) (now (a .raised)) (omega (arith, k .1 .0)) (omega arith) (omega arith)
     (isMarked (now (a .raised))) (λ x u. marked-raised (now (a .raised)) x (k .1 .1 x u)) (a .variable) (a .value) (k .1 .2) (k .1 .3)
     ∙ verdict-given (a .case) (now (a .table)) (not (eqb (length (now (a .raised))) (scopeCount (a .case)))) (argumentsOut (a .case) (now (a .raised)) (a .variable) (a .value))

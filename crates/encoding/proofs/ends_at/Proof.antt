@@ -2,6 +2,7 @@
 use denote.Ref.{now}
 use mathlib.Core.Path.{refl}
 use lib.ListN.{replicate}
+use Rattle.definitions.specs.Rules.{edgePlaces}
 use Rattle.encoding.proofs.Values.{copied}
 use mathlib.Core.Path.{_∙_}
 use borrow.Author.Needs.{needs}
@@ -29,7 +30,7 @@ copy-requires c κs = search needs
 returns : tie.Need-returns
 returns c =
     let s = c .before .before .before .before .before in
-    c .before .copy .ensures .1 ∙ copied 96 (s .args .at) (now (s .args .bytes)) (replicate 96 0) (s .pre) refl
+    c .before .copy .ensures .1 ∙ copied edgePlaces (s .args .at) (now (s .args .bytes)) (replicate edgePlaces 0) (s .pre) refl
 
 pub ends-at-spec : {M : Type 1} → statement M
 ends-at-spec =

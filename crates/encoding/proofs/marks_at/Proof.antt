@@ -2,6 +2,7 @@
 use denote.Ref.{now}
 use mathlib.Core.Path.{refl}
 use lib.ListN.{replicate}
+use Rattle.definitions.specs.Rules.{scopePlaces}
 use Rattle.encoding.proofs.Values.{copied}
 use mathlib.Core.Path.{_∙_}
 use borrow.Author.Needs.{needs}
@@ -29,7 +30,7 @@ copy-requires c κs = search needs
 returns : tie.Need-returns
 returns c =
     let s = c .before .before .before .before .before in
-    c .before .copy .ensures .1 ∙ copied 144 (s .args .at) (now (s .args .bytes)) (replicate 144 0) (s .pre) refl
+    c .before .copy .ensures .1 ∙ copied scopePlaces (s .args .at) (now (s .args .bytes)) (replicate scopePlaces 0) (s .pre) refl
 
 pub marks-at-spec : {M : Type 1} → statement M
 marks-at-spec =

@@ -1,5 +1,6 @@
 -- Part after part. Assumes nothing.
 use native.Mathlib.Omega.{arith}
+use Rattle.definitions.specs.Rules.{edgePlaces}
 use Rattle.encoding.specs.CaseBytes.{caseBytes}
 use Rattle.encoding.proofs.Parts.{first-number, next-number, next-part, full}
 use borrow.Author.Needs.{needs}
@@ -31,8 +32,8 @@ returns c =
     let s = n .before .before in
     let t = s .args .t1 in
     let numbers = next-number (next-number (first-number (t .n) (n .put-number .ensures)) (t .d) (d .put-number2 .ensures)) (t .m) (m .put-number3 .ensures) in
-    let ends = next-part numbers (t .lower) 96 (e .put-ends .ensures .1) (e .put-ends .ensures .0) in
-    full (next-part ends (t .upper) 96 (c .put-ends2 .ensures .1) (c .put-ends2 .ensures .0)) (omega arith)
+    let ends = next-part numbers (t .lower) edgePlaces (e .put-ends .ensures .1) (e .put-ends .ensures .0) in
+    full (next-part ends (t .upper) edgePlaces (c .put-ends2 .ensures .1) (c .put-ends2 .ensures .0)) (omega arith)
 
 pub write-case-spec : {M : Type 1} → statement M
 write-case-spec =

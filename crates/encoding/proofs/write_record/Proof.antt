@@ -1,6 +1,7 @@
 -- Part after part. Assumes nothing.
 use native.Mathlib.Omega.{arith}
 use mathlib.Core.Path.{sym}
+use Rattle.definitions.specs.Rules.{scopePlaces}
 use Rattle.texts.proofs.Placed.{Printed}
 use mir.Syntax.{w64}
 use Rattle.integers.specs.Linear.{read-back}
@@ -35,7 +36,7 @@ returns c =
     let b = rw q at (tags .put-tags .ensures) in
     let one : Printed (recordNumbers (t .rounds) (t .start) (pressOf (t .due))) (s .args .out .now) (numbers .put-numbers .last .0) 48 =
     record { bytes = a; count = sym (numbers-length (t .rounds) (t .start) (pressOf (t .due))) } in
-    full (next-part (next-part one (recordTags (t .moved) (pressOf (t .due)) (t .standing)) 4 (tags-length (t .moved) (pressOf (t .due)) (t .standing)) b) (t .raised) 144 (c .put-marks .ensures .1) (c .put-marks .ensures .0)) (omega arith)
+    full (next-part (next-part one (recordTags (t .moved) (pressOf (t .due)) (t .standing)) 4 (tags-length (t .moved) (pressOf (t .due)) (t .standing)) b) (t .raised) scopePlaces (c .put-marks .ensures .1) (c .put-marks .ensures .0)) (omega arith)
 
 pub write-record-spec : {M : Type 1} → statement M
 write-record-spec =

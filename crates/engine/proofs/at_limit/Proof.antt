@@ -1,6 +1,7 @@
 use mathlib.Core.Path.{sym, ap, subst}
 use native.Mathlib.Omega.{arith}
 use denote.Ref.{now}
+use Rattle.tables.proofs.Answered.{limits-known}
 use Rattle.engine.specs.Search.{ChosenIs}
 use Rattle.engine.specs.Rounds.{limitAnswer}
 use Rattle.engine.proofs.Raising.{ones-raised}
@@ -18,7 +19,7 @@ slice-aggregate-prepare-3 : tie.Need-slice-aggregate-prepare-3
 slice-aggregate-prepare-3 c = search needs
 
 prepare-requires : tie.Need-prepare-requires
-prepare-requires c κs = let p = c .before .before .before .pre in (p, (omega (arith, p .variables-most), omega (arith, p .edges-most), omega (arith, p .variables-most, p .edges-most)))
+prepare-requires c κs = let p = c .before .before .before .pre in let l = limits-known p in (p, (omega (arith, l .variables-placed), omega (arith, l .edges-placed), omega (arith, l .scopes-placed)))
 
 slice-aggregate-choose : tie.Need-slice-aggregate-choose
 slice-aggregate-choose c = search needs
@@ -32,14 +33,15 @@ slice-aggregate-choose-3 c = search needs
 choose-requires : tie.Need-choose-requires
 choose-requires c κs =
     let p = c .before .before .before .before .before .before .before .before .before .before .pre in
-    (omega (arith, p .variables-most, p .edges-most), omega (arith, p .variables-most, c .before .before .before .before .before .before .prepare .kept .1 .1 .0), p .variables-most)
+    let l = limits-known p in
+    (omega (arith, l .scopes-placed), omega (arith, l .variables-placed, c .before .before .before .before .before .before .prepare .kept .1 .1 .0), l .variables-placed)
 
 -- what was chosen
 chose : (c : tie.After-choose) → let a = c .before .before .before .before .before .before .before .before .before .before .before .args in ChosenIs (a .case) (now (a .table)) (c .choose .result)
 chose c =
     let s = c .before .before .before .before .before .before .before .before .before .before .before in
     let p = s .pre in
-    c .choose .ensures .1 (now (s .args .table)) (c .before .before .before .before .before .before .before .prepare .ensures .0) (ones-raised (s .args .case) (omega (arith, p .variables-most, p .edges-most)))
+    c .choose .ensures .1 (now (s .args .table)) (c .before .before .before .before .before .before .before .prepare .ensures .0) (ones-raised (s .args .case) (omega (arith, limits-known p .scopes-placed)))
 
 enum-told : tie.Need-enum-told
 enum-told c = search needs

@@ -1,6 +1,5 @@
 use mathlib.Core.Path.{sym, _∙_}
 use borrow.Author.Tests.{not-true, not-false}
-use Rattle.definitions.specs.Rules.{standard}
 use Rattle.tables.proofs.Order.{limited}
 use borrow.Author.Needs.{needs}
 use Rattle.engine.proofs.check_engine.Statement.{statement}
@@ -13,7 +12,7 @@ returns : tie.Need-returns
 returns c = let e = sym (c .before .within-limits .ensures) ∙ not-true _ (c .if1 .taken) in rw e
 
 too-short-requires : tie.Need-too-short-requires
-too-short-requires c κs = limited standard (c .before .before .args .case) (sym (c .before .within-limits .ensures) ∙ not-false _ (c .if1 .left))
+too-short-requires c κs = limited (c .before .before .args .case) (sym (c .before .within-limits .ensures) ∙ not-false _ (c .if1 .left))
 
 check-working-requires : tie.Need-check-working-requires
 check-working-requires c κs = search needs

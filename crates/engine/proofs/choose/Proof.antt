@@ -8,6 +8,7 @@ use Rattle.engine.specs.Search.{saysRefuted, ChosenIn, ChosenIs, lowestR
 use Rattle.engine.proofs.Asking.{edgesOf}
 use Rattle.engine.proofs.Choice.{chosen-in, chosen-says, lowest-chosen}
 use borrow.Author.Needs.{needs}
+use Rattle.definitions.specs.Rules.{edgePlaces}
 use Rattle.engine.proofs.choose.Statement.{statement}
 use Rattle.engine.proofs.choose.Tie as tie
 
@@ -42,7 +43,7 @@ array-borrow-prefix-sets c = search needs
 prefix-length : (c : tie.After-copy-bytes) → length (take (c .before .before .before .before .before .before .before .before .args .case .n) (c .copy-bytes .last .1 .0)) ≡ c .before .before .before .before .before .before .before .before .args .case .n
 prefix-length c = length-take-le (c .before .before .before .before .before .before .before .before .args .case .n) (c .copy-bytes .last .1 .0) (omega (arith, c .before .before .before .before .before .before .before .before .pre .2, c .copy-bytes .kept .1 .0))
 
-ends : (c : tie.Start) → (length (c .args .case .lower) ≡ 96) × (length (c .args .case .upper) ≡ 96)
+ends : (c : tie.Start) → (length (c .args .case .lower) ≡ edgePlaces) × (length (c .args .case .upper) ≡ edgePlaces)
 ends c = (search needs, search needs)
 
 slice-aggregate-lowest-refuted-3 : tie.Need-slice-aggregate-lowest-refuted-3

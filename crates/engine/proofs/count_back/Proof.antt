@@ -17,6 +17,9 @@ loop-holds c = (omega arith, refl, refl)
 sub-left : tie.Need-sub-left Inv-loop μ-loop
 sub-left c = omega arith
 
+mul-count-arc : tie.Need-mul-count-arc Inv-loop μ-loop
+mul-count-arc c = omega arith
+
 shared-slice-read-count-arc : tie.Need-shared-slice-read-count-arc Inv-loop μ-loop
 shared-slice-read-count-arc c = omega arith
 
@@ -46,6 +49,7 @@ count-back-spec =
     μ-loop
     loop-holds
     sub-left
+    mul-count-arc
     shared-slice-read-count-arc
     count-arc-requires
     loop-less

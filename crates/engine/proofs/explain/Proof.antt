@@ -3,6 +3,7 @@ use native.Mathlib.Omega.{arith}
 use mathlib.Core.Path.{_≡_, sym}
 use lib.ListN.{length, length-set, length-take, length-drop}
 use lib.Seq.{length-take-le}
+use Rattle.definitions.specs.Rules.{edgePlaces}
 use Rattle.engine.proofs.explain.Statement.{statement}
 use Rattle.engine.proofs.explain.Tie as tie
 
@@ -45,7 +46,7 @@ slice-aggregate-note-strikes-3 c = search needs
 slice-aggregate-note-strikes-4 : tie.Need-slice-aggregate-note-strikes-4
 slice-aggregate-note-strikes-4 c = search needs
 
-ends : (c : tie.Start) → (length (c .args .case .lower) ≡ 96) × (length (c .args .case .upper) ≡ 96)
+ends : (c : tie.Start) → (length (c .args .case .lower) ≡ edgePlaces) × (length (c .args .case .upper) ≡ edgePlaces)
 ends c = (search needs, search needs)
 
 note-strikes-requires : tie.Need-note-strikes-requires

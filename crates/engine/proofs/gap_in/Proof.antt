@@ -8,9 +8,7 @@ use mir.Val.{toZ, ofZ}
 use mir.Facts.{toZ-ofZ}
 use Rattle.integers.specs.Tables.{all-getD}
 use Rattle.integers.specs.Linear.{read-back}
-use Rattle.definitions.specs.Rules.{standard}
-use Rattle.definitions.specs.Valid.{workingWeight}
-use Rattle.engine.specs.Gaps.{lesserGap, lessGaps}
+use Rattle.engine.specs.Gaps.{smallWeight, lesserGap, lessGaps}
 use Rattle.engine.proofs.Amounts.{gaps-next, gaps-end}
 use Rattle.engine.proofs.gap_in.Statement.{statement}
 use Rattle.engine.proofs.gap_in.Tie as tie
@@ -34,7 +32,7 @@ lesser-gap-requires : tie.Need-lesser-gap-requires Inv-loop μ-loop
 lesser-gap-requires c κs = let s = c .before .before in
     let a = c .before .before .before in
     let p = a .args .part .now in (
-      rw (read-back w64 (getD p (s .loop .j) (pos 0)) (c .lesser-gap-arg .given)) (all-getD (workingWeight standard) p (pos 0) .0 (a .pre .0) (s .loop .j) (omega arith)),
+      rw (read-back w64 (getD p (s .loop .j) (pos 0)) (c .lesser-gap-arg .given)) (all-getD smallWeight p (pos 0) .0 (a .pre .0) (s .loop .j) (omega arith)),
       rw (toZ-ofZ (a .fits .best)) (a .pre .1),
     )
 

@@ -3,6 +3,7 @@ use mathlib.Core.Path.{_≡_, refl, _∙_}
 use Prim.Native.Nat.{_+_, _*_, _-_, _≤_}
 use native.Mathlib.Omega.{arith}
 use lib.ListN.{length}
+use Rattle.definitions.specs.Rules.{edgePlaces}
 use Rattle.engine.proofs.note_strikes.Statement.{statement}
 use Rattle.engine.proofs.note_strikes.Tie as tie
 
@@ -11,7 +12,7 @@ Inv-loop lower upper rows edges sets₀ noted₀ count₀ quiet₀ e₀ sets not
     (count ≤ length noted₀) × (quiet ≤ length edges) × (e ≤ length edges - 1) × (length sets ≡ length sets₀) × (length noted ≡ length noted₀)
 
 abbrev μ-loop : tie.MeasureT-loop
-μ-loop lower upper rows edges sets₀ noted₀ count₀ quiet₀ e₀ sets noted count quiet e = (length noted₀ - count) * 97 + (96 - quiet)
+μ-loop lower upper rows edges sets₀ noted₀ count₀ quiet₀ e₀ sets noted count quiet e = (length noted₀ - count) * (edgePlaces + 1) + (edgePlaces - quiet)
 
 loop-holds : tie.Need-loop-holds Inv-loop μ-loop
 loop-holds c = (omega arith, omega arith, omega arith, refl, refl)

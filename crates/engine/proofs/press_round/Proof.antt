@@ -10,12 +10,13 @@ use denote.Ref.{now}
 use Rattle.integers.specs.Linear.{read-back}
 use Rattle.definitions.specs.declared.Figure.{Figure}
 use Rattle.definitions.specs.declared.Outcome.{Outcome}
+use Rattle.definitions.specs.Rules.{coherent}
 use Rattle.definitions.specs.Case.{upperBound}
 use Rattle.definitions.specs.Engine.{leastGap}
 use Rattle.tables.proofs.Best.{best-sum-known}
 use Rattle.engine_theory.proofs.Trim.{chosen-some}
 use Rattle.engine.specs.Rounds.{Pressed}
-use Rattle.engine.proofs.Rounds.{amount-within, count-room, made-refused, handed-after, press-fits, bound-fits, made-done}
+use Rattle.engine.proofs.Rounds.{amount-within, count-room, made-refused, handed-after, press-in, bound-in, made-done}
 use borrow.Author.Needs.{needs}
 use Rattle.engine.proofs.press_round.Statement.{statement}
 use Rattle.engine.proofs.press_round.Tie as tie
@@ -78,21 +79,26 @@ enum-known-sum c = search needs
 enum-known-sum-2 : tie.Need-enum-known-sum-2
 enum-known-sum-2 c = search needs
 
+amount-width-requires : tie.Need-amount-width-requires
+amount-width-requires c κs = search needs
+
 write-round-requires : tie.Need-write-round-requires
 write-round-requires c κs =
-    let s = c .before .before .before .before .before .before .before .before .before .before .before .before .before .before .before .before .before .before .before in
+    let s = c .before .before .before .before .before .before .before .before .before .before .before .before .before .before .before .before .before .before .before .before in
     let a = s .args in
-    let d = pressed-done (c .before .before .before .before .before .before) in
+    let d = pressed-done (c .before .before .before .before .before .before .before) in
     let w = s .pre .1 .1 .1 .0 in
     let k = s .pre .1 .1 .1 .1 in
-    let g = amount (c .before .before .before .before .before .before .before .before .before .before .before .before .before) in (
+    let g = amount (c .before .before .before .before .before .before .before .before .before .before .before .before .before .before) in
+    let few = coherent (a .case .rulebook) .scopes-few in
+    rw (c .before .amount-width .ensures) (
       (
         s .pre .1 .1 .0 .0,
-        omega (arith, s .pre .0 .variables-most, s .pre .0 .edges-most),
-        omega (arith, s .pre .0 .variables-most, chosen-some (a .case) (now (a .table)) w .0),
+        omega (arith, few, s .pre .0 .variables-most, s .pre .0 .edges-most),
+        omega (arith, few, s .pre .0 .variables-most, chosen-some (a .case) (now (a .table)) w .0),
         count-room (s .pre .0) w g (now (a .raised)) k (s .pre .1 .1 .0 .1),
       ),
-      (press-fits (s .pre .0) w g (now (a .raised)) k (now (a .out)) (s .pre .1 .1 .0 .1) d, bound-fits (s .pre .0) w g (now (a .raised)) k (now (a .out)) (s .pre .1 .1 .0 .1) d (bound (c .before))),
+      (press-in (s .pre .0) w g (now (a .raised)) k (now (a .out)) (s .pre .1 .1 .0 .1) d, bound-in (s .pre .0) w g (now (a .raised)) k (now (a .out)) (s .pre .1 .1 .0 .1) d (bound (c .before .before))),
     )
 
 same-length : tie.Need-same-length
@@ -130,9 +136,9 @@ same-length-7 c = search needs
 
 returns-3 : tie.Need-returns-3
 returns-3 c =
-    let s = c .before .before .before .before .before .before .before .before .before .before .before .before .before .before .before .before .before .before .before .before .before .before in
+    let s = c .before .before .before .before .before .before .before .before .before .before .before .before .before .before .before .before .before .before .before .before .before .before .before in
     let a = s .args in
-    made-done (s .pre .0) (s .pre .1 .1 .1 .0) (amount (c .before .before .before .before .before .before .before .before .before .before .before .before .before .before .before .before)) (now (a .raised)) (s .pre .1 .1 .1 .1) (now (a .out)) (s .pre .1 .1 .0 .1) (pressed-done (c .before .before .before .before .before .before .before .before .before)) (bound (c .before .before .before .before)) (c .before .before .write-round .ensures .0) (c .before .before .write-round .ensures .1)
+    made-done (s .pre .0) (s .pre .1 .1 .1 .0) (amount (c .before .before .before .before .before .before .before .before .before .before .before .before .before .before .before .before .before)) (now (a .raised)) (s .pre .1 .1 .1 .1) (now (a .out)) (s .pre .1 .1 .0 .1) (pressed-done (c .before .before .before .before .before .before .before .before .before .before)) (c .before .before .before .before .amount-width .ensures) (bound (c .before .before .before .before .before)) (c .before .before .write-round .ensures .0) (c .before .before .write-round .ensures .1)
 
 pub press-round-spec : {M : Type 1} → statement M
 press-round-spec =
@@ -146,6 +152,7 @@ press-round-spec =
     sum-of-best-requires
     enum-known-sum
     enum-known-sum-2
+    amount-width-requires
     write-round-requires
     same-length
     same-length-2

@@ -1,12 +1,15 @@
 use mathlib.Core.Path.{_≡_, ap}
 use mathlib.Core.Bool.{true, not}
+use mathlib.Core.List.{List}
+use Prim.Native.Nat.{ℕ, _*_}
 use native.Mathlib.Omega.{arith}
 use lib.ListN.{length}
 use denote.Ref.{now}
 use borrow.Author.Needs.{needs}
 use borrow.Author.Tests.{eq-eqb, ne-eqb}
+use Rattle.definitions.specs.Lines.{lineLength}
 use Rattle.engine.specs.Search.{isRaised}
-use Rattle.engine.proofs.Texts.{put-none, put-one, one-raised, raise-fits}
+use Rattle.engine.proofs.Texts.{put-none, put-one, one-raised, raise-in}
 use Rattle.engine.proofs.put_raise.Statement.{statement}
 use Rattle.engine.proofs.put_raise.Tie as tie
 
@@ -14,7 +17,7 @@ shared-slice-read-if1 : tie.Need-shared-slice-read-if1
 shared-slice-read-if1 c = search needs
 
 returns : tie.Need-returns
-returns c = let a = c .before .before .before .before .args in put-none (now (a .raised)) (a .x) (ap not (eq-eqb _ _ (c .if1 .taken))) (a .at) (now (a .out))
+returns c = let a = c .before .before .before .before .args in put-none (a .width) (now (a .raised)) (a .x) (ap not (eq-eqb _ _ (c .if1 .taken))) (a .at) (now (a .out))
 
 raised-at : (c : tie.Else1) → let a = c .before .before .before .before .args in isRaised (now (a .raised)) (a .x) ≡ true
 raised-at c = ap not (ne-eqb _ _ (c .if1 .left))
@@ -26,7 +29,7 @@ put-line-requires : tie.Need-put-line-requires
 put-line-requires c κs =
     let s = c .before .before .before .before .before .before in
     let a = s .args in
-    (omega (arith, s .pre .2, ap length (one-raised (now (a .raised)) (a .x) (raised-at (c .before .before)))), rw (c .raise-line .ensures) (raise-fits (a .x) (s .pre .1)))
+    (omega (arith, s .pre .2, ap (λ (l : List ℕ). lineLength (a .width) * length l) (one-raised (now (a .raised)) (a .x) (raised-at (c .before .before)))), rw (c .raise-line .ensures) (raise-in (a .width) (a .x) (s .pre .3) (s .pre .1)))
 
 same-length : tie.Need-same-length
 same-length c = search needs
@@ -35,7 +38,7 @@ returns-2 : tie.Need-returns-2
 returns-2 c =
     let a = c .before .before .before .before .before .before .before .before .before .args in
     let e = rw (c .before .before .before .raise-line .ensures) at (c .before .before .put-line .ensures) in
-    put-one (now (a .raised)) (a .x) (raised-at (c .before .before .before .before .before)) (e .0) (e .1)
+    put-one (a .width) (now (a .raised)) (a .x) (raised-at (c .before .before .before .before .before)) (e .0) (e .1)
 
 pub put-raise-spec : {M : Type 1} → statement M
 put-raise-spec =

@@ -3,20 +3,21 @@ use Prim.Native.Nat.{ℕ, _+_, _*_, _-_, _≤_}
 use native.Mathlib.Omega.{arith}
 use lib.ListN.{length}
 use denote.Ref.{now}
+use Rattle.definitions.specs.Lines.{lineLength}
 use Rattle.engine.specs.Texts.{raisedBelow}
-use Rattle.engine.proofs.Texts.{Put, puts-none, puts-next, raised-room}
+use Rattle.engine.proofs.Texts.{Put, puts-none, puts-next, line-room}
 use Rattle.engine.proofs.put_raises.Statement.{statement}
 use Rattle.engine.proofs.put_raises.Tie as tie
 
 abbrev Inv-loop : tie.InvT-loop
-Inv-loop out₀ from raised scopes at₀ x₀ out at x =
-    (x ≤ scopes) × (length out ≡ length out₀) × ((at ≡ from + 27 * length (raisedBelow raised x)) × Put from (raisedBelow raised x) at out₀ out)
+Inv-loop out₀ from raised scopes width at₀ x₀ out at x =
+    (x ≤ scopes) × (length out ≡ length out₀) × ((at ≡ from + lineLength width * length (raisedBelow raised x)) × Put width from (raisedBelow raised x) at out₀ out)
 
 abbrev μ-loop : tie.MeasureT-loop
-μ-loop out₀ from raised scopes at₀ x₀ out at x = scopes - x
+μ-loop out₀ from raised scopes width at₀ x₀ out at x = scopes - x
 
 loop-holds : tie.Need-loop-holds Inv-loop μ-loop
-loop-holds c = let a = c .before .before .args in (omega arith, refl, puts-none (a .from) (now (a .out)))
+loop-holds c = let a = c .before .before .args in (omega arith, refl, puts-none (a .width) (a .from) (now (a .out)))
 
 put-raise-requires : tie.Need-put-raise-requires Inv-loop μ-loop
 put-raise-requires c κs =
@@ -24,7 +25,8 @@ put-raise-requires c κs =
     let s = c .before .before .before .before .before in (
       omega (arith, s .pre, c .before .loop-test .taken),
       omega (arith, s .pre, c .before .loop-test .taken),
-      omega (arith, s .pre, l .loop .inv, raised-room (now (s .args .raised)) (l .loop .x) (s .args .scopes) (c .before .loop-test .taken)),
+      omega (arith, s .pre, l .loop .inv, line-room (s .args .width) (now (s .args .raised)) (l .loop .x) (s .args .scopes) (c .before .loop-test .taken)),
+      s .pre .3,
     )
 
 add-x : tie.Need-add-x Inv-loop μ-loop
@@ -38,7 +40,7 @@ loop-again c =
     let l = c .before .before .before .before .before in
     let a = c .before .before .before .before .before .before .before .before .args in
     let r = c .before .before .put-raise in
-    (omega (arith, c .before .before .before .before .loop-test .taken), r .kept .0 ∙ l .loop .inv .1, puts-next (now (a .raised)) (l .loop .x) (l .loop .inv .2 .0) (l .loop .inv .2 .1) (r .ensures))
+    (omega (arith, c .before .before .before .before .loop-test .taken), r .kept .0 ∙ l .loop .inv .1, puts-next (a .width) (now (a .raised)) (l .loop .x) (l .loop .inv .2 .0) (l .loop .inv .2 .1) (r .ensures))
 
 same-length : tie.Need-same-length Inv-loop μ-loop
 same-length c = c .before .loop .inv .1
@@ -48,7 +50,7 @@ returns c =
     let l = c .before in
     let a = c .before .before .before .before .args in
     let e : l .loop .x ≡ a .scopes = omega (arith, c .loop-test .left, l .loop .inv) in
-    subst (λ (x : ℕ). (l .loop .at ≡ a .from + 27 * length (raisedBelow (now (a .raised)) x)) × Put (a .from) (raisedBelow (now (a .raised)) x) (l .loop .at) (now (a .out)) (l .loop .out)) e (l .loop .inv .2)
+    subst (λ (x : ℕ). (l .loop .at ≡ a .from + lineLength (a .width) * length (raisedBelow (now (a .raised)) x)) × Put (a .width) (a .from) (raisedBelow (now (a .raised)) x) (l .loop .at) (now (a .out)) (l .loop .out)) e (l .loop .inv .2)
 
 pub put-raises-spec : {M : Type 1} → statement M
 put-raises-spec =

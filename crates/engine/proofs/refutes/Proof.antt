@@ -8,6 +8,7 @@ use denote.Ref.{now}
 use Rattle.integers.specs.Words.{if_then_else_}
 use Rattle.engine.specs.Search.{saysRefuted, isRaised}
 use Rattle.engine.proofs.Asking.{asked-says}
+use Rattle.definitions.specs.Rules.{edgePlaces}
 use Rattle.engine.proofs.refutes.Statement.{statement}
 use Rattle.engine.proofs.refutes.Tie as tie
 
@@ -47,7 +48,7 @@ array-share-prefix-sets c = search needs
 room : (c : tie.After-allow) → c .before .before .before .before .before .before .before .before .before .before .args .case .n ≤ length (c .allow .last .1 .1 .1 .0)
 room c = omega (arith, c .before .before .before .before .before .before .before .before .before .before .pre .3, c .allow .kept .1 .1 .1 .0)
 
-ends : (c : tie.Start) → (length (c .args .case .lower) ≡ 96) × (length (c .args .case .upper) ≡ 96)
+ends : (c : tie.Start) → (length (c .args .case .lower) ≡ edgePlaces) × (length (c .args .case .upper) ≡ edgePlaces)
 ends c = (search needs, search needs)
 
 slice-aggregate-none-supported-3 : tie.Need-slice-aggregate-none-supported-3

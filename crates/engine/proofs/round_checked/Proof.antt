@@ -1,6 +1,7 @@
 use mathlib.Core.Path.{subst}
 use native.Mathlib.Omega.{arith}
 use denote.Ref.{now}
+use Rattle.tables.proofs.Answered.{limits-known}
 use Rattle.engine.specs.declared.Chosen.{Chosen}
 use Rattle.engine.specs.Search.{FoundIs}
 use Rattle.engine.proofs.Raising.{ones-raised}
@@ -19,7 +20,7 @@ slice-aggregate-prepare-3 : tie.Need-slice-aggregate-prepare-3
 slice-aggregate-prepare-3 c = search needs
 
 prepare-requires : tie.Need-prepare-requires
-prepare-requires c κs = let p = c .before .before .before .before .before .pre .0 in (p, (omega (arith, p .variables-most), omega (arith, p .edges-most), omega (arith, p .variables-most, p .edges-most)))
+prepare-requires c κs = let p = c .before .before .before .before .before .pre .0 in let l = limits-known p in (p, (omega (arith, l .variables-placed), omega (arith, l .edges-placed), omega (arith, l .scopes-placed)))
 
 slice-aggregate-search : tie.Need-slice-aggregate-search
 slice-aggregate-search c = search needs
@@ -33,14 +34,15 @@ slice-aggregate-search-3 c = search needs
 search-requires : tie.Need-search-requires
 search-requires c κs =
     let p = c .before .before .before .before .before .before .before .before .before .before .before .before .pre .0 in
-    (omega (arith, p .variables-most, p .edges-most), omega (arith, p .variables-most, c .before .before .before .before .before .before .prepare .kept .1 .1 .0), p .variables-most, p .values-most, p .edges-most)
+    let l = limits-known p in
+    (omega (arith, l .scopes-placed), omega (arith, l .variables-placed, c .before .before .before .before .before .before .prepare .kept .1 .1 .0), l .variables-placed, l .values-few, l .edges-placed)
 
 -- what was found
 found-is : (c : tie.After-search) → let a = c .before .before .before .before .before .before .before .before .before .before .before .before .before .args in FoundIs (a .case) (now (a .table)) (c .search .last .1 .1 .1 .0) (c .search .result)
 found-is c =
     let s = c .before .before .before .before .before .before .before .before .before .before .before .before .before in
     let p = s .pre .0 in
-    c .search .ensures (now (s .args .table)) (c .before .before .before .before .before .before .before .prepare .ensures .0) (ones-raised (s .args .case) (omega (arith, p .variables-most, p .edges-most)))
+    c .search .ensures (now (s .args .table)) (c .before .before .before .before .before .before .before .prepare .ensures .0) (ones-raised (s .args .case) (omega (arith, limits-known p .scopes-placed)))
 
 enum-told : tie.Need-enum-told
 enum-told c = search needs
@@ -60,7 +62,7 @@ press-round-requires c κs =
     let a = s .args in
     let h = c .before .before .before .before .before .before .before .before .search in
     let q = subst (λ (r : Chosen). FoundIs (a .case) (now (a .table)) (h .last .1 .1 .1 .0) r) (c .before .before .before .before .before .found .given .1) (found-is (c .before .before .before .before .before .before .before .before)) in
-    (s .pre .0, (c .before .before .before .before .before .before .before .before .before .before .before .before .before .before .before .prepare .ensures .1, ((omega (arith, s .pre .0 .variables-most, s .pre .0 .edges-most, h .kept .1 .1 .1 .0), s .pre .1), q)))
+    (s .pre .0, (c .before .before .before .before .before .before .before .before .before .before .before .before .before .before .before .prepare .ensures .1, ((omega (arith, limits-known (s .pre .0) .scopes-placed, h .kept .1 .1 .1 .0), s .pre .1), q)))
 
 same-length : tie.Need-same-length
 same-length c = search needs

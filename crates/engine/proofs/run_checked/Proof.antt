@@ -4,7 +4,7 @@ use native.Mathlib.Omega.{arith}
 use lib.ListN.{length}
 use denote.Ref.{now}
 use Rattle.definitions.specs.declared.Round.{Round}
-use Rattle.definitions.specs.Rules.{standard}
+use Rattle.definitions.specs.Rules.{rulesOf}
 use Rattle.definitions.specs.Valid.{workingWeight}
 use Rattle.definitions.specs.Engine.{roundBytes}
 use Rattle.theory.proofs.Validity.{Handed}
@@ -16,7 +16,7 @@ use Rattle.engine.proofs.run_checked.Tie as tie
 
 abbrev Inv-loop : tie.InvT-loop
 Inv-loop case table₀ out₀ limit done₀ table out done =
-    (done ≤ limit) × (length table ≡ length table₀) × (length out ≡ length out₀) × Handed standard (workingWeight standard) case table × Going case limit table₀ out₀ done table out
+    (done ≤ limit) × (length table ≡ length table₀) × (length out ≡ length out₀) × Handed (rulesOf case) (workingWeight (rulesOf case)) case table × Going case limit table₀ out₀ done table out
 
 abbrev μ-loop : tie.MeasureT-loop
 μ-loop case table₀ out₀ limit done₀ table out done = limit - done
@@ -99,7 +99,7 @@ loop-again c =
     let s = c .before .before .before .before .before .before .before .before .before .before .before in
     let l = c .before .before .before .before .before .before .before .before .before .loop in
     let r = c .before .before .before .before .before .round-checked in
-    let long : roundBytes standard (s .args .case) ≤ length (l .out) = omega (arith, s .pre .1, l .inv .2) in (
+    let long : roundBytes (rulesOf (s .args .case)) (s .args .case) ≤ length (l .out) = omega (arith, s .pre .1, l .inv .2) in (
       omega (arith, c .before .before .before .before .before .before .before .before .loop-test .taken),
       r .kept .1 .0 ∙ l .inv .1,
       r .kept .1 .1 .0 ∙ l .inv .2,

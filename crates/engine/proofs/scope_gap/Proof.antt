@@ -10,20 +10,21 @@ use mir.Facts.{toZ-ofZ}
 use borrow.Author.Needs.{needs}
 use denote.Ref.{now}
 use Rattle.integers.specs.Linear.{read-back}
+use Rattle.definitions.specs.Rules.{coherent}
 use Rattle.definitions.specs.Case.{place, eachTuple, weight}
 use Rattle.tables.specs.Scopes.{sizeOf}
 use Rattle.tables.proofs.Parts.{part-own, scope-part}
-use Rattle.tables.proofs.Answered.{greatest-working}
+use Rattle.tables.proofs.Answered.{limits-known, greatest-working}
 use Rattle.engine.specs.Gaps.{lessGaps}
-use Rattle.engine.proofs.Amounts.{part-working}
+use Rattle.engine.proofs.Amounts.{working-small, part-small}
 use Rattle.engine.proofs.scope_gap.Statement.{statement}
 use Rattle.engine.proofs.scope_gap.Tie as tie
 
 first-place-requires : tie.Need-first-place-requires
-first-place-requires c κs = search needs
+first-place-requires c κs = (limits-known (c .pre .0), c .pre .1 .0)
 
 size-of-requires : tie.Need-size-of-requires
-size-of-requires c κs = search needs
+size-of-requires c κs = limits-known (c .before .pre .0)
 
 -- where the scope's part begins, and how long it is
 part-at : (c : tie.After-size-of) → let s = c .before .before in let a = s .args in
@@ -59,7 +60,7 @@ part-gap-in-end c = omega (arith, part-at c)
 gap-in-requires : tie.Need-gap-in-requires
 gap-in-requires c κs =
     let s = c .before .before .before in
-    (rw (part-is (c .before)) (part-working (s .pre .0) (s .args .x) (s .pre .1 .0)), rw (toZ-ofZ (s .fits .best), s .pre .1 .1) (greatest-working (s .pre .0) (s .args .x) (s .pre .1 .0)))
+    (rw (part-is (c .before)) (part-small (s .pre .0) (s .args .x) (s .pre .1 .0)), rw (toZ-ofZ (s .fits .best), s .pre .1 .1) (working-small (coherent (s .args .case .rulebook)) _ (greatest-working (s .pre .0) (s .args .x) (s .pre .1 .0))))
 
 returns : tie.Need-returns
 returns c =

@@ -7,7 +7,7 @@ use denote.Ref.{now}
 use Rattle.definitions.specs.Lines.{lineText}
 use Rattle.definitions.specs.Engine.{boundLine}
 use Rattle.engine.specs.Texts.{raisedBelow, raiseTexts, pressLine}
-use Rattle.engine.proofs.Texts.{raised-few}
+use Rattle.engine.proofs.Texts.{line-width, raised-few}
 use borrow.Author.Needs.{needs}
 use Rattle.engine.proofs.write_round.Statement.{statement}
 use Rattle.engine.proofs.write_round.Tie as tie
@@ -26,7 +26,10 @@ put-line-requires : tie.Need-put-line-requires
 put-line-requires c κs = let s = c .before .before .before .before .before in (omega (arith, s .pre .0 .3), rw (first-line c) (s .pre .1 .0))
 
 put-raises-requires : tie.Need-put-raises-requires
-put-raises-requires c κs = search needs
+put-raises-requires c κs =
+    let s = c .before .before .before .before .before .before .before .before .before in
+    let p = c .before .before .before .put-line in
+    (s .pre .0 .0, s .pre .0 .1, omega (arith, s .pre .0 .3, p .ensures .0, p .kept .0), line-width (s .args .width) (boundLine (s .args .bound)) (s .pre .1 .1))
 
 bound-line-requires : tie.Need-bound-line-requires
 bound-line-requires c κs = search needs
@@ -47,12 +50,12 @@ returns c =
     let s = c .before .before .before .before .before .before .before .before .before .before .before .before .before .before .before .before .before in
     let a = s .args in
     let xs = raisedBelow (now (a .raised)) (a .scopes) in
-    let p = lineText 12 (pressLine (a .variable) (length xs) (a .amount)) in
+    let p = lineText (a .width) (pressLine (a .variable) (length xs) (a .amount)) in
     let e1 = (rw (first-line (c .before .before .before .before .before .before .before .before .before .before .before .before)) at (c .before .before .before .before .before .before .before .before .before .before .before .put-line .ensures)) .1 [] (now (a .out)) refl refl in
     let r = c .before .before .before .before .before .before .before .put-raises in
     let e2 = r .ensures .1 p (now (a .out)) (e1 .0) (e1 .1 ∙ sym (c .before .before .before .before .before .before .before .before .before .before .before .put-line .ensures .0)) in
     let f = rw (last-line (c .before .before .before)) at (c .before .before .put-line2 .ensures) in
-    let e3 = f .1 (p ++ raiseTexts xs) (now (a .out)) (e2 .0) (e2 .1) in
+    let e3 = f .1 (p ++ raiseTexts (a .width) xs) (now (a .out)) (e2 .0) (e2 .1) in
     (f .0 ∙ sym (e3 .1), e3 .0)
 
 pub write-round-spec : {M : Type 1} → statement M

@@ -1,6 +1,6 @@
 use mathlib.Core.Path.{_≡_, sym, _∙_}
 use mathlib.Core.Bool.{false}
-use Rattle.definitions.specs.Rules.{standard}
+use Rattle.definitions.specs.Rules.{rulesOf}
 use Rattle.definitions.specs.Case.{active}
 use Rattle.definitions.specs.Refusals.{firstOf}
 use Rattle.definitions.specs.Answers.{outcomeOf}
@@ -26,7 +26,7 @@ enum-told c = search needs
 
 -- what was checked, with the definition for the argument
 asked : (c : tie.After-check-working) → let a = c .before .before .args in
-    c .check-working .result ≡ outcomeOf (firstOf (handedOver standard (workingWeight standard) (a .case) (a .table .now) false (tupleOut (a .case) (a .scope) (a .k) (a .l))))
+    c .check-working .result ≡ outcomeOf (firstOf (handedOver (rulesOf (a .case)) (workingWeight (rulesOf (a .case))) (a .case) (a .table .now) false (tupleOut (a .case) (a .scope) (a .k) (a .l))))
 asked c = rw (c .before .tuple-out .ensures) at (c .check-working .ensures)
 
 has-greatest-requires : tie.Need-has-greatest-requires

@@ -2,7 +2,7 @@ use mathlib.Core.Path.{_≡_, sym, ap, _∙_}
 use mir.Syntax.{w64}
 use Rattle.integers.specs.Linear.{read-back}
 use Rattle.definitions.specs.declared.Figure.{Figure}
-use Rattle.definitions.specs.Rules.{standard}
+use Rattle.definitions.specs.Rules.{rulesOf}
 use Rattle.definitions.specs.Refusals.{firstOf}
 use Rattle.definitions.specs.Answers.{outcomeOf}
 use Rattle.definitions.specs.Case.{objective}
@@ -28,7 +28,7 @@ enum-told c = search needs
 
 -- what was checked, with the definition for the argument
 asked : (c : tie.After-check-working) → let a = c .before .before .before .before .args in
-    c .check-working .result ≡ outcomeOf (firstOf (handedOver standard (workingWeight standard) (a .case) (a .table .now)
+    c .check-working .result ≡ outcomeOf (firstOf (handedOver (rulesOf (a .case)) (workingWeight (rulesOf (a .case))) (a .case) (a .table .now)
     (wrongAssignment (a .case) (a .assignment .now)) (valueOut (a .case) (a .assignment .now))))
 asked c = rw (c .before .some-beyond .ensures) at (c .check-working .ensures)
 

@@ -9,10 +9,11 @@ use mir.Val.{toZ, ofZ}
 use mir.Facts.{toZ-ofZ}
 use Rattle.integers.specs.Linear.{read-back}
 use Rattle.integers.specs.Sums.{Σ}
-use Rattle.definitions.specs.Rules.{standard}
+use Rattle.definitions.specs.Rules.{rulesOf, coherent}
 use Rattle.definitions.specs.Case.{atUsed, weight}
 use Rattle.definitions.specs.Valid.{workingWeight}
 use Rattle.theory.proofs.Totals.{at-used-holds}
+use Rattle.tables.proofs.Answered.{limits-known}
 use Rattle.tables.proofs.Bounds.{sum-more, sum-fits}
 use Rattle.figures.proofs.sum_of_used.Statement.{statement}
 use Rattle.figures.proofs.sum_of_used.Tie as tie
@@ -24,7 +25,7 @@ abbrev μ-loop : tie.MeasureT-loop
 μ-loop case table assignment scopes sum₀ x₀ sum x = scopes - x
 
 add-scopes : tie.Need-add-scopes Inv-loop μ-loop
-add-scopes c = let h = c .before .before .pre .0 in omega (arith, h .variables-most, h .edges-most)
+add-scopes c = let h = c .before .before .pre .0 in omega (arith, limits-known h)
 
 loop-holds : tie.Need-loop-holds Inv-loop μ-loop
 loop-holds c = (omega arith, refl)
@@ -45,12 +46,12 @@ add-sum : tie.Need-add-sum Inv-loop μ-loop
 add-sum c = let s = c .before .before in
     let a = s .before .before .before .args in
     let h = s .before .before .before .pre .0 in
-    rw (next c) (sum-fits (λ y. atUsed (a .case) (a .assignment .now) y (weight (a .case) (a .table .now) y)) (s .loop .x + 1) (omega (arith, h .variables-most, h .edges-most))
-    (λ y l. at-used-holds (h .shape) (a .assignment .now) (s .before .before .before .pre .1) (λ (z : ℤ). T (workingWeight standard z)) y (omega arith)
+    rw (next c) (sum-fits (λ y. atUsed (a .case) (a .assignment .now) y (weight (a .case) (a .table .now) y)) (coherent (a .case .rulebook)) (s .loop .x + 1) (omega (arith, h .variables-most, h .edges-most))
+    (λ y l. at-used-holds (h .shape) (a .assignment .now) (s .before .before .before .pre .1) (λ (z : ℤ). T (workingWeight (rulesOf (a .case)) z)) y (omega arith)
     (weight (a .case) (a .table .now) y) (h .in-range y)))
 
 add-x : tie.Need-add-x Inv-loop μ-loop
-add-x c = let h = c .before .before .before .before .before .pre .0 in omega (arith, h .variables-most, h .edges-most)
+add-x c = let h = c .before .before .before .before .before .pre .0 in omega (arith, limits-known h)
 
 loop-less : tie.Need-loop-less Inv-loop μ-loop
 loop-less c = omega arith

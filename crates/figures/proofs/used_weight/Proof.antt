@@ -6,6 +6,7 @@ use borrow.Author.Tests.{lt-ltb, le-ltb}
 use Rattle.integers.specs.Linear.{read-back}
 use Rattle.definitions.specs.Case.{valueOf, weight}
 use Rattle.theory.proofs.Totals.{firstUsed, secondUsed, at-used, used-tuple}
+use Rattle.tables.proofs.Answered.{limits-known}
 use borrow.Author.Needs.{needs}
 use Rattle.figures.proofs.used_weight.Statement.{statement}
 use Rattle.figures.proofs.used_weight.Tie as tie
@@ -42,7 +43,7 @@ sub-e : tie.Need-sub-e
 sub-e c = search needs
 
 element-copy-out-wide : tie.Need-element-copy-out-wide
-element-copy-out-wide c = search needs
+element-copy-out-wide c = omega (arith, limits-known (c .before .before .pre .0))
 
 wide-requires : tie.Need-wide-requires
 wide-requires c κs = search needs
@@ -51,7 +52,7 @@ value-of-requires-2 : tie.Need-value-of-requires-2
 value-of-requires-2 c κs = search needs
 
 element-copy-out-wide-2 : tie.Need-element-copy-out-wide-2
-element-copy-out-wide-2 c = search needs
+element-copy-out-wide-2 c = omega (arith, limits-known (c .before .before .before .before .before .pre .0))
 
 wide-requires-2 : tie.Need-wide-requires-2
 wide-requires-2 c κs = search needs

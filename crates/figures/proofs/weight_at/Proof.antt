@@ -8,6 +8,7 @@ use denote.Ref.{now}
 use mir.Syntax.{w64}
 use Rattle.integers.specs.Linear.{read-back}
 use Rattle.definitions.specs.Case.{weight}
+use Rattle.tables.proofs.Answered.{limits-known}
 use Rattle.figures.proofs.Tuples.{at-variable, at-edge}
 use borrow.Author.Needs.{needs}
 use Rattle.figures.proofs.weight_at.Statement.{statement}
@@ -17,7 +18,7 @@ scope-weights-requires : tie.Need-scope-weights-requires
 scope-weights-requires c κs = search needs
 
 mul-result : tie.Need-mul-result
-mul-result c = search needs
+mul-result c = omega (arith, limits-known (c .before .before .before .pre .0))
 
 -- the tuple's place in its scope's part, at a variable and at an edge
 there : (c : tie.Then1) → let s = c .before .before in let a = s .before .args in let part = now (s .scope-weights .result) in

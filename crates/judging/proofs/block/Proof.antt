@@ -1,7 +1,6 @@
 -- By what was answered before. Assumes nothing.
 use mathlib.Core.Path.{refl, sym, ap}
 use denote.Ref.{now}
-use Rattle.definitions.specs.Rules.{standard}
 use Rattle.judging.specs.Judging.{blockFrom, blockJudging}
 use Rattle.judging.proofs.Calls.{same-judging}
 use borrow.Author.Needs.{needs}
@@ -21,7 +20,7 @@ returns : tie.Need-returns
 unfolding blockJudging
 returns c =
     let s = c .before .before .before in
-    same-judging (sym (ap (blockFrom standard (s .args .judging) (now (s .args .table)) (now (s .args .bytes))) (c .enum-told .given .1))) (refl, refl)
+    same-judging (sym (ap (blockFrom (s .args .judging) (now (s .args .table)) (now (s .args .bytes))) (c .enum-told .given .1))) (refl, refl)
 
 same-length : tie.Need-same-length
 same-length c = search needs
@@ -31,7 +30,7 @@ unfolding blockJudging
 returns-2 c =
     let k = c .before in
     let s = k .before .before .before .before .before .before in
-    same-judging (sym (ap (blockFrom standard (s .args .judging) (now (s .args .table)) (now (s .args .bytes))) (k .before .before .before .answer .given .1))) (k .block-from .ensures)
+    same-judging (sym (ap (blockFrom (s .args .judging) (now (s .args .table)) (now (s .args .bytes))) (k .before .before .before .answer .given .1))) (k .block-from .ensures)
 
 pub block-spec : {M : Type 1} → statement M
 block-spec =

@@ -4,7 +4,7 @@ use Prim.Native.Nat.{ℕ}
 use denote.Ref.{now}
 use Rattle.definitions.specs.declared.Case.{Case}
 use Rattle.definitions.specs.declared.FileAnswer.{FileAnswer}
-use Rattle.definitions.specs.Rules.{standard}
+use Rattle.definitions.specs.Rules.{rulesOf}
 use Rattle.checker.specs.declared.Block.{Block}
 use Rattle.checker.specs.Checker.{BlockCall, blockReplay}
 use Rattle.judging.specs.declared.Judging.{Judging}
@@ -34,7 +34,7 @@ returns c =
     let k = c .before .before .before .before in
     let s = k .before .before .before .before .before in
     let j = s .args .judging in
-    let call : BlockCall = blockReplay standard (j .case) (now (s .args .table)) (j .replay) (now (s .args .bytes)) in
+    let call : BlockCall = blockReplay (rulesOf (j .case)) (j .case) (now (s .args .table)) (j .replay) (now (s .args .bytes)) in
     let (p, q) = k .lines .ensures in
     let answer : c .answer-at .result ≡ answerAt (counted (s .args .passed) (call .block .lines)) (call .block .answer) =
     c .answer-at .ensures ∙ ap (λ (n : ℕ). answerAt n (k .lines .result .answer)) (c .before .count .ensures)

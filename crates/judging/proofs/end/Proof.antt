@@ -1,7 +1,6 @@
 -- The number that stands, else that of a good record. Assumes nothing.
 use mathlib.Core.Path.{sym, ap, _∙_}
 use denote.Ref.{now}
-use Rattle.definitions.specs.Rules.{standard}
 use Rattle.judging.specs.Judging.{finishStanding}
 use borrow.Author.Needs.{needs}
 use Rattle.judging.proofs.end.Statement.{statement}
@@ -19,12 +18,12 @@ end-good-requires c κs = search needs
 returns : tie.Need-returns
 returns c =
     let a = c .before .before .before .args in
-    sym (ap (finishStanding standard (a .case) (now (a .table)) (a .replay) (a .part)) (c .before .standing .given .1))
+    sym (ap (finishStanding (a .case) (now (a .table)) (a .replay) (a .part)) (c .before .standing .given .1))
 
 returns-2 : tie.Need-returns-2
 returns-2 c =
     let a = c .before .before .before .args in
-    c .end-good .ensures ∙ sym (ap (finishStanding standard (a .case) (now (a .table)) (a .replay) (a .part)) (c .before .enum-told .given .1))
+    c .end-good .ensures ∙ sym (ap (finishStanding (a .case) (now (a .table)) (a .replay) (a .part)) (c .before .enum-told .given .1))
 
 pub end-spec : {M : Type 1} → statement M
 end-spec = tie.close (tie.spec enum-known-standing enum-told end-good-requires returns returns-2)

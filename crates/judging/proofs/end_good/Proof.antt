@@ -1,6 +1,5 @@
 -- What is checked, and then a part line, else the end's answer. Assumes nothing.
 use denote.Ref.{now}
-use Rattle.definitions.specs.Rules.{standard}
 use Rattle.judging.proofs.Ends.{end-refused, end-part, end-none}
 use borrow.Author.Needs.{needs}
 use Rattle.judging.proofs.end_good.Statement.{statement}
@@ -22,7 +21,7 @@ returns : tie.Need-returns
 returns c =
     let k = c .before .before .before in
     let s = k .before .before .before in
-    end-refused standard (s .args .case) (now (s .args .table)) (s .args .replay) (s .pre) (k .before .before .end .ensures) (k .before .is-out .result) (k .before .is-out .ensures) (k .check-working .ensures) (s .args .part) (c .before .checked .given .1)
+    end-refused (s .args .case) (now (s .args .table)) (s .args .replay) (s .pre) (k .before .before .end .ensures) (k .before .is-out .result) (k .before .is-out .ensures) (k .check-working .ensures) (s .args .part) (c .before .checked .given .1)
 
 enum-told : tie.Need-enum-told
 enum-told c = search needs
@@ -31,13 +30,13 @@ returns-2 : tie.Need-returns-2
 returns-2 c =
     let k = c .before .before .before in
     let s = k .before .before .before in
-    end-part standard (s .args .case) (now (s .args .table)) (s .args .replay) (s .pre) (k .before .before .end .ensures) (k .before .is-out .result) (k .before .is-out .ensures) (k .check-working .ensures) (c .before .enum-told .given .1) (s .args .part) (c .if1 .taken)
+    end-part (s .args .case) (now (s .args .table)) (s .args .replay) (s .pre) (k .before .before .end .ensures) (k .before .is-out .result) (k .before .is-out .ensures) (k .check-working .ensures) (c .before .enum-told .given .1) (s .args .part) (c .if1 .taken)
 
 returns-3 : tie.Need-returns-3
 returns-3 c =
     let k = c .before .before .before in
     let s = k .before .before .before in
-    end-none standard (s .args .case) (now (s .args .table)) (s .args .replay) (s .pre) (k .before .before .end .ensures) (k .before .is-out .result) (k .before .is-out .ensures) (k .check-working .ensures) (c .before .enum-told .given .1) (s .args .part) (c .if1 .left)
+    end-none (s .args .case) (now (s .args .table)) (s .args .replay) (s .pre) (k .before .before .end .ensures) (k .before .is-out .result) (k .before .is-out .ensures) (k .check-working .ensures) (c .before .enum-told .given .1) (s .args .part) (c .if1 .left)
 
 pub end-good-spec : {M : Type 1} → statement M
 end-good-spec =

@@ -2,7 +2,6 @@
 use mathlib.Core.Path.{sym, ap}
 use denote.Ref.{now}
 use Rattle.definitions.specs.declared.FileAnswer.{FileAnswer}
-use Rattle.definitions.specs.Rules.{standard}
 use Rattle.judging.specs.Judging.{writeJudged, judgedFrom, finishJudging}
 use Rattle.judging.proofs.Calls.{same-written}
 use borrow.Author.Needs.{needs}
@@ -30,7 +29,7 @@ returns c =
     let k = c .before .before in
     let s = k .before .before .before .before .before .before in
     same-written
-    (sym (ap (λ (a : FileAnswer). writeJudged (now (s .args .out)) (judgedFrom standard (s .args .judging) (now (s .args .table)) (s .args .part) a)) (k .before .before .before .answer .given .1)))
+    (sym (ap (λ (a : FileAnswer). writeJudged (now (s .args .out)) (judgedFrom (s .args .judging) (now (s .args .table)) (s .args .part) a)) (k .before .before .before .answer .given .1)))
     (k .write-refused .ensures)
 
 same-length-2 : tie.Need-same-length-2
@@ -42,7 +41,7 @@ returns-2 c =
     let k = c .before .before in
     let s = k .before .before .before .before .before .before in
     same-written
-    (sym (ap (λ (a : FileAnswer). writeJudged (now (s .args .out)) (judgedFrom standard (s .args .judging) (now (s .args .table)) (s .args .part) a)) (k .before .before .before .answer2 .given .1)))
+    (sym (ap (λ (a : FileAnswer). writeJudged (now (s .args .out)) (judgedFrom (s .args .judging) (now (s .args .table)) (s .args .part) a)) (k .before .before .before .answer2 .given .1)))
     (k .write-end .ensures)
 
 pub finish-spec : {M : Type 1} → statement M

@@ -4,7 +4,8 @@ use mathlib.Core.List.{List}
 use lib.IntN.{ℤ}
 use denote.Ref.{now}
 use Rattle.definitions.specs.declared.CaseRead.{CaseRead}
-use Rattle.definitions.specs.Rules.{standard}
+use Rattle.definitions.specs.Rules.{rulesOf}
+use Rattle.definitions.specs.declared.Rulebook.the-variants.{Desk}
 use Rattle.definitions.specs.CaseFiles.{CaseCall, readCase}
 use Rattle.checker.specs.declared.Replay.{Replay}
 use Rattle.checker.specs.Checker.{freshReplay}
@@ -31,10 +32,10 @@ unfolding startJudging toJudging
 returns c =
     let k = c .before .before .before .before in
     let s = k .before .before .before in
-    let call : CaseCall = readCase standard (now (s .args .front)) (now (s .args .table)) in
+    let call : CaseCall = readCase Desk (now (s .args .front)) (now (s .args .table)) in
     let (p, q) = k .read-case .ensures in
-    let f : c .fresh .result ≡ freshReplay standard (call .read .case) (call .table) =
-    c .fresh .ensures ∙ ap₂ (λ (x : CaseRead) (t : List ℤ). freshReplay standard (x .case) t) p q in
+    let f : c .fresh .result ≡ freshReplay (rulesOf (call .read .case)) (call .read .case) (call .table) =
+    c .fresh .ensures ∙ ap₂ (λ (x : CaseRead) (t : List ℤ). freshReplay (rulesOf (x .case)) (x .case) t) p q in
     (ap₂ toJudging p f, q)
 
 pub start-spec : {M : Type 1} → statement M

@@ -8,7 +8,6 @@ use mir.Syntax.{w64}
 use Rattle.integers.specs.Linear.{read-back}
 use Rattle.definitions.specs.declared.Figure.{Figure}
 use Rattle.definitions.specs.declared.Outcome.{Outcome}
-use Rattle.definitions.specs.Rules.{standard}
 use Rattle.definitions.specs.Case.{upperBound}
 use Rattle.definitions.specs.Programs.{accepted}
 use Rattle.tables.proofs.Answered.{greatest-sum-known}
@@ -62,7 +61,7 @@ returns c =
 
 -- the end answers done, and the sum is the upper bound
 ended : (c : tie.After-sum-of-greatest) → let e = c .before .before .before in let a = e .before .before .before .before .args in
-    Outcome.Done ≡ finishStanding standard (a .judging .case) (now (a .table)) (a .judging .replay) (a .part) (a .judging .replay .standing)
+    Outcome.Done ≡ finishStanding (a .judging .case) (now (a .table)) (a .judging .replay) (a .part) (a .judging .replay .standing)
 ended c = sym (c .before .enum-told .given .1) ∙ c .before .before .before .end .ensures
 
 summed : (c : tie.After-sum-of-greatest) {x : Figure} → c .sum-of-greatest .result ≡ x → let a = c .before .before .before .before .before .before .before .args in
@@ -70,7 +69,7 @@ summed : (c : tie.After-sum-of-greatest) {x : Figure} → c .sum-of-greatest .re
 summed c f =
     let a = c .before .before .before .before .before .before .before .args in
     let j = a .judging in
-    sym f ∙ c .sum-of-greatest .ensures ∙ greatest-sum-known (finish-done standard (j .case) (now (a .table)) (j .replay) (a .part) (j .replay .standing) (ended c))
+    sym f ∙ c .sum-of-greatest .ensures ∙ greatest-sum-known (finish-done (j .case) (now (a .table)) (j .replay) (a .part) (j .replay .standing) (ended c))
 
 same-length-2 : tie.Need-same-length-2
 same-length-2 c = search needs

@@ -46,7 +46,8 @@ use denote.Exit.{yes}
 use denote.Signature.{Slot, plain, namedLft}
 use denote.Signature.Struct.{makes}
 use Rattle.definitions.specs.declared.Line.{Line}
-use Rattle.definitions.specs.Rules.{standard}
+use Rattle.definitions.specs.declared.Rulebook.the-variants.{Desk}
+use Rattle.definitions.specs.Rules.{rulesIn}
 use Rattle.definitions.specs.Calls.{putLineCall}
 use Rattle.definitions.proofs.Line as L
 use Rattle.definitions.proofs.Line.Laws as L′
@@ -130,7 +131,7 @@ module _ {M : Type 1} (𝓤 : URA M) (H : Heap 𝓤) (A : Atoms 𝓤) (W : Given
 
   -- what `put_line_at` ensures
   abbrev Said : Put → List ℕ → Type 0
-  Said r zs = (r ≡ putOf (putLineCall standard ys n line)) × (zs ≡ putLineCall standard ys n line .out)
+  Said r zs = (r ≡ putOf (putLineCall (rulesIn Desk) ys n line)) × (zs ≡ putLineCall (rulesIn Desk) ys n line .out)
 
   exits : (r : Put) (zs : List ℕ) → Said r zs → Is P.the-row r (answer r ∷ [])
       → ent 𝓤 (⋆ 𝓤 H A (‵ (fobs γ (R .coded .code (h zs (r .at)))) ∷ ‵ (fbor κ (Body (mem R) b o γ)) ∷ ‵ (flft κ q) ∷ ‵ (flft κ′ q′) ∷ [])) (Post (answer r))

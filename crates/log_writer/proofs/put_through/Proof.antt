@@ -48,7 +48,8 @@ use denote.Triple.Walked.{says, Stays, stay-slice, stay-none, walkOf, goes-slice
 use denote.Exit.{yes}
 use denote.Signature.{plain}
 use Rattle.definitions.specs.declared.Line.{Line}
-use Rattle.definitions.specs.Rules.{standard}
+use Rattle.definitions.specs.declared.Rulebook.the-variants.{Desk}
+use Rattle.definitions.specs.Rules.{rulesIn}
 use Rattle.definitions.specs.Calls.{putLineCall}
 use Rattle.definitions.proofs.Line as L
 use Rattle.definitions.proofs.Line.Laws as L′
@@ -135,14 +136,14 @@ module _ {M : Type 1} (𝓤 : URA M) (H : Heap 𝓤) (A : Atoms 𝓤) (W : Given
 
   -- what `put_line` ensures
   abbrev Said : Put → LogWriter → Type 0
-  Said r z = (r ≡ putOf (putLineCall standard ys n line)) × (z ≡ written (h ys n) line)
+  Said r z = (r ≡ putOf (putLineCall (rulesIn Desk) ys n line)) × (z ≡ written (h ys n) line)
 
   -- the slice and the position after the line
   abbrev out₁ : List ℕ
-  out₁ = putLineCall standard ys n line .out
+  out₁ = putLineCall (rulesIn Desk) ys n line .out
 
   abbrev at₁ : ℕ
-  at₁ = putLineCall standard ys n line .at
+  at₁ = putLineCall (rulesIn Desk) ys n line .at
 
   -- a cell and what its value owns are the writer in memory, and the writer in memory is such a cell
   lies-in : (l : ℕ) → ent 𝓤 (sep 𝓤 (sem 𝓤 H A (fat fullShare (T′.mir erased) l 0 (mach ys n))) (sem 𝓤 H A (R .own (h ys n) (mach ys n ∷ [])))) (sem 𝓤 H A (mem R .lies (h ys n) l 0))
@@ -159,12 +160,12 @@ module _ {M : Type 1} (𝓤 : URA M) (H : Heap 𝓤) (A : Atoms 𝓤) (W : Given
       spelt ! R (Is R) (shows 𝓤 H A R) (LL.vals (T.the-type β) (T′.the-laws β)) (LL.tells (T.the-type β) (T′.the-laws β)) fullShare (h out₁ at₁) vs l 0 $
       use1 W (‵ (fat fullShare (T′.mir erased) l 0 (mach out₁ at₁))) (W .laws .raw-at fullShare (T′.mir erased) l 0 (mach out₁ at₁)) $ done !)
 
-  exits : (r : Put) (v : Val) → r ≡ putOf (putLineCall standard ys n line)
+  exits : (r : Put) (v : Val) → r ≡ putOf (putLineCall (rulesIn Desk) ys n line)
       → ent 𝓤 (⋆ 𝓤 H A (‵ (flft κ q) ∷ ‵ (MutSlice (named 0) κ u8 .own (x out₁) (s out₁ ∷ [])) ∷ ‵ (P.the-row .own r (v ∷ [])) ∷ [])) (Post v)
   exits r v e =
       qed W (‵ (flft κ q) ∷ ‵ (MutSlice (named 0) κ u8 .own (x out₁) (s out₁ ∷ [])) ∷ ‵ (P.the-row .own r (v ∷ [])) ∷ []) ∵
-      suffices ! _ (ends-at 𝓤 H A put-through.ended stayed (put-through.clauses 𝓤 H A at-mem run) W (((κ, tt), (q, tt), tt, a, vals), tt) v r (out₁, (tt, (tt, tt))) (put-same-length ys n line, (tt, (tt, tt)))) $
-      says ! (e, refl) $ rewrite ! 1 (λ (k : ℕ). ‵ (MutSlice (named 0) κ u8 .own (x out₁) (sliceVal (b, o) k ∷ []))) (put-same-length ys n line) refl $
+      suffices ! _ (ends-at 𝓤 H A put-through.ended stayed (put-through.clauses 𝓤 H A at-mem run) W (((κ, tt), (q, tt), tt, a, vals), tt) v r (out₁, (tt, (tt, tt))) (put-same-length (rulesIn Desk) ys n line, (tt, (tt, tt)))) $
+      says ! (e, refl) $ rewrite ! 1 (λ (k : ℕ). ‵ (MutSlice (named 0) κ u8 .own (x out₁) (sliceVal (b, o) k ∷ []))) (put-same-length (rulesIn Desk) ys n line) refl $
       nothing ! $ move ! (1 ∷ 0 ∷ []) $ join ! $ frame ! $
       nothing ! $ owned ! L.the-row (Is L.the-row) (LL.makes L.the-type L′.the-plain 𝓤 H A) line _ line-is $ fjoin ! $ owned ! usize (Is usize) (uint-makes 𝓤 H A W w64) n _ (refl, n-fits) $ fjoin ! $ move ! (1 ∷ 0 ∷ []) $ fjoin ! $ done !
 

@@ -3,7 +3,7 @@ use mathlib.Core.Bool.{false}
 use mir.Facts.{toZ-ofZ}
 use borrow.Author.Needs.{needs}
 use borrow.Author.Tests.{not-true, not-false}
-use Rattle.definitions.specs.Rules.{standard}
+use Rattle.definitions.specs.Rules.{rulesOf}
 use Rattle.definitions.specs.Refusals.{firstOf}
 use Rattle.definitions.specs.Answers.{outcomeOf}
 use Rattle.definitions.specs.Valid.{workingWeight, handedOver}
@@ -23,7 +23,7 @@ returns c = let a = c .before .before .before .args in
     (outside-limits (a .case) (a .table .now) (a .variable) (a .raised .now) (a .amount) (sym (c .before .within-limits .ensures) ∙ not-true _ (c .if1 .taken)))
 
 press-out-requires : tie.Need-press-out-requires
-press-out-requires c κs = limited standard (c .before .before .before .args .case) (sym (c .before .within-limits .ensures) ∙ not-false _ (c .if1 .left))
+press-out-requires c κs = limited (c .before .before .before .args .case) (sym (c .before .within-limits .ensures) ∙ not-false _ (c .if1 .left))
 
 check-working-requires : tie.Need-check-working-requires
 check-working-requires c κs = search needs
@@ -36,13 +36,13 @@ enum-told c = search needs
 
 -- what was checked, with the definition for the argument
 asked : (c : tie.After-check-working) → let s = c .before .before .before .before .before .before in let a = s .args in
-    c .check-working .result ≡ outcomeOf (firstOf (handedOver standard (workingWeight standard) (a .case) (a .table .now) false (pressOut standard (a .case) (a .variable) (a .raised .now) (a .amount))))
+    c .check-working .result ≡ outcomeOf (firstOf (handedOver (rulesOf (a .case)) (workingWeight (rulesOf (a .case))) (a .case) (a .table .now) false (pressOut (rulesOf (a .case)) (a .case) (a .variable) (a .raised .now) (a .amount))))
 asked c = let s = c .before .before .before .before .before .before in rw (c .before .before .press-out .ensures, toZ-ofZ (s .fits .amount)) at (c .check-working .ensures)
 
 press-checked-requires : tie.Need-press-checked-requires
 press-checked-requires c κs = let s = c .before .before .before .before .before .before .before .before .before in
     let a = s .args in
-    let k = known (a .case) (a .table .now) false (pressOut standard (a .case) (a .variable) (a .raised .now) (a .amount)) (sym (c .before .enum-told .given .1) ∙ asked (c .before .before .before)) in
+    let k = known (a .case) (a .table .now) false (pressOut (rulesOf (a .case)) (a .case) (a .variable) (a .raised .now) (a .amount)) (sym (c .before .enum-told .given .1) ∙ asked (c .before .before .before)) in
     let q = press-in (a .case) (a .table .now) (a .variable) (a .raised .now) (a .amount) (k .2) in
     (k .0, (q .0, rw (toZ-ofZ (s .fits .amount)) (q .1)))
 

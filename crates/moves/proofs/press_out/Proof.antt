@@ -6,7 +6,7 @@ use lib.ListN.{length}
 use mir.Facts.{toZ-ofZ}
 use borrow.Author.Needs.{needs}
 use borrow.Author.Tests.{le-leb, lt-leb}
-use Rattle.definitions.specs.Rules.{standard}
+use Rattle.definitions.specs.Rules.{rulesOf}
 use Rattle.changes.specs.Kept.{loweringOut}
 use Rattle.moves.proofs.PressLaws.{first-out, count-out, scopes-out}
 use Rattle.moves.proofs.press_out.Statement.{statement}
@@ -20,7 +20,7 @@ returns c = let s = c .before .before .before in
     let a = s .args in
     first-out (a .case) (a .raised .now) (a .variable) (a .amount) (rw (toZ-ofZ (s .fits .amount)) at (sym (c .before .lowering-out .ensures) ∙ c .if1 .taken))
 
-right : (c : tie.Else1) → let a = c .before .before .before .args in loweringOut standard (a .case) (a .variable) (a .amount) ≡ false
+right : (c : tie.Else1) → let a = c .before .before .before .args in loweringOut (rulesOf (a .case)) (a .case) (a .variable) (a .amount) ≡ false
 right c = rw (toZ-ofZ (c .before .before .before .fits .amount)) at (sym (c .before .lowering-out .ensures) ∙ c .if1 .left)
 
 add-scopes : tie.Need-add-scopes

@@ -6,25 +6,27 @@ use lib.ListN.{length, replicate}
 use mir.Facts.{toZ-ofZ}
 use borrow.Author.Needs.{needs}
 use borrow.Author.Tests.{not-true, not-false}
+use Rattle.definitions.specs.Rules.{edgePlaces, scopePlaces}
 use Rattle.definitions.specs.Case.{scopeCount}
 use Rattle.definitions.specs.Moves.{activeRefuted}
+use Rattle.tables.proofs.Answered.{limits-known}
 use Rattle.moves.specs.Marks.{saysYes}
 use Rattle.moves.proofs.MarkLaws.{inside-more, zeros}
 use Rattle.moves.proofs.PressLaws.{press-refuted, press-raised-is}
 use Rattle.moves.proofs.press_raised.Statement.{statement}
 use Rattle.moves.proofs.press_raised.Tie as tie
 
-few : (s : tie.Start) → scopeCount (s .args .case) ≤ 144
-few s = omega (arith, s .pre .0 .variables-most, s .pre .0 .edges-most)
+few : (s : tie.Start) → scopeCount (s .args .case) ≤ scopePlaces
+few s = omega (arith, limits-known (s .pre .0))
 
-ends : (s : tie.Start) → (length (s .args .case .lower) ≡ 96) × (length (s .args .case .upper) ≡ 96)
+ends : (s : tie.Start) → (length (s .args .case .lower) ≡ edgePlaces) × (length (s .args .case .upper) ≡ edgePlaces)
 ends s = (search needs, search needs)
 
 slice-aggregate-mark-scopes : tie.Need-slice-aggregate-mark-scopes
 slice-aggregate-mark-scopes c = search needs
 
 mark-scopes-requires : tie.Need-mark-scopes-requires
-mark-scopes-requires c κs = let s = c .before .before in inside-more (s .args .raised .now) (scopeCount (s .args .case)) 144 (few s) (s .pre .1 .0 .1)
+mark-scopes-requires c κs = let s = c .before .before in inside-more (s .args .raised .now) (scopeCount (s .args .case)) scopePlaces (few s) (s .pre .1 .0 .1)
 
 slice-aggregate-greatest-weights : tie.Need-slice-aggregate-greatest-weights
 slice-aggregate-greatest-weights c = search needs
@@ -53,8 +55,8 @@ told c =
     let s = c .before .before .before .before .before .before .before .before .before .before .before .before .before in
     let a = s .args in
     c .is-yes .ensures ∙ ap saysYes (c .before .best-unsupported .ensures)
-    ∙ press-refuted (s .pre .0) (a .variable) (a .raised .now) (a .amount) (s .pre .1 .0 .0) (s .pre .1 .0 .1) (s .pre .1 .1) (replicate 144 0) (λ y. zeros 144 y) (few s) (replicate 144 (pos 0)) (few s) (c .before .before .before .before .before .before .before .before .before .before .mark-scopes .ensures) (c .before .before .before .before .before .before .greatest-weights .ensures .1)
-    (omega (arith, ends s .0, s .pre .0 .edges-most)) (omega (arith, ends s .1, s .pre .0 .edges-most))
+    ∙ press-refuted (s .pre .0) (a .variable) (a .raised .now) (a .amount) (s .pre .1 .0 .0) (s .pre .1 .0 .1) (s .pre .1 .1) (replicate scopePlaces 0) (λ y. zeros scopePlaces y) (few s) (replicate scopePlaces (pos 0)) (few s) (c .before .before .before .before .before .before .before .before .before .before .mark-scopes .ensures) (c .before .before .before .before .before .before .greatest-weights .ensures .1)
+    (omega (arith, ends s .0, limits-known (s .pre .0))) (omega (arith, ends s .1, limits-known (s .pre .0)))
 
 returns : tie.Need-returns
 returns c = let e = sym (told (c .before)) ∙ not-true _ (c .if1 .taken) in (rw e, rw e)
@@ -76,7 +78,7 @@ returns-2 c = let q = c .before .before .before .before .before .before in
     let s = q .before .before .before .before .before .before .before .before .before .before .before .before .before .before in
     let a = s .args in
     let p = rw (toZ-ofZ (s .fits .amount)) at (c .before .before .lower-and-raise .ensures) in
-    press-raised-is (s .pre .0) (a .variable) (a .raised .now) (a .amount) (s .pre .1 .0 .0) (s .pre .1 .0 .1) (s .pre .1 .1) (replicate 144 0) (λ y. zeros 144 y) (few s) (replicate 144 (pos 0)) (few s) (q .before .before .before .before .before .before .before .before .before .before .before .mark-scopes .ensures) (q .before .before .before .before .before .before .before .greatest-weights .ensures .1) (sym (told (q .before)) ∙ not-false _ (q .if1 .left)) (p .0) (p .1)
+    press-raised-is (s .pre .0) (a .variable) (a .raised .now) (a .amount) (s .pre .1 .0 .0) (s .pre .1 .0 .1) (s .pre .1 .1) (replicate scopePlaces 0) (λ y. zeros scopePlaces y) (few s) (replicate scopePlaces (pos 0)) (few s) (q .before .before .before .before .before .before .before .before .before .before .before .mark-scopes .ensures) (q .before .before .before .before .before .before .before .greatest-weights .ensures .1) (sym (told (q .before)) ∙ not-false _ (q .if1 .left)) (p .0) (p .1)
 
 pub press-raised-spec : {M : Type 1} → statement M
 press-raised-spec =

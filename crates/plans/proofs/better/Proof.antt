@@ -1,7 +1,7 @@
 use mathlib.Core.Path.{_≡_, refl, sym, ap, _∙_}
 use denote.Ref.{now}
 use Rattle.definitions.specs.declared.Choice.{Choice}
-use Rattle.definitions.specs.Rules.{standard}
+use Rattle.definitions.specs.Rules.{rulesOf}
 use Rattle.definitions.specs.Answers.{choiceSays}
 use Rattle.definitions.specs.Scoring.{chosenPart, betterOf}
 use borrow.Author.Needs.{needs}
@@ -10,7 +10,7 @@ use Rattle.plans.proofs.better.Tie as tie
 
 -- the choice that was made is the answer
 made : (c : tie.After-better-of) {x : Choice} → c .better-of .result ≡ x → let a = c .before .before .before .args in
-    x ≡ betterOf standard (a .case) (now (a .table)) (now (a .first)) (now (a .second))
+    x ≡ betterOf (rulesOf (a .case)) (a .case) (now (a .table)) (now (a .first)) (now (a .second))
 made c e = sym e ∙ c .better-of .ensures
 
 better-of-requires : tie.Need-better-of-requires

@@ -6,7 +6,7 @@ use denote.Ref.{now}
 use Rattle.integers.specs.Words.{if_then_else_}
 use Rattle.integers.specs.Linear.{read-back}
 use Rattle.definitions.specs.declared.Choice.{Choice}
-use Rattle.definitions.specs.Rules.{standard}
+use Rattle.definitions.specs.Rules.{rulesOf}
 use Rattle.definitions.specs.Answers.{outcomeOf}
 use Rattle.definitions.specs.Case.{isAssignment}
 use Rattle.theory.proofs.Validity.{Valid}
@@ -22,7 +22,7 @@ checked c = rw (c .before .before .some-beyond .ensures, c .before .some-beyond2
 
 -- what is known where no number applies
 passed : (c : tie.After-enum-told) → let a = c .before .before .before .before .before .before .before .before .before .args in
-    Valid standard (a .case) (now (a .table)) × T (isAssignment (a .case) (now (a .first))) × T (isAssignment (a .case) (now (a .second)))
+    Valid (rulesOf (a .case)) (a .case) (now (a .table)) × T (isAssignment (a .case) (now (a .first))) × T (isAssignment (a .case) (now (a .second)))
 passed c =
     let s = c .before .before in
     let a = s .before .before .before .before .before .before .before .args in

@@ -7,7 +7,8 @@ use lib.IntN.{pos}
 use lib.ListN.{length, take, length-replicate}
 use lib.Seq.{length-take-le}
 use Rattle.definitions.specs.declared.CaseSize.{CaseSize}
-use Rattle.definitions.specs.Rules.{standard}
+use Rattle.definitions.specs.declared.Rulebook.the-variants.{Desk}
+use Rattle.definitions.specs.Places.{tablePlaces}
 use Rattle.definitions.specs.CaseFiles.{caseSize}
 use Rattle.definitions.specs.Programs.{tableFor}
 use Rattle.judging.proofs.Tables.{table-most, table-lent}
@@ -49,7 +50,7 @@ part-weights-end : tie.Need-part-weights-end
 part-weights-end c =
     let f = c .before .before .before in
     let w = f .before .before in
-    omega (arith, c .table-length .ensures, table-most (take (f .fill .result .to) (f .fill .last .0)), ap length (w .weights .ensures), length-replicate 6528 (pos 0))
+    omega (arith, c .table-length .ensures, table-most Desk (take (f .fill .result .to) (f .fill .last .0)), ap length (w .weights .ensures), length-replicate tablePlaces (pos 0))
 
 run-requires : tie.Need-run-requires
 run-requires c κs =
@@ -58,10 +59,10 @@ run-requires c κs =
     let w = f .before .before in
     let filled = f .fill .result .to in
     let input : List ℕ = take filled (f .fill .last .0) in
-    let size : CaseSize = caseSize standard input in
+    let size : CaseSize = caseSize Desk input in
     let long : t .table-length .result - 0 ≡ length (tableFor size) = omega (arith, t .table-length .ensures) in
     let count = length-take-le filled (f .fill .last .0) (f .fill .ensures .within (omega arith)) in (
-      ap (λ (n : ℕ). take n (w .weights .result)) long ∙ ap (take (length (tableFor size))) (w .weights .ensures) ∙ table-lent size 6528 (table-most input),
+      ap (λ (n : ℕ). take n (w .weights .result)) long ∙ ap (take (length (tableFor size))) (w .weights .ensures) ∙ table-lent size tablePlaces (table-most Desk input),
       read-all (f .fill .last .0) filled (omega (arith, f .fill .kept)) count (f .fill .ensures .ends),
     )
 

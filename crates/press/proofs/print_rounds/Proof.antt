@@ -6,6 +6,7 @@ use native.Mathlib.Omega.{arith}
 use lib.Dec.{T}
 use lib.ListN.{length}
 use denote.Ref.{now}
+use Rattle.definitions.specs.Places.{roundPlaces}
 use Rattle.definitions.specs.Programs.{pressLimit}
 use Rattle.press.proofs.Calls.{text-most, Made, made-next, bytes-more, made-ends}
 use borrow.Author.Needs.{needs}
@@ -14,8 +15,8 @@ use Rattle.press.proofs.print_rounds.Tie as tie
 
 abbrev Inv-loop : tie.InvT-loop
 Inv-loop table₀ out₀ state₀ calls₀ table out state calls =
-    (length table ≡ length table₀) × (length out ≡ 3915) × (calls ≤ pressLimit) × (state .bytes ≤ 3915 * (pressLimit - calls + 1))
-    × (length out₀ ≡ 3915) × Made (pressLimit - calls) (record { pressed = state₀ .pressed; table = table₀; out = out₀ }) state table out
+    (length table ≡ length table₀) × (length out ≡ roundPlaces) × (calls ≤ pressLimit) × (state .bytes ≤ roundPlaces * (pressLimit - calls + 1))
+    × (length out₀ ≡ roundPlaces) × Made (pressLimit - calls) (record { pressed = state₀ .pressed; table = table₀; out = out₀ }) state table out
 
 abbrev μ-loop : tie.MeasureT-loop
 μ-loop table₀ out₀ state₀ calls₀ table out state calls = calls
@@ -54,7 +55,7 @@ loop-again c =
     let l = k .before .before .before .before .before .before in
     let (lt, lo, most, few, long, made) = l .loop .inv in
     let more = bytes-more made (k .print-next .ensures) in
-    let out : length (k .print-next .last .1 .1 .0) ≡ 3915 = omega (arith, k .print-next .kept) in
+    let out : length (k .print-next .last .1 .1 .0) ≡ roundPlaces = omega (arith, k .print-next .kept) in
     let left : suc (pressLimit - l .loop .calls) ≡ pressLimit - (l .loop .calls - 1) = omega arith in
     (search needs, out, omega arith, omega arith, long, rw left at (made-next made (k .print-next .ensures)))
 

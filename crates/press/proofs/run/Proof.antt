@@ -7,7 +7,8 @@ use lib.IntN.{ℤ}
 use lib.Dec.{lit≤}
 use lib.ListN.{length, replicate}
 use denote.Ref.{now}
-use Rattle.definitions.specs.Rules.{standard}
+use Rattle.definitions.specs.declared.Rulebook.the-variants.{Desk}
+use Rattle.definitions.specs.Places.{roundPlaces}
 use Rattle.pressing.specs.declared.Pressed.{Pressed}
 use Rattle.pressing.specs.Pressing.{startPressing}
 use Rattle.pressing.specs.Prints.{printedBytes}
@@ -51,10 +52,10 @@ returns-2 c =
     let e = n .before .before .before .before in
     let s = e .before .before .before in
     let front = now (s .args .input) in
-    let out : List ℕ = replicate 3915 0 in
+    let out : List ℕ = replicate roundPlaces 0 in
     let (lent, enough) = s .pre in
     let (p, q, x) = n .start .ensures in
-    let same = same-call (startPressing standard front (now (s .args .table)) out) (k .print .ensures .0 ∙ p) q x ∙ ap (λ (w : List ℤ). startPressing standard front w out) lent in
+    let same = same-call (startPressing Desk front (now (s .args .table)) out) (k .print .ensures .0 ∙ p) q x ∙ ap (λ (w : List ℤ). startPressing Desk front w out) lent in
     rounds-press front out (s .args .filled) enough (lit≤ tt) (rw same at (o .print-rounds .ensures)) (sym (e .before .is-failed .ensures) ∙ e .if1 .left) refl refl
 
 pub run-spec : {M : Type 1} → statement M

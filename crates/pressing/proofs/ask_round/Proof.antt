@@ -1,6 +1,6 @@
 -- By what a run of no round answers. Assumes nothing.
 use denote.Ref.{now}
-use Rattle.definitions.specs.Rules.{standard}
+use Rattle.definitions.specs.Rules.{rulesOf}
 use Rattle.pressing.proofs.Calls.{asked-round}
 use borrow.Author.Needs.{needs}
 use Rattle.pressing.proofs.ask_round.Statement.{statement}
@@ -28,7 +28,7 @@ returns : tie.Need-returns
 returns c =
     let e = c .before .before .before .before .before .before in
     let s = e .before .before .before .before in
-    asked-round standard (s .args .case) (now (s .args .table)) (now (s .args .out)) (e .run .ensures) (c .before .answer .given .1)
+    asked-round (rulesOf (s .args .case)) (s .args .case) (now (s .args .table)) (now (s .args .out)) (e .run .ensures) (c .before .answer .given .1)
 
 same-length-3 : tie.Need-same-length-3
 same-length-3 c = search needs
@@ -40,7 +40,7 @@ returns-2 : tie.Need-returns-2
 returns-2 c =
     let e = c .before .before .before .before .before in
     let s = e .before .before .before .before in
-    asked-round standard (s .args .case) (now (s .args .table)) (now (s .args .out)) (e .run .ensures) (c .enum-told .given .1)
+    asked-round (rulesOf (s .args .case)) (s .args .case) (now (s .args .table)) (now (s .args .out)) (e .run .ensures) (c .enum-told .given .1)
 
 same-length-5 : tie.Need-same-length-5
 same-length-5 c = search needs
@@ -52,7 +52,7 @@ returns-3 : tie.Need-returns-3
 returns-3 c =
     let e = c .before .before .before .before .before in
     let s = e .before .before .before .before in
-    asked-round standard (s .args .case) (now (s .args .table)) (now (s .args .out)) (e .run .ensures) (c .enum-told2 .given .1)
+    asked-round (rulesOf (s .args .case)) (s .args .case) (now (s .args .table)) (now (s .args .out)) (e .run .ensures) (c .enum-told2 .given .1)
 
 pub ask-round-spec : {M : Type 1} → statement M
 ask-round-spec =

@@ -3,7 +3,6 @@ use mathlib.Core.Path.{ap}
 use borrow.Author.Tests.{eq-eqb, ne-eqb}
 use denote.Ref.{now}
 use Rattle.definitions.specs.declared.Written.{Written}
-use Rattle.definitions.specs.Rules.{standard}
 use Rattle.pressing.proofs.Calls.{same-pressing, next-is}
 use borrow.Author.Needs.{needs}
 use Rattle.pressing.proofs.next.Statement.{statement}
@@ -24,7 +23,7 @@ returns c =
     let i = k .before .before .before .before in
     let s = i .before .before .before in
     let (a, t, o) = k .ask-round .ensures in
-    same-pressing (next-is standard (s .args .pressing) (now (s .args .table)) (now (s .args .out)) (eq-eqb (s .args .pressing .left) 0 (i .if1 .taken)))
+    same-pressing (next-is (s .args .pressing) (now (s .args .table)) (now (s .args .out)) (eq-eqb (s .args .pressing .left) 0 (i .if1 .taken)))
     (ap (λ (x : Written). record { pressing = s .args .pressing; written = x }) a, t, o)
 
 one-round-requires : tie.Need-one-round-requires
@@ -41,7 +40,7 @@ returns-2 c =
     let k = c .before .before .before in
     let i = k .before .before .before in
     let s = i .before .before .before in
-    same-pressing (next-is standard (s .args .pressing) (now (s .args .table)) (now (s .args .out)) (ne-eqb (s .args .pressing .left) 0 (i .if1 .left))) (k .one-round .ensures)
+    same-pressing (next-is (s .args .pressing) (now (s .args .table)) (now (s .args .out)) (ne-eqb (s .args .pressing .left) 0 (i .if1 .left))) (k .one-round .ensures)
 
 pub next-spec : {M : Type 1} → statement M
 next-spec =

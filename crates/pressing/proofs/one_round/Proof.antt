@@ -1,6 +1,6 @@
 -- By what the engine's round answers. Assumes nothing.
 use denote.Ref.{now}
-use Rattle.definitions.specs.Rules.{standard}
+use Rattle.definitions.specs.Rules.{rulesOf}
 use Rattle.definitions.specs.Engine.{engineNext}
 use Rattle.definitions.specs.EngineCalls.{roundCall}
 use Rattle.pressing.proofs.Calls.{round-settled, round-made, round-refused}
@@ -47,7 +47,7 @@ returns c =
     let e = k .before .before .before .before .before in
     let s = e .before .before .before .before .before in
     let p = s .args .pressing in
-    round-settled p (roundCall standard engineNext (p .case) (now (s .args .table)) (now (s .args .out))) (e .round .ensures) (k .enum-told .given .1) (c .after-text .ensures)
+    round-settled p (roundCall (rulesOf (p .case)) engineNext (p .case) (now (s .args .table)) (now (s .args .out))) (e .round .ensures) (k .enum-told .given .1) (c .after-text .ensures)
 
 same-length-3 : tie.Need-same-length-3
 same-length-3 c = search needs
@@ -61,7 +61,7 @@ returns-2 c =
     let e = k .before .before .before .before .before in
     let s = e .before .before .before .before .before in
     let p = s .args .pressing in
-    round-made p (roundCall standard engineNext (p .case) (now (s .args .table)) (now (s .args .out))) (e .round .ensures) (k .round2 .given .1) (c .with-left .ensures)
+    round-made p (roundCall (rulesOf (p .case)) engineNext (p .case) (now (s .args .table)) (now (s .args .out))) (e .round .ensures) (k .round2 .given .1) (c .with-left .ensures)
 
 same-length-5 : tie.Need-same-length-5
 same-length-5 c = search needs
@@ -76,7 +76,7 @@ returns-3 c =
     let e = k .before .before .before .before .before in
     let s = e .before .before .before .before .before in
     let p = s .args .pressing in
-    round-refused p (roundCall standard engineNext (p .case) (now (s .args .table)) (now (s .args .out))) (e .round .ensures) (k .round3 .given .1) (w .write-refusal .ensures) (c .after-text2 .ensures)
+    round-refused p (roundCall (rulesOf (p .case)) engineNext (p .case) (now (s .args .table)) (now (s .args .out))) (e .round .ensures) (k .round3 .given .1) (w .write-refusal .ensures) (c .after-text2 .ensures)
 
 pub one-round-spec : {M : Type 1} → statement M
 one-round-spec =

@@ -6,7 +6,7 @@ use native.Mathlib.Omega.{arith}
 use lib.ListN.{length, take, drop}
 use lib.Seq.{length-take-le}
 use denote.Ref.{now}
-use Rattle.definitions.specs.Rules.{standard}
+use Rattle.definitions.specs.declared.Rulebook.the-variants.{Desk}
 use Rattle.judging.specs.declared.Judging.{Judging}
 use Rattle.judging.specs.Judging.{startJudging}
 use Rattle.replay.specs.Turns.{caseBytes}
@@ -56,11 +56,11 @@ returns c =
     let zero : filled - 0 ≡ filled = omega arith in
     let whole : take (filled - 0) (drop 0 old) ≡ input = ap (λ (n : ℕ). take n old) zero in
     let (p, q) = k .start .ensures in
-    let ej : k .start .result ≡ startJudging standard input w .judging = p ∙ ap (λ (l : List ℕ). startJudging standard l w .judging) whole in
-    let ex : k .start .last .1 .0 ≡ startJudging standard input w .table = q ∙ ap (λ (l : List ℕ). startJudging standard l w .table) whole in
+    let ej : k .start .result ≡ startJudging Desk input w .judging = p ∙ ap (λ (l : List ℕ). startJudging Desk l w .judging) whole in
+    let ex : k .start .last .1 .0 ≡ startJudging Desk input w .table = q ∙ ap (λ (l : List ℕ). startJudging Desk l w .table) whole in
     let (from, most) = b .case-bytes .ensures in
     let long : length input ≡ filled = length-take-le filled old (s .pre) in
-    let at : b .case-bytes .result ≡ caseBytes (startJudging standard input w .judging .answer) (length input) =
+    let at : b .case-bytes .result ≡ caseBytes (startJudging Desk input w .judging .answer) (length input) =
     from ∙ ap₂ caseBytes (ap (λ (j : Judging). j .answer) ej) (sym long) in
     let bytes = part-from old (b .case-bytes .result) filled most (s .pre) ∙ ap (λ (n : ℕ). drop n input) at in
     let same : length (t .turn .last .1 .1 .0) ≡ length old = omega (arith, t .turn .kept) in

@@ -4,7 +4,8 @@ use Prim.Native.Nat.{ℕ, _-_}
 use native.Mathlib.Omega.{arith}
 use lib.ListN.{length, take}
 use Rattle.definitions.specs.declared.CaseSize.{CaseSize}
-use Rattle.definitions.specs.Rules.{standard}
+use Rattle.definitions.specs.declared.Rulebook.the-variants.{Desk}
+use Rattle.definitions.specs.Places.{tablePlaces}
 use Rattle.definitions.specs.CaseFiles.{caseSize}
 use Rattle.definitions.specs.Programs.{tableFor}
 use Rattle.judging.proofs.Tables.{table-lent}
@@ -56,15 +57,15 @@ judgement-requires c κs =
     let long = t .table-length .result in
     let filled = f .fill .result .to in
     let buf = f .fill .last .0 in
-    let size : CaseSize = caseSize standard (take filled buf) in
+    let size : CaseSize = caseSize Desk (take filled buf) in
     let (is, most) = t .table-length .ensures in
     let all : filled - 0 ≡ filled = omega arith in
-    let same : long ≡ length (tableFor size) = is ∙ ap (λ (n : ℕ). length (tableFor (caseSize standard (take n buf)))) all in
+    let same : long ≡ length (tableFor size) = is ∙ ap (λ (n : ℕ). length (tableFor (caseSize Desk (take n buf)))) all in
     let so-many : long - 0 ≡ length (tableFor size) = omega arith in (
       (f .fill .ensures .within (omega arith), f .fill .ensures .ends),
       (
         (search needs, search needs),
-        ap (λ (n : ℕ). take n (w .weights .result)) so-many ∙ ap (take (length (tableFor size))) (w .weights .ensures) ∙ table-lent size 6528 (omega arith),
+        ap (λ (n : ℕ). take n (w .weights .result)) so-many ∙ ap (take (length (tableFor size))) (w .weights .ensures) ∙ table-lent size tablePlaces (omega arith),
       ),
     )
 

@@ -2,6 +2,7 @@
 use mathlib.Core.Path.{sym, _∙_}
 use native.Mathlib.Omega.{arith}
 use denote.Ref.{now}
+use Rattle.definitions.specs.declared.Rulebook.the-variants.{Desk}
 use Rattle.judging.proofs.Tables.{table-most, size-refused, size-given}
 use borrow.Author.Needs.{needs}
 use Rattle.replay.proofs.table_length.Statement.{statement}
@@ -25,7 +26,7 @@ returns-2 : tie.Need-returns-2
 returns-2 c =
     let k = c .before .before .before in
     let e = size-given (sym (k .case-size .ensures) ∙ c .before .size .given .1) in
-    (e, omega (arith, e, table-most (now (k .before .before .args .front))))
+    (e, omega (arith, e, table-most Desk (now (k .before .before .args .front))))
 
 pub table-length-spec : {M : Type 1} → statement M
 table-length-spec =

@@ -8,9 +8,8 @@ use lib.Dec.{lit<}
 use lib.ListN.{length, take, drop, length-drop}
 use lib.Seq.{length-take-le, take-take, take-add, drop-at, drop-drop}
 use denote.Ref.{now}
-use Rattle.definitions.specs.Rules.{standard}
 use Rattle.judging.specs.Judging.{JudgingCall, blockJudging}
-use Rattle.replay.specs.Turns.{wholeBytes}
+use Rattle.replay.specs.Turns.{lineBytes, wholeBytes}
 use borrow.Author.Needs.{needs}
 use Rattle.replay.proofs.turn.Statement.{statement}
 use Rattle.replay.proofs.turn.Tie as tie
@@ -21,13 +20,13 @@ module _ (old : List ℕ) (from to : ℕ) (h : from ≤ to) (g : to ≤ length o
   bytes = take (to - from) (drop from old)
 
   abbrev end : ℕ
-  end = to - (to - from) % 27
+  end = to - (to - from) % lineBytes
 
   pub long : length bytes ≡ to - from
   long = length-take-le (to - from) (drop from old) (rw length-drop (omega arith))
 
   whole-count : wholeBytes bytes ≡ end - from
-  whole-count = rw long (omega (arith, mod-le (to - from) 27))
+  whole-count = rw long (omega (arith, mod-le (to - from) lineBytes))
 
   pub whole-is : take (end - from) (drop from old) ≡ take (wholeBytes bytes) bytes
   whole-is = rw whole-count (sym (take-take (end - from) (to - from) (drop from old) (omega arith)))
@@ -35,7 +34,7 @@ module _ (old : List ℕ) (from to : ℕ) (h : from ≤ to) (g : to ≤ length o
   pub part-is : take (to - end) (drop end old) ≡ drop (wholeBytes bytes) bytes
   part-is =
       let l : List ℕ = drop from old in
-      let m = mod-le (to - from) 27 in
+      let m = mod-le (to - from) lineBytes in
       let split : end - from + (to - end) ≡ to - from = omega arith in
       let at : from + (end - from) ≡ end = omega arith in
       let front : length (take (end - from) l) ≡ end - from = length-take-le (end - from) l (rw length-drop (omega arith)) in
@@ -44,11 +43,14 @@ module _ (old : List ℕ) (from to : ℕ) (h : from ≤ to) (g : to ≤ length o
       ∙ drop-at (take (end - from) l) (take (to - end) (drop (end - from) l)) (end - from) front
       ∙ ap (take (to - end)) (drop-drop (end - from) from old ∙ ap (λ (k : ℕ). drop k old) at)))
 
+sub-part-bytes : tie.Need-sub-part-bytes
+sub-part-bytes c = search needs
+
+part-bytes-requires : tie.Need-part-bytes-requires
+part-bytes-requires c κs = search needs
+
 sub-end : tie.Need-sub-end
 sub-end c = search needs
-
-sub-end-2 : tie.Need-sub-end-2
-sub-end-2 c = search needs
 
 sub-block : tie.Need-sub-block
 sub-block c = search needs
@@ -75,23 +77,25 @@ returns : tie.Need-returns
 returns c =
     let f = c .before .before in
     let b = f .before .before .before in
-    let s = b .before .before .before .before .before in
+    let e = b .before .before .before .before in
+    let s = e .before .before in
+    let n = e .part-bytes .ensures .0 in
     let old = now (s .args .buf) in
     let from = s .args .from in
     let to = s .args .filled .to in
     let (h, g) = s .pre in
-    let (p, q) = b .block .ensures in
-    let (count, part) = f .to-front .ensures in
-    let m = mod-le (to - from) 27 in
-    let call : JudgingCall = blockJudging standard (s .args .judging) (now (s .args .table)) (take (wholeBytes (bytes old from to h g)) (bytes old from to h g)) in
-    let same : blockJudging standard (s .args .judging) (now (s .args .table)) (take (end old from to h g - from) (drop from old)) ≡ call =
-    ap (blockJudging standard (s .args .judging) (now (s .args .table))) (whole-is old from to h g) in
+    let (p, q) = rw n at (b .block .ensures) in
+    let (count, part) = rw n at (f .to-front .ensures) in
+    let m = mod-le (to - from) lineBytes in
+    let call : JudgingCall = blockJudging (s .args .judging) (now (s .args .table)) (take (wholeBytes (bytes old from to h g)) (bytes old from to h g)) in
+    let same : blockJudging (s .args .judging) (now (s .args .table)) (take (end old from to h g - from) (drop from old)) ≡ call =
+    ap (blockJudging (s .args .judging) (now (s .args .table))) (whole-is old from to h g) in
     record {
       judging = p ∙ ap (λ (k : JudgingCall). k .judging) same;
       table = q ∙ ap (λ (k : JudgingCall). k .table) same;
       part = part ∙ rw count (part-is old from to h g);
       fits = omega (arith, f .to-front .kept .0);
-      short = omega (arith, mod-lt (to - from) {m = 27} (lit< tt));
+      short = omega (arith, mod-lt (to - from) {m = lineBytes} (lit< tt));
       filled-last = refl;
     }
 
@@ -99,8 +103,9 @@ pub turn-spec : {M : Type 1} → statement M
 turn-spec =
     tie.close
     (tie.spec
+    sub-part-bytes
+    part-bytes-requires
     sub-end
-    sub-end-2
     sub-block
     part-block-start
     part-block-end

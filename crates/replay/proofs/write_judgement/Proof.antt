@@ -8,11 +8,12 @@ use lib.IntN.{ℤ}
 use lib.Dec.{T}
 use lib.ListN.{length, take}
 use denote.Ref.{now}
-use Rattle.definitions.specs.Rules.{standard}
+use Rattle.definitions.specs.declared.Rulebook.the-variants.{Desk}
+use Rattle.definitions.specs.Rules.{rulesIn}
 use Rattle.definitions.specs.CaseFiles.{caseSize}
 use Rattle.definitions.specs.Programs.{tableFor}
 use Rattle.streams.specs.Streams.{isOver}
-use Rattle.judging.specs.Cuts.{longestCase}
+use Rattle.definitions.specs.Places.{longestCase}
 use Rattle.replay.specs.Turns.{lineBytes, Judges}
 use borrow.Author.Needs.{needs}
 use Rattle.replay.proofs.Printing.{enough-read, failed-prints, judges-prints}
@@ -21,14 +22,14 @@ use Rattle.replay.proofs.write_judgement.Tie as tie
 
 -- the front was read, and what the judging of the input gave
 enough : (j : tie.After-judge) → let a = j .before .before .before .before .before .args in
-    (longestCase standard ≤ length (take (a .filled .to) (now (a .buf)))) ⊎ T (isOver (a .filled))
+    (longestCase (rulesIn Desk) ≤ length (take (a .filled .to) (now (a .buf)))) ⊎ T (isOver (a .filled))
 enough j =
     let s = j .before .before .before .before .before in
     let ((h, ends), ((long, fits), lent)) = s .pre in
     enough-read (now (s .args .buf)) (s .args .filled) h long ends
 
 judged : (j : tie.After-judge) → let a = j .before .before .before .before .before .args in let front = take (a .filled .to) (now (a .buf)) in
-    Judges (length (now (a .buf)) - lineBytes) front (tableFor (caseSize standard front)) (a .filled) (j .judge .result) (j .judge .last .1 .0)
+    Judges (length (now (a .buf)) - lineBytes) front (tableFor (caseSize Desk front)) (a .filled) (j .judge .result) (j .judge .last .1 .0)
 judged j =
     let a = j .before .before .before .before .before .args in
     subst (λ (w : List ℤ). Judges (length (now (a .buf)) - lineBytes) (take (a .filled .to) (now (a .buf))) w (a .filled) (j .judge .result) (j .judge .last .1 .0))

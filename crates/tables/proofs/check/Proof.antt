@@ -6,7 +6,7 @@ use Rattle.integers.specs.Words.{withinZ}
 use mathlib.Core.Logic.{⊎-elim}
 use mir.Facts.{toZ-ofZ}
 use borrow.Author.Tests.{eq-eqb, ne-eqb, not-true, not-false}
-use Rattle.definitions.specs.Rules.{standard}
+use Rattle.definitions.specs.Rules.{rulesOf}
 use Rattle.definitions.specs.Case.{lentLength}
 use Rattle.definitions.specs.Valid.{withinLimits}
 use Rattle.tables.proofs.Order.{limited, edges-wrong, edges-right}
@@ -21,7 +21,7 @@ returns : tie.Need-returns
 returns c = rw (sym (c .before .within-limits .ensures) ∙ not-true _ (c .if1 .taken))
 
 table-length-requires : tie.Need-table-length-requires
-table-length-requires c κs = limited standard (c .before .before .args .case) (sym (c .before .within-limits .ensures) ∙ not-false _ (c .if1 .left))
+table-length-requires c κs = limited (c .before .before .args .case) (sym (c .before .within-limits .ensures) ∙ not-false _ (c .if1 .left))
 
 returns-2 : tie.Need-returns-2
 returns-2 c = let s = c .before in
@@ -31,13 +31,13 @@ returns-2 c = let s = c .before in
 
 -- the limits and the lengths are right
 right : (c : tie.Else3) → let a = c .before .before .before .before .before .args in
-    (withinLimits standard (a .case .n) (a .case .d) (a .case .m) ≡ true) × (length (a .table .now) ≡ lentLength (a .case)) × (a .wrong ≡ false)
+    (withinLimits (rulesOf (a .case)) (a .case .n) (a .case .d) (a .case .m) ≡ true) × (length (a .table .now) ≡ lentLength (a .case)) × (a .wrong ≡ false)
 right c =
     let s = c .before .before in
     (sym (s .before .before .within-limits .ensures) ∙ not-false _ (s .before .if1 .left), c .before .if2 .left ∙ s .table-length .ensures, c .if3 .left)
 
 edge-outcome-requires : tie.Need-edge-outcome-requires
-edge-outcome-requires c κs = limited standard (c .before .before .before .before .before .args .case) (right c .0) .edges
+edge-outcome-requires c κs = limited (c .before .before .before .before .before .args .case) (right c .0) .edges-placed
 
 enum-known-edges : tie.Need-enum-known-edges
 enum-known-edges c = search needs
@@ -51,7 +51,7 @@ weight-outcome-requires c κs = search needs
 returns-3 : tie.Need-returns-3
 returns-3 c = let s = c .before .before .before in
     let a = s .before .before .before .before .before .before .args in
-    edges-wrong standard (withinZ (a .low) (a .high)) (a .case) (a .table .now) (a .wrong) (a .out) (right (s .before) .0) (right (s .before) .1) (right (s .before) .2)
+    edges-wrong (rulesOf (a .case)) (withinZ (a .low) (a .high)) (a .case) (a .table .now) (a .wrong) (a .out) (right (s .before) .0) (right (s .before) .1) (right (s .before) .2)
     (sym (c .before .edges .given .1) ∙ s .edge-outcome .ensures)
 
 returns-4 : tie.Need-returns-4
@@ -59,7 +59,7 @@ returns-4 c = let s = c .before .before .before in
     let a = s .before .before .before .before .before .before .args in
     let f = s .before .before .before .before .before .before .fits in
     (simp (toZ-ofZ (f .low), toZ-ofZ (f .high)) at (c .weight-outcome .ensures))
-    ∙ edges-right standard (withinZ (a .low) (a .high)) (a .case) (a .table .now) (a .wrong) (a .out) (right (s .before) .0) (right (s .before) .1) (right (s .before) .2)
+    ∙ edges-right (rulesOf (a .case)) (withinZ (a .low) (a .high)) (a .case) (a .table .now) (a .wrong) (a .out) (right (s .before) .0) (right (s .before) .1) (right (s .before) .2)
     (sym (c .before .enum-told .given .1) ∙ s .edge-outcome .ensures)
 
 pub check-spec : {M : Type 1} → statement M

@@ -1,5 +1,4 @@
 use mathlib.Core.Path.{sym, _∙_}
-use Rattle.definitions.specs.Rules.{standard}
 use Rattle.tables.proofs.Order.{limited}
 use borrow.Author.Needs.{needs}
 use Rattle.tables.proofs.check_edges.Statement.{statement}
@@ -9,7 +8,7 @@ within-limits-requires : tie.Need-within-limits-requires
 within-limits-requires c κs = search needs
 
 edge-outcome-requires : tie.Need-edge-outcome-requires
-edge-outcome-requires c κs = limited standard (c .before .before .args .case) (sym (c .before .within-limits .ensures) ∙ c .if1 .taken) .edges
+edge-outcome-requires c κs = limited (c .before .before .args .case) (sym (c .before .within-limits .ensures) ∙ c .if1 .taken) .edges-placed
 
 returns : tie.Need-returns
 returns c = rw (sym (c .before .before .within-limits .ensures) ∙ c .before .if1 .taken) (c .edge-outcome .ensures)

@@ -1,3 +1,4 @@
+use Rattle.definitions.specs.Rules.{edgePlaces}
 use Prim.Native.Nat.{_*_, _-_, _≤_}
 use native.Mathlib.Omega.{arith}
 use borrow.Author.Tests.{lt-ltb, le-ltb}
@@ -6,24 +7,24 @@ use Rattle.tables.proofs.first_place.Statement.{statement}
 use Rattle.tables.proofs.first_place.Tie as tie
 
 mul-result : tie.Need-mul-result
-mul-result c = let a = c .before .args in omega (arith, times-most (a .x) (a .d) 48 8 (omega arith) (omega arith))
+mul-result c = let a = c .before .args in omega (arith, times-most (a .x) (a .d) 256 8 (omega arith) (omega arith))
 
 mul-result-2 : tie.Need-mul-result-2
-mul-result-2 c = let a = c .before .args in omega (arith, times-most (a .n) (a .d) 48 8 (omega arith) (omega arith))
+mul-result-2 c = let a = c .before .args in omega (arith, times-most (a .n) (a .d) 256 8 (omega arith) (omega arith))
 
 mul-result-3 : tie.Need-mul-result-3
 mul-result-3 c = let a = c .before .args in omega (arith, times-most (a .d) (a .d) 8 8 (omega arith) (omega arith))
 
-squares-small : (c : tie.Else1) → (c .before .args .x - c .before .args .n) * (c .before .args .d * c .before .args .d) ≤ 6144
+squares-small : (c : tie.Else1) → (c .before .args .x - c .before .args .n) * (c .before .args .d * c .before .args .d) ≤ edgePlaces * 64
 squares-small c =
     let a = c .before .args in
-    times-most (a .x - a .n) (a .d * a .d) 96 64 (omega arith) (times-most (a .d) (a .d) 8 8 (omega arith) (omega arith))
+    times-most (a .x - a .n) (a .d * a .d) edgePlaces 64 (omega arith) (times-most (a .d) (a .d) 8 8 (omega arith) (omega arith))
 
 mul-result-4 : tie.Need-mul-result-4
 mul-result-4 c = omega (arith, squares-small c)
 
 add-result : tie.Need-add-result
-add-result c = let a = c .before .args in omega (arith, times-most (a .n) (a .d) 48 8 (omega arith) (omega arith), squares-small c)
+add-result c = let a = c .before .args in omega (arith, times-most (a .n) (a .d) 256 8 (omega arith) (omega arith), squares-small c)
 
 returns : tie.Need-returns
 returns c = rw (lt-ltb _ _ (c .if1 .taken)) (omega arith)

@@ -4,7 +4,7 @@ use mathlib.Core.Bool.{true}
 use native.Mathlib.Omega.{arith}
 use borrow.Author.Needs.{needs}
 use borrow.Author.Tests.{not-true, not-false}
-use Rattle.definitions.specs.Rules.{standard}
+use Rattle.definitions.specs.Rules.{rulesOf}
 use Rattle.definitions.specs.Valid.{withinLimits}
 use Rattle.tables.proofs.Order.{limited}
 use Rattle.tables.proofs.Best.{greatest-outside, greatest-other-length, greatest-short, greatest-done}
@@ -18,11 +18,11 @@ returns : tie.Need-returns
 returns c = let a = c .before .before .args in
     greatest-outside (a .case) (a .table .now) (a .best .now) (sym (c .before .within-limits .ensures) ∙ not-true _ (c .if1 .taken))
 
-right : (c : tie.Else1) → let a = c .before .before .args in withinLimits standard (a .case .n) (a .case .d) (a .case .m) ≡ true
+right : (c : tie.Else1) → let a = c .before .before .args in withinLimits (rulesOf (a .case)) (a .case .n) (a .case .d) (a .case .m) ≡ true
 right c = sym (c .before .within-limits .ensures) ∙ not-false _ (c .if1 .left)
 
 table-length-requires : tie.Need-table-length-requires
-table-length-requires c κs = limited standard (c .before .before .args .case) (right c)
+table-length-requires c κs = limited (c .before .before .args .case) (right c)
 
 returns-2 : tie.Need-returns-2
 returns-2 c = let s = c .before .before in
@@ -30,7 +30,7 @@ returns-2 c = let s = c .before .before in
     greatest-other-length (a .case) (a .table .now) (a .best .now) (right s) (λ e. c .if2 .taken (e ∙ sym (c .before .table-length .ensures)))
 
 scope-count-requires : tie.Need-scope-count-requires
-scope-count-requires c κs = let s = c .before .before in limited standard (s .before .before .args .case) (right s)
+scope-count-requires c κs = let s = c .before .before in limited (s .before .before .args .case) (right s)
 
 returns-3 : tie.Need-returns-3
 returns-3 c = let s = c .before .before .before .before in
@@ -40,7 +40,7 @@ returns-3 c = let s = c .before .before .before .before in
 write-greatest-requires : tie.Need-write-greatest-requires
 write-greatest-requires c κs = let q = c .before in
     let s = q .before .before .before .before in
-    (limited standard (s .before .before .args .case) (right s), (q .before .before .if2 .left ∙ q .before .before .before .table-length .ensures, omega (arith, q .before .scope-count .ensures, q .if3 .left)))
+    (limited (s .before .before .args .case) (right s), (q .before .before .if2 .left ∙ q .before .before .before .table-length .ensures, omega (arith, q .before .scope-count .ensures, q .if3 .left)))
 
 same-length : tie.Need-same-length
 same-length c = search needs

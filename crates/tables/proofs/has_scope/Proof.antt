@@ -2,7 +2,7 @@
 use mathlib.Core.Path.{_≡_, sym, _∙_}
 use mathlib.Core.Bool.{true}
 use borrow.Author.Tests.{eq-eqb, ne-eqb, not-true, not-false}
-use Rattle.definitions.specs.Rules.{standard}
+use Rattle.definitions.specs.Rules.{rulesOf}
 use Rattle.definitions.specs.Valid.{withinLimits}
 use Rattle.tables.proofs.Order.{limited}
 use borrow.Author.Needs.{needs}
@@ -15,14 +15,14 @@ within-limits-requires c κs = search needs
 returns : tie.Need-returns
 returns c = rw (sym (c .before .within-limits .ensures) ∙ not-true _ (c .if1 .taken))
 
-right : (c : tie.Else1) → let a = c .before .before .args in withinLimits standard (a .case .n) (a .case .d) (a .case .m) ≡ true
+right : (c : tie.Else1) → let a = c .before .before .args in withinLimits (rulesOf (a .case)) (a .case .n) (a .case .d) (a .case .m) ≡ true
 right c = sym (c .before .within-limits .ensures) ∙ not-false _ (c .if1 .left)
 
 table-length-requires : tie.Need-table-length-requires
-table-length-requires c κs = limited standard (c .before .before .args .case) (right c)
+table-length-requires c κs = limited (c .before .before .args .case) (right c)
 
 scope-count-requires : tie.Need-scope-count-requires
-scope-count-requires c κs = let s = c .before .before in limited standard (s .before .before .args .case) (right s)
+scope-count-requires c κs = let s = c .before .before in limited (s .before .before .args .case) (right s)
 
 returns-2 : tie.Need-returns-2
 returns-2 c = let s = c .before .before in

@@ -2,6 +2,7 @@
 use mathlib.Core.Path.{sym, _∙_}
 use Rattle.integers.specs.Tests.{tests}
 use Rattle.tables.specs.Scopes.{scopeWeights}
+use Rattle.tables.proofs.Order.{limited-by}
 use borrow.Author.Needs.{needs}
 use Rattle.tables.proofs.scope_weights.Statement.{statement}
 use Rattle.tables.proofs.scope_weights.Tie as tie
@@ -11,7 +12,7 @@ has-scope-requires c κs = search needs
 
 scope-part-requires : tie.Need-scope-part-requires
 scope-part-requires c κs = let (((((p, q), (s, t)), (u, v)), e), x) = simp tests at (sym (c .before .has-scope .ensures) ∙ c .if1 .taken) in
-    (record { some-variable = p; variables = q; some-value = s; values = t; edges = v }, (e, x))
+    (limited-by (c .before .before .args .case) p q s t v, (e, x))
 
 sub-result : tie.Need-sub-result
 sub-result c = search needs

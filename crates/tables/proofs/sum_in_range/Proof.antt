@@ -14,7 +14,7 @@ use Rattle.integers.specs.Linear.{read-back}
 use Rattle.integers.specs.Tests.{true-is}
 use Rattle.integers.specs.Sums.{Σ}
 use Rattle.definitions.specs.declared.Figure.{Figure}
-use Rattle.definitions.specs.Rules.{standard}
+use Rattle.definitions.specs.Rules.{rulesIn, rulesOf, coherent, scopesAtMost}
 use Rattle.definitions.specs.Valid.{workingWeight}
 use Rattle.tables.specs.Scopes.{bestAt}
 use Rattle.tables.proofs.Bounds.{sum-more, sum-fits, sum-given, sum-refused}
@@ -22,10 +22,10 @@ use Rattle.tables.proofs.sum_in_range.Statement.{statement}
 use Rattle.tables.proofs.sum_in_range.Tie as tie
 
 abbrev Inv-loop : tie.InvT-loop
-Inv-loop best scopes sum₀ x₀ sum x = (x ≤ scopes) × ((y : ℕ) → y < x → T (workingWeight standard (bestAt best y))) × (toZ w64 sum ≡ Σ (bestAt best) 0 x)
+Inv-loop best scopes rulebook sum₀ x₀ sum x = (x ≤ scopes) × ((y : ℕ) → y < x → T (workingWeight (rulesIn rulebook) (bestAt best y))) × (toZ w64 sum ≡ Σ (bestAt best) 0 x)
 
 abbrev μ-loop : tie.MeasureT-loop
-μ-loop best scopes sum₀ x₀ sum x = scopes - x
+μ-loop best scopes rulebook sum₀ x₀ sum x = scopes - x
 
 scope-count-requires : tie.Need-scope-count-requires Inv-loop μ-loop
 scope-count-requires c κs = c .pre .0
@@ -39,18 +39,15 @@ mul-weight c = omega arith
 shared-slice-copy-out-weight : tie.Need-shared-slice-copy-out-weight Inv-loop μ-loop
 shared-slice-copy-out-weight c = omega arith
 
-sub-is-within : tie.Need-sub-is-within Inv-loop μ-loop
-sub-is-within c = search needs
-
-is-within-requires : tie.Need-is-within-requires Inv-loop μ-loop
-is-within-requires c κs = search needs
+is-working-requires : tie.Need-is-working-requires Inv-loop μ-loop
+is-working-requires c κs = search needs
 
 -- the number at x
-asked : (c : tie.After-is-within Inv-loop μ-loop) → let s = c .before .before .before in
-    c .is-within .result ≡ workingWeight standard (bestAt (s .before .before .args .best .now) (s .loop .x))
+asked : (c : tie.After-is-working Inv-loop μ-loop) → let s = c .before .before .before in
+    c .is-working .result ≡ workingWeight (rulesOf (s .before .before .args .case)) (bestAt (s .before .before .args .best .now) (s .loop .x))
 asked c =
     let s = c .before .before .before in
-    rw (read-back w64 (bestAt (s .before .before .args .best .now) (s .loop .x)) (c .before .weight .given)) at (c .is-within .ensures)
+    rw (read-back w64 (bestAt (s .before .before .args .best .now) (s .loop .x)) (c .before .weight .given)) at (c .is-working .ensures)
 
 returns : tie.Need-returns Inv-loop μ-loop
 returns c = let s = c .before .before .before .before in
@@ -59,7 +56,7 @@ returns c = let s = c .before .before .before .before in
 
 -- what holds of the scopes up to x, and their sum
 passed : (c : tie.Else1 Inv-loop μ-loop) → let s = c .before .before .before .before in
-    (y : ℕ) → y < s .loop .x + 1 → T (workingWeight standard (bestAt (s .before .before .args .best .now) y))
+    (y : ℕ) → y < s .loop .x + 1 → T (workingWeight (rulesOf (s .before .before .args .case)) (bestAt (s .before .before .args .best .now) y))
 passed c = below-more _ _ (c .before .before .before .before .loop .inv .1) (true-is _ (sym (asked (c .before)) ∙ not-false _ (c .if1 .left)))
 
 next : (c : tie.Else1 Inv-loop μ-loop) → let s = c .before .before .before .before in
@@ -72,7 +69,8 @@ next c =
 
 add-sum : tie.Need-add-sum Inv-loop μ-loop
 add-sum c = let s = c .before .before .before .before in
-    rw (next c) (sum-fits (bestAt (s .before .before .args .best .now)) (s .loop .x + 1) (omega arith) (passed c))
+    let a = s .before .before .args in
+    rw (next c) (sum-fits (bestAt (a .best .now)) (coherent (a .case .rulebook)) (s .loop .x + 1) (omega arith) (passed c))
 
 add-x : tie.Need-add-x Inv-loop μ-loop
 add-x c = omega arith
@@ -99,8 +97,7 @@ sum-in-range-spec =
     loop-holds
     mul-weight
     shared-slice-copy-out-weight
-    sub-is-within
-    is-within-requires
+    is-working-requires
     returns
     add-sum
     add-x

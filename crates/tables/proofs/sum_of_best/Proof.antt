@@ -5,7 +5,7 @@ use Prim.Native.Nat.{_+_}
 use native.Mathlib.Omega.{arith}
 use lib.ListN.{length}
 use borrow.Author.Tests.{lt-ltb, le-ltb, not-true, not-false}
-use Rattle.definitions.specs.Rules.{standard}
+use Rattle.definitions.specs.Rules.{rulesOf}
 use Rattle.definitions.specs.Valid.{withinLimits}
 use Rattle.tables.specs.Scopes.{bestSum}
 use Rattle.tables.proofs.Order.{limited}
@@ -20,11 +20,11 @@ returns : tie.Need-returns
 unfolding bestSum
 returns c = rw (sym (c .before .within-limits .ensures) ∙ not-true _ (c .if1 .taken))
 
-right : (c : tie.Else1) → let a = c .before .before .args in withinLimits standard (a .case .n) (a .case .d) (a .case .m) ≡ true
+right : (c : tie.Else1) → let a = c .before .before .args in withinLimits (rulesOf (a .case)) (a .case .n) (a .case .d) (a .case .m) ≡ true
 right c = sym (c .before .within-limits .ensures) ∙ not-false _ (c .if1 .left)
 
 scope-count-requires : tie.Need-scope-count-requires
-scope-count-requires c κs = limited standard (c .before .before .args .case) (right c)
+scope-count-requires c κs = limited (c .before .before .args .case) (right c)
 
 returns-2 : tie.Need-returns-2
 unfolding bestSum
@@ -34,7 +34,7 @@ returns-2 c = let s = c .before .before in
 
 sum-in-range-requires : tie.Need-sum-in-range-requires
 sum-in-range-requires c κs = let s = c .before .before in
-    (limited standard (s .before .before .args .case) (right s), omega (arith, c .before .scope-count .ensures, c .if2 .left))
+    (limited (s .before .before .args .case) (right s), omega (arith, c .before .scope-count .ensures, c .if2 .left))
 
 returns-3 : tie.Need-returns-3
 unfolding bestSum

@@ -5,7 +5,8 @@ use lib.ListN.{length}
 use denote.Ref.{now}
 use Rattle.integers.specs.Words.{if_then_else_}
 use Rattle.definitions.specs.declared.Span.{Span}
-use Rattle.definitions.specs.Rules.{standard}
+use Rattle.definitions.specs.declared.Rulebook.the-variants.{Desk}
+use Rattle.definitions.specs.Rules.{rulesIn}
 use Rattle.definitions.specs.Answers.{spanSays, lineNamed}
 use Rattle.definitions.specs.Views.{roundSpan, partOf}
 use Rattle.definitions.proofs.AnswerLaws.{numbered}
@@ -19,14 +20,14 @@ firstByte (Span.Part from to) = from
 firstByte (Span.Refused x at) = 0
 
 -- the span that was found is the round's
-found : (c : tie.After-round-span) {x : Span} → c .round-span .result ≡ x → let a = c .before .before .args in x ≡ roundSpan standard (now (a .log)) (a .round)
+found : (c : tie.After-round-span) {x : Span} → c .round-span .result ≡ x → let a = c .before .before .args in x ≡ roundSpan (rulesIn Desk) (now (a .log)) (a .round)
 found c e = sym e ∙ c .round-span .ensures
 
 within : (c : tie.After-known-told) → (c .before .span .given .0 .0 ≤ c .before .span .given .0 .1 .0) × (c .before .span .given .0 .1 .0 ≤ length (now (c .before .before .before .before .before .args .log)))
 within c =
     let s = c .before .before .before in
     let a = s .before .before .args in
-    part-inside (now (a .log)) (a .round) (sym (found s (c .before .span .given .1)))
+    part-inside (rulesIn Desk .amountWidth) (now (a .log)) (a .round) (sym (found s (c .before .span .given .1)))
 
 round-span-requires : tie.Need-round-span-requires
 round-span-requires c κs = search needs

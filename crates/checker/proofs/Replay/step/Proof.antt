@@ -1,5 +1,5 @@
 use mathlib.Core.Path.{sym, ap, _∙_}
-use Rattle.definitions.specs.Rules.{standard}
+use Rattle.definitions.specs.Rules.{rulesOf}
 use Rattle.checker.specs.declared.Standing.{Standing}
 use Rattle.checker.specs.Checker.{stepStanding, stepReplay}
 use borrow.Author.Needs.{needs}
@@ -21,8 +21,8 @@ step-good-requires c κs = search needs
 returns : tie.Need-returns
 unfolding stepReplay
 returns c = let a = c .before .before .before .before .before .args in let e = c .before .before .standing .given .1 in (
-  c .refuse .ensures ∙ sym (ap (λ (s : Standing). stepStanding standard (a .case) (a .table .now) (a .self) (a .line .now) s .stepped) e),
-  sym (ap (λ (s : Standing). stepStanding standard (a .case) (a .table .now) (a .self) (a .line .now) s .table) e),
+  c .refuse .ensures ∙ sym (ap (λ (s : Standing). stepStanding (rulesOf (a .case)) (a .case) (a .table .now) (a .self) (a .line .now) s .stepped) e),
+  sym (ap (λ (s : Standing). stepStanding (rulesOf (a .case)) (a .case) (a .table .now) (a .self) (a .line .now) s .table) e),
 )
 
 same-length : tie.Need-same-length

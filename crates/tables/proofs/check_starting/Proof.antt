@@ -1,0 +1,34 @@
+use mathlib.Core.Path.{ap₂, _∙_}
+use lib.IntN.{ℤ}
+use mir.Syntax.{w64}
+use Rattle.integers.specs.Linear.{read-back}
+use Rattle.integers.specs.Words.{withinZ}
+use Rattle.definitions.specs.Rules.{rulesOf}
+use Rattle.definitions.specs.Refusals.{firstOf}
+use Rattle.definitions.specs.Answers.{outcomeOf}
+use Rattle.definitions.specs.Valid.{handedOver}
+use borrow.Author.Needs.{needs}
+use Rattle.tables.proofs.check_starting.Statement.{statement}
+use Rattle.tables.proofs.check_starting.Tie as tie
+
+least-starting-requires : tie.Need-least-starting-requires
+least-starting-requires c κs = search needs
+
+most-starting-requires : tie.Need-most-starting-requires
+most-starting-requires c κs = search needs
+
+check-requires : tie.Need-check-requires
+check-requires c κs = search needs
+
+returns : tie.Need-returns
+returns c = let a = c .before .before .before .args in
+    let low = c .before .before .least-starting in
+    let high = c .before .most-starting in
+    c .check .ensures
+    ∙ ap₂ (λ (x y : ℤ). outcomeOf (firstOf (handedOver (rulesOf (a .case)) (withinZ x y) (a .case) (a .table .now) (a .wrong) (a .out))))
+    (read-back w64 (low .result) (low .ok) ∙ low .ensures)
+    (read-back w64 (high .result) (high .ok) ∙ high .ensures)
+
+pub check-starting-spec : {M : Type 1} → statement M
+check-starting-spec =
+    tie.close (tie.spec least-starting-requires most-starting-requires check-requires returns)
