@@ -17,28 +17,30 @@ use Rattle.integers.specs.Tables.{length-tab, getD-tab}
 use Rattle.definitions.specs.declared.Case.{Case}
 use Rattle.definitions.specs.declared.Outcome.{Outcome}
 use Rattle.definitions.specs.declared.Refusal.{Refusal}
-use Rattle.definitions.specs.declared.Refusal.the-variants.{OutsideLimits, WrongLength, OutOfRange}
+use Rattle.definitions.specs.declared.Refusal.the-variants.{OutOfRange}
 use Rattle.definitions.specs.declared.Verdict.{Verdict}
 use Rattle.definitions.specs.Rules.{rulesOf}
-use Rattle.definitions.specs.Refusals.{Test, _when_}
+use Rattle.definitions.specs.Refusals.{Test, _when_, firstOf}
 use Rattle.definitions.specs.Answers.{outcomeOf}
-use Rattle.definitions.specs.Case.{scopeCount, lentLength, active}
-use Rattle.definitions.specs.Valid.{workingWeight, withinLimits, limitTest, lengthTest, someEdge, endOutside}
-use Rattle.definitions.specs.Calls.{isMarked}
+use Rattle.definitions.specs.Case.{scopeCount, active}
+use Rattle.definitions.specs.Valid.{workingWeight, limitTest, lengthTest, someEdge, endOutside}
+use Rattle.calls.specs.Calls.{isMarked, isRaised}
 use Rattle.definitions.specs.Consistency.{refuted, allRefuted}
 use Rattle.definitions.specs.Moves.{activeValues}
 use Rattle.theory.proofs.Validity.{none-applies, Handed}
 use Rattle.theory.proofs.Words.{none-below}
 use Rattle.tables.specs.Scopes.{BestOf}
-use Rattle.tables.proofs.Order.{limited-by, outcome-done, outcome-refused}
+use Rattle.tables.proofs.Order.{limited-by, outcome-done, outcome-refused, first-stops, first-next}
 use Rattle.tables.proofs.Answered.{limits-true}
 use Rattle.marks.specs.Marks.{mark, fullOf, onlyOf}
 use Rattle.marks.proofs.Laws.{mark-byteOf}
-use Rattle.arcs.specs.Active.{setWhere, rowWhere, hasWeight, activeSet, activeRow, Sized, Written}
+use Rattle.arcs.specs.Active.{setWhere, rowWhere, hasBest, Sized, Written}
 use Rattle.arcs.specs.Tried.{triedAnswer}
-use Rattle.arcs.specs.Best.{hasBest, isRaised, allowedBest, partnersBest, bestSets, bestRows, isUnsupported, areUnsupported, tooFew, bestRefusal, valuesUnsupportedAnswer, bestUnsupportedAnswer}
+use Rattle.arcs.specs.Best.{allowedBest, partnersBest, bestSets, bestRows}
+use Rattle.arcs.specs.Best.{isUnsupported, areUnsupported, tooFew, bestRefusal, valuesUnsupportedAnswer, bestUnsupportedAnswer}
 use Rattle.arcs.specs.declared.Tried.the-variants.{Unsupported, Supported}
 use Rattle.arcs.proofs.Marked.{rowsOf-length, rowsOf-at, written-part}
+use Rattle.arcs.proofs.Prepared.{lengths-taken, set-active, row-active}
 use Rattle.arcs.proofs.Fixed.{not-not}
 use Rattle.arcs.proofs.Refutation.{Bytes, tried-refuted}
 
@@ -58,61 +60,61 @@ module _ (c : Case) (w best : List ℤ) (raised : List ℕ) where
     row-raised ne = sym (ap (λ (b : Bool). if not b then rowWhere c (hasBest c w best) e p else 0) (ne-eqb (getD raised (c .n + e) 0) 0 ne))
 
   -- the parts of the arrays that are written
-  pub prepared-answer : (zeros rows zeros′ sets : List ℕ) → 16 * c .m ≤ length zeros → Written (λ q. getD (bestRows c w best raised) q 0) 0 (16 * c .m) zeros rows
+  pub prepared-answer : (zeros rows zeros′ sets : List ℕ) → 16 * c .m ≤ length zeros
+      → Written (λ q. getD (bestRows c w best raised) q 0) 0 (16 * c .m) zeros rows
       → c .n ≤ length zeros′ → Written (allowedBest c w best raised) 0 (c .n) zeros′ sets → (i values : ℕ)
-      → isUnsupported (triedAnswer (c .lower) (c .upper) (take (16 * c .m) rows) (take ((c .n + c .m) - c .n) (drop (c .n) raised)) (take (c .n) sets) i values) ≡ areUnsupported c w best raised i values
+      → isUnsupported (triedAnswer (c .lower) (c .upper) (take (16 * c .m) rows) (take ((c .n + c .m) - c .n) (drop (c .n) raised)) (take (c .n) sets) i
+      values) ≡ areUnsupported c w best raised i values
   unfolding bestRows bestSets areUnsupported
   prepared-answer zeros rows zeros′ sets room r room′ s i values =
-      let a = written-part (bestRows c w best raised) zeros rows (λ q. getD (bestRows c w best raised) q 0) (16 * c .m) (rowsOf-length (partnersBest c w best raised) (c .m)) (λ p h. refl) room r in
-      let b = written-part (bestSets c w best raised) zeros′ sets (allowedBest c w best raised) (c .n) (length-tab (allowedBest c w best raised) 0 (c .n)) (λ p h. getD-tab (allowedBest c w best raised) (c .n) p 0 h) room′ s in
+      let a = written-part (bestRows c w best raised) zeros rows (λ q. getD (bestRows c w best raised) q 0) (16 * c .m)
+      (rowsOf-length (partnersBest c w best raised) (c .m)) (λ p h. refl) room r in
+      let b = written-part (bestSets c w best raised) zeros′ sets (allowedBest c w best raised) (c .n) (length-tab (allowedBest c w best raised) 0 (c .n))
+      (λ p h. getD-tab (allowedBest c w best raised) (c .n) p 0 h) room′ s in
       let m : (c .n + c .m) - c .n ≡ c .m = omega arith in
       rw (a, b, m)
 
--- ---- what is asked, test by test
+-- ---- what is asked
 
 module _ (c : Case) (w best : List ℤ) (raised : List ℕ) (i : ℕ) where
-  abbrev tests-of : List Test
-  tests-of = limitTest (rulesOf c) c ∷ lengthTest c w (tooFew c best raised) ∷ OutOfRange when (not (ltb i (c .n)) || someEdge c (endOutside c)) ∷ []
+  abbrev lengths-of : List Test
+  lengths-of = limitTest (rulesOf c) c ∷ lengthTest c w (tooFew c best raised) ∷ []
+
+  abbrev arguments-of : List Test
+  arguments-of = OutOfRange when (not (ltb i (c .n)) || someEdge c (endOutside c)) ∷ []
 
   abbrev checked : Outcome
   checked = outcomeOf (bestRefusal (rulesOf c) c w best raised i)
 
-  pub limits-refused : withinLimits (rulesOf c) (c .n) (c .d) (c .m) ≡ false → Outcome.Refused OutsideLimits ≡ checked
-  limits-refused e = rw e
+  pub lengths-refused : {x : Refusal} → Outcome.Refused x ≡ outcomeOf (firstOf lengths-of) → Outcome.Refused x ≡ checked
+  lengths-refused e = sym (ap outcomeOf (first-stops arguments-of lengths-of (outcome-refused e)))
 
-  module _ (e : withinLimits (rulesOf c) (c .n) (c .d) (c .m) ≡ true) where
-    pub length-refused : (length w ≡ lentLength c → ⊥) → Outcome.Refused WrongLength ≡ checked
-    length-refused ne = rw (e, ne-eqb (length w) (lentLength c) ne)
+  module _ (e : Outcome.Done ≡ outcomeOf (firstOf lengths-of)) where
+    asks-on : checked ≡ outcomeOf (firstOf arguments-of)
+    asks-on = ap outcomeOf (first-next arguments-of lengths-of (outcome-done e))
 
-    module _ (long : length w ≡ lentLength c) where
-      pub few-refused : tooFew c best raised ≡ true → Outcome.Refused WrongLength ≡ checked
-      few-refused t = rw (e, eq-eqb (length w) (lentLength c) long, t)
+    pub arguments-refused : (not (ltb i (c .n)) || someEdge c (endOutside c)) ≡ true → Outcome.Refused OutOfRange ≡ checked
+    arguments-refused t = sym (asks-on ∙ ap (λ (b : Bool). outcomeOf (firstOf (OutOfRange when b ∷ []))) t)
 
-      module _ (f : tooFew c best raised ≡ false) where
-        pub variable-refused : c .n ≤ i → Outcome.Refused OutOfRange ≡ checked
-        variable-refused h = rw (e, eq-eqb (length w) (lentLength c) long, f, le-ltb i (c .n) h)
-
-        module _ (g : i < c .n) where
-          pub ends-refused : someEdge c (endOutside c) ≡ true → Outcome.Refused OutOfRange ≡ checked
-          ends-refused t = rw (e, eq-eqb (length w) (lentLength c) long, f, lt-ltb i (c .n) g, t)
-
-          pub none-refused : someEdge c (endOutside c) ≡ false → Outcome.Done ≡ checked
-          none-refused t = rw (e, eq-eqb (length w) (lentLength c) long, f, lt-ltb i (c .n) g, t)
+    pub arguments-taken : (not (ltb i (c .n)) || someEdge c (endOutside c)) ≡ false → Outcome.Done ≡ checked
+    arguments-taken t = sym (asks-on ∙ ap (λ (b : Bool). outcomeOf (firstOf (OutOfRange when b ∷ []))) t)
 
   -- the answers, by what was asked
-  pub answer-refused : {x : Refusal} → Outcome.Refused x ≡ checked → (values : ℕ) → Verdict.Refused x ≡ valuesUnsupportedAnswer (rulesOf c) c w best raised i values
+  pub answer-refused : {x : Refusal} → Outcome.Refused x ≡ checked → (values : ℕ)
+      → Verdict.Refused x ≡ valuesUnsupportedAnswer (rulesOf c) c w best raised i values
   unfolding valuesUnsupportedAnswer
   answer-refused {x} e values = let d : bestRefusal (rulesOf c) c w best raised i ≡ some x = outcome-refused e in rw d
 
   module _ (e : Outcome.Done ≡ checked) where
-    pub answer-given : (values : ℕ) → (if areUnsupported c w best raised i values then Verdict.Yes else Verdict.No) ≡ valuesUnsupportedAnswer (rulesOf c) c w best raised i values
+    pub answer-given : (values : ℕ) → (if areUnsupported c w best raised i values then Verdict.Yes else Verdict.No) ≡ valuesUnsupportedAnswer (rulesOf c) c w
+        best raised i values
     unfolding valuesUnsupportedAnswer
     answer-given values = let d : bestRefusal (rulesOf c) c w best raised i ≡ none = outcome-done e in rw d
 
-    pub arguments-known : Sized c w × ((scopeCount c ≤ length best) × (scopeCount c ≤ length raised)) × (i < c .n)
-    arguments-known =
+    pub best-arguments-known : Sized c w × ((scopeCount c ≤ length best) × (scopeCount c ≤ length raised)) × (i < c .n)
+    best-arguments-known =
         let d : bestRefusal (rulesOf c) c w best raised i ≡ none = outcome-done e in
-        let p = simp tests at (none-applies tests-of .0 (rw d tt)) in (
+        let p = simp tests at (none-applies (limitTest (rulesOf c) c ∷ lengthTest c w (tooFew c best raised) ∷ arguments-of) .0 (rw d tt)) in (
           record {
             limits = limited-by c (p .0 .0 .0 .0) (p .0 .0 .0 .1) (p .0 .0 .1 .0) (p .0 .0 .1 .1) (p .0 .1 .1);
             long = p .1 .0 .0;
@@ -123,19 +125,17 @@ module _ (c : Case) (w best : List ℤ) (raised : List ℕ) (i : ℕ) where
 
 -- ---- where `best` holds the greatest weights, the answer is refutation
 
-module _ (c : Case) (w : List ℤ) (h : Handed (rulesOf c) (workingWeight (rulesOf c)) c w) (best : List ℤ) (b : BestOf c w best) (raised : List ℕ) (room : scopeCount c ≤ length raised)
+module _ (c : Case) (w : List ℤ) (h : Handed (rulesOf c) (workingWeight (rulesOf c)) c w) (best : List ℤ) (b : BestOf c w best) (raised : List ℕ)
+    (room : scopeCount c ≤ length raised)
     (lowers : c .m ≤ length (c .lower)) (uppers : c .m ≤ length (c .upper)) where
-  set-active : (j : ℕ) → j < c .n → setWhere c (hasBest c w best) j ≡ activeSet c w j
-  set-active j u = ap (λ (z : ℤ). setWhere c (hasWeight c w z) j) (b .holds j (omega arith))
-
-  row-active : (e p : ℕ) → e < c .m → rowWhere c (hasBest c w best) e p ≡ activeRow c w e p
-  row-active e p u = ap (λ (z : ℤ). rowWhere c (hasWeight c w z) e p) (b .holds (c .n + e) (omega arith))
-
   enough : tooFew c best raised ≡ false
   enough = rw (le-ltb (length best) (scopeCount c) (b .enough), le-ltb (length raised) (scopeCount c) room)
 
   ends : someEdge c (endOutside c) ≡ false
   ends = simp (tests, none-below) (λ e u. (omega (arith, h .shape .ascending e u, h .shape .below-n e u), h .shape .below-n e u))
+
+  taken : (i : ℕ) → i < c .n → Outcome.Done ≡ checked c w best raised i
+  taken i g = arguments-taken c w best raised i (lengths-taken c w (tooFew c best raised) (limits-true h) (h .long) enough) (rw (lt-ltb i (c .n) g, ends))
 
   module _ (R : ℕ → Bool) (same : (x : ℕ) → x < scopeCount c → isRaised raised x ≡ R x) where
     bytes : Bytes c w R (bestRows c w best raised) (take (c .m) (drop (c .n) raised)) (bestSets c w best raised)
@@ -152,13 +152,13 @@ module _ (c : Case) (w : List ℤ) (h : Handed (rulesOf c) (workingWeight (rules
         partners = λ e p u l t.
             rowsOf-at (partnersBest c w best raised) (c .m) e p u l
             ∙ ap (λ (x : Bool). if x then rowWhere c (hasBest c w best) e p else 0) (same (c .n + e) (omega arith) ∙ is-true (R (c .n + e)) t)
-            ∙ row-active e p u;
+            ∙ row-active b e p u;
       };
       sets-length = length-tab (allowedBest c w best raised) 0 (c .n);
       sets = λ j u.
           getD-tab (allowedBest c w best raised) (c .n) j 0 u
           ∙ ap (λ (x : Bool). if x then setWhere c (hasBest c w best) j else fullOf (c .d)) (same j (omega arith))
-          ∙ ap (λ (x : ℕ). if R j then x else fullOf (c .d)) (set-active j u);
+          ∙ ap (λ (x : ℕ). if R j then x else fullOf (c .d)) (set-active b j u);
     }
 
     unsupported-refuted : (i : ℕ) → i < c .n → (values : ℕ) (set : ℕ → Bool) → ((k : ℕ) → k < 8 → mark values k ≡ (ltb k (c .d) && set k))
@@ -174,7 +174,7 @@ module _ (c : Case) (w : List ℤ) (h : Handed (rulesOf c) (workingWeight (rules
     pub values-unsupported-is-refuted : (i : ℕ) → i < c .n → (values : ℕ) (set : ℕ → Bool) → ((k : ℕ) → k < 8 → mark values k ≡ (ltb k (c .d) && set k))
         → valuesUnsupportedAnswer (rulesOf c) c w best raised i values ≡ (if allRefuted c w R i set then Verdict.Yes else Verdict.No)
     values-unsupported-is-refuted i g values set is =
-        sym (answer-given c w best raised i (none-refused c w best raised i (limits-true h) (h .long) enough g ends) values)
+        sym (answer-given c w best raised i (taken i g) values)
         ∙ ap (λ (x : Bool). if x then Verdict.Yes else Verdict.No) (unsupported-refuted i g values set is)
 
     -- one value
@@ -193,14 +193,15 @@ module _ (c : Case) (w : List ℤ) (h : Handed (rulesOf c) (workingWeight (rules
         in-range v false e = sym (and-false (ltb v (c .d)))
 
   -- the active values, with the scopes raised whose byte is not 0
-  pub best-unsupported-is-refuted : (i : ℕ) → i < c .n → bestUnsupportedAnswer (rulesOf c) c w best raised i ≡ (if allRefuted c w (isRaised raised) i (activeValues c w i) then Verdict.Yes else Verdict.No)
+  pub best-unsupported-is-refuted : (i : ℕ) → i < c .n → bestUnsupportedAnswer (rulesOf c) c w best raised
+      i ≡ (if allRefuted c w (isRaised raised) i (activeValues c w i) then Verdict.Yes else Verdict.No)
   best-unsupported-is-refuted i g =
       values-unsupported-is-refuted (isRaised raised) (λ x u. refl) i g (setWhere c (hasBest c w best) i) (activeValues c w i) (λ k l.
-      ap (λ (s : ℕ). mark s k) (set-active i g) ∙ mark-byteOf (λ v. ltb v (c .d) && active c w i v 0) k l)
+      ap (λ (s : ℕ). mark s k) (set-active b i g) ∙ mark-byteOf (λ v. ltb v (c .d) && active c w i v 0) k l)
 
 -- bytes that are 0 or 1
-pub marked-raised : (raised : List ℕ) (x : ℕ) → getD raised x 0 ≤ 1 → isRaised raised x ≡ isMarked raised x
-marked-raised raised x h = by (getD raised x 0) h
+pub bytes-raised : (raised : List ℕ) (x : ℕ) → getD raised x 0 ≤ 1 → isRaised raised x ≡ isMarked raised x
+bytes-raised raised x h = by (getD raised x 0) h
   where
     by : (b : ℕ) → b ≤ 1 → not (eqb b 0) ≡ eqb b 1
     by zero h = refl

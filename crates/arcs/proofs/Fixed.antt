@@ -16,17 +16,16 @@ use Rattle.definitions.specs.Rules.{rulesOf}
 use Rattle.definitions.specs.Case.{active}
 use Rattle.definitions.specs.Valid.{workingWeight}
 use Rattle.definitions.specs.Consistency.{allowed, refuted}
-use Rattle.theory.specs.Network.{Network, networkOf, fixedSets}
+use Rattle.networks.specs.Network.{Network, networkOf, fixedSets}
 use Rattle.theory.proofs.Validity.{Handed}
-use Rattle.theory.proofs.Networks.{None, Alike, to-fewer, to-more, case-ends, refuted-none, none-tried, some-tried}
+use Rattle.networks.proofs.Networks.{None, Alike, to-fewer, to-more, case-ends, refuted-none, none-tried, some-tried}
 use Rattle.tables.proofs.Answered.{limits-known}
 use Rattle.marks.specs.Marks.{mark, fullOf, onlyOf, inBoth}
 use Rattle.marks.proofs.Laws.{mark-byteOf}
-use Rattle.arcs.specs.Closure.{networkOfBytes, setsOf, isMalformed, someFamily, closureAnswer}
-use Rattle.arcs.specs.declared.Closed.the-variants.{Empty, Family as SomeFamily}
+use Rattle.arcs.specs.Closure.{networkOfBytes, setsOf, isMalformed, someFamily}
 use Rattle.arcs.specs.Active.{activeSet, aboveWhere, belowWhere, activeRow}
 use Rattle.arcs.specs.Fixed.{allowedSet, fixedSet}
-use Rattle.arcs.proofs.Results.{well-formed, answer-is}
+use Rattle.arcs.proofs.Results.{well-formed}
 
 -- ---- tests
 
@@ -57,7 +56,8 @@ module _ (c : Case) (w : List ℤ) (few : c .d ≤ 8) where
     allowed-in false t = ltb→lt v (c .d) (rw (mark-byteOf (λ v. ltb v (c .d)) v g) at t)
 
   module _ (R : ℕ → Bool) (i k : ℕ) (j v : ℕ) (g : v < 8) where
-    fixed-by : v < c .d → (b : Bool) → mark (if b then inBoth (allowedSet c w R j) (onlyOf k) else allowedSet c w R j) v ≡ (allowed c w R j v 0 && (b ⇒ eqb v k))
+    fixed-by : v < c .d → (b : Bool) → mark (if b then inBoth (allowedSet c w R j) (onlyOf k) else allowedSet c w R j)
+        v ≡ (allowed c w R j v 0 && (b ⇒ eqb v k))
     fixed-by l true =
         mark-byteOf (λ x. mark (allowedSet c w R j) x && mark (onlyOf k) x) v g
         ∙ ap₂ (λ (a b : Bool). a && b) (allowed-at j v g l (R j)) (mark-byteOf (λ x. eqb x k) v g)
@@ -83,7 +83,8 @@ module _ (c : Case) (w : List ℤ) (few : c .d ≤ 8) where
         let s : (8 + y) - 8 ≡ y = omega arith in
         let large : 8 ≤ 8 + y = omega arith in
         ap (λ (s : ℕ). mark s x)
-        (ap (λ (b : Bool). if b then aboveWhere c (active c w) e (8 + y) else belowWhere c (active c w) e ((8 + y) - 8)) (le-ltb (8 + y) 8 large) ∙ ap (belowWhere c (active c w) e) s)
+        (ap (λ (b : Bool). if b then aboveWhere c (active c w) e (8 + y) else belowWhere c (active c w) e ((8 + y) - 8)) (le-ltb (8 + y) 8 large)
+        ∙ ap (belowWhere c (active c w) e) s)
         ∙ mark-byteOf (λ k. ltb k (c .d) && (ltb y (c .d) && active c w (c .n + e) k y)) x (omega arith)
         ∙ simp (lt-ltb x (c .d) p, lt-ltb y (c .d) q)
 
@@ -119,7 +120,8 @@ module _ (c : Case) (w : List ℤ) (h : Handed (rulesOf c) (workingWeight (rules
     below = λ e v u g p q r s.
         let z : 16 * e + 8 + u ≡ 16 * e + (8 + u) = omega arith in
         sym (edge-test (eqb (getD edges e 0) 0) (R (c .n + e)) _ _ (known .raised e g)
-        (λ t. ap (λ (b : ℕ). mark b v) (ap (λ (y : ℕ). getD rows y 0) z ∙ known .partners e (8 + u) g (omega (arith, few-values)) t) ∙ below-mark c w few-values e v u p q));
+        (λ t. ap (λ (b : ℕ). mark b v) (ap (λ (y : ℕ). getD rows y 0) z ∙ known .partners e (8 + u) g (omega (arith, few-values)) t)
+        ∙ below-mark c w few-values e v u p q));
   }
 
   same-sets : (j v : ℕ) → j < c .n → v < c .d → fixedSets c w R i k j v ≡ setsOf S j v
@@ -136,7 +138,7 @@ module _ (c : Case) (w : List ℤ) (h : Handed (rulesOf c) (workingWeight (rules
         λ none. back (λ F p. none (λ j v. F j v && ltb v (c .d)) (to-more ends alike same-sets few-values only-values p)),
       )
 
-  -- the answer of `closure` on these bytes says whether the value is refuted
+  -- whether a family is left on these bytes says whether the value is refuted
   module _ (g : i < c .n) (good : isMalformed (length S) (c .lower) (c .upper) rows edges ≡ false) where
     pub some-family : someFamily M (setsOf S) ≡ not (refuted c w R i k)
     some-family =
@@ -144,13 +146,6 @@ module _ (c : Case) (w : List ℤ) (h : Handed (rulesOf c) (workingWeight (rules
         (λ t. not-T (refuted c w R i k) (λ r. rw (none-tried M (setsOf S) (refuted-bytes g .0 r)) at t))
         (λ t.
         ⊎-elim (λ s. s)
-        (λ n. absurd (T-not (refuted c w R i k) t (refuted-bytes g .1 (λ F p. rw (some-tried M (setsOf S) (well-formed (c .lower) (c .upper) rows edges S good .ends) p) at n))))
+        (λ n. absurd (T-not (refuted c w R i k) t (refuted-bytes g .1 (λ F p. rw
+        (some-tried M (setsOf S) (well-formed (c .lower) (c .upper) rows edges S good .ends) p) at n))))
         (either (someFamily M (setsOf S))))
-
-    pub closure-refuted : closureAnswer (c .lower) (c .upper) rows edges S ≡ (if refuted c w R i k then Empty else SomeFamily)
-    closure-refuted =
-        answer-is (c .lower) (c .upper) rows edges S good ∙ ap (λ (b : Bool). if b then SomeFamily else Empty) some-family ∙ turned (refuted c w R i k)
-      where
-        turned : (b : Bool) → (if not b then SomeFamily else Empty) ≡ (if b then Empty else SomeFamily)
-        turned true = refl
-        turned false = refl

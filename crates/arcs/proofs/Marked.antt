@@ -7,50 +7,47 @@ use Prim.Native.Nat.{ℕ, zero, suc, _+_, _*_, _-_, _≤_, _<_}
 use lib.IntN.{ℤ}
 use native.Mathlib.Omega.{arith}
 use borrow.Author.Tests.{lt-ltb, le-ltb, ne-eqb}
-use lib.Dec.{T, ltb, eqb, eqb→eq, ltb→lt, lt→ltb, nltb→le}
+use lib.Dec.{T, ltb, eqb, eqb→eq, ltb→lt, nltb→le}
 use lib.ListN.{length, getD, set, take, drop, length-append, length-drop, length-set, List·getD-append}
 use lib.Seq.{ext-getD, getD-append-add, getD-drop, take-at}
 use Rattle.integers.specs.Words.{if_then_else_, below, joined}
-use Rattle.integers.specs.Tests.{either, is-true, is-false, not-eqb-iff, same-test}
+use Rattle.integers.specs.Tests.{either, is-true, is-false, not-eqb-iff}
 use Rattle.integers.specs.Tables.{length-tab, getD-tab, length-rows, getD-rows}
 use Rattle.definitions.specs.declared.Case.{Case}
 use Rattle.definitions.specs.Lines.{overwritten}
 use Rattle.marks.specs.Marks.{mark, byteOf, added, pushed}
 use Rattle.marks.proofs.Laws.{mark-byteOf, mark-zero, byteOf-cong, byte-is}
-use Rattle.arcs.specs.Active.{activeSet, activeRow, activeSets, activeRows, Written}
+use Rattle.arcs.specs.Active.{setWhere, rowWhere, hasBest, markedSets, markedRows, Written}
+use Rattle.arcs.proofs.Search.{less-next}
 use Rattle.arcs.proofs.Steps.{after-set}
 
 -- ---- the values from j on, below d, at which f passes, each less by j
-unfoldable pub asked : (ℕ → Bool) → ℕ → ℕ → ℕ
-asked f d j = byteOf (λ v. ltb (j + v) d && f (j + v))
+unfoldable pub valuesFrom : (ℕ → Bool) → ℕ → ℕ → ℕ
+valuesFrom f d j = byteOf (λ v. ltb (j + v) d && f (j + v))
 
 module _ (f : ℕ → Bool) (d : ℕ) where
-  pub asked-none : 0 ≡ asked f d d
-  unfolding asked
-  asked-none = byte-is 0 _ (omega arith) (λ v h. mark-zero v ∙ sym (ap (λ (b : Bool). b && f (d + v)) (le-ltb (d + v) d (omega arith))))
+  pub values-none : 0 ≡ valuesFrom f d d
+  unfolding valuesFrom
+  values-none = byte-is 0 _ (omega arith) (λ v h. mark-zero v ∙ sym (ap (λ (b : Bool). b && f (d + v)) (le-ltb (d + v) d (omega arith))))
 
-  pub asked-all : asked f d 0 ≡ byteOf (λ v. ltb v d && f v)
-  unfolding asked
-  asked-all = byteOf-cong (λ v h. let e : 0 + v ≡ v = omega arith in ap (λ (x : ℕ). ltb x d && f x) e)
+  pub values-all : valuesFrom f d 0 ≡ byteOf (λ v. ltb v d && f v)
+  unfolding valuesFrom
+  values-all = byteOf-cong (λ v h. let e : 0 + v ≡ v = omega arith in ap (λ (x : ℕ). ltb x d && f x) e)
 
-  pub asked-next : (i j : ℕ) → i ≡ j + 1 → j < d → (s r : ℕ) (low : Bool) → s ≡ asked f d i → low ≡ f j → r ≡ pushed s low → r ≡ asked f d j
-  unfolding asked
-  asked-next i j ei h s r low es el er = er ∙ byteOf-cong at
+  pub values-next : (i j : ℕ) → i ≡ j + 1 → j < d → (s r : ℕ) (low : Bool) → s ≡ valuesFrom f d i → low ≡ f j → r ≡ pushed s low → r ≡ valuesFrom f d j
+  unfolding valuesFrom
+  values-next i j ei h s r low es el er = er ∙ byteOf-cong at
     where
       at : (v : ℕ) → v < 8 → (if eqb v 0 then low else mark s (v - 1)) ≡ (ltb (j + v) d && f (j + v))
       at zero g = let e : j + 0 ≡ j = omega arith in el ∙ sym (ap (λ (x : ℕ). ltb x d && f x) e ∙ ap (λ (b : Bool). b && f j) (lt-ltb j d h))
       at (suc u) g =
           let e : i + u ≡ j + suc u = omega arith in
           let z : suc u - 1 ≡ u = omega arith in
-          ap (λ (b : Bool). if b then low else mark s (suc u - 1)) (ne-eqb (suc u) 0 (λ e. omega arith)) ∙ ap (mark s) z ∙ ap (λ (x : ℕ). mark x u) es ∙ mark-byteOf (λ v. ltb (i + v) d && f (i + v)) u (omega arith) ∙ ap (λ (x : ℕ). ltb x d && f x) e
+          ap (λ (b : Bool). if b then low else mark s (suc u - 1)) (ne-eqb (suc u) 0 (λ e. omega arith)) ∙ ap (mark s) z ∙ ap (λ (x : ℕ). mark x u) es
+          ∙ mark-byteOf (λ v. ltb (i + v) d && f (i + v)) u (omega arith) ∙ ap (λ (x : ℕ). ltb x d && f x) e
 
--- ---- one value more is asked
+-- ---- one value more is valuesFrom
 module _ (f : ℕ → Bool) (k : ℕ) where
-  below-next : (v : ℕ) → (v ≡ k → ⊥) → ltb v (k + 1) ≡ ltb v k
-  below-next v ne =
-      same-test (ltb v (k + 1)) (ltb v k) (λ t. lt→ltb v k (let h = ltb→lt v (k + 1) t in omega arith))
-      (λ t. lt→ltb v (k + 1) (let h = ltb→lt v k t in omega arith))
-
   more-at : f k ≡ true → (v : ℕ) → T (eqb v k) ⊎ T (not (eqb v k)) → ((ltb v k && f v) || eqb v k) ≡ (ltb v (k + 1) && f v)
   more-at y v (inl t) =
       let e = eqb→eq v k t in
@@ -60,7 +57,7 @@ module _ (f : ℕ → Bool) (k : ℕ) where
       or-all : (a : Bool) → (a || true) ≡ true
       or-all true = refl
       or-all false = refl
-  more-at y v (inr t) = simp (below-next v (not-eqb-iff v k .0 t), is-false (eqb v k) t, or-none)
+  more-at y v (inr t) = simp (less-next v k (not-eqb-iff v k .0 t), is-false (eqb v k) t, or-none)
     where
       or-none : (a : Bool) → (a || false) ≡ a
       or-none true = refl
@@ -71,13 +68,14 @@ module _ (f : ℕ → Bool) (k : ℕ) where
       let e = eqb→eq v k t in
       let no : f v ≡ false = ap f e ∙ n in
       simp (no, and-false)
-  same-at n v (inr t) = simp (below-next v (not-eqb-iff v k .0 t))
+  same-at n v (inr t) = simp (less-next v k (not-eqb-iff v k .0 t))
 
   pub found-next : (s : ℕ) → s ≡ byteOf (λ v. ltb v k && f v) → (if f k then added s k else s) ≡ byteOf (λ v. ltb v (k + 1) && f v)
   found-next s e = by (f k) refl
     where
       by : (b : Bool) → f k ≡ b → (if b then added s k else s) ≡ byteOf (λ v. ltb v (k + 1) && f v)
-      by true y = byteOf-cong (λ v h. ap (λ (b : Bool). b || eqb v k) (ap (λ (x : ℕ). mark x v) e ∙ mark-byteOf (λ v. ltb v k && f v) v h) ∙ more-at y v (either (eqb v k)))
+      by true y = byteOf-cong (λ v h. ap (λ (b : Bool). b || eqb v k) (ap (λ (x : ℕ). mark x v) e ∙ mark-byteOf (λ v. ltb v k && f v) v h)
+          ∙ more-at y v (either (eqb v k)))
       by false n = e ∙ byteOf-cong (λ v h. same-at n v (either (eqb v k)))
 
 -- ---- bytes that are written
@@ -85,16 +83,19 @@ module _ (f : ℕ → Bool) (k : ℕ) where
 pub written-none : (f : ℕ → ℕ) (at : ℕ) (S : List ℕ) → Written f at 0 S S
 written-none f at S = record { same-length = refl; here = λ p h. absurd (omega arith); before = λ q h. refl; after = λ q h. refl }
 
-pub written-more : (f : ℕ → ℕ) (at n : ℕ) (S S′ : List ℕ) (s : ℕ) → Written f at n S S′ → at + n < length S′ → s ≡ f n → Written f at (n + 1) S (set S′ (at + n) s)
+pub written-more : (f : ℕ → ℕ) (at n : ℕ) (S S′ : List ℕ) (s : ℕ) → Written f at n S S′ → at + n < length S′ → s ≡ f n
+    → Written f at (n + 1) S (set S′ (at + n) s)
 written-more f at n S S′ s w h e = record {
   same-length = length-set S′ (at + n) s ∙ w .same-length;
-  here = λ p l. after-set (λ (x : ℕ). x ≡ f p) S′ (at + n) s (at + p) h (λ q. let same : p ≡ n = omega arith in e ∙ ap f (sym same)) (λ ne. w .here p (omega arith));
+  here = λ p l. after-set (λ (x : ℕ). x ≡ f p) S′ (at + n) s (at + p) h (λ q. let same : p ≡ n = omega arith in e ∙ ap f (sym same))
+      (λ ne. w .here p (omega arith));
   before = λ q l. after-set (λ (x : ℕ). x ≡ getD S q 0) S′ (at + n) s q h (λ e. absurd (omega arith)) (λ ne. w .before q l);
   after = λ q l. after-set (λ (x : ℕ). x ≡ getD S q 0) S′ (at + n) s q h (λ e. absurd (omega arith)) (λ ne. w .after q (omega arith));
 }
 
 -- a part that is written after those before it
-pub written-then : (f g : ℕ → ℕ) (at n : ℕ) (S S₁ S₂ : List ℕ) → Written f 0 at S S₁ → Written g at n S₁ S₂ → ((p : ℕ) → p < n → g p ≡ f (at + p)) → Written f 0 (at + n) S S₂
+pub written-then : (f g : ℕ → ℕ) (at n : ℕ) (S S₁ S₂ : List ℕ) → Written f 0 at S S₁ → Written g at n S₁ S₂ → ((p : ℕ) → p < n → g p ≡ f (at + p))
+    → Written f 0 (at + n) S S₂
 written-then f g at n S S₁ S₂ a b same = record {
   same-length = b .same-length ∙ a .same-length;
   here = λ p h. by p h (either (ltb p at));
@@ -103,7 +104,8 @@ written-then f g at n S S₁ S₂ a b same = record {
 }
   where
     by : (p : ℕ) → p < at + n → T (ltb p at) ⊎ T (not (ltb p at)) → getD S₂ (0 + p) 0 ≡ f p
-    by p h (inl t) = let l = ltb→lt p at t in let z : 0 + p ≡ p = omega arith in ap (λ (q : ℕ). getD S₂ q 0) z ∙ b .before p l ∙ ap (λ (q : ℕ). getD S₁ q 0) (sym z) ∙ a .here p l
+    by p h (inl t) = let l = ltb→lt p at t in let z : 0 + p ≡ p = omega arith in ap (λ (q : ℕ). getD S₂ q 0) z ∙ b .before p l
+        ∙ ap (λ (q : ℕ). getD S₁ q 0) (sym z) ∙ a .here p l
     by p h (inr t) =
         let l = nltb→le p at t in
         let z : 0 + p ≡ at + (p - at) = omega arith in
@@ -111,8 +113,9 @@ written-then f g at n S S₁ S₂ a b same = record {
         ap (λ (q : ℕ). getD S₂ q 0) z ∙ b .here (p - at) (omega arith) ∙ same (p - at) (omega arith) ∙ ap f y
 
 -- all of them are written
-pub written-all : (bytes S S′ : List ℕ) (f : ℕ → ℕ) → ((p : ℕ) → p < length bytes → getD bytes p 0 ≡ f p) → length bytes ≤ length S → Written f 0 (length bytes) S S′ → S′ ≡ overwritten bytes S
-written-all bytes S S′ f is room w =
+pub bytes-written : (bytes S S′ : List ℕ) (f : ℕ → ℕ) → ((p : ℕ) → p < length bytes → getD bytes p 0 ≡ f p) → length bytes ≤ length S
+    → Written f 0 (length bytes) S S′ → S′ ≡ overwritten bytes S
+bytes-written bytes S S′ f is room w =
     ext-getD 0 S′ (overwritten bytes S) (w .same-length ∙ sym (simp (length-append, length-drop) (omega arith))) (λ q h. by q (either (ltb q (length bytes))))
   where
     by : (q : ℕ) → T (ltb q (length bytes)) ⊎ T (not (ltb q (length bytes))) → getD S′ q 0 ≡ getD (overwritten bytes S) q 0
@@ -124,7 +127,8 @@ written-all bytes S S′ f is room w =
         let l = nltb→le q (length bytes) t in
         let z : length bytes + (q - length bytes) ≡ q = omega arith in
         w .after q (omega arith)
-        ∙ sym (ap (λ (p : ℕ). getD (overwritten bytes S) p 0) (sym z) ∙ getD-append-add bytes (drop (length bytes) S) (q - length bytes) 0 ∙ getD-drop (length bytes) S (q - length bytes) 0
+        ∙ sym (ap (λ (p : ℕ). getD (overwritten bytes S) p 0) (sym z) ∙ getD-append-add bytes (drop (length bytes) S) (q - length bytes) 0
+        ∙ getD-drop (length bytes) S (q - length bytes) 0
         ∙ ap (λ (p : ℕ). getD S p 0) z)
 
 pub written-next : (f : ℕ → ℕ) (n : ℕ) (S S′ : List ℕ) (s : ℕ) → Written f 0 n S S′ → n < length S′ → s ≡ f n → Written f 0 (n + 1) S (set S′ n s)
@@ -136,13 +140,14 @@ written-next f n S S′ s w h e =
 pub written-kept : (f : ℕ → ℕ) (at n : ℕ) (S : List ℕ) → ((p : ℕ) → p < n → getD S (at + p) 0 ≡ f p) → Written f at n S S
 written-kept f at n S there = record { same-length = refl; here = there; before = λ q h. refl; after = λ q h. refl }
 
-pub written-same : (f g : ℕ → ℕ) (at n : ℕ) (S S′ : List ℕ) → ((p : ℕ) → p < n → f p ≡ g p) → Written f at n S S′ → Written g at n S S′
-written-same f g at n S S′ same w = record { same-length = w .same-length; here = λ p h. w .here p h ∙ same p h; before = w .before; after = w .after }
+pub written-as : (f g : ℕ → ℕ) (at n : ℕ) (S S′ : List ℕ) → ((p : ℕ) → p < n → f p ≡ g p) → Written f at n S S′ → Written g at n S S′
+written-as f g at n S S′ same w = record { same-length = w .same-length; here = λ p h. w .here p h ∙ same p h; before = w .before; after = w .after }
 
 -- the part that is written
-pub written-part : (bytes S S′ : List ℕ) (f : ℕ → ℕ) (n : ℕ) → length bytes ≡ n → ((p : ℕ) → p < n → getD bytes p 0 ≡ f p) → n ≤ length S → Written f 0 n S S′ → take n S′ ≡ bytes
+pub written-part : (bytes S S′ : List ℕ) (f : ℕ → ℕ) (n : ℕ) → length bytes ≡ n → ((p : ℕ) → p < n → getD bytes p 0 ≡ f p) → n ≤ length S → Written f 0 n S S′
+    → take n S′ ≡ bytes
 written-part bytes S S′ f n len is room w =
-    ap (take n) (written-all bytes S S′ f (λ p h. is p (rw len at h)) (rw len room) (rw len w)) ∙ take-at bytes (drop (length bytes) S) n len
+    ap (take n) (bytes-written bytes S S′ f (λ p h. is p (rw len at h)) (rw len room) (rw len w)) ∙ take-at bytes (drop (length bytes) S) n len
 
 -- ---- sixteen bytes for each edge
 
@@ -167,22 +172,32 @@ module _ (f : ℕ → ℕ → ℕ) (m : ℕ) where
 
 -- ---- the marks of a table
 
-module _ (c : Case) (w : List ℤ) where
-  sets-length : length (activeSets c w) ≡ c .n
-  unfolding activeSets
-  sets-length = length-tab (activeSet c w) 0 (c .n)
+module _ (c : Case) (w best : List ℤ) where
+  pub sets-length : length (markedSets c w best) ≡ c .n
+  unfolding markedSets
+  sets-length = length-tab (setWhere c (hasBest c w best)) 0 (c .n)
 
-  sets-at : (j : ℕ) → j < c .n → getD (activeSets c w) j 0 ≡ activeSet c w j
-  unfolding activeSets
-  sets-at j h = getD-tab (activeSet c w) (c .n) j 0 h
+  pub sets-at : (j : ℕ) → j < c .n → getD (markedSets c w best) j 0 ≡ setWhere c (hasBest c w best) j
+  unfolding markedSets
+  sets-at j h = getD-tab (setWhere c (hasBest c w best)) (c .n) j 0 h
 
-  pub sets-written : (S S′ : List ℕ) → c .n ≤ length S → Written (activeSet c w) 0 (c .n) S S′ → S′ ≡ overwritten (activeSets c w) S
+  pub sets-written : (S S′ : List ℕ) → c .n ≤ length S → Written (setWhere c (hasBest c w best)) 0 (c .n) S S′ → S′ ≡ overwritten (markedSets c w best) S
   sets-written S S′ room done =
-      written-all (activeSets c w) S S′ (activeSet c w) (λ p h. sets-at p (rw sets-length at h)) (rw sets-length room)
+      bytes-written (markedSets c w best) S S′ (setWhere c (hasBest c w best)) (λ p h. sets-at p (rw sets-length at h)) (rw sets-length room)
       (rw sets-length done)
 
-  pub rows-written : (S S′ : List ℕ) → 16 * c .m ≤ length S → Written (λ q. getD (rowsOf (activeRow c w) (c .m)) q 0) 0 (16 * c .m) S S′ → S′ ≡ overwritten (activeRows c w) S
-  unfolding activeRows
+  pub rows-length : length (markedRows c w best) ≡ 16 * c .m
+  unfolding markedRows
+  rows-length = rowsOf-length (rowWhere c (hasBest c w best)) (c .m)
+
+  pub rows-at : (e p : ℕ) → e < c .m → p < 16 → getD (markedRows c w best) (16 * e + p) 0 ≡ rowWhere c (hasBest c w best) e p
+  unfolding markedRows
+  rows-at = rowsOf-at (rowWhere c (hasBest c w best)) (c .m)
+
+  pub rows-written : (S S′ : List ℕ) → 16 * c .m ≤ length S
+      → Written (λ q. getD (rowsOf (rowWhere c (hasBest c w best)) (c .m)) q 0) 0 (16 * c .m) S S′ → S′ ≡ overwritten (markedRows c w best) S
+  unfolding markedRows
   rows-written S S′ room done =
-      let len = rowsOf-length (activeRow c w) (c .m) in
-      written-all (rowsOf (activeRow c w) (c .m)) S S′ (λ q. getD (rowsOf (activeRow c w) (c .m)) q 0) (λ p h. refl) (rw len room) (rw len done)
+      let len = rowsOf-length (rowWhere c (hasBest c w best)) (c .m) in
+      bytes-written (rowsOf (rowWhere c (hasBest c w best)) (c .m)) S S′ (λ q. getD (rowsOf (rowWhere c (hasBest c w best)) (c .m)) q 0) (λ p h. refl)
+      (rw len room) (rw len done)

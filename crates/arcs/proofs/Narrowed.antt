@@ -13,25 +13,26 @@ use Rattle.integers.specs.Words.{_⇒_}
 use Rattle.integers.specs.Tests.{either, is-true, is-false, true-is, same-test, and-left, and-right, and-intro, imp-intro, imp-elim, not-eqb-iff}
 use Rattle.integers.specs.Lists.{any-in, all-of, all-same}
 use Rattle.definitions.specs.Consistency.{Family, marks}
-use Rattle.theory.specs.Network.{Network, SupportedIn, supportedIn, familiesOf}
-use Rattle.theory.proofs.Networks.{Ends, Within, None, supportedIn-iff, inside-more, some-tried, none-tried}
-use Rattle.marks.specs.Marks.{mark, byteOf, onlyOf, inBoth}
+use Rattle.networks.specs.Network.{Network, SupportedIn, supportedIn, familiesOf}
+use Rattle.networks.proofs.Networks.{Ends, Within, None, supportedIn-iff, sets-inside-more, some-tried, none-tried}
+use Rattle.marks.specs.Marks.{mark, onlyOf, inBoth}
 use Rattle.marks.proofs.Laws.{mark-byteOf, mark-zero}
 use Rattle.arcs.specs.Closure.{networkOfBytes, setsOf, someFamily}
-use Rattle.arcs.specs.Sweeps.{WellFormed, Filled, Settled}
+use Rattle.arcs.specs.Sweeps.{Filled, SettledSets}
 use Rattle.arcs.specs.Tried.{hasFamily, noneHas}
 
 -- sets G₂ inside G₁ that hold every family inside G₁
-same-families : (N : Network) → Ends N → (G₁ G₂ : Family) → Within N G₂ G₁ → ((F : Family) → SupportedIn N G₁ F → Within N F G₂) → someFamily N G₂ ≡ someFamily N G₁
+same-families : (N : Network) → Ends N → (G₁ G₂ : Family) → Within N G₂ G₁ → ((F : Family) → SupportedIn N G₁ F → Within N F G₂)
+    → someFamily N G₂ ≡ someFamily N G₁
 same-families N ends G₁ G₂ less more = same-test (someFamily N G₂) (someFamily N G₁)
     (λ t.
     let (F, m, s) = any-in (λ F. supportedIn N G₂ (marks F)) (familiesOf N) .0 t in
     let p = supportedIn-iff N G₂ (marks F) .0 s in
-    true-is (someFamily N G₁) (some-tried N G₁ ends (inside-more (λ j v h g u. less j v h g (p .inside j v h g u)) p)))
+    true-is (someFamily N G₁) (some-tried N G₁ ends (sets-inside-more (λ j v h g u. less j v h g (p .inside j v h g u)) p)))
     (λ t.
     let (F, m, s) = any-in (λ F. supportedIn N G₁ (marks F)) (familiesOf N) .0 t in
     let p = supportedIn-iff N G₁ (marks F) .0 s in
-    true-is (someFamily N G₂) (some-tried N G₂ ends (inside-more (more (marks F) p) p)))
+    true-is (someFamily N G₂) (some-tried N G₂ ends (sets-inside-more (more (marks F) p) p)))
 
 and-all : (b : Bool) → (b && true) ≡ b
 and-all true = refl
@@ -67,11 +68,12 @@ module _ (lower upper rows raised S : List ℕ) (i : ℕ) (g : i < length S) (va
 
   -- a family with a tried value alone lies in them
   alone-near : (k : ℕ) → T (mark values k) → (F : Family) → SupportedIn N (setsOf (alone S k)) F → SupportedIn N (setsOf (near S i values)) F
-  alone-near k t F p = inside-more (λ j v h l u.
+  alone-near k t F p = sets-inside-more (λ j v h l u.
       let s = subst T (among S i (onlyOf k) g j v l) (p .inside j v h l u) in
       subst T (sym (among S i values g j v l)) (and-intro (setsOf S j v) (eqb j i ⇒ mark values v) (and-left (setsOf S j v) (eqb j i ⇒ mark (onlyOf k) v) s)
       (imp-intro (eqb j i) (mark values v) (λ e.
-      let q : T (eqb v k) = subst T (mark-byteOf (λ x. eqb x k) v l) (imp-elim (eqb j i) (mark (onlyOf k) v) (and-right (setsOf S j v) (eqb j i ⇒ mark (onlyOf k) v) s) e) in
+      let q : T (eqb v k) = subst T (mark-byteOf (λ x. eqb x k) v l) (imp-elim (eqb j i) (mark (onlyOf k) v)
+      (and-right (setsOf S j v) (eqb j i ⇒ mark (onlyOf k) v) s) e) in
       subst (λ (x : ℕ). T (mark values x)) (sym (eqb→eq v k q)) t)))) p
 
   pub near-empty : inBoth (getD S i 0) values ≡ 0 → None N (setsOf (near S i values))
@@ -85,7 +87,7 @@ module _ (lower upper rows raised S : List ℕ) (i : ℕ) (g : i < length S) (va
   near-none none = sym (is-true _ (all-of (λ k. mark values k ⇒ not (hasFamily N S i k)) 8 (λ k h. imp-intro (mark values k) (not (hasFamily N S i k)) (λ t.
       true-is _ (ap not (none-tried N (setsOf (alone S k)) (λ F p. none F (alone-near k t F p))))))))
 
-  module _ (S′ : List ℕ) (len : length S′ ≡ length S) (left : Settled N (setsOf (near S i values)) S′ true) where
+  module _ (S′ : List ℕ) (len : length S′ ≡ length S) (left : SettledSets N (setsOf (near S i values)) S′ true) where
     pub near-filled : Filled S′
     near-filled j h z =
         let (v, l, t) = left .0 .non-empty j (rw len at h) in
@@ -96,10 +98,12 @@ module _ (lower upper rows raised S : List ℕ) (i : ℕ) (g : i < length S) (va
         (λ j v h l u.
         let s = subst T (among S′ i (onlyOf k) (omega (arith, len)) j v l) u in
         let w = subst T (among S i values g j v l) (left .0 .inside j v h l (and-left (setsOf S′ j v) (eqb j i ⇒ mark (onlyOf k) v) s)) in
-        subst T (sym (among S i (onlyOf k) g j v l)) (and-intro (setsOf S j v) (eqb j i ⇒ mark (onlyOf k) v) (and-left (setsOf S j v) (eqb j i ⇒ mark values v) w) (and-right (setsOf S′ j v) (eqb j i ⇒ mark (onlyOf k) v) s)))
+        subst T (sym (among S i (onlyOf k) g j v l)) (and-intro (setsOf S j v) (eqb j i ⇒ mark (onlyOf k) v)
+        (and-left (setsOf S j v) (eqb j i ⇒ mark values v) w) (and-right (setsOf S′ j v) (eqb j i ⇒ mark (onlyOf k) v) s)))
         (λ F p j v h l u.
         let s = subst T (among S i (onlyOf k) g j v l) (p .inside j v h l u) in
-        subst T (sym (among S′ i (onlyOf k) (omega (arith, len)) j v l)) (and-intro (setsOf S′ j v) (eqb j i ⇒ mark (onlyOf k) v) (left .1 F (alone-near k t F p) j v h l u) (and-right (setsOf S j v) (eqb j i ⇒ mark (onlyOf k) v) s)))
+        subst T (sym (among S′ i (onlyOf k) (omega (arith, len)) j v l)) (and-intro (setsOf S′ j v) (eqb j i ⇒ mark (onlyOf k) v)
+        (left .1 F (alone-near k t F p) j v h l u) (and-right (setsOf S j v) (eqb j i ⇒ mark (onlyOf k) v) s)))
 
     pub near-same : Ends N → noneHas (hasFamily (networkOfBytes (length S′) lower upper rows raised) S′ i) values ≡ noneHas (hasFamily N S i) values
     unfolding noneHas
@@ -109,9 +113,10 @@ module _ (lower upper rows raised S : List ℕ) (i : ℕ) (g : i < length S) (va
 
   -- what the sweeps leave of the sets as they are written
   pub near-settled : (o : ℕ) (work : List ℕ) → o ≡ inBoth (getD S i 0) values → work ≡ S → (S′ : List ℕ) (r b : Bool) → r ≡ b
-      → Settled (networkOfBytes (length (set work i o)) lower upper rows raised) (setsOf (set work i o)) S′ r → Settled N (setsOf (near S i values)) S′ b
+      → SettledSets (networkOfBytes (length (set work i o)) lower upper rows raised) (setsOf (set work i o)) S′ r
+      → SettledSets N (setsOf (near S i values)) S′ b
   near-settled o work eo same S′ r b q p =
       let e : set work i o ≡ near S i values = ap₂ (λ (l : List ℕ) (s : ℕ). set l i s) same eo in
-      subst (Settled N (setsOf (near S i values)) S′) q
-      (subst (λ (n : ℕ). Settled (networkOfBytes n lower upper rows raised) (setsOf (near S i values)) S′ r) (length-set S i (inBoth (getD S i 0) values))
-      (subst (λ (l : List ℕ). Settled (networkOfBytes (length l) lower upper rows raised) (setsOf l) S′ r) e p))
+      subst (SettledSets N (setsOf (near S i values)) S′) q
+      (subst (λ (n : ℕ). SettledSets (networkOfBytes n lower upper rows raised) (setsOf (near S i values)) S′ r) (length-set S i (inBoth (getD S i 0) values))
+      (subst (λ (l : List ℕ). SettledSets (networkOfBytes (length l) lower upper rows raised) (setsOf l) S′ r) e p))

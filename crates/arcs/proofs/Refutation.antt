@@ -9,8 +9,9 @@ use borrow.Author.Tests.{lt-ltb, le-ltb, eq-eqb, ne-eqb}
 use lib.IntN.{ℤ}
 use lib.Dec.{T, ltb, ltb→lt, lt→ltb}
 use lib.ListN.{length, getD, set, length-set}
-use Rattle.integers.specs.Words.{if_then_else_, below, _⇒_}
-use Rattle.integers.specs.Tests.{tests, if-true, if-false, true-is, false-is, or-left, or-right, and-left, and-right, and-intro, imp-intro, imp-elim, not-not-iff, same-test}
+use Rattle.integers.specs.Words.{if_then_else_, _⇒_}
+use Rattle.integers.specs.Tests.{tests, if-true, if-false, true-is, false-is, or-left, or-right}
+use Rattle.integers.specs.Tests.{and-left, and-right, and-intro, imp-intro, imp-elim, not-not-iff, same-test}
 use Rattle.integers.specs.Lists.{all-at, all-of}
 use Rattle.theory.proofs.Words.{none-below}
 use Rattle.definitions.specs.declared.Case.{Case}
@@ -19,7 +20,7 @@ use Rattle.definitions.specs.Case.{active}
 use Rattle.definitions.specs.Valid.{workingWeight}
 use Rattle.definitions.specs.Consistency.{refuted, allRefuted}
 use Rattle.definitions.specs.Moves.{activeValues}
-use Rattle.theory.specs.Network.{Network}
+use Rattle.networks.specs.Network.{Network}
 use Rattle.theory.proofs.Validity.{Handed}
 use Rattle.tables.proofs.Answered.{limits-known}
 use Rattle.marks.specs.Marks.{mark, onlyOf, inBoth}
@@ -40,7 +41,8 @@ module _ (lower upper rows raised S : List ℕ) (i values : ℕ) where
   unfolding triedAnswer
   tried-malformed t = sym (if-true _ _ out t)
 
-  tried-answer : T (not out) → triedAnswer lower upper rows raised S i values ≡ (if noneHas (hasFamily (networkOfBytes (length S) lower upper rows raised) S i) values then Unsupported else Supported)
+  tried-answer : T (not out) → triedAnswer lower upper rows raised S i values ≡ (if noneHas
+      (hasFamily (networkOfBytes (length S) lower upper rows raised) S i) values then Unsupported else Supported)
   unfolding triedAnswer
   tried-answer t = if-false _ _ out t
 
@@ -48,14 +50,17 @@ module _ (lower upper rows raised S : List ℕ) (i values : ℕ) where
   too-many h = tried-malformed (or-right (isMalformed (length S) lower upper rows raised || not (ltb i (length S))) _ (lt→ltb variablePlaces (length S) h))
 
   pub no-variable : length S ≤ i → Malformed ≡ triedAnswer lower upper rows raised S i values
-  no-variable h = tried-malformed (or-left (isMalformed (length S) lower upper rows raised || not (ltb i (length S))) (ltb variablePlaces (length S)) (or-right (isMalformed (length S) lower upper rows raised) (not (ltb i (length S))) (false-is (ltb i (length S)) (le-ltb i (length S) h))))
+  no-variable h = tried-malformed (or-left (isMalformed (length S) lower upper rows raised || not (ltb i (length S))) (ltb variablePlaces (length S))
+      (or-right (isMalformed (length S) lower upper rows raised) (not (ltb i (length S))) (false-is (ltb i (length S)) (le-ltb i (length S) h))))
 
   pub malformed : isMalformed (length S) lower upper rows raised ≡ true → Malformed ≡ triedAnswer lower upper rows raised S i values
-  malformed e = tried-malformed (or-left (isMalformed (length S) lower upper rows raised || not (ltb i (length S))) (ltb variablePlaces (length S)) (or-left (isMalformed (length S) lower upper rows raised) (not (ltb i (length S))) (true-is _ e)))
+  malformed e = tried-malformed (or-left (isMalformed (length S) lower upper rows raised || not (ltb i (length S))) (ltb variablePlaces (length S))
+      (or-left (isMalformed (length S) lower upper rows raised) (not (ltb i (length S))) (true-is _ e)))
 
   -- nothing is malformed
   pub tried-known : length S ≤ variablePlaces → i < length S → isMalformed (length S) lower upper rows raised ≡ false
-      → triedAnswer lower upper rows raised S i values ≡ (if noneHas (hasFamily (networkOfBytes (length S) lower upper rows raised) S i) values then Unsupported else Supported)
+      → triedAnswer lower upper rows raised S i values ≡ (if noneHas (hasFamily (networkOfBytes (length S) lower upper rows raised) S i) values then
+      Unsupported else Supported)
   tried-known few h e = tried-answer (rw (e, lt-ltb i (length S) h, le-ltb variablePlaces (length S) few) tt)
 
 -- ---- refutation over the bytes of a table
@@ -70,7 +75,8 @@ pub record Bytes (c : Case) (w : List ℤ) (R : ℕ → Bool) (rows raised S : L
   pub sets-length : length S ≡ c .n
   pub sets : (j : ℕ) → j < c .n → getD S j 0 ≡ allowedSet c w R j
 
-module _ (c : Case) (w : List ℤ) (h : Handed (rulesOf c) (workingWeight (rulesOf c)) c w) (R : ℕ → Bool) (rows edges S : List ℕ) (bytes : Bytes c w R rows edges S)
+module _ (c : Case) (w : List ℤ) (h : Handed (rulesOf c) (workingWeight (rulesOf c)) c w) (R : ℕ → Bool) (rows edges S : List ℕ)
+    (bytes : Bytes c w R rows edges S)
     (i : ℕ) (g : i < c .n) where
   abbrev N : Network
   N = networkOfBytes (length S) (c .lower) (c .upper) rows edges
@@ -98,7 +104,8 @@ module _ (c : Case) (w : List ℤ) (h : Handed (rulesOf c) (workingWeight (rules
       (λ ne. bytes .sets j u ∙ sym (ap (λ (b : Bool). if b then inBoth (allowedSet c w R j) (onlyOf k) else allowedSet c w R j) (ne-eqb j i ne))))
       g (ap (λ (n : ℕ). isMalformed n (c .lower) (c .upper) rows edges) len ∙ well)
 
-  none-has : (values : ℕ) (set : ℕ → Bool) → ((k : ℕ) → k < 8 → mark values k ≡ (ltb k (c .d) && set k)) → noneHas (hasFamily N S i) values ≡ allRefuted c w R i set
+  none-has : (values : ℕ) (set : ℕ → Bool) → ((k : ℕ) → k < 8 → mark values k ≡ (ltb k (c .d) && set k))
+      → noneHas (hasFamily N S i) values ≡ allRefuted c w R i set
   unfolding noneHas
   none-has values set same =
       same-test (noneHas (hasFamily N S i) values) (allRefuted c w R i set)
@@ -122,7 +129,9 @@ module _ (c : Case) (w : List ℤ) (h : Handed (rulesOf c) (workingWeight (rules
   pub tried-refuted : (values : ℕ) (set : ℕ → Bool) → ((k : ℕ) → k < 8 → mark values k ≡ (ltb k (c .d) && set k))
       → triedAnswer (c .lower) (c .upper) rows edges S i values ≡ (if allRefuted c w R i set then Unsupported else Supported)
   tried-refuted values set same =
-      tried-known (c .lower) (c .upper) rows edges S i values (rw (bytes .sets-length) (limits-known h .variables-placed)) (rw (bytes .sets-length) g) well ∙ ap (λ (b : Bool). if b then Unsupported else Supported) (none-has values set same)
+      tried-known (c .lower) (c .upper) rows edges S i values (rw (bytes .sets-length) (limits-known h .variables-placed)) (rw (bytes .sets-length) g) well
+      ∙ ap (λ (b : Bool). if b then Unsupported else Supported) (none-has values set same)
 
-  pub tried-active : triedAnswer (c .lower) (c .upper) rows edges S i (activeSet c w i) ≡ (if allRefuted c w R i (activeValues c w i) then Unsupported else Supported)
+  pub tried-active : triedAnswer (c .lower) (c .upper) rows edges S i (activeSet c w i) ≡ (if allRefuted c w R i (activeValues c w i) then Unsupported else
+      Supported)
   tried-active = tried-refuted (activeSet c w i) (activeValues c w i) (λ k l. mark-byteOf (λ v. ltb v (c .d) && active c w i v 0) k l)

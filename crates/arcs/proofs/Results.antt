@@ -11,13 +11,13 @@ use Rattle.integers.specs.Words.{if_then_else_, below, any}
 use Rattle.integers.specs.Tests.{tests, if-true, if-false, true-is, false-is, eqb-iff}
 use Rattle.integers.specs.Tables.{length-tab, getD-tab, any-getD}
 use Rattle.definitions.specs.Consistency.{Family}
-use Rattle.theory.specs.Network.{Network, largest}
-use Rattle.theory.proofs.Networks.{None, Ends, some-tried, none-tried, closed-is-largest, largest-empty}
+use Rattle.networks.specs.Network.{Network, largest}
+use Rattle.networks.proofs.Networks.{None, Ends, some-tried, none-tried, closed-is-largest, largest-empty}
 use Rattle.theory.proofs.Words.{none-below}
 use Rattle.marks.specs.Marks.{mark, byteOf}
 use Rattle.marks.proofs.Laws.{byte-is, mark-zero}
 use Rattle.arcs.specs.Closure.{networkOfBytes, setsOf, isMalformed, someFamily, closureAnswer, closureSets}
-use Rattle.arcs.specs.Sweeps.{WellFormed, Filled, Settled}
+use Rattle.arcs.specs.Sweeps.{WellFormed, Filled, SettledSets}
 use Rattle.arcs.specs.declared.Closed.the-variants.{Malformed, Empty, Family as SomeFamily}
 
 module _ (lower upper rows raised S : List ℕ) where
@@ -27,7 +27,11 @@ module _ (lower upper rows raised S : List ℕ) where
   pub malformed-answer : isMalformed (length S) lower upper rows raised ≡ true
       → (Malformed ≡ closureAnswer lower upper rows raised S) × (S ≡ closureSets lower upper rows raised S)
   unfolding closureAnswer closureSets
-  malformed-answer e = (sym (if-true _ _ (isMalformed (length S) lower upper rows raised) (true-is _ e)), sym (if-true _ _ (isMalformed (length S) lower upper rows raised) (true-is _ e)))
+  malformed-answer e = (
+    sym (if-true _ _ (isMalformed (length S) lower upper rows raised) (true-is _ e)),
+    sym
+        (if-true _ _ (isMalformed (length S) lower upper rows raised) (true-is _ e)),
+  )
 
   module _ (e : isMalformed (length S) lower upper rows raised ≡ false) where
     pub well-formed : WellFormed (length S) lower upper rows raised
@@ -51,10 +55,10 @@ module _ (lower upper rows raised S : List ℕ) where
     ends-in : Ends N
     ends-in = well-formed .ends
 
-    pub family-answer : (S′ : List ℕ) → length S′ ≡ length S → ((j : ℕ) → getD S′ j 0 < 256) → (b : Bool) → b ≡ true → Settled N (setsOf S) S′ b
+    pub family-answer : (S′ : List ℕ) → length S′ ≡ length S → ((j : ℕ) → getD S′ j 0 < 256) → (b : Bool) → b ≡ true → SettledSets N (setsOf S) S′ b
         → (SomeFamily ≡ closureAnswer lower upper rows raised S) × (S′ ≡ closureSets lower upper rows raised S)
     family-answer S′ len bytes b q settled =
-        let p = subst (Settled N (setsOf S) S′) q settled in (
+        let p = subst (SettledSets N (setsOf S) S′) q settled in (
           sym (answer-is ∙ ap (λ (b : Bool). if b then SomeFamily else Empty) (some-tried N (setsOf S) ends-in (p .0))),
           ext-getD 0 S′ _ (len ∙ sym (length-tab _ 0 (length S)))
               (λ j h.
@@ -76,10 +80,10 @@ module _ (lower upper rows raised S : List ℕ) where
           ∙ sym sets-are,
     )
 
-    pub empty-answer : (S′ cleared : List ℕ) → length S′ ≡ length S → (b : Bool) → b ≡ false → Settled N (setsOf S) S′ b → cleared ≡ replicate (length S′) 0
+    pub empty-answer : (S′ cleared : List ℕ) → length S′ ≡ length S → (b : Bool) → b ≡ false → SettledSets N (setsOf S) S′ b → cleared ≡ replicate (length S′) 0
         → (Empty ≡ closureAnswer lower upper rows raised S) × (cleared ≡ closureSets lower upper rows raised S)
     empty-answer S′ cleared len b q settled e =
-        let (answer, sets) = no-family (subst (Settled N (setsOf S) S′) q settled) in
+        let (answer, sets) = no-family (subst (SettledSets N (setsOf S) S′) q settled) in
         (answer, e ∙ ap (λ (n : ℕ). replicate n 0) len ∙ sets)
 
 -- ---- an empty set among the given ones
@@ -91,8 +95,8 @@ module _ (S : List ℕ) where
       let (v, g, s) = p .non-empty j h in
       subst (λ (x : ℕ). T (mark x v) → ⊥) (sym (eqb→eq (getD S j 0) 0 t)) (λ t. rw (mark-zero v) at t) (p .inside j v h g s)
 
-  pub none-empty : any (λ s. eqb s 0) S ≡ false → Filled S
-  none-empty e j h z = T-not (any (λ s. eqb s 0) S) (false-is _ e) (any-getD (λ s. eqb s 0) S 0 .1 (j, h, eqb-iff (getD S j 0) 0 .1 z))
+  pub no-set-empty : any (λ s. eqb s 0) S ≡ false → Filled S
+  no-set-empty e j h z = T-not (any (λ s. eqb s 0) S) (false-is _ e) (any-getD (λ s. eqb s 0) S 0 .1 (j, h, eqb-iff (getD S j 0) 0 .1 z))
 
 pub all-zero : (n : ℕ) (S : List ℕ) → length S ≡ n → ((j : ℕ) → j < n → getD S j 0 ≡ 0) → S ≡ replicate n 0
 all-zero n S len zero =
@@ -100,6 +104,6 @@ all-zero n S len zero =
 
 -- ---- whether a family is left
 
-pub settled-family : (N : Network) (G : Family) → Ends N → (S′ : List ℕ) (left : Bool) → Settled N G S′ left → someFamily N G ≡ left
+pub settled-family : (N : Network) (G : Family) → Ends N → (S′ : List ℕ) (left : Bool) → SettledSets N G S′ left → someFamily N G ≡ left
 settled-family N G ends S′ true p = some-tried N G ends (p .0)
 settled-family N G ends S′ false none = none-tried N G none

@@ -1,5 +1,5 @@
 -- The places of a table that its marks are read from. Assumes nothing.
-use mathlib.Core.Path.{_≡_, refl, sym, ap, ap₂, _∙_}
+use mathlib.Core.Path.{_≡_, refl, sym, ap, _∙_}
 use mathlib.Core.Bool.{Bool, true, false, _&&_, and-false}
 use mathlib.Core.Logic.{⊎-elim}
 use mathlib.Core.List.{List}
@@ -8,19 +8,19 @@ use native.Mathlib.Omega.{arith}
 use borrow.Author.Tests.{lt-ltb, le-ltb, ltb-true, ltb-false}
 use lib.IntN.{ℤ, pos}
 use lib.Dec.{ltb, ltb→lt, nltb→le}
-use lib.ListN.{length, getD, take, drop}
-use Rattle.integers.specs.Words.{if_then_else_, greatestOf, eqZ}
+use lib.ListN.{length, getD}
+use Rattle.integers.specs.Words.{if_then_else_, eqZ}
 use Rattle.integers.specs.Tests.{either, if-true, if-false}
 use Rattle.definitions.specs.declared.Case.{Case}
 use Rattle.definitions.specs.Rules.{edgePlaces}
-use Rattle.definitions.specs.Case.{scopeCount, place, greatest, isVariable}
+use Rattle.definitions.specs.Case.{scopeCount, place, isVariable}
 use Rattle.theory.proofs.Places.{variable-is, edge-is, place-variable, place-edge}
 use Rattle.tables.specs.Scopes.{sizeOf}
 use Rattle.tables.proofs.Order.{variables-small, values-small, edges-small}
-use Rattle.tables.proofs.Parts.{part-own, part-greatest}
+use Rattle.tables.proofs.Parts.{part-own}
 use Rattle.marks.specs.Marks.{mark, byteOf}
 use Rattle.marks.proofs.Laws.{mark-byteOf, byteOf-cong, byte-is, mark-zero}
-use Rattle.arcs.specs.Active.{setWhere, aboveWhere, belowWhere, rowWhere, Sized, hasWeight, bestValues, Crossed}
+use Rattle.arcs.specs.Active.{setWhere, aboveWhere, belowWhere, rowWhere, Sized, hasWeight, bestMarks, Crossed}
 
 -- the first place of an edge's scope
 abbrev pub firstOfEdge : Case → ℕ → ℕ
@@ -56,12 +56,7 @@ module _ (c : Case) (w : List ℤ) (h : Sized c w) where
     pub variable-room : j * c .d + c .d ≤ length w
     variable-room = omega (arith, part-own c j scope-in, size-is, first-is, h .long)
 
-    pub variable-greatest : greatestOf (take ((j * c .d + c .d) - j * c .d) (drop (j * c .d) w)) ≡ greatest c w j
-    variable-greatest =
-        let e : (j * c .d + c .d) - j * c .d ≡ sizeOf c j = omega (arith, size-is) in
-        ap₂ (λ (n p : ℕ). greatestOf (take n (drop p w))) e (sym first-is) ∙ part-greatest c w (omega (arith, h .long)) j scope-in
-
-    pub variable-with : (best : ℤ) → bestValues w (j * c .d) (c .d) best ≡ setWhere c (hasWeight c w best) j
+    pub variable-with : (best : ℤ) → bestMarks w (j * c .d) (c .d) best ≡ setWhere c (hasWeight c w best) j
     variable-with best =
         byteOf-cong (λ v g.
         let e : j * c .d + v ≡ place c j v 0 = omega (arith, place-variable c j v 0 u) in
@@ -84,23 +79,18 @@ module _ (c : Case) (w : List ℤ) (h : Sized c w) where
     pub edge-room : firstOfEdge c e + c .d * c .d ≤ length w
     edge-room = omega (arith, part-own c (c .n + e) edge-in, edge-size, edge-first, h .long)
 
-    pub edge-greatest : greatestOf (take ((firstOfEdge c e + c .d * c .d) - firstOfEdge c e) (drop (firstOfEdge c e) w)) ≡ greatest c w (c .n + e)
-    edge-greatest =
-        let s : (firstOfEdge c e + c .d * c .d) - firstOfEdge c e ≡ sizeOf c (c .n + e) = omega (arith, edge-size) in
-        ap₂ (λ (n p : ℕ). greatestOf (take n (drop p w))) s (sym edge-first) ∙ part-greatest c w (omega (arith, h .long)) (c .n + e) edge-in
-
     none-at : (k : ℕ) (f : ℕ → Bool) → c .d ≤ k → 0 ≡ byteOf (λ l. ltb l (c .d) && (ltb k (c .d) && f l))
     none-at k f g = byte-is 0 _ (omega arith) (λ l i. mark-zero l ∙ sym (simp (le-ltb k (c .d) g, and-false)))
 
     module _ (best : ℤ) where
-      above-is : (k : ℕ) → k < c .d → bestValues w (firstOfEdge c e + k * c .d) (c .d) best ≡ aboveWhere c (hasWeight c w best) e k
+      above-is : (k : ℕ) → k < c .d → bestMarks w (firstOfEdge c e + k * c .d) (c .d) best ≡ aboveWhere c (hasWeight c w best) e k
       above-is k g =
           rw (lt-ltb k (c .d) g)
           (byteOf-cong (λ l i.
           let s : firstOfEdge c e + k * c .d + l ≡ place c (c .n + e) k l = omega (arith, edge-place k l) in
           ap (λ (p : ℕ). ltb l (c .d) && eqZ (getD w p (pos 0)) best) s))
 
-      module _ (S : List ℕ) (crossed : Crossed (λ k. bestValues w (firstOfEdge c e + k * c .d) (c .d) best) (c .d) S) where
+      module _ (S : List ℕ) (crossed : Crossed (λ k. bestMarks w (firstOfEdge c e + k * c .d) (c .d) best) (c .d) S) where
         above-at : (p : ℕ) → p < 8 → getD S p 0 ≡ aboveWhere c (hasWeight c w best) e p
         above-at p g = ⊎-elim (λ t. crossed .rows p (ltb→lt p (c .d) t) ∙ above-is p (ltb→lt p (c .d) t))
             (λ t. let h = nltb→le p (c .d) t in crossed .rest p h g ∙ none-at p (λ l. hasWeight c w best (c .n + e) p l) h) (either (ltb p (c .d)))
@@ -108,9 +98,11 @@ module _ (c : Case) (w : List ℤ) (h : Sized c w) where
         below-at : (l : ℕ) → l < 8 → getD S (8 + l) 0 ≡ belowWhere c (hasWeight c w best) e l
         below-at l g = crossed .columns l g ∙ byteOf-cong (λ k i. by k (ltb k (c .d)) refl)
           where
-            by : (k : ℕ) (b : Bool) → ltb k (c .d) ≡ b → (b && mark (bestValues w (firstOfEdge c e + k * c .d) (c .d) best) l) ≡ (b && (ltb l (c .d) && hasWeight c w best (c .n + e) k l))
+            by : (k : ℕ) (b : Bool) → ltb k (c .d) ≡ b → (b && mark (bestMarks w (firstOfEdge c e + k * c .d) (c .d) best)
+                l) ≡ (b && (ltb l (c .d) && hasWeight c w best (c .n + e) k l))
             by k true t =
-                ap (λ (s : ℕ). mark s l) (above-is k (ltb-true k (c .d) t)) ∙ mark-byteOf (λ l. ltb l (c .d) && (ltb k (c .d) && hasWeight c w best (c .n + e) k l)) l g
+                ap (λ (s : ℕ). mark s l) (above-is k (ltb-true k (c .d) t)) ∙ mark-byteOf
+                (λ l. ltb l (c .d) && (ltb k (c .d) && hasWeight c w best (c .n + e) k l)) l g
                 ∙ ap (λ (b : Bool). ltb l (c .d) && (b && hasWeight c w best (c .n + e) k l)) t
             by k false t = refl
 

@@ -1,18 +1,19 @@
 -- The search for partners, step by step. Assumes nothing.
-use mathlib.Core.Path.{_≡_, refl, sym, ap, ap₂, _∙_}
-use mathlib.Core.Bool.{Bool, true, false, not, _&&_}
+use mathlib.Core.Path.{_≡_, refl, sym, ap, _∙_}
+use mathlib.Core.Bool.{Bool, true, false, not, _&&_, _||_}
+use mathlib.Core.Logic.{_⊎_, inl, inr}
 use mathlib.Core.Option.{Option, none, some}
 use mathlib.Core.List.{List}
-use Prim.Native.Nat.{ℕ, _<_}
+use Prim.Native.Nat.{ℕ, _+_, _<_}
 use native.Mathlib.Omega.{arith}
-use borrow.Author.Tests.{eqb-true}
-use lib.Dec.{T, T-not, eqb}
-use Rattle.integers.specs.Words.{below, any, those, first, _⇒_}
-use Rattle.integers.specs.Tests.{is-true, true-is, and-intro, and-left}
+use borrow.Author.Tests.{lt-ltb, le-ltb, eq-eqb, ne-eqb, eqb-true}
+use lib.Dec.{T, T-not, ltb, eqb, eqb→eq, ltb→lt, lt→ltb}
+use Rattle.integers.specs.Words.{if_then_else_, below, any, those, first, _⇒_}
+use Rattle.integers.specs.Tests.{either, is-true, is-false, true-is, false-is, and-intro, and-left, not-eqb-iff, same-test}
 use Rattle.integers.specs.Lists.{any-of, any-same, those-same, first-least, first-none}
 use Rattle.marks.specs.Marks.{mark, byteOf, lowestOf, without}
-use Rattle.marks.proofs.Laws.{mark-byteOf, mark-zero, byte-is, byte-small, strike-less, lowest-small, lowest-marked, lowest-below}
-use Rattle.arcs.specs.Partners.{isPartner, hasPartner, partnerOf, lowestPartner}
+use Rattle.marks.proofs.Laws.{mark-byteOf, mark-zero, byteOf-cong, byte-is, byte-small, strike-less, lowest-small, lowest-marked, lowest-below}
+use Rattle.arcs.specs.Partners.{isPartner, partnerOf, lowestPartner}
 use Rattle.arcs.specs.declared.Partner.the-variants.{At, Nothing}
 
 pub mark-without : (s v k : ℕ) → k < 8 → mark (without s v) k ≡ (mark s k && not (eqb k v))
@@ -33,9 +34,6 @@ module _ (row other l : ℕ) (no : mark other l ≡ false) where
       ap (λ (b : Bool). b && mark other k) (mark-without row l k h)
       ∙ and-skip (mark row k) (eqb k l) (mark other k) (λ e. ap (mark other) (eqb-true k l e) ∙ no)
 
-  pub has-less : hasPartner (without row l) other ≡ hasPartner row other
-  has-less = any-same 8 partner-other
-
   pub lowest-less : lowestPartner (without row l) other ≡ lowestPartner row other
   unfolding lowestPartner
   lowest-less = ap (λ (ls : List ℕ). partnerOf (first ls)) (those-same 8 partner-other)
@@ -46,9 +44,6 @@ no-partner other k = ap (λ (b : Bool). b && mark other k) (mark-zero k)
 none-of : (n : ℕ) (f : ℕ → Bool) → ((k : ℕ) → k < n → f k ≡ false) → any f (below n) ≡ any (λ k. false) (below n)
 none-of n f h = any-same n h
 
-pub has-none : (other : ℕ) → hasPartner 0 other ≡ false
-has-none other = none-of 8 (isPartner 0 other) (λ k h. no-partner other k)
-
 pub lowest-none : (other : ℕ) → lowestPartner 0 other ≡ Nothing
 unfolding lowestPartner
 lowest-none other = ap (λ (ls : List ℕ). partnerOf (first ls)) (those-same {f = isPartner 0 other} {g = λ k. false} 8 (λ k h. no-partner other k))
@@ -58,15 +53,13 @@ module _ (row other : ℕ) (h : row < 256) (filled : 0 < row) (yes : mark other 
   is-partner : T (isPartner row other (lowestOf row))
   is-partner = and-intro (mark row (lowestOf row)) (mark other (lowestOf row)) (lowest-marked row h filled) (true-is (mark other (lowestOf row)) yes)
 
-  pub has-found : hasPartner row other ≡ true
-  has-found = is-true (hasPartner row other) (any-of (isPartner row other) 8 (lowest-small row h filled) is-partner)
-
   pub lowest-found : lowestPartner row other ≡ At (lowestOf row)
   unfolding lowestPartner
   lowest-found = go (first (those (isPartner row other) (below 8))) refl
     where
       go : (o : Option ℕ) → first (those (isPartner row other) (below 8)) ≡ o → partnerOf o ≡ At (lowestOf row)
-      go none e = absurd (T-not (any (isPartner row other) (below 8)) (first-none (isPartner row other) (below 8) e) (any-of (isPartner row other) 8 (lowest-small row h filled) is-partner))
+      go none e = absurd (T-not (any (isPartner row other) (below 8)) (first-none (isPartner row other) (below 8) e)
+          (any-of (isPartner row other) 8 (lowest-small row h filled) is-partner))
       go (some x) e = ap At (same x (first-least (isPartner row other) 8 e))
         where
           same : (x : ℕ) → (x < 8) × T (isPartner row other x) × ((y : ℕ) → y < x → T (not (isPartner row other y))) → x ≡ lowestOf row
@@ -82,83 +75,89 @@ lowest-struck left l r h ne e q =
     let is : r ≡ without left (lowestOf left) = q ∙ ap (without left) e in
     (rw is (byte-small _), rw is (strike-less left (lowestOf left) h (lowest-marked left h filled)))
 
-pub lowest-step : (row other left l r : ℕ) (b : Bool) → lowestPartner left other ≡ lowestPartner row other → r ≡ without left l → b ≡ mark other l → b ≡ false → lowestPartner r other ≡ lowestPartner row other
+pub lowest-step : (row other left l r : ℕ) (b : Bool) → lowestPartner left other ≡ lowestPartner row other → r ≡ without left l → b ≡ mark other l → b ≡ false
+    → lowestPartner r other ≡ lowestPartner row other
 lowest-step row other left l r b i q e f = rw q (lowest-less left other l (sym e ∙ f) ∙ i)
-
-pub has-step : (row other left l r : ℕ) (b : Bool) → hasPartner left other ≡ hasPartner row other → r ≡ without left l → b ≡ mark other l → b ≡ false → hasPartner r other ≡ hasPartner row other
-has-step row other left l r b i q e f = rw q (has-less left other l (sym e ∙ f) ∙ i)
 
 pub lowest-at : (left other l : ℕ) (b : Bool) → left < 256 → (left ≡ 0 → ⊥) → l ≡ lowestOf left → b ≡ mark other l → b ≡ true → At l ≡ lowestPartner left other
 lowest-at left other l b h ne e q t =
     let filled : 0 < left = omega arith in
     ap At e ∙ sym (lowest-found left other h filled (ap (mark other) (sym e) ∙ sym q ∙ t))
 
-pub has-at : (left other l : ℕ) (b : Bool) → left < 256 → (left ≡ 0 → ⊥) → l ≡ lowestOf left → b ≡ mark other l → b ≡ true → hasPartner left other ≡ true
-has-at left other l b h ne e q t =
-    let filled : 0 < left = omega arith in
-    has-found left other h filled (ap (mark other) (sym e) ∙ sym q ∙ t)
+-- ---- the values of a set, looked at from the lowest on
 
--- ---- the values of a set, revised from the lowest on: `kept` is what is left of the set, `left` what is still to be looked at
+-- the marks are none where f passes nowhere
+module _ (f : ℕ → Bool) where
+  nowhere : byteOf f ≡ 0 → any f (below 8) ≡ false
+  nowhere z = none-of 8 f (λ k h. sym (mark-byteOf f k h) ∙ ap (λ (s : ℕ). mark s k) z ∙ mark-zero k)
 
-pub record Revising (has : ℕ → Bool) (set kept left : ℕ) : Type 0 where
-  pub kept-small : kept < 256
-  pub left-small : left < 256
-  pub same : (k : ℕ) → k < 8 → (mark kept k && (mark left k ⇒ has k)) ≡ (mark set k && has k)
+  no-marks : any f (below 8) ≡ false → byteOf f ≡ 0
+  no-marks e = sym (byte-is 0 f (omega arith) (λ k h. mark-zero k ∙ sym (at k h (f k) refl)))
+    where
+      at : (k : ℕ) → k < 8 → (b : Bool) → f k ≡ b → f k ≡ false
+      at k h true y = absurd (T-not (any f (below 8)) (false-is _ e) (any-of f 8 h (true-is (f k) y)))
+      at k h false n = n
 
-and-known : (a b : Bool) → (a && (a ⇒ b)) ≡ (a && b)
-and-known true b = refl
-and-known false b = refl
+  pub marks-none : eqb (byteOf f) 0 ≡ not (any f (below 8))
+  marks-none = go (any f (below 8)) refl
+    where
+      go : (b : Bool) → any f (below 8) ≡ b → eqb (byteOf f) 0 ≡ not b
+      go true e = ne-eqb (byteOf f) 0 (λ z. T-not (any f (below 8)) (false-is _ (nowhere z)) (true-is _ e))
+      go false e = eq-eqb (byteOf f) 0 (no-marks e)
 
-keep-one : (a b e h : Bool) → (e ≡ true → h ≡ true) → (a && ((b && not e) ⇒ h)) ≡ (a && (b ⇒ h))
-keep-one true true true h f = sym (f refl)
-keep-one true true false h f = refl
-keep-one true false e h f = refl
-keep-one false b e h f = refl
+-- those of a set that pass, of the values below k
+abbrev pub keptBelow : (ℕ → Bool) → ℕ → ℕ → ℕ
+keptBelow has set k = byteOf (λ v. mark set v && (ltb v k ⇒ has v))
 
-strike-one : (a b e h : Bool) → (e ≡ true → b ≡ true) → (e ≡ true → h ≡ false) → ((a && not e) && ((b && not e) ⇒ h)) ≡ (a && (b ⇒ h))
-strike-one true true true h f g = sym (g refl)
-strike-one true true false h f g = refl
-strike-one true false true h f g = f refl
-strike-one true false false h f g = refl
-strike-one false b e h f g = refl
+pub less-next : (v k : ℕ) → (v ≡ k → ⊥) → ltb v (k + 1) ≡ ltb v k
+less-next v k ne =
+    same-test (ltb v (k + 1)) (ltb v k) (λ t. lt→ltb v k (let h = ltb→lt v (k + 1) t in omega arith))
+    (λ t. lt→ltb v (k + 1) (let h = ltb→lt v k t in omega arith))
 
--- the value k is looked at
+ltb-next : (v k : ℕ) → T (eqb v k) ⊎ T (not (eqb v k)) → ltb v (k + 1) ≡ (ltb v k || eqb v k)
+ltb-next v k (inl t) = let e = eqb→eq v k t in simp (is-true (eqb v k) t, lt-ltb v (k + 1) (omega arith), le-ltb v k (omega arith))
+ltb-next v k (inr t) = less-next v k (not-eqb-iff v k .0 t) ∙ sym (ap (λ (b : Bool). ltb v k || b) (is-false (eqb v k) t) ∙ or-none (ltb v k))
+  where
+    or-none : (a : Bool) → (a || false) ≡ a
+    or-none true = refl
+    or-none false = refl
+
+-- value k is kept, or struck
+keep-one : (a l e h : Bool) → (e ≡ true → h ≡ true) → (a && (l ⇒ h)) ≡ (a && ((l || e) ⇒ h))
+keep-one true true e h f = refl
+keep-one true false true h f = sym (f refl)
+keep-one true false false h f = refl
+keep-one false l e h f = refl
+
+strike-one : (a l e h : Bool) → (e ≡ true → h ≡ false) → ((a && (l ⇒ h)) && not e) ≡ (a && ((l || e) ⇒ h))
+strike-one true true true true f = sym (f refl)
+strike-one true true true false f = refl
+strike-one true true false true f = refl
+strike-one true true false false f = refl
+strike-one true false true h f = sym (f refl)
+strike-one true false false h f = refl
+strike-one false l e h f = refl
+
 module _ (has : ℕ → Bool) (set : ℕ) where
-  pub revising-start : set < 256 → Revising has set set set
-  revising-start h = record { kept-small = h; left-small = h; same = λ k l. and-known (mark set k) (has k) }
+  pub kept-none : set < 256 → set ≡ keptBelow has set 0
+  kept-none h = byte-is set _ h (λ v g. sym (ap (λ (b : Bool). mark set v && (b ⇒ has v)) (le-ltb v 0 (omega arith)) ∙ and-all (mark set v)))
+    where
+      and-all : (a : Bool) → (a && true) ≡ a
+      and-all true = refl
+      and-all false = refl
 
-  module _ (kept left : ℕ) (now : Revising has set kept left) where
-    pub revising-end : left ≡ 0 → kept ≡ byteOf (λ k. mark set k && has k)
-    revising-end z =
-        byte-is kept _ (now .kept-small)
-        (λ k l. all-kept k ∙ now .same k l)
-      where
-        all-kept : (k : ℕ) → mark kept k ≡ (mark kept k && (mark left k ⇒ has k))
-        all-kept k = sym (ap (λ (b : Bool). mark kept k && (b ⇒ has k)) (ap (λ (x : ℕ). mark x k) z ∙ mark-zero k) ∙ and-all (mark kept k))
-          where
-            and-all : (a : Bool) → (a && true) ≡ a
-            and-all true = refl
-            and-all false = refl
+  pub kept-one-more : (k kept : ℕ) → kept ≡ keptBelow has set k → (lost : Bool) → lost ≡ not (has k)
+      → (if lost then without kept k else kept) ≡ keptBelow has set (k + 1)
+  kept-one-more k kept e lost is = ap (λ (b : Bool). if b then without kept k else kept) is ∙ by (has k) refl
+    where
+      next : (v : ℕ) → (mark set v && ((ltb v k || eqb v k) ⇒ has v)) ≡ (mark set v && (ltb v (k + 1) ⇒ has v))
+      next v = ap (λ (b : Bool). mark set v && (b ⇒ has v)) (sym (ltb-next v k (either (eqb v k))))
 
-    module _ (k less : ℕ) (ne : left ≡ 0 → ⊥) (is : k ≡ lowestOf left) (struck : less ≡ without left k) where
-      pub revising-keep : has k ≡ true → Revising has set kept less
-      revising-keep y = record {
-        kept-small = now .kept-small;
-        left-small = rw struck (byte-small _);
-        same = λ j l.
-            ap (λ (b : Bool). mark kept j && (b ⇒ has j)) (ap (λ (x : ℕ). mark x j) struck ∙ mark-without left k j l)
-            ∙ keep-one (mark kept j) (mark left j) (eqb j k) (has j) (λ e. ap has (eqb-true j k e) ∙ y)
-            ∙ now .same j l;
-      }
+      by : (b : Bool) → has k ≡ b → (if not b then without kept k else kept) ≡ keptBelow has set (k + 1)
+      by true y = e ∙ byteOf-cong (λ v h. keep-one (mark set v) (ltb v k) (eqb v k) (has v) (λ q. ap has (eqb-true v k q) ∙ y) ∙ next v)
+      by false n = byteOf-cong (λ v h.
+          ap (λ (b : Bool). b && not (eqb v k)) (ap (λ (s : ℕ). mark s v) e ∙ mark-byteOf (λ v. mark set v && (ltb v k ⇒ has v)) v h)
+          ∙ strike-one (mark set v) (ltb v k) (eqb v k) (has v) (λ q. ap has (eqb-true v k q) ∙ n) ∙ next v)
 
-      pub revising-strike : (kept′ : ℕ) → kept′ ≡ without kept k → has k ≡ false → Revising has set kept′ less
-      revising-strike kept′ q n =
-          let filled : 0 < left = omega arith in
-          let marked : mark left k ≡ true = ap (mark left) is ∙ is-true _ (lowest-marked left (now .left-small) filled) in record {
-            kept-small = rw q (byte-small _);
-            left-small = rw struck (byte-small _);
-            same = λ j l.
-                ap₂ (λ (a b : Bool). a && (b ⇒ has j)) (ap (λ (x : ℕ). mark x j) q ∙ mark-without kept k j l) (ap (λ (x : ℕ). mark x j) struck ∙ mark-without left k j l)
-                ∙ strike-one (mark kept j) (mark left j) (eqb j k) (has j) (λ e. ap (mark left) (eqb-true j k e) ∙ marked) (λ e. ap has (eqb-true j k e) ∙ n)
-                ∙ now .same j l;
-          }
+  pub kept-all : keptBelow has set 8 ≡ byteOf (λ v. mark set v && has v)
+  kept-all = byteOf-cong (λ v h. ap (λ (b : Bool). mark set v && (b ⇒ has v)) (lt-ltb v 8 h))

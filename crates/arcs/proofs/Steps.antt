@@ -1,11 +1,11 @@
 -- The steps of a closure: one end of an edge is revised, and steps one after the other. Assumes nothing.
 use mathlib.Core.Path.{_≡_, refl, sym, ap, subst, _∙_}
-use mathlib.Core.Bool.{Bool, true, false, not, _&&_, _||_}
+use mathlib.Core.Bool.{Bool, true, false, _&&_, _||_}
 use mathlib.Core.Logic.{_⊎_, inl, inr, ⊎-elim}
 use mathlib.Core.List.{List, [], _∷_}
 use Prim.Native.Nat.{ℕ, zero, suc, _+_, _*_, _≤_, _<_}
 use native.Mathlib.Omega.{arith}
-use borrow.Author.Tests.{ne-eqb}
+use borrow.Author.Tests.{eq-eqb, ne-eqb, eqb-true}
 use lib.Dec.{T, eqb, eqb→eq}
 use lib.ListN.{length, getD, set, length-set}
 use lib.Seq.{getD-set-same, getD-set-other, set-getD}
@@ -13,13 +13,13 @@ use Rattle.integers.specs.Words.{if_then_else_}
 use Rattle.integers.specs.Tests.{either, if-cases, and-intro, and-left, and-right, not-eqb-iff}
 use Rattle.integers.specs.Lists.{any-at, any-of}
 use Rattle.definitions.specs.Consistency.{Family}
-use Rattle.theory.specs.Network.{Network, SupportedIn}
-use Rattle.theory.proofs.Networks.{Ends, empty-set}
+use Rattle.networks.specs.Network.{Network, SupportedIn}
+use Rattle.networks.proofs.Networks.{empty-set}
 use Rattle.marks.specs.Marks.{mark}
 use Rattle.marks.proofs.Laws.{mark-byteOf, mark-zero, byte-small, byte-less, lowest-small, lowest-marked}
 use Rattle.arcs.specs.Partners.{isPartner, hasPartner, supportedValues}
 use Rattle.arcs.specs.Closure.{networkOfBytes, setsOf}
-use Rattle.arcs.specs.Sweeps.{WellFormed, Filled, Fewer, Said, Swept, Settled, ClosedAt, own, other, partner, changeOf, bothOf, keptOf, total}
+use Rattle.arcs.specs.Sweeps.{WellFormed, Filled, Fewer, Said, Swept, SettledSets, ClosedAt, own, other, partner, changeOf, bothOf, keptOf, total}
 use Rattle.arcs.specs.declared.Change.{Change}
 use Rattle.arcs.specs.declared.Change.the-variants.{Still, Struck, Emptied}
 
@@ -110,12 +110,9 @@ module _ (n : ℕ) (lower upper rows raised : List ℕ) (good : WellFormed n low
   abbrev N : Network
   N = networkOfBytes n lower upper rows raised
 
-  pub bytes-ends : Ends N
-  bytes-ends e h = good .ends e h
-
-  pub own-in : (up : Bool) (e : ℕ) → e < length raised → own N up e < n
-  own-in false e h = good .ends e h .0
-  own-in true e h = good .ends e h .1
+  pub own-variable-in : (up : Bool) (e : ℕ) → e < length raised → own N up e < n
+  own-variable-in false e h = good .ends e h .0
+  own-variable-in true e h = good .ends e h .1
 
   pub other-in : (up : Bool) (e : ℕ) → e < length raised → other N up e < n
   other-in false e h = good .ends e h .1
@@ -139,7 +136,13 @@ module _ (n : ℕ) (lower upper rows raised : List ℕ) (good : WellFormed n low
         λ filled f up q v g t.
             let k : e < length raised = h in
             subst (λ (f : ℕ). (u : ℕ) × (u < 8) × T (setsOf S (other N up f) u) × T (partner N up f v u)) (sym q)
-            (let (u, l, m) = some-mark (getD S (other N up e) 0) (bytes _) (filled (other N up e) (rw len (other-in up e h))) in (u, l, m, partner-free up e v u z)),
+            (let (u, l, m) = some-mark (getD S (other N up e) 0) (bytes _) (filled (other N up e) (rw len (other-in up e h))) in (
+              u,
+              l,
+              m,
+              partner-free up e v
+                  u z,
+            )),
       );
     }
 
@@ -154,7 +157,7 @@ module _ (n : ℕ) (lower upper rows raised : List ℕ) (good : WellFormed n low
       kept = keptOf rows (placeOf up e) i j S
 
       i-in : i < length S
-      i-in = rw len (own-in up e h)
+      i-in = rw len (own-variable-in up e h)
 
       kept-mark : (v : ℕ) → v < 8 → mark kept v ≡ (setsOf S i v && hasPartner (getD rows (placeOf up e + v) 0) (getD S j 0))
       unfolding supportedValues
@@ -169,7 +172,8 @@ module _ (n : ℕ) (lower upper rows raised : List ℕ) (good : WellFormed n low
 
       kept-less : kept ≤ getD S i 0
       unfolding supportedValues
-      kept-less = byte-less (getD S i 0) (λ v. setsOf S i v && hasPartner (getD rows (placeOf up e + v) 0) (getD S j 0)) (bytes i) (λ v g t. and-left (setsOf S i v) (hasPartner (getD rows (placeOf up e + v) 0) (getD S j 0)) t)
+      kept-less = byte-less (getD S i 0) (λ v. setsOf S i v && hasPartner (getD rows (placeOf up e + v) 0) (getD S j 0)) (bytes i)
+          (λ v g t. and-left (setsOf S i v) (hasPartner (getD rows (placeOf up e + v) 0) (getD S j 0)) t)
 
       -- a value has a partner exactly where the search finds one
       partner-to : (v u : ℕ) → u < 8 → T (setsOf S j u) → T (partner N up e v u) → T (hasPartner (getD rows (placeOf up e + v) 0) (getD S j 0))
@@ -178,8 +182,13 @@ module _ (n : ℕ) (lower upper rows raised : List ℕ) (good : WellFormed n low
 
       partner-from : (v : ℕ) → T (hasPartner (getD rows (placeOf up e + v) 0) (getD S j 0)) → (u : ℕ) × (u < 8) × T (setsOf S j u) × T (partner N up e v u)
       partner-from v t =
-          let (u, g, s) = any-at (isPartner (getD rows (placeOf up e + v) 0) (getD S j 0)) 8 t in
-          (u, g, and-right (mark (getD rows (placeOf up e + v) 0) u) (setsOf S j u) s, rw (partner-is up e v u ne) (and-left (mark (getD rows (placeOf up e + v) 0) u) (setsOf S j u) s))
+          let (u, g, s) = any-at (isPartner (getD rows (placeOf up e + v) 0) (getD S j 0)) 8 t in (
+            u,
+            g,
+            and-right (mark (getD rows (placeOf up e + v) 0) u) (setsOf S j u) s,
+            rw (partner-is up e v u ne)
+                (and-left (mark (getD rows (placeOf up e + v) 0) u) (setsOf S j u) s),
+          )
 
       revised-fewer : Fewer N S (set S i kept)
       revised-fewer = record {
@@ -191,7 +200,7 @@ module _ (n : ℕ) (lower upper rows raised : List ℕ) (good : WellFormed n low
             let f : T (F i v) = subst (λ (y : ℕ). T (F y v)) q t in
             let (u, l, s, a) = supported-at N p up e h v g f in
             rw (kept-mark v g)
-            (and-intro (setsOf S i v) (hasPartner (getD rows (placeOf up e + v) 0) (getD S j 0)) (w i v (own-in up e h) g f)
+            (and-intro (setsOf S i v) (hasPartner (getD rows (placeOf up e + v) 0) (getD S j 0)) (w i v (own-variable-in up e h) g f)
             (partner-to v u l (w j u (other-in up e h) l s) a)))
             (λ ne. w x v hx g t);
         less = omega (arith, kept-less, total-set S i kept i-in);
@@ -202,7 +211,7 @@ module _ (n : ℕ) (lower upper rows raised : List ℕ) (good : WellFormed n low
           if-cases (Said N (λ f q. (f ≡ e) × (q ≡ up)) S (set S i kept)) (eqb kept 0) Emptied (if eqb kept (getD S i 0) then Still else Struck)
           (λ z. (
             i,
-            own-in up e h,
+            own-variable-in up e h,
             λ v g t. subst (λ (s : ℕ). T (mark s v) → ⊥) (sym (getD-set-same S i kept 0 i-in ∙ eqb→eq kept 0 z)) (λ t. rw (mark-zero v) at t) t,
           ))
           (λ nz.
@@ -231,7 +240,8 @@ module _ (n : ℕ) (lower upper rows raised : List ℕ) (good : WellFormed n low
   upper-place e = omega arith
 
   -- both ends, one after the other
-  pub swept-edge : (S : List ℕ) → length S ≡ n → ((j : ℕ) → getD S j 0 < 256) → (e : ℕ) → e < length raised → (S₁ S₂ : List ℕ) (r q : Change) → ((j : ℕ) → getD S₁ j 0 < 256) → (getD raised e 0 ≡ 0 → ⊥)
+  pub swept-edge : (S : List ℕ) → length S ≡ n → ((j : ℕ) → getD S j 0 < 256) → (e : ℕ) → e < length raised → (S₁ S₂ : List ℕ) (r q : Change)
+      → ((j : ℕ) → getD S₁ j 0 < 256) → (getD raised e 0 ≡ 0 → ⊥)
       → S₁ ≡ set S (getD lower e 0) (keptOf rows (8 * (2 * e)) (getD lower e 0) (getD upper e 0) S)
       → r ≡ changeOf (getD S (getD lower e 0) 0) (keptOf rows (8 * (2 * e)) (getD lower e 0) (getD upper e 0) S)
       → S₂ ≡ set S₁ (getD upper e 0) (keptOf rows (8 * (2 * e + 1)) (getD upper e 0) (getD lower e 0) S₁)
@@ -257,6 +267,36 @@ module _ (lower upper rows raised : List ℕ) (S₀ S : List ℕ) (same : length
       → Swept (networkOfBytes (length S₀) lower upper rows raised) visited S S′ r
   swept-same visited S′ r p = subst (λ (n : ℕ). Swept (networkOfBytes n lower upper rows raised) visited S S′ r) same p
 
+-- what was done to an edge's two sets
+both-emptied : (q : Change) → bothOf q Emptied ≡ Emptied
+both-emptied Emptied = refl
+both-emptied Still = refl
+both-emptied Struck = refl
+
+module _ (own kept other left : ℕ) where
+  pub first-emptied : kept ≡ 0 → Emptied ≡ bothOf (changeOf own kept) (changeOf other left)
+  first-emptied e = rw e refl
+
+  pub second-emptied : left ≡ 0 → Emptied ≡ bothOf (changeOf own kept) (changeOf other left)
+  second-emptied e = rw e (sym (both-emptied (changeOf own kept)))
+
+  module _ (a : kept ≡ 0 → ⊥) (b : left ≡ 0 → ⊥) where
+    by : {x y : Bool} → eqb kept own ≡ x → eqb left other ≡ y
+        → bothOf (changeOf own kept) (changeOf other left) ≡ bothOf (if x then Still else Struck) (if y then Still else Struck)
+    by e f = simp (ne-eqb kept 0 a, ne-eqb left 0 b, e, f)
+
+    pub none-struck : kept ≡ own → left ≡ other → Still ≡ bothOf (changeOf own kept) (changeOf other left)
+    none-struck e f = sym (by (eq-eqb kept own e) (eq-eqb left other f))
+
+    pub some-struck : (kept ≡ own → left ≡ other → ⊥) → Struck ≡ bothOf (changeOf own kept) (changeOf other left)
+    some-struck differ = go (eqb kept own) (eqb left other) refl refl
+      where
+        go : (x y : Bool) → eqb kept own ≡ x → eqb left other ≡ y → Struck ≡ bothOf (changeOf own kept) (changeOf other left)
+        go true true e f = absurd (differ (eqb-true kept own e) (eqb-true left other f))
+        go true false e f = sym (by e f)
+        go false true e f = sym (by e f)
+        go false false e f = sym (by e f)
+
 pub swept-more : (lower upper rows raised : List ℕ) (S₀ S S′ : List ℕ) (change next z : Change) (e : ℕ)
     → Swept (networkOfBytes (length S₀) lower upper rows raised) (λ f up. f < e) S₀ S change
     → Swept (networkOfBytes (length S) lower upper rows raised) (λ f up. f ≡ e) S S′ next
@@ -270,6 +310,10 @@ swept-more lower upper rows raised S₀ S S′ change next z e a b q =
     cover f up h = ⊎-elim (λ t. inr (eqb→eq f e t)) (λ t. let ne = not-eqb-iff f e .0 t in inl (omega arith)) (either (eqb f e))
 
 -- an empty set is one, whatever was visited
+-- a set of this edge is empty
+pub emptied-more : (change : Change) {next : Change} → next ≡ Emptied → Emptied ≡ bothOf change next
+emptied-more change e = rw e (sym (both-emptied change))
+
 pub swept-emptied : (N : Network) (A C : ℕ → Bool → Type 0) (S S′ : List ℕ) (z : Change) → z ≡ Emptied → Swept N A S S′ z → Swept N C S S′ Emptied
 swept-emptied N A C S S′ z q p = record { fewer = p .fewer; said = subst (Said N A S S′) q (p .said) }
 
@@ -289,12 +333,12 @@ module _ (lower upper rows raised S₀ S S′ : List ℕ) (so-far : Fewer (netwo
   pub settled-struck : r ≡ Struck → (total S′ < total S) × Filled S′
   settled-struck q = let said = subst (Said M (λ f up. f < length raised) S S′) q (sweep-again .said) in (said .0, said .1 filled)
 
-  pub settled-emptied : r ≡ Emptied → Settled M (setsOf S₀) S′ false
+  pub settled-emptied : r ≡ Emptied → SettledSets M (setsOf S₀) S′ false
   settled-emptied q F p =
       let said = subst (Said M (λ f up. f < length raised) S S′) q (sweep-again .said) in
       empty-set (setsOf S′) p (fewer-all .keeps (setsOf S₀) F p (p .inside)) (said .0) (said .1) (said .2)
 
-  pub settled-still : ((j : ℕ) → getD S′ j 0 < 256) → r ≡ Still → Settled M (setsOf S₀) S′ true
+  pub settled-still : ((j : ℕ) → getD S′ j 0 < 256) → r ≡ Still → SettledSets M (setsOf S₀) S′ true
   settled-still bytes q =
       let said = subst (Said M (λ f up. f < length raised) S S′) q (sweep-again .said) in
       let filled′ : Filled S′ = subst Filled (sym (said .0)) filled in

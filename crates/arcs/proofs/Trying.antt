@@ -8,16 +8,16 @@ use borrow.Author.Tests.{eqb-true, eq-eqb}
 use lib.Dec.{T, T-not, not-T, eqb, eqb→eq}
 use lib.ListN.{length, getD, set, length-set}
 use lib.Seq.{getD-set-same}
-use Rattle.integers.specs.Words.{all, any, _⇒_}
+use Rattle.integers.specs.Words.{any, _⇒_}
 use Rattle.integers.specs.Tests.{is-true, true-is, is-false, and-left, and-right, imp-intro, imp-elim}
 use Rattle.integers.specs.Lists.{all-at, all-of, all-same}
 use Rattle.definitions.specs.Consistency.{Family}
-use Rattle.theory.specs.Network.{Network, SupportedIn}
-use Rattle.theory.proofs.Networks.{Within, none-tried, inside-more}
+use Rattle.networks.specs.Network.{Network, SupportedIn}
+use Rattle.networks.proofs.Networks.{Within, none-tried, sets-inside-more}
 use Rattle.marks.specs.Marks.{mark, lowestOf, without, onlyOf, inBoth}
 use Rattle.marks.proofs.Laws.{mark-byteOf, mark-zero, byteOf-cong, byte-small, lowest-small, lowest-marked}
 use Rattle.arcs.specs.Closure.{networkOfBytes, setsOf, someFamily}
-use Rattle.arcs.specs.Sweeps.{WellFormed, Filled, Settled}
+use Rattle.arcs.specs.Sweeps.{WellFormed, Filled, SettledSets}
 use Rattle.arcs.specs.Tried.{hasFamily, noneHas}
 use Rattle.arcs.proofs.Search.{mark-without}
 use Rattle.arcs.proofs.Steps.{after-set}
@@ -56,7 +56,8 @@ module _ (has : ℕ → Bool) (own values : ℕ) where
     pub trying-end : left ≡ 0 → true ≡ noneHas has values
     unfolding noneHas
     trying-end z =
-        sym (is-true (noneHas has left) (all-of (λ k. mark left k ⇒ not (has k)) 8 (λ k h. imp-intro (mark left k) (not (has k)) (λ t. absurd (rw (z, mark-zero k) at t)))))
+        sym (is-true (noneHas has left) (all-of (λ k. mark left k ⇒ not (has k)) 8
+        (λ k h. imp-intro (mark left k) (not (has k)) (λ t. absurd (rw (z, mark-zero k) at t)))))
         ∙ now .same
 
     module _ (k : ℕ) (ne : left ≡ 0 → ⊥) (is : k ≡ lowestOf left) where
@@ -105,7 +106,8 @@ only-own own k t = byteOf-cong (λ v h. ap (λ (b : Bool). mark own v && b) (mar
         and-false false = refl
 
 pub only-filled : (k o : ℕ) → o ≡ onlyOf k → k < 8 → o ≡ 0 → ⊥
-only-filled k o eo l z = T-not false tt (subst T (sym (mark-byteOf (λ j. eqb j k) k l ∙ eq-eqb k k refl) ∙ ap (λ (s : ℕ). mark s k) (sym eo ∙ z) ∙ mark-zero k) tt)
+only-filled k o eo l z = T-not false tt (subst T (sym (mark-byteOf (λ j. eqb j k) k l ∙ eq-eqb k k refl) ∙ ap (λ (s : ℕ). mark s k) (sym eo ∙ z)
+    ∙ mark-zero k) tt)
 
 -- a copy of the sets, with another set for variable i
 module _ (S : List ℕ) (i : ℕ) (g : i < length S) (o : ℕ) (work : List ℕ) (same : work ≡ S) where
@@ -116,7 +118,8 @@ module _ (S : List ℕ) (i : ℕ) (g : i < length S) (o : ℕ) (work : List ℕ)
   copy-filled ne filled j h z =
       after-set (λ (s : ℕ). s ≡ 0 → ⊥) work i o j (rw same g) (λ e. ne) (λ ne. rw same (filled j (rw copy-length at h))) z
 
-  pub copy-well : (lower upper rows raised : List ℕ) → WellFormed (length S) lower upper rows raised → WellFormed (length (set work i o)) lower upper rows raised
+  pub copy-well : (lower upper rows raised : List ℕ) → WellFormed (length S) lower upper rows raised
+      → WellFormed (length (set work i o)) lower upper rows raised
   copy-well lower upper rows raised well = rw copy-length well
 
 module _ (lower upper rows raised S : List ℕ) (i : ℕ) (g : i < length S) where
@@ -127,28 +130,33 @@ module _ (lower upper rows raised S : List ℕ) (i : ℕ) (g : i < length S) whe
   pub outside-none : (k : ℕ) → k < 8 → mark (getD S i 0) k ≡ false → hasFamily N S i k ≡ false
   outside-none k h lacks = none-tried N (setsOf (set S i (inBoth (getD S i 0) (onlyOf k)))) (λ F p.
       let (v, l, s) = p .non-empty i g in
-      let t = rw (getD-set-same S i (inBoth (getD S i 0) (onlyOf k)) 0 g, mark-byteOf (λ j. mark (getD S i 0) j && mark (onlyOf k) j) v l) at (p .inside i v g l s) in
+      let t = rw (getD-set-same S i (inBoth (getD S i 0) (onlyOf k)) 0 g, mark-byteOf (λ j. mark (getD S i 0) j && mark (onlyOf k) j) v l) at
+      (p .inside i v g l s) in
       let e = eqb→eq v k (rw (mark-byteOf (λ j. eqb j k) v l) at (and-right (mark (getD S i 0) v) (mark (onlyOf k) v) t)) in
       T-not (mark (getD S i 0) k) (rw lacks tt) (subst (λ (x : ℕ). T (mark (getD S i 0) x)) e (and-left (mark (getD S i 0) v) (mark (onlyOf k) v) t)))
 
   module _ (k o : ℕ) (work : List ℕ) (eo : o ≡ onlyOf k) (same : work ≡ S) where
     -- what the sweeps leave says whether there is a family
     pub alone-family : WellFormed (length S) lower upper rows raised → T (mark (getD S i 0) k) → (S′ : List ℕ) (left : Bool)
-        → Settled (networkOfBytes (length (set work i o)) lower upper rows raised) (setsOf (set work i o)) S′ left → hasFamily N S i k ≡ left
+        → SettledSets (networkOfBytes (length (set work i o)) lower upper rows raised) (setsOf (set work i o)) S′ left → hasFamily N S i k ≡ left
     alone-family well t S′ left p =
-        let e : set S i (inBoth (getD S i 0) (onlyOf k)) ≡ set work i o = ap₂ (λ (l : List ℕ) (s : ℕ). set l i s) (sym same) (only-own (getD S i 0) k t ∙ sym eo) in
+        let e : set S i (inBoth (getD S i 0) (onlyOf k)) ≡ set work i o = ap₂ (λ (l : List ℕ) (s : ℕ). set l i s) (sym same)
+        (only-own (getD S i 0) k t ∙ sym eo) in
         ap₂ (λ (n : ℕ) (l : List ℕ). someFamily (networkOfBytes n lower upper rows raised) (setsOf l)) (sym (copy-length S i g o work same)) e
-        ∙ settled-family (networkOfBytes (length (set work i o)) lower upper rows raised) (setsOf (set work i o)) (copy-well S i g o work same lower upper rows raised well .ends) S′ left p
+        ∙ settled-family (networkOfBytes (length (set work i o)) lower upper rows raised) (setsOf (set work i o))
+        (copy-well S i g o work same lower upper rows raised well .ends) S′ left p
 
   -- where a set is empty, no value has a family
   pub empty-none : any (λ s. eqb s 0) S ≡ true → (values : ℕ) → noneHas (hasFamily N S i) values ≡ true
   unfolding noneHas
   empty-none e values =
       is-true _ (all-of (λ k. mark values k ⇒ not (hasFamily N S i k)) 8 (λ k h. imp-intro (mark values k) (not (hasFamily N S i k)) (λ t.
-      true-is _ (ap not (none-tried N (setsOf (set S i (inBoth (getD S i 0) (onlyOf k)))) (λ F p. some-empty S e lower upper rows raised F (inside-more (inside k h p) p)))))))
+      true-is _ (ap not (none-tried N (setsOf (set S i (inBoth (getD S i 0) (onlyOf k))))
+      (λ F p. some-empty S e lower upper rows raised F (sets-inside-more (inside k h p) p)))))))
     where
       inside : (k : ℕ) → k < 8 → {F : Family} → SupportedIn N (setsOf (set S i (inBoth (getD S i 0) (onlyOf k)))) F → Within N F (setsOf S)
       inside k h p j v l m s =
           after-set (λ (b : ℕ). T (mark b v) → T (mark (getD S j 0) v)) S i (inBoth (getD S i 0) (onlyOf k)) j g
-          (λ q t. rw q (and-left (mark (getD S i 0) v) (mark (onlyOf k) v) (rw (mark-byteOf (λ x. mark (getD S i 0) x && mark (onlyOf k) x) v m) at t))) (λ ne t. t)
+          (λ q t. rw q (and-left (mark (getD S i 0) v) (mark (onlyOf k) v) (rw (mark-byteOf (λ x. mark (getD S i 0) x && mark (onlyOf k) x) v m) at t)))
+          (λ ne t. t)
           (p .inside j v l m s)

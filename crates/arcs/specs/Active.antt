@@ -1,8 +1,9 @@
--- What is prepared once for a table: the active values of each variable and the active partners on each edge, as marks. Assumes nothing.
+-- What is prepared once for a table: the active values of each variable and the active partners on each edge, as marks; and what is written
+-- where a number is given for each scope, on all input. Assumes nothing.
 use mathlib.Core.Path.{_≡_}
-use mathlib.Core.Bool.{Bool, false, _&&_, _||_}
+use mathlib.Core.Bool.{Bool, _&&_, _||_}
 use mathlib.Core.Option.{Option}
-use mathlib.Core.List.{List, map}
+use mathlib.Core.List.{List, [], _∷_, map}
 use Prim.Native.Nat.{ℕ, _+_, _*_, _-_, _≤_, _<_}
 use lib.IntN.{ℤ, pos}
 use lib.Dec.{ltb}
@@ -14,10 +15,10 @@ use Rattle.definitions.specs.declared.Refusal.{Refusal}
 use Rattle.definitions.specs.Rules.{Rules}
 use Rattle.definitions.specs.Refusals.{firstOf}
 use Rattle.definitions.specs.Answers.{outcomeOf, unlessRefused}
-use Rattle.definitions.specs.Case.{lentLength, weight, active}
-use Rattle.definitions.specs.Valid.{workingWeight, handedOver}
+use Rattle.definitions.specs.Case.{scopeCount, lentLength, weight, active}
+use Rattle.definitions.specs.Valid.{limitTest, lengthTest}
 use Rattle.definitions.specs.Lines.{overwritten}
-use Rattle.tables.specs.Scopes.{Limited}
+use Rattle.tables.specs.Scopes.{Limited, bestAt}
 use Rattle.marks.specs.Marks.{mark, byteOf, added}
 
 -- ---- the tuples that pass a test, as marks
@@ -37,7 +38,7 @@ belowWhere c f e l = byteOf (λ k. ltb k (c .d) && (ltb l (c .d) && f (c .n + e)
 abbrev pub rowWhere : Case → (ℕ → ℕ → ℕ → Bool) → ℕ → ℕ → ℕ
 rowWhere c f e p = if ltb p 8 then aboveWhere c f e p else belowWhere c f e (p - 8)
 
--- ---- the active ones
+-- ---- the active ones, and those whose weight is the scope's number in `best`
 
 abbrev pub activeSet : Case → List ℤ → ℕ → ℕ
 activeSet c w j = setWhere c (active c w) j
@@ -45,29 +46,43 @@ activeSet c w j = setWhere c (active c w) j
 abbrev pub activeRow : Case → List ℤ → ℕ → ℕ → ℕ
 activeRow c w e p = rowWhere c (active c w) e p
 
-unfoldable pub activeSets : Case → List ℤ → List ℕ
-activeSets c w = map (activeSet c w) (below (c .n))
+abbrev pub hasBest : Case → List ℤ → List ℤ → ℕ → ℕ → ℕ → Bool
+hasBest c w best x k l = eqZ (weight c w x k l) (bestAt best x)
 
-unfoldable pub activeRows : Case → List ℤ → List ℕ
-activeRows c w = joined (map (λ e. map (activeRow c w e) (below 16)) (below (c .m)))
+unfoldable pub markedSets : Case → List ℤ → List ℤ → List ℕ
+markedSets c w best = map (setWhere c (hasBest c w best)) (below (c .n))
 
--- the lent bytes are too few
-abbrev pub tooShort : Case → List ℕ → List ℕ → Bool
-tooShort c sets rows = ltb (length sets) (c .n) || ltb (length rows) (16 * c .m)
+unfoldable pub markedRows : Case → List ℤ → List ℤ → List ℕ
+markedRows c w best = joined (map (λ e. map (rowWhere c (hasBest c w best) e) (below 16)) (below (c .m)))
+
+-- `best` or the lent bytes are too few
+abbrev pub tooShort : Case → List ℤ → List ℕ → List ℕ → Bool
+tooShort c best sets rows = ltb (length best) (scopeCount c) || (ltb (length sets) (c .n) || ltb (length rows) (16 * c .m))
+
+-- a call that writes marks
+pub record MarksCall : Type 0 where
+  pub answer : Outcome
+  pub sets : List ℕ
+  pub rows : List ℕ
+
+-- an answer and what is left are the call's
+abbrev pub MarksAre : MarksCall → Outcome → List ℕ → List ℕ → Type 0
+MarksAre call answer sets rows = (answer ≡ call .answer) × (sets ≡ call .sets) × (rows ≡ call .rows)
 
 module _ (r : Rules) where
-  abbrev pub activeRefusal : Case → List ℤ → List ℕ → List ℕ → Option Refusal
-  activeRefusal c w sets rows = firstOf (handedOver r (workingWeight r) c w (tooShort c sets rows) false)
+  -- numbers 3 and 4
+  abbrev pub lengthRefusal : Case → List ℤ → Bool → Option Refusal
+  lengthRefusal c w wrong = firstOf (limitTest r c ∷ lengthTest c w wrong ∷ [])
 
-  unfoldable pub activeAnswer : Case → List ℤ → List ℕ → List ℕ → Outcome
-  activeAnswer c w sets rows = outcomeOf (activeRefusal c w sets rows)
+  abbrev pub marksRefusal : Case → List ℤ → List ℤ → List ℕ → List ℕ → Option Refusal
+  marksRefusal c w best sets rows = lengthRefusal c w (tooShort c best sets rows)
 
-  -- what the lent bytes hold afterwards
-  unfoldable pub setsAfter : Case → List ℤ → List ℕ → List ℕ → List ℕ
-  setsAfter c w sets rows = unlessRefused (activeRefusal c w sets rows) (overwritten (activeSets c w) sets) sets
-
-  unfoldable pub rowsAfter : Case → List ℤ → List ℕ → List ℕ → List ℕ
-  rowsAfter c w sets rows = unlessRefused (activeRefusal c w sets rows) (overwritten (activeRows c w) rows) rows
+  unfoldable pub marksCall : Case → List ℤ → List ℤ → List ℕ → List ℕ → MarksCall
+  marksCall c w best sets rows = record {
+    answer = outcomeOf (marksRefusal c w best sets rows);
+    sets = unlessRefused (marksRefusal c w best sets rows) (overwritten (markedSets c w best) sets) sets;
+    rows = unlessRefused (marksRefusal c w best sets rows) (overwritten (markedRows c w best) rows) rows;
+  }
 
 -- ---- the private functions
 
@@ -81,8 +96,8 @@ abbrev pub hasWeight : Case → List ℤ → ℤ → ℕ → ℕ → ℕ → Boo
 hasWeight c w best x k l = eqZ (weight c w x k l) best
 
 -- the values below d whose weight is `best`; the weight of value j stands at from + j
-abbrev pub bestValues : List ℤ → ℕ → ℕ → ℤ → ℕ
-bestValues w from d best = byteOf (λ j. ltb j d && eqZ (getD w (from + j) (pos 0)) best)
+abbrev pub bestMarks : List ℤ → ℕ → ℕ → ℤ → ℕ
+bestMarks w from d best = byteOf (λ j. ltb j d && eqZ (getD w (from + j) (pos 0)) best)
 
 -- value k is added to byte 8 + l for each value l of a row
 pub record AddedBelow (row k : ℕ) (S S′ : List ℕ) : Type 0 where

@@ -5,31 +5,23 @@ use mathlib.Core.Option.{Option}
 use mathlib.Core.List.{List, [], _∷_, map}
 use Prim.Native.Nat.{ℕ, _+_}
 use lib.IntN.{ℤ}
-use lib.Dec.{ltb, eqb}
-use lib.ListN.{length, getD, take, drop}
-use Rattle.integers.specs.Words.{if_then_else_, below, joined, eqZ}
+use lib.Dec.{ltb}
+use lib.ListN.{length, take, drop}
+use Rattle.integers.specs.Words.{if_then_else_, below, joined}
 use Rattle.definitions.specs.declared.Case.{Case}
 use Rattle.definitions.specs.declared.Refusal.{Refusal}
 use Rattle.definitions.specs.declared.Refusal.the-variants.{OutOfRange}
 use Rattle.definitions.specs.declared.Verdict.{Verdict}
 use Rattle.definitions.specs.Rules.{Rules}
 use Rattle.definitions.specs.Refusals.{_when_, firstOf}
-use Rattle.definitions.specs.Case.{scopeCount, weight}
+use Rattle.definitions.specs.Case.{scopeCount}
 use Rattle.definitions.specs.Valid.{limitTest, lengthTest, someEdge, endOutside}
-use Rattle.definitions.specs.Calls.{verdictOf}
-use Rattle.tables.specs.Scopes.{bestAt}
+use Rattle.calls.specs.Calls.{verdictOf, isRaised}
 use Rattle.marks.specs.Marks.{fullOf}
-use Rattle.arcs.specs.Active.{setWhere, rowWhere}
+use Rattle.arcs.specs.Active.{setWhere, rowWhere, hasBest}
 use Rattle.arcs.specs.Tried.{triedAnswer}
 use Rattle.arcs.specs.declared.Tried.{Tried}
 use Rattle.arcs.specs.declared.Tried.the-variants.{Malformed, Unsupported, Supported}
-
-abbrev pub hasBest : Case → List ℤ → List ℤ → ℕ → ℕ → ℕ → Bool
-hasBest c w best x k l = eqZ (weight c w x k l) (bestAt best x)
-
--- raised scopes as bytes that are not 0
-abbrev pub isRaised : List ℕ → ℕ → Bool
-isRaised raised x = not (eqb (getD raised x 0) 0)
 
 -- the allowed values of variable j, and the sixteen bytes of edge e, which are never looked at if it is not raised
 abbrev pub allowedBest : Case → List ℤ → List ℤ → List ℕ → ℕ → ℕ

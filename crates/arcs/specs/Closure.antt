@@ -7,7 +7,7 @@ use lib.ListN.{length, getD}
 use Rattle.integers.specs.Words.{if_then_else_, below, any}
 use Rattle.definitions.specs.Rules.{edgePlaces}
 use Rattle.definitions.specs.Consistency.{Family, marks}
-use Rattle.theory.specs.Network.{Network, supportedIn, familiesOf, largest}
+use Rattle.networks.specs.Network.{Network, supportedIn, familiesOf, largest}
 use Rattle.marks.specs.Marks.{mark, byteOf}
 use Rattle.arcs.specs.declared.Closed.{Closed}
 use Rattle.arcs.specs.declared.Closed.the-variants.{Malformed, Empty, Family as SomeFamily}
@@ -36,14 +36,14 @@ networkOfBytes n lower upper rows raised = record {
   below = λ e k l. eqb (getD raised e 0) 0 || mark (getD rows (16 * e + 8 + l) 0) k;
 }
 
-abbrev pub endOutside : ℕ → List ℕ → List ℕ → ℕ → Bool
-endOutside n lower upper e = not (ltb (getD lower e 0) n && ltb (getD upper e 0) n)
+abbrev pub endMissing : ℕ → List ℕ → List ℕ → ℕ → Bool
+endMissing n lower upper e = not (ltb (getD lower e 0) n && ltb (getD upper e 0) n)
 
 -- too few ends or rows for the edges, or an end that is no variable
 abbrev pub isMalformed : ℕ → List ℕ → List ℕ → List ℕ → List ℕ → Bool
 isMalformed n lower upper rows raised =
     ltb (length lower) (length raised) || ltb (length upper) (length raised) || ltb (length rows) (16 * length raised)
-    || any (endOutside n lower upper) (below (length raised))
+    || any (endMissing n lower upper) (below (length raised))
 
 -- some family is supported inside G
 abbrev pub someFamily : Network → Family → Bool

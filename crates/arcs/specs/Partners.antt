@@ -1,10 +1,11 @@
 -- The search for partners: a row holds the marks of a value's partners. Assumes nothing.
 use mathlib.Core.Bool.{Bool, _&&_}
 use mathlib.Core.Option.{Option, none, some}
-use mathlib.Core.List.{List}
+use mathlib.Core.List.{List, map}
 use Prim.Native.Nat.{ℕ, _+_}
-use lib.ListN.{getD}
-use Rattle.integers.specs.Words.{below, any, those, first}
+use lib.Dec.{ltb}
+use lib.ListN.{length, getD}
+use Rattle.integers.specs.Words.{if_then_else_, below, any, those, first}
 use Rattle.marks.specs.Marks.{mark, byteOf}
 use Rattle.arcs.specs.declared.Partner.{Partner}
 use Rattle.arcs.specs.declared.Partner.the-variants.{At, Nothing}
@@ -26,3 +27,17 @@ lowestPartner row other = partnerOf (first (those (isPartner row other) (below 8
 -- the values of `set` that have a partner in `other`; the row of value k stands at place `at` + k
 unfoldable pub supportedValues : List ℕ → ℕ → ℕ → ℕ → ℕ
 supportedValues rows at set other = byteOf (λ k. mark set k && hasPartner (getD rows (at + k) 0) other)
+
+-- ---- the lowest partner of each value, as bytes
+
+abbrev pub partnerByte : Partner → ℕ
+partnerByte (At l) = l
+partnerByte Nothing = 255
+
+-- place k: the lowest partner of value k, where the set has it and there is a row for it; else what stood there
+abbrev pub partnerAt : List ℕ → ℕ → ℕ → List ℕ → ℕ → ℕ
+partnerAt rows set other partners k =
+    if mark set k && ltb k (length rows) then partnerByte (lowestPartner (getD rows k 0) other) else getD partners k 0
+
+unfoldable pub lowestPartners : List ℕ → ℕ → ℕ → List ℕ → List ℕ
+lowestPartners rows set other partners = map (partnerAt rows set other partners) (below (length partners))

@@ -4,11 +4,11 @@ use mathlib.Core.Bool.{Bool, true, false}
 use mathlib.Core.List.{List, [], _∷_}
 use Prim.Native.Nat.{ℕ, _+_, _*_, _≤_, _<_}
 use lib.Dec.{T, eqb}
-use lib.ListN.{length, getD, set}
+use lib.ListN.{length, getD}
 use Rattle.integers.specs.Words.{if_then_else_}
 use Rattle.definitions.specs.Consistency.{Family}
-use Rattle.theory.specs.Network.{Network, SupportedIn}
-use Rattle.theory.proofs.Networks.{Within, None}
+use Rattle.networks.specs.Network.{Network, SupportedIn}
+use Rattle.networks.proofs.Networks.{Within, None}
 use Rattle.arcs.specs.Partners.{supportedValues}
 use Rattle.arcs.specs.Closure.{setsOf}
 use Rattle.arcs.specs.declared.Change.{Change}
@@ -35,10 +35,6 @@ bothOf Struck Emptied = Emptied
 -- variable i keeps the values that have a partner in variable j's set
 abbrev pub keptOf : List ℕ → ℕ → ℕ → ℕ → List ℕ → ℕ
 keptOf rows at i j S = supportedValues rows at (getD S i 0) (getD S j 0)
-
--- each pair of sets is one from which nothing is struck: the arc's rows stand from place 8 · x on
-pub record Seen (rows seen : List ℕ) : Type 0 where
-  pub known : (x a b : ℕ) → a < 256 → b < 256 → getD seen x 0 ≡ a + 256 * b → supportedValues rows (8 * x) a b ≡ a
 
 -- the sum of the bytes, which falls with every strike
 unfoldable pub total : List ℕ → ℕ
@@ -85,6 +81,6 @@ module _ (N : Network) where
     pub said : Said visited S S′ change
 
   -- the largest supported family inside G is left, or there is none
-  abbrev pub Settled : Family → List ℕ → Bool → Type 0
-  Settled G S true = SupportedIn N G (setsOf S) × ((F : Family) → SupportedIn N G F → Within N F (setsOf S))
-  Settled G S false = None N G
+  abbrev pub SettledSets : Family → List ℕ → Bool → Type 0
+  SettledSets G S true = SupportedIn N G (setsOf S) × ((F : Family) → SupportedIn N G F → Within N F (setsOf S))
+  SettledSets G S false = None N G

@@ -6,7 +6,7 @@ use lib.Dec.{ltb}
 use lib.ListN.{length, getD, set}
 use Rattle.integers.specs.Words.{if_then_else_, below, all, _⇒_}
 use Rattle.definitions.specs.Rules.{variablePlaces}
-use Rattle.theory.specs.Network.{Network}
+use Rattle.networks.specs.Network.{Network}
 use Rattle.marks.specs.Marks.{mark, onlyOf, inBoth}
 use Rattle.arcs.specs.Closure.{networkOfBytes, setsOf, isMalformed, someFamily}
 use Rattle.arcs.specs.declared.Tried.{Tried}

@@ -13,19 +13,21 @@ ghost use lib.Dec.{T, ltb, eqb};
 ghost use lib.ListN.{length, getD, set, replicate};
 ghost use Rattle.integers.specs.Words.{if_then_else_, below, any, eqZ};
 ghost use Rattle.definitions.specs.Rules.{rulesOf};
-ghost use Rattle.definitions.specs.Case.{scopeCount, lentLength, greatest};
+ghost use Rattle.definitions.specs.Case.{scopeCount, lentLength};
 ghost use Rattle.definitions.specs.Answers.{outcomeOf};
-ghost use Rattle.definitions.specs.Valid.{someEdge, endOutside as edgeOutside};
+ghost use Rattle.definitions.specs.Valid.{someEdge, endOutside};
 ghost use Rattle.definitions.specs.Lines.{overwritten};
 ghost use Rattle.tables.specs.Scopes.{Limited};
-ghost use Rattle.marks.specs.Marks.{mark};
-ghost use Rattle.arcs.specs.Partners.{lowestPartner, supportedValues};
-ghost use Rattle.arcs.specs.Closure.{networkOfBytes, setsOf, endOutside, isMalformed, closureAnswer, closureSets};
+ghost use Rattle.marks.specs.Marks.{mark, without};
+ghost use Rattle.arcs.specs.Partners.{lowestPartner, partnerByte, lowestPartners, supportedValues};
+ghost use Rattle.arcs.specs.Closure.{networkOfBytes, setsOf, endMissing, isMalformed, closureAnswer, closureSets};
 ghost use Rattle.arcs.specs.Tried.{hasFamily, noneHas, triedAnswer};
 ghost use Rattle.arcs.specs.declared.Tried.{Tried};
-ghost use Rattle.arcs.specs.Sweeps.{WellFormed, Filled, Swept, Settled, changeOf, bothOf, keptOf, Seen};
-ghost use Rattle.arcs.specs.Active.{bestValues, setWhere, rowWhere, hasWeight, Sized, AddedBelow, Crossed, activeSet, activeSets, activeRows, Written, activeAnswer, setsAfter, rowsAfter};
-ghost use Rattle.arcs.specs.Best.{allowedBest, partnersBest, bestRows, isUnsupported, areUnsupported, bestRefusal, valuesUnsupportedAnswer, bestUnsupportedAnswer};
+ghost use Rattle.arcs.specs.Sweeps.{WellFormed, Filled, Swept, SettledSets, changeOf, bothOf, keptOf};
+ghost use Rattle.arcs.specs.Active.{bestMarks, setWhere, rowWhere, hasWeight, Sized, AddedBelow};
+ghost use Rattle.arcs.specs.Active.{Crossed, markedSets, markedRows, Written, lengthRefusal, marksCall, MarksAre};
+ghost use Rattle.arcs.specs.Best.{allowedBest, partnersBest, bestRows, isUnsupported};
+ghost use Rattle.arcs.specs.Best.{areUnsupported, bestRefusal, valuesUnsupportedAnswer, bestUnsupportedAnswer};
 
 pub enum Partner {
     At(u8),
@@ -47,11 +49,22 @@ pub enum Tried {
 }
 
 // Places in arrays: two arcs for each edge, eight rows for each arc.
-const ARC_PLACES: usize = 2 * EDGE_PLACES;
+pub const ROW_PLACES: usize = 16 * EDGE_PLACES;
 
-pub const ROW_PLACES: usize = 8 * ARC_PLACES;
+// A value without partners, in a byte.
+pub const NO_PARTNER: u8 = 255;
 
 // ---- the search for partners
+
+// The set without value k, if it has no partners.
+fn kept_with(set: u8, k: u8, partners: u8) -> u8
+    ensures { λ r. ⌜ r ≡ (if eqb partners 0 then without set k else set) ⌝ }
+{
+    if partners == 0 {
+        return marks::strike(set, k);
+    }
+    set
+}
 
 // The values of `set` that have a partner in `other`. The partners of value k stand at rows[at + k].
 fn supported(rows: &[u8], at: usize, set: u8, other: u8) -> u8
@@ -59,26 +72,21 @@ fn supported(rows: &[u8], at: usize, set: u8, other: u8) -> u8
     ensures { λ r. ⌜ r ≡ supportedValues (now (rows .entry)) at set other ⌝ }
 {
     let mut kept = set;
-    let mut left = set;
-    'values: while left != 0 {
-        let k = marks::lowest(left);
-        left = marks::strike(left, k);
-        let mut rest = rows[at + k as usize];
-        let found = 'partners: loop {
-            if rest == 0 {
-                break 'partners Partner::Nothing;
-            }
-            let l = marks::lowest(rest);
-            if marks::has(other, l) {
-                break 'partners Partner::At(l);
-            }
-            rest = marks::strike(rest, l);
-        };
-        if let Partner::Nothing = found {
-            kept = marks::strike(kept, k);
-        }
+    let mut k: usize = 0;
+    while k < 8 {
+        kept = kept_with(kept, k as u8, marks::common(rows[at + k], other));
+        k += 1;
     }
     kept
+}
+
+fn partner_byte(found: Partner) -> u8
+    ensures { λ r. ⌜ r ≡ partnerByte found ⌝ }
+{
+    match found {
+        Partner::At(l) => l,
+        Partner::Nothing => NO_PARTNER,
+    }
 }
 
 // ---- the closure
@@ -90,13 +98,24 @@ enum Change {
     Emptied,
 }
 
-fn change_of(own: u8, kept: u8) -> Change
-    ensures { λ r. ⌜ r ≡ changeOf own kept ⌝ }
+// Two sets as one number.
+fn pair(own: u8, other: u8) -> u16
+    ensures { λ r. ⌜ r ≡ own + 256 * other ⌝ }
+{
+    own as u16 + 256 * (other as u16)
+}
+
+// What was done to the two sets of an edge, by what is left of each.
+fn edge_change(own: u8, kept: u8, other: u8, left: u8) -> Change
+    ensures { λ r. ⌜ r ≡ bothOf (changeOf own kept) (changeOf other left) ⌝ }
 {
     if kept == 0 {
         return Change::Emptied;
     }
-    if kept == own {
+    if left == 0 {
+        return Change::Emptied;
+    }
+    if pair(kept, left) == pair(own, other) {
         return Change::Still;
     }
     Change::Struck
@@ -116,42 +135,14 @@ fn both(first: Change, second: Change) -> Change
     }
 }
 
-fn pair(own: u8, other: u8) -> u16
-    ensures { λ r. ⌜ r ≡ own + 256 * other ⌝ }
+// Strikes the values of variable i that have no partner in variable j's set. The partners of an arc's values stand from rows[8 * arc] on.
+fn revise(rows: &[u8], arc: usize, sets: &mut [u8], i: usize, j: usize) -> u8
+    requires { ⌜ (8 * arc + 8 ≤ length (now rows)) × (i < length (now sets)) × (j < length (now sets)) ⌝ }
+    ensures { λ r. ⌜ (now (sets .exit) ≡ set (now (sets .entry)) i r) × (r ≡ keptOf (now (rows .entry)) (8 * arc) i j (now (sets .entry))) ⌝ }
 {
-    own as u16 + 256 * (other as u16)
-}
-
-// The values of `own` that have a partner in `other`. The partners of an arc's values stand from rows[8 * arc] on; seen[arc] is a pair of sets
-// from which nothing is struck.
-fn kept_values(rows: &[u8], arc: usize, own: u8, other: u8, seen: &mut [u16]) -> u8
-    requires { ⌜ (8 * arc + 8 ≤ length (now rows)) × Seen (now rows) (now seen) ⌝ }
-    ensures { λ r. ⌜ r ≡ supportedValues (now (rows .entry)) (8 * arc) own other ⌝ }
-    ensures { λ r. ⌜ Seen (now (rows .entry)) (now (seen .exit)) ⌝ }
-{
-    if seen.len() <= arc {
-        return supported(rows, 8 * arc, own, other);
-    }
-    if seen[arc] == pair(own, other) {
-        return own;
-    }
-    let kept = supported(rows, 8 * arc, own, other);
-    seen[arc] = pair(kept, other);
-    kept
-}
-
-// Strikes the values of variable i that have no partner in variable j's set.
-fn revise(rows: &[u8], arc: usize, sets: &mut [u8], i: usize, j: usize, seen: &mut [u16]) -> Change
-    requires { ⌜ (8 * arc + 8 ≤ length (now rows)) × Seen (now rows) (now seen) ⌝ }
-    requires { ⌜ (i < length (now sets)) × (j < length (now sets)) ⌝ }
-    ensures { λ r. ⌜ now (sets .exit) ≡ set (now (sets .entry)) i (keptOf (now (rows .entry)) (8 * arc) i j (now (sets .entry))) ⌝ }
-    ensures { λ r. ⌜ r ≡ changeOf (getD (now (sets .entry)) i 0) (keptOf (now (rows .entry)) (8 * arc) i j (now (sets .entry))) ⌝ }
-    ensures { λ r. ⌜ Seen (now (rows .entry)) (now (seen .exit)) ⌝ }
-{
-    let own = sets[i];
-    let kept = kept_values(rows, arc, own, sets[j], seen);
+    let kept = supported(rows, 8 * arc, sets[i], sets[j]);
     sets[i] = kept;
-    change_of(own, kept)
+    kept
 }
 
 // Both ends of edge e, if it is raised.
@@ -162,66 +153,53 @@ fn revise_edge(
     raised: &[u8],
     e: usize,
     sets: &mut [u8],
-    seen: &mut [u16],
 ) -> Change
     requires { ⌜ WellFormed (length (now sets)) (now lower) (now upper) (now rows) (now raised) ⌝ }
-    requires { ⌜ (e < length (now raised)) × Seen (now rows) (now seen) ⌝ }
-    ensures { λ r. ⌜ Swept (networkOfBytes (length (now (sets .entry))) (now (lower .entry)) (now (upper .entry)) (now (rows .entry)) (now (raised .entry))) (λ f up. f ≡ e) (now (sets .entry)) (now (sets .exit)) r ⌝ }
-    ensures { λ r. ⌜ Seen (now (rows .entry)) (now (seen .exit)) ⌝ }
+    requires { ⌜ e < length (now raised) ⌝ }
+    ensures { λ r. ⌜ Swept (networkOfBytes (length (now (sets .entry))) (now (lower .entry)) (now (upper .entry)) (now (rows .entry)) (now (raised .entry)))
+        (λ f up. f ≡ e) (now (sets .entry)) (now (sets .exit)) r ⌝ }
 {
     if raised[e] == 0 {
         return Change::Still;
     }
     let i = lower[e] as usize;
     let j = upper[e] as usize;
-    let first = revise(rows, 2 * e, sets, i, j, seen);
-    let second = revise(rows, 2 * e + 1, sets, j, i, seen);
-    both(first, second)
+    let own = sets[i];
+    let kept = revise(rows, 2 * e, sets, i, j);
+    let other = sets[j];
+    let left = revise(rows, 2 * e + 1, sets, j, i);
+    edge_change(own, kept, other, left)
 }
 
 // All edges once, or up to the first set that is empty.
-fn sweep(
-    lower: &[u8],
-    upper: &[u8],
-    rows: &[u8],
-    raised: &[u8],
-    sets: &mut [u8],
-    seen: &mut [u16],
-) -> Change
+fn sweep(lower: &[u8], upper: &[u8], rows: &[u8], raised: &[u8], sets: &mut [u8]) -> Change
     requires { ⌜ WellFormed (length (now sets)) (now lower) (now upper) (now rows) (now raised) ⌝ }
-    requires { ⌜ Seen (now rows) (now seen) ⌝ }
-    ensures { λ r. ⌜ Swept (networkOfBytes (length (now (sets .entry))) (now (lower .entry)) (now (upper .entry)) (now (rows .entry)) (now (raised .entry))) (λ f up. f < length (now (raised .entry))) (now (sets .entry)) (now (sets .exit)) r ⌝ }
-    ensures { λ r. ⌜ Seen (now (rows .entry)) (now (seen .exit)) ⌝ }
+    ensures { λ r. ⌜ Swept (networkOfBytes (length (now (sets .entry))) (now (lower .entry)) (now (upper .entry)) (now (rows .entry)) (now (raised .entry)))
+        (λ f up. f < length (now (raised .entry))) (now (sets .entry)) (now (sets .exit)) r ⌝ }
 {
     let mut change = Change::Still;
     let mut e: usize = 0;
     while e < raised.len() {
-        let next = revise_edge(lower, upper, rows, raised, e, sets, seen);
-        change = both(change, next);
-        if let Change::Emptied = change {
+        let next = revise_edge(lower, upper, rows, raised, e, sets);
+        if let Change::Emptied = next {
             return Change::Emptied;
         }
+        change = both(change, next);
         e += 1;
     }
     change
 }
 
 // Sweeps until nothing changes or a set is empty. Whether a family is left.
-fn settle(
-    lower: &[u8],
-    upper: &[u8],
-    rows: &[u8],
-    raised: &[u8],
-    sets: &mut [u8],
-    seen: &mut [u16],
-) -> bool
+fn settle(lower: &[u8], upper: &[u8], rows: &[u8], raised: &[u8], sets: &mut [u8]) -> bool
     requires { ⌜ WellFormed (length (now sets)) (now lower) (now upper) (now rows) (now raised) ⌝ }
-    requires { ⌜ Filled (now sets) × Seen (now rows) (now seen) ⌝ }
-    ensures { λ r. ⌜ Settled (networkOfBytes (length (now (sets .entry))) (now (lower .entry)) (now (upper .entry)) (now (rows .entry)) (now (raised .entry))) (setsOf (now (sets .entry))) (now (sets .exit)) r ⌝ }
-    ensures { λ r. ⌜ Seen (now (rows .entry)) (now (seen .exit)) ⌝ }
+    requires { ⌜ Filled (now sets) ⌝ }
+    ensures { λ r. ⌜ SettledSets (networkOfBytes (length (now (sets .entry))) (now (lower .entry)) (now (upper .entry)) (now (rows .entry))
+        (now (raised .entry)))
+        (setsOf (now (sets .entry))) (now (sets .exit)) r ⌝ }
 {
     loop {
-        let change = sweep(lower, upper, rows, raised, sets, seen);
+        let change = sweep(lower, upper, rows, raised, sets);
         match change {
             Change::Still => return true,
             Change::Emptied => return false,
@@ -245,16 +223,17 @@ fn has_empty(sets: &[u8]) -> bool
 
 fn narrow(lower: &[u8], upper: &[u8], rows: &[u8], raised: &[u8], sets: &mut [u8]) -> bool
     requires { ⌜ WellFormed (length (now sets)) (now lower) (now upper) (now rows) (now raised) ⌝ }
-    ensures { λ r. ⌜ Settled (networkOfBytes (length (now (sets .entry))) (now (lower .entry)) (now (upper .entry)) (now (rows .entry)) (now (raised .entry))) (setsOf (now (sets .entry))) (now (sets .exit)) r ⌝ }
+    ensures { λ r. ⌜ SettledSets (networkOfBytes (length (now (sets .entry))) (now (lower .entry)) (now (upper .entry)) (now (rows .entry))
+        (now (raised .entry)))
+        (setsOf (now (sets .entry))) (now (sets .exit)) r ⌝ }
 {
     if has_empty(sets) {
         return false;
     }
-    let mut seen = [0u16; ARC_PLACES];
-    settle(lower, upper, rows, raised, sets, &mut seen)
+    settle(lower, upper, rows, raised, sets)
 }
 
-fn clear(sets: &mut [u8])
+fn clear_sets(sets: &mut [u8])
     ensures { λ r. ⌜ now (sets .exit) ≡ replicate (length (now (sets .entry))) 0 ⌝ }
 {
     let mut j: usize = 0;
@@ -275,7 +254,7 @@ fn end_outside(i: u8, j: u8, n: usize) -> bool
 
 fn some_end_outside(lower: &[u8], upper: &[u8], edges: usize, n: usize) -> bool
     requires { ⌜ (edges ≤ length (now lower)) × (edges ≤ length (now upper)) ⌝ }
-    ensures { λ r. ⌜ r ≡ any (endOutside n (now (lower .entry)) (now (upper .entry))) (below edges) ⌝ }
+    ensures { λ r. ⌜ r ≡ any (endMissing n (now (lower .entry)) (now (upper .entry))) (below edges) ⌝ }
 {
     let mut e: usize = 0;
     while e < edges {
@@ -325,18 +304,17 @@ fn has_family(
     sets: &[u8],
     variable: usize,
     k: u8,
-    seen: [u16; ARC_PLACES],
     work: &mut [u8],
 ) -> bool
     requires { ⌜ WellFormed (length (now sets)) (now lower) (now upper) (now rows) (now raised) ⌝ }
     requires { ⌜ Filled (now sets) × (variable < length (now sets)) × (length (now work) ≡ length (now sets)) ⌝ }
-    requires { ⌜ T (mark (getD (now sets) variable 0) k) × Seen (now rows) seen ⌝ }
-    ensures { λ r. ⌜ r ≡ hasFamily (networkOfBytes (length (now (sets .entry))) (now (lower .entry)) (now (upper .entry)) (now (rows .entry)) (now (raised .entry))) (now (sets .entry)) variable k ⌝ }
+    requires { ⌜ T (mark (getD (now sets) variable 0) k) ⌝ }
+    ensures { λ r. ⌜ r ≡ hasFamily (networkOfBytes (length (now (sets .entry))) (now (lower .entry)) (now (upper .entry)) (now (rows .entry))
+        (now (raised .entry))) (now (sets .entry)) variable k ⌝ }
 {
-    let mut known = seen;
     copy_sets(sets, work);
     work[variable] = marks::only(k);
-    settle(lower, upper, rows, raised, work, &mut known)
+    settle(lower, upper, rows, raised, work)
 }
 
 // Whether none of `values` has a family, each tried alone.
@@ -348,17 +326,17 @@ fn none_alone(
     sets: &[u8],
     variable: usize,
     values: u8,
-    seen: [u16; ARC_PLACES],
     work: &mut [u8],
 ) -> bool
     requires { ⌜ WellFormed (length (now sets)) (now lower) (now upper) (now rows) (now raised) ⌝ }
-    requires { ⌜ Filled (now sets) × (variable < length (now sets)) × (length (now work) ≡ length (now sets)) × Seen (now rows) seen ⌝ }
-    ensures { λ r. ⌜ r ≡ noneHas (hasFamily (networkOfBytes (length (now (sets .entry))) (now (lower .entry)) (now (upper .entry)) (now (rows .entry)) (now (raised .entry))) (now (sets .entry)) variable) values ⌝ }
+    requires { ⌜ Filled (now sets) × (variable < length (now sets)) × (length (now work) ≡ length (now sets)) ⌝ }
+    ensures { λ r. ⌜ r ≡ noneHas (hasFamily (networkOfBytes (length (now (sets .entry))) (now (lower .entry)) (now (upper .entry)) (now (rows .entry))
+        (now (raised .entry))) (now (sets .entry)) variable) values ⌝ }
 {
     let mut untried = marks::common(values, sets[variable]);
     while untried != 0 {
         let k = marks::lowest(untried);
-        if has_family(lower, upper, rows, raised, sets, variable, k, seen, work) {
+        if has_family(lower, upper, rows, raised, sets, variable, k, work) {
             return false;
         }
         untried = marks::strike(untried, k);
@@ -380,40 +358,20 @@ fn none_has(
 ) -> bool
     requires { ⌜ WellFormed (length (now sets)) (now lower) (now upper) (now rows) (now raised) ⌝ }
     requires { ⌜ Filled (now sets) × (variable < length (now sets)) × (length (now near) ≡ length (now sets)) × (length (now work) ≡ length (now sets)) ⌝ }
-    ensures { λ r. ⌜ r ≡ noneHas (hasFamily (networkOfBytes (length (now (sets .entry))) (now (lower .entry)) (now (upper .entry)) (now (rows .entry)) (now (raised .entry))) (now (sets .entry)) variable) values ⌝ }
+    ensures { λ r. ⌜ r ≡ noneHas (hasFamily (networkOfBytes (length (now (sets .entry))) (now (lower .entry)) (now (upper .entry)) (now (rows .entry))
+        (now (raised .entry))) (now (sets .entry)) variable) values ⌝ }
 {
-    let mut seen = [0u16; ARC_PLACES];
     let left = marks::common(sets[variable], values);
     if left == 0 {
         return true;
     }
     if marks::is_single(left) {
-        return none_alone(
-            lower,
-            upper,
-            rows,
-            raised,
-            sets,
-            variable,
-            values,
-            seen,
-            work,
-        );
+        return none_alone(lower, upper, rows, raised, sets, variable, values, work);
     }
     copy_sets(sets, near);
     near[variable] = left;
-    if settle(lower, upper, rows, raised, near, &mut seen) {
-        return none_alone(
-            lower,
-            upper,
-            rows,
-            raised,
-            near,
-            variable,
-            values,
-            seen,
-            work,
-        );
+    if settle(lower, upper, rows, raised, near) {
+        return none_alone(lower, upper, rows, raised, near, variable, values, work);
     }
     true
 }
@@ -441,7 +399,7 @@ fn same(a: i64, b: i64) -> bool
 // The values below d whose weight is `best`. The weight of value j stands at table[from + j].
 fn best_values(table: &[i64], from: usize, d: usize, best: i64) -> u8
     requires { ⌜ (d ≤ 8) × (from + d ≤ length (now table)) ⌝ }
-    ensures { λ r. ⌜ r ≡ bestValues (now (table .entry)) from d best ⌝ }
+    ensures { λ r. ⌜ r ≡ bestMarks (now (table .entry)) from d best ⌝ }
 {
     let mut set: u8 = 0;
     let mut j = d;
@@ -463,29 +421,6 @@ fn set_with(case: Case, table: &[i64], j: usize, best: i64) -> u8
     best_values(table, j * d, d, best)
 }
 
-fn active_values(case: Case, table: &[i64], j: usize) -> u8
-    requires { ⌜ Sized case (now table) ⌝ }
-    requires { ⌜ j < case .n ⌝ }
-    ensures { λ r. ⌜ r ≡ activeSet case (now (table .entry)) j ⌝ }
-{
-    let d = case.d;
-    let first = j * d;
-    let end = first + d;
-    let best = tables::greatest(&table[first..end]);
-    set_with(case, table, j, best)
-}
-
-fn edge_greatest(case: Case, table: &[i64], e: usize) -> i64
-    requires { ⌜ Sized case (now table) ⌝ }
-    requires { ⌜ e < case .m ⌝ }
-    ensures { λ r. ⌜ r ≡ greatest case (now (table .entry)) (case .n + e) ⌝ }
-{
-    let size = case.d * case.d;
-    let first = case.n * case.d + e * size;
-    let end = first + size;
-    tables::greatest(&table[first..end])
-}
-
 // Adds value k to byte 8 + l for each value l of `row`.
 fn add_below(bytes: &mut [u8; 16], row: u8, k: u8)
     requires { ⌜ length (now bytes) ≡ 16 ⌝ }
@@ -503,7 +438,7 @@ fn add_below(bytes: &mut [u8; 16], row: u8, k: u8)
 // The sixteen bytes of the d · d weights from table[first] on: the partners whose weight is `best`.
 fn edge_bytes(table: &[i64], first: usize, d: usize, best: i64) -> [u8; 16]
     requires { ⌜ (d ≤ 8) × (first + d * d ≤ length (now table)) ⌝ }
-    ensures { λ r. ⌜ Crossed (λ k. bestValues (now (table .entry)) (first + k * d) d best) d r ⌝ }
+    ensures { λ r. ⌜ Crossed (λ k. bestMarks (now (table .entry)) (first + k * d) d best) d r ⌝ }
 {
     let mut bytes = [0u8; 16];
     let mut k: usize = 0;
@@ -527,15 +462,15 @@ fn put_bytes(bytes: &[u8; 16], rows: &mut [u8], at: usize)
     }
 }
 
-fn write_sets(case: Case, table: &[i64], sets: &mut [u8])
+fn write_sets(case: Case, table: &[i64], best: &[i64], sets: &mut [u8])
     requires { ⌜ Sized case (now table) ⌝ }
-    requires { ⌜ case .n ≤ length (now sets) ⌝ }
-    ensures { λ r. ⌜ now (sets .exit) ≡ overwritten (activeSets case (now (table .entry))) (now (sets .entry)) ⌝ }
+    requires { ⌜ (scopeCount case ≤ length (now best)) × (case .n ≤ length (now sets)) ⌝ }
+    ensures { λ r. ⌜ now (sets .exit) ≡ overwritten (markedSets case (now (table .entry)) (now (best .entry))) (now (sets .entry)) ⌝ }
 {
     let n = case.n;
     let mut j: usize = 0;
     while j < n {
-        sets[j] = active_values(case, table, j);
+        sets[j] = set_with(case, table, j, best[j]);
         j += 1;
     }
 }
@@ -551,21 +486,30 @@ fn write_edge(case: Case, table: &[i64], e: usize, best: i64, rows: &mut [u8])
     put_bytes(&bytes, rows, 16 * e);
 }
 
-fn write_rows(case: Case, table: &[i64], rows: &mut [u8])
+fn write_rows(case: Case, table: &[i64], best: &[i64], rows: &mut [u8])
     requires { ⌜ Sized case (now table) ⌝ }
-    requires { ⌜ 16 * case .m ≤ length (now rows) ⌝ }
-    ensures { λ r. ⌜ now (rows .exit) ≡ overwritten (activeRows case (now (table .entry))) (now (rows .entry)) ⌝ }
+    requires { ⌜ (scopeCount case ≤ length (now best)) × (16 * case .m ≤ length (now rows)) ⌝ }
+    ensures { λ r. ⌜ now (rows .exit) ≡ overwritten (markedRows case (now (table .entry)) (now (best .entry))) (now (rows .entry)) ⌝ }
 {
+    let n = case.n;
     let m = case.m;
     let mut e: usize = 0;
     while e < m {
-        let best = edge_greatest(case, table, e);
-        write_edge(case, table, e, best, rows);
+        write_edge(case, table, e, best[n + e], rows);
         e += 1;
     }
 }
 
-fn too_short(case: Case, sets: usize, rows: usize) -> bool
+fn too_few(case: Case, length: usize) -> bool
+    ensures { λ r. ⌜ r ≡ ltb length (scopeCount case) ⌝ }
+{
+    if length < case.n {
+        return true;
+    }
+    length - case.n < case.m
+}
+
+fn bytes_too_few(case: Case, sets: usize, rows: usize) -> bool
     ensures { λ r. ⌜ r ≡ (ltb sets (case .n) || ltb rows (16 * case .m)) ⌝ }
 {
     if sets < case.n {
@@ -590,7 +534,8 @@ fn allowed_set(case: Case, table: &[i64], best: &[i64], raised: &[u8], j: usize)
 fn prepare_sets(case: Case, table: &[i64], best: &[i64], raised: &[u8], sets: &mut [u8])
     requires { ⌜ Sized case (now table) ⌝ }
     requires { ⌜ (scopeCount case ≤ length (now best)) × (scopeCount case ≤ length (now raised)) × (case .n ≤ length (now sets)) ⌝ }
-    ensures { λ r. ⌜ Written (allowedBest case (now (table .entry)) (now (best .entry)) (now (raised .entry))) 0 (case .n) (now (sets .entry)) (now (sets .exit)) ⌝ }
+    ensures { λ r. ⌜ Written (allowedBest case (now (table .entry)) (now (best .entry)) (now (raised .entry))) 0 (case .n) (now (sets .entry))
+        (now (sets .exit)) ⌝ }
 {
     let n = case.n;
     let mut j: usize = 0;
@@ -605,7 +550,8 @@ fn prepare_edge(case: Case, table: &[i64], best: &[i64], raised: &[u8], e: usize
     requires { ⌜ Sized case (now table) ⌝ }
     requires { ⌜ (scopeCount case ≤ length (now best)) × (scopeCount case ≤ length (now raised)) × (e < case .m) × (16 * e + 16 ≤ length (now rows)) ⌝ }
     requires { ⌜ ((p : ℕ) → p < 16 → getD (now rows) (16 * e + p) 0 ≡ 0) ⌝ }
-    ensures { λ r. ⌜ Written (partnersBest case (now (table .entry)) (now (best .entry)) (now (raised .entry)) e) (16 * e) 16 (now (rows .entry)) (now (rows .exit)) ⌝ }
+    ensures { λ r. ⌜ Written (partnersBest case (now (table .entry)) (now (best .entry)) (now (raised .entry)) e) (16 * e) 16 (now (rows .entry))
+        (now (rows .exit)) ⌝ }
 {
     let x = case.n + e;
     if raised[x] != 0 {
@@ -617,7 +563,8 @@ fn prepare_rows(case: Case, table: &[i64], best: &[i64], raised: &[u8], rows: &m
     requires { ⌜ Sized case (now table) ⌝ }
     requires { ⌜ (scopeCount case ≤ length (now best)) × (scopeCount case ≤ length (now raised)) × (16 * case .m ≤ length (now rows)) ⌝ }
     requires { ⌜ ((q : ℕ) → getD (now rows) q 0 ≡ 0) ⌝ }
-    ensures { λ r. ⌜ Written (λ q. getD (bestRows case (now (table .entry)) (now (best .entry)) (now (raised .entry))) q 0) 0 (16 * case .m) (now (rows .entry)) (now (rows .exit)) ⌝ }
+    ensures { λ r. ⌜ Written (λ q. getD (bestRows case (now (table .entry)) (now (best .entry)) (now (raised .entry))) q 0) 0 (16 * case .m)
+        (now (rows .entry)) (now (rows .exit)) ⌝ }
 {
     let m = case.m;
     let mut e: usize = 0;
@@ -669,31 +616,56 @@ fn are_unsupported(
     ))
 }
 
-fn too_few(case: Case, best: usize, raised: usize) -> bool
-    requires { ⌜ Limited case ⌝ }
-    ensures { λ r. ⌜ r ≡ (ltb best (scopeCount case) || ltb raised (scopeCount case)) ⌝ }
-{
-    let s = case.n + case.m;
-    if best < s {
-        return true;
-    }
-    raised < s
-}
-
-fn table_length(case: Case) -> usize
+fn weight_places(case: Case) -> usize
     requires { ⌜ Limited case ⌝ }
     ensures { λ r. ⌜ r ≡ lentLength case ⌝ }
 {
     case.n * case.d + case.m * (case.d * case.d)
 }
 
+// Numbers 3 and 4, other lengths being wrong or not.
+fn check_lengths(case: Case, table: &[i64], wrong: bool) -> Outcome
+    ensures { λ r. ⌜ r ≡ outcomeOf (lengthRefusal (rulesOf case) case (now (table .entry)) wrong) ⌝ }
+{
+    if !tables::within_limits(case) {
+        return Outcome::Refused(Refusal::OutsideLimits);
+    }
+    if table.len() != weight_places(case) {
+        return Outcome::Refused(Refusal::WrongLength);
+    }
+    if wrong {
+        return Outcome::Refused(Refusal::WrongLength);
+    }
+    Outcome::Done
+}
+
 fn edge_outside(case: Case) -> bool
     requires { ⌜ Limited case ⌝ }
-    ensures { λ r. ⌜ r ≡ someEdge case (edgeOutside case) ⌝ }
+    ensures { λ r. ⌜ r ≡ someEdge case (endOutside case) ⌝ }
 {
     let lower = case.lower;
     let upper = case.upper;
     some_end_outside(&lower, &upper, case.m, case.n)
+}
+
+fn either(a: bool, b: bool) -> bool
+    ensures { λ r. ⌜ r ≡ (a || b) ⌝ }
+{
+    if a {
+        return true;
+    }
+    b
+}
+
+// Number 5 of the variable and the edges' ends.
+fn argument_outside(case: Case, variable: usize) -> bool
+    requires { ⌜ Limited case ⌝ }
+    ensures { λ r. ⌜ r ≡ (not (ltb variable (case .n)) || someEdge case (endOutside case)) ⌝ }
+{
+    if case.n <= variable {
+        return true;
+    }
+    edge_outside(case)
 }
 
 // Numbers 3, 4, and 5 of the variable and the edges' ends. The weights and `best` are not looked at.
@@ -706,22 +678,17 @@ fn check_arguments(
 ) -> Outcome
     ensures { λ r. ⌜ r ≡ outcomeOf (bestRefusal (rulesOf case) case (now (table .entry)) (now (best .entry)) (now (raised .entry)) variable) ⌝ }
 {
-    if !tables::within_limits(case) {
-        return Outcome::Refused(Refusal::OutsideLimits);
+    let wrong = either(too_few(case, best.len()), too_few(case, raised.len()));
+    let checked = check_lengths(case, table, wrong);
+    match checked {
+        Outcome::Refused(refusal) => Outcome::Refused(refusal),
+        Outcome::Done => {
+            if argument_outside(case, variable) {
+                return Outcome::Refused(Refusal::OutOfRange);
+            }
+            Outcome::Done
+        }
     }
-    if table.len() != table_length(case) {
-        return Outcome::Refused(Refusal::WrongLength);
-    }
-    if too_few(case, best.len(), raised.len()) {
-        return Outcome::Refused(Refusal::WrongLength);
-    }
-    if case.n <= variable {
-        return Outcome::Refused(Refusal::OutOfRange);
-    }
-    if edge_outside(case) {
-        return Outcome::Refused(Refusal::OutOfRange);
-    }
-    Outcome::Done
 }
 
 fn verdict(yes: bool) -> Verdict
@@ -753,6 +720,37 @@ pub fn lowest_partner(row: u8, other: u8) -> Partner
     found
 }
 
+// The lowest partner of each value: for each value k of `set` the lowest value of `other` in rows[k] is written to partners[k], NO_PARTNER where
+// there is none. What `set` has no mark for, and what rows does not reach, stays.
+pub fn lowest_partners(rows: &[u8], set: u8, other: u8, partners: &mut [u8])
+    ensures { λ _. ⌜ now (partners .exit) ≡ lowestPartners (now (rows .entry)) set other (now (partners .entry)) ⌝ }
+{
+    let mut left = set;
+    'values: while left != 0 {
+        let k = marks::lowest(left);
+        let at = k as usize;
+        if rows.len() <= at {
+            break 'values;
+        }
+        if partners.len() <= at {
+            break 'values;
+        }
+        left = marks::strike(left, k);
+        let mut rest = rows[at];
+        let found = 'partners: loop {
+            if rest == 0 {
+                break 'partners Partner::Nothing;
+            }
+            let l = marks::lowest(rest);
+            if marks::has(other, l) {
+                break 'partners Partner::At(l);
+            }
+            rest = marks::strike(rest, l);
+        };
+        partners[at] = partner_byte(found);
+    }
+}
+
 // Takes `sets` to the largest supported family inside them. There are raised.len() edges; edge e joins lower[e] and upper[e]. The 16 bytes
 // from rows[16 * e] on are the partners of each value of the lower end, then of the upper end; an edge whose byte is 0 allows everything.
 // Where there are too few bytes or an end is no variable, the answer is Malformed and the sets stay.
@@ -766,7 +764,7 @@ pub fn closure(lower: &[u8], upper: &[u8], rows: &[u8], raised: &[u8], sets: &mu
     if narrow(lower, upper, rows, raised, sets) {
         return Closed::Family;
     }
-    clear(sets);
+    clear_sets(sets);
     Closed::Empty
 }
 
@@ -811,20 +809,29 @@ pub fn none_supported(
     ))
 }
 
-// Writes the active values of each variable to the first n bytes of `sets`, and the active partners on each edge to the first 16 · m bytes
-// of `rows`, as `closure` takes them. Asks 3 to 8.
-pub fn active_marks(case: Case, table: &[i64], sets: &mut [u8], rows: &mut [u8]) -> Outcome
-    ensures { λ r. ⌜ r ≡ activeAnswer (rulesOf case) case (now (table .entry)) (now (sets .entry)) (now (rows .entry)) ⌝ }
-    ensures { λ r. ⌜ now (sets .exit) ≡ setsAfter (rulesOf case) case (now (table .entry)) (now (sets .entry)) (now (rows .entry)) ⌝ }
-    ensures { λ r. ⌜ now (rows .exit) ≡ rowsAfter (rulesOf case) case (now (table .entry)) (now (sets .entry)) (now (rows .entry)) ⌝ }
+// Writes to the first n bytes of `sets` the values of each variable x whose weight is best[x], and to the first 16 · m bytes of `rows` the
+// partners on each edge whose weight is that of its scope, as `closure` takes them: the active ones, where `best` holds the greatest weights.
+// Asks 3 and 4.
+pub fn active_marks(
+    case: Case,
+    table: &[i64],
+    best: &[i64],
+    sets: &mut [u8],
+    rows: &mut [u8],
+) -> Outcome
+    ensures { λ r. ⌜ MarksAre (marksCall (rulesOf case) case (now (table .entry)) (now (best .entry)) (now (sets .entry)) (now (rows .entry))) r
+        (now (sets .exit)) (now (rows .exit)) ⌝ }
 {
-    let wrong = too_short(case, sets.len(), rows.len());
-    let checked = tables::check_working(case, table, wrong, false);
+    let wrong = either(
+        too_few(case, best.len()),
+        bytes_too_few(case, sets.len(), rows.len()),
+    );
+    let checked = check_lengths(case, table, wrong);
     match checked {
         Outcome::Refused(refusal) => Outcome::Refused(refusal),
         Outcome::Done => {
-            write_sets(case, table, sets);
-            write_rows(case, table, rows);
+            write_sets(case, table, best, sets);
+            write_rows(case, table, best, rows);
             Outcome::Done
         }
     }

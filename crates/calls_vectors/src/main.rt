@@ -6,17 +6,18 @@
 //  2  pair a joins links b and c
 //  3  c lower and c upper ends of pairs are lent (closure, none_supported)
 //  4 to 8  from place a on, b places hold the amount, and c places are lent. 4: weights; 5: a number for each scope;
-//          6: a plan, marks of raised scopes, or a list of at most four; 7: sets and 8: rows, as closure takes them
+//          6: a plan, marks of raised scopes, or a list of at most four; 7: sets and 8: rows, as closure takes them;
+//          lowest_partners writes to 7
 //
 // 10  check_starting a b     20  refuted a b             30  shift a b c amount
 // 11  check_working a b      21  best_unsupported a      31  press a amount
 // 12  check_edges a          22  lowest_partner a b      32  transfer a b c amount
-// 13  upper_bound            23  closure                 33  lower_and_raise a amount
+// 13  upper_bound            23  closure                 33  lower_and_raise a, values b, amount
 // 14  sum_of_greatest        24  none_supported a b
 // 15  is_active a b c        25  active_marks
 // 16  objective              26  values_unsupported a b
-// 17  greatest
-// 18  greatest_weights
+// 17  greatest               27  best_values a
+// 18  greatest_weights       28  lowest_partners a b
 // 19  sum_of_best
 //
 // Where a count is meant, a negative number stands for 2^64 - 1; the amounts 999999999999 and -99999999999 stand for 2^63 - 1 and -2^63.
@@ -90,13 +91,22 @@ fn print_name(kind: usize) -> bool {
     if kind == 26 {
         return print_kept(b"values_unsupported");
     }
-    if 33 < kind {
-        return false;
+    if kind < 18 {
+        let names =
+            b"check_starting  check_working   check_edges     upper_bound     sum_of_greatest is_active       objective       greatest        ";
+        return print_slot(names, (kind - 10) * 16);
     }
-    print_slot(
-        b"check_starting  check_working   check_edges     upper_bound     sum_of_greatest is_active       objective       greatest        greatest_weightssum_of_best     refuted         best_unsupportedlowest_partner  closure         none_supported  active_marks                                                                    shift           press           transfer        lower_and_raise ",
-        (kind - 10) * 16,
-    )
+    if kind < 26 {
+        let names =
+            b"greatest_weightssum_of_best     refuted         best_unsupportedlowest_partner  closure         none_supported  active_marks    ";
+        return print_slot(names, (kind - 18) * 16);
+    }
+    if kind < 34 {
+        let names =
+            b"                best_values     lowest_partners                 shift           press           transfer        lower_and_raise ";
+        return print_slot(names, (kind - 26) * 16);
+    }
+    false
 }
 
 fn print(word: &[u8]) {
@@ -381,6 +391,10 @@ fn values_unsupported(call: Call, case: Case, t: &[i64], best: &[i64], raised: &
     verdict(arcs::values_unsupported(case, t, best, raised, call.a, values));
 }
 
+fn best_values(call: Call, case: Case, t: &[i64], best: &[i64]) {
+    value(signed(changes::best_values(case, t, best, call.a)));
+}
+
 fn lowest_partner(call: Call) {
     partner(arcs::lowest_partner(drivers::byte(call.a), drivers::byte(call.b)));
 }
@@ -401,6 +415,7 @@ fn question(call: Call, case: Case, t: &[i64], best: &[i64], bytes: &[u8]) {
         21 => best_unsupported(call, case, t, best, bytes),
         22 => lowest_partner(call),
         26 => values_unsupported(call, case, t, best, bytes),
+        27 => best_values(call, case, t, best),
         _ => {}
     }
 }
@@ -452,7 +467,8 @@ fn transfer(call: Call, case: Case, t: &mut [i64], best: &mut [i64]) {
 }
 
 fn lower_and_raise(call: Call, case: Case, t: &mut [i64], best: &mut [i64], raised: &[u8]) {
-    outcome(changes::lower_and_raise(case, t, best, raised, call.a, call.amount));
+    let values = drivers::byte(call.b);
+    outcome(changes::lower_and_raise(case, t, best, raised, call.a, values, call.amount));
     print_both(t, best);
 }
 
@@ -515,10 +531,17 @@ fn of_case(call: Call, case: Case, ends: usize, raised: &[u8], sets: &mut [u8], 
     ends_lent(call, &lower, &upper, ends, raised, sets, rows);
 }
 
-fn active_marks(case: Case, t: &[i64], sets: &mut [u8], rows: &mut [u8]) {
-    outcome(arcs::active_marks(case, t, sets, rows));
+fn active_marks(case: Case, t: &[i64], best: &[i64], sets: &mut [u8], rows: &mut [u8]) {
+    outcome(arcs::active_marks(case, t, best, sets, rows));
     print_sets(sets);
     print_bytes(b"    rows", rows);
+}
+
+fn lowest_partners(call: Call, rows: &[u8], partners: &mut [u8]) {
+    let set = drivers::byte(call.a);
+    let other = drivers::byte(call.b);
+    arcs::lowest_partners(rows, set, other, partners);
+    print_bytes(b" partners", partners);
 }
 
 // ---- the calls on as much of each list as is lent
@@ -543,13 +566,22 @@ fn weigh(
     );
 }
 
-fn mark(case: Case, lengths: &[usize; 9], t: &[i64], sets: &mut [u8], rows: &mut [u8]) {
+fn mark(
+    case: Case,
+    lengths: &[usize; 9],
+    t: &[i64],
+    best: &[i64],
+    sets: &mut [u8],
+    rows: &mut [u8],
+) {
     let t_to = length_of(lengths, 4, t.len());
+    let best_to = length_of(lengths, 5, best.len());
     let sets_to = length_of(lengths, 7, sets.len());
     let rows_to = length_of(lengths, 8, rows.len());
     active_marks(
         case,
         &t[0..t_to],
+        &best[0..best_to],
         &mut sets[0..sets_to],
         &mut rows[0..rows_to],
     );
@@ -577,6 +609,12 @@ fn close(
     );
 }
 
+fn name_partners(call: Call, lengths: &[usize; 9], rows: &[u8], partners: &mut [u8]) {
+    let rows_to = length_of(lengths, 8, rows.len());
+    let partners_to = length_of(lengths, 7, partners.len());
+    lowest_partners(call, &rows[0..rows_to], &mut partners[0..partners_to]);
+}
+
 // ---- the lines
 
 fn call_weights(
@@ -597,6 +635,7 @@ fn call_marks(
     case: Case,
     lengths: &[usize; 9],
     t: &[i64; 160],
+    best: &[i64; 160],
     bytes: &[u8; 160],
     sets: &mut [u8; 160],
     rows: &mut [u8; 160],
@@ -604,7 +643,8 @@ fn call_marks(
     let kind = call.kind;
     match kind {
         23..=24 => close(call, case, lengths, bytes, sets, rows),
-        25 => mark(case, lengths, t, sets, rows),
+        25 => mark(case, lengths, t, best, sets, rows),
+        28 => name_partners(call, lengths, rows, sets),
         _ => {}
     }
 }
@@ -637,7 +677,16 @@ fn vectors(input: &[u8]) {
         put_weights(call, &mut t, &mut best);
         put_bytes(call, &mut bytes, &mut sets, &mut rows);
         call_weights(call, case, &lengths, &mut t, &mut best, &bytes);
-        call_marks(call, case, &lengths, &t, &bytes, &mut sets, &mut rows);
+        call_marks(
+            call,
+            case,
+            &lengths,
+            &t,
+            &best,
+            &bytes,
+            &mut sets,
+            &mut rows,
+        );
         at = to;
     }
 }

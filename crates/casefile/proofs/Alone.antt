@@ -1,5 +1,5 @@
 -- A case with nothing after it. Assumes nothing.
-use Rattle.casefile.specs.Reads.{lineBytes}
+use Rattle.case_lines.specs.Dues.{bytesOfLine}
 use mathlib.Core.Path.{_≡_, refl, ap, ap₂, _∙_}
 use mathlib.Core.Bool.{Bool}
 use mathlib.Core.Logic.{_≢_}
@@ -58,8 +58,8 @@ module _ (b : Rulebook) (t : List ℕ) (w : List ℤ) where
   alone-refused e = ap (nothingAfter b t (readCase b t w)) e
 
   module _ (lines : ℕ) (e : readCase b t w .read .answer ≡ FileAnswer.Read lines) where
-    alone-is : readCaseAlone b t w ≡ restCall b (restRefusal (rulesIn b) (drop (lines * lineBytes b) t)) (readCase b t w) lines
-    alone-is = ap (nothingAfter b t (readCase b t w)) e ∙ go (restRefusal (rulesIn b) (drop (lines * lineBytes b) t)) (readCase b t w)
+    alone-is : readCaseAlone b t w ≡ restCall b (restRefusal (rulesIn b) (drop (lines * bytesOfLine b) t)) (readCase b t w) lines
+    alone-is = ap (nothingAfter b t (readCase b t w)) e ∙ go (restRefusal (rulesIn b) (drop (lines * bytesOfLine b) t)) (readCase b t w)
       where
         go : (o : Option Refusal) (call : CaseCall) → (elim o [
           | none ↦ call
@@ -68,8 +68,9 @@ module _ (b : Rulebook) (t : List ℕ) (w : List ℤ) where
         go none call = refl
         go (some x) call = refl
 
-    pub alone-good : restRefusal (rulesIn b) (drop (lines * lineBytes b) t) ≡ none → readCaseAlone b t w ≡ readCase b t w
+    pub alone-good : restRefusal (rulesIn b) (drop (lines * bytesOfLine b) t) ≡ none → readCaseAlone b t w ≡ readCase b t w
     alone-good h = alone-is ∙ ap (λ o. restCall b o (readCase b t w) lines) h
 
-    pub alone-more : {x : Refusal} → restRefusal (rulesIn b) (drop (lines * lineBytes b) t) ≡ some x → readCaseAlone b t w ≡ caseRefused b x lines (readCase b t w .table)
+    pub alone-more : {x : Refusal} → restRefusal (rulesIn b) (drop (lines * bytesOfLine b) t) ≡ some x
+        → readCaseAlone b t w ≡ caseRefused b x lines (readCase b t w .table)
     alone-more h = alone-is ∙ ap (λ o. restCall b o (readCase b t w) lines) h

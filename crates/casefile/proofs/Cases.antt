@@ -24,25 +24,30 @@ use Rattle.definitions.specs.Rules.{rulesIn}
 use Rattle.definitions.specs.Refusals.{firstOf}
 use Rattle.definitions.specs.Lines.{notDue}
 use Rattle.definitions.specs.Case.{lentLength}
-use Rattle.definitions.specs.CaseFiles.{CaseCall, Reading, caseOf, headed, headTests, headRefusal, isCut, firstLine, afterFirst, dues, readDues, caseRefused, caseTaken, readCase, caseSize}
+use Rattle.definitions.specs.CaseFiles.{CaseCall, Reading, caseOf, headed, headTests, headRefusal, isCut, firstLine, afterFirst, dues, readDues, caseRefused}
+use Rattle.definitions.specs.CaseFiles.{caseTaken, readCase, caseSize}
 use Rattle.theory.proofs.Validity.{none-applies}
-use Rattle.casefile.specs.declared.Sizes.{Sizes}
-use Rattle.casefile.specs.Steps.{Limited, reading, tableOf, leftFrom, noEnds, callOf}
-use Rattle.casefile.specs.Reads.{limitsZ, lineBytes}
-use Rattle.casefile.proofs.Heads.{limits-known}
-use Rattle.casefile.proofs.Dues.{limited-by}
+use Rattle.case_lines.specs.declared.Sizes.{Sizes}
+use Rattle.case_lines.specs.Dues.{SizesLimited, placesOf}
+use Rattle.casefile.specs.Steps.{readingOf, leftFrom, noEnds, callWith}
+use Rattle.case_lines.specs.Dues.{bytesOfLine}
+use Rattle.casefile.specs.Reads.{limitsZ}
+use Rattle.casefile.proofs.Heads.{limits-in}
+use Rattle.case_lines.proofs.Dues.{sizes-few}
 use Rattle.casefile.proofs.Left.{left-first, dues-whole}
 
 -- ---- what is handed back of a call
 
-module _ (b : Rulebook) {call : CaseCall} {u : CaseRead} (r : FileAnswer) (g : Reading) (e : callOf b r g ≡ call) where
-  pub handed-refused : {x : Refusal} {at : ℕ} → r ≡ FileAnswer.Refused x at → u ≡ caseRefused b x at (g .table) .read → (u ≡ call .read) × (g .table ≡ call .table)
-  handed-refused p q = let d = sym (ap (λ r. callOf b r g) p) ∙ e in (q ∙ ap (λ c. c .read) d, ap (λ c. c .table) d)
+module _ (b : Rulebook) {call : CaseCall} {u : CaseRead} (r : FileAnswer) (g : Reading) (e : callWith b r g ≡ call) where
+  pub handed-refused : {x : Refusal} {at : ℕ} → r ≡ FileAnswer.Refused x at → u ≡ caseRefused b x at (g .table) .read → (u ≡ call .read)
+      × (g .table ≡ call .table)
+  handed-refused p q = let d = sym (ap (λ r. callWith b r g) p) ∙ e in (q ∙ ap (λ c. c .read) d, ap (λ c. c .table) d)
 
   pub handed-taken : {lines : ℕ} → r ≡ FileAnswer.Read lines → u ≡ caseTaken g lines .read → (u ≡ call .read) × (g .table ≡ call .table)
-  handed-taken p q = let d = sym (ap (λ r. callOf b r g) p) ∙ e in (q ∙ ap (λ c. c .read) d, ap (λ c. c .table) d)
+  handed-taken p q = let d = sym (ap (λ r. callWith b r g) p) ∙ e in (q ∙ ap (λ c. c .read) d, ap (λ c. c .table) d)
 
-pub handed-same : {call other : CaseCall} {u : CaseRead} {v : List ℤ} → other ≡ call → (u ≡ call .read) × (v ≡ call .table) → (u ≡ other .read) × (v ≡ other .table)
+pub handed-same : {call other : CaseCall} {u : CaseRead} {v : List ℤ} → other ≡ call → (u ≡ call .read) × (v ≡ call .table) → (u ≡ other .read)
+    × (v ≡ other .table)
 handed-same e (p, q) = (p ∙ sym (ap (λ c. c .read) e), q ∙ sym (ap (λ c. c .table) e))
 
 -- ---- by the refusal of the head, and the case that it names
@@ -53,7 +58,8 @@ sizeBy o c = elim o [
   | some x ↦ CaseSize.Refused x
 ]
 
-size-none : (o : Option Refusal) (c : Case) {n d m long : ℕ} → sizeBy o c ≡ CaseSize.Size n d m long → (o ≡ none) × (c .n ≡ n) × (c .d ≡ d) × (c .m ≡ m) × (lentLength c ≡ long)
+size-none : (o : Option Refusal) (c : Case) {n d m long : ℕ} → sizeBy o c ≡ CaseSize.Size n d m long → (o ≡ none) × (c .n ≡ n) × (c .d ≡ d) × (c .m ≡ m)
+    × (lentLength c ≡ long)
 unfolding sizeBy
 size-none none c e = (refl, (cc), (cc), (cc), (cc))
 size-none (some x) c e = ((cc), (cc), (cc), (cc), (cc))
@@ -95,7 +101,7 @@ module _ (b : Rulebook) (t : List ℕ) (w : List ℤ) where
     abbrev s : Sizes
     s = record { n = n; d = d; m = m; rulebook = b }
 
-    named : (headRefusal (rulesIn b) t ≡ none) × (headed b (firstLine (rulesIn b) t) ≡ caseOf b (s .n) (s .d) (s .m)) × (tableOf s ≡ long)
+    named : (headRefusal (rulesIn b) t ≡ none) × (headed b (firstLine (rulesIn b) t) ≡ caseOf b (s .n) (s .d) (s .m)) × (placesOf s ≡ long)
     named =
         let (o, n, d, m, l) = size-none (headRefusal (rulesIn b) t) (headed b (firstLine (rulesIn b) t)) (sym size-is ∙ e) in
         (o, headed-is b (firstLine (rulesIn b) t) ∙ cc, cc)
@@ -105,13 +111,13 @@ module _ (b : Rulebook) (t : List ℕ) (w : List ℤ) where
 
     pub case-wrong : length w ≢ long → readCase b t w ≡ caseRefused b WrongLength 0 w
     unfolding caseBy
-    case-wrong h = case-none ∙ rw (ne-eqb (length w) (tableOf s) (λ q. h (q ∙ named .2)))
+    case-wrong h = case-none ∙ rw (ne-eqb (length w) (placesOf s) (λ q. h (q ∙ named .2)))
 
-    pub case-right : length w ≡ long → readCase b t w ≡ leftFrom s (reading s noEnds noEnds w) 0 t
+    pub case-right : length w ≡ long → readCase b t w ≡ leftFrom s (readingOf s noEnds noEnds w) 0 t
     unfolding caseBy
-    case-right h = case-none ∙ rw (eq-eqb (length w) (tableOf s) (h ∙ sym (named .2))) (sym (left-first s (reading s noEnds noEnds w) t))
+    case-right h = case-none ∙ rw (eq-eqb (length w) (placesOf s) (h ∙ sym (named .2))) (sym (left-first s (readingOf s noEnds noEnds w) t))
 
-    pub case-length : length w ≡ long → length w ≡ tableOf s
+    pub case-length : length w ≡ long → length w ≡ placesOf s
     case-length h = h ∙ sym (named .2)
 
     refusal-parts : (short : Bool) (o : Option Refusal) → (if short then some CutShort else o) ≡ none → (short ≡ false) × (o ≡ none)
@@ -121,19 +127,21 @@ module _ (b : Rulebook) (t : List ℕ) (w : List ℤ) where
     not-cut : (isCut (rulesIn b) t ≡ false) × (firstOf (headTests (rulesIn b) (firstLine (rulesIn b) t)) ≡ none)
     not-cut = refusal-parts (isCut (rulesIn b) t) (firstOf (headTests (rulesIn b) (firstLine (rulesIn b) t))) (named .0)
 
-    pub head-whole : lineBytes b ≤ length t
-    head-whole = ⊎-elim (λ u. let z : true ≡ false = sym (is-true (isCut (rulesIn b) t) u) ∙ not-cut .0 in let y : _≡_ {A = ℕ} 0 1 = cc in omega arith) (λ u. nltb→le (length t) (lineBytes b) u) (either (isCut (rulesIn b) t))
+    pub head-whole : bytesOfLine b ≤ length t
+    head-whole = ⊎-elim (λ u. let z : true ≡ false = sym (is-true (isCut (rulesIn b) t) u) ∙ not-cut .0 in let y : _≡_ {A = ℕ} 0 1 = cc in omega arith)
+        (λ u. nltb→le (length t) (bytesOfLine b) u) (either (isCut (rulesIn b) t))
 
-    pub sizes-limited : Limited s
+    pub sizes-limited : SizesLimited s
     sizes-limited = go (firstLine (rulesIn b) t) (not-cut .1) (named .1)
       where
-        go : (o : Option Line) → firstOf (headTests (rulesIn b) o) ≡ none → headed b o ≡ caseOf b (s .n) (s .d) (s .m) → Limited s
+        go : (o : Option Line) → firstOf (headTests (rulesIn b) o) ≡ none → headed b o ≡ caseOf b (s .n) (s .d) (s .m) → SizesLimited s
         go none p q = let z : _≡_ {A = ℕ} 0 1 = cc in absurd (omega arith)
         go (some l) p q =
             let limits = limitsZ b (l .a) (l .b) (l .c) in
-            let k = and-left (not (not limits)) true (and-right (not (notDue (rulesIn b) (10 ∷ []) l)) (not (not limits) && true) (none-applies (headTests (rulesIn b) (some l)) .0 (rw p tt))) in
-            let (n, d, m) = limits-known b (l .a) (l .b) (l .c) (not-not-iff limits .0 k) in
-            limited-by s
+            let k = and-left (not (not limits)) true (and-right (not (notDue (rulesIn b) (10 ∷ []) l)) (not (not limits) && true)
+            (none-applies (headTests (rulesIn b) (some l)) .0 (rw p tt))) in
+            let (n, d, m) = limits-in b (l .a) (l .b) (l .c) (not-not-iff limits .0 k) in
+            sizes-few s
             (omega (arith, ap (λ c. c .n) q, n .2))
             (omega (arith, ap (λ c. c .d) q, d .1))
             (omega (arith, ap (λ c. c .d) q, d .2))
@@ -142,15 +150,19 @@ module _ (b : Rulebook) (t : List ℕ) (w : List ℤ) where
 -- ---- a case that was read has all its lines
 
 module _ (b : Rulebook) (t : List ℕ) (w : List ℤ) {lines : ℕ} where
-  whole-length : (fits : Bool) (c : Case) → lineBytes b ≤ length t → (if fits then readDues b (record { case = c; table = w }) 1 (dues c) (afterFirst (rulesIn b) t) else caseRefused b WrongLength 0 w) .read .answer ≡ FileAnswer.Read lines → lines * lineBytes b ≤ length t
-  whole-length true c h e = omega (arith, dues-whole b (dues c) (record { case = c; table = w }) 1 (afterFirst (rulesIn b) t) e, length-drop (lineBytes b) t)
+  whole-length : (fits : Bool) (c : Case) → bytesOfLine b ≤ length t
+      → (if fits then readDues b (record { case = c; table = w }) 1 (dues c)
+      (afterFirst (rulesIn b) t) else caseRefused b WrongLength 0 w) .read .answer ≡ FileAnswer.Read lines → lines * bytesOfLine b ≤ length t
+  whole-length true c h e = omega (arith, dues-whole b (dues c) (record { case = c; table = w }) 1 (afterFirst (rulesIn b) t) e, length-drop (bytesOfLine b) t)
   whole-length false c h e = let z : _≡_ {A = ℕ} 0 1 = cc in omega arith
 
-  whole-by : (short : Bool) (o : Option Refusal) → isCut (rulesIn b) t ≡ short → (c : Case) → caseBy b t w (if short then some CutShort else o) c .read .answer ≡ FileAnswer.Read lines → lines * lineBytes b ≤ length t
+  whole-by : (short : Bool) (o : Option Refusal) → isCut (rulesIn b) t ≡ short → (c : Case)
+      → caseBy b t w (if short then some CutShort else o) c .read .answer ≡ FileAnswer.Read lines → lines * bytesOfLine b ≤ length t
   unfolding caseBy
   whole-by true o d c e = let z : _≡_ {A = ℕ} 0 1 = cc in omega arith
-  whole-by false none d c e = whole-length (eqb (length w) (lentLength c)) c (nltb→le (length t) (lineBytes b) (false-is (isCut (rulesIn b) t) d)) e
+  whole-by false none d c e = whole-length (eqb (length w) (lentLength c)) c (nltb→le (length t) (bytesOfLine b) (false-is (isCut (rulesIn b) t) d)) e
   whole-by false (some x) d c e = let z : _≡_ {A = ℕ} 0 1 = cc in omega arith
 
-  pub read-whole : readCase b t w .read .answer ≡ FileAnswer.Read lines → lines * lineBytes b ≤ length t
-  read-whole e = whole-by (isCut (rulesIn b) t) (firstOf (headTests (rulesIn b) (firstLine (rulesIn b) t))) refl (headed b (firstLine (rulesIn b) t)) (sym (ap (λ c. c .read .answer) (case-is b t w)) ∙ e)
+  pub read-whole : readCase b t w .read .answer ≡ FileAnswer.Read lines → lines * bytesOfLine b ≤ length t
+  read-whole e = whole-by (isCut (rulesIn b) t) (firstOf (headTests (rulesIn b) (firstLine (rulesIn b) t))) refl (headed b (firstLine (rulesIn b) t))
+      (sym (ap (λ c. c .read .answer) (case-is b t w)) ∙ e)

@@ -21,19 +21,20 @@ use Rattle.definitions.specs.declared.Refusal.the-variants.{NotInColumns, NotDu
 use Rattle.definitions.specs.Rules.{rulesIn, coherent, edgePlaces}
 use Rattle.definitions.specs.Refusals.{firstOf}
 use Rattle.definitions.specs.Case.{lentLength}
-use Rattle.definitions.specs.Calls.{readLineAnswer}
+use Rattle.calls.specs.Calls.{readLineAnswer}
 use Rattle.definitions.specs.CaseFiles.{isCut, firstLine, headTests, headed, caseSize}
-use Rattle.casefile.specs.Reads.{lineFrom, ofKind, limitsZ, Few, sizeOf, lineBytes}
+use Rattle.case_lines.specs.Dues.{bytesOfLine}
+use Rattle.casefile.specs.Reads.{lineFrom, isOfKind, limitsZ, Few, headAnswer}
 use Rattle.casefile.proofs.Tests.{due-10, within-nat}
 
 module _ (b : Rulebook) (t : List ℕ) where
-  pub cut-short : length t < lineBytes b → lineFrom b t ≡ LineRead.Refused CutShort
+  pub cut-short : length t < bytesOfLine b → lineFrom b t ≡ LineRead.Refused CutShort
   unfolding lineFrom
-  cut-short h = simp (lt-ltb (length t) (lineBytes b) h)
+  cut-short h = simp (lt-ltb (length t) (bytesOfLine b) h)
 
-  pub not-cut : lineBytes b ≤ length t → lineFrom b t ≡ readLineAnswer (rulesIn b) (take (lineBytes b) t)
+  pub not-cut : bytesOfLine b ≤ length t → lineFrom b t ≡ readLineAnswer (rulesIn b) (take (bytesOfLine b) t)
   unfolding lineFrom
-  not-cut h = simp (le-ltb (length t) (lineBytes b) h)
+  not-cut h = simp (le-ltb (length t) (bytesOfLine b) h)
 
 -- what a line that was read, or refused, says of the bytes
 pub data Front (b : Rulebook) (t : List ℕ) : LineRead → Type 0 where
@@ -45,7 +46,8 @@ pub front : (b : Rulebook) (t : List ℕ) → Front b t (lineFrom b t)
 unfolding lineFrom readLineAnswer
 front b t = go (isCut (rulesIn b) t) (firstLine (rulesIn b) t) refl refl
   where
-    go : (short : Bool) (o : Option Line) → isCut (rulesIn b) t ≡ short → firstLine (rulesIn b) t ≡ o → Front b t (if short then LineRead.Refused CutShort else (elim o [ none ↦ LineRead.Refused NotInColumns | some l ↦ LineRead.Read l ]))
+    go : (short : Bool) (o : Option Line) → isCut (rulesIn b) t ≡ short → firstLine (rulesIn b) t ≡ o
+        → Front b t (if short then LineRead.Refused CutShort else (elim o [ none ↦ LineRead.Refused NotInColumns | some l ↦ LineRead.Read l ]))
     go true o e f = cut e
     go false none e f = bad e f
     go false (some l) e f = good e f
@@ -53,28 +55,34 @@ front b t = go (isCut (rulesIn b) t) (firstLine (rulesIn b) t) refl refl
 -- ---- the head
 
 module _ (b : Rulebook) (l : Line) where
-  pub head-kind : ofKind (pos 10) true false l ≡ false → CaseSize.Refused NotDue ≡ sizeOf (firstOf (headTests (rulesIn b) (some l))) l
+  pub head-kind : isOfKind (pos 10) true false l ≡ false → CaseSize.Refused NotDue ≡ headAnswer (firstOf (headTests (rulesIn b) (some l))) l
   head-kind h = rw (due-10 b l, h)
 
-  pub head-limits : ofKind (pos 10) true false l ≡ true → limitsZ b (l .a) (l .b) (l .c) ≡ false → CaseSize.Refused OutsideLimits ≡ sizeOf (firstOf (headTests (rulesIn b) (some l))) l
+  pub head-limits : isOfKind (pos 10) true false l ≡ true → limitsZ b (l .a) (l .b) (l .c) ≡ false
+      → CaseSize.Refused OutsideLimits ≡ headAnswer (firstOf (headTests (rulesIn b) (some l))) l
   head-limits h k = rw (due-10 b l, h, k)
 
-  pub head-good : ofKind (pos 10) true false l ≡ true → limitsZ b (l .a) (l .b) (l .c) ≡ true → sizeOf none l ≡ sizeOf (firstOf (headTests (rulesIn b) (some l))) l
+  pub head-good : isOfKind (pos 10) true false l ≡ true → limitsZ b (l .a) (l .b) (l .c) ≡ true
+      → headAnswer none l ≡ headAnswer (firstOf (headTests (rulesIn b) (some l))) l
   head-good h k = rw (due-10 b l, h, k)
 
 -- what limits say of the sizes
-pub limits-known : (b : Rulebook) (n d m : ℤ) → T (limitsZ b n d m)
-    → ((ltZ n (pos 0) ≡ false) × (1 ≤ natAbs n) × (natAbs n ≤ rulesIn b .variables)) × ((ltZ d (pos 0) ≡ false) × (1 ≤ natAbs d) × (natAbs d ≤ rulesIn b .values)) × ((ltZ m (pos 0) ≡ false) × (0 ≤ natAbs m) × (natAbs m ≤ rulesIn b .edges))
-limits-known b n d m t =
-    let p = and-left (withinZ (pos 1) (pos (rulesIn b .variables)) n && withinZ (pos 1) (pos (rulesIn b .values)) d) (withinZ (pos 0) (pos (rulesIn b .edges)) m) t in (
+pub limits-in : (b : Rulebook) (n d m : ℤ) → T (limitsZ b n d m)
+    → ((ltZ n (pos 0) ≡ false) × (1 ≤ natAbs n) × (natAbs n ≤ rulesIn b .variables))
+    × ((ltZ d (pos 0) ≡ false) × (1 ≤ natAbs d) × (natAbs d ≤ rulesIn b .values))
+    × ((ltZ m (pos 0) ≡ false) × (0 ≤ natAbs m) × (natAbs m ≤ rulesIn b .edges))
+limits-in b n d m t =
+    let p = and-left (withinZ (pos 1) (pos (rulesIn b .variables)) n && withinZ (pos 1) (pos (rulesIn b .values)) d)
+    (withinZ (pos 0) (pos (rulesIn b .edges)) m) t in (
       within-nat 1 (rulesIn b .variables) n (and-left (withinZ (pos 1) (pos (rulesIn b .variables)) n) (withinZ (pos 1) (pos (rulesIn b .values)) d) p),
       within-nat 1 (rulesIn b .values) d (and-right (withinZ (pos 1) (pos (rulesIn b .variables)) n) (withinZ (pos 1) (pos (rulesIn b .values)) d) p),
-      within-nat 0 (rulesIn b .edges) m (and-right (withinZ (pos 1) (pos (rulesIn b .variables)) n && withinZ (pos 1) (pos (rulesIn b .values)) d) (withinZ (pos 0) (pos (rulesIn b .edges)) m) t),
+      within-nat 0 (rulesIn b .edges) m (and-right (withinZ (pos 1) (pos (rulesIn b .variables)) n && withinZ (pos 1) (pos (rulesIn b .values)) d)
+          (withinZ (pos 0) (pos (rulesIn b .edges)) m) t),
     )
 
 pub limits-few : (b : Rulebook) (n d m : ℤ) → T (limitsZ b n d m) → Few 256 n × Few 8 d × Few edgePlaces m
 limits-few b n d m t =
-    let ((x, p, u), (y, q, v), (z, r, w)) = limits-known b n d m t in
+    let ((x, p, u), (y, q, v), (z, r, w)) = limits-in b n d m t in
     let h = coherent b in
     ((x, omega (arith, u, h .variables-few)), (y, omega (arith, v, h .values-few)), (z, omega (arith, w, h .edges-placed)))
 
@@ -89,24 +97,25 @@ size-is : (b : Rulebook) (t : List ℕ) → headSize b (isCut (rulesIn b) t) (fi
 unfolding headSize
 size-is b t = refl
 
-size-some : (b : Rulebook) (l : Line) → sizeOf (firstOf (headTests (rulesIn b) (some l))) l ≡ headSize b false (some l)
+size-some : (b : Rulebook) (l : Line) → headAnswer (firstOf (headTests (rulesIn b) (some l))) l ≡ headSize b false (some l)
 unfolding headSize
 size-some b l = go (firstOf (headTests (rulesIn b) (some l)))
   where
-    go : (o : Option Refusal) → sizeOf o l ≡ elim o [
+    go : (o : Option Refusal) → headAnswer o l ≡ elim o [
       | none ↦ CaseSize.Size (headed b (some l) .n) (headed b (some l) .d) (headed b (some l) .m) (lentLength (headed b (some l)))
       | some x ↦ CaseSize.Refused x
     ]
     go none = refl
     go (some x) = refl
 
-pub size-refused : (b : Rulebook) (t : List ℕ) {f : LineRead} {x : Refusal} → Front b t f → f ≡ LineRead.Refused x → CaseSize.Refused x ≡ caseSize b t
+pub head-refused : (b : Rulebook) (t : List ℕ) {f : LineRead} {x : Refusal} → Front b t f → f ≡ LineRead.Refused x → CaseSize.Refused x ≡ caseSize b t
 unfolding headSize
-size-refused b t (cut e) p = (cc) ∙ ap (λ short. headSize b short (firstLine (rulesIn b) t)) (sym e) ∙ size-is b t
-size-refused b t (bad e f) p = (cc) ∙ ap₂ (headSize b) (sym e) (sym f) ∙ size-is b t
-size-refused b t (good e f) p = cc
+head-refused b t (cut e) p = (cc) ∙ ap (λ short. headSize b short (firstLine (rulesIn b) t)) (sym e) ∙ size-is b t
+head-refused b t (bad e f) p = (cc) ∙ ap₂ (headSize b) (sym e) (sym f) ∙ size-is b t
+head-refused b t (good e f) p = cc
 
-pub size-read : (b : Rulebook) (t : List ℕ) {f : LineRead} {l : Line} → Front b t f → f ≡ LineRead.Read l → sizeOf (firstOf (headTests (rulesIn b) (some l))) l ≡ caseSize b t
+pub size-read : (b : Rulebook) (t : List ℕ) {f : LineRead} {l : Line} → Front b t f → f ≡ LineRead.Read l
+    → headAnswer (firstOf (headTests (rulesIn b) (some l))) l ≡ caseSize b t
 size-read b t (cut e) p = cc
 size-read b t (bad e f) p = cc
 size-read b t {l} (good {l = k} e f) p =

@@ -1,9 +1,7 @@
 -- Laws that the functions' proofs cite.
 pub mod Tests
 pub mod Heads
-pub mod Dues
 pub mod Taken
 pub mod Left
 pub mod Cases
 pub mod Alone
-pub mod Writes

@@ -1,6 +1,6 @@
 -- Tests of signed numbers in the code, and the kinds of lines. Assumes nothing.
 use mathlib.Core.Path.{_≡_, refl, sym, ap, _∙_}
-use mathlib.Core.Bool.{Bool, true, false, not, _&&_, and-true, and-false}
+use mathlib.Core.Bool.{true, false, not, and-true, and-false}
 use mathlib.Core.List.{[], _∷_}
 use Prim.Native.Nat.{ℕ, _^_, _≤_, _<_}
 use native.Mathlib.Omega.{arith}
@@ -17,30 +17,23 @@ use Rattle.definitions.specs.declared.Rulebook.{Rulebook}
 use Rattle.definitions.specs.declared.Line.{Line}
 use Rattle.definitions.specs.Rules.{rulesIn, coherent}
 use Rattle.definitions.specs.Lines.{notDue}
-use Rattle.theory.proofs.CaseTests.{CaseKinds, case-kinds}
-use Rattle.casefile.specs.Reads.{ofKind}
-
-module _ (a b : Bool) where
-  pub and-next : a ≡ true → b ≡ (a && b)
-  and-next e = rw e
-
-  pub and-stops : a ≡ false → a ≡ (a && b)
-  and-stops e = rw e
+use Rattle.case_theory.proofs.CaseTests.{CaseKinds, case-kinds}
+use Rattle.casefile.specs.Reads.{isOfKind}
 
 -- numbers are equal just where their bits are
 module _ (a b : ℤ) (p : mag a < 2 ^ hbits w64) (q : mag b < 2 ^ hbits w64) where
-  pub same-bits : ofZ w64 a ≡ ofZ w64 b → a ≡ b
-  same-bits e = sym (read-back w64 a p) ∙ ap (toZ w64) e ∙ read-back w64 b q
+  pub column-bits : ofZ w64 a ≡ ofZ w64 b → a ≡ b
+  column-bits e = sym (read-back w64 a p) ∙ ap (toZ w64) e ∙ read-back w64 b q
 
-  pub bits-test : eqb (ofZ w64 a) (ofZ w64 b) ≡ eqZ a b
-  bits-test = same-test (eqb (ofZ w64 a) (ofZ w64 b)) (eqZ a b)
-      (λ t. T-eq a b .1 (same-bits (eqb→eq (ofZ w64 a) (ofZ w64 b) t)))
+  pub column-test : eqb (ofZ w64 a) (ofZ w64 b) ≡ eqZ a b
+  column-test = same-test (eqb (ofZ w64 a) (ofZ w64 b)) (eqZ a b)
+      (λ t. T-eq a b .1 (column-bits (eqb→eq (ofZ w64 a) (ofZ w64 b) t)))
       (λ t. eqb-iff (ofZ w64 a) (ofZ w64 b) .1 (ap (ofZ w64) (T-eq a b .0 t)))
 
 -- a number from 0 on
-pub from-zero : (z : ℤ) → ltZ z (pos 0) ≡ false → z ≡ pos (natAbs z)
-from-zero (pos n) h = refl
-from-zero (negsuc n) h = absurd (omega zs)
+pub column-natural : (z : ℤ) → ltZ z (pos 0) ≡ false → z ≡ pos (natAbs z)
+column-natural (pos n) h = refl
+column-natural (negsuc n) h = absurd (omega zs)
 
 pub abs-fits : (z : ℤ) → SFits w64 z → natAbs z ≤ 2 ^ 63
 abs-fits (pos n) f = omega (arith, f .sfits)
@@ -56,16 +49,16 @@ module _ (b : Rulebook) (l : Line) where
   abbrev kinds : CaseKinds (rulesIn b)
   kinds = case-kinds (coherent b)
 
-  pub due-10 : notDue (rulesIn b) (10 ∷ []) l ≡ not (ofKind (pos 10) true false l)
+  pub due-10 : notDue (rulesIn b) (10 ∷ []) l ≡ not (isOfKind (pos 10) true false l)
   due-10 = kinds .head-due l ∙ simp and-true
 
-  pub due-11 : notDue (rulesIn b) (11 ∷ []) l ≡ not (ofKind (pos 11) false true l)
+  pub due-11 : notDue (rulesIn b) (11 ∷ []) l ≡ not (isOfKind (pos 11) false true l)
   due-11 = kinds .variable-due l ∙ simp and-true
 
-  pub due-12 : notDue (rulesIn b) (12 ∷ []) l ≡ not (ofKind (pos 12) true false l)
+  pub due-12 : notDue (rulesIn b) (12 ∷ []) l ≡ not (isOfKind (pos 12) true false l)
   due-12 = kinds .ends-due l ∙ simp and-true
 
-  pub due-13 : notDue (rulesIn b) (13 ∷ []) l ≡ not (ofKind (pos 13) true true l)
+  pub due-13 : notDue (rulesIn b) (13 ∷ []) l ≡ not (isOfKind (pos 13) true true l)
   due-13 = kinds .edge-due l ∙ simp and-true
 
   pub due-none : notDue (rulesIn b) [] l ≡ true

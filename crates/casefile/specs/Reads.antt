@@ -15,20 +15,17 @@ use Rattle.definitions.specs.declared.CaseSize.{CaseSize}
 use Rattle.definitions.specs.declared.Refusal.{Refusal}
 use Rattle.definitions.specs.declared.Refusal.the-variants.{CutShort}
 use Rattle.definitions.specs.Rules.{rulesIn}
-use Rattle.definitions.specs.Lines.{zeroUnless, lineLength}
+use Rattle.definitions.specs.Lines.{zeroUnless}
+use Rattle.case_lines.specs.Dues.{bytesOfLine}
 use Rattle.definitions.specs.CaseFiles.{isCut}
-use Rattle.definitions.specs.Calls.{readLineAnswer}
-
--- the bytes of a line
-abbrev pub lineBytes : Rulebook → ℕ
-lineBytes b = lineLength (rulesIn b .amountWidth)
+use Rattle.calls.specs.Calls.{readLineAnswer}
 
 unfoldable pub lineFrom : Rulebook → List ℕ → LineRead
-lineFrom b t = if isCut (rulesIn b) t then LineRead.Refused CutShort else readLineAnswer (rulesIn b) (take (lineBytes b) t)
+lineFrom b t = if isCut (rulesIn b) t then LineRead.Refused CutShort else readLineAnswer (rulesIn b) (take (bytesOfLine b) t)
 
 -- a line of a kind that uses its first two places, and the third and the amount or not
-abbrev pub ofKind : ℤ → Bool → Bool → Line → Bool
-ofKind kind third amount l = eqZ (l .kind) kind && zeroUnless third (l .c) && zeroUnless amount (l .amount)
+abbrev pub isOfKind : ℤ → Bool → Bool → Line → Bool
+isOfKind kind third amount l = eqZ (l .kind) kind && zeroUnless third (l .c) && zeroUnless amount (l .amount)
 
 abbrev pub limitsZ : Rulebook → ℤ → ℤ → ℤ → Bool
 limitsZ b n d m = withinZ (pos 1) (pos (rulesIn b .variables)) n && withinZ (pos 1) (pos (rulesIn b .values)) d && withinZ (pos 0) (pos (rulesIn b .edges)) m
@@ -38,10 +35,10 @@ abbrev pub Few : ℕ → ℤ → Type 0
 Few most z = (ltZ z (pos 0) ≡ false) × (natAbs z ≤ most)
 
 -- the sizes in a head that is not refused
-abbrev pub sizeOf : Option Refusal → Line → CaseSize
-sizeOf none l =
+abbrev pub headAnswer : Option Refusal → Line → CaseSize
+headAnswer none l =
     let n = natAbs (l .a) in
     let d = natAbs (l .b) in
     let m = natAbs (l .c) in
     CaseSize.Size n d m (n * d + m * (d * d))
-sizeOf (some x) l = CaseSize.Refused x
+headAnswer (some x) l = CaseSize.Refused x

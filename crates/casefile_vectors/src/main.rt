@@ -72,7 +72,7 @@ fn front(bytes: &[u8], table: &mut [i64]) {
 
 // How many bytes are written, and all of the output after it.
 fn write(case: Case, table: &[i64], out: &mut [u8]) {
-    let written = casefile::write_case(case, table, out);
+    let written = case_writer::write_case(case, table, out);
     match written {
         Written::Bytes(n) => {
             drivers::print(b" written");

@@ -20,7 +20,7 @@ use Rattle.definitions.specs.declared.Outcome.{Outcome}
 use Rattle.definitions.specs.declared.Refusal.{Refusal}
 use Rattle.definitions.specs.declared.Refusal.the-variants.{OutsideLimits, WrongLength, OutOfRange, LeavesRange}
 use Rattle.definitions.specs.Rules.{Rules, rulesOf}
-use Rattle.definitions.specs.Refusals.{Test, _when_, firstOf}
+use Rattle.definitions.specs.Refusals.{_when_, firstOf}
 use Rattle.definitions.specs.Answers.{outcomeOf, unlessRefused}
 use Rattle.definitions.specs.Case.{scopeCount, eachTuple, ownLength, lentLength, weight, greatest}
 use Rattle.definitions.specs.Valid.{workingWeight, allWeights, withinLimits}
@@ -58,7 +58,8 @@ module _ (r : Rules) (c : Case) (w : List ℤ) (m : Change) where
         same-test (staysWorking r c w m) (allWeights (workingWeight r) c (plus c (m .adds) w))
         (λ s. every .1 (λ x k l t. subst (λ (z : ℤ). T (workingWeight r z)) (sym (weight-plus c (m .adds) w t)) (⊎-elim
         (λ u. stays-iff .0 s x k l t u)
-        (λ u. subst (λ (z : ℤ). T (workingWeight r z)) (sym (ap (λ (z : ℤ). weight c w x k l +ℤ z) (still x k l t u) ∙ +ℤ-idr (weight c w x k l))) (working x k l t))
+        (λ u. subst (λ (z : ℤ). T (workingWeight r z)) (sym (ap (λ (z : ℤ). weight c w x k l +ℤ z) (still x k l t u) ∙ +ℤ-idr (weight c w x k l)))
+        (working x k l t))
         (either (m .touches x k l)))))
         (λ s. stays-iff .1 (λ x k l t u. subst (λ (z : ℤ). T (workingWeight r z)) (weight-plus c (m .adds) w t) (every .0 s x k l t)))
 
@@ -109,8 +110,8 @@ module _ (c : Case) (w best : List ℤ) (m : Change) (wrong out : Bool) where
   abbrev pub call : KeptCall
   call = keptCall c w best m (firstOf (keptTests (rulesOf c) c w m wrong out))
 
-  pub outside : withinLimits (rulesOf c) (c .n) (c .d) (c .m) ≡ false → Gives call (Outcome.Refused OutsideLimits) w best
-  outside e = (rw e, rw e, rw e)
+  pub kept-limits-refused : withinLimits (rulesOf c) (c .n) (c .d) (c .m) ≡ false → Gives call (Outcome.Refused OutsideLimits) w best
+  kept-limits-refused e = (rw e, rw e, rw e)
 
   module _ (e : withinLimits (rulesOf c) (c .n) (c .d) (c .m) ≡ true) where
     pub wrong-length : (not (eqb (length w) (lentLength c)) || wrong) ≡ true → Gives call (Outcome.Refused WrongLength) w best
@@ -123,17 +124,17 @@ module _ (c : Case) (w best : List ℤ) (m : Change) (wrong out : Bool) where
       pub in-order : out ≡ false → firstOf (keptTests (rulesOf c) c w m wrong out) ≡ firstOf (LeavesRange when (not (staysWorking (rulesOf c) c w m)) ∷ [])
       in-order f = rw (e, d, f)
 
-      pub kept-next : out ≡ false → {o : Outcome} {t b : List ℤ} → KeptIs c w best m (staysWorking (rulesOf c) c w m) o t b → Gives call o t b
-      kept-next f (p, q, s) = let g = in-order f in (
+      pub call-next : out ≡ false → {o : Outcome} {t b : List ℤ} → KeptIs c w best m (staysWorking (rulesOf c) c w m) o t b → Gives call o t b
+      call-next f (p, q, s) = let g = in-order f in (
         p ∙ ap outcomeOf (sym g),
         q ∙ ap (λ x. unlessRefused x (plus c (m .adds) w) w) (sym g),
         s ∙ ap (λ x. unlessRefused x (bestAfter c w best m) best) (sym g),
       )
 
 -- lengths that are not wrong
-pub lengths-right : (c : Case) (w best : List ℤ) → (not (eqb (length w) (lentLength c)) || ltb (length best) (scopeCount c)) ≡ false
+pub kept-lengths-right : (c : Case) (w best : List ℤ) → (not (eqb (length w) (lentLength c)) || ltb (length best) (scopeCount c)) ≡ false
     → (length w ≡ lentLength c) × (scopeCount c ≤ length best)
-lengths-right c w best e =
+kept-lengths-right c w best e =
     let (s, t) = not-or-iff (not (eqb (length w) (lentLength c))) (ltb (length best) (scopeCount c)) .0 (false-is _ e) in
     (eqb→eq (length w) (lentLength c) (not-not-iff (eqb (length w) (lentLength c)) .0 s), nltb→le (length best) (scopeCount c) t)
 
@@ -152,11 +153,13 @@ module _ (c : Case) (w best : List ℤ) (m : Change) (b : Bool) where
   pub kept-left : b ≡ false → KeptIs c w best m b (Outcome.Refused LeavesRange) w best
   kept-left e = (rw e, rw e, rw e)
 
-  pub kept-refused : {x : Refusal} {t : List ℤ} → Outcome.Refused x ≡ (if b then Outcome.Done else Outcome.Refused LeavesRange) → t ≡ (if b then plus c (m .adds) w else w)
+  pub kept-refused : {x : Refusal} {t : List ℤ} → Outcome.Refused x ≡ (if b then Outcome.Done else Outcome.Refused LeavesRange)
+      → t ≡ (if b then plus c (m .adds) w else w)
       → KeptIs c w best m b (Outcome.Refused x) t best
   kept-refused {x} {t} = go b
     where
-      go : (b : Bool) → Outcome.Refused x ≡ (if b then Outcome.Done else Outcome.Refused LeavesRange) → t ≡ (if b then plus c (m .adds) w else w) → KeptIs c w best m b (Outcome.Refused x) t best
+      go : (b : Bool) → Outcome.Refused x ≡ (if b then Outcome.Done else Outcome.Refused LeavesRange) → t ≡ (if b then plus c (m .adds) w else w)
+          → KeptIs c w best m b (Outcome.Refused x) t best
       go true e d = absurd (let z : _≡_ {A = ℕ} 0 1 = cc in omega arith)
       go false e d = (e, d, refl)
 
@@ -184,7 +187,8 @@ module _ {c : Case} {w best : List ℤ} (h : Handed (rulesOf c) (workingWeight (
   left-to-ask =
       in-order c w best m wrong out (limits-true h) (rw (eq-eqb (length w) (lentLength c) (h .long), right)) inside
       ∙ ap (λ (b : Bool). firstOf (LeavesRange when (not b) ∷ []))
-      (stays-all (rulesOf c) c w m (omega (arith, h .long)) (h .in-range) still ∙ ap (allWeights (workingWeight (rulesOf c)) c) (plus-cong c (m .adds) w δ same))
+      (stays-all (rulesOf c) c w m (omega (arith, h .long)) (h .in-range) still
+      ∙ ap (allWeights (workingWeight (rulesOf c)) c) (plus-cong c (m .adds) w δ same))
 
   pub call-answer : call c w best m wrong out .answer ≡ outcomeOf (firstOf (LeavesRange when (leavesRange (rulesOf c) c (plus c δ w)) ∷ []))
   call-answer = ap outcomeOf left-to-ask

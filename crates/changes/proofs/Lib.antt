@@ -5,3 +5,4 @@ pub mod ScopeLaws
 pub mod KeptLaws
 pub mod TransferLaws
 pub mod LoweringLaws
+pub mod ValueLaws

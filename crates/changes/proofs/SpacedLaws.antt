@@ -1,7 +1,6 @@
 -- Amounts and ranges; weights that stand apart: where something is added, and where nothing changes. Assumes nothing.
 use mathlib.Core.Path.{_≡_, refl, sym, ap, subst, _∙_}
-use mathlib.Core.Bool.{Bool, true, false}
-use mathlib.Core.Logic.{_⊎_, ⊎-elim}
+use mathlib.Core.Logic.{⊎-elim}
 use mathlib.Core.List.{List}
 use Prim.Native.Nat.{ℕ, zero, suc, _+_, _*_, _<_}
 use native.Mathlib.Nat.{mul-le-mul-right}
@@ -13,34 +12,32 @@ use lib.Seq.{getD-set-same, getD-set-other}
 use mir.Syntax.{w64}
 use mir.Val.{SFits, toZ, ofZ}
 use mir.Facts.{toZ-ofZ}
-use Rattle.integers.specs.Words.{if_then_else_, withinZ, minus}
+use Rattle.integers.specs.Words.{withinZ, minus}
 use Rattle.integers.specs.Tests.{either, same-test, not-eqb-iff}
 use Rattle.integers.specs.Linear.{zs, flat, _▸_}
 use Rattle.integers.specs.Lists.{all-same, all-at}
 use Rattle.definitions.specs.Rules.{Rules, Coherent}
-use Rattle.definitions.proofs.RulesLaws.{fits}
+use Rattle.definitions.proofs.RulesLaws.{rules-fit}
 use Rattle.definitions.specs.Valid.{workingWeight}
-use Rattle.definitions.specs.Moves.{pressAmount}
-use Rattle.changes.specs.Scopes.{Amounts}
 use Rattle.changes.specs.Spaced.{amountWithin, weightAt, Inside, SumsFit, spacedStay, spacedAdd}
 
 -- what coherent rules say in machine words
 module _ {r : Rules} (limits : Coherent r) where
   pub working-fits : (z : ℤ) → T (workingWeight r z) → SFits w64 z
-  working-fits z t = t ▸ fits limits .working ▸ simp flat (omega zs)
-
-  pub press-back : (a : ℤ) → T (pressAmount r a) → SFits w64 (pos 0 -ℤ a)
-  press-back a t = t ▸ fits limits .moving ▸ simp flat (omega zs)
+  working-fits z t = t ▸ rules-fit limits .working ▸ simp flat (omega zs)
 
   module _ (by : ℤ) (h : T (amountWithin r by)) where
     pub back-fits : SFits w64 (pos 0 -ℤ by)
-    back-fits = h ▸ fits limits .moving ▸ simp flat (omega zs)
+    back-fits = h ▸ rules-fit limits .moving ▸ simp flat (omega zs)
+
+    pub amount-fits : SFits w64 by
+    amount-fits = h ▸ rules-fit limits .moving ▸ simp flat (omega zs)
 
     pub low-fits : SFits w64 (minus (r .working) -ℤ by)
-    low-fits = h ▸ fits limits .working ▸ fits limits .moving ▸ simp flat (omega zs)
+    low-fits = h ▸ rules-fit limits .working ▸ rules-fit limits .moving ▸ simp flat (omega zs)
 
     pub high-fits : SFits w64 (pos (r .working) -ℤ by)
-    high-fits = h ▸ fits limits .working ▸ fits limits .moving ▸ simp flat (omega zs)
+    high-fits = h ▸ rules-fit limits .working ▸ rules-fit limits .moving ▸ simp flat (omega zs)
 
 -- the code's 0 − by
 pub back-is : (by : ℤ) → SFits w64 by → SFits w64 (pos 0 -ℤ by) → toZ w64 (ofZ w64 (pos 0 -ℤ toZ w64 (ofZ w64 by))) ≡ negℤ by
@@ -51,10 +48,6 @@ module _ (r : Rules) where
   pub range-moved : (z by : ℤ) → withinZ (minus (r .working) -ℤ by) (pos (r .working) -ℤ by) z ≡ workingWeight r (z +ℤ by)
   range-moved z by = same-test (withinZ (minus (r .working) -ℤ by) (pos (r .working) -ℤ by) z) (workingWeight r (z +ℤ by))
       (λ t. t ▸ simp flat (omega zs)) (λ t. t ▸ simp flat (omega zs))
-
-  pub added-within : (b : Bool) (z top rest : ℤ) → z ≡ (if b then top else rest) → Amounts r top rest → T (amountWithin r z)
-  added-within true z top rest e h = rw e (h .top-within)
-  added-within false z top rest e h = rw e (h .rest-within)
 
   pub back-within : (a : ℤ) → T (amountWithin r a) → T (amountWithin r (negℤ a))
   back-within a = simp flat (omega zs)
@@ -80,13 +73,15 @@ module _ (w : List ℤ) (start step : ℕ) (by : ℤ) where
     pub spaced-next : (j : ℕ) → weightAt (spacedAdd w start step j by) (start + j * step) ≡ weightAt w (start + j * step)
     spaced-next j = spaced-miss j (start + j * step) (λ i h e. spaced-apart start step i j some h (sym e))
 
-    pub spaced-hit : (j i : ℕ) → i < j → start + i * step < length w → weightAt (spacedAdd w start step j by) (start + i * step) ≡ weightAt w (start + i * step) +ℤ by
+    pub spaced-hit : (j i : ℕ) → i < j → start + i * step < length w
+        → weightAt (spacedAdd w start step j by) (start + i * step) ≡ weightAt w (start + i * step) +ℤ by
     unfolding spacedAdd
     spaced-hit zero i h l = absurd (omega arith)
     spaced-hit (suc j) i h l = ⊎-elim
         (λ t. let e : i ≡ j = eqb→eq i j t in
         let u : start + j * step < length w = subst (λ (i : ℕ). start + i * step < length w) e l in
-        rw e (getD-set-same (spacedAdd w start step j by) (start + j * step) _ (pos 0) (omega (arith, spaced-long j)) ∙ ap (λ (z : ℤ). z +ℤ by) (spaced-next j)))
+        rw e (getD-set-same (spacedAdd w start step j by) (start + j * step) _ (pos 0) (omega (arith, spaced-long j))
+        ∙ ap (λ (z : ℤ). z +ℤ by) (spaced-next j)))
         (λ t. let k : i < j = omega (arith, not-eqb-iff i j .0 t) in
         getD-set-other (spacedAdd w start step j by) (start + j * step) (start + i * step) _ (pos 0) (spaced-apart start step i j some k) ∙ spaced-hit j i k l)
         (either (eqb i j))
@@ -95,7 +90,8 @@ pub one-place : (own i : ℕ) → i < 1 → own + i * 1 ≡ own
 one-place own i h = omega arith
 
 -- weights that stay working fit a machine word
-pub stay-fits : {r : Rules} → Coherent r → (w : List ℤ) (start step count : ℕ) (by : ℤ) → T (spacedStay r w start step count by) → SumsFit w start step count by
+pub stay-fits : {r : Rules} → Coherent r → (w : List ℤ) (start step count : ℕ) (by : ℤ) → T (spacedStay r w start step count by)
+    → SumsFit w start step count by
 stay-fits {r} limits w start step count by t j h = working-fits limits _ (all-at (λ j. workingWeight r (weightAt w (start + j * step) +ℤ by)) count t j h)
 
 -- after something is added at a place apart from them
@@ -104,4 +100,5 @@ module _ (w : List ℤ) (own start step count : ℕ) (a : ℤ) (apart : (j : ℕ
   inside-kept s j h = omega (arith, s j h, spaced-long w own 1 a 1)
 
   pub stay-kept : (r : Rules) (by : ℤ) → spacedStay r (spacedAdd w own 1 1 a) start step count by ≡ spacedStay r w start step count by
-  stay-kept r by = all-same count (λ j h. ap (λ (z : ℤ). workingWeight r (z +ℤ by)) (spaced-miss w own 1 a 1 (start + j * step) (λ i u e. apart j h (e ∙ one-place own i u))))
+  stay-kept r by = all-same count (λ j h. ap (λ (z : ℤ). workingWeight r (z +ℤ by))
+      (spaced-miss w own 1 a 1 (start + j * step) (λ i u e. apart j h (e ∙ one-place own i u))))

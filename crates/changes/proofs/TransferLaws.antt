@@ -22,7 +22,7 @@ use Rattle.definitions.specs.Answers.{outcomeOf, unlessRefused}
 use Rattle.definitions.specs.Case.{scopeCount, lowerEnd, upperEnd, place, ownLength, lentLength, weight, greatest}
 use Rattle.definitions.specs.Valid.{workingWeight}
 use Rattle.definitions.specs.Moves.{plus, onlyWhere, endVariable, endValue, shiftBy, leavesRange}
-use Rattle.definitions.specs.Calls.{shiftOut}
+use Rattle.calls.specs.Calls.{shiftOut}
 use Rattle.definitions.proofs.CaseLaws.{place-own}
 use Rattle.theory.proofs.Places.{IsTuple, by-tuple, variable-tuple, edge-tuple, place-variable, place-edge, place-apart, tuple-at, plus-is}
 use Rattle.theory.proofs.Shape.{Shape}
@@ -37,7 +37,8 @@ use Rattle.changes.proofs.KeptLaws.{stays-iff, two-kept, call-answer, c
 pub data Touched (c : Case) (m : Change) (own start step : ℕ) (a : ℤ) (x k l : ℕ) : Type 0 where
   at-own : T (m .touches x k l) → place c x k l ≡ own → m .adds x k l ≡ a → Touched c m own start step a x k l
   at-used : T (m .touches x k l) → (j : ℕ) → j < c .d → place c x k l ≡ start + j * step → m .adds x k l ≡ negℤ a → Touched c m own start step a x k l
-  elsewhere : T (not (m .touches x k l)) → (place c x k l ≡ own → ⊥) → ((j : ℕ) → j < c .d → place c x k l ≡ start + j * step → ⊥) → m .adds x k l ≡ pos 0 → Touched c m own start step a x k l
+  elsewhere : T (not (m .touches x k l)) → (place c x k l ≡ own → ⊥) → ((j : ℕ) → j < c .d → place c x k l ≡ start + j * step → ⊥) → m .adds x k l ≡ pos 0
+      → Touched c m own start step a x k l
 
 not-first : {own p : ℕ} → (p ≡ own → ⊥) → (i : ℕ) → i < 1 → p ≡ own + i * 1 → ⊥
 not-first {own} f i h e = f (e ∙ one-place own i h)
@@ -47,14 +48,15 @@ module _ (r : Rules) (c : Case) (w : List ℤ) (m : Change) (own start step : �
     (some : 0 < step)
     (apart : (j : ℕ) → j < c .d → start + j * step ≡ own → ⊥)
     (long : length w ≡ ownLength c)
-    (own-in : own < ownLength c)
+    (own-place-in : own < ownLength c)
     (used-in : (j : ℕ) → j < c .d → start + j * step < ownLength c) where
   first : List ℤ
   first = spacedAdd w own 1 1 a
 
   at-first : weightAt first own ≡ weightAt w own +ℤ a
   unfolding first
-  at-first = subst (λ (p : ℕ). weightAt (spacedAdd w own 1 1 a) p ≡ weightAt w p +ℤ a) (one-place own 0 (omega arith)) (spaced-hit w own 1 a (omega arith) 1 0 (omega arith) (omega arith))
+  at-first = subst (λ (p : ℕ). weightAt (spacedAdd w own 1 1 a) p ≡ weightAt w p +ℤ a) (one-place own 0 (omega arith))
+      (spaced-hit w own 1 a (omega arith) 1 0 (omega arith) (omega arith))
 
   off-first : {p : ℕ} → (p ≡ own → ⊥) → weightAt first p ≡ weightAt w p
   unfolding first
@@ -78,7 +80,8 @@ module _ (r : Rules) (c : Case) (w : List ℤ) (m : Change) (own start step : �
           ∙ ap (λ (z : ℤ). z +ℤ negℤ a) (off-first (apart j h))
           ∙ sym (ap₂ _+ℤ_ (ap (weightAt w) e) d)
       go (elsewhere z f g d) =
-          spaced-miss first start step (negℤ a) (c .d) (place c x k l) g ∙ off-first f ∙ sym (ap (λ (z : ℤ). weight c w x k l +ℤ z) d ∙ +ℤ-idr (weight c w x k l))
+          spaced-miss first start step (negℤ a) (c .d) (place c x k l) g ∙ off-first f
+          ∙ sym (ap (λ (z : ℤ). weight c w x k l +ℤ z) d ∙ +ℤ-idr (weight c w x k l))
 
   pub transferred-is : plus c (m .adds) w ≡ transferred w own start step (c .d) a
   transferred-is = plus-is c (m .adds) w (omega arith) (transferred w own start step (c .d) a) transferred-long weight-transferred
@@ -123,7 +126,7 @@ module _ (r : Rules) (c : Case) (w : List ℤ) (m : Change) (own start step : �
   back f = and-intro (spacedStay r w own 1 1 a) _
       (all-of (λ j. workingWeight r (weightAt w (own + j * 1) +ℤ a)) 1 (λ i h.
       let z : own + i * 1 ≡ own = omega arith in
-      let (x, k, l, t, e) = tuple-at c own own-in in
+      let (x, k, l, t, e) = tuple-at c own own-place-in in
       let q = added-own x k l t e in
       subst inRange (ap₂ _+ℤ_ (ap (weightAt w) (e ∙ sym z)) (q .1)) (f x k l t (q .0))))
       (all-of (λ j. workingWeight r (weightAt w (start + j * step) +ℤ negℤ a)) (c .d) (λ j h.
@@ -132,7 +135,8 @@ module _ (r : Rules) (c : Case) (w : List ℤ) (m : Change) (own start step : �
       subst inRange (ap₂ _+ℤ_ (ap (weightAt w) e) (q .1)) (f x k l t (q .0))))
 
   pub transfer-stays : transferStays r w own start step (c .d) a ≡ staysWorking r c w m
-  transfer-stays = same-test (transferStays r w own start step (c .d) a) (staysWorking r c w m) (λ s. stays-iff r c w m .1 (stays s)) (λ s. back (stays-iff r c w m .0 s))
+  transfer-stays = same-test (transferStays r w own start step (c .d) a) (staysWorking r c w m) (λ s. stays-iff r c w m .1 (stays s))
+      (λ s. back (stays-iff r c w m .0 s))
 
 -- ---- the places of a transfer
 
@@ -173,8 +177,8 @@ module _ (c : Case) (e end v own start step : ℕ) (a : ℤ) (edge : e < c .m) (
   used-tuple : (j : ℕ) → j < c .d → IsTuple c (c .n + e) (p .one j) (p .two j)
   used-tuple j h = edge-tuple c e (p .one j) (p .two j) edge (p .used j h .0) (p .used j h .1)
 
-  pub own-in : own < ownLength c
-  own-in = omega (arith, p .own-at, place-own c own-v v 0 (own-tuple .scope) (own-tuple .one) (own-tuple .two))
+  pub own-place-in : own < ownLength c
+  own-place-in = omega (arith, p .own-at, place-own c own-v v 0 (own-tuple .scope) (own-tuple .one) (own-tuple .two))
 
   pub used-in : (j : ℕ) → j < c .d → start + j * step < ownLength c
   used-in j h = let t = used-tuple j h in omega (arith, p .used-at j h, place-own c (c .n + e) (p .one j) (p .two j) (t .scope) (t .one) (t .two))
@@ -195,8 +199,10 @@ module _ (c : Case) (e end v own start step : ℕ) (a : ℤ) (edge : e < c .m) (
           go (inl t) =
               let q : i ≡ own-v = eqb→eq i own-v (and-left (eqb i own-v) (eqb k v) t) in
               let n : k ≡ v = eqb→eq k v (and-right (eqb i own-v) (eqb k v) t) in
-              at-own (or-left (eqb i own-v && eqb k v) (eqb i (c .n + e) && eqb (endValue end k 0) v) t) (ap₂ (λ (x k : ℕ). place c x k 0) q n ∙ sym (p .own-at)) (first-only _ _ a (is-true (eqb i own-v && eqb k v) t) other)
-          go (inr t) = elsewhere (neither (eqb i own-v && eqb k v) (eqb i (c .n + e) && eqb (endValue end k 0) v) t (false-is (eqb i (c .n + e) && eqb (endValue end k 0) v) other))
+              at-own (or-left (eqb i own-v && eqb k v) (eqb i (c .n + e) && eqb (endValue end k 0) v) t)
+              (ap₂ (λ (x k : ℕ). place c x k 0) q n ∙ sym (p .own-at)) (first-only _ _ a (is-true (eqb i own-v && eqb k v) t) other)
+          go (inr t) = elsewhere (neither (eqb i own-v && eqb k v) (eqb i (c .n + e) && eqb (endValue end k 0) v) t
+              (false-is (eqb i (c .n + e) && eqb (endValue end k 0) v) other))
               (λ g. let (m, n, o) = place-apart c (variable-tuple c i k h q) own-tuple (g ∙ p .own-at) in
               T-not (eqb i own-v && eqb k v) t (and-intro (eqb i own-v) (eqb k v) (eqb-iff i own-v .1 m) (eqb-iff k v .1 n)))
               (λ j u g. let (m, n, o) = place-apart c (variable-tuple c i k h q) (used-tuple j u) (g ∙ p .used-at j u) in omega arith)
@@ -214,9 +220,11 @@ module _ (c : Case) (e end v own start step : ℕ) (a : ℤ) (edge : e < c .m) (
               let m : c .n + f ≡ c .n + e = eqb→eq (c .n + f) (c .n + e) (and-left (eqb (c .n + f) (c .n + e)) (eqb (endValue end k l) v) t) in
               let n : endValue end k l ≡ v = eqb→eq (endValue end k l) v (and-right (eqb (c .n + f) (c .n + e)) (eqb (endValue end k l) v) t) in
               let (j, u, y, z) = p .every k l q r n in
-              at-used (or-right (eqb (c .n + f) own-v && eqb k v) (eqb (c .n + f) (c .n + e) && eqb (endValue end k l) v) t) j u (ap₂ (λ (k l : ℕ). place c (c .n + f) k l) (sym y) (sym z) ∙ ap (λ (x : ℕ). place c x (p .one j) (p .two j)) m ∙ sym (p .used-at j u))
+              at-used (or-right (eqb (c .n + f) own-v && eqb k v) (eqb (c .n + f) (c .n + e) && eqb (endValue end k l) v) t) j u
+              (ap₂ (λ (k l : ℕ). place c (c .n + f) k l) (sym y) (sym z) ∙ ap (λ (x : ℕ). place c x (p .one j) (p .two j)) m ∙ sym (p .used-at j u))
               (second-only _ _ a other (is-true (eqb (c .n + f) (c .n + e) && eqb (endValue end k l) v) t))
-          go (inr t) = elsewhere (neither (eqb (c .n + f) own-v && eqb k v) (eqb (c .n + f) (c .n + e) && eqb (endValue end k l) v) (false-is (eqb (c .n + f) own-v && eqb k v) other) t)
+          go (inr t) = elsewhere (neither (eqb (c .n + f) own-v && eqb k v) (eqb (c .n + f) (c .n + e) && eqb (endValue end k l) v)
+              (false-is (eqb (c .n + f) own-v && eqb k v) other) t)
               (λ g. let (m, n, o) = place-apart c (edge-tuple c f k l h q r) own-tuple (g ∙ p .own-at) in omega (arith, p .variable))
               (λ j u g. let (m, n, o) = place-apart c (edge-tuple c f k l h q r) (used-tuple j u) (g ∙ p .used-at j u) in
               T-not (eqb (c .n + f) (c .n + e) && eqb (endValue end k l) v) t
@@ -225,7 +233,8 @@ module _ (c : Case) (e end v own start step : ℕ) (a : ℤ) (edge : e < c .m) (
               (none-of-both _ _ a other (is-false (eqb (c .n + f) (c .n + e) && eqb (endValue end k l) v) t))
 
 -- at end 0 a row, at end 1 a column
-module _ (c : Case) (e end v own start : ℕ) (edge : e < c .m) (value : v < c .d) (variable : endVariable c e end < c .n) (o : own ≡ endVariable c e end * c .d + v) where
+module _ (c : Case) (e end v own start : ℕ) (edge : e < c .m) (value : v < c .d) (variable : endVariable c e end < c .n)
+    (o : own ≡ endVariable c e end * c .d + v) where
   pub row-places : end ≡ 0 → start ≡ (c .n * c .d + e * (c .d * c .d)) + v * c .d → TransferPlaces c e end v own start 1
   row-places z s = record {
     one = λ j. v;
@@ -257,7 +266,7 @@ module _ (c : Case) (w : List ℤ) (long : length w ≡ lentLength c) (e end v o
     (edge : e < c .m) (value : v < c .d) (p : TransferPlaces c e end v own start step) where
   pub transfer-inside : Inside w own 1 1 × Inside w start step (c .d)
   transfer-inside = (
-    λ j h. omega (arith, own-in c e end v own start step a edge value p, long),
+    λ j h. omega (arith, own-place-in c e end v own start step a edge value p, long),
     λ j h. omega (arith, used-in c e end v own start step a edge value p j h, long),
   )
 
@@ -265,12 +274,16 @@ module _ (c : Case) (w : List ℤ) (long : length w ≡ lentLength c) (e end v o
   transfer-separate = own-apart c e end v own start step a edge value p
 
   pub transfer-is : transferStays (rulesOf c) w own start step (c .d) a ≡ staysWorking (rulesOf c) c w (transferChange c e end v a)
-  transfer-is = transfer-stays (rulesOf c) c w (transferChange c e end v a) own start step a (transfer-touched c e end v own start step a edge value p) (p .spread)
-      (own-apart c e end v own start step a edge value p) long (own-in c e end v own start step a edge value p) (used-in c e end v own start step a edge value p)
+  transfer-is = transfer-stays (rulesOf c) c w (transferChange c e end v a) own start step a (transfer-touched c e end v own start step a edge value p)
+      (p .spread)
+      (own-apart c e end v own start step a edge value p) long (own-place-in c e end v own start step a edge value p)
+      (used-in c e end v own start step a edge value p)
 
   pub transfer-made : transferred w own start step (c .d) a ≡ plus c (shiftBy c e end v a) w
-  transfer-made = sym (transferred-is (rulesOf c) c w (transferChange c e end v a) own start step a (transfer-touched c e end v own start step a edge value p) (p .spread)
-      (own-apart c e end v own start step a edge value p) long (own-in c e end v own start step a edge value p) (used-in c e end v own start step a edge value p))
+  transfer-made = sym (transferred-is (rulesOf c) c w (transferChange c e end v a) own start step a (transfer-touched c e end v own start step a edge value p)
+      (p .spread)
+      (own-apart c e end v own start step a edge value p) long (own-place-in c e end v own start step a edge value p)
+      (used-in c e end v own start step a edge value p))
 
 -- ---- nothing is added elsewhere
 module _ (c : Case) (e end v : ℕ) (a : ℤ) where
@@ -288,8 +301,10 @@ module _ (c : Case) (e end v : ℕ) (a : ℤ) where
       (and-false (eqb x (c .n + e)) (eqb (endValue end k l) v) (is-false (eqb x (c .n + e)) u))
 
   -- the greatest weights of the two scopes
-  pub transfer-best : (w best : List ℤ) → scopeCount c ≤ length best → e < c .m → endVariable c e end < c .n → {t : List ℤ} → t ≡ plus c (shiftBy c e end v a) w
-      → set (set best (endVariable c e end) (greatest c t (endVariable c e end))) (c .n + e) (greatest c t (c .n + e)) ≡ bestAfter c w best (transferChange c e end v a)
+  pub transfer-best : (w best : List ℤ) → scopeCount c ≤ length best → e < c .m → endVariable c e end < c .n → {t : List ℤ}
+      → t ≡ plus c (shiftBy c e end v a) w
+      → set (set best (endVariable c e end) (greatest c t (endVariable c e end))) (c .n + e) (greatest c t (c .n + e)) ≡ bestAfter c w best
+      (transferChange c e end v a)
   transfer-best w best room edge variable {t} is =
       ap (λ (t : List ℤ). set (set best (endVariable c e end) (greatest c t (endVariable c e end))) (c .n + e) (greatest c t (c .n + e))) is
       ∙ two-kept (greatest c (plus c (shiftBy c e end v a) w)) best (endVariable c e end) (c .n + e) (scopeCount c) room (omega arith) (omega arith)
@@ -318,7 +333,8 @@ module _ {c : Case} {w best : List ℤ} (h : Handed (rulesOf c) (workingWeight (
       rw (inside, lt-ltb (endVariable c e end) (c .n) (end-inside (h .shape) e end (q .0 .0)))
 
   pub transfer-is-shift :
-      (transferCall (rulesOf c) c w best e end v a .answer ≡ outcomeOf (firstOf (LeavesRange when (leavesRange (rulesOf c) c (plus c (shiftBy c e end v a) w)) ∷ [])))
+      (transferCall (rulesOf c) c w best e end v a .answer ≡ outcomeOf
+      (firstOf (LeavesRange when (leavesRange (rulesOf c) c (plus c (shiftBy c e end v a) w)) ∷ [])))
       × (transferCall (rulesOf c) c w best e end v a .table
       ≡ unlessRefused (firstOf (LeavesRange when (leavesRange (rulesOf c) c (plus c (shiftBy c e end v a) w)) ∷ [])) (plus c (shiftBy c e end v a) w) w)
       × BestOf c (transferCall (rulesOf c) c w best e end v a .table) (transferCall (rulesOf c) c w best e end v a .best)
@@ -328,7 +344,10 @@ module _ {c : Case} {w best : List ℤ} (h : Handed (rulesOf c) (workingWeight (
       let n : ltb (length best) (scopeCount c) ≡ false = le-ltb (length best) (scopeCount c) (b .enough) in
       let out = shiftOut (rulesOf c) c e end v a || not (ltb (endVariable c e end) (c .n)) in
       let wrong = ltb (length best) (scopeCount c) in (
-        call-answer h b m (λ x k l t. transfer-still c e end v a x k l) (λ x k l t. transfer-off c e end v a x k l) (shiftBy c e end v a) (λ x k l t. refl) wrong out n out-false,
-        call-table h b m (λ x k l t. transfer-still c e end v a x k l) (λ x k l t. transfer-off c e end v a x k l) (shiftBy c e end v a) (λ x k l t. refl) wrong out n out-false,
-        call-best h b m (λ x k l t. transfer-still c e end v a x k l) (λ x k l t. transfer-off c e end v a x k l) (shiftBy c e end v a) (λ x k l t. refl) wrong out n out-false,
+        call-answer h b m (λ x k l t. transfer-still c e end v a x k l) (λ x k l t. transfer-off c e end v a x k l) (shiftBy c e end v a) (λ x k l t. refl)
+            wrong out n out-false,
+        call-table h b m (λ x k l t. transfer-still c e end v a x k l) (λ x k l t. transfer-off c e end v a x k l) (shiftBy c e end v a) (λ x k l t. refl)
+            wrong out n out-false,
+        call-best h b m (λ x k l t. transfer-still c e end v a x k l) (λ x k l t. transfer-off c e end v a x k l) (shiftBy c e end v a) (λ x k l t. refl)
+            wrong out n out-false,
       )

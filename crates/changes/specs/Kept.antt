@@ -3,8 +3,8 @@ use mathlib.Core.Path.{_≡_}
 use mathlib.Core.Bool.{Bool, not, _&&_, _||_}
 use mathlib.Core.Option.{Option}
 use mathlib.Core.List.{List, [], _∷_, map}
-use Prim.Native.Nat.{ℕ, _+_}
-use lib.IntN.{ℤ, negℤ, _+ℤ_}
+use Prim.Native.Nat.{ℕ, _+_, _<_}
+use lib.IntN.{ℤ, pos, negℤ, _+ℤ_}
 use lib.Dec.{ltb, eqb}
 use lib.ListN.{length, getD}
 use Rattle.integers.specs.Words.{if_then_else_, _⇒_, all, eqZ}
@@ -18,8 +18,9 @@ use Rattle.definitions.specs.Answers.{outcomeOf, unlessRefused}
 use Rattle.definitions.specs.Case.{scopeCount, scopes, eachTuple, weight, greatest}
 use Rattle.definitions.specs.Valid.{workingWeight, limitTest, lengthTest}
 use Rattle.definitions.specs.Moves.{Difference, plus, onlyWhere, endVariable, endValue, shiftBy, pressAmount}
-use Rattle.definitions.specs.Calls.{shiftOut}
+use Rattle.calls.specs.Calls.{shiftOut, isRaised}
 use Rattle.tables.specs.Scopes.{bestAt, writtenOver}
+use Rattle.marks.specs.Marks.{mark, byteOf}
 
 -- the scopes and the tuples that are touched, and what is added at each tuple
 pub record Change : Type 0 where
@@ -27,13 +28,17 @@ pub record Change : Type 0 where
   pub touches : ℕ → ℕ → ℕ → Bool
   pub adds : Difference
 
--- a byte that is not 0 marks a raised scope
-abbrev pub isRaised : List ℕ → ℕ → Bool
-isRaised raised x = not (eqb (getD raised x 0) 0)
-
 -- the tuple's weight is the scope's number in `best`
 abbrev pub isBest : Case → List ℤ → List ℤ → ℕ → ℕ → ℕ → Bool
 isBest c w best x k l = eqZ (weight c w x k l) (bestAt best x)
+
+-- the values below d with this weight; that of value k stands at from + k
+abbrev pub valuesWith : List ℤ → ℕ → ℕ → ℤ → ℕ
+valuesWith w from d z = byteOf (λ k. ltb k d && eqZ (getD w (from + k) (pos 0)) z)
+
+-- the set holds the values below D that pass
+abbrev pub MarksOf : Case → (ℕ → Bool) → ℕ → Type 0
+MarksOf c lowered values = (k : ℕ) → k < 8 → mark values k ≡ (ltb k (c .d) && lowered k)
 
 -- the value's own weight and the edge's tuples that use it are touched
 abbrev pub transferChange : Case → ℕ → ℕ → ℕ → ℤ → Change
@@ -44,12 +49,12 @@ transferChange c e end v a = record {
 }
 
 -- the whole scope of the variable and the whole raised scopes are touched
-abbrev pub loweringChange : Case → List ℤ → List ℤ → List ℕ → ℕ → ℤ → Change
-loweringChange c w best raised i a = record {
+abbrev pub loweringChange : Case → List ℤ → List ℤ → List ℕ → ℕ → (ℕ → Bool) → ℤ → Change
+loweringChange c w best raised i lowered a = record {
   inScope = λ x. eqb x i || isRaised raised x;
   touches = λ x k l. eqb x i || isRaised raised x;
   adds = λ x k l.
-      onlyWhere (eqb x i && isBest c w best i k 0) (negℤ a)
+      onlyWhere (eqb x i && lowered k) (negℤ a)
       +ℤ onlyWhere (isRaised raised x && not (isBest c w best x k l)) a;
 }
 
@@ -84,6 +89,13 @@ Gives call answer table best = (answer ≡ call .answer) × (table ≡ call .tab
 abbrev pub KeptIs : Case → List ℤ → List ℤ → Change → Bool → Outcome → List ℤ → List ℤ → Type 0
 KeptIs c w best m stays answer table after = Gives (keptCall c w best m (firstOf (LeavesRange when (not stays) ∷ []))) answer table after
 
+abbrev pub KeptBy : Rules → Case → List ℤ → List ℤ → Change → Outcome → List ℤ → List ℤ → Type 0
+KeptBy r c w best m answer table after = KeptIs c w best m (staysWorking r c w m) answer table after
+
+-- the change is made
+abbrev pub KeptMade : Case → List ℤ → List ℤ → Change → List ℤ → List ℤ → Type 0
+KeptMade c w best m table after = (table ≡ plus c (m .adds) w) × (after ≡ bestAfter c w best m)
+
 module _ (r : Rules) where
   -- numbers 3, 4, 5 and 11
   abbrev pub keptTests : Case → List ℤ → Change → Bool → Bool → List Test
@@ -100,7 +112,15 @@ module _ (r : Rules) where
   abbrev pub loweringOut : Case → ℕ → ℤ → Bool
   loweringOut c i a = not (ltb i (c .n)) || not (pressAmount r a)
 
-  unfoldable pub lowerAndRaiseCall : Case → List ℤ → List ℤ → List ℕ → ℕ → ℤ → KeptCall
-  lowerAndRaiseCall c w best raised i a =
-      let m = loweringChange c w best raised i a in
-      keptCall c w best m (firstOf (keptTests c w m (ltb (length best) (scopeCount c) || ltb (length raised) (scopeCount c)) (loweringOut c i a)))
+  -- the values of variable i whose weight is the number in `best`; none where 3, 4 or 5 applies
+  unfoldable pub bestValues : Case → List ℤ → List ℤ → ℕ → ℕ
+  bestValues c w best i =
+      unlessRefused
+      (firstOf (limitTest r c ∷ lengthTest c w (ltb (length best) (scopeCount c)) ∷ OutOfRange when (not (ltb i (c .n))) ∷ []))
+      (byteOf (λ k. ltb k (c .d) && isBest c w best i k 0)) 0
+
+  unfoldable pub lowerAndRaiseCall : Case → List ℤ → List ℤ → List ℕ → ℕ → ℕ → ℤ → KeptCall
+  lowerAndRaiseCall c w best raised i values a =
+      let m = loweringChange c w best raised i (mark values) a in
+      keptCall c w best m (firstOf (keptTests c w m (ltb (length best) (scopeCount c) || ltb (length raised) (scopeCount c))
+      (loweringOut c i a)))

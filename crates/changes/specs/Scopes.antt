@@ -1,39 +1,56 @@
--- A scope's weights changed by whether they are the number kept for it, and what is asked and added in a scope where a variable is lowered and
--- scopes are raised. Assumes nothing.
+-- A scope's weights changed, each by its place in the scope and by whether it is the number kept for the scope; what is asked and added in a
+-- scope where values of a variable are lowered and scopes are raised. Assumes nothing.
 use mathlib.Core.Path.{_≡_}
 use mathlib.Core.Bool.{Bool, not, _||_}
-use mathlib.Core.List.{List}
-use Prim.Native.Nat.{ℕ, _<_}
-use lib.IntN.{ℤ, negℤ, _+ℤ_}
+use mathlib.Core.List.{List, map}
+use Prim.Native.Nat.{ℕ, _+_, _*_, _<_}
+use lib.IntN.{ℤ, pos, negℤ, _+ℤ_}
 use lib.Dec.{T, eqb}
 use lib.ListN.{length, getD}
 use mir.Syntax.{w64}
 use mir.Val.{SFits}
-use Rattle.integers.specs.Words.{if_then_else_, _⇒_, all, eqZ}
+use Rattle.integers.specs.Words.{if_then_else_, _⇒_, below, all, eqZ}
 use Rattle.definitions.specs.declared.Case.{Case}
 use Rattle.definitions.specs.Rules.{Rules}
-use Rattle.definitions.specs.Case.{scopeCount, scopes, lentLength, weight}
+use Rattle.definitions.specs.Case.{scopeCount, scopes, isVariable, lentLength, weight}
 use Rattle.definitions.specs.Valid.{workingWeight}
 use Rattle.definitions.specs.Moves.{Difference, onlyWhere}
-use Rattle.tables.specs.Scopes.{Limited, partOf, bestAt}
+use Rattle.tables.specs.Scopes.{Limited, scopePart, bestAt}
+use Rattle.marks.specs.Marks.{mark}
 use Rattle.changes.specs.Spaced.{weightAt, amountWithin}
 
--- `top` is added to a weight that is `best`, `rest` to any other
-abbrev pub changed : ℤ → ℤ → ℤ → ℤ → ℤ
-changed best top rest z = z +ℤ (if eqZ z best then top else rest)
+-- what the weight z at place p of a scope gets
+abbrev pub Amount : Type 0
+Amount = ℕ → ℤ → ℤ
 
--- weights that are working weights then
-abbrev pub partStays : Rules → ℤ → ℤ → ℤ → List ℤ → Bool
-partStays r best top rest part = all (λ z. workingWeight r (changed best top rest z)) part
+-- `rest`, unless it is `best`
+abbrev pub raisedBy : ℤ → ℤ → Amount
+raisedBy best rest p z = if eqZ z best then pos 0 else rest
 
--- weights that fit a machine word then
-abbrev pub ChangedFit : ℤ → ℤ → ℤ → List ℤ → Type 0
-ChangedFit best top rest part = (k : ℕ) → k < length part → SFits w64 (changed best top rest (weightAt part k))
+-- the same, less a at the marked places
+abbrev pub loweredBy : ℕ → ℤ → ℤ → ℤ → Amount
+loweredBy values a best rest p z = onlyWhere (mark values p) (negℤ a) +ℤ raisedBy best rest p z
 
--- amounts that may be added
-pub record Amounts (r : Rules) (top rest : ℤ) : Type 0 where
-  pub top-within : T (amountWithin r top)
-  pub rest-within : T (amountWithin r rest)
+-- amounts that may be added, and amounts that fit a machine word
+abbrev pub Amounts : Rules → Amount → Type 0
+Amounts r by = (p : ℕ) (z : ℤ) → T (amountWithin r (by p z))
+
+abbrev pub AmountsFit : Amount → Type 0
+AmountsFit by = (p : ℕ) (z : ℤ) → SFits w64 (by p z)
+
+-- the weight at a place, with what it gets
+abbrev pub weightAfter : Amount → List ℤ → ℕ → ℤ
+weightAfter by part p = weightAt part p +ℤ by p (weightAt part p)
+
+-- they are working weights, they fit a machine word; all of them
+abbrev pub partStays : Rules → Amount → List ℤ → Bool
+partStays r by part = all (λ p. workingWeight r (weightAfter by part p)) (below (length part))
+
+abbrev pub PartFits : Amount → List ℤ → Type 0
+PartFits by part = (p : ℕ) → p < length part → SFits w64 (weightAfter by part p)
+
+abbrev pub partAfter : Amount → List ℤ → List ℤ
+partAfter by part = map (weightAfter by part) (below (length part))
 
 -- scope x of a table of the case's length
 pub record InScope (c : Case) (w : List ℤ) (x : ℕ) : Type 0 where
@@ -41,14 +58,18 @@ pub record InScope (c : Case) (w : List ℤ) (x : ℕ) : Type 0 where
   pub long : length w ≡ lentLength c
   pub scope : x < scopeCount c
 
--- in scope x, `top` for the tuples whose weight is `best` and `rest` for the others
-abbrev pub scopeBy : Case → List ℤ → ℕ → ℤ → ℤ → ℤ → Difference
-scopeBy c w x best top rest y k l = onlyWhere (eqb y x) (if eqZ (weight c w x k l) best then top else rest)
+-- the place of a tuple in its scope
+abbrev pub placeIn : Case → ℕ → ℕ → ℕ → ℕ
+placeIn c x k l = if isVariable c x then k else k * c .d + l
 
--- ---- variable i lowered by a and raised scopes raised by a, in scope x whose byte is `mark`
+-- what the tuples of scope x get
+abbrev pub scopeBy : Case → List ℤ → ℕ → Amount → Difference
+scopeBy c w x by y k l = onlyWhere (eqb y x) (by (placeIn c x k l) (weight c w x k l))
 
-abbrev pub topOf : ℕ → ℤ → ℕ → ℤ
-topOf i a x = onlyWhere (eqb x i) (negℤ a)
+-- ---- values of variable i lowered by a and raised scopes raised by a, in scope x whose byte is `mark`
+
+abbrev pub valuesIn : ℕ → ℕ → ℕ → ℕ
+valuesIn i values x = if eqb x i then values else 0
 
 abbrev pub restOf : ℕ → ℤ → ℤ
 restOf mark a = onlyWhere (not (eqb mark 0)) a
@@ -56,8 +77,11 @@ restOf mark a = onlyWhere (not (eqb mark 0)) a
 abbrev pub isTouched : ℕ → ℕ → ℕ → Bool
 isTouched i x mark = eqb x i || not (eqb mark 0)
 
-abbrev pub scopeLets : Rules → Case → List ℤ → ℕ → ℤ → ℕ → ℕ → ℤ → Bool
-scopeLets r c w x best mark i a = isTouched i x mark ⇒ partStays r best (topOf i a x) (restOf mark a) (partOf c w x)
+abbrev pub scopeGets : ℕ → ℕ → ℤ → ℕ → ℕ → ℤ → Amount
+scopeGets i values a x mark best = loweredBy (valuesIn i values x) a best (restOf mark a)
 
-abbrev pub loweringLets : Rules → Case → List ℤ → List ℤ → List ℕ → ℕ → ℤ → Bool
-loweringLets r c w best raised i a = all (λ x. scopeLets r c w x (bestAt best x) (getD raised x 0) i a) (scopes c)
+abbrev pub scopeLets : Rules → Case → List ℤ → ℕ → ℕ → ℤ → ℕ → ℕ → ℤ → Bool
+scopeLets r c w i values a x mark best = isTouched i x mark ⇒ partStays r (scopeGets i values a x mark best) (scopePart c w x)
+
+abbrev pub loweringLets : Rules → Case → List ℤ → List ℤ → List ℕ → ℕ → ℕ → ℤ → Bool
+loweringLets r c w best raised i values a = all (λ x. scopeLets r c w i values a x (getD raised x 0) (bestAt best x)) (scopes c)

@@ -6,7 +6,6 @@ use definitions::Refusal;
 use definitions::Rulebook;
 ghost use mathlib.Core.Path.{_≡_};
 ghost use mathlib.Core.Bool.{not, _||_};
-ghost use mathlib.Core.List.{map};
 ghost use Prim.Native.Nat.{ℕ, _+_, _*_, _≤_, _<_};
 ghost use lib.Dec.{T, ltb, eqb};
 ghost use lib.ListN.{length, set};
@@ -18,12 +17,15 @@ ghost use Rattle.definitions.specs.Rules.{rulesIn, rulesOf, edgePlaces};
 ghost use Rattle.definitions.specs.declared.Refusal.the-variants.{LeavesRange};
 ghost use Rattle.definitions.specs.Valid.{workingWeight};
 ghost use Rattle.definitions.specs.Moves.{shiftAmount, pressAmount, plus, endVariable, shiftBy};
-ghost use Rattle.definitions.specs.Calls.{shiftOut};
+ghost use Rattle.calls.specs.Calls.{shiftOut};
 ghost use Rattle.definitions.specs.Case.{scopeCount, place, lentLength, greatest};
-ghost use Rattle.tables.specs.Scopes.{Limited, sizeOf, partOf, bestAt};
+ghost use Rattle.tables.specs.Scopes.{Limited, sizeOf, scopePart, bestAt};
+ghost use Rattle.marks.specs.Marks.{mark};
 ghost use Rattle.changes.specs.Spaced.{amountWithin, Inside, SumsFit, spacedStay, spacedAdd, transferStays, transferred};
-ghost use Rattle.changes.specs.Scopes.{changed, partStays, ChangedFit, Amounts, InScope, scopeBy, topOf, restOf, isTouched, scopeLets, loweringLets};
-ghost use Rattle.changes.specs.Kept.{transferChange, loweringChange, staysWorking, bestAfter, KeptIs, loweringOut, transferCall, lowerAndRaiseCall};
+ghost use Rattle.changes.specs.Scopes.{raisedBy, loweredBy, Amounts, AmountsFit, PartFits, partStays, partAfter};
+ghost use Rattle.changes.specs.Scopes.{InScope, scopeBy, valuesIn, restOf, isTouched, scopeGets, scopeLets, loweringLets};
+ghost use Rattle.changes.specs.Kept.{transferChange, loweringChange, staysWorking, KeptMade, KeptBy, Gives};
+ghost use Rattle.changes.specs.Kept.{valuesWith, loweringOut, bestValues, transferCall, lowerAndRaiseCall};
 
 fn is_within(z: i64, low: i64, high: i64) -> bool
     ensures { λ r. ⌜ r ≡ withinZ low high z ⌝ }
@@ -95,8 +97,10 @@ fn transfer_by(
     requires { ⌜ Inside (now table) start step count ⌝ }
     requires { ⌜ T (amountWithin (rulesIn rulebook) amount) × (0 < step) ⌝ }
     requires { ⌜ ((j : ℕ) → j < count → start + j * step ≡ own → ⊥) ⌝ }
-    ensures { λ r. ⌜ r ≡ (if transferStays (rulesIn rulebook) (now (table .entry)) own start step count amount then Outcome.Done else Outcome.Refused LeavesRange) ⌝ }
-    ensures { λ r. ⌜ now (table .exit) ≡ (if transferStays (rulesIn rulebook) (now (table .entry)) own start step count amount then transferred (now (table .entry)) own start step count amount else now (table .entry)) ⌝ }
+    ensures { λ r. ⌜ r ≡ (if transferStays (rulesIn rulebook) (now (table .entry)) own start step count amount
+        then Outcome.Done else Outcome.Refused LeavesRange) ⌝ }
+    ensures { λ r. ⌜ now (table .exit) ≡ (if transferStays (rulesIn rulebook) (now (table .entry)) own start step count amount
+        then transferred (now (table .entry)) own start step count amount else now (table .entry)) ⌝ }
 {
     let back = 0 - amount;
     if !spaced_stay(rulebook, table, own, 1, 1, amount) {
@@ -115,9 +119,9 @@ fn end_variable(case: Case, edge: usize, end: usize) -> usize
     ensures { λ r. ⌜ r ≡ endVariable case edge end ⌝ }
 {
     if end == 0 {
-        return wide(case.lower[edge]);
+        return integers::wide_size(case.lower[edge]);
     }
-    wide(case.upper[edge])
+    integers::wide_size(case.upper[edge])
 }
 
 // The value's d tuples are one row at end 0, and one column at end 1.
@@ -132,8 +136,10 @@ fn transfer_checked(
     requires { ⌜ Limited case × (length (now table) ≡ lentLength case) ⌝ }
     requires { ⌜ (edge < case .m) × (end < 2) × (value < case .d) × (endVariable case edge end < case .n) ⌝ }
     requires { ⌜ T (amountWithin (rulesOf case) amount) ⌝ }
-    ensures { λ r. ⌜ r ≡ (if staysWorking (rulesOf case) case (now (table .entry)) (transferChange case edge end value amount) then Outcome.Done else Outcome.Refused LeavesRange) ⌝ }
-    ensures { λ r. ⌜ now (table .exit) ≡ (if staysWorking (rulesOf case) case (now (table .entry)) (transferChange case edge end value amount) then plus case (shiftBy case edge end value amount) (now (table .entry)) else now (table .entry)) ⌝ }
+    ensures { λ r. ⌜ r ≡ (if staysWorking (rulesOf case) case (now (table .entry)) (transferChange case edge end value amount)
+        then Outcome.Done else Outcome.Refused LeavesRange) ⌝ }
+    ensures { λ r. ⌜ now (table .exit) ≡ (if staysWorking (rulesOf case) case (now (table .entry)) (transferChange case edge end value amount)
+        then plus case (shiftBy case edge end value amount) (now (table .entry)) else now (table .entry)) ⌝ }
 {
     let rulebook = case.rulebook;
     let d = case.d;
@@ -144,12 +150,6 @@ fn transfer_checked(
     } else {
         transfer_by(rulebook, table, own, first + value, d, d, amount)
     }
-}
-
-fn wide(variable: u8) -> usize
-    ensures { λ r. ⌜ r ≡ variable ⌝ }
-{
-    variable as usize
 }
 
 fn is_shift_amount(rulebook: Rulebook, amount: i64) -> bool
@@ -165,26 +165,72 @@ fn is_shift_amount(rulebook: Rulebook, amount: i64) -> bool
     amount != 0
 }
 
+// ---- values by their weight
+
+fn same_weight(a: i64, b: i64) -> bool
+    ensures { λ r. ⌜ r ≡ eqZ a b ⌝ }
+{
+    if a == b {
+        return true;
+    }
+    false
+}
+
+// The values below `count` whose weight is `weight`; that of value j stands at table[from + j].
+fn values_with(table: &[i64], from: usize, count: usize, weight: i64) -> u8
+    requires { ⌜ from + count ≤ length (now table) ⌝ }
+    ensures { λ r. ⌜ r ≡ valuesWith (now (table .entry)) from count weight ⌝ }
+{
+    let mut set: u8 = 0;
+    let mut j = count;
+    while j > 0 {
+        j -= 1;
+        set = marks::push(set, same_weight(table[from + j], weight));
+    }
+    set
+}
+
 // ---- a scope's weights
 
-// What a weight gets: `top` where it is `best`.
-fn added(weight: i64, best: i64, top: i64, rest: i64) -> i64
-    ensures { λ r. ⌜ r ≡ (if eqZ weight best then top else rest) ⌝ }
+// What a weight of a raised scope gets: `rest`, unless it is `best`.
+fn added(weight: i64, best: i64, rest: i64) -> i64
+    ensures { λ r. ⌜ r ≡ (if eqZ weight best then pos 0 else rest) ⌝ }
 {
     if weight == best {
-        return top;
+        return 0;
     }
     rest
 }
 
-fn part_stays(rulebook: Rulebook, part: &[i64], best: i64, top: i64, rest: i64) -> bool
-    requires { ⌜ Amounts (rulesIn rulebook) top rest ⌝ }
-    ensures { λ r. ⌜ r ≡ partStays (rulesIn rulebook) best top rest (now (part .entry)) ⌝ }
+fn is_lowered(values: u8, value: usize) -> bool
+    ensures { λ r. ⌜ r ≡ mark values value ⌝ }
+{
+    if value >= 8 {
+        return false;
+    }
+    marks::has(values, value as u8)
+}
+
+// The same, less the amount where the value is lowered.
+fn own_added(weight: i64, best: i64, rest: i64, values: u8, value: usize, amount: i64) -> i64
+    requires { ⌜ SFits w64 (loweredBy values amount best rest value weight) ⌝ }
+    ensures { λ r. ⌜ r ≡ loweredBy values amount best rest value weight ⌝ }
+{
+    let by = added(weight, best, rest);
+    if is_lowered(values, value) {
+        return by - amount;
+    }
+    by
+}
+
+fn raised_stays(rulebook: Rulebook, part: &[i64], best: i64, rest: i64) -> bool
+    requires { ⌜ Amounts (rulesIn rulebook) (raisedBy best rest) ⌝ }
+    ensures { λ r. ⌜ r ≡ partStays (rulesIn rulebook) (raisedBy best rest) (now (part .entry)) ⌝ }
 {
     let mut i: usize = 0;
     while i < part.len() {
         let weight = part[i];
-        if !stays_with(rulebook, weight, added(weight, best, top, rest)) {
+        if !stays_with(rulebook, weight, added(weight, best, rest)) {
             return false;
         }
         i += 1;
@@ -192,22 +238,95 @@ fn part_stays(rulebook: Rulebook, part: &[i64], best: i64, top: i64, rest: i64) 
     true
 }
 
-fn changed_weight(weight: i64, best: i64, top: i64, rest: i64) -> i64
-    requires { ⌜ SFits w64 (changed best top rest weight) ⌝ }
-    ensures { λ r. ⌜ r ≡ changed best top rest weight ⌝ }
+fn own_stays(
+    rulebook: Rulebook,
+    part: &[i64],
+    best: i64,
+    rest: i64,
+    values: u8,
+    amount: i64,
+) -> bool
+    requires { ⌜ Amounts (rulesIn rulebook) (loweredBy values amount best rest) ⌝ }
+    ensures { λ r. ⌜ r ≡ partStays (rulesIn rulebook) (loweredBy values amount best rest) (now (part .entry)) ⌝ }
 {
-    weight + added(weight, best, top, rest)
+    let mut i: usize = 0;
+    while i < part.len() {
+        let weight = part[i];
+        let by = own_added(weight, best, rest, values, i, amount);
+        if !stays_with(rulebook, weight, by) {
+            return false;
+        }
+        i += 1;
+    }
+    true
 }
 
-fn change_part(part: &mut [i64], best: i64, top: i64, rest: i64)
-    requires { ⌜ ChangedFit best top rest (now part) ⌝ }
-    ensures { λ _. ⌜ now (part .exit) ≡ map (changed best top rest) (now (part .entry)) ⌝ }
+fn part_stays(
+    rulebook: Rulebook,
+    part: &[i64],
+    best: i64,
+    rest: i64,
+    values: u8,
+    amount: i64,
+) -> bool
+    requires { ⌜ Amounts (rulesIn rulebook) (loweredBy values amount best rest) ⌝ }
+    ensures { λ r. ⌜ r ≡ partStays (rulesIn rulebook) (loweredBy values amount best rest) (now (part .entry)) ⌝ }
+{
+    if values == 0 {
+        return raised_stays(rulebook, part, best, rest);
+    }
+    own_stays(rulebook, part, best, rest, values, amount)
+}
+
+fn raised_weight(weight: i64, best: i64, rest: i64) -> i64
+    requires { ⌜ SFits w64 (weight +ℤ (if eqZ weight best then pos 0 else rest)) ⌝ }
+    ensures { λ r. ⌜ r ≡ weight +ℤ (if eqZ weight best then pos 0 else rest) ⌝ }
+{
+    weight + added(weight, best, rest)
+}
+
+fn raise_part(part: &mut [i64], best: i64, rest: i64)
+    requires { ⌜ PartFits (raisedBy best rest) (now part) ⌝ }
+    ensures { λ _. ⌜ now (part .exit) ≡ partAfter (raisedBy best rest) (now (part .entry)) ⌝ }
 {
     let mut at: usize = 0;
     while at < part.len() {
-        let weight = changed_weight(part[at], best, top, rest);
+        let weight = raised_weight(part[at], best, rest);
         part[at] = weight;
         at += 1;
+    }
+}
+
+fn own_weight(weight: i64, best: i64, rest: i64, values: u8, value: usize, amount: i64) -> i64
+    requires { ⌜ SFits w64 (loweredBy values amount best rest value weight) ⌝ }
+    requires { ⌜ SFits w64 (weight +ℤ loweredBy values amount best rest value weight) ⌝ }
+    ensures { λ r. ⌜ r ≡ weight +ℤ loweredBy values amount best rest value weight ⌝ }
+{
+    weight + own_added(weight, best, rest, values, value, amount)
+}
+
+fn lower_part(part: &mut [i64], best: i64, rest: i64, values: u8, amount: i64)
+    requires { ⌜ AmountsFit (loweredBy values amount best rest) ⌝ }
+    requires { ⌜ PartFits (loweredBy values amount best rest) (now part) ⌝ }
+    ensures { λ _. ⌜ now (part .exit) ≡ partAfter (loweredBy values amount best rest) (now (part .entry)) ⌝ }
+{
+    let mut at: usize = 0;
+    while at < part.len() {
+        let weight = own_weight(part[at], best, rest, values, at, amount);
+        part[at] = weight;
+        at += 1;
+    }
+}
+
+fn change_part(part: &mut [i64], best: i64, rest: i64, values: u8, amount: i64)
+    requires { ⌜ AmountsFit (loweredBy values amount best rest) ⌝ }
+    requires { ⌜ PartFits (loweredBy values amount best rest) (now part) ⌝ }
+    ensures { λ _. ⌜ now (part .exit) ≡ partAfter (loweredBy values amount best rest) (now (part .entry)) ⌝ }
+{
+    if values == 0 {
+        raise_part(part, best, rest);
+    } else {
+        lower_part(part, best, rest, values, amount);
     }
 }
 
@@ -232,26 +351,43 @@ fn size_of(case: Case, x: usize) -> usize
     case.d * case.d
 }
 
-// With `top` added to its weights that are `best` and `rest` to the others, the scope has working weights.
-fn scope_stays(case: Case, table: &[i64], x: usize, best: i64, top: i64, rest: i64) -> bool
+// The scope has working weights with what each gets.
+fn scope_stays(
+    case: Case,
+    table: &[i64],
+    x: usize,
+    best: i64,
+    rest: i64,
+    values: u8,
+    amount: i64,
+) -> bool
     requires { ⌜ InScope case (now table) x ⌝ }
-    requires { ⌜ Amounts (rulesOf case) top rest ⌝ }
-    ensures { λ r. ⌜ r ≡ partStays (rulesOf case) best top rest (partOf case (now (table .entry)) x) ⌝ }
+    requires { ⌜ Amounts (rulesOf case) (loweredBy values amount best rest) ⌝ }
+    ensures { λ r. ⌜ r ≡ partStays (rulesOf case) (loweredBy values amount best rest) (scopePart case (now (table .entry)) x) ⌝ }
 {
     let first = first_place(case, x);
     let end = first + size_of(case, x);
     let rulebook = case.rulebook;
-    part_stays(rulebook, &table[first..end], best, top, rest)
+    part_stays(rulebook, &table[first..end], best, rest, values, amount)
 }
 
-fn change_scope(case: Case, table: &mut [i64], x: usize, best: i64, top: i64, rest: i64)
+fn change_scope(
+    case: Case,
+    table: &mut [i64],
+    x: usize,
+    best: i64,
+    rest: i64,
+    values: u8,
+    amount: i64,
+)
     requires { ⌜ InScope case (now table) x ⌝ }
-    requires { ⌜ T (partStays (rulesOf case) best top rest (partOf case (now table) x)) ⌝ }
-    ensures { λ _. ⌜ now (table .exit) ≡ plus case (scopeBy case (now (table .entry)) x best top rest) (now (table .entry)) ⌝ }
+    requires { ⌜ Amounts (rulesOf case) (loweredBy values amount best rest) ⌝ }
+    requires { ⌜ T (partStays (rulesOf case) (loweredBy values amount best rest) (scopePart case (now table) x)) ⌝ }
+    ensures { λ _. ⌜ now (table .exit) ≡ plus case (scopeBy case (now (table .entry)) x (loweredBy values amount best rest)) (now (table .entry)) ⌝ }
 {
     let first = first_place(case, x);
     let end = first + size_of(case, x);
-    change_part(&mut table[first..end], best, top, rest);
+    change_part(&mut table[first..end], best, rest, values, amount);
 }
 
 // Writes the scope's greatest weight to its place in `best`.
@@ -266,14 +402,13 @@ fn keep_greatest(case: Case, table: &[i64], best: &mut [i64], x: usize)
     best[x] = weight;
 }
 
-// ---- a variable's weights lowered and those of raised scopes raised, scope by scope
+// ---- a variable's values lowered and the weights of raised scopes raised, scope by scope
 
-fn top_of(x: usize, variable: usize, amount: i64) -> i64
-    requires { ⌜ SFits w64 (pos 0 -ℤ amount) ⌝ }
-    ensures { λ r. ⌜ r ≡ topOf variable amount x ⌝ }
+fn values_in(x: usize, variable: usize, values: u8) -> u8
+    ensures { λ r. ⌜ r ≡ valuesIn variable values x ⌝ }
 {
     if x == variable {
-        return 0 - amount;
+        return values;
     }
     0
 }
@@ -303,17 +438,18 @@ fn scope_lets(
     best: i64,
     mark: u8,
     variable: usize,
+    values: u8,
     amount: i64,
 ) -> bool
     requires { ⌜ InScope case (now table) x ⌝ }
     requires { ⌜ T (pressAmount (rulesOf case) amount) ⌝ }
-    ensures { λ r. ⌜ r ≡ scopeLets (rulesOf case) case (now (table .entry)) x best mark variable amount ⌝ }
+    ensures { λ r. ⌜ r ≡ scopeLets (rulesOf case) case (now (table .entry)) variable values amount x mark best ⌝ }
 {
     if !is_touched(x, variable, mark) {
         return true;
     }
-    let top = top_of(x, variable, amount);
-    scope_stays(case, table, x, best, top, rest_of(mark, amount))
+    let lowered = values_in(x, variable, values);
+    scope_stays(case, table, x, best, rest_of(mark, amount), lowered, amount)
 }
 
 fn lowering_stays(
@@ -322,17 +458,18 @@ fn lowering_stays(
     best: &[i64],
     raised: &[u8],
     variable: usize,
+    values: u8,
     amount: i64,
 ) -> bool
     requires { ⌜ Limited case × (length (now table) ≡ lentLength case) ⌝ }
     requires { ⌜ (scopeCount case ≤ length (now best)) × (scopeCount case ≤ length (now raised)) ⌝ }
     requires { ⌜ T (pressAmount (rulesOf case) amount) ⌝ }
-    ensures { λ r. ⌜ r ≡ loweringLets (rulesOf case) case (now (table .entry)) (now (best .entry)) (now (raised .entry)) variable amount ⌝ }
+    ensures { λ r. ⌜ r ≡ loweringLets (rulesOf case) case (now (table .entry)) (now (best .entry)) (now (raised .entry)) variable values amount ⌝ }
 {
     let scopes = case.n + case.m;
     let mut x: usize = 0;
     while x < scopes {
-        if !scope_lets(case, table, x, best[x], raised[x], variable, amount) {
+        if !scope_lets(case, table, x, best[x], raised[x], variable, values, amount) {
             return false;
         }
         x += 1;
@@ -348,17 +485,20 @@ fn lower_scope(
     held: i64,
     mark: u8,
     variable: usize,
+    values: u8,
     amount: i64,
 )
     requires { ⌜ InScope case (now table) x × (x < length (now best)) ⌝ }
-    requires { ⌜ T (scopeLets (rulesOf case) case (now table) x held mark variable amount) ⌝ }
+    requires { ⌜ T (scopeLets (rulesOf case) case (now table) variable values amount x mark held) ⌝ }
     requires { ⌜ T (pressAmount (rulesOf case) amount) ⌝ }
-    ensures { λ _. ⌜ now (table .exit) ≡ plus case (scopeBy case (now (table .entry)) x held (topOf variable amount x) (restOf mark amount)) (now (table .entry)) ⌝ }
-    ensures { λ _. ⌜ now (best .exit) ≡ set (now (best .entry)) x (if isTouched variable x mark then greatest case (now (table .exit)) x else bestAt (now (best .entry)) x) ⌝ }
+    ensures { λ _. ⌜ now (table .exit)
+        ≡ plus case (scopeBy case (now (table .entry)) x (scopeGets variable values amount x mark held)) (now (table .entry)) ⌝ }
+    ensures { λ _. ⌜ now (best .exit) ≡ set (now (best .entry)) x
+        (if isTouched variable x mark then greatest case (now (table .exit)) x else bestAt (now (best .entry)) x) ⌝ }
 {
     if is_touched(x, variable, mark) {
-        let top = top_of(x, variable, amount);
-        change_scope(case, table, x, held, top, rest_of(mark, amount));
+        let lowered = values_in(x, variable, values);
+        change_scope(case, table, x, held, rest_of(mark, amount), lowered, amount);
         keep_greatest(case, table, best, x);
     }
 }
@@ -369,20 +509,32 @@ fn lower_scopes(
     best: &mut [i64],
     raised: &[u8],
     variable: usize,
+    values: u8,
     amount: i64,
 )
     requires { ⌜ Limited case × (length (now table) ≡ lentLength case) ⌝ }
     requires { ⌜ (scopeCount case ≤ length (now best)) × (scopeCount case ≤ length (now raised)) ⌝ }
     requires { ⌜ (variable < case .n) × T (pressAmount (rulesOf case) amount) ⌝ }
-    requires { ⌜ T (loweringLets (rulesOf case) case (now table) (now best) (now raised) variable amount) ⌝ }
-    ensures { λ _. ⌜ now (table .exit) ≡ plus case (loweringChange case (now (table .entry)) (now (best .entry)) (now (raised .entry)) variable amount .adds) (now (table .entry)) ⌝ }
-    ensures { λ _. ⌜ now (best .exit) ≡ bestAfter case (now (table .entry)) (now (best .entry)) (loweringChange case (now (table .entry)) (now (best .entry)) (now (raised .entry)) variable amount) ⌝ }
+    requires { ⌜ T (loweringLets (rulesOf case) case (now table) (now best) (now raised) variable values amount) ⌝ }
+    ensures { λ _. ⌜ KeptMade case (now (table .entry)) (now (best .entry))
+        (loweringChange case (now (table .entry)) (now (best .entry)) (now (raised .entry)) variable (mark values) amount)
+        (now (table .exit)) (now (best .exit)) ⌝ }
 {
     let scopes = case.n + case.m;
     let mut x: usize = 0;
     while x < scopes {
         let held = best[x];
-        lower_scope(case, table, best, x, held, raised[x], variable, amount);
+        lower_scope(
+            case,
+            table,
+            best,
+            x,
+            held,
+            raised[x],
+            variable,
+            values,
+            amount,
+        );
         x += 1;
     }
 }
@@ -412,7 +564,8 @@ fn transfer_kept(
     requires { ⌜ Limited case × (length (now table) ≡ lentLength case) × (scopeCount case ≤ length (now best)) ⌝ }
     requires { ⌜ (edge < case .m) × (end < 2) × (value < case .d) × (endVariable case edge end < case .n) ⌝ }
     requires { ⌜ T (amountWithin (rulesOf case) amount) ⌝ }
-    ensures { λ r. ⌜ KeptIs case (now (table .entry)) (now (best .entry)) (transferChange case edge end value amount) (staysWorking (rulesOf case) case (now (table .entry)) (transferChange case edge end value amount)) r (now (table .exit)) (now (best .exit)) ⌝ }
+    ensures { λ r. ⌜ KeptBy (rulesOf case) case (now (table .entry)) (now (best .entry)) (transferChange case edge end value amount)
+        r (now (table .exit)) (now (best .exit)) ⌝ }
 {
     let made = transfer_checked(case, table, edge, end, value, amount);
     match made {
@@ -431,17 +584,20 @@ fn lowering_kept(
     best: &mut [i64],
     raised: &[u8],
     variable: usize,
+    values: u8,
     amount: i64,
 ) -> Outcome
     requires { ⌜ Limited case × (length (now table) ≡ lentLength case) ⌝ }
     requires { ⌜ (scopeCount case ≤ length (now best)) × (scopeCount case ≤ length (now raised)) ⌝ }
     requires { ⌜ (variable < case .n) × T (pressAmount (rulesOf case) amount) ⌝ }
-    ensures { λ r. ⌜ KeptIs case (now (table .entry)) (now (best .entry)) (loweringChange case (now (table .entry)) (now (best .entry)) (now (raised .entry)) variable amount) (staysWorking (rulesOf case) case (now (table .entry)) (loweringChange case (now (table .entry)) (now (best .entry)) (now (raised .entry)) variable amount)) r (now (table .exit)) (now (best .exit)) ⌝ }
+    ensures { λ r. ⌜ KeptBy (rulesOf case) case (now (table .entry)) (now (best .entry))
+        (loweringChange case (now (table .entry)) (now (best .entry)) (now (raised .entry)) variable (mark values) amount)
+        r (now (table .exit)) (now (best .exit)) ⌝ }
 {
-    if !lowering_stays(case, table, best, raised, variable, amount) {
+    if !lowering_stays(case, table, best, raised, variable, values, amount) {
         return Outcome::Refused(Refusal::LeavesRange);
     }
-    lower_scopes(case, table, best, raised, variable, amount);
+    lower_scopes(case, table, best, raised, variable, values, amount);
     Outcome::Done
 }
 
@@ -475,6 +631,22 @@ pub fn lowering_out(case: Case, variable: usize, amount: i64) -> bool
     !is_within(amount, 1, rules::most_moving(rulebook))
 }
 
+// The values of `variable` whose weight is best[variable]; none where 3, 4 or 5 applies.
+pub fn best_values(case: Case, table: &[i64], best: &[i64], variable: usize) -> u8
+    ensures { λ r. ⌜ r ≡ bestValues (rulesOf case) case (now (table .entry)) (now (best .entry)) variable ⌝ }
+{
+    if !tables::within_limits(case) {
+        return 0;
+    }
+    if lengths_wrong(case, table.len(), best.len()) {
+        return 0;
+    }
+    if case.n <= variable {
+        return 0;
+    }
+    values_with(table, variable * case.d, case.d, best[variable])
+}
+
 // Adds `amount` to the weight of a value of the variable at that end of the edge and subtracts it from the edge's d tuples that use the value
 // there. best[x] becomes the greatest weight of each of the two scopes x. Asks 3, 4, 5 of the arguments and of that end, and 11 of the weights
 // touched.
@@ -487,7 +659,8 @@ pub fn transfer(
     value: usize,
     amount: i64,
 ) -> Outcome
-    ensures { λ r. ⌜ (r ≡ transferCall (rulesOf case) case (now (table .entry)) (now (best .entry)) edge end value amount .answer) × (now (table .exit) ≡ transferCall (rulesOf case) case (now (table .entry)) (now (best .entry)) edge end value amount .table) × (now (best .exit) ≡ transferCall (rulesOf case) case (now (table .entry)) (now (best .entry)) edge end value amount .best) ⌝ }
+    ensures { λ r. ⌜ Gives (transferCall (rulesOf case) case (now (table .entry)) (now (best .entry)) edge end value amount)
+        r (now (table .exit)) (now (best .exit)) ⌝ }
 {
     if !tables::within_limits(case) {
         return Outcome::Refused(Refusal::OutsideLimits);
@@ -504,18 +677,21 @@ pub fn transfer(
     transfer_kept(case, table, best, edge, end, value, amount)
 }
 
-// Subtracts `amount` from the weights of `variable` that are best[variable] and adds it, in each scope x whose byte in `raised` is not 0, to the
-// weights that are not best[x]. best[x] becomes the greatest weight of each scope x touched. Asks 3, 4, 5 of the arguments, and 11 of the scopes
-// touched; whether the values lowered are refuted is not asked.
+// Subtracts `amount` from the weights of those values of `variable` that are in the set `values`, and adds it, in each scope x whose byte in
+// `raised` is not 0, to the weights that are not best[x]. best[x] becomes the greatest weight of each scope x touched: the variable's own and the
+// raised ones. Asks 3, 4, 5 of the arguments, and 11 of the scopes touched; whether the values are refuted is not asked.
 pub fn lower_and_raise(
     case: Case,
     table: &mut [i64],
     best: &mut [i64],
     raised: &[u8],
     variable: usize,
+    values: u8,
     amount: i64,
 ) -> Outcome
-    ensures { λ r. ⌜ (r ≡ lowerAndRaiseCall (rulesOf case) case (now (table .entry)) (now (best .entry)) (now (raised .entry)) variable amount .answer) × (now (table .exit) ≡ lowerAndRaiseCall (rulesOf case) case (now (table .entry)) (now (best .entry)) (now (raised .entry)) variable amount .table) × (now (best .exit) ≡ lowerAndRaiseCall (rulesOf case) case (now (table .entry)) (now (best .entry)) (now (raised .entry)) variable amount .best) ⌝ }
+    ensures { λ r. ⌜ Gives
+        (lowerAndRaiseCall (rulesOf case) case (now (table .entry)) (now (best .entry)) (now (raised .entry)) variable values amount)
+        r (now (table .exit)) (now (best .exit)) ⌝ }
 {
     if !tables::within_limits(case) {
         return Outcome::Refused(Refusal::OutsideLimits);
@@ -529,5 +705,5 @@ pub fn lower_and_raise(
     if lowering_out(case, variable, amount) {
         return Outcome::Refused(Refusal::OutOfRange);
     }
-    lowering_kept(case, table, best, raised, variable, amount)
+    lowering_kept(case, table, best, raised, variable, values, amount)
 }

@@ -21,7 +21,7 @@ use Rattle.tables.proofs.Answered.{greatest-sum-known}
 use Rattle.checker.specs.declared.Standing.{Standing}
 use Rattle.checker.specs.declared.Replay.{Replay}
 use Rattle.checker.specs.declared.Progress.{Progress}
-use Rattle.checker.specs.Checker.{isHeld, freshOf, recordOut, freshReplay, endTests}
+use Rattle.checker.specs.Checker.{isHeld, freshOf, recordOut, freshReplay, endingTests}
 use Rattle.checker.specs.Taken.{goodReplay, freshFrom}
 
 -- ---- a fresh record
@@ -56,7 +56,8 @@ module _ (c : Case) (w : List ℤ) where
 
 -- ---- the end
 
-module _ (c : Case) (p : Replay) {out : Bool} {r : Outcome} (o : out ≡ recordOut (rulesOf c) c p) (e : r ≡ outcomeOf (firstOf (limitTest (rulesOf c) c ∷ edgeTests c out))) where
+module _ (c : Case) (p : Replay) {out : Bool} {r : Outcome} (o : out ≡ recordOut (rulesOf c) c p)
+    (e : r ≡ outcomeOf (firstOf (limitTest (rulesOf c) c ∷ edgeTests c out))) where
   abbrev front : List Test
   front = limitTest (rulesOf c) c ∷ edgeTests c (recordOut (rulesOf c) c p)
 
@@ -66,17 +67,17 @@ module _ (c : Case) (p : Replay) {out : Bool} {r : Outcome} (o : out ≡ recordO
   answered : r ≡ outcomeOf (firstOf front)
   answered = e ∙ ap (λ (b : Bool). outcomeOf (firstOf (limitTest (rulesOf c) c ∷ edgeTests c b))) o
 
-  pub end-refused : {x : Refusal} → r ≡ Outcome.Refused x → Outcome.Refused x ≡ outcomeOf (firstOf (endTests (rulesOf c) c p))
-  end-refused d = ap outcomeOf (sym (first-stops cut front (outcome-refused (sym d ∙ answered))))
+  pub end-stopped : {x : Refusal} → r ≡ Outcome.Refused x → Outcome.Refused x ≡ outcomeOf (firstOf (endingTests (rulesOf c) c p))
+  end-stopped d = ap outcomeOf (sym (first-stops cut front (outcome-refused (sym d ∙ answered))))
 
   module _ (d : r ≡ Outcome.Done) where
-    next : outcomeOf (firstOf cut) ≡ outcomeOf (firstOf (endTests (rulesOf c) c p))
+    next : outcomeOf (firstOf cut) ≡ outcomeOf (firstOf (endingTests (rulesOf c) c p))
     next = ap outcomeOf (sym (first-next cut front (outcome-done (sym d ∙ answered))))
 
-    pub end-cut : (isHeld (p .due) || p .moved) ≡ true → Outcome.Refused CutShort ≡ outcomeOf (firstOf (endTests (rulesOf c) c p))
+    pub end-cut : (isHeld (p .due) || p .moved) ≡ true → Outcome.Refused CutShort ≡ outcomeOf (firstOf (endingTests (rulesOf c) c p))
     end-cut b = ap (λ (k : Bool). outcomeOf (firstOf (CutShort when k ∷ []))) (sym b) ∙ next
 
-    pub end-done : (isHeld (p .due) || p .moved) ≡ false → Outcome.Done ≡ outcomeOf (firstOf (endTests (rulesOf c) c p))
+    pub end-done : (isHeld (p .due) || p .moved) ≡ false → Outcome.Done ≡ outcomeOf (firstOf (endingTests (rulesOf c) c p))
     end-done b = ap (λ (k : Bool). outcomeOf (firstOf (CutShort when k ∷ []))) (sym b) ∙ next
 
 -- ---- the parts of a record that stands good make it whole
@@ -84,7 +85,7 @@ module _ (c : Case) (p : Replay) {out : Bool} {r : Outcome} (o : out ≡ recordO
 abbrev pub partsOf : Replay → Progress
 partsOf p = record { rounds = p .rounds; start = p .start; moved = p .moved; due = p .due }
 
-pub whole : (p : Replay) {q : Progress} → p .standing ≡ Standing.Good → q ≡ partsOf p → goodReplay q (p .raised) ≡ p
-whole p g e =
+pub whole-again : (p : Replay) {q : Progress} → p .standing ≡ Standing.Good → q ≡ partsOf p → goodReplay q (p .raised) ≡ p
+whole-again p g e =
     ap (λ (q : Progress). goodReplay q (p .raised)) e
     ∙ ap (λ (s : Standing). record { rounds = p .rounds; start = p .start; moved = p .moved; raised = p .raised; due = p .due; standing = s }) (sym g)

@@ -24,20 +24,23 @@ use Rattle.definitions.specs.Case.{scopeCount}
 use Rattle.definitions.specs.Valid.{workingWeight, allWeights, handedOver}
 use Rattle.definitions.specs.Moves.{Difference, plus, shiftBy, pressBy, activeValues, leavesRange, pressAmount}
 use Rattle.definitions.specs.Lines.{readLine, notDue, isKind}
+use Rattle.calls.specs.Calls.{isRaised}
 use Rattle.theory.proofs.Places.{all-weights, plus-length}
 use Rattle.theory.proofs.Validity.{Handed}
 use Rattle.theory.proofs.Replays.{inside}
-use Rattle.theory.proofs.CaseTests.{passes}
+use Rattle.case_theory.proofs.CaseTests.{passes}
 use Rattle.checker.specs.declared.LastRaised.{LastRaised}
 use Rattle.checker.specs.declared.Due.{Due}
 use Rattle.checker.specs.declared.Standing.{Standing}
 use Rattle.checker.specs.declared.Replay.{Replay}
-use Rattle.checker.specs.Checker.{StepCall, Asked, isRaised, noneRaised, dueKinds, dueOut, recordOut, ofShift, ofPress, ofBound, ofRaise, ofKind, stepBy, stepTests, stepLine, stepStanding, stepReplay}
-use Rattle.checker.proofs.Numbers.{counted}
+use Rattle.checker.specs.Checker.{StepCall, Asked, noneRaised, dueKinds, dueOut, recordOut, ofShift, ofPress}
+use Rattle.checker.specs.Checker.{ofBound, ofRaise, ofDue, stepBy, stepTests, stepLine, stepStanding, stepReplay}
+use Rattle.checker.proofs.Numbers.{count-in-range}
 use Rattle.checker.proofs.Front.{neither, lent-known}
 
 -- a table that is changed and does not leave the range
-pub handed-plus : {r : Rules} {c : Case} {w : List ℤ} (δ : Difference) → Handed r (workingWeight r) c w → T (not (leavesRange r c (plus c δ w))) → Handed r (workingWeight r) c (plus c δ w)
+pub handed-plus : {r : Rules} {c : Case} {w : List ℤ} (δ : Difference) → Handed r (workingWeight r) c w → T (not (leavesRange r c (plus c δ w)))
+    → Handed r (workingWeight r) c (plus c δ w)
 handed-plus {r} {c} {w} δ k t =
     let e = plus-length c δ w (let e = k .long in omega arith) in
     record {
@@ -47,7 +50,8 @@ handed-plus {r} {c} {w} δ k t =
       long = e ∙ k .long;
       shape = k .shape;
       apart = k .apart;
-      in-range = all-weights c (workingWeight r) (plus c δ w) (let f = k .long in omega arith) .0 (not-not-iff (allWeights (workingWeight r) c (plus c δ w)) .0 t);
+      in-range = all-weights c (workingWeight r) (plus c δ w) (let f = k .long in omega arith) .0
+          (not-not-iff (allWeights (workingWeight r) c (plus c δ w)) .0 t);
     }
 
 never : {x : Refusal} → Outcome.Refused x ≡ Outcome.Done → ⊥
@@ -84,7 +88,8 @@ module _ {r : Rules} (c : Case) (w : List ℤ) (p : Replay) (h : Handed r (worki
 
   after-shift : (t : Line) → After (ofShift r c w p t)
   after-shift t o e = record {
-    handed-over = handed-plus (shiftBy c (natAbs (t .a)) (natAbs (t .b)) (natAbs (t .c)) (t .amount)) h (neither (leavesRange r c (ofShift r c w p t .table)) LeavesRange none e .0);
+    handed-over = handed-plus (shiftBy c (natAbs (t .a)) (natAbs (t .b)) (natAbs (t .c)) (t .amount)) h
+        (neither (leavesRange r c (ofShift r c w p t .table)) LeavesRange none e .0);
     record-in = not-or-iff (ltb (r .rounds) (p .rounds)) false .1 (few, tt);
     good = refl;
   }
@@ -92,17 +97,31 @@ module _ {r : Rules} (c : Case) (w : List ℤ) (p : Replay) (h : Handed r (worki
   after-press : (t : Line) → After (ofPress r c w p t)
   after-press t o e =
       let ((a, b), m) = simp not-or-iff at o in
-      let (from-0, least, most) = counted (scopeCount c - 1) (t .b) (not-not-iff (withinZ (pos 1) (pos (scopeCount c - 1)) (t .b)) .0 b) in
+      let (from-0, least, most) = count-in-range (scopeCount c - 1) (t .b) (not-not-iff (withinZ (pos 1) (pos (scopeCount c - 1)) (t .b)) .0 b) in
       record {
         handed-over = h;
-        record-in = simp (not-or-iff, not-not-iff) (few, ((((lt→ltb (natAbs (t .a)) (c .n) (inside (c .n) (t .a) a), not-not-iff (pressAmount r (t .amount)) .0 m), simp tests (least, most)), tt), none-past));
+        record-in = simp (not-or-iff, not-not-iff) (
+          few,
+          (
+            (
+              (
+                (lt→ltb (natAbs (t .a)) (c .n) (inside (c .n) (t .a) a), not-not-iff (pressAmount r (t .amount)) .0 m),
+                simp tests
+                    (least, most),
+              ),
+              tt,
+            ),
+            none-past,
+          ),
+        );
         good = refl;
       }
 
   after-bound : (t : Line) → After (ofBound r c w p t)
   after-bound t o e = record {
     handed-over = h;
-    record-in = not-or-iff (ltb (r .rounds) (p .rounds + 1)) false .1 (simp tests (omega (arith, ltb→lt (p .rounds) (r .rounds) (not-not-iff (ltb (p .rounds) (r .rounds)) .0 o))), tt);
+    record-in = not-or-iff (ltb (r .rounds) (p .rounds + 1)) false .1
+        (simp tests (omega (arith, ltb→lt (p .rounds) (r .rounds) (not-not-iff (ltb (p .rounds) (r .rounds)) .0 o))), tt);
     good = refl;
   }
 
@@ -118,7 +137,8 @@ module _ {r : Rules} (c : Case) (w : List ℤ) (p : Replay) (h : Handed r (worki
     after-raise : (t : Line) → After (ofRaise r c w p i a left lastOne t)
     after-raise t o e = ⊎-elim
         (λ l. rw (is-true (eqb left 1) l) (record {
-          handed-over = handed-plus (pressBy c w i (activeValues c w i) (isRaised (set (p .raised) (natAbs (t .a)) 1)) a) h (rw (is-true (eqb left 1) l) at ((simp and-iff at (passes (ofRaise r c w p i a left lastOne t .later) .0 e)) .1 .1 .0));
+          handed-over = handed-plus (pressBy c w i (activeValues c w i) (isRaised (set (p .raised) (natAbs (t .a)) 1)) a) h
+              (rw (is-true (eqb left 1) l) at ((simp and-iff at (passes (ofRaise r c w p i a left lastOne t .later) .0 e)) .1 .1 .0));
           record-in = not-or-iff (ltb (r .rounds) (p .rounds)) false .1 (few, tt);
           good = refl;
         }))
@@ -127,12 +147,22 @@ module _ {r : Rules} (c : Case) (w : List ℤ) (p : Replay) (h : Handed r (worki
         let below = inside (scopeCount c) (t .a) o in
         record {
           handed-over = h;
-          record-in = simp (not-or-iff, not-not-iff) (few, ((((lt→ltb i (c .n) x, m), simp tests (omega (arith, not-eqb-iff left 1 .0 l), omega arith)), lt→ltb (natAbs (t .a)) (scopeCount c) below), rw (drop-set-lt (scopeCount c) (p .raised) (natAbs (t .a)) 1 below) z));
+          record-in = simp (not-or-iff, not-not-iff) (
+            few,
+            (
+              (
+                ((lt→ltb i (c .n) x, m), simp tests (omega (arith, not-eqb-iff left 1 .0 l), omega arith)),
+                lt→ltb (natAbs (t .a))
+                    (scopeCount c) below,
+              ),
+              rw (drop-set-lt (scopeCount c) (p .raised) (natAbs (t .a)) 1 below) z,
+            ),
+          );
           good = refl;
         }))
         (either (eqb left 1))
 
-  after-kind : (due : Due) → p .due ≡ due → (t : Line) → After (ofKind r c w p due t)
+  after-kind : (due : Due) → p .due ≡ due → (t : Line) → After (ofDue r c w p due t)
   after-kind (Due.Raise i a left lastOne) d t = after-raise i a left lastOne d t
   after-kind Due.MoveOrBound d t = go (isKind 1 t) (isKind 2 t)
     where
@@ -148,13 +178,16 @@ module _ (r : Rules) (c : Case) (w : List ℤ) (p : Replay) where
   line-leaves (some t) e = go (firstOf (stepTests r c w p t asked)) refl e
     where
       asked : Asked
-      asked = ofKind r c w p (p .due) t
+      asked = ofDue r c w p (p .due) t
 
       go : (o : Option Refusal) → firstOf (stepTests r c w p t asked) ≡ o → stepBy w p asked o .stepped .answer ≡ Outcome.Done → Left r c (stepBy w p asked o)
       go (some x) d e = absurd (never e)
       go none d e =
-          let (f, l) = none-both (NotDue when (notDue r (dueKinds (p .due)) t) ∷ handedOver r (workingWeight r) c w false (recordOut r c p || asked .out)) (asked .later) d in
-          let (u, g) = neither (notDue r (dueKinds (p .due)) t) NotDue (firstOf (handedOver r (workingWeight r) c w false (recordOut r c p || asked .out))) f in
+          let (f, l) = none-both
+          (NotDue when (notDue r (dueKinds (p .due)) t) ∷ handedOver r (workingWeight r) c w false (recordOut r c p || asked .out))
+          (asked .later) d in
+          let (u, g) = neither (notDue r (dueKinds (p .due)) t) NotDue
+          (firstOf (handedOver r (workingWeight r) c w false (recordOut r c p || asked .out))) f in
           let (h, k, o) = lent-known r c w p (asked .out) g in
           after-kind c w p h k (p .due) refl t o l
 

@@ -6,5 +6,4 @@ pub mod Leaves
 pub mod Fold
 pub mod Taking
 pub mod Ends
-pub mod RaiseTexts
 pub mod Raising

@@ -47,4 +47,5 @@ module _ {r : Rules} (known : Coherent r) (l : Line) where
   none-due d e f = rw (known .known-kinds, d, e, f) (simp and-false)
 
   pub raise-due : (((isKind 3 l && eqZ (l .b) (pos 0)) && eqZ (l .c) (pos 0)) && eqZ (l .amount) (pos 0)) ≡ not (notDue r (3 ∷ []) l)
-  raise-due = rw (known .known-kinds) (simp (or-false, and-false, not-not, and-true) (regroup (isKind 3 l) (eqZ (l .b) (pos 0)) (eqZ (l .c) (pos 0)) (eqZ (l .amount) (pos 0))))
+  raise-due = rw (known .known-kinds)
+      (simp (or-false, and-false, not-not, and-true) (regroup (isKind 3 l) (eqZ (l .b) (pos 0)) (eqZ (l .c) (pos 0)) (eqZ (l .amount) (pos 0))))

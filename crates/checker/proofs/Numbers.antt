@@ -1,33 +1,21 @@
--- Signed numbers in the code: tests by their bits, numbers from 0 on, and the range of a column. Assumes nothing.
-use mathlib.Core.Path.{_≡_, refl, sym, ap, _∙_}
+-- Signed numbers in the code: numbers from 0 on, and the range of a column. Assumes nothing.
+use mathlib.Core.Path.{_≡_, refl}
 use mathlib.Core.Bool.{true, false, not}
 use mathlib.Core.Logic.{⊎-elim}
 use mathlib.Core.List.{List}
-use Prim.Native.Nat.{ℕ, _+_, _^_, _≤_, _<_}
+use Prim.Native.Nat.{ℕ, _+_, _≤_, _<_}
 use native.Mathlib.Numerals.{add-one}
 use native.Mathlib.Omega.{arith}
 use lib.IntN.{ℤ, pos, negsuc, natAbs}
-use lib.Dec.{T, eqb, leb, ltb, eqb→eq, leb→le, nleb→lt}
-use lib.Signed.{mag, ltZ}
+use lib.Dec.{T, eqb, leb, ltb, leb→le, nleb→lt}
+use lib.Signed.{ltZ}
 use lib.ListN.{length, getD, drop, drop-of-length-le}
 use lib.Seq.{drop-cons}
 use borrow.Author.Tests.{ne-eqb, le-leb, le-ltb, lt-ltb}
-use mir.Syntax.{w64}
-use mir.Val.{hbits, toZ, ofZ}
-use Rattle.integers.specs.Words.{eqZ, withinZ, all}
-use Rattle.integers.specs.Tests.{tests, either, is-true, is-false, same-test, eqb-iff}
-use Rattle.integers.specs.Linear.{zs, T-eq, read-back}
+use Rattle.integers.specs.Words.{withinZ, all}
+use Rattle.integers.specs.Tests.{tests, either, is-true, is-false}
+use Rattle.integers.specs.Linear.{zs}
 use Rattle.definitions.specs.Lines.{outside}
-
--- numbers are equal just where their bits are
-module _ (a b : ℤ) (p : mag a < 2 ^ hbits w64) (q : mag b < 2 ^ hbits w64) where
-  pub same-bits : ofZ w64 a ≡ ofZ w64 b → a ≡ b
-  same-bits e = sym (read-back w64 a p) ∙ ap (toZ w64) e ∙ read-back w64 b q
-
-  pub bits-test : eqb (ofZ w64 a) (ofZ w64 b) ≡ eqZ a b
-  bits-test = same-test (eqb (ofZ w64 a) (ofZ w64 b)) (eqZ a b)
-      (λ t. T-eq a b .1 (same-bits (eqb→eq (ofZ w64 a) (ofZ w64 b) t)))
-      (λ t. eqb-iff (ofZ w64 a) (ofZ w64 b) .1 (ap (ofZ w64) (T-eq a b .0 t)))
 
 -- a number below 0, and one from 0 on
 pub outside-below : (n : ℕ) (z : ℤ) → ltZ z (pos 0) ≡ true → true ≡ outside n z
@@ -45,9 +33,9 @@ pub outside-from : (n : ℕ) (z : ℤ) → ltZ z (pos 0) ≡ false → leb n (na
 outside-from n (pos k) h = rw (le-leb 0 k (omega arith)) (from-test n k)
 outside-from n (negsuc k) h = absurd (omega zs)
 
-pub from-zero : (n : ℕ) (z : ℤ) → T (not (outside n z)) → ltZ z (pos 0) ≡ false
-from-zero n (pos k) t = le-ltb k 0 (omega arith)
-from-zero n (negsuc k) t = absurd t
+pub inside-from-zero : (n : ℕ) (z : ℤ) → T (not (outside n z)) → ltZ z (pos 0) ≡ false
+inside-from-zero n (pos k) t = le-ltb k 0 (omega arith)
+inside-from-zero n (negsuc k) t = absurd t
 
 -- whether all bytes from x on are 0
 module _ (l : List ℕ) (x : ℕ) where
@@ -61,6 +49,6 @@ module _ (l : List ℕ) (x : ℕ) where
   zero-end h = rw (drop-of-length-le l h)
 
 -- a count in its range
-pub counted : (m : ℕ) (z : ℤ) → T (withinZ (pos 1) (pos m) z) → (ltZ z (pos 0) ≡ false) × (1 ≤ natAbs z) × (natAbs z ≤ m)
-counted m (pos n) t = let (p, q) = simp tests at t in (le-ltb n 0 (omega arith), p, q)
-counted m (negsuc n) t = absurd t
+pub count-in-range : (m : ℕ) (z : ℤ) → T (withinZ (pos 1) (pos m) z) → (ltZ z (pos 0) ≡ false) × (1 ≤ natAbs z) × (natAbs z ≤ m)
+count-in-range m (pos n) t = let (p, q) = simp tests at t in (le-ltb n 0 (omega arith), p, q)
+count-in-range m (negsuc n) t = absurd t

@@ -19,6 +19,7 @@ use Rattle.definitions.specs.Rules.{coherent, rulesOf}
 use Rattle.definitions.specs.Case.{scopeCount}
 use Rattle.definitions.specs.Valid.{workingWeight}
 use Rattle.definitions.specs.Lines.{readLine, lineLength, notDue, outside}
+use Rattle.definitions.specs.RoundLines.{raiseLine}
 use Rattle.theory.proofs.Validity.{Handed}
 use Rattle.checker.specs.declared.LastRaised.{LastRaised}
 use Rattle.checker.specs.declared.Due.{Due}
@@ -26,18 +27,18 @@ use Rattle.checker.specs.declared.Progress.{Progress}
 use Rattle.checker.specs.declared.Replay.{Replay}
 use Rattle.checker.specs.declared.Taken.{Taken}
 use Rattle.checker.specs.Checker.{notAboveLast, dueOut, recordOut, ofRaise, stepLine, stepReplay}
-use Rattle.checker.specs.Taken.{goodReplay, stepOf, lineBytes}
-use Rattle.checker.specs.Raising.{raiseLine, holding, lastOf, raising, Onward}
+use Rattle.checker.specs.Taken.{goodReplay, stepOf, bytesPerLine}
+use Rattle.checker.specs.Raising.{heldProgress, lastUnder, raisingProgress, Onward}
 use Rattle.checker.proofs.LineKinds.{raise-due}
 use Rattle.checker.proofs.Front.{good-next}
 use Rattle.checker.proofs.Fold.{turn-done}
 use Rattle.checker.proofs.Taking.{taken-done, raise-more, raise-table, raise-record}
 
-above-last : (next x : ℕ) → next ≤ x → notAboveLast (lastOf next) x ≡ false
+above-last : (next x : ℕ) → next ≤ x → notAboveLast (lastUnder next) x ≡ false
 above-last zero x h = refl
 above-last (suc y) x h = lt-leb x y (omega arith)
 
-pub scope-before : (n : ℕ) → n ≢ 0 → LastRaised.Scope (n - 1) ≡ lastOf n
+pub scope-before : (n : ℕ) → n ≢ 0 → LastRaised.Scope (n - 1) ≡ lastUnder n
 scope-before zero h = absurd (h refl)
 scope-before (suc n) h = ap LastRaised.Scope (omega arith)
 
@@ -48,30 +49,33 @@ raise-line-due : (c : Case) (x : ℕ) → notDue (rulesOf c) (3 ∷ []) (raiseLi
 raise-line-due c x = not-true _ (sym (raise-due (coherent (c .rulebook)) (raiseLine x)))
 
 -- one line
-module _ (b s i left next x : ℕ) (raised t : List ℕ) (long : b ≤ length t) (read : (width : ℕ) → lineLength width ≡ b → readLine width (take b t) ≡ some (raiseLine x)) (more : 1 < left) (below : x < s) (above : next ≤ x) (other : x ≢ i) (q : Progress) (a : ℤ) where
+module _ (b s i left next x : ℕ) (raised t : List ℕ) (long : b ≤ length t)
+    (read : (width : ℕ) → lineLength width ≡ b → readLine width (take b t) ≡ some (raiseLine x)) (more : 1 < left) (below : x < s) (above : next ≤ x)
+    (other : x ≢ i) (q : Progress) (a : ℤ) where
   abbrev after : Taken
-  after = record { progress = holding q i a (left - 1) (LastRaised.Scope x); answer = Outcome.Done }
+  after = record { progress = heldProgress q i a (left - 1) (LastRaised.Scope x); answer = Outcome.Done }
 
-  step : (c : Case) (w : List ℤ) → Handed (rulesOf c) (workingWeight (rulesOf c)) c w → lineBytes c ≡ b → scopeCount c ≡ s → T (not (recordOut (rulesOf c) c (goodReplay (raising q i a left next) raised)))
-      → stepOf after (set raised x 1) w ≡ stepReplay (rulesOf c) c w (goodReplay (raising q i a left next) raised) (take b t)
+  step : (c : Case) (w : List ℤ) → Handed (rulesOf c) (workingWeight (rulesOf c)) c w → bytesPerLine c ≡ b → scopeCount c ≡ s
+      → T (not (recordOut (rulesOf c) c (goodReplay (raisingProgress q i a left next) raised)))
+      → stepOf after (set raised x 1) w ≡ stepReplay (rulesOf c) c w (goodReplay (raisingProgress q i a left next) raised) (take b t)
   unfolding stepReplay
   step c w h l e r =
-      let o = raising q i a left next in
+      let o = raisingProgress q i a left next in
       let p = goodReplay o raised in
       let m : eqb left 1 ≡ false = ne-eqb left 1 (λ z. absurd (omega arith)) in
-      taken-done after w w (set raised x 1) p (ofRaise (rulesOf c) c w p i a left (lastOf next) (raiseLine x)) refl
-      (raise-table c w o raised i a left (lastOf next) (raiseLine x) m)
-      (raise-record c w o raised i a left (lastOf next) (raiseLine x) m refl refl)
-      (raise-more c w p i a left (lastOf next) (raiseLine x) (above-last next x above) (ne-eqb x i other) m)
+      taken-done after w w (set raised x 1) p (ofRaise (rulesOf c) c w p i a left (lastUnder next) (raiseLine x)) refl
+      (raise-table c w o raised i a left (lastUnder next) (raiseLine x) m)
+      (raise-record c w o raised i a left (lastUnder next) (raiseLine x) m refl refl)
+      (raise-more c w p i a left (lastUnder next) (raiseLine x) (above-last next x above) (ne-eqb x i other) m)
       ∙ sym (good-next c w p (raiseLine x) h r (raise-line-due c x) (in-scopes (scopeCount c) x (omega arith)))
       ∙ sym (ap (stepLine (rulesOf c) c w p) (read (rulesOf c .amountWidth) l))
 
-  raise-step : (n : ℕ) → Onward b s n (raising q i a left next) raised t (n + 1) (raising q i a (left - 1) (x + 1)) (set raised x 1) (drop b t)
+  raise-step : (n : ℕ) → Onward b s n (raisingProgress q i a left next) raised t (n + 1) (raisingProgress q i a (left - 1) (x + 1)) (set raised x 1) (drop b t)
   raise-step n = record {
     goes = λ c w h l e r.
-        let m : lineBytes c ≤ length t = rw l long in
+        let m : bytesPerLine c ≤ length t = rw l long in
         let f = rw (← l) at (step c w h l e r) in
-        let (d, k, o) = turn-done c w (goodReplay (raising q i a left next) raised) t m after (set raised x 1) w f n refl in
+        let (d, k, o) = turn-done c w (goodReplay (raisingProgress q i a left next) raised) t m after (set raised x 1) w f n refl in
         rw (add-one x, ← l) (d, o);
   }
 
@@ -80,15 +84,17 @@ module _ (b s i left next : ℕ) (raised bytes : List ℕ) (from : ℕ) where
   -- some lines, after which so many are left
   abbrev pub Raised : ℕ → ℕ → List ℕ → ℕ → Type 0
   Raised more above marked at =
-      (q : Progress) (a : ℤ) (n : ℕ) → Onward b s n (raising q i a left next) raised (drop from bytes) (n + (left - more)) (raising q i a more above) marked (drop at bytes)
+      (q : Progress) (a : ℤ) (n : ℕ)
+      → Onward b s n (raisingProgress q i a left next) raised (drop from bytes) (n + (left - more)) (raisingProgress q i a more above) marked
+      (drop at bytes)
 
-  pub none-raised : Raised left next raised from
-  none-raised q a n = record { goes = λ c w h l e r. let z : n + (left - left) ≡ n = omega arith in rw z (refl, r) }
+  pub no-raise-line : Raised left next raised from
+  no-raise-line q a n = record { goes = λ c w h l e r. let z : n + (left - left) ≡ n = omega arith in rw z (refl, r) }
 
-  pub one-raised : (more above at x : ℕ) (marked : List ℕ) → Raised more above marked at → b ≤ length (drop at bytes)
+  pub one-raise-line : (more above at x : ℕ) (marked : List ℕ) → Raised more above marked at → b ≤ length (drop at bytes)
       → ((width : ℕ) → lineLength width ≡ b → readLine width (take b (drop at bytes)) ≡ some (raiseLine x))
       → 1 < more → more ≤ left → x < s → above ≤ x → x ≢ i → Raised (more - 1) (x + 1) (set marked x 1) (at + b)
-  one-raised more above at x marked before long read h l below up other q a n = record {
+  one-raise-line more above at x marked before long read h l below up other q a n = record {
     goes = λ c w k m e r.
         let (d, o) = before q a n .goes c w k m e r in
         let (f, u) = raise-step b s i more above x marked (drop at bytes) long read h below up other q a (n + (left - more)) .goes c w k m e o in
@@ -104,19 +110,21 @@ module _ (c : Case) (p : Replay) (i : ℕ) (a : ℤ) (left : ℕ) (lastOne : Las
       let ((((v, m), l), o), z) = simp (not-or-iff, not-not-iff) at (rw d at u) in
       ltb→lt x (scopeCount c) (not-not-iff (ltb x (scopeCount c)) .0 (rw e at o))
 
-pub held-whole : (q : Progress) {i : ℕ} {a : ℤ} {left : ℕ} {lastOne : LastRaised} → q .due ≡ Due.Raise i a left lastOne → holding q i a left lastOne ≡ q
+pub held-whole : (q : Progress) {i : ℕ} {a : ℤ} {left : ℕ} {lastOne : LastRaised} → q .due ≡ Due.Raise i a left lastOne → heldProgress q i a left lastOne ≡ q
 held-whole q e = ap (λ (d : Due). record { rounds = q .rounds; start = q .start; moved = q .moved; due = d }) (sym e)
 
-held-as : (q : Progress) (i : ℕ) {a b : ℤ} (left : ℕ) {k l : LastRaised} → a ≡ b → k ≡ l → holding q i a left k ≡ holding q i b left l
+held-as : (q : Progress) (i : ℕ) {a b : ℤ} (left : ℕ) {k l : LastRaised} → a ≡ b → k ≡ l → heldProgress q i a left k ≡ heldProgress q i b left l
 held-as q i {a} {b} left {k} {l} d e =
-    ap (λ (z : ℤ). holding q i z left k) d ∙ ap (λ (x : LastRaised). holding q i b left x) e
+    ap (λ (z : ℤ). heldProgress q i z left k) d ∙ ap (λ (x : LastRaised). heldProgress q i b left x) e
 
-pub onward-as : {b s n m : ℕ} {p u q v : Progress} {raised marked t x : List ℕ} → p ≡ u → q ≡ v → Onward b s n p raised t m q marked x → Onward b s n u raised t m v marked x
+pub onward-as : {b s n m : ℕ} {p u q v : Progress} {raised marked t x : List ℕ} → p ≡ u → q ≡ v → Onward b s n p raised t m q marked x
+    → Onward b s n u raised t m v marked x
 onward-as {b} {s} {n} {m} {p} {u} {q} {v} {raised} {marked} {t} {x} d e h =
     subst (λ (y : Progress). Onward b s n y raised t m v marked x) d (subst (λ (y : Progress). Onward b s n p raised t m y marked x) e h)
 
 -- a press begun, its lines taken, with the record put together again
 pub held-on : {o s i left more : ℕ} (next above : ℕ) {n m : ℕ} (q : Progress) {a b : ℤ} {k l : LastRaised} {v : Progress} {raised marked t x : List ℕ}
-    → lastOf next ≡ k → l ≡ lastOf above → b ≡ a → v ≡ holding q i b more l
-    → Onward o s n (raising q i a left next) raised t m (raising q i a more above) marked x → Onward o s n (holding q i a left k) raised t m v marked x
+    → lastUnder next ≡ k → l ≡ lastUnder above → b ≡ a → v ≡ heldProgress q i b more l
+    → Onward o s n (raisingProgress q i a left next) raised t m (raisingProgress q i a more above) marked x
+    → Onward o s n (heldProgress q i a left k) raised t m v marked x
 held-on {i} {left} {more} next above q d e f g h = onward-as (held-as q i left refl d) (sym (g ∙ held-as q i more f e)) h

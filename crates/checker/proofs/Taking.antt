@@ -8,7 +8,7 @@ use lib.IntN.{ℤ, pos, natAbs}
 use lib.Dec.{T, eqb}
 use borrow.Author.Tests.{lt-ltb}
 use lib.Signed.{leZ, ltZ}
-use lib.ListN.{getD, set}
+use lib.ListN.{length, getD, set, replicate, length-set}
 use Rattle.integers.specs.Words.{if_then_else_, eqZ, withinZ}
 use Rattle.integers.specs.Tests.{is-true, is-false, not-or-iff, not-not-iff}
 use Rattle.integers.specs.Linear.{flat, zs}
@@ -19,12 +19,12 @@ use Rattle.definitions.specs.declared.Outcome.{Outcome}
 use Rattle.definitions.specs.declared.Refusal.{Refusal}
 use Rattle.definitions.specs.declared.Verdict.{Verdict}
 use Rattle.definitions.specs.declared.Refusal.the-variants.{NotInColumns, RaiseNotAscending, OtherBound, BoundNotLower}
-use Rattle.definitions.specs.Rules.{rulesOf}
+use Rattle.definitions.specs.Rules.{rulesOf, scopePlaces}
 use Rattle.definitions.specs.Refusals.{firstOf}
 use Rattle.definitions.specs.Answers.{outcomeOf, unlessRefused}
 use Rattle.definitions.specs.Case.{scopeCount, upperBound}
 use Rattle.definitions.specs.Lines.{readLine}
-use Rattle.definitions.specs.Calls.{shiftOut, readLineAnswer}
+use Rattle.calls.specs.Calls.{shiftOut, readLineAnswer}
 use Rattle.definitions.specs.Moves.{shiftAmount}
 use Rattle.theory.proofs.Replays.{inside}
 use Rattle.tables.proofs.Order.{outcome-done, outcome-refused}
@@ -34,8 +34,23 @@ use Rattle.checker.specs.declared.Standing.{Standing}
 use Rattle.checker.specs.declared.Replay.{Replay}
 use Rattle.checker.specs.declared.Progress.{Progress}
 use Rattle.checker.specs.declared.Taken.{Taken}
-use Rattle.checker.specs.Checker.{Asked, noneRaised, notAboveLast, inPress, ofShift, ofPress, ofBound, ofRaise, stepRefused, stepBy, stepLine, stepStanding, stepReplay}
-use Rattle.checker.proofs.Numbers.{from-zero, counted}
+use Rattle.checker.specs.Checker.{
+  Asked,
+  noneRaised,
+  notAboveLast,
+  inPress,
+  afterPress,
+  ofShift,
+  ofPress,
+  ofBound,
+  ofRaise,
+  stepRefused,
+  stepBy,
+  stepLine,
+  stepStanding,
+  stepReplay,
+}
+use Rattle.checker.proofs.Numbers.{inside-from-zero, count-in-range}
 use Rattle.checker.specs.Taken.{goodReplay, stepOf, stepNext, lastAsked, lastStep}
 
 abbrev refusedWith : Progress → Refusal → Taken
@@ -44,11 +59,11 @@ refusedWith p x = record { progress = p; answer = Outcome.Refused x }
 -- ---- a call that changes a table unless a refusal applies
 
 module _ (f : Option Refusal) (v w : List ℤ) {o : Outcome} {u : List ℤ} (d : o ≡ outcomeOf f) (e : u ≡ unlessRefused f v w) where
-  pub call-refused : {x : Refusal} → o ≡ Outcome.Refused x → (f ≡ some x) × (u ≡ w)
-  call-refused g = let h = outcome-refused (sym g ∙ d) in (h, rw h at e)
+  pub change-refused : {x : Refusal} → o ≡ Outcome.Refused x → (f ≡ some x) × (u ≡ w)
+  change-refused g = let h = outcome-refused (sym g ∙ d) in (h, rw h at e)
 
-  pub call-done : o ≡ Outcome.Done → (f ≡ none) × (u ≡ v)
-  call-done g = let h = outcome-done (sym g ∙ d) in (h, rw h at e)
+  pub change-done : o ≡ Outcome.Done → (f ≡ none) × (u ≡ v)
+  change-done g = let h = outcome-done (sym g ∙ d) in (h, rw h at e)
 
 -- ---- the step
 
@@ -57,10 +72,12 @@ module _ (t : Taken) (u w : List ℤ) where
   pub step-refused : {q : Progress} {x : Refusal} (raised : List ℕ) → t ≡ refusedWith q x → u ≡ w → stepOf t raised u ≡ stepRefused (goodReplay q raised) w x
   step-refused raised d e = rw (d, e)
 
-  pub taken-refused : {q : Progress} {x : Refusal} (raised : List ℕ) (a : Asked) → t ≡ refusedWith q x → u ≡ w → firstOf (a .later) ≡ some x → stepOf t raised u ≡ stepNext w (goodReplay q raised) a
+  pub taken-refused : {q : Progress} {x : Refusal} (raised : List ℕ) (a : Asked) → t ≡ refusedWith q x → u ≡ w → firstOf (a .later) ≡ some x
+      → stepOf t raised u ≡ stepNext w (goodReplay q raised) a
   taken-refused {q} raised a d e f = step-refused raised d e ∙ ap (stepBy w (goodReplay q raised) a) (sym f)
 
-  pub taken-done : {q : Progress} (raised : List ℕ) (p : Replay) (a : Asked) → t ≡ record { progress = q; answer = Outcome.Done } → u ≡ a .table → goodReplay q raised ≡ a .next → firstOf (a .later) ≡ none
+  pub taken-done : {q : Progress} (raised : List ℕ) (p : Replay) (a : Asked) → t ≡ record { progress = q; answer = Outcome.Done } → u ≡ a .table
+      → goodReplay q raised ≡ a .next → firstOf (a .later) ≡ none
       → stepOf t raised u ≡ stepNext w p a
   taken-done raised p a d e n f = rw (d, e, n, f)
 
@@ -80,33 +97,39 @@ module _ (c : Case) (w : List ℤ) (p : Replay) (t : Line) {b : ℤ} (k : b ≡ 
 
 module _ (c : Case) (w : List ℤ) (p : Replay) (t : Line) (o : T (not (ofShift (rulesOf c) c w p t .out))) where
   pub shift-counts : (ltZ (t .a) (pos 0) ≡ false) × (ltZ (t .b) (pos 0) ≡ false) × (ltZ (t .c) (pos 0) ≡ false)
-  shift-counts = let (((a, b), k), m) = simp not-or-iff at o in (from-zero (c .m) (t .a) a, from-zero 2 (t .b) b, from-zero (c .d) (t .c) k)
+  shift-counts = let (((a, b), k), m) = simp not-or-iff at o in
+      (inside-from-zero (c .m) (t .a) a, inside-from-zero 2 (t .b) b, inside-from-zero (c .d) (t .c) k)
 
   pub shift-inside : shiftOut (rulesOf c) c (natAbs (t .a)) (natAbs (t .b)) (natAbs (t .c)) (t .amount) ≡ false
   shift-inside =
       let (((a, b), k), m) = simp not-or-iff at o in
-      rw (lt-ltb (natAbs (t .a)) (c .m) (inside (c .m) (t .a) a), lt-ltb (natAbs (t .b)) 2 (inside 2 (t .b) b), lt-ltb (natAbs (t .c)) (c .d) (inside (c .d) (t .c) k))
+      rw (
+        lt-ltb (natAbs (t .a)) (c .m) (inside (c .m) (t .a) a),
+        lt-ltb (natAbs (t .b)) 2 (inside 2 (t .b) b),
+        lt-ltb (natAbs (t .c)) (c .d)
+            (inside (c .d) (t .c) k),
+      )
       (is-false (not (shiftAmount (rulesOf c) (t .amount))) m)
 
 -- ---- a verdict
 
 module _ (b : Bool) where
-  pub says-yes : Verdict.Yes ≡ (if b then Verdict.Yes else Verdict.No) → true ≡ b
-  says-yes e = told b e
+  pub verdict-yes : Verdict.Yes ≡ (if b then Verdict.Yes else Verdict.No) → true ≡ b
+  verdict-yes e = told b e
     where
       told : (b : Bool) → Verdict.Yes ≡ (if b then Verdict.Yes else Verdict.No) → true ≡ b
       told true e = refl
       told false e = cc
 
-  pub says-no : Verdict.No ≡ (if b then Verdict.Yes else Verdict.No) → false ≡ b
-  says-no e = told b e
+  pub verdict-no : Verdict.No ≡ (if b then Verdict.Yes else Verdict.No) → false ≡ b
+  verdict-no e = told b e
     where
       told : (b : Bool) → Verdict.No ≡ (if b then Verdict.Yes else Verdict.No) → false ≡ b
       told true e = cc
       told false e = refl
 
-  pub says-neither : {x : Refusal} → Verdict.Refused x ≡ (if b then Verdict.Yes else Verdict.No) → false ≡ b
-  says-neither {x} e = told b e
+  pub verdict-neither : {x : Refusal} → Verdict.Refused x ≡ (if b then Verdict.Yes else Verdict.No) → false ≡ b
+  verdict-neither {x} e = told b e
     where
       told : (b : Bool) → Verdict.Refused x ≡ (if b then Verdict.Yes else Verdict.No) → false ≡ b
       told true e = cc
@@ -114,13 +137,16 @@ module _ (b : Bool) where
 
 -- ---- the line that begins a press
 
-pub press-counts : (c : Case) (w : List ℤ) (p : Replay) (t : Line) → T (not (ofPress (rulesOf c) c w p t .out)) → (ltZ (t .a) (pos 0) ≡ false) × (ltZ (t .b) (pos 0) ≡ false)
+pub press-counts : (c : Case) (w : List ℤ) (p : Replay) (t : Line) → T (not (ofPress (rulesOf c) c w p t .out)) → (ltZ (t .a) (pos 0) ≡ false)
+    × (ltZ (t .b) (pos 0) ≡ false)
 press-counts c w p t o =
     let ((a, b), m) = simp not-or-iff at o in
-    (from-zero (c .n) (t .a) a, counted (scopeCount c - 1) (t .b) (not-not-iff (withinZ (pos 1) (pos (scopeCount c - 1)) (t .b)) .0 b) .0)
+    (inside-from-zero (c .n) (t .a) a, count-in-range (scopeCount c - 1) (t .b) (not-not-iff (withinZ (pos 1) (pos (scopeCount c - 1)) (t .b)) .0 b) .0)
 
-pub press-begun : (c : Case) (w : List ℤ) (q : Progress) (raised : List ℕ) (t : Line) {i n : ℕ} {a : ℤ} {none : List ℕ} → i ≡ natAbs (t .a) → a ≡ t .amount → n ≡ natAbs (t .b) → none ≡ noneRaised
-    → goodReplay (record { rounds = q .rounds; start = q .start; moved = q .moved; due = Due.Raise i a n LastRaised.Nothing }) none ≡ ofPress (rulesOf c) c w (goodReplay q raised) t .next
+pub press-begun : (c : Case) (w : List ℤ) (q : Progress) (raised : List ℕ) (t : Line) {i n : ℕ} {a : ℤ} {none : List ℕ} → i ≡ natAbs (t .a)
+    → a ≡ t .amount → n ≡ natAbs (t .b) → none ≡ noneRaised
+    → goodReplay (record { rounds = q .rounds; start = q .start; moved = q .moved; due = Due.Raise i a n LastRaised.Nothing }) none
+    ≡ ofPress (rulesOf c) c w (goodReplay q raised) t .next
 press-begun c w q raised t {n} {a} {none} d e f g =
     ap (λ (i : ℕ). inPress (goodReplay q raised) none (Due.Raise i a n LastRaised.Nothing)) d
     ∙ ap (λ (a : ℤ). inPress (goodReplay q raised) none (Due.Raise (natAbs (t .a)) a n LastRaised.Nothing)) e
@@ -167,6 +193,14 @@ module _ (c : Case) (w : List ℤ) (q : Progress) (raised : List ℕ) (i : ℕ) 
       ∙ ap (λ (b : ℤ). inPress (goodReplay q raised) (set raised (natAbs (t .a)) 1) (Due.Raise i b (left - 1) (LastRaised.Scope (natAbs (t .a))))) f
       ∙ rw e
 
+-- the record after a press: no scope is marked
+pub cleared : (raised : List ℕ) (x : ℕ) (l : List ℕ) → length raised ≡ scopePlaces → l ≡ replicate (length (set raised x 1)) 0 → l ≡ noneRaised
+cleared raised x l h e = e ∙ ap (λ (n : ℕ). replicate n 0) (length-set raised x 1 ∙ h)
+
+pub press-over : (q : Progress) (raised l : List ℕ) → l ≡ noneRaised
+    → goodReplay (record { rounds = q .rounds; start = q .start; moved = true; due = Due.MoveOrBound }) l ≡ afterPress (goodReplay q raised)
+press-over q raised l e = ap (goodReplay (record { rounds = q .rounds; start = q .start; moved = true; due = Due.MoveOrBound })) e
+
 -- a byte put back
 pub put-back : (l : List ℕ) (x v : ℕ) → set (set l x v) x (getD l x 0) ≡ l
 put-back [] x v = refl
@@ -184,9 +218,9 @@ missing none e = refl
 missing (some l) e = cc
 
 module _ (c : Case) (bytes : List ℕ) {r : LineRead} (e : r ≡ readLineAnswer (rulesOf c) bytes) where
-  pub line-read : {t : Line} → r ≡ LineRead.Read t → readLine (rulesOf c .amountWidth) bytes ≡ some t
+  pub line-found : {t : Line} → r ≡ LineRead.Read t → readLine (rulesOf c .amountWidth) bytes ≡ some t
   unfolding readLineAnswer
-  line-read d = found (readLine (rulesOf c .amountWidth) bytes) (sym e ∙ d)
+  line-found d = found (readLine (rulesOf c .amountWidth) bytes) (sym e ∙ d)
 
   pub line-missing : {x : Refusal} → r ≡ LineRead.Refused x → readLine (rulesOf c .amountWidth) bytes ≡ none
   unfolding readLineAnswer
@@ -199,4 +233,4 @@ module _ (c : Case) (bytes : List ℕ) {r : LineRead} (e : r ≡ readLineAnswer 
 
     pub step-line : {t : Line} → r ≡ LineRead.Read t → stepReplay (rulesOf c) c w p bytes ≡ stepLine (rulesOf c) c w p (some t)
     unfolding stepReplay
-    step-line d = ap (stepStanding (rulesOf c) c w p bytes) good ∙ ap (stepLine (rulesOf c) c w p) (line-read d)
+    step-line d = ap (stepStanding (rulesOf c) c w p bytes) good ∙ ap (stepLine (rulesOf c) c w p) (line-found d)

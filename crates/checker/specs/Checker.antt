@@ -7,7 +7,7 @@ use Prim.Native.Nat.{ℕ, _+_, _-_}
 use lib.IntN.{ℤ, pos, natAbs}
 use lib.Dec.{leb, ltb, eqb}
 use lib.Signed.{ltZ}
-use lib.ListN.{getD, drop, set, replicate}
+use lib.ListN.{drop, set, replicate}
 use Rattle.integers.specs.Words.{if_then_else_, all, within, withinZ, eqZ}
 use Rattle.definitions.specs.declared.Case.{Case}
 use Rattle.definitions.specs.declared.Line.{Line}
@@ -37,6 +37,7 @@ use Rattle.definitions.specs.Valid.{startingWeight, workingWeight, limitTest, e
 use Rattle.definitions.specs.Consistency.{allRefuted}
 use Rattle.definitions.specs.Moves.{plus, shiftBy, pressBy, shiftAmount, pressAmount, activeValues, leavesRange}
 use Rattle.definitions.specs.Lines.{readLine, notDue, isKind, outside, wholeLines, linesIn}
+use Rattle.calls.specs.Calls.{isRaised}
 
 -- what stands between lines: the case, the lent table, the record
 pub record Between : Type 0 where
@@ -73,10 +74,6 @@ pub record Asked : Type 0 where
 
 abbrev pub noneRaised : List ℕ
 noneRaised = replicate scopePlaces 0
-
--- a byte that is not 0 marks a raised scope
-abbrev pub isRaised : List ℕ → ℕ → Bool
-isRaised raised x = not (eqb (getD raised x 0) 0)
 
 abbrev pub lastOut : Case → LastRaised → Bool
 lastOut c LastRaised.Nothing = false
@@ -155,8 +152,8 @@ afterPress p = record {
   standing = Standing.Good;
 }
 
-abbrev pub afterBound : Replay → ℤ → Replay
-afterBound p bound = record {
+abbrev pub afterBoundLine : Replay → ℤ → Replay
+afterBoundLine p bound = record {
   rounds = p .rounds + 1;
   start = bound;
   moved = false;
@@ -236,7 +233,7 @@ module _ (r : Rules) where
         ∷ BoundNotLower when (not (ltZ (upperBound c w) (p .start)))
         ∷ [];
     table = w;
-    next = afterBound p (t .amount);
+    next = afterBoundLine p (t .amount);
   }
 
   -- a raise line of a press of variable i by a, with `left` lines left
@@ -257,9 +254,9 @@ module _ (r : Rules) where
         next = if isLast then afterPress p else inPress p raised (Due.Raise i a (left - 1) (LastRaised.Scope x));
       }
 
-  abbrev pub ofKind : Case → List ℤ → Replay → Due → Line → Asked
-  ofKind c w p (Due.Raise i a left lastOne) t = ofRaise c w p i a left lastOne t
-  ofKind c w p Due.MoveOrBound t =
+  abbrev pub ofDue : Case → List ℤ → Replay → Due → Line → Asked
+  ofDue c w p (Due.Raise i a left lastOne) t = ofRaise c w p i a left lastOne t
+  ofDue c w p Due.MoveOrBound t =
       if isKind 1 t then ofShift c w p t
       else if isKind 2 t then ofPress c w p t
       else ofBound c w p t
@@ -275,7 +272,7 @@ module _ (r : Rules) where
   abbrev pub stepLine : Case → List ℤ → Replay → Option Line → StepCall
   stepLine c w p none = stepRefused p w NotInColumns
   stepLine c w p (some t) =
-      let asked = ofKind c w p (p .due) t in
+      let asked = ofDue c w p (p .due) t in
       stepBy w p asked (firstOf (stepTests c w p t asked))
 
   abbrev pub stepStanding : Case → List ℤ → Replay → List ℕ → Standing → StepCall
@@ -287,12 +284,12 @@ module _ (r : Rules) where
 
   -- ---- end: the number that stands, else 3, 5, 6, 7, else 14 if a press is held or a move has no bound line after it
 
-  abbrev pub endTests : Case → Replay → List Test
-  endTests c p = limitTest r c ∷ edgeTests c (recordOut c p) ++ (CutShort when (isHeld (p .due) || p .moved) ∷ [])
+  abbrev pub endingTests : Case → Replay → List Test
+  endingTests c p = limitTest r c ∷ edgeTests c (recordOut c p) ++ (CutShort when (isHeld (p .due) || p .moved) ∷ [])
 
   abbrev pub endStanding : Case → Replay → Standing → Outcome
   endStanding c p (Standing.Refused x) = Outcome.Refused x
-  endStanding c p Standing.Good = outcomeOf (firstOf (endTests c p))
+  endStanding c p Standing.Good = outcomeOf (firstOf (endingTests c p))
 
   unfoldable pub endReplay : Case → Replay → Outcome
   endReplay c p = endStanding c p (p .standing)

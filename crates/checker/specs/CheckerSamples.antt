@@ -1,6 +1,6 @@
 -- The replay's calls on the sample cases, on records that are handed over, and on blocks, by computation. Assumes nothing.
 use mathlib.Core.Path.{_≡_, refl}
-use mathlib.Core.Bool.{Bool, true, false}
+use mathlib.Core.Bool.{true, false}
 use mathlib.Core.List.{List, [], _∷_, _++_, map}
 use Prim.Native.Nat.{ℕ, _+_, _-_}
 use Prim.Native.String.{String}
@@ -15,35 +15,12 @@ use Rattle.definitions.specs.Rules.{rulesIn}
 use Rattle.definitions.specs.Answers.{outcomeSays}
 use Rattle.definitions.specs.Case.{upperBound}
 use Rattle.definitions.specs.Programs.{bytesOf}
-use Rattle.definitions.specs.Samples.{
-  Input,
-  given,
-  Question,
-  bound-of,
-  run-of,
-  replay-of,
-  all-active,
-  press-on,
-  replay-on,
-  Result,
-  replayed,
-  Sample,
-  samples,
-  ourSamples,
-  answer,
-  triangle,
-  clash,
-  texts,
-  log1,
-  log6,
-  zeros,
-}
+use Rattle.definitions.specs.Samples.{Input, given, Question, bound-of, run-of, replay-of, all-active, press-on, replay-on, Result}
+use Rattle.definitions.specs.Samples.{replayed, samples, ourSamples, answer, triangle, clash, texts, log1, log6, zeros}
 use Rattle.checker.specs.declared.LastRaised.{LastRaised}
 use Rattle.checker.specs.declared.Due.{Due}
 use Rattle.checker.specs.declared.Standing.{Standing}
 use Rattle.checker.specs.declared.Replay.{Replay}
-use Rattle.checker.specs.declared.Stepped.{Stepped}
-use Rattle.checker.specs.declared.Block.{Block}
 use Rattle.checker.specs.Checker.{
   Between,
   StepCall,
@@ -220,7 +197,8 @@ blockSays q = (q .block .lines, outcomeSays (q .block .answer) .number)
 
 pub blocks :
     blockSays (blockReplay (rulesIn Desk) (triangle .case) (triangle .weights) (start triangle .replay) (joined (texts log1) ++ (32 ∷ [])))
-    ∷ blockSays (blockReplay (rulesIn Desk) (clash .case) (clash .weights) (start clash .replay) (joined (texts (shiftLine ∷ " 4   0   0   0           4\n" ∷ "x" ∷ []))))
+    ∷ blockSays (blockReplay (rulesIn Desk) (clash .case) (clash .weights) (start clash .replay)
+    (joined (texts (shiftLine ∷ " 4   0   0   0           4\n" ∷ "x" ∷ []))))
     ∷ blockSays (blockReplay (rulesIn Desk) (clash .case) (clash .weights) tooHigh (joined (texts log6)))
     ∷ []
     ≡ (5, 0) ∷ (1, 13) ∷ (0, 8) ∷ []

@@ -16,11 +16,12 @@ use Rattle.definitions.specs.Valid.{workingWeight, handedOver}
 use Rattle.definitions.specs.Consistency.{allRefuted}
 use Rattle.definitions.specs.Moves.{plus, pressBy, activeValues, leavesRange}
 use Rattle.definitions.specs.Lines.{notDue, lineLength}
+use Rattle.calls.specs.Calls.{isRaised}
 use Rattle.checker.specs.declared.Standing.{Standing}
 use Rattle.checker.specs.declared.Replay.{Replay}
 use Rattle.checker.specs.declared.Progress.{Progress}
 use Rattle.checker.specs.declared.Taken.{Taken}
-use Rattle.checker.specs.Checker.{StepCall, BlockCall, Asked, freshOf, isRaised, dueKinds, afterPress, recordOut, ofKind, stepBy}
+use Rattle.checker.specs.Checker.{StepCall, BlockCall, Asked, freshOf, dueKinds, afterPress, recordOut, ofDue, stepBy}
 
 -- a record stands as the last line was answered
 abbrev pub standingAfter : Outcome → Standing
@@ -61,7 +62,7 @@ stepNext w p asked = stepBy w p asked (firstOf (asked .later))
 abbrev pub frontTests : Case → List ℤ → Replay → Line → List Test
 frontTests c w p t =
     NotDue when (notDue (rulesOf c) (dueKinds (p .due)) t)
-    ∷ handedOver (rulesOf c) (workingWeight (rulesOf c)) c w false (recordOut (rulesOf c) c p || ofKind (rulesOf c) c w p (p .due) t .out)
+    ∷ handedOver (rulesOf c) (workingWeight (rulesOf c)) c w false (recordOut (rulesOf c) c p || ofDue (rulesOf c) c w p (p .due) t .out)
 
 -- ---- a press's last raise line: the table after the press, numbers 10 and 11, and the step
 
@@ -86,8 +87,8 @@ lastStep c w p i a x = stepNext w p (lastAsked c w p i a x)
 -- ---- lines
 
 -- a line has so many bytes under the case's rules
-abbrev pub lineBytes : Case → ℕ
-lineBytes c = lineLength (rulesOf c .amountWidth)
+abbrev pub bytesPerLine : Case → ℕ
+bytesPerLine c = lineLength (rulesOf c .amountWidth)
 
 -- a block with so many lines more
 abbrev pub moreBy : ℕ → BlockCall → BlockCall

@@ -10,8 +10,8 @@ use Rattle.checker_library.specs.declared.CeilingRounds.{CeilingRounds}
 use Rattle.checker_library.specs.declared.CeilingSpan.{CeilingSpan}
 use Rattle.checker_library.specs.declared.CeilingChoice.{CeilingChoice}
 
-abbrev pub sizeOf : Says → CeilingSize
-sizeOf s = record { number = s .number; n = countAt s 0; d = countAt s 1; m = countAt s 2; table = countAt s 3 }
+abbrev pub ceilingSizeOf : Says → CeilingSize
+ceilingSizeOf s = record { number = s .number; n = countAt s 0; d = countAt s 1; m = countAt s 2; table = countAt s 3 }
 
 -- the lines used, or the refusal's line
 abbrev pub linesOf : Says → CeilingLines

@@ -19,8 +19,8 @@ use Rattle.definitions.specs.CaseFiles.{readCaseAlone}
 use Rattle.checker.specs.declared.Replay.{Replay}
 use Rattle.checker.specs.declared.Block.{Block}
 use Rattle.checker.specs.Checker.{freshReplay, blockReplay, endReplay}
-use Rattle.encoding.specs.CaseBytes.{caseBytes, caseOf}
-use Rattle.encoding.specs.RecordBytes.{recordBytes, isRecord, recordOf}
+use Rattle.encoding.specs.CaseBytes.{bytesOfCase, caseIn}
+use Rattle.encoding.specs.RecordBytes.{recordBytes, isRecord, recordIn}
 use Rattle.checker_library.specs.declared.CeilingLines.{CeilingLines}
 use Rattle.checker_library.specs.declared.CeilingRounds.{CeilingRounds}
 use Rattle.checker_library.specs.Answers.{linesOf, roundsOf}
@@ -29,7 +29,7 @@ use Rattle.checker_library.specs.Answers.{linesOf, roundsOf}
 
 -- the lent bytes of a case after it was read: a refusal leaves them
 abbrev pub caseAfter : FileAnswer → CaseRead → List ℕ → List ℕ
-caseAfter (FileAnswer.Read lines) read bytes = caseBytes (read .case)
+caseAfter (FileAnswer.Read lines) read bytes = bytesOfCase (read .case)
 caseAfter (FileAnswer.Refused x at) read bytes = bytes
 
 -- what is answered, and the lent bytes of a case and the lent table after it
@@ -51,7 +51,7 @@ readCall text bytes w =
 
 -- a fresh record is always written: refused, it stands so
 unfoldable pub startRecord : List ℕ → List ℤ → Replay
-startRecord case w = freshReplay (rulesOf (caseOf case)) (caseOf case) w
+startRecord case w = freshReplay (rulesOf (caseIn case)) (caseIn case) w
 
 -- what a block answers, and the record's bytes and the table after it
 pub record ReplayCall : Type 0 where
@@ -72,14 +72,14 @@ blockAnswer b = record { number = outcomeSays (b .answer) .number; lines = b .li
 
 unfoldable pub replayCall : List ℕ → List ℤ → List ℕ → List ℕ → ReplayCall
 replayCall case w bytes lines =
-    let call = blockReplay (rulesOf (caseOf case)) (caseOf case) w (recordOf bytes) lines in
+    let call = blockReplay (rulesOf (caseIn case)) (caseIn case) w (recordIn bytes) lines in
     if isRecord bytes
     then record {
       answer = blockAnswer (call .block);
       state = recordBytes (call .block .replay);
       table = call .table;
     }
-    else record { answer = record { number = notRecord (caseOf case) w; lines = 0 }; state = bytes; table = w }
+    else record { answer = record { number = notRecord (caseIn case) w; lines = 0 }; state = bytes; table = w }
 
 -- with so many bytes of a part line left: 14, where no other number applies
 abbrev pub endWith : ℕ → Outcome → Outcome
@@ -88,5 +88,5 @@ endWith part (Outcome.Refused x) = Outcome.Refused x
 
 unfoldable pub endCall : List ℕ → List ℕ → ℕ → CeilingRounds
 endCall case bytes part =
-    if isRecord bytes then roundsOf (recordOf bytes .rounds) (outcomeSays (endWith part (endReplay (rulesOf (caseOf case)) (caseOf case) (recordOf bytes))))
-    else record { number = notRecordAtEnd (caseOf case); rounds = 0 }
+    if isRecord bytes then roundsOf (recordIn bytes .rounds) (outcomeSays (endWith part (endReplay (rulesOf (caseIn case)) (caseIn case) (recordIn bytes))))
+    else record { number = notRecordAtEnd (caseIn case); rounds = 0 }

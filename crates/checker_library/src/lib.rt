@@ -19,14 +19,14 @@ ghost use Rattle.definitions.specs.Rules.{rulesIn, rulesOf};
 ghost use Rattle.definitions.specs.Refusals.{number};
 ghost use Rattle.definitions.specs.Answers.{outcomeSays, figureSays, sizeSays, fileSays, spanSays, choiceSays};
 ghost use Rattle.definitions.specs.CaseFiles.{caseSize};
-ghost use Rattle.definitions.specs.Calls.{upperBoundAnswer, objectiveAnswer};
+ghost use Rattle.calls.specs.Calls.{upperBoundAnswer, objectiveAnswer};
 ghost use Rattle.definitions.specs.Views.{roundSpan};
 ghost use Rattle.definitions.specs.Scoring.{betterOf};
 ghost use Rattle.checker.specs.Checker.{standingSays, blockReplay};
-ghost use Rattle.encoding.specs.CaseBytes.{caseOf};
+ghost use Rattle.encoding.specs.CaseBytes.{caseIn};
 ghost use Rattle.encoding.specs.RecordBytes.{recordBytes};
 ghost use Rattle.encoding.specs.Version.{versionNumber};
-ghost use Rattle.checker_library.specs.Answers.{sizeOf, linesOf, totalOf, roundsOf, spanOf, choiceOf};
+ghost use Rattle.checker_library.specs.Answers.{ceilingSizeOf, linesOf, totalOf, roundsOf, spanOf, choiceOf};
 ghost use Rattle.checker_library.specs.Calls.{caseAfter, readCall, startRecord, blockAnswer, replayCall, notRecord, notRecordAtEnd, endWith, endCall};
 
 // What the head of a case file says, with the length of the table to lend.
@@ -76,20 +76,14 @@ pub struct CeilingChoice {
 
 // ---- answers as numbers
 
-fn wide(x: u8) -> u64
-    ensures { λ r. ⌜ r ≡ x ⌝ }
-{
-    x as u64
-}
-
 fn number_of(refusal: Refusal) -> u64
     ensures { λ r. ⌜ r ≡ number refusal ⌝ }
 {
-    wide(texts::number_of(refusal))
+    integers::wide(texts::number_of(refusal))
 }
 
 fn size_of(size: CaseSize) -> CeilingSize
-    ensures { λ r. ⌜ r ≡ sizeOf (sizeSays size) ⌝ }
+    ensures { λ r. ⌜ r ≡ ceilingSizeOf (sizeSays size) ⌝ }
 {
     match size {
         CaseSize::Size { n, d, m, table } => CeilingSize {
@@ -209,7 +203,7 @@ fn keep_case(read: CaseRead, case: &mut CaseArray)
 {
     let answer = read.answer;
     match answer {
-        FileAnswer::Read { lines: _ } => encoding::write_case(read.case, case),
+        FileAnswer::Read { lines: _ } => encoding::write_case_bytes(read.case, case),
         FileAnswer::Refused {
             refusal: _,
             line: _,
@@ -226,7 +220,9 @@ fn replay_block(
     replay: Replay,
     lines: &[u8],
 ) -> CeilingLines
-    ensures { λ r. ⌜ (r ≡ blockAnswer (blockReplay (rulesOf case) case (now (table .entry)) replay (now (lines .entry)) .block)) × (now (state .exit) ≡ recordBytes (blockReplay (rulesOf case) case (now (table .entry)) replay (now (lines .entry)) .block .replay)) × (now (table .exit) ≡ blockReplay (rulesOf case) case (now (table .entry)) replay (now (lines .entry)) .table) ⌝ }
+    ensures { λ r. ⌜ (r ≡ blockAnswer (blockReplay (rulesOf case) case (now (table .entry)) replay (now (lines .entry)) .block))
+        × (now (state .exit) ≡ recordBytes (blockReplay (rulesOf case) case (now (table .entry)) replay (now (lines .entry)) .block .replay))
+        × (now (table .exit) ≡ blockReplay (rulesOf case) case (now (table .entry)) replay (now (lines .entry)) .table) ⌝ }
 {
     let block = replay.lines(case, table, lines);
     let after = block.replay;
@@ -276,21 +272,22 @@ pub extern "C" fn ceiling_version() -> u64
 
 #[no_mangle]
 pub extern "C" fn ceiling_case_size(text: &[u8]) -> CeilingSize
-    ensures { λ r. ⌜ r ≡ sizeOf (sizeSays (caseSize Desk (now (text .entry)))) ⌝ }
+    ensures { λ r. ⌜ r ≡ ceilingSizeOf (sizeSays (caseSize Desk (now (text .entry)))) ⌝ }
 {
     size_of(casefile::case_size(text))
 }
 
 #[no_mangle]
 pub extern "C" fn ceiling_upper_bound(case: &CaseArray, table: &[i64]) -> CeilingTotal
-    ensures { λ r. ⌜ r ≡ totalOf (figureSays (upperBoundAnswer (rulesOf (caseOf (now (case .entry)))) (caseOf (now (case .entry))) (now (table .entry)))) ⌝ }
+    ensures { λ r. ⌜ r ≡ totalOf (figureSays (upperBoundAnswer (rulesOf (caseIn (now (case .entry)))) (caseIn (now (case .entry))) (now (table .entry)))) ⌝ }
 {
     total_of(figures::upper_bound(encoding::case_of(case), table))
 }
 
 #[no_mangle]
 pub extern "C" fn ceiling_objective(case: &CaseArray, table: &[i64], plan: &[u8]) -> CeilingTotal
-    ensures { λ r. ⌜ r ≡ totalOf (figureSays (objectiveAnswer (rulesOf (caseOf (now (case .entry)))) (caseOf (now (case .entry))) (now (table .entry)) (now (plan .entry)))) ⌝ }
+    ensures { λ r. ⌜ r ≡ totalOf (figureSays (objectiveAnswer (rulesOf (caseIn (now (case .entry)))) (caseIn (now (case .entry))) (now (table .entry))
+        (now (plan .entry)))) ⌝ }
 {
     total_of(figures::objective(encoding::case_of(case), table, plan))
 }
@@ -303,7 +300,8 @@ pub extern "C" fn ceiling_better_of(
     first: &[u8],
     second: &[u8],
 ) -> CeilingChoice
-    ensures { λ r. ⌜ r ≡ choiceOf (choiceSays (betterOf (rulesOf (caseOf (now (case .entry)))) (caseOf (now (case .entry))) (now (table .entry)) (now (first .entry)) (now (second .entry)))) ⌝ }
+    ensures { λ r. ⌜ r ≡ choiceOf (choiceSays (betterOf (rulesOf (caseIn (now (case .entry)))) (caseIn (now (case .entry))) (now (table .entry))
+        (now (first .entry)) (now (second .entry)))) ⌝ }
 {
     choice_of(plans::better_of(encoding::case_of(case), table, first, second))
 }
@@ -322,7 +320,9 @@ pub extern "C" fn ceiling_read_case(
     case: &mut CaseArray,
     table: &mut [i64],
 ) -> CeilingLines
-    ensures { λ r. ⌜ (r ≡ readCall (now (text .entry)) (now (case .entry)) (now (table .entry)) .answer) × (now (case .exit) ≡ readCall (now (text .entry)) (now (case .entry)) (now (table .entry)) .case) × (now (table .exit) ≡ readCall (now (text .entry)) (now (case .entry)) (now (table .entry)) .table) ⌝ }
+    ensures { λ r. ⌜ (r ≡ readCall (now (text .entry)) (now (case .entry)) (now (table .entry)) .answer)
+        × (now (case .exit) ≡ readCall (now (text .entry)) (now (case .entry)) (now (table .entry)) .case)
+        × (now (table .exit) ≡ readCall (now (text .entry)) (now (case .entry)) (now (table .entry)) .table) ⌝ }
 {
     let read = casefile::read_case_alone(text, table);
     let answer = read.answer;
@@ -337,7 +337,8 @@ pub extern "C" fn ceiling_replay_start(
     table: &[i64],
     state: &mut RecordArray,
 ) -> u64
-    ensures { λ r. ⌜ (r ≡ standingSays (startRecord (now (case .entry)) (now (table .entry)) .standing) .number) × (now (state .exit) ≡ recordBytes (startRecord (now (case .entry)) (now (table .entry)))) ⌝ }
+    ensures { λ r. ⌜ (r ≡ standingSays (startRecord (now (case .entry)) (now (table .entry)) .standing) .number)
+        × (now (state .exit) ≡ recordBytes (startRecord (now (case .entry)) (now (table .entry)))) ⌝ }
 {
     let replay = Replay::fresh(encoding::case_of(case), table);
     let standing = replay.standing;
@@ -353,7 +354,9 @@ pub extern "C" fn ceiling_replay_lines(
     state: &mut RecordArray,
     lines: &[u8],
 ) -> CeilingLines
-    ensures { λ r. ⌜ (r ≡ replayCall (now (case .entry)) (now (table .entry)) (now (state .entry)) (now (lines .entry)) .answer) × (now (state .exit) ≡ replayCall (now (case .entry)) (now (table .entry)) (now (state .entry)) (now (lines .entry)) .state) × (now (table .exit) ≡ replayCall (now (case .entry)) (now (table .entry)) (now (state .entry)) (now (lines .entry)) .table) ⌝ }
+    ensures { λ r. ⌜ (r ≡ replayCall (now (case .entry)) (now (table .entry)) (now (state .entry)) (now (lines .entry)) .answer)
+        × (now (state .exit) ≡ replayCall (now (case .entry)) (now (table .entry)) (now (state .entry)) (now (lines .entry)) .state)
+        × (now (table .exit) ≡ replayCall (now (case .entry)) (now (table .entry)) (now (state .entry)) (now (lines .entry)) .table) ⌝ }
 {
     if encoding::is_record(state) {
         let replay = encoding::record_of(state);

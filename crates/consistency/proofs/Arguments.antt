@@ -22,7 +22,8 @@ use Rattle.tables.proofs.Answered.{known}
 use Rattle.consistency.specs.Arguments.{argumentsOut}
 
 module _ (c : Case) (w : List ℤ) (raised : List ℕ) (i k : ℕ) where
-  pub arguments-known : Outcome.Done ≡ outcomeOf (firstOf (handedOver (rulesOf c) (workingWeight (rulesOf c)) c w (not (eqb (length raised) (scopeCount c))) (argumentsOut c raised i k)))
+  pub arguments-known : Outcome.Done ≡ outcomeOf (firstOf (handedOver (rulesOf c) (workingWeight (rulesOf c)) c w (not (eqb (length raised) (scopeCount c)))
+      (argumentsOut c raised i k)))
       → Handed (rulesOf c) (workingWeight (rulesOf c)) c w
       × ((length raised ≡ scopeCount c) × ((x : ℕ) → x < scopeCount c → getD raised x 0 ≤ 1) × (i < c .n) × (k < c .d))
   arguments-known e =
@@ -39,4 +40,5 @@ module _ (c : Case) (w : List ℤ) (raised : List ℕ) (i k : ℕ) where
       )
     where
       marked : (x : ℕ) → x < length raised → T (not (any (λ b. ltb 1 b) raised)) → getD raised x 0 ≤ 1
-      marked x h t = nltb→le 1 (getD raised x 0) (not-T (ltb 1 (getD raised x 0)) (λ s. T-not (any (λ b. ltb 1 b) raised) t (any-getD (λ b. ltb 1 b) raised 0 .1 (x, h, s))))
+      marked x h t = nltb→le 1 (getD raised x 0) (not-T (ltb 1 (getD raised x 0))
+          (λ s. T-not (any (λ b. ltb 1 b) raised) t (any-getD (λ b. ltb 1 b) raised 0 .1 (x, h, s))))

@@ -9,7 +9,7 @@ ghost use Prim.Native.Nat.{_+_};
 ghost use lib.Dec.{ltb, eqb};
 ghost use Rattle.integers.specs.Words.{any};
 ghost use Rattle.definitions.specs.Rules.{rulesOf};
-ghost use Rattle.definitions.specs.Calls.{refutedAnswer};
+ghost use Rattle.calls.specs.Calls.{refutedAnswer};
 ghost use Rattle.consistency.specs.Arguments.{argumentsOut};
 
 fn other_length(length: usize, n: usize, m: usize) -> bool

@@ -35,9 +35,10 @@ use Rattle.definitions.specs.declared.Span.{Span}
 use Rattle.definitions.specs.declared.Round.{Round}
 use Rattle.definitions.specs.declared.RunAnswer.{RunAnswer}
 use Rattle.definitions.specs.declared.Choice.{Choice}
+use Rattle.definitions.specs.declared.Judgement.{Judgement}
 use Rattle.definitions.specs.Refusals.{number}
 use Rattle.definitions.specs.Answers.{Says, outcomeSays, figureSays, verdictSays, lineSays, sizeSays, fileSays, writtenSays, spanSays}
-use Rattle.definitions.specs.Answers.{roundSays, runSays, choiceSays, valueAt, countAt, refusalOf}
+use Rattle.definitions.specs.Answers.{roundSays, runSays, choiceSays, judgementSays, valueAt, countAt, refusalOf}
 
 -- ---- numbers
 
@@ -199,3 +200,13 @@ choice-back (Choice.Refused x) = refused-back x _ Choice.Refused
 
 pub choice-same : (a b : Choice) → choiceSays a ≡ choiceSays b → a ≡ b
 choice-same = same-said choiceSays choiceFrom choice-back
+
+abbrev judgementFrom : Says → Judgement
+judgementFrom s = from s (Judgement.Accepted (countAt s 0) (valueAt s 1)) (λ x. Judgement.Refused x (countAt s 0))
+
+judgement-back : (a : Judgement) → judgementFrom (judgementSays a) ≡ a
+judgement-back (Judgement.Accepted rounds bound) = refl
+judgement-back (Judgement.Refused x at) = refused-back x (Judgement.Accepted at (pos 0)) (λ y. Judgement.Refused y at)
+
+pub judgement-same : (a b : Judgement) → judgementSays a ≡ judgementSays b → a ≡ b
+judgement-same = same-said judgementSays judgementFrom judgement-back

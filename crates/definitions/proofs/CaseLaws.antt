@@ -25,7 +25,10 @@ module _ (c : Case) where
       ⊎-elim
       (λ (t : T (isVariable c x)). let n : x < c .n = simp tests at t in rw (if-true _ _ (isVariable c x) t) (omega (arith, in-rows x (c .n) k (c .d) n p)))
       (λ (t : T (not (isVariable c x))). let n : c .n < suc x = simp tests at t in
-      rw (if-false _ _ (isVariable c x) t) (omega (arith, in-rows (edgeOf c x) (c .m) (k * c .d + l) (c .d * c .d) (omega arith) (in-rows k (c .d) l (c .d) p q))))
+      rw (if-false _ _ (isVariable c x) t) (omega (
+        arith,
+        in-rows (edgeOf c x) (c .m) (k * c .d + l) (c .d * c .d) (omega arith) (in-rows k (c .d) l (c .d) p q),
+      )))
       (either (isVariable c x))
 
   pub eachTuple-same : {A : Type 0} (x : ℕ) {f g : ℕ → ℕ → A} → ((k l : ℕ) → k < c .d → l < c .d → f k l ≡ g k l) → eachTuple c x f ≡ eachTuple c x g

@@ -1,7 +1,7 @@
 -- Numbers in columns, at every width: what is written is read back, what is read is what is written, and which numbers fit.
 -- Assumes nothing.
 use mathlib.Core.Path.{_≡_, refl, ap, _∙_}
-use mathlib.Core.Bool.{Bool, true, false, _||_}
+use mathlib.Core.Bool.{Bool, true, false}
 use mathlib.Core.Logic.{_≢_, _↔_, ⊎-elim}
 use mathlib.Core.Option.{some}
 use mathlib.Core.List.{List, [], _∷_, _++_, append-assoc, append-nil}
@@ -10,12 +10,11 @@ use native.Mathlib.Nat.{pow-succ', pow-le-pow-right}
 use native.Mathlib.Numerals.{add-one}
 use native.Mathlib.Omega.{arith}
 use lib.IntN.{ℤ, pos, negsuc, natAbs}
-use lib.Dec.{T, ltb, eqb}
+use lib.Dec.{ltb, eqb}
 use lib.ListN.{length, replicate, length-append, length-replicate, drop-of-length-le}
 use borrow.Author.Tests.{lt-ltb, le-ltb, le-leb, ne-eqb, ltb-true, ltb-false}
-use Rattle.integers.specs.Words.{all, minus}
-use Rattle.integers.specs.Tests.{tests, is-true, if-false, either}
-use Rattle.integers.specs.Lists.{all-append}
+use Rattle.integers.specs.Words.{minus}
+use Rattle.integers.specs.Tests.{tests, if-false, either}
 use Rattle.definitions.specs.Lines.{digitsIn, decimal, numberText, tooWide, columnText, isDigit, readDigits, readPositive, readNumber, readColumn}
 use Rattle.integers.specs.Options.{none-some, found-then, found-else, found-if, bind-iff}
 
@@ -63,7 +62,8 @@ readDigits-digit v d t h = simp (digit-yes d h) (ap (λ (k : ℕ). readDigits k 
 reads-on : (n : ℕ) → 0 < n → (t : List ℕ) → readPositive (decimal n ++ t) ≡ readDigits n t
 reads-on = by-digit (λ n s. 0 < n → (t : List ℕ) → readPositive (s ++ t) ≡ readDigits n t)
     (λ n h p t. simp (ne-eqb (48 + n) 48 (omega arith)) (readDigits-digit 0 n t h ∙ ap (λ (k : ℕ). readDigits k t) (omega arith)))
-    (λ n s h r p t. rw append-assoc (r (omega arith) ((48 + n % 10) ∷ t) ∙ readDigits-digit (n / 10) (n % 10) t (omega arith) ∙ ap (λ (k : ℕ). readDigits k t) (omega arith)))
+    (λ n s h r p t. rw append-assoc (r (omega arith) ((48 + n % 10) ∷ t) ∙ readDigits-digit (n / 10) (n % 10) t (omega arith)
+    ∙ ap (λ (k : ℕ). readDigits k t) (omega arith)))
 
 reads-positive : (n : ℕ) → 0 < n → readPositive (decimal n) ≡ some n
 reads-positive n p = rw append-nil at (reads-on n p [])
@@ -191,9 +191,6 @@ abs-below (negsuc n) = omega (arith, decimal-below (suc n), pow-succ' 10 (length
 pub fits-below : (w : ℕ) (z : ℤ) → tooWide w z ≡ false → natAbs z < 10 ^ w
 fits-below w z h = omega (arith, abs-below z, pow-le-pow-right {n = 10} (omega arith) (fits-iff w z .0 h))
 
-pub column-below : (t : List ℕ) (z : ℤ) → readColumn t ≡ some z → natAbs z < 10 ^ length t
-column-below t z e = fits-below (length t) z (column-written t z e .0)
-
 decimal-short : (n k : ℕ) → 0 < n → n < 10 ^ k → length (decimal n) ≤ k
 decimal-short = by-digit (λ n t. (k : ℕ) → 0 < n → n < 10 ^ k → length t ≤ k)
     (λ n h. elim [ zero ↦ λ p l. omega arith | suc k ↦ λ p l. omega arith ])
@@ -209,18 +206,3 @@ fits w (pos n) p h = fits-digits w n p (omega (arith, pow-le-pow-right {n = 10} 
 fits w (negsuc n) p h = fits-iff w (negsuc n) .1 (omega (arith, decimal-short (suc n) (w - 1) (omega arith) h))
 
 -- ---- every byte of a number is a digit or a minus
-
-abbrev pub isNumeric : ℕ → Bool
-isNumeric b = eqb b 45 || isDigit b
-
-numeric : (d : ℕ) → d < 10 → isNumeric (48 + d) ≡ true
-numeric d h = simp (ne-eqb (48 + d) 45 (omega arith), digit-yes d h)
-
-decimal-numeric : (n : ℕ) → T (all isNumeric (decimal n))
-decimal-numeric = by-digit (λ n t. T (all isNumeric t))
-    (λ n h. rw (numeric n h) tt)
-    (λ n t h r. rw (all-append, is-true (all isNumeric t) r, numeric (n % 10) (omega arith)) tt)
-
-pub number-numeric : (z : ℤ) → T (all isNumeric (numberText z))
-number-numeric (pos n) = decimal-numeric n
-number-numeric (negsuc n) = decimal-numeric (suc n)

@@ -4,8 +4,8 @@ use mathlib.Core.Path.{_≡_, refl, sym, ap, _∙_}
 use mathlib.Core.Bool.{false, _&&_}
 use mathlib.Core.Option.{Option, none, some}
 use mathlib.Core.List.{List, [], _∷_, _++_, append-assoc, append-nil, List·Memᴰ·head, List·Memᴰ·tail, List·Memᴰ·not-nil}
-use Prim.Native.Nat.{ℕ, zero, suc, _+_, _*_, _%_, _≤_, _<_}
-use native.Mathlib.Nat.{add-zero, zero-mul, mul-div-cancel, mul-mod-left, div-add-mod', mod-lt, div-mul-le-self}
+use Prim.Native.Nat.{ℕ, zero, suc, _+_, _*_, _%_, _≤_}
+use native.Mathlib.Nat.{add-zero, zero-mul, mul-div-cancel, mul-mod-left, div-add-mod', div-mul-le-self}
 use native.Mathlib.Omega.{arith}
 use lib.IntN.{ℤ}
 use lib.Dec.{eqb}
@@ -16,7 +16,8 @@ use Rattle.integers.specs.Words.{joined, _>>=_}
 use Rattle.integers.specs.Tests.{tests, is-false, false-iff, not-or-iff}
 use Rattle.integers.specs.Tables.{Parts, length-joined}
 use Rattle.definitions.specs.declared.Line.{Line}
-use Rattle.definitions.specs.Lines.{tooWide, columnText, readColumn, feedAt, lineLength, lineText, lineTooWide, columnAt, readLine, cutLines, wholeLines, linesIn, hasPart}
+use Rattle.definitions.specs.Lines.{tooWide, columnText, readColumn, feedAt, lineLength, lineText, lineTooWide}
+use Rattle.definitions.specs.Lines.{columnAt, readLine, cutLines, wholeLines, linesIn, hasPart}
 use Rattle.integers.specs.Options.{none-some, found-then}
 use Rattle.definitions.proofs.ColumnLaws.{column-read, column-written, column-length}
 
@@ -31,7 +32,14 @@ pub record EachFits (w : ℕ) (l : Line) : Type 0 where
 pub fits-each : (w : ℕ) (l : Line) → lineTooWide w l ≡ false → EachFits w l
 fits-each w l h =
     let p = simp (false-iff, not-or-iff) at h in
-    record { kind = is-false _ (p .0 .0 .0 .0); a = is-false _ (p .0 .0 .0 .1); b = is-false _ (p .0 .0 .1); c = is-false _ (p .0 .1); amount = is-false _ (p .1) }
+    record {
+      kind = is-false _ (p .0 .0 .0 .0);
+      a = is-false _ (p .0 .0 .0 .1);
+      b = is-false _ (p .0 .0 .1);
+      c = is-false _ (p .0 .1);
+      amount =
+          is-false _ (p .1);
+    }
 
 pub each-fits : (w : ℕ) (l : Line) → EachFits w l → lineTooWide w l ≡ false
 each-fits w l f = rw (f .kind, f .a, f .b, f .c, f .amount)
@@ -52,7 +60,14 @@ pub line-length : (w : ℕ) (l : Line) → lineTooWide w l ≡ false → length 
 line-length w l h =
     let f = fits-each w l h in
     five-length (columnText 2 (l .kind)) (columnText 4 (l .a)) (columnText 4 (l .b)) (columnText 4 (l .c)) (columnText w (l .amount))
-    ∙ omega (arith, column-length 2 (l .kind) (f .kind), column-length 4 (l .a) (f .a), column-length 4 (l .b) (f .b), column-length 4 (l .c) (f .c), column-length w (l .amount) (f .amount))
+    ∙ omega (
+      arith,
+      column-length 2 (l .kind) (f .kind),
+      column-length 4 (l .a) (f .a),
+      column-length 4 (l .b) (f .b),
+      column-length 4 (l .c) (f .c),
+      column-length w (l .amount) (f .amount),
+    )
 
 -- a column in front of the rest
 column-front : (w : ℕ) (z : ℤ) (s r : List ℕ) (p : ℕ) → tooWide w z ≡ false → drop p s ≡ columnText w z ++ r
@@ -88,7 +103,8 @@ column-back w z s p h e =
       sym (take-append-drop w (drop p s)) ∙ cc (r .1, drop-drop w p s),
     )
 
-columns-read : (k a b c m : Option ℤ) (l : Line) → (k >>= λ k. a >>= λ a. b >>= λ b. c >>= λ c. m >>= λ m. some (record { kind = k; a = a; b = b; c = c; amount = m })) ≡ some l
+columns-read : (k a b c m : Option ℤ) (l : Line)
+    → (k >>= λ k. a >>= λ a. b >>= λ b. c >>= λ c. m >>= λ m. some (record { kind = k; a = a; b = b; c = c; amount = m })) ≡ some l
     → (k ≡ some (l .kind)) × (a ≡ some (l .a)) × (b ≡ some (l .b)) × (c ≡ some (l .c)) × (m ≡ some (l .amount))
 columns-read none a b c m l e = absurd (none-some e)
 columns-read (some k) none b c m l e = absurd (none-some e)
@@ -109,9 +125,6 @@ line-written w t l e =
     let m = column-back w (l .amount) t 14 (omega arith) m in
     let end : drop (feedAt w) t ≡ 10 ∷ [] = drop-cons t (feedAt w) 0 (omega arith) ∙ cc (drop-of-length-le t {i = suc (feedAt w)} (omega arith)) in
     (each-fits w l (record { kind = k .0; a = a .0; b = b .0; c = c .0; amount = m .0 }), line-five w l ∙ cc)
-
-pub line-unique : (w : ℕ) (t u : List ℕ) (l : Line) → readLine w t ≡ some l → readLine w u ≡ some l → t ≡ u
-line-unique w t u l p q = sym (line-written w t l p .1) ∙ line-written w u l q .1
 
 -- ---- bytes cut into lines
 
@@ -146,9 +159,6 @@ module _ (w : ℕ) (t : List ℕ) where
 
   pub joined-lines : joined (linesIn w t) ++ drop (wholeLines w t * lineLength w) t ≡ t
   joined-lines = joined-cut (lineLength w) (wholeLines w t) t
-
-  pub part-short : length (drop (wholeLines w t * lineLength w) t) < lineLength w
-  part-short = rw length-drop (omega (arith, div-add-mod' (length t) (lineLength w), mod-lt (length t) {m = lineLength w} (omega arith)))
 
   -- with no part of a line, the lines alone are t
   pub joined-whole : hasPart w t ≡ false → joined (linesIn w t) ≡ t

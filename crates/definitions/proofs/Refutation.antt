@@ -1,6 +1,6 @@
 -- Refutation: the test of every family says what `Refuted` says, raising more scopes keeps what is refuted, and nothing counts but the
 -- raised scopes and the weights of the case's own tuples. Assumes nothing.
-use mathlib.Core.Path.{_≡_, refl, sym, ap, ap₂, _∙_}
+use mathlib.Core.Path.{_≡_, refl, ap, ap₂, _∙_}
 use mathlib.Core.Bool.{Bool, true, false, not, _&&_}
 use mathlib.Core.Logic.{_↔_, ⊎-elim}
 use mathlib.Core.List.{List, [], _∷_, map, List·Memᴰ·head, List·Memᴰ·tail}
@@ -9,7 +9,7 @@ use native.Mathlib.Omega.{arith}
 use lib.IntN.{ℤ, pos}
 use lib.Dec.{T, T-not, not-T, ltb, nltb→le}
 use lib.ListN.{getD, List·getD-eq-default}
-use Rattle.integers.specs.Words.{below, all, any, choices}
+use Rattle.integers.specs.Words.{below, any, choices}
 use Rattle.integers.specs.Tests.{tests, same-test, either}
 use Rattle.integers.specs.Lists.{_∈_, any-in, all-below, any-below, choices-tab}
 use Rattle.integers.specs.Tables.{length-tab, getD-tab}
@@ -61,7 +61,8 @@ marks-listed c S j v h g =
     ap (λ r. getD r v false) (getD-tab (λ j. map (S j) (below (c .d))) (c .n) j [] h) ∙ getD-tab (S j) (c .d) v false g
 
 marks-outside : (c : Case) (S : Family) (j v : ℕ) → T (not (ltb j (c .n))) → T (marks (listed c S) j v) → ⊥
-marks-outside c S j v t = rw (List·getD-eq-default (listed c S) [] {n = j} (rw (length-tab (λ j. map (S j) (below (c .d))) 0 (c .n)) (nltb→le j (c .n) t))) (λ s. s)
+marks-outside c S j v t = rw (List·getD-eq-default (listed c S) [] {n = j} (rw (length-tab (λ j. map (S j) (below (c .d))) 0 (c .n)) (nltb→le j (c .n) t)))
+    (λ s. s)
 
 -- ---- `refuted` says what `Refuted` says
 
@@ -127,12 +128,6 @@ module _ (c : Case) (w : List ℤ) (R Q : ℕ → Bool) (i k : ℕ) (more : (x :
   allowed-less : (x a b : ℕ) → x < scopeCount c → a < c .d → b < c .d → T (allowed c w Q x a b) → T (allowed c w R x a b)
   allowed-less x a b h p q = not-and (R x) (Q x) (not (active c w x a b)) (more x h)
 
-  pub supported-raised : (S : Family) → Supported c w Q i k S → Supported c w R i k S
-  supported-raised = supported-too c w w Q R i k allowed-less
-
-  pub Refuted-raised : Refuted c w R i k → Refuted c w Q i k
-  Refuted-raised = Refuted-too c w w Q R i k allowed-less
-
   pub refuted-raised : T (refuted c w R i k) → T (refuted c w Q i k)
   refuted-raised = refuted-too c w w Q R i k allowed-less
 
@@ -141,9 +136,6 @@ module _ (c : Case) (w u : List ℤ) (R Q : ℕ → Bool) (i k : ℕ) (own : (p 
     (raised : (x : ℕ) → x < scopeCount c → R x ≡ Q x) where
   allowed-same : (x a b : ℕ) → x < scopeCount c → a < c .d → b < c .d → allowed c w R x a b ≡ allowed c u Q x a b
   allowed-same x a b h p q = ap₂ (λ r y. not (r && not y)) (raised x h) (active-same c w u own x h a b p q)
-
-  pub Refuted-same : Refuted c w R i k → Refuted c u Q i k
-  Refuted-same = Refuted-too c u w Q R i k (λ x a b h p q t. rw (allowed-same x a b h p q) t)
 
   pub refuted-same : refuted c w R i k ≡ refuted c u Q i k
   refuted-same =

@@ -23,7 +23,6 @@ use Rattle.definitions.specs.declared.Refusal.the-variants.{
   BoundNotLower,
   CutShort,
 }
-use Rattle.definitions.specs.declared.Line.{Line}
 use Rattle.definitions.specs.declared.Outcome.{Outcome}
 use Rattle.definitions.specs.declared.Figure.{Figure}
 use Rattle.definitions.specs.declared.Verdict.{Verdict}
@@ -35,6 +34,7 @@ use Rattle.definitions.specs.declared.Span.{Span}
 use Rattle.definitions.specs.declared.Round.{Round}
 use Rattle.definitions.specs.declared.RunAnswer.{RunAnswer}
 use Rattle.definitions.specs.declared.Choice.{Choice}
+use Rattle.definitions.specs.declared.Judgement.{Judgement}
 use Rattle.definitions.specs.Refusals.{number}
 
 pub record Says : Type 0 where
@@ -106,6 +106,11 @@ abbrev pub choiceSays : Choice → Says
 choiceSays Choice.First = gives (pos 0 ∷ [])
 choiceSays Choice.Second = gives (pos 1 ∷ [])
 choiceSays (Choice.Refused x) = saysNo x
+
+-- the rounds and the upper bound
+abbrev pub judgementSays : Judgement → Says
+judgementSays (Judgement.Accepted rounds bound) = gives (pos rounds ∷ bound ∷ [])
+judgementSays (Judgement.Refused x at) = saysNoAt x at
 
 -- ---- what is said, part by part
 

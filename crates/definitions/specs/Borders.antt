@@ -11,18 +11,16 @@ use lib.ListN.{take, drop, replicate}
 use Rattle.integers.specs.Words.{joined, minus}
 use Rattle.definitions.specs.declared.Rulebook.the-variants.{Desk}
 use Rattle.definitions.specs.declared.Case.{Case}
-use Rattle.definitions.specs.declared.CaseRead.{CaseRead}
-use Rattle.definitions.specs.declared.Refusal.the-variants.{WrongLength, WeightOutOfRange, LeavesRange}
-use Rattle.definitions.specs.declared.Run.{Run}
+use Rattle.definitions.specs.declared.Refusal.the-variants.{LeavesRange}
 use Rattle.definitions.specs.declared.RunAnswer.{RunAnswer}
 use Rattle.definitions.specs.declared.RunAnswer.the-variants.{Settled, Limit, Refused}
 use Rattle.definitions.specs.Rules.{Rules, standard, edgePlaces}
 use Rattle.definitions.specs.Refusals.{numberOf}
-use Rattle.definitions.specs.Answers.{Says, outcomeSays, figureSays, verdictSays, lineSays, sizeSays}
-use Rattle.definitions.specs.Answers.{fileSays, writtenSays, spanSays, roundSays, choiceSays}
-use Rattle.definitions.specs.Case.{isAssignment, upperBound}
+use Rattle.definitions.specs.Answers.{Says, sizeSays}
+use Rattle.definitions.specs.Answers.{fileSays, spanSays, choiceSays}
+use Rattle.definitions.specs.Case.{isAssignment}
 use Rattle.definitions.specs.Valid.{valid}
-use Rattle.definitions.specs.Moves.{shift, press}
+use Rattle.definitions.specs.Moves.{shift, activePress}
 use Rattle.definitions.specs.Lines.{line, lineText}
 use Rattle.definitions.specs.CaseFiles.{CaseCall, caseText, caseSize, readCase, readCaseAlone}
 use Rattle.definitions.specs.Replay.{State, step, fresh, after, keepsRules}
@@ -30,92 +28,50 @@ use Rattle.definitions.specs.Engine.{Next, round, RunOf, stopped, engine
 use Rattle.definitions.specs.Views.{roundSpan, roundView}
 use Rattle.definitions.specs.Scoring.{betterOf, better}
 use Rattle.definitions.specs.Programs.{pressLimit, bytesOf, pressRun, pressPrints, replayPrints}
-use Rattle.definitions.specs.Calls.{TableCall, LineCall, WriterCall, WriteCall, objectiveAnswer, upperBoundAnswer, isActiveAnswer}
-use Rattle.definitions.specs.Calls.{refutedAnswer, shiftCall, pressCall, readLineAnswer, writeLineCall, putLineCall, writeCaseCall}
-use Rattle.definitions.specs.EngineCalls.{RoundCall, RunCall, roundCall, runCall}
 use Rattle.definitions.specs.Samples.{Input, Question, replay-of, Result, replayed, Sample, answer}
-use Rattle.definitions.specs.Samples.{given, triangle, couple, clash, example2, single, texts, log5, log8, twoRounds, zeros}
+use Rattle.definitions.specs.Samples.{given, triangle, couple, clash, texts, log5, log8, twoRounds, zeros}
 
 -- ---- questions and answers
 
-pub record Asked (A : Type 0) : Type 0 where
+pub record Entry (A : Type 0) : Type 0 where
   pub asked : A
   pub due : A
 
 infix 70 _is_
-abbrev _is_ : {A : Type 0} → A → A → Asked A
+abbrev pub _is_ : {A : Type 0} → A → A → Entry A
 a is b = record { asked = a; due = b }
 
 -- each question of a table has the answer that stands there
-abbrev Hold : {A : Type 0} → List (Asked A) → Type 0
+abbrev pub Hold : {A : Type 0} → List (Entry A) → Type 0
 Hold table = map (λ q. q .asked) table ≡ map (λ q. q .due) table
 
-abbrev says : ℕ → List ℤ → Says
+abbrev pub says : ℕ → List ℤ → Says
 says n zs = record { number = n; values = zs }
 
-abbrev no : ℕ → Says
+abbrev pub no : ℕ → Says
 no n = says n []
 
-abbrev value : ℤ → Says
+abbrev pub value : ℤ → Says
 value z = says 0 (z ∷ [])
 
 -- ---- cases
 
 -- the greatest working weight
-abbrev W : ℕ
+abbrev pub W : ℕ
 W = 500_000_000
 
 -- P4's case with another first weight, and P1's with another variable 0
-abbrev clashFrom : ℤ → Input
+abbrev pub clashFrom : ℤ → Input
 clashFrom z = couple (z ∷ drop 1 (clash .weights))
 
-abbrev triangleFrom : ℤ → Input
+abbrev pub triangleFrom : ℤ → Input
 triangleFrom z = record { case = triangle .case; weights = z ∷ z ∷ drop 2 (triangle .weights) }
 
 -- two variables, D 1, and m edges, all from i to j
-abbrev edges : ℕ → ℕ → ℕ → List ℤ → Input
+abbrev pub edges : ℕ → ℕ → ℕ → List ℤ → Input
 edges m i j w = given 2 1 m (replicate m i) (replicate m j) w
 
--- edges (0,1), for equal values, and (0,2), for others; value 1 of variable 1 is inactive
-abbrev star : Input
-star =
-    given 3 2 2 (0 ∷ 0 ∷ []) (1 ∷ 2 ∷ [])
-    (zeros 3 ++ (minus 1 ∷ zeros 3) ++ (minus 1 ∷ minus 1 ∷ pos 0 ∷ minus 1 ∷ zeros 2) ++ (minus 1 ∷ []))
-
--- edges (0,1), of zeros, and (2,3), where the variables clash as in P4
-abbrev apart : Input
-apart = given 4 2 2 (0 ∷ 2 ∷ []) (1 ∷ 3 ∷ []) (zeros 4 ++ take 4 (clash .weights) ++ zeros 4 ++ drop 4 (clash .weights))
-
--- ---- totals, refutation, and numbers 3 to 8 of what is handed over
-
-pub figures :
-    let total : Input → List ℕ → Says = λ i p. figureSays (objectiveAnswer standard (i .case) (i .weights) p) in
-    let bound : Input → Says = λ i. figureSays (upperBoundAnswer standard (i .case) (i .weights)) in
-    let active : Input → ℕ → ℕ → ℕ → Says = λ i x k l. verdictSays (isActiveAnswer standard (i .case) (i .weights) x k l) in
-    let refuted : Input → List ℕ → ℕ → ℕ → Says = λ i R v k. verdictSays (refutedAnswer standard (i .case) (i .weights) R v k) in
-    Hold
-    ( -- the edge's tuple is (0,1) and not (1,0); weights are working weights; 4 before 5 before 8
-    total example2 (0 ∷ 1 ∷ []) is value (pos 1) ∷ total (clashFrom (pos 1_000_001)) (0 ∷ 0 ∷ []) is value (pos 1_000_000)
-    ∷ total clash (5 ∷ []) is no 4 ∷ total clash (0 ∷ 0 ∷ 0 ∷ []) is no 4 ∷ total (clashFrom (pos (W + 1))) (0 ∷ 2 ∷ []) is no 5
-    -- limits, lengths, edges, weights
-    ∷ bound (given 0 1 0 [] [] []) is no 3 ∷ bound (given 1 0 0 [] [] []) is no 3 ∷ bound (given 1 8 0 [] [] (zeros 8)) is value (pos 0)
-    ∷ bound (couple (clash .weights ++ zeros 1)) is no 4 ∷ bound (edges 1 0 9 (zeros 1)) is no 4 ∷ bound (edges 1 2 0 (zeros 3)) is no 5
-    ∷ bound (edges 2 1 0 (zeros 4)) is no 6 ∷ bound (edges 1 1 0 (pos (W + 1) ∷ zeros 2)) is no 6 ∷ bound (edges 96 0 1 (zeros 98)) is no 7
-    ∷ bound (edges 2 0 1 (pos (W + 1) ∷ zeros 3)) is no 7 ∷ bound (given 3 1 3 (0 ∷ 1 ∷ 0 ∷ []) (1 ∷ 2 ∷ 1 ∷ []) (zeros 6)) is no 7
-    ∷ bound (given 3 1 2 (0 ∷ 1 ∷ []) (1 ∷ 2 ∷ []) (pos 1 ∷ pos 2 ∷ pos 3 ∷ pos 4 ∷ pos 5 ∷ [])) is value (pos 15)
-    ∷ bound (clashFrom (pos W)) is value (pos (W + 2)) ∷ bound (clashFrom (minus (W + 1))) is no 8
-    -- tuples
-    ∷ active clash 2 0 0 is value (pos 0) ∷ active clash 2 1 1 is value (pos 1) ∷ active (clashFrom (pos 1_000_001)) 0 0 0 is value (pos 1)
-    ∷ active clash 3 0 0 is no 5 ∷ active clash 0 2 0 is no 5 ∷ active clash 2 0 2 is no 5
-    -- partners of both ends, inside the sets; a set for each variable, also where no edge leads; the own scope raised
-    ∷ refuted star (0 ∷ 1 ∷ 0 ∷ 1 ∷ 1 ∷ []) 2 0 is value (pos 1) ∷ refuted star (0 ∷ 1 ∷ 0 ∷ 1 ∷ 1 ∷ []) 2 1 is value (pos 0)
-    ∷ refuted apart (0 ∷ 0 ∷ 1 ∷ 1 ∷ 0 ∷ 1 ∷ []) 0 0 is value (pos 1) ∷ refuted apart (0 ∷ 0 ∷ 1 ∷ 0 ∷ 0 ∷ 1 ∷ []) 0 0 is value (pos 0)
-    ∷ refuted clash (1 ∷ 0 ∷ 0 ∷ []) 0 1 is value (pos 1) ∷ refuted (clashFrom (pos 1_000_001)) (0 ∷ 1 ∷ 1 ∷ []) 0 0 is value (pos 1)
-    ∷ refuted clash (2 ∷ 2 ∷ []) 0 0 is no 4 ∷ refuted clash (0 ∷ 0 ∷ 0 ∷ 0 ∷ []) 0 0 is no 4
-    ∷ refuted clash (0 ∷ 0 ∷ 2 ∷ []) 0 0 is no 5 ∷ refuted clash (0 ∷ 0 ∷ 0 ∷ []) 2 0 is no 5 ∷ refuted clash (0 ∷ 0 ∷ 0 ∷ []) 0 2 is no 5
-    ∷ [])
-unfolding objectiveAnswer upperBoundAnswer isActiveAnswer refutedAnswer
-figures = refl
+-- ---- valid cases, assignments, logs that keep the rules
 
 pub tests :
     let starts : Input → Bool = λ i. valid standard (i .case) (i .weights) in
@@ -132,7 +88,7 @@ tests = refl
 -- ---- the plain replay
 
 -- a line with no negative number, as text
-abbrev l : ℕ → ℕ → ℕ → ℕ → ℕ → List ℕ
+abbrev pub l : ℕ → ℕ → ℕ → ℕ → ℕ → List ℕ
 l kind a b c amount = lineText 12 (line kind (pos a) (pos b) (pos c) (pos amount))
 
 -- the number of a line: first in P1's case and in P4's; in P1's after these scopes are raised, in a press of variable 1 by three;
@@ -280,62 +236,39 @@ heads = refl
 -- ---- the engine
 
 -- edges (0,1), (1,2): a round of five lines and then one of four
-abbrev twoSteps : Input
+abbrev pub twoSteps : Input
 twoSteps =
     given 3 2 2 (0 ∷ 1 ∷ []) (1 ∷ 2 ∷ [])
     (pos 0 ∷ pos 0 ∷ pos 1 ∷ pos 0 ∷ minus 1 ∷ pos 0 ∷ minus 2 ∷ pos 0 ∷ minus 2 ∷ minus 1 ∷ zeros 3 ++ (minus 1 ∷ []))
 
-abbrev afterOne : List ℤ
+abbrev pub afterOne : List ℤ
 afterOne = minus 1 ∷ minus 1 ∷ pos 1 ∷ zeros 3 ++ (minus 1 ∷ pos 0 ∷ minus 1 ∷ zeros 5)
 
-abbrev afterTwo : List ℤ
+abbrev pub afterTwo : List ℤ
 afterTwo = minus 2 ∷ minus 2 ∷ pos 1 ∷ pos 1 ∷ zeros 10
 
 -- a round, after which variable 0 is at −W
-abbrev lastRound : Input
+abbrev pub lastRound : Input
 lastRound = couple (minus 499_999_999 ∷ minus W ∷ pos 0 ∷ pos 2 ∷ pos 0 ∷ minus 2 ∷ pos 0 ∷ minus 2 ∷ [])
 
-abbrev afterLast : List ℤ
+abbrev pub afterLast : List ℤ
 afterLast = minus W ∷ minus W ∷ pos 1 ∷ pos 2 ∷ pos 0 ∷ minus 1 ∷ pos 0 ∷ minus 1 ∷ []
 
 -- a round: the press line, the scopes raised, the bound line
-abbrev pressed : List ℕ → List ℕ → String → List ℕ
+abbrev pub pressed : List ℕ → List ℕ → String → List ℕ
 pressed begin scopes stated = begin ++ joined (map (λ x. l 3 x 0 0 0) scopes) ++ bytesOf stated
 
-abbrev step1 : List ℕ
+abbrev pub step1 : List ℕ
 step1 = pressed (l 2 0 3 0 1) (2 ∷ 3 ∷ 4 ∷ []) " 4   0   0   0           0\n"
 
-abbrev step2 : List ℕ
+abbrev pub step2 : List ℕ
 step2 = pressed (l 2 0 2 0 1) (1 ∷ 3 ∷ []) " 4   0   0   0          -1\n"
 
-abbrev byOne : List ℕ
+abbrev pub byOne : List ℕ
 byOne = pressed (l 2 0 2 0 1) (1 ∷ 2 ∷ []) " 4   0   0   0  -499999998\n"
 
-abbrev ones : ℕ → List ℕ
+abbrev pub ones : ℕ → List ℕ
 ones n = replicate n 1
-
--- a run as a call: answer, rounds, upper bound, table, output and log
-pub runs :
-    let ran : Input → ℕ → ℕ → RunCall = λ i limit room. runCall standard engineNext (i .case) limit (i .weights) (ones room) in
-    let told : RunAnswer → ℕ → ℤ → List ℤ → List ℕ → List ℕ → RunCall =
-    λ a n z w out log. record { run = record { answer = a; rounds = n; bound = z }; table = w; out = out; log = log }
-    in
-    Hold
-    (ran twoSteps 1 162 is told Limit 1 (pos 0) afterOne (step1 ++ ones 27) step1
-    -- the lines of a round from the output's first byte, the bytes past them kept
-    ∷ ran twoSteps 2 162 is told Settled 2 (minus 1) afterTwo (step2 ++ drop 108 step1 ++ ones 27) (step1 ++ step2)
-    -- 11: before the first round, at the limit, and after a round
-    ∷ ran (triangleFrom (minus W)) 5 189 is told (Refused LeavesRange) 0 (minus W) (triangleFrom (minus W) .weights) (ones 189) []
-    ∷ ran (triangleFrom (minus W)) 0 189 is told Limit 0 (minus W) (triangleFrom (minus W) .weights) (ones 189) []
-    ∷ ran lastRound 5 108 is told (Refused LeavesRange) 1 (minus 499_999_998) afterLast byOne byOne
-    -- 4, also at limit 0 and where settled; 8
-    ∷ ran clash 5 107 is told (Refused WrongLength) 0 (pos 0) (clash .weights) (ones 107) []
-    ∷ ran clash 0 107 is told (Refused WrongLength) 0 (pos 0) (clash .weights) (ones 107) []
-    ∷ ran single 5 53 is told (Refused WrongLength) 0 (pos 0) (single .weights) (ones 53) []
-    ∷ ran (clashFrom (pos (W + 1))) 5 108 is told (Refused WeightOutOfRange) 0 (pos 0) (clashFrom (pos (W + 1)) .weights) (ones 108) []
-    ∷ [])
-unfolding roundCall runCall
-runs = refl
 
 -- The plain run: answer, rounds, weights and log. `three` has D 3 and no partner for value 0 of variable 0; in `two` variable 0 clashes
 -- with 1 and with 2, and the first reason is dropped; in `four` P1's triangle lies over variables 1 to 3, and variable 0 is not refuted.
@@ -367,88 +300,13 @@ plain-runs = refl
 
 -- a round of several moves, as another engine could make it: P5's press after a shift and back
 abbrev detour : Rules → Case → List ℤ → Next
-detour r c w = round (shift 0 1 0 (pos 3) ∷ shift 0 1 0 (minus 3) ∷ press 0 (1 ∷ 2 ∷ []) (pos 2) ∷ [])
+detour r c w = round (shift 0 1 0 (pos 3) ∷ shift 0 1 0 (minus 3) ∷ activePress c w 0 (1 ∷ 2 ∷ []) (pos 2) ∷ [])
 
 pub detours :
     run standard detour (clash .case) 1 (clash .weights)
     ≡ stopped Limit 1 (pos 0 ∷ pos 0 ∷ pos 2 ∷ pos 2 ∷ minus 1 ∷ zeros 3)
     (texts (" 1   0   1   0           3\n" ∷ " 1   0   1   0          -3\n" ∷ log5))
 detours = refl
-
--- one round as a call: answer, table and output
-pub rounds :
-    let told : RoundCall → Says × List ℤ × List ℕ = λ q. (roundSays (q .answer), q .table, q .out) in
-    let made : Input → ℕ → Says × List ℤ × List ℕ = λ i room. told (roundCall standard engineNext (i .case) (i .weights) (ones room)) in
-    Hold
-    (made twoSteps 162 is (says 0 (pos 135 ∷ pos 0 ∷ []), afterOne, step1 ++ ones 27)
-    ∷ made single 54 is (says 0 [], single .weights, ones 54) ∷ made single 53 is (no 4, single .weights, ones 53)
-    ∷ made (triangleFrom (minus W)) 189 is (no 11, triangleFrom (minus W) .weights, ones 189)
-    ∷ [])
-unfolding roundCall
-rounds = refl
-
--- ---- moves as calls: the number and the table
-
-pub moves :
-    let told : TableCall → ℕ × List ℤ = λ q. (outcomeSays (q .answer) .number, q .table) in
-    let pressIn : Input → ℕ → List ℕ → ℕ → ℕ × List ℤ = λ i v R a. told (pressCall standard (i .case) (i .weights) v R (pos a)) in
-    let shiftIn : Input → ℕ → ℕ → ℕ → ℕ → ℕ × List ℤ = λ i e end v a. told (shiftCall standard (i .case) (i .weights) e end v (pos a)) in
-    let same : ℕ → ℕ × List ℤ = λ n. (n, clash .weights) in
-    let great : Input = clashFrom (pos (W + 1)) in
-    Hold
-    (pressIn clash 2 (1 ∷ []) 1 is same 5 ∷ pressIn clash 0 (0 ∷ 1 ∷ 2 ∷ []) 1 is same 5 ∷ pressIn clash 0 (1 ∷ 3 ∷ []) 1 is same 5
-    ∷ pressIn clash 0 (1 ∷ 2 ∷ []) 0 is same 5 ∷ pressIn clash 0 (1 ∷ 2 ∷ []) 1_000_000_001 is same 5
-    ∷ pressIn clash 0 (0 ∷ 2 ∷ []) 1 is same 9 ∷ pressIn clash 0 (2 ∷ 2 ∷ []) 1 is same 9 ∷ pressIn clash 0 (1 ∷ []) 1_000_000_000 is same 10
-    ∷ pressIn great 0 (2 ∷ 1 ∷ []) 1 is (8, great .weights) ∷ pressIn triangle 0 (3 ∷ 5 ∷ 4 ∷ []) 1 is (9, triangle .weights)
-    ∷ pressIn (clashFrom (pos 1_000_001)) 0 (1 ∷ 2 ∷ []) 1 is (0, pos 1_000_000 ∷ pos 0 ∷ pos 2 ∷ pos 1 ∷ minus 2 ∷ zeros 3)
-    ∷ shiftIn clash 1 0 0 1 is same 5 ∷ shiftIn clash 0 2 0 1 is same 5 ∷ shiftIn clash 0 0 2 1 is same 5
-    ∷ shiftIn clash 0 0 0 1_000_000_001 is same 5 ∷ shiftIn great 0 0 0 1 is (8, great .weights)
-    ∷ shiftIn (clashFrom (pos 1_000_001)) 0 1 0 3 is
-    (0, pos 1_000_001 ∷ pos 0 ∷ pos 5 ∷ pos 0 ∷ minus 6 ∷ pos 0 ∷ minus 3 ∷ pos 0 ∷ [])
-    ∷ [])
-unfolding pressCall shiftCall
-moves = refl
-
--- ---- lines and case files, read and written
-
-pub columns :
-    let read : String → Says = λ t. lineSays (readLineAnswer standard (bytesOf t)) in
-    let wrote : ℕ → ℤ → ℕ → ℕ → ℤ → Says = λ k a b c z. outcomeSays (writeLineCall standard (ones 27) (line k a (pos b) (pos c) z) .answer) in
-    Hold
-    (read "13   2   1   0          -7\n" is says 0 (pos 13 ∷ pos 2 ∷ pos 1 ∷ pos 0 ∷ minus 7 ∷ [])
-    ∷ read "13   2   1   0          -0\n" is no 1 ∷ read "13   2   1   0         - 7\n" is no 1
-    ∷ wrote 99 (pos 9_999) 9_999 9_999 (pos 999_999_999_999) is no 0 ∷ wrote 1 (minus 999) 0 0 (minus 99_999_999_999) is no 0
-    ∷ wrote 100 (pos 0) 0 0 (pos 0) is no 5 ∷ wrote 1 (minus 1_000) 0 0 (pos 0) is no 5 ∷ wrote 1 (pos 0) 10_000 0 (pos 0) is no 5
-    ∷ wrote 1 (pos 0) 0 10_000 (pos 0) is no 5 ∷ wrote 1 (pos 0) 0 0 (pos 1_000_000_000_000) is no 5
-    ∷ wrote 1 (pos 0) 0 0 (minus 100_000_000_000) is no 5
-    ∷ [])
-unfolding readLineAnswer writeLineCall
-columns = refl
-
--- the log writer: the number, the slice and the position after it; 4 before 5
-pub appended :
-    let told : WriterCall → ℕ × List ℕ × ℕ = λ q. (outcomeSays (q .answer) .number, q .out, q .at) in
-    let put : ℕ → ℕ → ℕ × List ℕ × ℕ = λ room a. told (putLineCall standard (ones room) 27 (line 3 (pos a) (pos 0) (pos 0) (pos 0))) in
-    Hold
-    (put 82 5 is (0, ones 27 ++ l 3 5 0 0 0 ++ ones 28, 54) ∷ put 54 5 is (0, ones 27 ++ l 3 5 0 0 0, 54) ∷ put 53 10_000 is (4, ones 53, 27)
-    ∷ put 26 5 is (4, ones 26, 27) ∷ put 54 10_000 is (5, ones 54, 27)
-    ∷ [])
-unfolding putLineCall
-appended = refl
-
-pub written :
-    let told : WriteCall → Says × List ℕ = λ q. (writtenSays (q .answer), q .out) in
-    let wrote : Input → ℕ → Says × List ℕ = λ i room. told (writeCaseCall standard (i .case) (i .weights) (ones room)) in
-    let clashFile : List ℕ =
-    l 10 2 2 1 0 ++ l 11 0 0 0 2 ++ l 11 0 1 0 0 ++ l 11 1 0 0 2 ++ l 11 1 1 0 0
-    ++ l 12 0 0 1 0 ++ bytesOf "13   0   0   0          -3\n" ++ l 13 0 0 1 0 ++ l 13 0 1 0 0 ++ l 13 0 1 1 0
-    in
-    Hold
-    (wrote clash 272 is (value (pos 270), clashFile ++ ones 2) ∷ wrote clash 269 is (no 4, ones 269)
-    ∷ wrote (clashFrom (pos 1_000_001)) 270 is (no 8, ones 270) ∷ wrote (clashFrom (minus 1_000_001)) 270 is (no 8, ones 270)
-    ∷ [])
-unfolding writeCaseCall
-written = refl
 
 -- ---- scoring and views
 

@@ -1,22 +1,21 @@
 -- Document 01, "The engine's round", and its run. Assumes nothing.
-use mathlib.Core.Bool.{Bool, true, false, not, _&&_, _||_}
+use mathlib.Core.Bool.{not}
 use mathlib.Core.Option.{Option, none, some}
 use mathlib.Core.List.{List, [], _∷_, _++_, map}
 use Prim.Native.Nat.{ℕ, zero, suc, _+_, _*_, _<_}
-use lib.IntN.{ℤ, pos, _-ℤ_}
+use lib.IntN.{ℤ, _-ℤ_}
 use lib.Dec.{T, eqb}
-use lib.ListN.{length}
 use Rattle.integers.specs.Words.{if_then_else_, below, isIn, those, first, joined, greatestOf, leastOf}
 use Rattle.definitions.specs.declared.Case.{Case}
-use Rattle.definitions.specs.declared.Line.{Line}
 use Rattle.definitions.specs.declared.Refusal.{Refusal}
 use Rattle.definitions.specs.declared.Refusal.the-variants.{LeavesRange}
 use Rattle.definitions.specs.declared.RunAnswer.{RunAnswer}
 use Rattle.definitions.specs.Rules.{Rules}
-use Rattle.definitions.specs.Case.{scopes, scopeCount, eachTuple, weight, greatest, active, upperBound}
+use Rattle.definitions.specs.Case.{scopes, scopeCount, eachTuple, weight, greatest, active}
 use Rattle.definitions.specs.Consistency.{Family, Supported}
-use Rattle.definitions.specs.Moves.{Move, shift, press, moved, activeRefuted, leavesRange}
-use Rattle.definitions.specs.Lines.{line, lineText, lineLength}
+use Rattle.definitions.specs.Moves.{Move, activePress, moved, activeRefuted, leavesRange}
+use Rattle.definitions.specs.Lines.{lineLength}
+use Rattle.definitions.specs.RoundLines.{roundText}
 
 -- ---- which press
 
@@ -65,7 +64,7 @@ pub data Next : Type 0 where
 -- a chosen variable always has a least gap (engine_theory, Gaps.amount), so that the first line is never used
 abbrev pub pressRound : Case → List ℤ → ℕ → Option ℤ → Next
 pressRound c w i none = nothing
-pressRound c w i (some a) = round (press i (keptScopes c w i) a ∷ [])
+pressRound c w i (some a) = round (activePress c w i (keptScopes c w i) a ∷ [])
 
 abbrev pub pressNext : Case → List ℤ → Option ℕ → Next
 pressNext c w none = nothing
@@ -74,28 +73,12 @@ pressNext c w (some i) = pressRound c w i (leastGap c w i)
 abbrev pub engineNext : Rules → Case → List ℤ → Next
 engineNext r c w = pressNext c w (chosen c w)
 
--- ---- the lines of a round, and the weights after it
-
-abbrev pub raiseLine : ℕ → Line
-raiseLine x = line 3 (pos x) (pos 0) (pos 0) (pos 0)
-
-abbrev pub moveLines : Move → List Line
-moveLines (shift e end v a) = line 1 (pos e) (pos end) (pos v) a ∷ []
-moveLines (press i raised a) = line 2 (pos i) (pos (length raised)) (pos 0) a ∷ map raiseLine raised
-
-abbrev pub boundLine : ℤ → Line
-boundLine bound = line 4 (pos 0) (pos 0) (pos 0) bound
+-- ---- the weights after a round, and what its lines need
 
 -- the moves one after another; none where one would take a working weight outside its range
 abbrev pub afterMoves : Rules → Case → List Move → List ℤ → Option (List ℤ)
 afterMoves r c [] w = some w
 afterMoves r c (move ∷ moves) w = if leavesRange r c (moved c move w) then none else afterMoves r c moves (moved c move w)
-
-abbrev pub roundLines : Case → List Move → List ℤ → List Line
-roundLines c moves after = joined (map moveLines moves) ++ (boundLine (upperBound c after) ∷ [])
-
-abbrev pub roundText : Rules → Case → List Move → List ℤ → List (List ℕ)
-roundText r c moves after = map (lineText (r .amountWidth)) (roundLines c moves after)
 
 -- what an output must hold for one round: a line for each scope and one more
 abbrev pub roundBytes : Rules → Case → ℕ

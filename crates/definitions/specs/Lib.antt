@@ -10,12 +10,10 @@ pub mod Lines
 pub mod Places
 pub mod CaseFiles
 pub mod Replay
+pub mod RoundLines
 pub mod Engine
 pub mod Views
 pub mod Scoring
 pub mod Programs
 pub mod Samples
-pub mod Calls
-pub mod EngineCalls
-pub mod CallSamples
 pub mod Borders

@@ -1,6 +1,6 @@
 -- Document 01, "Moves": each is a difference that is added to the table. Assumes nothing.
-use mathlib.Core.Bool.{Bool, true, false, not, _&&_, _||_}
-use mathlib.Core.List.{List, [], _∷_, _++_, map}
+use mathlib.Core.Bool.{Bool, not, _&&_}
+use mathlib.Core.List.{List, _++_, map}
 use Prim.Native.Nat.{ℕ, _+_}
 use lib.IntN.{ℤ, pos, negℤ, _+ℤ_}
 use lib.Dec.{eqb}
@@ -47,7 +47,7 @@ shiftBy c e end v a x k l =
 abbrev pub pressBy : Case → List ℤ → ℕ → (ℕ → Bool) → (ℕ → Bool) → ℤ → Difference
 pressBy c w i lowered R a x k l = onlyWhere (eqb x i && lowered k) (negℤ a) +ℤ onlyWhere (forbidden c w R x k l) a
 
--- the values that a press lowers: the active ones
+-- the values that document 01's press lowers: the active ones
 abbrev pub activeValues : Case → List ℤ → ℕ → ℕ → Bool
 activeValues c w i k = active c w i k 0
 
@@ -58,12 +58,15 @@ activeRefuted c w i raised = allRefuted c w (isIn raised) i (activeValues c w i)
 pub data Move : Type 0 where
   -- edge, end, value, amount
   shift : ℕ → ℕ → ℕ → ℤ → Move
-  -- variable, raised scopes, amount
-  press : ℕ → List ℕ → ℤ → Move
+  -- variable, values lowered, raised scopes, amount
+  press : ℕ → (ℕ → Bool) → List ℕ → ℤ → Move
+
+abbrev pub activePress : Case → List ℤ → ℕ → List ℕ → ℤ → Move
+activePress c w i raised a = press i (activeValues c w i) raised a
 
 abbrev pub difference : Case → List ℤ → Move → Difference
 difference c w (shift e end v a) = shiftBy c e end v a
-difference c w (press i raised a) = pressBy c w i (activeValues c w i) (isIn raised) a
+difference c w (press i lowered raised a) = pressBy c w i lowered (isIn raised) a
 
 -- the table after a move
 abbrev pub moved : Case → Move → List ℤ → List ℤ

@@ -1,18 +1,18 @@
 -- Document 01: what the programs `press` and `replay` print. Assumes nothing.
-use mathlib.Core.Bool.{Bool, true, false, not, _&&_, _||_}
+use mathlib.Core.Bool.{Bool}
 use mathlib.Core.Option.{Option, none, some}
-use mathlib.Core.List.{List, [], _∷_, _++_, map}
+use mathlib.Core.List.{List, [], _∷_, _++_}
 use Prim.Native.Nat.{ℕ, _+_, _*_}
 use Prim.Native.Char.{code}
 use Prim.Native.String.{String, [] as empty, _∷_ as char-and}
 use lib.IntN.{ℤ, pos}
-use lib.ListN.{length, drop, replicate}
+use lib.ListN.{drop, replicate}
 use Rattle.integers.specs.Words.{if_then_else_, joined}
 use Rattle.definitions.specs.declared.Rulebook.{Rulebook}
 use Rattle.definitions.specs.declared.Case.{Case}
 use Rattle.definitions.specs.declared.FileAnswer.{FileAnswer}
-use Rattle.definitions.specs.declared.CaseRead.{CaseRead}
 use Rattle.definitions.specs.declared.CaseSize.{CaseSize}
+use Rattle.definitions.specs.declared.Judgement.{Judgement}
 use Rattle.definitions.specs.declared.RunAnswer.{RunAnswer}
 use Rattle.definitions.specs.declared.Refusal.{Refusal}
 use Rattle.definitions.specs.declared.Refusal.the-variants.{CutShort}
@@ -21,7 +21,7 @@ use Rattle.definitions.specs.Refusals.{number}
 use Rattle.definitions.specs.Case.{upperBound}
 use Rattle.definitions.specs.Lines.{numberText, lineLength, linesIn, hasPart}
 use Rattle.definitions.specs.CaseFiles.{CaseCall, caseSize, readCase, readCaseAlone}
-use Rattle.definitions.specs.Replay.{State, fresh, after, answers, atEnd}
+use Rattle.definitions.specs.Replay.{fresh, after, answers, atEnd}
 use Rattle.definitions.specs.Engine.{RunOf, engineNext, run}
 
 -- `press` makes at most so many rounds
@@ -40,14 +40,9 @@ refusedText x at = bytesOf "refused " ++ numberText (pos (number x)) ++ bytesOf 
 abbrev pub acceptedText : ℕ → ℤ → List ℕ
 acceptedText rounds bound = bytesOf "accepted " ++ numberText (pos rounds) ++ bytesOf " " ++ numberText bound ++ bytesOf "\n"
 
--- the judgement of a case and a log: accepted with the rounds and the upper bound, or the refusal and its line in the whole input
-pub data Judged : Type 0 where
-  accepted : ℕ → ℤ → Judged
-  refused : Refusal → ℕ → Judged
-
-abbrev pub judgedText : Judged → List ℕ
-judgedText (accepted rounds bound) = acceptedText rounds bound
-judgedText (refused x at) = refusedText x at
+abbrev pub judgementText : Judgement → List ℕ
+judgementText (Judgement.Accepted rounds bound) = acceptedText rounds bound
+judgementText (Judgement.Refused x at) = refusedText x at
 
 -- the table that a program lends: as long as the head of the case asks
 abbrev pub tableFor : CaseSize → List ℤ
@@ -57,22 +52,22 @@ tableFor (CaseSize.Refused x) = []
 -- ---- `replay`: a case and its log, one after the other
 
 -- the first line answered by a number, counted from `at`; at the end 14 also where a part line is left
-abbrev pub firstNumber : ℕ → List (Option Refusal) → Option Refusal → Bool → Judged → Judged
-firstNumber at [] none part good = if part then refused CutShort at else good
-firstNumber at [] (some x) part good = refused x at
+abbrev pub firstNumber : ℕ → List (Option Refusal) → Option Refusal → Bool → Judgement → Judgement
+firstNumber at [] none part good = if part then Judgement.Refused CutShort at else good
+firstNumber at [] (some x) part good = Judgement.Refused x at
 firstNumber at (none ∷ xs) end part good = firstNumber (at + 1) xs end part good
-firstNumber at (some x ∷ xs) end part good = refused x at
+firstNumber at (some x ∷ xs) end part good = Judgement.Refused x at
 
 -- the log begins at line `at`, and is judged by the rules of its case
-abbrev pub judgeLog : Case → List ℤ → ℕ → List ℕ → Judged
+abbrev pub judgeLog : Case → List ℤ → ℕ → List ℕ → Judgement
 judgeLog c w at log =
     let r = rulesOf c in
     let lines = linesIn (r .amountWidth) log in
     let s = after r (fresh c w) lines in
-    firstNumber at (answers r (fresh c w) lines) (atEnd s) (hasPart (r .amountWidth) log) (accepted (s .rounds) (upperBound c (s .weights)))
+    firstNumber at (answers r (fresh c w) lines) (atEnd s) (hasPart (r .amountWidth) log) (Judgement.Accepted (s .rounds) (upperBound c (s .weights)))
 
-abbrev pub judgeRead : List ℕ → CaseCall → FileAnswer → Judged
-judgeRead t call (FileAnswer.Refused x at) = refused x at
+abbrev pub judgeRead : List ℕ → CaseCall → FileAnswer → Judgement
+judgeRead t call (FileAnswer.Refused x at) = Judgement.Refused x at
 judgeRead t call (FileAnswer.Read lines) =
     judgeLog (call .read .case) (call .table) lines (drop (lines * lineLength (rulesOf (call .read .case) .amountWidth)) t)
 
@@ -95,13 +90,13 @@ pressRead call (FileAnswer.Read lines) =
 -- ---- the programs' input is read under a rulebook
 
 module _ (b : Rulebook) where
-  abbrev pub judge : List ℕ → Judged
+  abbrev pub judge : List ℕ → Judgement
   judge t =
       let call = readCase b t (tableFor (caseSize b t)) in
       judgeRead t call (call .read .answer)
 
   abbrev pub replayPrints : List ℕ → List ℕ
-  replayPrints t = judgedText (judge t)
+  replayPrints t = judgementText (judge t)
 
   abbrev pub pressPrints : List ℕ → List ℕ
   pressPrints t =

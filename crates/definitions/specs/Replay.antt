@@ -6,7 +6,7 @@ use Prim.Native.Nat.{ℕ, _+_, _-_}
 use lib.IntN.{ℤ, pos, natAbs}
 use lib.Dec.{leb, ltb, eqb}
 use lib.Signed.{ltZ}
-use Rattle.integers.specs.Words.{if_then_else_, last, withinZ, eqZ, isSome}
+use Rattle.integers.specs.Words.{if_then_else_, last, isIn, withinZ, eqZ, isSome}
 use Rattle.definitions.specs.declared.Case.{Case}
 use Rattle.definitions.specs.declared.Line.{Line}
 use Rattle.definitions.specs.declared.Refusal.{Refusal}
@@ -24,7 +24,8 @@ use Rattle.definitions.specs.declared.Refusal.the-variants.{
 use Rattle.definitions.specs.Rules.{Rules}
 use Rattle.definitions.specs.Refusals.{Test, _when_, firstOf}
 use Rattle.definitions.specs.Case.{scopeCount, upperBound}
-use Rattle.definitions.specs.Moves.{Move, shift, press, shiftAmount, pressAmount, moved, activeRefuted, leavesRange}
+use Rattle.definitions.specs.Consistency.{allRefuted}
+use Rattle.definitions.specs.Moves.{Move, shift, press, shiftAmount, pressAmount, moved, activeValues, leavesRange}
 use Rattle.definitions.specs.Lines.{readLine, notDue, isKind, outside}
 
 -- ---- the state
@@ -144,8 +145,12 @@ raising h t = record { variable = h .variable; amount = h .amount; raised = h .r
 abbrev pub isLast : Held → Bool
 isLast h = eqb (h .left) 1
 
-abbrev pub pressOf : Held → Move
-pressOf h = press (h .variable) (h .raised) (h .amount)
+-- the values that it lowers
+abbrev pub heldValues : State → Held → ℕ → Bool
+heldValues s h = activeValues (s .case) (s .weights) (h .variable)
+
+abbrev pub pressOf : State → Held → Move
+pressOf s h = press (h .variable) (heldValues s h) (h .raised) (h .amount)
 
 -- not above the press's previous raise line
 abbrev pub notAbove : Option ℕ → ℕ → Bool
@@ -156,8 +161,8 @@ abbrev pub raiseTests : Rules → State → Held → Line → List Test
 raiseTests r s h t =
     OutOfRange when (outside (scopeCount (s .case)) (t .a))
     ∷ RaiseNotAscending when (notAbove (last (h .raised)) (natAbs (t .a)) || eqb (natAbs (t .a)) (h .variable))
-    ∷ NotRefuted when (isLast h && not (activeRefuted (s .case) (s .weights) (h .variable) (raising h t .raised)))
-    ∷ LeavesRange when (isLast h && leavesRange r (s .case) (moved (s .case) (pressOf (raising h t)) (s .weights)))
+    ∷ NotRefuted when (isLast h && not (allRefuted (s .case) (s .weights) (isIn (raising h t .raised)) (h .variable) (heldValues s h)))
+    ∷ LeavesRange when (isLast h && leavesRange r (s .case) (moved (s .case) (pressOf s (raising h t)) (s .weights)))
     ∷ []
 
 -- ---- kind 4: rounds grow by one; its amount is the upper bound at the next round's start
@@ -173,7 +178,7 @@ boundTests r s t =
 
 abbrev pub taken : State → Option Held → Option Line → State
 taken s held none = s
-taken s (some h) (some t) = if isLast h then afterMove s (pressOf (raising h t)) else holding s (raising h t)
+taken s (some h) (some t) = if isLast h then afterMove s (pressOf s (raising h t)) else holding s (raising h t)
 taken s none (some t) =
     if isKind 1 t then afterMove s (shiftOf t)
     else if isKind 2 t then holding s (heldOf t)

@@ -1,15 +1,14 @@
 -- Document 01, "Sample cases": P1 to P12 as one table of questions with the answers that the document gives, and one theorem over it.
 -- Assumes nothing.
 use mathlib.Core.Path.{_≡_, refl}
-use mathlib.Core.Bool.{Bool, true, false}
-use mathlib.Core.Option.{Option, none, some}
+use mathlib.Core.Bool.{Bool, true}
 use mathlib.Core.List.{List, [], _∷_, _++_, map}
 use Prim.Native.Nat.{ℕ}
 use Prim.Native.String.{String}
 use lib.IntN.{ℤ, pos}
 use lib.Dec.{T}
 use lib.ListN.{take, replicate}
-use Rattle.integers.specs.Words.{below, all, joined, minus}
+use Rattle.integers.specs.Words.{all, joined, minus}
 use Rattle.definitions.specs.declared.Rulebook.the-variants.{Desk}
 use Rattle.definitions.specs.declared.Case.{Case}
 use Rattle.definitions.specs.declared.RunAnswer.{RunAnswer}

@@ -1,11 +1,10 @@
 -- Document 01: the view of a round. Assumes nothing.
 use mathlib.Core.Bool.{Bool, true, false}
-use mathlib.Core.Option.{Option, none, some}
+use mathlib.Core.Option.{none, some}
 use mathlib.Core.List.{List, [], _∷_}
 use Prim.Native.Nat.{ℕ, zero, suc, _+_, _*_, _-_}
 use lib.ListN.{take, drop}
 use Rattle.integers.specs.Words.{if_then_else_}
-use Rattle.definitions.specs.declared.Line.{Line}
 use Rattle.definitions.specs.declared.Refusal.the-variants.{NotInColumns, OutOfRange, CutShort}
 use Rattle.definitions.specs.declared.Span.{Span}
 use Rattle.definitions.specs.Rules.{Rules}

@@ -1,4 +1,4 @@
-// The types that cross the library's border. What each function answers is defined in specs/.
+// The types that cross the library's border. What each function answers is defined in the crates calls and checker.
 
 // Places in arrays, which hold what the greatest rules ask (specs/Rules, specs/Places): variables, edges and scopes of a case; and in the
 // programs its table, the input and the output of a round.
@@ -102,6 +102,12 @@ pub enum FileAnswer {
 pub struct CaseRead {
     pub answer: FileAnswer,
     pub case: Case,
+}
+
+// The judgement of a case and a log: the rounds and the last upper bound, or the refusal and its line in the whole input.
+pub enum Judgement {
+    Accepted { rounds: u64, bound: i64 },
+    Refused { refusal: Refusal, line: usize },
 }
 
 // The answer of a call that writes bytes.

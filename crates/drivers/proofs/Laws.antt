@@ -19,7 +19,8 @@ pub count-from : (other : ℕ) (z : ℤ) → ltZ z (pos 0) ≡ false → countOr
 count-from other (pos n) h = refl
 count-from other (negsuc n) h = absurd (omega zs)
 
-pub digest-next : (sum i : ℕ) (bytes : List ℕ) → i < length bytes → digestFrom sum (drop i bytes) ≡ digestFrom ((sum * 31 + getD bytes i 0) % 1_000_000_007) (drop (i + 1) bytes)
+pub digest-next : (sum i : ℕ) (bytes : List ℕ) → i < length bytes
+    → digestFrom sum (drop i bytes) ≡ digestFrom ((sum * 31 + getD bytes i 0) % 1_000_000_007) (drop (i + 1) bytes)
 unfolding digestFrom
 digest-next sum i bytes h = rw (add-one, drop-cons bytes i 0)
 

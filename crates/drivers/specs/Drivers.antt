@@ -8,9 +8,9 @@ use Rattle.definitions.specs.declared.LineRead.the-variants.{Read, Refused}
 use Rattle.definitions.specs.Lines.{line}
 
 -- a title stands for a line of zeros
-abbrev pub lineOf : LineRead → Line
-lineOf (Read l) = l
-lineOf (Refused x) = line 0 (pos 0) (pos 0) (pos 0) (pos 0)
+abbrev pub lineTold : LineRead → Line
+lineTold (Read l) = l
+lineTold (Refused x) = line 0 (pos 0) (pos 0) (pos 0) (pos 0)
 
 -- a number that is meant as a count; a negative one stands for `other`
 abbrev pub countOr : ℕ → ℤ → ℕ

@@ -10,19 +10,13 @@ ghost use lib.ListN.{length};
 ghost use Rattle.definitions.specs.Refusals.{number};
 ghost use Rattle.definitions.specs.declared.Rulebook.the-variants.{Desk};
 ghost use Rattle.definitions.specs.Rules.{rulesIn};
-ghost use Rattle.definitions.specs.Calls.{readLineAnswer};
-ghost use Rattle.drivers.specs.Drivers.{lineOf, countOr, digestFrom};
+ghost use Rattle.calls.specs.Calls.{readLineAnswer};
+ghost use Rattle.drivers.specs.Drivers.{lineTold, countOr, digestFrom};
 
 fn print_first(text: &[u8], n: usize) {
     if n <= text.len() {
         io::write_all(1, &text[0..n]);
     }
-}
-
-fn wide(x: u8) -> u64
-    ensures { λ r. ⌜ (r ≡ x) × (r < 256) ⌝ }
-{
-    x as u64
 }
 
 // ---- the calls
@@ -31,27 +25,12 @@ fn wide(x: u8) -> u64
 pub fn number_of(refusal: Refusal) -> u64
     ensures { λ r. ⌜ r ≡ number refusal ⌝ }
 {
-    match refusal {
-        Refusal::NotInColumns => 1,
-        Refusal::NotDue => 2,
-        Refusal::OutsideLimits => 3,
-        Refusal::WrongLength => 4,
-        Refusal::OutOfRange => 5,
-        Refusal::EndsNotAscending => 6,
-        Refusal::EdgeRepeated => 7,
-        Refusal::WeightOutOfRange => 8,
-        Refusal::RaiseNotAscending => 9,
-        Refusal::NotRefuted => 10,
-        Refusal::LeavesRange => 11,
-        Refusal::OtherBound => 12,
-        Refusal::BoundNotLower => 13,
-        Refusal::CutShort => 14,
-    }
+    integers::wide(texts::number_of(refusal))
 }
 
 // The line that the text is, or zeros; a text that is not in columns is a title and is printed.
 pub fn line_of(text: &[u8]) -> Line
-    ensures { λ r. ⌜ r ≡ lineOf (readLineAnswer (rulesIn Desk) (now (text .entry))) ⌝ }
+    ensures { λ r. ⌜ r ≡ lineTold (readLineAnswer (rulesIn Desk) (now (text .entry))) ⌝ }
 {
     let read = lines::read_line(text);
     match read {
@@ -90,7 +69,7 @@ pub fn digest(earlier: u64, bytes: &[u8]) -> u64
     let mut sum: u64 = earlier % 1_000_000_007;
     let mut i: usize = 0;
     while i < bytes.len() {
-        sum = (sum * 31 + wide(bytes[i])) % 1_000_000_007;
+        sum = (sum * 31 + integers::wide(bytes[i])) % 1_000_000_007;
         i += 1;
     }
     sum

@@ -4,7 +4,7 @@ use mathlib.Core.Bool.{Bool, true, false}
 use mathlib.Core.List.{List}
 use Prim.Native.Nat.{ℕ, _+_, _^_, _<_}
 use native.Mathlib.Omega.{arith}
-use lib.Dec.{leb, eqb}
+use lib.Dec.{eqb}
 use lib.IntN.{ℤ}
 use lib.ListN.{length, take, drop, getD}
 use lib.Seq.{take-at, drop-at, take-all}
@@ -20,9 +20,9 @@ use Rattle.checker.specs.declared.Standing.{Standing}
 use Rattle.checker.specs.declared.Replay.{Replay}
 use Rattle.checker.specs.Checker.{standingSays, standingOf}
 use Rattle.encoding.specs.declared.Press.{Press}
-use Rattle.encoding.specs.Numbers.{numberBytes, numberAt, bitsOf, signedOf}
-use Rattle.encoding.specs.CaseBytes.{caseBytes, caseOf}
-use Rattle.encoding.specs.RecordBytes.{pressOf, dueOf, standingAt, flag, recordNumbers, recordTags, recordBytes, isRecord, pressAt, recordOf}
+use Rattle.encoding.specs.Numbers.{numberBytes, numberAt, wordOf, signedOf}
+use Rattle.encoding.specs.CaseBytes.{bytesOfCase, caseIn}
+use Rattle.encoding.specs.RecordBytes.{pressRecorded, dueRecorded, standingAt, flag, recordNumbers, recordTags, recordBytes, pressAt, recordIn}
 use Rattle.encoding.proofs.Signed.{signed-back, bits-fit}
 use Rattle.encoding.proofs.Values.{number-back}
 
@@ -37,61 +37,44 @@ pub record CaseHeld (c : Case) : Type 0 where
   pub desk : c .rulebook ≡ Desk
 
 module _ (c : Case) (h : CaseHeld c) where
-  n-is : numberAt (caseBytes c) 0 ≡ c .n
-  unfolding numberAt numberBytes caseBytes
+  n-is : numberAt (bytesOfCase c) 0 ≡ c .n
+  unfolding numberAt numberBytes bytesOfCase
   n-is = number-back (c .n) (h .n)
 
-  d-is : numberAt (caseBytes c) 8 ≡ c .d
-  unfolding numberAt numberBytes caseBytes
+  d-is : numberAt (bytesOfCase c) 8 ≡ c .d
+  unfolding numberAt numberBytes bytesOfCase
   d-is = number-back (c .d) (h .d)
 
-  m-is : numberAt (caseBytes c) 16 ≡ c .m
-  unfolding numberAt numberBytes caseBytes
+  m-is : numberAt (bytesOfCase c) 16 ≡ c .m
+  unfolding numberAt numberBytes bytesOfCase
   m-is = number-back (c .m) (h .m)
 
-  lower-is : take edgePlaces (drop 24 (caseBytes c)) ≡ c .lower
-  unfolding numberBytes caseBytes
+  lower-is : take edgePlaces (drop 24 (bytesOfCase c)) ≡ c .lower
+  unfolding numberBytes bytesOfCase
   lower-is = take-at (c .lower) (c .upper) edgePlaces (h .lower)
 
-  upper-is : take edgePlaces (drop (24 + edgePlaces) (caseBytes c)) ≡ c .upper
-  unfolding numberBytes caseBytes
+  upper-is : take edgePlaces (drop (24 + edgePlaces) (bytesOfCase c)) ≡ c .upper
+  unfolding numberBytes bytesOfCase
   upper-is = ap (take edgePlaces) (drop-at (c .lower) (c .upper) edgePlaces (h .lower)) ∙ take-all edgePlaces (c .upper) (omega (arith, h .upper))
 
-  pub case-back : caseOf (caseBytes c) ≡ c
-  unfolding caseOf
+  pub case-back : caseIn (bytesOfCase c) ≡ c
+  unfolding caseIn
   case-back = rw (n-is, d-is, m-is, lower-is, upper-is, ← h .desk)
 
 -- ---- what is due and what stands
 
-due-back : (due : Due) → dueOf (pressOf due) ≡ due
+due-back : (due : Due) → dueRecorded (pressRecorded due) ≡ due
 due-back Due.MoveOrBound = refl
 due-back (Due.Raise i a left LastRaised.Nothing) = refl
 due-back (Due.Raise i a left (LastRaised.Scope x)) = refl
-
-begun-is : (due : Due) → leb (pressOf due .begun) 1 ≡ true
-begun-is Due.MoveOrBound = refl
-begun-is (Due.Raise i a left lastOne) = refl
-
-known-is : (due : Due) → leb (pressOf due .last .known) 1 ≡ true
-known-is Due.MoveOrBound = refl
-known-is (Due.Raise i a left LastRaised.Nothing) = refl
-known-is (Due.Raise i a left (LastRaised.Scope x)) = refl
 
 flag-back : (b : Bool) → eqb (flag b) 1 ≡ b
 flag-back true = refl
 flag-back false = refl
 
-flag-is : (b : Bool) → leb (flag b) 1 ≡ true
-flag-is true = refl
-flag-is false = refl
-
 standing-back : (s : Standing) → standingAt (standingSays s .number) ≡ s
 standing-back Standing.Good = refl
 standing-back (Standing.Refused x) = ap standingOf (numbered x .back)
-
-standing-most : (s : Standing) → leb (standingSays s .number) 14 ≡ true
-standing-most Standing.Good = refl
-standing-most (Standing.Refused x) = numbered x .most
 
 -- standings that say the same are equal, as answers are (definitions' AnswerLaws)
 pub standing-same : (a b : Standing) → standingSays a ≡ standingSays b → a ≡ b
@@ -103,12 +86,12 @@ pub record RecordHeld (p : Replay) : Type 0 where
   pub rounds : p .rounds < 2 ^ 64
   pub start : SFits w64 (p .start)
   pub raised : length (p .raised) ≡ scopePlaces
-  pub variable : pressOf (p .due) .variable < 2 ^ 64
-  pub amount : SFits w64 (pressOf (p .due) .amount)
-  pub left : pressOf (p .due) .left < 2 ^ 64
-  pub scope : pressOf (p .due) .last .scope < 2 ^ 64
+  pub variable : pressRecorded (p .due) .variable < 2 ^ 64
+  pub amount : SFits w64 (pressRecorded (p .due) .amount)
+  pub left : pressRecorded (p .due) .left < 2 ^ 64
+  pub scope : pressRecorded (p .due) .last .scope < 2 ^ 64
 
-signed : (z : ℤ) → SFits w64 z → {x : ℕ} → x ≡ bitsOf z → signedOf x ≡ z
+signed : (z : ℤ) → SFits w64 z → {x : ℕ} → x ≡ wordOf z → signedOf x ≡ z
 signed z f e = ap signedOf e ∙ signed-back z f
 
 same-press :
@@ -134,19 +117,15 @@ same-record :
 same-record p e f g i j k = rw (e, f, g, i, j, k)
 
 module _ (p : Replay) where
-  pub is-record : isRecord (recordBytes p) ≡ true
-  unfolding isRecord numberBytes recordNumbers recordTags recordBytes
-  is-record = rw (flag-is (p .moved), begun-is (p .due), known-is (p .due), standing-most (p .standing))
-
   moved-at : getD (recordBytes p) 48 0 ≡ flag (p .moved)
   unfolding numberBytes recordNumbers recordTags recordBytes
   moved-at = refl
 
-  begun-at : getD (recordBytes p) 49 0 ≡ pressOf (p .due) .begun
+  begun-at : getD (recordBytes p) 49 0 ≡ pressRecorded (p .due) .begun
   unfolding numberBytes recordNumbers recordTags recordBytes
   begun-at = refl
 
-  known-at : getD (recordBytes p) 50 0 ≡ pressOf (p .due) .last .known
+  known-at : getD (recordBytes p) 50 0 ≡ pressRecorded (p .due) .last .known
   unfolding numberBytes recordNumbers recordTags recordBytes
   known-at = refl
 
@@ -159,36 +138,36 @@ module _ (p : Replay) where
     unfolding numberAt numberBytes recordNumbers recordTags recordBytes
     rounds-is = number-back (p .rounds) (h .rounds)
 
-    start-is : numberAt (recordBytes p) 8 ≡ bitsOf (p .start)
+    start-is : numberAt (recordBytes p) 8 ≡ wordOf (p .start)
     unfolding numberAt numberBytes recordNumbers recordTags recordBytes
-    start-is = number-back (bitsOf (p .start)) (bits-fit (p .start) (h .start))
+    start-is = number-back (wordOf (p .start)) (bits-fit (p .start) (h .start))
 
-    variable-is : numberAt (recordBytes p) 16 ≡ pressOf (p .due) .variable
+    variable-is : numberAt (recordBytes p) 16 ≡ pressRecorded (p .due) .variable
     unfolding numberAt numberBytes recordNumbers recordTags recordBytes
-    variable-is = number-back (pressOf (p .due) .variable) (h .variable)
+    variable-is = number-back (pressRecorded (p .due) .variable) (h .variable)
 
-    amount-is : numberAt (recordBytes p) 24 ≡ bitsOf (pressOf (p .due) .amount)
+    amount-is : numberAt (recordBytes p) 24 ≡ wordOf (pressRecorded (p .due) .amount)
     unfolding numberAt numberBytes recordNumbers recordTags recordBytes
-    amount-is = number-back (bitsOf (pressOf (p .due) .amount)) (bits-fit (pressOf (p .due) .amount) (h .amount))
+    amount-is = number-back (wordOf (pressRecorded (p .due) .amount)) (bits-fit (pressRecorded (p .due) .amount) (h .amount))
 
-    left-is : numberAt (recordBytes p) 32 ≡ pressOf (p .due) .left
+    left-is : numberAt (recordBytes p) 32 ≡ pressRecorded (p .due) .left
     unfolding numberAt numberBytes recordNumbers recordTags recordBytes
-    left-is = number-back (pressOf (p .due) .left) (h .left)
+    left-is = number-back (pressRecorded (p .due) .left) (h .left)
 
-    scope-is : numberAt (recordBytes p) 40 ≡ pressOf (p .due) .last .scope
+    scope-is : numberAt (recordBytes p) 40 ≡ pressRecorded (p .due) .last .scope
     unfolding numberAt numberBytes recordNumbers recordTags recordBytes
-    scope-is = number-back (pressOf (p .due) .last .scope) (h .scope)
+    scope-is = number-back (pressRecorded (p .due) .last .scope) (h .scope)
 
     raised-is : take scopePlaces (drop 52 (recordBytes p)) ≡ p .raised
     unfolding numberBytes recordNumbers recordTags recordBytes
     raised-is = take-all scopePlaces (p .raised) (omega (arith, h .raised))
 
-    press-is : pressAt (recordBytes p) ≡ pressOf (p .due)
+    press-is : pressAt (recordBytes p) ≡ pressRecorded (p .due)
     press-is =
-        same-press (pressOf (p .due)) begun-at variable-is (signed (pressOf (p .due) .amount) (h .amount) amount-is) left-is known-at scope-is
+        same-press (pressRecorded (p .due)) begun-at variable-is (signed (pressRecorded (p .due) .amount) (h .amount) amount-is) left-is known-at scope-is
 
-    pub record-back : recordOf (recordBytes p) ≡ p
-    unfolding recordOf
+    pub record-back : recordIn (recordBytes p) ≡ p
+    unfolding recordIn
     record-back =
         same-record p rounds-is (signed (p .start) (h .start) start-is) (ap (λ (b : ℕ). eqb b 1) moved-at ∙ flag-back (p .moved)) raised-is
-        (ap dueOf press-is ∙ due-back (p .due)) (ap standingAt standing-at ∙ standing-back (p .standing))
+        (ap dueRecorded press-is ∙ due-back (p .due)) (ap standingAt standing-at ∙ standing-back (p .standing))

@@ -6,22 +6,22 @@ use Prim.Native.Nat.{ℕ, _+_}
 use native.Mathlib.Omega.{arith}
 use lib.IntN.{ℤ}
 use lib.ListN.{length, drop-of-length-le}
-use Rattle.texts.specs.Texts.{placed}
+use Rattle.texts.specs.Texts.{placedAt}
 use Rattle.texts.proofs.Placed.{placed-first, Printed, printed-next}
 use Rattle.checker.specs.declared.Standing.{Standing}
 use Rattle.encoding.specs.declared.Press.{Press}
 use Rattle.encoding.specs.Numbers.{numberBytes}
 use Rattle.encoding.specs.RecordBytes.{recordNumbers, recordTags}
-use Rattle.encoding.proofs.Values.{number-length}
+use Rattle.encoding.proofs.Values.{word-length}
 
-pub first-number : (x : ℕ) {out l : List ℕ} → l ≡ placed 0 (numberBytes x) out → Printed (numberBytes x) out l 8
-first-number x {out} q = record { bytes = q ∙ placed-first (numberBytes x) out; count = sym (number-length x) }
+pub first-number : (x : ℕ) {out l : List ℕ} → l ≡ placedAt 0 (numberBytes x) out → Printed (numberBytes x) out l 8
+first-number x {out} q = record { bytes = q ∙ placed-first (numberBytes x) out; count = sym (word-length x) }
 
 module _ {text out l : List ℕ} {n : ℕ} (p : Printed text out l n) where
-  pub next-number : (x : ℕ) {k : List ℕ} → k ≡ placed n (numberBytes x) l → Printed (text ++ numberBytes x) out k (n + 8)
-  next-number x q = printed-next p (numberBytes x) (omega (arith, number-length x)) q
+  pub next-number : (x : ℕ) {k : List ℕ} → k ≡ placedAt n (numberBytes x) l → Printed (text ++ numberBytes x) out k (n + 8)
+  next-number x q = printed-next p (numberBytes x) (omega (arith, word-length x)) q
 
-  pub next-part : (ys : List ℕ) (m : ℕ) {k : List ℕ} → length ys ≡ m → k ≡ placed n ys l → Printed (text ++ ys) out k (n + m)
+  pub next-part : (ys : List ℕ) (m : ℕ) {k : List ℕ} → length ys ≡ m → k ≡ placedAt n ys l → Printed (text ++ ys) out k (n + m)
   next-part ys m e q = printed-next p ys (omega (arith, e)) q
 
   -- the output has no more bytes

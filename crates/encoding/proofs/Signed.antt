@@ -11,23 +11,23 @@ use mir.ValLaws.{toZ-pos}
 use mir.Facts.{toZ-ofZ}
 use borrow.Author.Tests.{lt-ltb, le-ltb}
 use Rattle.integers.specs.Linear.{zs, flat}
-use Rattle.encoding.specs.Numbers.{greatest, bitsOf, signedOf}
+use Rattle.encoding.specs.Numbers.{greatestWord, wordOf, signedOf}
 
 -- ---- to bits
 
-below-bits : (z : ℤ) → ltZ z (pos 0) ≡ true → greatest - (natAbs z - 1) ≡ bitsOf z
+below-bits : (z : ℤ) → ltZ z (pos 0) ≡ true → greatestWord - (natAbs z - 1) ≡ wordOf z
 below-bits (pos n) h = absurd (omega zs)
 below-bits (negsuc n) h = omega arith
 
-from-bits : (z : ℤ) → ltZ z (pos 0) ≡ false → natAbs z ≡ bitsOf z
+from-bits : (z : ℤ) → ltZ z (pos 0) ≡ false → natAbs z ≡ wordOf z
 from-bits (pos n) h = refl
 from-bits (negsuc n) h = absurd (omega zs)
 
 module _ (z : ℤ) (f : SFits w64 z) where
-  pub negative-bits : ltZ (toZ w64 (ofZ w64 z)) (pos 0) ≡ true → greatest - (natAbs z - 1) ≡ bitsOf z
+  pub negative-bits : ltZ (toZ w64 (ofZ w64 z)) (pos 0) ≡ true → greatestWord - (natAbs z - 1) ≡ wordOf z
   negative-bits h = below-bits z (rw (toZ-ofZ f) at h)
 
-  pub plain-bits : ltZ (toZ w64 (ofZ w64 z)) (pos 0) ≡ false → natAbs z ≡ bitsOf z
+  pub plain-bits : ltZ (toZ w64 (ofZ w64 z)) (pos 0) ≡ false → natAbs z ≡ wordOf z
   plain-bits h = from-bits z (rw (toZ-ofZ f) at h)
 
 -- ---- from bits
@@ -38,37 +38,31 @@ less-is y = simp flat (omega zs)
 
 module _ (x : ℕ) where
   module _ (h : x < 9_223_372_036_854_775_808) where
-    pub plain-fits : SFits w64 (pos x)
-    plain-fits = record { sfits = omega arith }
+    pub low-word-is : pos x ≡ signedOf x
+    low-word-is = simp (lt-ltb _ _ h)
 
-    pub plain-is : pos x ≡ signedOf x
-    plain-is = simp (lt-ltb _ _ h)
-
-  module _ (h : 9_223_372_036_854_775_808 ≤ x) (f : x ≤ greatest) where
+  module _ (h : 9_223_372_036_854_775_808 ≤ x) (f : x ≤ greatestWord) where
     abbrev rest : ℕ
-    rest = greatest - x
-
-    pub rest-fits : SFits w64 (pos rest)
-    rest-fits = record { sfits = omega arith }
+    rest = greatestWord - x
 
     rest-is : toZ w64 rest ≡ pos rest
     rest-is = toZ-pos w64 rest (omega arith)
 
-    pub first-fits : SFits w64 (pos 0 -ℤ toZ w64 rest)
-    first-fits = rw rest-is (simp flat (omega zs))
+    pub lessened-fits : SFits w64 (pos 0 -ℤ toZ w64 rest)
+    lessened-fits = rw rest-is (simp flat (omega zs))
 
     pub second-fits : SFits w64 (toZ w64 (ofZ w64 (pos 0 -ℤ toZ w64 rest)) -ℤ pos 1)
-    second-fits = rw (toZ-ofZ first-fits, rest-is) (simp flat (omega zs))
+    second-fits = rw (toZ-ofZ lessened-fits, rest-is) (simp flat (omega zs))
 
-    pub negative-is : toZ w64 (ofZ w64 (toZ w64 (ofZ w64 (pos 0 -ℤ toZ w64 rest)) -ℤ pos 1)) ≡ signedOf x
-    negative-is = toZ-ofZ second-fits ∙ rw (toZ-ofZ first-fits, rest-is) (less-is rest ∙ simp (le-ltb _ _ h))
+    pub high-word-is : toZ w64 (ofZ w64 (toZ w64 (ofZ w64 (pos 0 -ℤ toZ w64 rest)) -ℤ pos 1)) ≡ signedOf x
+    high-word-is = toZ-ofZ second-fits ∙ rw (toZ-ofZ lessened-fits, rest-is) (less-is rest ∙ simp (le-ltb _ _ h))
 
 -- ---- there and back
 
-pub signed-back : (z : ℤ) → SFits w64 z → signedOf (bitsOf z) ≡ z
+pub signed-back : (z : ℤ) → SFits w64 z → signedOf (wordOf z) ≡ z
 signed-back (pos n) f = simp (lt-ltb n (2 ^ 63) (f .sfits))
-signed-back (negsuc n) f = simp (le-ltb (greatest - n) (2 ^ 63) (omega (arith, f .sfits))) (ap negsuc (omega (arith, f .sfits)))
+signed-back (negsuc n) f = simp (le-ltb (greatestWord - n) (2 ^ 63) (omega (arith, f .sfits))) (ap negsuc (omega (arith, f .sfits)))
 
-pub bits-fit : (z : ℤ) → SFits w64 z → bitsOf z < 2 ^ 64
+pub bits-fit : (z : ℤ) → SFits w64 z → wordOf z < 2 ^ 64
 bits-fit (pos n) f = omega (arith, f .sfits)
 bits-fit (negsuc n) f = omega arith

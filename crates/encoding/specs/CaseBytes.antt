@@ -8,12 +8,12 @@ use Rattle.definitions.specs.declared.Case.{Case}
 use Rattle.definitions.specs.Rules.{edgePlaces}
 use Rattle.encoding.specs.Numbers.{numberBytes, numberAt}
 
-unfoldable pub caseBytes : Case → List ℕ
-caseBytes c = numberBytes (c .n) ++ numberBytes (c .d) ++ numberBytes (c .m) ++ c .lower ++ c .upper
+unfoldable pub bytesOfCase : Case → List ℕ
+bytesOfCase c = numberBytes (c .n) ++ numberBytes (c .d) ++ numberBytes (c .m) ++ c .lower ++ c .upper
 
 -- all bytes of that length are those of a case; its limits are asked by the calls
-unfoldable pub caseOf : List ℕ → Case
-caseOf bytes = record {
+unfoldable pub caseIn : List ℕ → Case
+caseIn bytes = record {
   n = numberAt bytes 0;
   d = numberAt bytes 8;
   m = numberAt bytes 16;

@@ -1,5 +1,6 @@
 -- The replay's record as bytes: its count of rounds, its bound at the round's start, the variable, amount, lines left and last scope of a press
--- begun (0 where there is none), then a byte each for: moved, a press begun, a last scope, the standing; then the marks of raised scopes, a byte for each place.
+-- begun (0 where there is none), then a byte each for: moved, a press begun, a last scope, the standing; then the marks of raised scopes, a byte for each
+-- place.
 -- Assumes nothing.
 use mathlib.Core.Bool.{Bool, _&&_}
 use mathlib.Core.List.{List, [], _∷_, _++_}
@@ -17,24 +18,24 @@ use Rattle.checker.specs.declared.Replay.{Replay}
 use Rattle.checker.specs.Checker.{standingSays, standingOf}
 use Rattle.encoding.specs.declared.Last.{Last}
 use Rattle.encoding.specs.declared.Press.{Press}
-use Rattle.encoding.specs.Numbers.{numberBytes, numberAt, bitsOf, signedOf}
+use Rattle.encoding.specs.Numbers.{numberBytes, numberAt, wordOf, signedOf}
 
 -- ---- what is due and what stands, as numbers
 
 -- 1 and the scope, or 0
-abbrev pub lastOf : LastRaised → Last
-lastOf LastRaised.Nothing = record { known = 0; scope = 0 }
-lastOf (LastRaised.Scope x) = record { known = 1; scope = x }
+abbrev pub lastRecorded : LastRaised → Last
+lastRecorded LastRaised.Nothing = record { known = 0; scope = 0 }
+lastRecorded (LastRaised.Scope x) = record { known = 1; scope = x }
 
 abbrev pub raisedOf : Last → LastRaised
 raisedOf q = if eqb (q .known) 1 then LastRaised.Scope (q .scope) else LastRaised.Nothing
 
-abbrev pub pressOf : Due → Press
-pressOf Due.MoveOrBound = record { begun = 0; variable = 0; amount = pos 0; left = 0; last = lastOf LastRaised.Nothing }
-pressOf (Due.Raise i a left lastOne) = record { begun = 1; variable = i; amount = a; left = left; last = lastOf lastOne }
+abbrev pub pressRecorded : Due → Press
+pressRecorded Due.MoveOrBound = record { begun = 0; variable = 0; amount = pos 0; left = 0; last = lastRecorded LastRaised.Nothing }
+pressRecorded (Due.Raise i a left lastOne) = record { begun = 1; variable = i; amount = a; left = left; last = lastRecorded lastOne }
 
-abbrev pub dueOf : Press → Due
-dueOf q = if eqb (q .begun) 1 then Due.Raise (q .variable) (q .amount) (q .left) (raisedOf (q .last)) else Due.MoveOrBound
+abbrev pub dueRecorded : Press → Due
+dueRecorded q = if eqb (q .begun) 1 then Due.Raise (q .variable) (q .amount) (q .left) (raisedOf (q .last)) else Due.MoveOrBound
 
 -- what stands by the number that it says, 0 where it is good
 abbrev pub standingAt : ℕ → Standing
@@ -47,7 +48,7 @@ flag b = if b then 1 else 0
 
 unfoldable pub recordNumbers : ℕ → ℤ → Press → List ℕ
 recordNumbers rounds start q =
-    numberBytes rounds ++ numberBytes (bitsOf start) ++ numberBytes (q .variable) ++ numberBytes (bitsOf (q .amount)) ++ numberBytes (q .left)
+    numberBytes rounds ++ numberBytes (wordOf start) ++ numberBytes (q .variable) ++ numberBytes (wordOf (q .amount)) ++ numberBytes (q .left)
     ++ numberBytes (q .last .scope)
 
 unfoldable pub recordTags : Bool → Press → Standing → List ℕ
@@ -55,7 +56,7 @@ recordTags moved q standing = flag moved ∷ q .begun ∷ q .last .known ∷ sta
 
 unfoldable pub recordBytes : Replay → List ℕ
 recordBytes p =
-    let q = pressOf (p .due) in
+    let q = pressRecorded (p .due) in
     recordNumbers (p .rounds) (p .start) q ++ recordTags (p .moved) q (p .standing) ++ p .raised
 
 -- the bytes that say moved, a press begun, a last scope and the standing encode something
@@ -73,12 +74,12 @@ pressAt bytes = record {
 }
 
 -- the record of such bytes; what a press would hold is not looked at where none is begun
-unfoldable pub recordOf : List ℕ → Replay
-recordOf bytes = record {
+unfoldable pub recordIn : List ℕ → Replay
+recordIn bytes = record {
   rounds = numberAt bytes 0;
   start = signedOf (numberAt bytes 8);
   moved = eqb (getD bytes 48 0) 1;
   raised = take scopePlaces (drop 52 bytes);
-  due = dueOf (pressAt bytes);
+  due = dueRecorded (pressAt bytes);
   standing = standingAt (getD bytes 51 0);
 }

@@ -14,12 +14,13 @@ ghost use Prim.Native.Nat.{_+_, _%_, _≤_, _<_};
 ghost use lib.ListN.{length, take, drop};
 ghost use Rattle.definitions.specs.Rules.{edgePlaces, scopePlaces};
 ghost use Rattle.definitions.specs.Lines.{overwritten};
-ghost use Rattle.texts.specs.Texts.{placed};
+ghost use Rattle.texts.specs.Texts.{placedAt};
 ghost use Rattle.checker.specs.Checker.{standingSays};
-ghost use Rattle.encoding.specs.Numbers.{valueOf, numberBytes, numberAt, bitsOf, signedOf};
-ghost use Rattle.encoding.specs.CaseBytes.{caseBytes, caseOf};
+ghost use Rattle.encoding.specs.Numbers.{valueOfBytes, numberBytes, numberAt, wordOf, signedOf};
+ghost use Rattle.encoding.specs.CaseBytes.{bytesOfCase, caseIn};
 ghost use Rattle.encoding.specs.Version.{versionNumber};
-ghost use Rattle.encoding.specs.RecordBytes.{lastOf, raisedOf, pressOf, dueOf, standingAt, pressAt, recordNumbers, recordTags, recordBytes, isRecord, recordOf};
+ghost use Rattle.encoding.specs.RecordBytes.{lastRecorded, raisedOf, pressRecorded, dueRecorded, standingAt, pressAt, recordNumbers, recordTags};
+ghost use Rattle.encoding.specs.RecordBytes.{recordBytes, isRecord, recordIn};
 
 // The bytes of a case, and those of the replay's record.
 pub type CaseArray = [u8; 24 + 2 * EDGE_PLACES];
@@ -51,12 +52,6 @@ struct Press {
 
 // ---- numbers
 
-fn wide(x: u8) -> u64
-    ensures { λ r. ⌜ (r ≡ x) × (r < 256) ⌝ }
-{
-    x as u64
-}
-
 fn low(x: u64) -> u8
     ensures { λ r. ⌜ r ≡ x % 256 ⌝ }
 {
@@ -66,12 +61,12 @@ fn low(x: u64) -> u8
 // The number of four bytes.
 fn half_at(bytes: &[u8], at: usize) -> u64
     requires { ⌜ at + 4 ≤ length (now bytes) ⌝ }
-    ensures { λ r. ⌜ (r ≡ valueOf (take 4 (drop at (now (bytes .entry))))) × (r < 4294967296) ⌝ }
+    ensures { λ r. ⌜ (r ≡ valueOfBytes (take 4 (drop at (now (bytes .entry))))) × (r < 4294967296) ⌝ }
 {
-    let a = wide(bytes[at]);
-    let b = wide(bytes[at + 1]);
-    let c = wide(bytes[at + 2]);
-    let d = wide(bytes[at + 3]);
+    let a = integers::wide(bytes[at]);
+    let b = integers::wide(bytes[at + 1]);
+    let c = integers::wide(bytes[at + 2]);
+    let d = integers::wide(bytes[at + 3]);
     a + b * 256 + c * 65536 + d * 16777216
 }
 
@@ -105,7 +100,7 @@ fn number_bytes(x: u64) -> [u8; 8]
 }
 
 fn bits_of(z: i64) -> u64
-    ensures { λ r. ⌜ r ≡ bitsOf z ⌝ }
+    ensures { λ r. ⌜ r ≡ wordOf z ⌝ }
 {
     if z < 0 {
         let y = z + 1;
@@ -130,33 +125,33 @@ fn signed_of(x: u64) -> i64
 // ---- parts of the bytes
 
 // Puts the bytes at byte `at`.
-fn put(out: &mut [u8], at: usize, bytes: &[u8])
+fn put_bytes(out: &mut [u8], at: usize, bytes: &[u8])
     requires { ⌜ at + length (now bytes) ≤ length (now out) ⌝ }
-    ensures { λ _. ⌜ now (out .exit) ≡ placed at (now (bytes .entry)) (now (out .entry)) ⌝ }
+    ensures { λ _. ⌜ now (out .exit) ≡ placedAt at (now (bytes .entry)) (now (out .entry)) ⌝ }
 {
     bytes::copy(bytes, &mut out[at..]);
 }
 
-fn put_number(out: &mut [u8], at: usize, x: u64)
+fn put_word(out: &mut [u8], at: usize, x: u64)
     requires { ⌜ at + 8 ≤ length (now out) ⌝ }
-    ensures { λ _. ⌜ now (out .exit) ≡ placed at (numberBytes x) (now (out .entry)) ⌝ }
+    ensures { λ _. ⌜ now (out .exit) ≡ placedAt at (numberBytes x) (now (out .entry)) ⌝ }
 {
     let word = number_bytes(x);
-    put(out, at, &word);
+    put_bytes(out, at, &word);
 }
 
 fn put_ends(out: &mut [u8], at: usize, ends: &[u8; EDGE_PLACES])
     requires { ⌜ at + edgePlaces ≤ length (now out) ⌝ }
-    ensures { λ _. ⌜ (now (out .exit) ≡ placed at (now (ends .entry)) (now (out .entry))) × (length (now (ends .entry)) ≡ edgePlaces) ⌝ }
+    ensures { λ _. ⌜ (now (out .exit) ≡ placedAt at (now (ends .entry)) (now (out .entry))) × (length (now (ends .entry)) ≡ edgePlaces) ⌝ }
 {
-    put(out, at, ends);
+    put_bytes(out, at, ends);
 }
 
 fn put_marks(out: &mut [u8], at: usize, marks: &[u8; SCOPE_PLACES])
     requires { ⌜ at + scopePlaces ≤ length (now out) ⌝ }
-    ensures { λ _. ⌜ (now (out .exit) ≡ placed at (now (marks .entry)) (now (out .entry))) × (length (now (marks .entry)) ≡ scopePlaces) ⌝ }
+    ensures { λ _. ⌜ (now (out .exit) ≡ placedAt at (now (marks .entry)) (now (out .entry))) × (length (now (marks .entry)) ≡ scopePlaces) ⌝ }
 {
-    put(out, at, marks);
+    put_bytes(out, at, marks);
 }
 
 // A byte for each edge's place, from byte `at` on.
@@ -183,8 +178,8 @@ fn marks_at(bytes: &[u8], at: usize) -> [u8; SCOPE_PLACES]
 
 // ---- what is due and what stands, as numbers
 
-fn last_of(last: LastRaised) -> Last
-    ensures { λ r. ⌜ r ≡ lastOf last ⌝ }
+fn last_recorded(last: LastRaised) -> Last
+    ensures { λ r. ⌜ r ≡ lastRecorded last ⌝ }
 {
     match last {
         LastRaised::Nothing => Last { known: 0, scope: 0 },
@@ -193,7 +188,7 @@ fn last_of(last: LastRaised) -> Last
 }
 
 fn press_of(due: Due) -> Press
-    ensures { λ r. ⌜ r ≡ pressOf due ⌝ }
+    ensures { λ r. ⌜ r ≡ pressRecorded due ⌝ }
 {
     match due {
         Due::MoveOrBound => Press {
@@ -209,7 +204,7 @@ fn press_of(due: Due) -> Press
             left,
             last,
         } => {
-            let scope = last_of(last);
+            let scope = last_recorded(last);
             Press {
                 begun: 1,
                 variable,
@@ -232,7 +227,7 @@ fn raised_of(last: Last) -> LastRaised
 }
 
 fn due_of(press: Press) -> Due
-    ensures { λ r. ⌜ r ≡ dueOf press ⌝ }
+    ensures { λ r. ⌜ r ≡ dueRecorded press ⌝ }
 {
     if press.begun == 1 {
         let last = press.last;
@@ -279,17 +274,17 @@ fn standing_number(standing: Standing) -> u8
 }
 
 // The record's numbers, from the first byte on.
-fn put_numbers(out: &mut [u8], rounds: u64, start: i64, press: Press)
+fn put_words(out: &mut [u8], rounds: u64, start: i64, press: Press)
     requires { ⌜ 48 ≤ length (now out) ⌝ }
     ensures { λ _. ⌜ now (out .exit) ≡ overwritten (recordNumbers rounds start press) (now (out .entry)) ⌝ }
 {
     let last = press.last;
-    put_number(out, 0, rounds);
-    put_number(out, 8, bits_of(start));
-    put_number(out, 16, press.variable as u64);
-    put_number(out, 24, bits_of(press.amount));
-    put_number(out, 32, press.left as u64);
-    put_number(out, 40, last.scope as u64);
+    put_word(out, 0, rounds);
+    put_word(out, 8, bits_of(start));
+    put_word(out, 16, press.variable as u64);
+    put_word(out, 24, bits_of(press.amount));
+    put_word(out, 32, press.left as u64);
+    put_word(out, 40, last.scope as u64);
 }
 
 fn tags_of(moved: bool, press: Press, standing: Standing) -> [u8; 4]
@@ -307,10 +302,10 @@ fn tags_of(moved: bool, press: Press, standing: Standing) -> [u8; 4]
 // The bytes after its numbers.
 fn put_tags(out: &mut [u8], moved: bool, press: Press, standing: Standing)
     requires { ⌜ 52 ≤ length (now out) ⌝ }
-    ensures { λ _. ⌜ now (out .exit) ≡ placed 48 (recordTags moved press standing) (now (out .entry)) ⌝ }
+    ensures { λ _. ⌜ now (out .exit) ≡ placedAt 48 (recordTags moved press standing) (now (out .entry)) ⌝ }
 {
     let tags = tags_of(moved, press, standing);
-    put(out, 48, &tags);
+    put_bytes(out, 48, &tags);
 }
 
 // The press that the record's bytes hold.
@@ -338,7 +333,7 @@ fn press_at(bytes: &[u8]) -> Press
 
 // The case that the bytes say.
 pub fn case_of(bytes: &CaseArray) -> Case
-    ensures { λ r. ⌜ r ≡ caseOf (now (bytes .entry)) ⌝ }
+    ensures { λ r. ⌜ r ≡ caseIn (now (bytes .entry)) ⌝ }
 {
     let n = number_at(bytes, 0);
     let d = number_at(bytes, 8);
@@ -356,12 +351,12 @@ pub fn case_of(bytes: &CaseArray) -> Case
 }
 
 // The bytes that say the case.
-pub fn write_case(case: Case, out: &mut CaseArray)
-    ensures { λ _. ⌜ now (out .exit) ≡ caseBytes case ⌝ }
+pub fn write_case_bytes(case: Case, out: &mut CaseArray)
+    ensures { λ _. ⌜ now (out .exit) ≡ bytesOfCase case ⌝ }
 {
-    put_number(out, 0, case.n as u64);
-    put_number(out, 8, case.d as u64);
-    put_number(out, 16, case.m as u64);
+    put_word(out, 0, case.n as u64);
+    put_word(out, 8, case.d as u64);
+    put_word(out, 16, case.m as u64);
     put_ends(out, 24, &case.lower);
     put_ends(out, UPPER, &case.upper);
 }
@@ -375,7 +370,7 @@ pub fn is_record(bytes: &RecordArray) -> bool
 
 // The record that they say.
 pub fn record_of(bytes: &RecordArray) -> Replay
-    ensures { λ r. ⌜ r ≡ recordOf (now (bytes .entry)) ⌝ }
+    ensures { λ r. ⌜ r ≡ recordIn (now (bytes .entry)) ⌝ }
 {
     let press = press_at(bytes);
     let due = due_of(press);
@@ -400,7 +395,7 @@ pub fn write_record(replay: Replay, out: &mut RecordArray)
     let due = replay.due;
     let standing = replay.standing;
     let press = press_of(due);
-    put_numbers(out, replay.rounds, replay.start, press);
+    put_words(out, replay.rounds, replay.start, press);
     put_tags(out, replay.moved, press, standing);
     put_marks(out, 52, &replay.raised);
 }

@@ -1,11 +1,10 @@
--- Demand 3 holds for every valid case: the replay's half from checker_theory, the run's from engine_theory. Assumes nothing.
+-- Demand 3 holds for every valid case: the replay's half from checker_promise, the run's from engine_theory. Assumes nothing.
 use mathlib.Core.Path.{_≡_, refl, sym, ap, subst, _∙_}
 use mathlib.Core.Option.{Option, none, some}
 use mathlib.Core.List.{List, []}
 use Prim.Native.Nat.{ℕ, _≤_}
-use lib.IntN.{ℤ, pos, _-ℤ_, _+ℤ_}
+use lib.IntN.{ℤ, pos}
 use lib.Dec.{T}
-use lib.Signed.{_≤ℤ_}
 use lib.ListN.{length}
 use Rattle.integers.specs.Linear.{flat, zs, _▸_}
 use Rattle.definitions.specs.declared.Refusal.{Refusal}
@@ -13,21 +12,23 @@ use Rattle.definitions.specs.declared.Round.{Round}
 use Rattle.definitions.specs.Answers.{runSays}
 use Rattle.definitions.specs.declared.Case.{Case}
 use Rattle.definitions.specs.Rules.{Rules, Coherent, coherent}
-use Rattle.definitions.specs.Case.{objective, upperBound}
+use Rattle.definitions.specs.Case.{upperBound}
 use Rattle.definitions.specs.Valid.{workingWeight, valid}
 use Rattle.definitions.specs.Lines.{linesIn, hasPart}
 use Rattle.definitions.specs.Replay.{State, fresh, after}
-use Rattle.definitions.specs.Engine.{Made, settled, refused, made, makeNext, engineNext, roundBytes, RunOf, run}
-use Rattle.definitions.specs.EngineCalls.{RoundCall, RunCall, roundMade, engineRefusal, roundCall, runCall}
+use Rattle.definitions.specs.Engine.{Made, settled, refused, made, makeNext, engineNext, roundBytes, run}
+use Rattle.calls.specs.EngineCalls.{RoundCall, RunCall, roundMade, engineRefusal, roundCall, runCall}
 use Rattle.definitions.proofs.LineLaws.{no-part}
 use Rattle.theory.proofs.Validity.{Handed}
 use Rattle.theory.proofs.Replays.{keeps-iff, handed-after}
 use Rattle.theory.proofs.Rounds.{MoveKinds, move-kinds}
-use Rattle.checker_theory.specs.Lists.{ReplayTrusted}
-use Rattle.checker_theory.proofs.Accepts.{replay-trusted}
-use Rattle.engine_theory.proofs.Runs.{engine-lawful, engine-free, run-settled, run-limit, run-log-taken, run-log-ends, run-never-refused, run-settles, run-tallied, run-ends, ends-within}
-use Rattle.engine_theory.proofs.Calls.{call-taken, call-refused, unmade-keeps, run-made, run-settled-first, run-refused-first, run-no-round, texts-joined, texts-count, taken-iff, same-run, call-lines, call-bound-lines}
-use Rattle.engine.specs.Demand3.{RunTrusted, RunIterates, Demand3, Guarantee}
+use Rattle.checker_promise.specs.Lists.{ReplayTrusted}
+use Rattle.checker_promise.proofs.Accepts.{replay-trusted}
+use Rattle.engine_theory.proofs.Runs.{engine-lawful, engine-free, run-settled, run-limit, run-log-taken, run-log-ends, run-never-refused, run-settles}
+use Rattle.engine_theory.proofs.Runs.{run-tallied, run-ends, ends-within}
+use Rattle.engine_theory.proofs.Calls.{call-taken, round-refused, unmade-keeps, run-made, run-settled-first, run-refused-first, run-no-round, texts-joined}
+use Rattle.engine_theory.proofs.Calls.{texts-count, taken-iff, same-run, call-lines, call-bound-lines}
+use Rattle.demand3.specs.Demand3.{RunTrusted, RunIterates, Demand3, Guarantee}
 
 -- what a round that was made hands back
 abbrev statedBound : Round → ℤ
@@ -49,7 +50,7 @@ module _ (r : Rules) (c : Case) (w : List ℤ) (out : List ℕ) (bytes : ℕ) (b
     where
       asked : (o : Option Refusal) → engineRefusal r engineNext c w out ≡ o → Stated (roundCall r engineNext c w out)
       asked none f = subst Stated (sym (call-taken r engineNext c w out f)) (made-states (makeNext r c w (engineNext r c w)))
-      asked (some x) f = subst Stated (sym (call-refused r engineNext c w out f)) (made-states (refused x))
+      asked (some x) f = subst Stated (sym (round-refused r engineNext c w out f)) (made-states (refused x))
 
 pub engine-iterates : {r : Rules} → Coherent r → (c : Case) → RunIterates r c
 engine-iterates {r} coherent c = record {
@@ -67,7 +68,8 @@ module _ {r : Rules} (coherent : Coherent r) (kinds : MoveKinds r) (c : Case) (w
   trusted = replay-trusted coherent c w t
 
   run-trusted : (limit : ℕ) (out : List ℕ) → roundBytes r c ≤ length out
-      → RunTrusted r c w limit out (run r engineNext c limit w) (runCall r engineNext c limit w out) (linesIn (r .amountWidth) (runCall r engineNext c limit w out .log))
+      → RunTrusted r c w limit out (run r engineNext c limit w) (runCall r engineNext c limit w out)
+      (linesIn (r .amountWidth) (runCall r engineNext c limit w out .log))
   run-trusted limit out long =
       let lawful = engine-lawful coherent c in
       let free = engine-free {w₀ = w} coherent t in
@@ -95,7 +97,9 @@ module _ {r : Rules} (coherent : Coherent r) (kinds : MoveKinds r) (c : Case) (w
         limited = rw (same .answer, same .rounds, same .table) (run-limit r c (h .shape) limit w);
         unrefused = rw (same .answer) (run-never-refused coherent kinds lawful w t free limit);
         within = rw (same .rounds) (ends-within r engineNext c (run-ends r engineNext c limit w));
-        log-whole = ap (hasPart (r .amountWidth)) (same .log) ∙ no-part (r .amountWidth) (run r engineNext c limit w .log) (run-tallied coherent lawful limit w h .kept .whole);
+        log-whole =
+            ap (hasPart (r .amountWidth)) (same .log) ∙ no-part (r .amountWidth) (run r engineNext c limit w .log)
+            (run-tallied coherent lawful limit w h .kept .whole);
         log-accepted = trusted log .accepted .1 (keeps-iff r c w log .1 (rw lines (run-log-ends coherent kinds lawful w t limit)));
         log-rounds = trusted log .rounds ∙ rounds;
         log-bound = ap (upperBound c) (trusted log .weights ∙ weights) ∙ sym bound;

@@ -1,11 +1,8 @@
--- Laws that the functions' proofs share.
+-- Laws that the functions' proofs share, and the proof of demand 3.
 mod Raising
-mod Narrowed
 mod Asking
 mod Choice
 mod Trims
-mod Amounts
-mod Texts
 mod Rounds
 mod Runs
 pub mod Demand3

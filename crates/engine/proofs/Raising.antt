@@ -18,9 +18,10 @@ use Rattle.definitions.specs.Case.{scopeCount}
 use Rattle.definitions.specs.Consistency.{allRefuted}
 use Rattle.definitions.specs.Moves.{activeValues}
 use Rattle.definitions.proofs.Refutation.{refuted-same}
+use Rattle.calls.specs.Calls.{isRaised}
 use Rattle.marks.specs.Marks.{fullOf}
 use Rattle.arcs.specs.Active.{activeSet}
-use Rattle.engine.specs.Search.{isRaised, ActiveIn, Allowing, AllRaised}
+use Rattle.engine.specs.Search.{ActiveIn, Allowing, AllRaised}
 
 module _ (raised : List ℕ) (x b : ℕ) where
   pub raised-here : x < length raised → isRaised (set raised x b) x ≡ not (eqb b 0)
@@ -30,9 +31,9 @@ module _ (raised : List ℕ) (x b : ℕ) where
   raised-elsewhere y ne = ap (λ (n : ℕ). not (eqb n 0)) (getD-set-other raised x y b 0 ne)
 
 -- raised scopes count only by what they are at the case's scopes
-pub refuted-alike : (c : Case) (w : List ℤ) {R Q : ℕ → Bool} → ((x : ℕ) → x < scopeCount c → R x ≡ Q x) → (i : ℕ)
+pub refutes-alike : (c : Case) (w : List ℤ) {R Q : ℕ → Bool} → ((x : ℕ) → x < scopeCount c → R x ≡ Q x) → (i : ℕ)
     → allRefuted c w R i (activeValues c w i) ≡ allRefuted c w Q i (activeValues c w i)
-refuted-alike c w {R} {Q} same i = all-same (c .d) (λ k h. ap (λ (b : Bool). activeValues c w i k ⇒ b) (refuted-same c w w R Q i k (λ p g. refl) same))
+refutes-alike c w {R} {Q} same i = all-same (c .d) (λ k h. ap (λ (b : Bool). activeValues c w i k ⇒ b) (refuted-same c w w R Q i k (λ p g. refl) same))
 
 -- ---- bytes written one by one
 
@@ -44,7 +45,8 @@ filled-more f S j h e k g = ⊎-elim
     (either (eqb k j))
 
 -- with all scopes raised, the active values are the allowed ones
-pub allowing-all : (c : Case) (w : List ℤ) (acts raised sets : List ℕ) → ActiveIn c w acts → ((j : ℕ) → j < c .n → getD sets j 0 ≡ getD acts j 0) → AllRaised c raised → Allowing c w (isRaised raised) sets
+pub allowing-all : (c : Case) (w : List ℤ) (acts raised sets : List ℕ) → ActiveIn c w acts → ((j : ℕ) → j < c .n → getD sets j 0 ≡ getD acts j 0)
+    → AllRaised c raised → Allowing c w (isRaised raised) sets
 allowing-all c w acts raised sets a f all j h = f j h ∙ a j h ∙ sym (ap (λ (b : Bool). if b then activeSet c w j else fullOf (c .d)) (all j (omega arith)))
 
 -- what is not raised is left out

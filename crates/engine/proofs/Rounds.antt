@@ -2,32 +2,35 @@
 use mathlib.Core.Path.{_≡_, refl, sym, ap, ap₂, subst, _∙_}
 use mathlib.Core.Bool.{Bool, true, false, not, _&&_}
 use mathlib.Core.Option.{none, some}
-use mathlib.Core.List.{List, [], _∷_, _++_, map, append-nil, append-assoc, List·Memᴰ·head, Memᴰ·append-right}
+use mathlib.Core.List.{List, [], _∷_, _++_, map, append-nil, List·Memᴰ·head, List·Memᴰ·tail}
 use Prim.Native.Nat.{ℕ, _+_, _*_, _≤_, _<_}
 use native.Mathlib.Nat.{mul-le-mul-left}
 use native.Mathlib.Omega.{arith}
 use lib.IntN.{ℤ, negℤ, _+ℤ_}
 use lib.Dec.{T, eqb}
 use lib.ListN.{length}
-use Rattle.integers.specs.Words.{if_then_else_, joined, isIn}
+use Rattle.integers.specs.Words.{if_then_else_, any, joined, isIn}
 use Rattle.integers.specs.Tests.{false-is, same-test}
 use Rattle.integers.specs.Linear.{flat, zs, _▸_}
-use Rattle.integers.specs.Lists.{map-append, map-map, joined-append, those-in, in-those, below-in, isIn-in}
+use Rattle.integers.specs.Lists.{_∈_, those-in, in-those, below-in, isIn-in}
 use Rattle.definitions.specs.declared.Case.{Case}
 use Rattle.definitions.specs.declared.Line.{Line}
 use Rattle.definitions.specs.declared.Outcome.{Outcome}
 use Rattle.definitions.specs.declared.Refusal.{Refusal}
 use Rattle.definitions.specs.declared.Refusal.the-variants.{LeavesRange}
 use Rattle.definitions.specs.declared.Round.{Round}
+use Rattle.definitions.specs.declared.Written.{Written}
 use Rattle.definitions.specs.Rules.{coherent, rulesOf}
 use Rattle.definitions.specs.Refusals.{_when_, firstOf}
 use Rattle.definitions.specs.Answers.{outcomeOf, unlessRefused}
 use Rattle.definitions.specs.Case.{scopes, scopeCount, active, upperBound}
 use Rattle.definitions.specs.Valid.{workingWeight}
-use Rattle.definitions.specs.Moves.{press, onlyWhere, pressBy, activeValues, pressAmount, leavesRange}
-use Rattle.definitions.specs.Lines.{lineLength, lineText, overwritten}
-use Rattle.definitions.specs.Engine.{chosen, keptScopes, leastGap, Next, raiseLine, boundLine, moveLines, roundText, roundBytes, madeOf, makeNext, engineNext}
-use Rattle.definitions.specs.EngineCalls.{RoundCall, roundMade, roundCall}
+use Rattle.definitions.specs.Moves.{activePress, onlyWhere, pressBy, activeValues, pressAmount, leavesRange}
+use Rattle.definitions.specs.Lines.{lineLength, lineText, lineTooWide, overwritten}
+use Rattle.definitions.specs.Engine.{chosen, keptScopes, leastGap, Next, roundBytes, madeOf, makeNext, engineNext}
+use Rattle.definitions.specs.RoundLines.{raiseLine, boundLine, roundLines, roundText}
+use Rattle.calls.specs.Calls.{WriteCall, isRaised}
+use Rattle.calls.specs.EngineCalls.{RoundCall, roundMade, roundCall}
 use Rattle.theory.proofs.Validity.{Handed}
 use Rattle.theory.proofs.Places.{plus-cong}
 use Rattle.theory.proofs.Rounds.{AllAllowed, all-handed, round-fits}
@@ -36,14 +39,14 @@ use Rattle.engine_theory.proofs.Gaps.{amount-some, amount-most, next-press}
 use Rattle.engine_theory.proofs.Fall.{enginePressed}
 use Rattle.engine_theory.proofs.Runs.{differ, presses, engine-allowed}
 use Rattle.engine_theory.proofs.Calls.{taken-iff, call-taken}
-use Rattle.lines.specs.AtWidth.{lineOut}
-use Rattle.lines.proofs.AtRules.{width-in}
 use Rattle.tables.specs.Scopes.{BestOf}
-use Rattle.changes.specs.Kept.{lowerAndRaiseCall}
+use Rattle.tables.proofs.Answered.{limits-true}
+use Rattle.changes.specs.Kept.{MarksOf, bestValues, lowerAndRaiseCall}
 use Rattle.changes.proofs.LoweringLaws.{lower-and-raise-is-press}
-use Rattle.engine.specs.Search.{isRaised}
-use Rattle.engine.specs.Texts.{raisedBelow, raiseTexts, pressLine, pressText}
-use Rattle.engine.specs.Rounds.{pressedBy, Pressed, MadeRound}
+use Rattle.changes.proofs.ValueLaws.{best-values-active}
+use Rattle.round_lines.specs.Press.{raisedBelow, pressLine, linesOfPress, writeAllCall}
+use Rattle.round_lines.proofs.Calls.{press-written}
+use Rattle.engine.specs.Rounds.{pressedBy, Pressed, roundWritten, MadeRound}
 
 -- ---- which way a press went
 
@@ -55,12 +58,15 @@ done-way : (b : Bool) → Outcome.Done ≡ (if b then Outcome.Refused LeavesRang
 done-way true e = cc
 done-way false e = refl
 
--- what `lower_and_raise` gives on a table that was checked
+-- what `lower_and_raise` gives on a table that was checked, of the values that `best_values` gives
 pub pressed-by : {c : Case} {w best : List ℤ} → Handed (rulesOf c) (workingWeight (rulesOf c)) c w → BestOf c w best → (raised : List ℕ) (i : ℕ) (a : ℤ)
-    → scopeCount c ≤ length raised → i < c .n → T (pressAmount (rulesOf c) a) → {r : Outcome} {after next : List ℤ} → r ≡ lowerAndRaiseCall (rulesOf c) c w best raised i a .answer
-    → after ≡ lowerAndRaiseCall (rulesOf c) c w best raised i a .table → next ≡ lowerAndRaiseCall (rulesOf c) c w best raised i a .best → Pressed c i raised a w after next r
-pressed-by {c} {w} {best} h b raised i a room variable amount e f g =
-    let (p, q, k) = lower-and-raise-is-press h b raised i a room variable amount in
+    → scopeCount c ≤ length raised → i < c .n → T (pressAmount (rulesOf c) a) → (values : ℕ) → values ≡ bestValues (rulesOf c) c w best i
+    → {r : Outcome} {after next : List ℤ} → r ≡ lowerAndRaiseCall (rulesOf c) c w best raised i values a .answer
+    → after ≡ lowerAndRaiseCall (rulesOf c) c w best raised i values a .table → next ≡ lowerAndRaiseCall (rulesOf c) c w best raised i values a .best
+    → Pressed c i raised a w after next r
+pressed-by {c} {w} {best} h b raised i a room variable amount values v e f g =
+    let marks = subst (λ (s : ℕ). MarksOf c (activeValues c w i) s) (sym v) (best-values-active h b i variable) in
+    let (p, q, k) = lower-and-raise-is-press h b raised i values (activeValues c w i) marks a room variable amount in
     record {
       answer = e ∙ p ∙ answers (leavesRange (rulesOf c) c (pressedBy c i raised a w));
       table = f ∙ q ∙ tables (leavesRange (rulesOf c) c (pressedBy c i raised a w));
@@ -77,18 +83,20 @@ pressed-by {c} {w} {best} h b raised i a room variable amount e f g =
 
 -- ---- the lines of a press
 
-texts-are : (c : Case) (i : ℕ) (xs : List ℕ) (a : ℤ) (v : List ℤ) → joined (roundText (rulesOf c) c (press i xs a ∷ []) v) ≡ pressText (rulesOf c .amountWidth) i xs a (upperBound c v)
-texts-are c i xs a v =
-    ap (λ (t : List ℕ). lineText (rulesOf c .amountWidth) (pressLine i (length xs) a) ++ t)
-    (ap (λ (l : List Line). joined (map (lineText (rulesOf c .amountWidth)) (l ++ (boundLine (upperBound c v) ∷ [])))) (append-nil (map raiseLine xs))
-    ∙ ap joined (map-append (lineText (rulesOf c .amountWidth)) (map raiseLine xs) (boundLine (upperBound c v) ∷ []))
-    ∙ joined-append (map (lineText (rulesOf c .amountWidth)) (map raiseLine xs)) (lineText (rulesOf c .amountWidth) (boundLine (upperBound c v)) ∷ [])
-    ∙ ap₂ (λ (s t : List ℕ). s ++ t) (ap joined (map-map (lineText (rulesOf c .amountWidth)) raiseLine xs)) (append-nil (lineText (rulesOf c .amountWidth) (boundLine (upperBound c v)))))
-    ∙ sym (append-assoc (lineText (rulesOf c .amountWidth) (pressLine i (length xs) a)) (raiseTexts (rulesOf c .amountWidth) xs) (lineText (rulesOf c .amountWidth) (boundLine (upperBound c v))))
+lines-are : (c : Case) (w : List ℤ) (i : ℕ) (xs : List ℕ) (a : ℤ) (v : List ℤ)
+    → roundLines c (activePress c w i xs a ∷ []) v ≡ linesOfPress i xs a (upperBound c v)
+lines-are c w i xs a v = ap (λ (l : List Line). l ++ (boundLine (upperBound c v) ∷ [])) (append-nil (pressLine i (length xs) a ∷ map raiseLine xs))
 
-module _ {c : Case} {w : List ℤ} {i : ℕ} {a : ℤ} (h : Handed (rulesOf c) (workingWeight (rulesOf c)) c w) (which : chosen c w ≡ some i) (least : leastGap c w i ≡ some a) where
+none-wide : (width : ℕ) (ls : List Line) → ((l : Line) → l ∈ ls → lineTooWide width l ≡ false) → any (lineTooWide width) ls ≡ false
+none-wide width [] h = refl
+none-wide width (l ∷ ls) h = rw (h l (List·Memᴰ·head refl)) (none-wide width ls (λ k m. h k (List·Memᴰ·tail m)))
+
+module _ {c : Case} {w : List ℤ} {i : ℕ} {a : ℤ} (h : Handed (rulesOf c) (workingWeight (rulesOf c)) c w) (which : chosen c w ≡ some i)
+    (least : leastGap c w i ≡ some a) where
   pub amount-within : T (pressAmount (rulesOf c) a)
-  amount-within = amount-some c w (h .shape) which least ▸ amount-most c w (h .shape) which least (rulesOf c) (h .in-range) ▸ coherent (c .rulebook) .difference ▸ simp flat (omega zs)
+  amount-within =
+      amount-some c w (h .shape) which least ▸ amount-most c w (h .shape) which least (rulesOf c) (h .in-range)
+      ▸ coherent (c .rulebook) .difference ▸ simp flat (omega zs)
 
   module _ (raised : List ℕ) (same : raisedBelow raised (scopeCount c) ≡ keptScopes c w i) where
     kept-in : (x : ℕ) → x < scopeCount c → isRaised raised x ≡ isIn (keptScopes c w i) x
@@ -97,21 +105,25 @@ module _ {c : Case} {w : List ℤ} {i : ℕ} {a : ℤ} (h : Handed (rulesOf c) (
         (λ t. in-those (isRaised raised) (scopes c) (isIn-in (raisedBelow raised (scopeCount c)) x .0 (subst (λ (l : List ℕ). T (isIn l x)) (sym same) t)) .1)
 
     pressed-is : pressedBy c i raised a w ≡ enginePressed c w i a
-    pressed-is = plus-cong c (pressBy c w i (activeValues c w i) (isRaised raised) a) w (pressBy c w i (activeValues c w i) (isIn (keptScopes c w i)) a) (λ x k l t.
+    pressed-is =
+        plus-cong c (pressBy c w i (activeValues c w i) (isRaised raised) a) w (pressBy c w i (activeValues c w i) (isIn (keptScopes c w i)) a) (λ x k l t.
         ap (λ (b : Bool). onlyWhere (eqb x i && activeValues c w i k) (negℤ a) +ℤ onlyWhere (b && not (active c w x k l)) a) (kept-in x (t .scope)))
 
-    pub count-room : {n : ℕ} → roundBytes (rulesOf c) c ≤ n → lineLength (rulesOf c .amountWidth) * (length (raisedBelow raised (scopeCount c)) + 2) ≤ n
+    count-room : {n : ℕ} → roundBytes (rulesOf c) c ≤ n → lineLength (rulesOf c .amountWidth) * (length (raisedBelow raised (scopeCount c)) + 2) ≤ n
     count-room long =
-        let room : length (raisedBelow raised (scopeCount c)) + 2 ≤ scopeCount c + 1 = omega (arith, ap length same, kept-fewer c w i (chosen-some c w which .0)) in
+        let room : length (raisedBelow raised (scopeCount c)) + 2 ≤ scopeCount c + 1 =
+        omega (arith, ap length same, kept-fewer c w i (chosen-some c w which .0)) in
         omega (arith, mul-le-mul-left {m = length (raisedBelow raised (scopeCount c)) + 2} {n = scopeCount c + 1} (lineLength (rulesOf c .amountWidth)) room)
 
     module _ (out : List ℕ) (long : roundBytes (rulesOf c) c ≤ length out) where
       call-is : (b : Bool) → leavesRange (rulesOf c) c (enginePressed c w i a) ≡ b
-          → roundCall (rulesOf c) engineNext c w out ≡ roundMade (rulesOf c) engineNext c w out (madeOf (rulesOf c) c (press i (keptScopes c w i) a ∷ []) (if b then none else some (enginePressed c w i a)))
+          → roundCall (rulesOf c) engineNext c w out ≡ roundMade (rulesOf c) engineNext c w out
+          (madeOf (rulesOf c) c (activePress c w i (keptScopes c w i) a ∷ []) (if b then none else some (enginePressed c w i a)))
       call-is b e =
           call-taken (rulesOf c) engineNext c w out (taken-iff (rulesOf c) engineNext c w out .1 (h, long))
           ∙ ap (λ (n : Next). roundMade (rulesOf c) engineNext c w out (makeNext (rulesOf c) c w n)) (next-press (rulesOf c) c w which least)
-          ∙ ap (λ (q : Bool). roundMade (rulesOf c) engineNext c w out (madeOf (rulesOf c) c (press i (keptScopes c w i) a ∷ []) (if q then none else some (enginePressed c w i a)))) e
+          ∙ ap (λ (q : Bool). roundMade (rulesOf c) engineNext c w out
+          (madeOf (rulesOf c) c (activePress c w i (keptScopes c w i) a ∷ []) (if q then none else some (enginePressed c w i a)))) e
 
       -- number 11
       pub made-refused : {x : Refusal} {after best : List ℤ} → Pressed c i raised a w after best (Outcome.Refused x)
@@ -132,38 +144,52 @@ module _ {c : Case} {w : List ℤ} {i : ℕ} {a : ℤ} (h : Handed (rulesOf c) (
         stays = ap (leavesRange (rulesOf c) c) (sym pressed-is) ∙ done-way (leavesRange (rulesOf c) c (pressedBy c i raised a w)) (p .answer)
 
         after-is : after ≡ enginePressed c w i a
-        after-is = p .table ∙ ap (λ (b : Bool). if b then w else pressedBy c i raised a w) (done-way (leavesRange (rulesOf c) c (pressedBy c i raised a w)) (p .answer)) ∙ pressed-is
+        after-is =
+            p .table ∙ ap (λ (b : Bool). if b then w else pressedBy c i raised a w)
+            (done-way (leavesRange (rulesOf c) c (pressedBy c i raised a w)) (p .answer)) ∙ pressed-is
 
-        allows : AllAllowed (rulesOf c) c w (press i (keptScopes c w i) a ∷ []) (enginePressed c w i a)
+        allows : AllAllowed (rulesOf c) c w (activePress c w i (keptScopes c w i) a ∷ []) (enginePressed c w i a)
         allows = engine-allowed h (coherent (c .rulebook)) (presses which least (false-is (leavesRange (rulesOf c) c (enginePressed c w i a)) stays))
 
-        pub handed-after : Handed (rulesOf c) (workingWeight (rulesOf c)) c after
-        handed-after = rw after-is (all-handed allows h)
+        pub done-handed : Handed (rulesOf c) (workingWeight (rulesOf c)) c after
+        done-handed = rw after-is (all-handed allows h)
 
-        pub press-in : T (not (lineOut (rulesOf c .amountWidth) (pressLine i (length (raisedBelow raised (scopeCount c))) a)))
-        press-in = rw (width-in (rulesOf c) (coherent (c .rulebook)) refl, same, round-fits (coherent (c .rulebook)) h allows {l = pressLine i (length (keptScopes c w i)) a} (List·Memᴰ·head refl)) tt
+        abbrev linesMade : List Line
+        linesMade = linesOfPress i (raisedBelow raised (scopeCount c)) a (upperBound c after)
 
-        pub bound-in : {bound : ℤ} → bound ≡ upperBound c after → T (not (lineOut (rulesOf c .amountWidth) (boundLine bound)))
-        bound-in e = rw (
-          width-in (rulesOf c) (coherent (c .rulebook)) refl,
-          e,
-          after-is,
-          round-fits (coherent (c .rulebook)) h allows {l = boundLine (upperBound c (enginePressed c w i a))}
-              (Memᴰ·append-right (joined (map moveLines (press i (keptScopes c w i) a ∷ []))) (List·Memᴰ·head refl)),
-        ) tt
+        lines-made : linesMade ≡ roundLines c (activePress c w i (keptScopes c w i) a ∷ []) (enginePressed c w i a)
+        lines-made =
+            ap₂ (λ (xs : List ℕ) (v : List ℤ). linesOfPress i xs a (upperBound c v)) same after-is
+            ∙ sym (lines-are c w i (keptScopes c w i) a (enginePressed c w i a))
 
-        pub made-done : {bytes width : ℕ} {bound : ℤ} {written : List ℕ} → width ≡ rulesOf c .amountWidth → bound ≡ upperBound c after
-            → bytes ≡ length (pressText width i (raisedBelow raised (scopeCount c)) a bound) → written ≡ overwritten (pressText width i (raisedBelow raised (scopeCount c)) a bound) out
-            → MadeRound c w out after written (Round.Made bytes bound) × BestOf c after best
-        made-done {bytes} {width} {bound} v e n o =
+        lines-fit : any (lineTooWide (rulesOf c .amountWidth)) linesMade ≡ false
+        lines-fit = none-wide (rulesOf c .amountWidth) linesMade
+            (λ l m. round-fits (coherent (c .rulebook)) h allows (subst (λ (q : List Line). l ∈ q) lines-made m))
+
+        text-made : joined (map (lineText (rulesOf c .amountWidth)) linesMade)
+            ≡ joined (roundText (rulesOf c) c (activePress c w i (keptScopes c w i) a ∷ []) (enginePressed c w i a))
+        text-made = ap (λ (l : List Line). joined (map (lineText (rulesOf c .amountWidth)) l)) lines-made
+
+        pub made-done : scopeCount c ≤ length raised → {r : Round} {bound : ℤ} {written : List ℕ} → bound ≡ upperBound c after
+            → r ≡ roundWritten (writeAllCall (rulesOf c) c out raised i a bound .answer) bound
+            → written ≡ writeAllCall (rulesOf c) c out raised i a bound .out
+            → MadeRound c w out after written r
+        made-done room {r} {bound} {written} e n o =
             let d = call-is false stays in
-            let b : bound ≡ upperBound c (enginePressed c w i a) = e ∙ ap (upperBound c) after-is in
-            let t : pressText width i (raisedBelow raised (scopeCount c)) a bound ≡ joined (roundText (rulesOf c) c (press i (keptScopes c w i) a ∷ []) (enginePressed c w i a)) =
-            ap (λ (n : ℕ). pressText n i (raisedBelow raised (scopeCount c)) a bound) v ∙ ap₂ (λ (l : List ℕ) (z : ℤ). pressText (rulesOf c .amountWidth) i l a z) same b ∙ sym (texts-are c i (keptScopes c w i) a (enginePressed c w i a)) in (
-              record {
-                answer = ap₂ Round.Made (n ∙ ap length t) b ∙ sym (ap (λ (u : RoundCall). u .answer) d);
-                table = after-is ∙ sym (ap (λ (u : RoundCall). u .table) d);
-                output = o ∙ ap (λ (l : List ℕ). overwritten l out) t ∙ sym (ap (λ (u : RoundCall). u .out) d);
-              },
-              p .greatest-kept,
-            )
+            let u : writeAllCall (rulesOf c) c out raised i a (upperBound c after)
+            ≡ record {
+              answer = Written.Bytes (length (joined (map (lineText (rulesOf c .amountWidth)) linesMade)));
+              out = overwritten (joined (map (lineText (rulesOf c .amountWidth)) linesMade)) out;
+            } =
+            press-written c out raised i a (upperBound c after) (limits-true h) room (count-room long) (chosen-some c w which .0) lines-fit in
+            record {
+              answer =
+                  n ∙ ap (λ (z : ℤ). roundWritten (writeAllCall (rulesOf c) c out raised i a z .answer) z) e
+                  ∙ ap (λ (q : WriteCall). roundWritten (q .answer) (upperBound c after)) u
+                  ∙ ap₂ Round.Made (ap length text-made) (ap (upperBound c) after-is) ∙ sym (ap (λ (u : RoundCall). u .answer) d);
+              table = after-is ∙ sym (ap (λ (u : RoundCall). u .table) d);
+              output =
+                  o ∙ ap (λ (z : ℤ). writeAllCall (rulesOf c) c out raised i a z .out) e
+                  ∙ ap (λ (q : WriteCall). q .out) u
+                  ∙ ap (λ (l : List ℕ). overwritten l out) text-made ∙ sym (ap (λ (u : RoundCall). u .out) d);
+            }

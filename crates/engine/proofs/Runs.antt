@@ -24,13 +24,13 @@ use Rattle.definitions.specs.Answers.{outcomeOf}
 use Rattle.definitions.specs.Case.{upperBound}
 use Rattle.definitions.specs.Valid.{workingWeight, handedOver}
 use Rattle.definitions.specs.Engine.{chosen, roundBytes, engineNext}
-use Rattle.definitions.specs.EngineCalls.{RoundCall, RunCall, isLeaving, answerAtLimit, roundCall, boundAt, stopRun, goOn, runCallFrom, runCall}
+use Rattle.calls.specs.EngineCalls.{RoundCall, RunCall, isLeaving, answerAtLimit, roundCall, boundAt, stopRun, goOn, runCallFrom, runCall}
 use Rattle.theory.proofs.Validity.{Handed}
 use Rattle.engine_theory.proofs.Trim.{settled-iff}
 use Rattle.theory.proofs.Rounds.{all-handed}
 use Rattle.engine_theory.proofs.Runs.{differ, engine-allowed, presses as pressed}
-use Rattle.engine_theory.proofs.Calls.{taken-iff, call-refused, run-refused, unmade-keeps}
-use Rattle.engine_theory.proofs.Round.{RoundIs, settles, presses, leaves, round-is, round-settled, round-leaves}
+use Rattle.engine_theory.proofs.Calls.{taken-iff, round-refused, run-refused, unmade-keeps}
+use Rattle.engine_theory.proofs.Round.{RoundIs, settles, presses, leaves, round-is, call-settled, round-leaves}
 use Rattle.tables.proofs.Order.{outcome-done, outcome-refused}
 use Rattle.engine.specs.Rounds.{MadeRound, RunIs, limitAnswer, stoppedRun, engineRefusalOf}
 
@@ -44,22 +44,25 @@ not-leaving : (ts : List Test) → T (all (λ t. not (isLeaving (t .refusal))) t
 not-leaving [] h e = absurd (none-some e)
 not-leaving (t ∷ ts) h {x} e = go (t .applies) (and-left (not (isLeaving (t .refusal))) _ h) (not-leaving ts (and-right (not (isLeaving (t .refusal))) _ h)) e
   where
-    go : (b : Bool) → T (not (isLeaving (t .refusal))) → (firstOf ts ≡ some x → T (not (isLeaving x))) → (if b then some (t .refusal) else firstOf ts) ≡ some x → T (not (isLeaving x))
+    go : (b : Bool) → T (not (isLeaving (t .refusal))) → (firstOf ts ≡ some x → T (not (isLeaving x)))
+        → (if b then some (t .refusal) else firstOf ts) ≡ some x → T (not (isLeaving x))
     go true h rest e = subst (λ (y : Refusal). T (not (isLeaving y))) (some-inj e) h
     go false h rest e = rest e
 
 module _ (c : Case) (w : List ℤ) (out : List ℕ) where
-  pub asked-done : Outcome.Done ≡ outcomeOf (engineRefusalOf c w (length out)) → Handed (rulesOf c) (workingWeight (rulesOf c)) c w × (roundBytes (rulesOf c) c ≤ length out)
+  pub asked-done : Outcome.Done ≡ outcomeOf (engineRefusalOf c w (length out))
+      → Handed (rulesOf c) (workingWeight (rulesOf c)) c w × (roundBytes (rulesOf c) c ≤ length out)
   asked-done e = taken-iff (rulesOf c) engineNext c w out .0 (outcome-done e)
 
   pub asked-refused : {x : Refusal} → Outcome.Refused x ≡ outcomeOf (engineRefusalOf c w (length out)) → MadeRound c w out w out (Round.Refused x)
-  asked-refused e = let d = call-refused (rulesOf c) engineNext c w out (outcome-refused e) in record {
+  asked-refused e = let d = round-refused (rulesOf c) engineNext c w out (outcome-refused e) in record {
     answer = sym (ap (λ (u : RoundCall). u .answer) d);
     table = sym (ap (λ (u : RoundCall). u .table) d);
     output = sym (ap (λ (u : RoundCall). u .out) d);
   }
 
-  pub run-is-refused : {x : Refusal} (limit : ℕ) → Outcome.Refused x ≡ outcomeOf (engineRefusalOf c w (length out)) → RunIs c limit w out w out (runWith (RunAnswer.Refused x) 0 (pos 0))
+  pub run-is-refused : {x : Refusal} (limit : ℕ) → Outcome.Refused x ≡ outcomeOf (engineRefusalOf c w (length out))
+      → RunIs c limit w out w out (runWith (RunAnswer.Refused x) 0 (pos 0))
   run-is-refused {x} limit e =
       let d = run-refused (rulesOf c) engineNext c w out limit (outcome-refused e) in
       let n = not-eleven (outcome-refused e) in record {
@@ -76,7 +79,7 @@ module _ (c : Case) (w : List ℤ) (out : List ℕ) where
 module _ {c : Case} {w : List ℤ} {out : List ℕ} (h : Handed (rulesOf c) (workingWeight (rulesOf c)) c w) (long : roundBytes (rulesOf c) c ≤ length out) where
   pub nothing-made : chosen c w ≡ none → MadeRound c w out w out Round.Settled
   nothing-made e =
-      let s = round-settled (rulesOf c) c w out h long .1 (settled-iff c w (h .shape) .0 e) in
+      let s = call-settled (rulesOf c) c w out h long .1 (settled-iff c w (h .shape) .0 e) in
       let (t, o) = unmade-keeps (rulesOf c) engineNext c w out (λ bytes bound d. differ (cc)) in
       record { answer = sym s; table = sym t; output = sym o }
 
@@ -99,7 +102,8 @@ module _ {c : Case} {w : List ℤ} {out : List ℕ} (h : Handed (rulesOf c) (wor
     pub still-refused : {x : Refusal} → MadeRound c w out after written (Round.Refused x) → Handed (rulesOf c) (workingWeight (rulesOf c)) c after
     still-refused p = rw (refused-keeps p .0) h
 
-    pub still-made : {bytes : ℕ} {bound : ℤ} → MadeRound c w out after written (Round.Made bytes bound) → Handed (rulesOf c) (workingWeight (rulesOf c)) c after
+    pub still-made : {bytes : ℕ} {bound : ℤ} → MadeRound c w out after written (Round.Made bytes bound)
+        → Handed (rulesOf c) (workingWeight (rulesOf c)) c after
     still-made {bytes} {bound} p = rw (p .table) (go (round-is (rulesOf c) c w out h long) (sym (p .answer)))
       where
         go : {u : RoundCall} → RoundIs (rulesOf c) c w out u → u .answer ≡ Round.Made bytes bound → Handed (rulesOf c) (workingWeight (rulesOf c)) c (u .table)
@@ -133,43 +137,54 @@ module _ (c : Case) (limit : ℕ) (first : List ℤ) (lent : List ℕ) where
   run-starts = let e : limit - 0 ≡ limit = omega arith in ([], ap (λ (n : ℕ). runCallFrom (rulesOf c) engineNext c n 0 first lent []) e)
 
   ended : {done : ℕ} {w : List ℤ} {out log : List ℕ} {answer : RunAnswer} → boundAt (rulesOf c) engineNext c answer w ≡ upperBound c w
-      → stopRun (rulesOf c) engineNext c answer done w out log ≡ runCall (rulesOf c) engineNext c limit first lent → RunIs c limit first lent w out (stoppedRun c w answer done)
+      → stopRun (rulesOf c) engineNext c answer done w out log ≡ runCall (rulesOf c) engineNext c limit first lent
+      → RunIs c limit first lent w out (stoppedRun c w answer done)
   ended {done} {w} {out} {log} {answer} b e = record {
     run = ap (runWith answer done) (sym b) ∙ ap (λ (u : RunCall). u .run) e;
     table = ap (λ (u : RunCall). u .table) e;
     output = ap (λ (u : RunCall). u .out) e;
   }
 
-  module _ (done : ℕ) (w : List ℤ) (out : List ℕ) (h : Handed (rulesOf c) (workingWeight (rulesOf c)) c w) (long : roundBytes (rulesOf c) c ≤ length out) (going : Going done w out) where
+  module _ (done : ℕ) (w : List ℤ) (out : List ℕ) (h : Handed (rulesOf c) (workingWeight (rulesOf c)) c w) (long : roundBytes (rulesOf c) c ≤ length out)
+      (going : Going done w out) where
     module _ (more : done < limit) where
       -- what this round's answer leads to
       leads : {a : Round} → a ≡ roundCall (rulesOf c) engineNext c w out .answer
-          → goOn (rulesOf c) engineNext c a (roundCall (rulesOf c) engineNext c w out) done w out (going .0) (λ v b l. runCallFrom (rulesOf c) engineNext c (limit - (done + 1)) (suc done) v b l)
+          → goOn (rulesOf c) engineNext c a (roundCall (rulesOf c) engineNext c w out) done w out (going .0)
+          (λ v b l. runCallFrom (rulesOf c) engineNext c (limit - (done + 1)) (suc done) v b l)
           ≡ runCall (rulesOf c) engineNext c limit first lent
       leads e =
           let n : suc (limit - (done + 1)) ≡ limit - done = omega arith in
-          ap (λ (a : Round). goOn (rulesOf c) engineNext c a (roundCall (rulesOf c) engineNext c w out) done w out (going .0) (λ v b l. runCallFrom (rulesOf c) engineNext c (limit - (done + 1)) (suc done) v b l)) e
+          ap (λ (a : Round). goOn (rulesOf c) engineNext c a (roundCall (rulesOf c) engineNext c w out) done w out (going .0)
+          (λ v b l. runCallFrom (rulesOf c) engineNext c (limit - (done + 1)) (suc done) v b l)) e
           ∙ ap (λ (k : ℕ). runCallFrom (rulesOf c) engineNext c k done w out (going .0)) n ∙ going .1
 
-      pub run-goes-on : {after : List ℤ} {written : List ℕ} {bytes : ℕ} {bound : ℤ} → MadeRound c w out after written (Round.Made bytes bound) → Going (done + 1) after written
+      pub run-goes-on : {after : List ℤ} {written : List ℕ} {bytes : ℕ} {bound : ℤ} → MadeRound c w out after written (Round.Made bytes bound)
+          → Going (done + 1) after written
       run-goes-on {bytes = bytes} p =
           let n : done + 1 ≡ suc done = omega arith in (
             going .0 ++ take bytes (roundCall (rulesOf c) engineNext c w out .out),
-            ap₂ (λ (v : List ℤ) (b : List ℕ). runCallFrom (rulesOf c) engineNext c (limit - (done + 1)) (done + 1) v b (going .0 ++ take bytes (roundCall (rulesOf c) engineNext c w out .out))) (p .table) (p .output)
-                ∙ ap (λ (k : ℕ). runCallFrom (rulesOf c) engineNext c (limit - (done + 1)) k (roundCall (rulesOf c) engineNext c w out .table) (roundCall (rulesOf c) engineNext c w out .out) (going .0 ++ take bytes (roundCall (rulesOf c) engineNext c w out .out))) n
+            ap₂ (λ (v : List ℤ) (b : List ℕ). runCallFrom (rulesOf c) engineNext c (limit - (done + 1)) (done + 1) v b
+                (going .0 ++ take bytes (roundCall (rulesOf c) engineNext c w out .out))) (p .table) (p .output)
+                ∙ ap (λ (k : ℕ). runCallFrom (rulesOf c) engineNext c (limit - (done + 1)) k (roundCall (rulesOf c) engineNext c w out .table)
+                (roundCall (rulesOf c) engineNext c w out .out) (going .0 ++ take bytes (roundCall (rulesOf c) engineNext c w out .out))) n
                 ∙ leads (p .answer),
           )
 
-      pub run-settles : {after : List ℤ} {written : List ℕ} → MadeRound c w out after written Round.Settled → RunIs c limit first lent after written (stoppedRun c after RunAnswer.Settled done)
-      run-settles p = let (a, o) = settled-keeps h long p in rw (a, o) (ended {answer = RunAnswer.Settled} refl (leads (p .answer)))
+      pub settled-run : {after : List ℤ} {written : List ℕ} → MadeRound c w out after written Round.Settled
+          → RunIs c limit first lent after written (stoppedRun c after RunAnswer.Settled done)
+      settled-run p = let (a, o) = settled-keeps h long p in rw (a, o) (ended {answer = RunAnswer.Settled} refl (leads (p .answer)))
 
-      pub run-leaves : {after : List ℤ} {written : List ℕ} {x : Refusal} → MadeRound c w out after written (Round.Refused x) → RunIs c limit first lent after written (stoppedRun c after (RunAnswer.Refused x) done)
+      pub run-leaves : {after : List ℤ} {written : List ℕ} {x : Refusal} → MadeRound c w out after written (Round.Refused x)
+          → RunIs c limit first lent after written (stoppedRun c after (RunAnswer.Refused x) done)
       run-leaves {x = x} p =
           let (a, o, e) = refused-keeps h long p in
-          rw (a, o) (ended {answer = RunAnswer.Refused x} (ap (λ (y : Refusal). boundAt (rulesOf c) engineNext c (RunAnswer.Refused y) w) e) (leads (p .answer)))
+          rw (a, o) (ended {answer = RunAnswer.Refused x} (ap (λ (y : Refusal). boundAt (rulesOf c) engineNext c (RunAnswer.Refused y) w) e)
+          (leads (p .answer)))
 
     pub run-limits : limit ≤ done → RunIs c limit first lent w out (stoppedRun c w (limitAnswer (chosen c w)) done)
     run-limits e =
         let z : 0 ≡ limit - done = omega arith in
         ended {answer = limitAnswer (chosen c w)} (limit-bound c w (chosen c w))
-        (ap (λ (a : RunAnswer). stopRun (rulesOf c) engineNext c a done w out (going .0)) (sym (limit-answer out h long)) ∙ ap (λ (k : ℕ). runCallFrom (rulesOf c) engineNext c k done w out (going .0)) z ∙ going .1)
+        (ap (λ (a : RunAnswer). stopRun (rulesOf c) engineNext c a done w out (going .0)) (sym (limit-answer out h long))
+        ∙ ap (λ (k : ℕ). runCallFrom (rulesOf c) engineNext c k done w out (going .0)) z ∙ going .1)

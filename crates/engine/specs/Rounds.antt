@@ -13,16 +13,19 @@ use Rattle.definitions.specs.declared.Round.{Round}
 use Rattle.definitions.specs.declared.Run.{Run}
 use Rattle.definitions.specs.declared.RunAnswer.{RunAnswer}
 use Rattle.definitions.specs.declared.Refusal.{Refusal}
+use Rattle.definitions.specs.declared.Written.{Written}
 use Rattle.definitions.specs.declared.Refusal.the-variants.{LeavesRange}
 use Rattle.definitions.specs.Rules.{rulesOf}
 use Rattle.definitions.specs.Refusals.{firstOf}
-use Rattle.definitions.specs.Case.{upperBound}
+use Rattle.definitions.specs.Case.{scopeCount, upperBound}
 use Rattle.definitions.specs.Valid.{workingWeight, handedOver}
 use Rattle.definitions.specs.Moves.{plus, pressBy, activeValues, leavesRange}
-use Rattle.definitions.specs.Engine.{engineNext, roundBytes}
-use Rattle.definitions.specs.EngineCalls.{roundCall, runCall}
+use Rattle.definitions.specs.Engine.{chosen, keptScopes, leastGap, engineNext, roundBytes}
+use Rattle.calls.specs.Calls.{isRaised}
+use Rattle.calls.specs.EngineCalls.{roundCall, runCall}
+use Rattle.theory.proofs.Validity.{Handed}
 use Rattle.tables.specs.Scopes.{BestOf}
-use Rattle.engine.specs.Search.{isRaised}
+use Rattle.round_lines.specs.Press.{raisedBelow}
 
 -- the table after a press of the raised scopes
 abbrev pub pressedBy : Case → ℕ → List ℕ → ℤ → List ℤ → List ℤ
@@ -32,6 +35,19 @@ pub record Pressed (c : Case) (i : ℕ) (raised : List ℕ) (a : ℤ) (w after b
   pub answer : r ≡ (if leavesRange (rulesOf c) c (pressedBy c i raised a w) then Outcome.Refused LeavesRange else Outcome.Done)
   pub table : after ≡ (if leavesRange (rulesOf c) c (pressedBy c i raised a w) then w else pressedBy c i raised a w)
   pub greatest-kept : BestOf c after best
+
+-- the engine's press of the kept scopes was made, by the least gap
+pub record PressMade (c : Case) (i : ℕ) (raised : List ℕ) (a : ℤ) (w after best : List ℤ) : Type 0 where
+  pub handed : Handed (rulesOf c) (workingWeight (rulesOf c)) c w
+  pub which : chosen c w ≡ some i
+  pub kept : raisedBelow raised (scopeCount c) ≡ keptScopes c w i
+  pub least : leastGap c w i ≡ some a
+  pub pressed : Pressed c i raised a w after best Outcome.Done
+
+-- the round's answer, from what was written of its lines
+abbrev pub roundWritten : Written → ℤ → Round
+roundWritten (Written.Bytes n) bound = Round.Made n bound
+roundWritten (Written.Refused x) bound = Round.Refused x
 
 -- what a call of the round answers and leaves
 pub record MadeRound (c : Case) (w : List ℤ) (out : List ℕ) (after : List ℤ) (written : List ℕ) (r : Round) : Type 0 where

@@ -1,14 +1,14 @@
 -- Raised scopes and sets of values as bytes, and what the search for a press may take as known. Assumes nothing.
 use mathlib.Core.Path.{_≡_}
-use mathlib.Core.Bool.{Bool, true, false, not, _&&_}
+use mathlib.Core.Bool.{Bool, true, not, _&&_}
 use mathlib.Core.Logic.{_≢_}
-use mathlib.Core.Option.{Option, none, some}
+use mathlib.Core.Option.{none, some}
 use mathlib.Core.List.{List}
 use Prim.Native.Nat.{ℕ, _+_, _*_, _≤_, _<_}
 use lib.IntN.{ℤ}
 use lib.Dec.{T, eqb}
 use lib.ListN.{length, getD, set}
-use Rattle.integers.specs.Words.{if_then_else_, below, those, first}
+use Rattle.integers.specs.Words.{if_then_else_, those}
 use Rattle.definitions.specs.declared.Case.{Case}
 use Rattle.definitions.specs.Rules.{rulesOf}
 use Rattle.definitions.specs.Case.{scopes, scopeCount}
@@ -16,21 +16,11 @@ use Rattle.definitions.specs.Valid.{workingWeight}
 use Rattle.definitions.specs.Consistency.{allRefuted}
 use Rattle.definitions.specs.Moves.{activeValues}
 use Rattle.definitions.specs.Engine.{chosen, keptScopes}
+use Rattle.calls.specs.Calls.{isRaised}
 use Rattle.theory.proofs.Validity.{Handed}
 use Rattle.marks.specs.Marks.{fullOf}
 use Rattle.arcs.specs.Active.{activeSet, activeRow}
-use Rattle.arcs.specs.Tried.{triedAnswer}
-use Rattle.arcs.specs.declared.Tried.{Tried}
-use Rattle.engine.specs.declared.Chosen.{Chosen}
-
-abbrev pub saysRefuted : Tried → Bool
-saysRefuted Tried.Unsupported = true
-saysRefuted Tried.Supported = false
-saysRefuted Tried.Malformed = false
-
--- scope x is raised
-abbrev pub isRaised : List ℕ → ℕ → Bool
-isRaised raised x = not (eqb (getD raised x 0) 0)
+use Rattle.choice.specs.declared.Chosen.{Chosen}
 
 -- acts holds the active values of each variable
 abbrev pub ActiveIn : Case → List ℤ → List ℕ → Type 0
@@ -66,14 +56,6 @@ ChosenIn c (Chosen.Variable i) = i < c .n
 abbrev pub ChosenIs : Case → List ℤ → Chosen → Type 0
 ChosenIs c w Chosen.Nothing = chosen c w ≡ none
 ChosenIs c w (Chosen.Variable i) = chosen c w ≡ some i
-
-abbrev pub chosenOf : Option ℕ → Chosen
-chosenOf none = Chosen.Nothing
-chosenOf (some i) = Chosen.Variable i
-
--- the lowest variable whose values `acts` are all refuted inside the sets
-abbrev pub lowestRefuted : List ℕ → List ℕ → List ℕ → List ℕ → List ℕ → List ℕ → Option ℕ
-lowestRefuted lower upper acts rows edges sets = first (those (λ i. saysRefuted (triedAnswer lower upper rows edges sets i (getD acts i 0))) (below (length sets)))
 
 -- the variable that was chosen, with the scopes raised that are kept
 abbrev pub FoundIs : Case → List ℤ → List ℕ → Chosen → Type 0

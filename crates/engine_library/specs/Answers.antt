@@ -5,8 +5,8 @@ use Rattle.engine_library.specs.declared.CeilingRound.{CeilingRound}
 use Rattle.engine_library.specs.declared.CeilingRun.{CeilingRun}
 
 -- a round's bytes and bound; settled has no bytes, and no bound is handed back
-abbrev pub roundOf : Says → CeilingRound
-roundOf s = record { number = s .number; bytes = countAt s 0; bound = valueAt s 1 }
+abbrev pub roundAnswer : Says → CeilingRound
+roundAnswer s = record { number = s .number; bytes = countAt s 0; bound = valueAt s 1 }
 
 -- settled is 0, limit is 1
 abbrev pub runOf : Run → CeilingRun

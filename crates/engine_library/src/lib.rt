@@ -10,10 +10,10 @@ ghost use Rattle.definitions.specs.Rules.{rulesOf};
 ghost use Rattle.definitions.specs.Refusals.{number};
 ghost use Rattle.definitions.specs.Answers.{roundSays, runSays, countAt};
 ghost use Rattle.definitions.specs.Engine.{engineNext};
-ghost use Rattle.definitions.specs.EngineCalls.{roundCall, runCall};
-ghost use Rattle.encoding.specs.CaseBytes.{caseOf};
+ghost use Rattle.calls.specs.EngineCalls.{roundCall, runCall};
+ghost use Rattle.encoding.specs.CaseBytes.{caseIn};
 ghost use Rattle.encoding.specs.Version.{versionNumber};
-ghost use Rattle.engine_library.specs.Answers.{roundOf, runOf};
+ghost use Rattle.engine_library.specs.Answers.{roundAnswer, runOf};
 
 // The bytes written and the bound; no bytes where it is settled.
 #[repr(C)]
@@ -34,20 +34,14 @@ pub struct CeilingRun {
 
 // ---- answers as numbers
 
-fn wide(x: u8) -> u64
-    ensures { λ r. ⌜ r ≡ x ⌝ }
-{
-    x as u64
-}
-
 fn number_of(refusal: Refusal) -> u64
     ensures { λ r. ⌜ r ≡ number refusal ⌝ }
 {
-    wide(texts::number_of(refusal))
+    integers::wide(texts::number_of(refusal))
 }
 
 fn round_of(round: Round) -> CeilingRound
-    ensures { λ r. ⌜ r ≡ roundOf (roundSays round) ⌝ }
+    ensures { λ r. ⌜ r ≡ roundAnswer (roundSays round) ⌝ }
 {
     match round {
         Round::Settled => CeilingRound {
@@ -112,7 +106,12 @@ pub extern "C" fn ceiling_engine_version() -> u64
 // One round: its lines from the output's first byte.
 #[no_mangle]
 pub extern "C" fn ceiling_round(case: &CaseArray, table: &mut [i64], out: &mut [u8]) -> CeilingRound
-    ensures { λ r. ⌜ (r ≡ roundOf (roundSays (roundCall (rulesOf (caseOf (now (case .entry)))) engineNext (caseOf (now (case .entry))) (now (table .entry)) (now (out .entry)) .answer))) × (now (table .exit) ≡ roundCall (rulesOf (caseOf (now (case .entry)))) engineNext (caseOf (now (case .entry))) (now (table .entry)) (now (out .entry)) .table) × (now (out .exit) ≡ roundCall (rulesOf (caseOf (now (case .entry)))) engineNext (caseOf (now (case .entry))) (now (table .entry)) (now (out .entry)) .out) ⌝ }
+    ensures { λ r. ⌜ (r ≡ roundAnswer (roundSays
+        (roundCall (rulesOf (caseIn (now (case .entry)))) engineNext (caseIn (now (case .entry))) (now (table .entry)) (now (out .entry)) .answer)))
+        × (now (table .exit)
+        ≡ roundCall (rulesOf (caseIn (now (case .entry)))) engineNext (caseIn (now (case .entry))) (now (table .entry)) (now (out .entry)) .table)
+        × (now (out .exit)
+        ≡ roundCall (rulesOf (caseIn (now (case .entry)))) engineNext (caseIn (now (case .entry))) (now (table .entry)) (now (out .entry)) .out) ⌝ }
 {
     round_of(engine::round(encoding::case_of(case), table, out))
 }
@@ -125,7 +124,12 @@ pub extern "C" fn ceiling_run(
     out: &mut [u8],
     limit: u64,
 ) -> CeilingRun
-    ensures { λ r. ⌜ (r ≡ runOf (runCall (rulesOf (caseOf (now (case .entry)))) engineNext (caseOf (now (case .entry))) limit (now (table .entry)) (now (out .entry)) .run)) × (now (table .exit) ≡ runCall (rulesOf (caseOf (now (case .entry)))) engineNext (caseOf (now (case .entry))) limit (now (table .entry)) (now (out .entry)) .table) × (now (out .exit) ≡ runCall (rulesOf (caseOf (now (case .entry)))) engineNext (caseOf (now (case .entry))) limit (now (table .entry)) (now (out .entry)) .out) ⌝ }
+    ensures { λ r. ⌜ (r ≡ runOf
+        (runCall (rulesOf (caseIn (now (case .entry)))) engineNext (caseIn (now (case .entry))) limit (now (table .entry)) (now (out .entry)) .run))
+        × (now (table .exit)
+        ≡ runCall (rulesOf (caseIn (now (case .entry)))) engineNext (caseIn (now (case .entry))) limit (now (table .entry)) (now (out .entry)) .table)
+        × (now (out .exit)
+        ≡ runCall (rulesOf (caseIn (now (case .entry)))) engineNext (caseIn (now (case .entry))) limit (now (table .entry)) (now (out .entry)) .out) ⌝ }
 {
     run_of(engine::run(encoding::case_of(case), table, out, limit))
 }

@@ -8,7 +8,7 @@ use mathlib.Core.Logic.{_↔_}
 use mathlib.Core.Option.{Option, none, some}
 use mathlib.Core.List.{List, [], _∷_, _++_, append-assoc, append-nil, List·Memᴰ·not-nil}
 use Prim.Native.Nat.{ℕ, zero, suc, _+_, _-_, _≤_}
-use native.Mathlib.Nat.{mul-le-mul-right, mul-comm}
+use native.Mathlib.Nat.{mul-comm}
 use native.Mathlib.Omega.{arith}
 use lib.IntN.{ℤ}
 use lib.Dec.{T, ltb}
@@ -26,16 +26,19 @@ use Rattle.definitions.specs.declared.Round.{Round}
 use Rattle.definitions.specs.declared.RunAnswer.{RunAnswer}
 use Rattle.definitions.specs.Rules.{Rules, Coherent}
 use Rattle.definitions.specs.Refusals.{Test, firstOf}
-use Rattle.definitions.specs.Case.{scopeCount, upperBound}
+use Rattle.definitions.specs.Case.{upperBound}
 use Rattle.definitions.specs.Valid.{workingWeight, handedOver}
 use Rattle.definitions.specs.Moves.{Move}
 use Rattle.definitions.specs.Lines.{lineText, lineLength, linesIn, overwritten}
-use Rattle.definitions.specs.Engine.{Next, nothing, round, Made, settled, refused, made, afterMoves, roundLines, roundText, roundBytes, madeOf, makeNext, RunOf, stopped, atLimit, onward, runFrom, run}
-use Rattle.definitions.specs.EngineCalls.{RoundCall, RunCall, isLeaving, answerAtLimit, roundMade, engineRefusal, roundCall, boundAt, stopRun, goOn, runCallFrom, runCall}
+use Rattle.definitions.specs.Engine.{Next, nothing, round, Made, settled, refused, made, afterMoves, roundBytes}
+use Rattle.definitions.specs.Engine.{madeOf, makeNext, RunOf, stopped, atLimit, onward, runFrom, run}
+use Rattle.calls.specs.EngineCalls.{RoundCall, RunCall, isLeaving, answerAtLimit, roundMade, engineRefusal}
+use Rattle.calls.specs.EngineCalls.{roundCall, boundAt, stopRun, goOn, runCallFrom, runCall}
 use Rattle.definitions.proofs.LineLaws.{lines-joined}
+use Rattle.definitions.specs.RoundLines.{roundLines, roundText}
 use Rattle.theory.proofs.Validity.{Handed, handed}
 use Rattle.theory.proofs.Replays.{none-iff}
-use Rattle.engine_theory.specs.Runs.{boundLines, textsOf, roundTexts, writtenOver, preceded}
+use Rattle.engine_theory.specs.Runs.{boundLines, textsOf, roundTexts, writtenInTurn, preceded}
 use Rattle.engine_theory.proofs.Runs.{RoundFrom, Lawful, round-whole, handed-on, run-tallied}
 
 -- no number that is asked before a round is 11
@@ -43,7 +46,8 @@ not-leaving : (ts : List Test) → T (all (λ t. not (isLeaving (t .refusal))) t
 not-leaving [] h e = absurd (none-some e)
 not-leaving (t ∷ ts) h {x} e = go (t .applies) (and-left (not (isLeaving (t .refusal))) _ h) (not-leaving ts (and-right (not (isLeaving (t .refusal))) _ h)) e
   where
-    go : (b : Bool) → T (not (isLeaving (t .refusal))) → (firstOf ts ≡ some x → T (not (isLeaving x))) → (if b then some (t .refusal) else firstOf ts) ≡ some x → T (not (isLeaving x))
+    go : (b : Bool) → T (not (isLeaving (t .refusal))) → (firstOf ts ≡ some x → T (not (isLeaving x)))
+        → (if b then some (t .refusal) else firstOf ts) ≡ some x → T (not (isLeaving x))
     go true h rest e = subst (λ (y : Refusal). T (not (isLeaving y))) (some-inj e) h
     go false h rest e = rest e
 
@@ -61,12 +65,13 @@ module _ (r : Rules) (next : Rules → Case → List ℤ → Next) (c : Case) (w
   unfolding roundCall
   call-taken e = rw (e, roundCall)
 
-  pub call-refused : {x : Refusal} → engineRefusal r next c w out ≡ some x → roundCall r next c w out ≡ roundMade r next c w out (refused x)
+  pub round-refused : {x : Refusal} → engineRefusal r next c w out ≡ some x → roundCall r next c w out ≡ roundMade r next c w out (refused x)
   unfolding roundCall
-  call-refused e = rw (e, roundCall)
+  round-refused e = rw (e, roundCall)
 
   -- settled or refused, table and output keep what they held
-  pub unmade-keeps : ((bytes : ℕ) (bound : ℤ) → roundCall r next c w out .answer ≡ Round.Made bytes bound → ⊥) → (roundCall r next c w out .table ≡ w) × (roundCall r next c w out .out ≡ out)
+  pub unmade-keeps : ((bytes : ℕ) (bound : ℤ) → roundCall r next c w out .answer ≡ Round.Made bytes bound → ⊥)
+      → (roundCall r next c w out .table ≡ w) × (roundCall r next c w out .out ≡ out)
   unmade-keeps unmade = asked (engineRefusal r next c w out) refl
     where
       keeps : (m : Made) → roundCall r next c w out ≡ roundMade r next c w out m → (roundCall r next c w out .table ≡ w) × (roundCall r next c w out .out ≡ out)
@@ -76,23 +81,28 @@ module _ (r : Rules) (next : Rules → Case → List ℤ → Next) (c : Case) (w
 
       asked : (o : Option Refusal) → engineRefusal r next c w out ≡ o → (roundCall r next c w out .table ≡ w) × (roundCall r next c w out .out ≡ out)
       asked none e = keeps (makeNext r c w (next r c w)) (call-taken e)
-      asked (some x) e = keeps (refused x) (call-refused e)
+      asked (some x) e = keeps (refused x) (round-refused e)
 
   -- refused before its first round, a run is refused so, with no rounds
-  pub run-refused : (limit : ℕ) {x : Refusal} → engineRefusal r next c w out ≡ some x → runCall r next c limit w out ≡ stopRun r next c (RunAnswer.Refused x) 0 w out []
+  pub run-refused : (limit : ℕ) {x : Refusal} → engineRefusal r next c w out ≡ some x
+      → runCall r next c limit w out ≡ stopRun r next c (RunAnswer.Refused x) 0 w out []
   unfolding runCall
   run-refused zero {x} e =
-      ap (λ (u : RoundCall). stopRun r next c (answerAtLimit (u .answer)) 0 w out []) (call-refused e)
-      ∙ ap (λ (a : RunAnswer). stopRun r next c a 0 w out []) (if-false RunAnswer.Limit (RunAnswer.Refused x) (isLeaving x) (not-leaving (handedOver r (workingWeight r) c w (ltb (length out) (roundBytes r c)) false) tt e))
-  run-refused (suc limit) e = ap (λ (u : RoundCall). goOn r next c (u .answer) u 0 w out [] (λ v bytes log. runCallFrom r next c limit 1 v bytes log)) (call-refused e)
+      ap (λ (u : RoundCall). stopRun r next c (answerAtLimit (u .answer)) 0 w out []) (round-refused e)
+      ∙ ap (λ (a : RunAnswer). stopRun r next c a 0 w out []) (if-false RunAnswer.Limit (RunAnswer.Refused x) (isLeaving x)
+      (not-leaving (handedOver r (workingWeight r) c w (ltb (length out) (roundBytes r c)) false) tt e))
+  run-refused (suc limit) e = ap (λ (u : RoundCall). goOn r next c (u .answer) u 0 w out [] (λ v bytes log. runCallFrom r next c limit 1 v bytes log))
+      (round-refused e)
 
 -- ---- a run is the iteration of the round's call, for every table and every output
 
 module _ (r : Rules) (next : Rules → Case → List ℤ → Next) (c : Case) where
-  stop-preceded : (answer : RunAnswer) (done : ℕ) (w : List ℤ) (out log : List ℕ) → stopRun r next c answer done w out log ≡ preceded done log (stopRun r next c answer 0 w out [])
+  stop-preceded : (answer : RunAnswer) (done : ℕ) (w : List ℤ) (out log : List ℕ)
+      → stopRun r next c answer done w out log ≡ preceded done log (stopRun r next c answer 0 w out [])
   stop-preceded answer done w out log = ap₂ (λ (n : ℕ) (l : List ℕ). stopRun r next c answer n w out l) (omega arith) (sym (append-nil log))
 
-  from-preceded : (left done : ℕ) (w : List ℤ) (out log : List ℕ) → runCallFrom r next c left done w out log ≡ preceded done log (runCallFrom r next c left 0 w out [])
+  from-preceded : (left done : ℕ) (w : List ℤ) (out log : List ℕ)
+      → runCallFrom r next c left done w out log ≡ preceded done log (runCallFrom r next c left 0 w out [])
   from-preceded zero done w out log = stop-preceded (answerAtLimit (roundCall r next c w out .answer)) done w out log
   from-preceded (suc left) done w out log = go (λ d v o l. from-preceded left d v o l) (roundCall r next c w out .answer) (roundCall r next c w out)
     where
@@ -103,7 +113,12 @@ module _ (r : Rules) (next : Rules → Case → List ℤ → Next) (c : Case) wh
       go on (Round.Refused x) call = stop-preceded (RunAnswer.Refused x) done w out log
       go on (Round.Made bytes bound) call =
           on (suc done) (call .table) (call .out) (log ++ take bytes (call .out))
-          ∙ ap₂ (λ (n : ℕ) (l : List ℕ). record { run = record { answer = rest .run .answer; rounds = n; bound = rest .run .bound }; table = rest .table; out = rest .out; log = l })
+          ∙ ap₂ (λ (n : ℕ) (l : List ℕ). record {
+            run = record { answer = rest .run .answer; rounds = n; bound = rest .run .bound };
+            table = rest .table;
+            out = rest .out;
+            log = l;
+          })
           (omega arith) (append-assoc log (take bytes (call .out)) (rest .log))
           ∙ sym (ap (preceded done log) (on 1 (call .table) (call .out) (take bytes (call .out))))
         where
@@ -114,18 +129,21 @@ module _ (r : Rules) (next : Rules → Case → List ℤ → Next) (c : Case) wh
     -- a run whose first round is made is this round and then the run on the table and output that its call left, and begins its log with the
     -- bytes that the call wrote
     pub run-made : {bytes : ℕ} {bound : ℤ} → roundCall r next c w out .answer ≡ Round.Made bytes bound
-        → runCall r next c (suc limit) w out ≡ preceded 1 (take bytes (roundCall r next c w out .out)) (runCall r next c limit (roundCall r next c w out .table) (roundCall r next c w out .out))
+        → runCall r next c (suc limit) w out ≡ preceded 1 (take bytes (roundCall r next c w out .out))
+        (runCall r next c limit (roundCall r next c w out .table) (roundCall r next c w out .out))
     unfolding runCall
     run-made {bytes} {bound} e =
         ap (λ (a : Round). goOn r next c a (roundCall r next c w out) 0 w out [] (λ v b l. runCallFrom r next c limit 1 v b l)) e
         ∙ from-preceded limit 1 (roundCall r next c w out .table) (roundCall r next c w out .out) (take bytes (roundCall r next c w out .out))
 
     -- where it is settled or refused, so is the run, with no rounds and no log
-    pub run-settled-first : roundCall r next c w out .answer ≡ Round.Settled → runCall r next c (suc limit) w out ≡ stopRun r next c RunAnswer.Settled 0 w out []
+    pub run-settled-first : roundCall r next c w out .answer ≡ Round.Settled
+        → runCall r next c (suc limit) w out ≡ stopRun r next c RunAnswer.Settled 0 w out []
     unfolding runCall
     run-settled-first e = ap (λ (a : Round). goOn r next c a (roundCall r next c w out) 0 w out [] (λ v b l. runCallFrom r next c limit 1 v b l)) e
 
-    pub run-refused-first : {x : Refusal} → roundCall r next c w out .answer ≡ Round.Refused x → runCall r next c (suc limit) w out ≡ stopRun r next c (RunAnswer.Refused x) 0 w out []
+    pub run-refused-first : {x : Refusal} → roundCall r next c w out .answer ≡ Round.Refused x
+        → runCall r next c (suc limit) w out ≡ stopRun r next c (RunAnswer.Refused x) 0 w out []
     unfolding runCall
     run-refused-first e = ap (λ (a : Round). goOn r next c a (roundCall r next c w out) 0 w out [] (λ v b l. runCallFrom r next c limit 1 v b l)) e
 
@@ -136,15 +154,11 @@ module _ (r : Rules) (next : Rules → Case → List ℤ → Next) (c : Case) wh
 
 -- ---- a run's call is the plain run
 
--- it begins with the last round's lines
-pub written-last : (before : List (List (List ℕ))) (lines : List (List ℕ)) (out : List ℕ) → writtenOver (before ++ (lines ∷ [])) out ≡ overwritten (joined lines) (writtenOver before out)
-written-last [] lines out = refl
-written-last (first ∷ before) lines out = written-last before lines (overwritten (joined first) out)
-
 -- behind what is written it keeps what it held
 drop-written : (n : ℕ) (bytes out : List ℕ) → length bytes ≤ n → drop n (overwritten bytes out) ≡ drop n out
 drop-written n bytes out h = let k = n - length bytes in let e : length bytes + k ≡ n = omega arith in
-    ap (λ (m : ℕ). drop m (overwritten bytes out)) (sym e) ∙ drop-append-add bytes (drop (length bytes) out) k ∙ drop-drop k (length bytes) out ∙ ap (λ (m : ℕ). drop m out) e
+    ap (λ (m : ℕ). drop m (overwritten bytes out)) (sym e) ∙ drop-append-add bytes (drop (length bytes) out) k ∙ drop-drop k (length bytes) out
+    ∙ ap (λ (m : ℕ). drop m out) e
 
 module _ (r : Rules) (next : Rules → Case → List ℤ → Next) (c : Case) where
   abbrev TextsOf : RunOf → ℕ → List (List ℕ) → List (List (List ℕ)) → Type 0
@@ -174,7 +188,7 @@ pub record SameRun (r : Rules) (c : Case) (q : RunOf) (texts : List (List (List 
   pub bound : u .run .bound ≡ upperBound c (q .weights)
   pub table : u .table ≡ q .weights
   pub log : u .log ≡ joined (q .log)
-  pub out : u .out ≡ writtenOver texts lent
+  pub out : u .out ≡ writtenInTurn texts lent
   pub out-length : length (u .out) ≡ length lent
   -- behind what one round may need
   pub out-rest : drop (roundBytes r c) (u .out) ≡ drop (roundBytes r c) lent
@@ -201,18 +215,22 @@ module _ {r : Rules} {next : Rules → Case → List ℤ → Next} {c : Case} (c
   calls-from : (left done : ℕ) (w : List ℤ) (out : List ℕ) (log : List (List ℕ)) → Handed r (workingWeight r) c w → roundBytes r c ≤ length out
       → SameRun r c (runFrom r next c left done w log) (roundTexts r next c left w) out (runCallFrom r next c left done w out (joined log))
   calls-from zero done w out log h long =
-      subst (λ (u : RoundCall). SameRun r c (stopped (atLimit (next r c w)) done w log) [] out (stopRun r next c (answerAtLimit (u .answer)) done w out (joined log)))
+      subst (λ (u : RoundCall). SameRun r c (stopped (atLimit (next r c w)) done w log) [] out
+      (stopRun r next c (answerAtLimit (u .answer)) done w out (joined log)))
       (sym (call-taken r next c w out (taken-iff r next c w out .1 (h, long)))) (go (next r c w))
     where
-      go : (n : Next) → SameRun r c (stopped (atLimit n) done w log) [] out (stopRun r next c (answerAtLimit (roundMade r next c w out (makeNext r c w n) .answer)) done w out (joined log))
+      go : (n : Next) → SameRun r c (stopped (atLimit n) done w log) [] out
+          (stopRun r next c (answerAtLimit (roundMade r next c w out (makeNext r c w n) .answer)) done w out (joined log))
       go nothing = stops RunAnswer.Settled done w out log refl
       go (round moves) = leads (afterMoves r c moves w)
         where
-          leads : (o : Option (List ℤ)) → SameRun r c (stopped RunAnswer.Limit done w log) [] out (stopRun r next c (answerAtLimit (roundMade r next c w out (madeOf r c moves o) .answer)) done w out (joined log))
+          leads : (o : Option (List ℤ)) → SameRun r c (stopped RunAnswer.Limit done w log) [] out
+              (stopRun r next c (answerAtLimit (roundMade r next c w out (madeOf r c moves o) .answer)) done w out (joined log))
           leads none = stops RunAnswer.Limit done w out log refl
           leads (some v) = stops RunAnswer.Limit done w out log refl
   calls-from (suc left) done w out log h long =
-      subst (λ (u : RoundCall). SameRun r c (runFrom r next c (suc left) done w log) (roundTexts r next c (suc left) w) out (goOn r next c (u .answer) u done w out (joined log) rest))
+      subst (λ (u : RoundCall). SameRun r c (runFrom r next c (suc left) done w log) (roundTexts r next c (suc left) w) out
+      (goOn r next c (u .answer) u done w out (joined log) rest))
       (sym (call-taken r next c w out (taken-iff r next c w out .1 (h, long)))) (go (next r c w) refl (λ v out log. calls-from left (suc done) v out log))
     where
       rest : List ℤ → List ℕ → List ℕ → RunCall
@@ -223,18 +241,21 @@ module _ {r : Rules} {next : Rules → Case → List ℤ → Next} {c : Case} (c
 
       go : (n : Next) → next r c w ≡ n → ((v : List ℤ) (out : List ℕ) (log : List (List ℕ)) → Handed r (workingWeight r) c v → roundBytes r c ≤ length out
           → SameRun r c (runFrom r next c left (suc done) v log) (roundTexts r next c left v) out (runCallFrom r next c left (suc done) v out (joined log)))
-          → Same (makeNext r c w n) (goOn r next c (roundMade r next c w out (makeNext r c w n) .answer) (roundMade r next c w out (makeNext r c w n)) done w out (joined log) rest)
+          → Same (makeNext r c w n) (goOn r next c (roundMade r next c w out (makeNext r c w n) .answer)
+          (roundMade r next c w out (makeNext r c w n)) done w out (joined log) rest)
       go nothing e on = stops RunAnswer.Settled done w out log refl
       go (round moves) e on = leads (afterMoves r c moves w) refl
         where
           leads : (o : Option (List ℤ)) → afterMoves r c moves w ≡ o
-              → Same (madeOf r c moves o) (goOn r next c (roundMade r next c w out (madeOf r c moves o) .answer) (roundMade r next c w out (madeOf r c moves o)) done w out (joined log) rest)
+              → Same (madeOf r c moves o) (goOn r next c (roundMade r next c w out (madeOf r c moves o) .answer)
+              (roundMade r next c w out (madeOf r c moves o)) done w out (joined log) rest)
           leads none f = stops (RunAnswer.Refused LeavesRange) done w out log refl
           leads (some v) f =
               let m : RoundFrom r next c w moves v = record { handed = h; comes = e; leads = f } in
               let lines : List (List ℕ) = roundText r c moves v in
               let n : length (overwritten (joined lines) out) ≡ length out = kept-length m out long in
-              let wrote = joined-append log lines ∙ ap (λ (l : List ℕ). joined log ++ l) (sym (take-append-seam (joined lines) (drop (length (joined lines)) out))) in
+              let wrote = joined-append log lines ∙ ap (λ (l : List ℕ). joined log ++ l)
+              (sym (take-append-seam (joined lines) (drop (length (joined lines)) out))) in
               let q = on v (overwritten (joined lines) out) (log ++ lines) (handed-on coherent lawful m) (omega arith) in
               subst (λ (l : List ℕ). Same (made v lines) (rest v (overwritten (joined lines) out) l)) wrote (record {
                 answer = q .answer;
@@ -263,7 +284,8 @@ module _ {r : Rules} {next : Rules → Case → List ℤ → Next} {c : Case} (c
     pub call-bound-lines : length (boundLines r (linesIn (r .amountWidth) (runCall r next c limit w out .log))) ≡ runCall r next c limit w out .run .rounds
     call-bound-lines = go (engineRefusal r next c w out) refl
       where
-        go : (o : Option Refusal) → engineRefusal r next c w out ≡ o → length (boundLines r (linesIn (r .amountWidth) (runCall r next c limit w out .log))) ≡ runCall r next c limit w out .run .rounds
+        go : (o : Option Refusal) → engineRefusal r next c w out ≡ o
+            → length (boundLines r (linesIn (r .amountWidth) (runCall r next c limit w out .log))) ≡ runCall r next c limit w out .run .rounds
         go none e =
             ap (λ (ls : List (List ℕ)). length (boundLines r ls)) (call-lines e)
             ∙ run-tallied coherent lawful limit w (taken-iff r next c w out .0 e .0) .kept .counted ∙ sym (same-run e .rounds)

@@ -3,7 +3,7 @@
 use mathlib.Core.Path.{_≡_, refl, sym, ap, ap₂, _∙_}
 use mathlib.Core.Bool.{Bool, true, false, not, _&&_, _||_}
 use mathlib.Core.Option.{some}
-use mathlib.Core.Logic.{_≢_, ⊎-elim}
+use mathlib.Core.Logic.{⊎-elim}
 use mathlib.Core.List.{List, _∷_, List·Memᴰ·head, List·Memᴰ·tail}
 use Prim.Native.Nat.{ℕ, _<_}
 use native.Mathlib.Omega.{arith}
@@ -14,10 +14,10 @@ use Rattle.integers.specs.Words.{if_then_else_, isIn}
 use Rattle.integers.specs.Tests.{or-cases, if-cases}
 use Rattle.integers.specs.Linear.{flat, zs, _▸_, ≤ℤ-antisym}
 use Rattle.integers.specs.Lists.{_∈_, isIn-in}
-use Rattle.integers.specs.Sums.{Σ-cong, Σ-sub, Σ-only, only, only-at, only-off}
+use Rattle.integers.specs.Sums.{Σ-cong, Σ-sub, Σ-only, only}
 use Rattle.definitions.specs.declared.Case.{Case}
 use Rattle.definitions.specs.Case.{scopeCount, weight, greatest, upperBound, active}
-use Rattle.definitions.specs.Moves.{onlyWhere, press, moved, pressBy, activeValues}
+use Rattle.definitions.specs.Moves.{onlyWhere, activePress, moved, pressBy, activeValues}
 use Rattle.definitions.specs.Engine.{chosen, keptScopes, leastGap}
 use Rattle.theory.proofs.Shape.{Shape}
 use Rattle.theory.proofs.Places.{IsTuple, first-tuple, weight-plus, weight-most, greatest-at, greatest-there}
@@ -41,11 +41,12 @@ and-same false h = refl
 
 -- the table after it
 abbrev pub enginePressed : Case → List ℤ → ℕ → ℤ → List ℤ
-enginePressed c w i a = moved c (press i (keptScopes c w i) a) w
+enginePressed c w i a = moved c (activePress c w i (keptScopes c w i) a) w
 
 module _ (c : Case) (w : List ℤ) {i : ℕ} {a : ℤ} (shape : Shape c) (which : chosen c w ≡ some i) (least : leastGap c w i ≡ some a) where
   limits : (x : ℕ) → T (eqb x i || isIn (keptScopes c w i) x) → x ∈ (i ∷ keptScopes c w i)
-  limits x t = ⊎-elim (λ s. List·Memᴰ·head (eqb→eq x i s)) (λ s. List·Memᴰ·tail (isIn-in (keptScopes c w i) x .0 s)) (or-cases (eqb x i) (isIn (keptScopes c w i) x) t)
+  limits x t = ⊎-elim (λ s. List·Memᴰ·head (eqb→eq x i s)) (λ s. List·Memᴰ·tail (isIn-in (keptScopes c w i) x .0 s))
+      (or-cases (eqb x i) (isIn (keptScopes c w i) x) t)
 
   own-active : {x k l : ℕ} → IsTuple c x k l → T (eqb x i) → active c w i k 0 ≡ active c w x k l
   own-active {x} {k} {l} u t =
@@ -53,7 +54,8 @@ module _ (c : Case) (w : List ℤ) {i : ℕ} {a : ℤ} (shape : Shape c) (which 
       ap₂ (λ (x l : ℕ). active c w x k l) (sym e) (sym (u .alone (rw e (chosen-some c w which .0))))
 
   pub pressed-weight : {x k l : ℕ} → IsTuple c x k l
-      → ((weight c w x k l -ℤ only i a x) ≤ℤ weight c (enginePressed c w i a) x k l) × (weight c (enginePressed c w i a) x k l ≤ℤ (greatest c w x -ℤ only i a x))
+      → ((weight c w x k l -ℤ only i a x) ≤ℤ weight c (enginePressed c w i a) x k l)
+      × (weight c (enginePressed c w i a) x k l ≤ℤ (greatest c w x -ℤ only i a x))
   pressed-weight {x} {k} {l} u =
       rw (weight-plus c (pressBy c w i (activeValues c w i) (isIn (keptScopes c w i)) a) w u, and-same (eqb x i) (own-active u))
       (press-step (eqb x i) (isIn (keptScopes c w i) x) (active c w x k l) (weight c w x k l) (greatest c w x) a
@@ -72,16 +74,11 @@ module _ (c : Case) (w : List ℤ) {i : ℕ} {a : ℤ} (shape : Shape c) (which 
       let d : weight c (enginePressed c w i a) x k l ≡ greatest c w x -ℤ only i a x = ≤ℤ-antisym q (rw e at p) in
       greatest-there c (enginePressed c w i a) u (λ k l v. rw d (pressed-weight v .1)) ∙ d
 
-  pub greatest-own : greatest c (enginePressed c w i a) i ≡ greatest c w i -ℤ a
-  greatest-own = greatest-pressed i (omega (arith, chosen-some c w which .0)) ∙ ap (λ (z : ℤ). greatest c w i -ℤ z) (only-at i a)
-
-  pub greatest-other : {x : ℕ} → x < scopeCount c → x ≢ i → greatest c (enginePressed c w i a) x ≡ greatest c w x
-  greatest-other {x} h n = greatest-pressed x h ▸ only-off i a n ▸ simp flat (omega zs)
-
   pub no-rise : (x : ℕ) → x < scopeCount c → greatest c (enginePressed c w i a) x ≤ℤ greatest c w x
   no-rise x h = greatest-pressed x h ▸ only-within x ▸ simp flat (omega zs)
 
   pub fall : upperBound c (enginePressed c w i a) ≡ upperBound c w -ℤ a
   fall =
       Σ-cong (greatest c (enginePressed c w i a)) (λ x. greatest c w x -ℤ only i a x) 0 (scopeCount c) (λ x l u. greatest-pressed x (omega arith))
-      ∙ Σ-sub (greatest c w) (only i a) 0 (scopeCount c) ∙ ap (λ (z : ℤ). upperBound c w -ℤ z) (Σ-only i a 0 (scopeCount c) (omega arith) (omega (arith, chosen-some c w which .0)))
+      ∙ Σ-sub (greatest c w) (only i a) 0 (scopeCount c)
+      ∙ ap (λ (z : ℤ). upperBound c w -ℤ z) (Σ-only i a 0 (scopeCount c) (omega arith) (omega (arith, chosen-some c w which .0)))

@@ -20,7 +20,7 @@ use Rattle.definitions.specs.declared.Case.{Case}
 use Rattle.definitions.specs.Rules.{Rules}
 use Rattle.definitions.specs.Case.{scopeCount, weight, greatest, active}
 use Rattle.definitions.specs.Valid.{workingWeight}
-use Rattle.definitions.specs.Moves.{Move, press}
+use Rattle.definitions.specs.Moves.{Move, activePress}
 use Rattle.definitions.specs.Engine.{chosen, keptScopes, inactiveWeights, gapAbove, gap, leastGap, nothing, round, engineNext, pressNext, pressRound}
 use Rattle.theory.proofs.Shape.{Shape}
 use Rattle.theory.proofs.Places.{IsTuple, tuple-in, in-tuples, inactive-less, greatest-at}
@@ -50,7 +50,8 @@ module _ (c : Case) (w : List ℤ) {x : ℕ} where
   -- each inactive tuple is at least the gap below the greatest weight, and one is the gap below it
   gap-in : {k l : ℕ} → IsTuple c x k l → T (not (active c w x k l)) → (y : ℤ) × y ∈ gap c w x × ((weight c w x k l +ℤ y) ≤ℤ greatest c w x)
   gap-in {k} {l} u t = above-in (greatest c w x) {z = weight c w x k l} (inactiveWeights c w x)
-      (joined-in {l = if active c w x k l then [] else weight c w x k l ∷ []} (rw (if-false [] (weight c w x k l ∷ []) (active c w x k l) t) (List·Memᴰ·head refl))
+      (joined-in {l = if active c w x k l then [] else weight c w x k l ∷ []}
+      (rw (if-false [] (weight c w x k l ∷ []) (active c w x k l) t) (List·Memᴰ·head refl))
       (tuple-in c (λ k l. if active c w x k l then [] else weight c w x k l ∷ []) u))
 
   in-gap : x < scopeCount c → {y : ℤ} → y ∈ gap c w x → (k l : ℕ) × IsTuple c x k l × T (not (active c w x k l)) × (y ≡ greatest c w x -ℤ weight c w x k l)
@@ -114,7 +115,7 @@ module _ (c : Case) (w : List ℤ) {i : ℕ} (shape : Shape c) (which : chosen c
 -- ---- the engine's next round
 
 module _ (r : Rules) (c : Case) (w : List ℤ) where
-  pub next-press : {i : ℕ} {a : ℤ} → chosen c w ≡ some i → leastGap c w i ≡ some a → engineNext r c w ≡ round (press i (keptScopes c w i) a ∷ [])
+  pub next-press : {i : ℕ} {a : ℤ} → chosen c w ≡ some i → leastGap c w i ≡ some a → engineNext r c w ≡ round (activePress c w i (keptScopes c w i) a ∷ [])
   next-press {i} e g = ap (pressNext c w) e ∙ ap (pressRound c w i) g
 
   pub next-nothing : Shape c → engineNext r c w ≡ nothing ↔ chosen c w ≡ none
@@ -124,11 +125,12 @@ module _ (r : Rules) (c : Case) (w : List ℤ) where
       go none e d = refl
       go (some i) e d = let (a, g) = amount c w shape e in let f = next-press e g in let z : _≡_ {A = ℕ} 0 1 = cc in absurd (omega arith)
 
-  pub next-round : {moves : List Move} → engineNext r c w ≡ round moves → (i : ℕ) × (a : ℤ) × (chosen c w ≡ some i) × (leastGap c w i ≡ some a) × (moves ≡ press i (keptScopes c w i) a ∷ [])
+  pub next-round : {moves : List Move} → engineNext r c w ≡ round moves
+      → (i : ℕ) × (a : ℤ) × (chosen c w ≡ some i) × (leastGap c w i ≡ some a) × (moves ≡ activePress c w i (keptScopes c w i) a ∷ [])
   next-round {moves} d = go (chosen c w) refl d
     where
       Pressed : Type 0
-      Pressed = (i : ℕ) × (a : ℤ) × (chosen c w ≡ some i) × (leastGap c w i ≡ some a) × (moves ≡ press i (keptScopes c w i) a ∷ [])
+      Pressed = (i : ℕ) × (a : ℤ) × (chosen c w ≡ some i) × (leastGap c w i ≡ some a) × (moves ≡ activePress c w i (keptScopes c w i) a ∷ [])
 
       with-gap : (i : ℕ) → chosen c w ≡ some i → (o : Option ℤ) → leastGap c w i ≡ o → pressRound c w i o ≡ round moves → Pressed
       with-gap i e none g d = let z : _≡_ {A = ℕ} 0 1 = cc in absurd (omega arith)

@@ -21,10 +21,10 @@ use Rattle.integers.specs.Tables.{length-tab}
 use Rattle.integers.specs.Sums.{only, Σ-most, Σ-least}
 use Rattle.definitions.specs.declared.Case.{Case}
 use Rattle.definitions.specs.Rules.{Rules, Coherent, scopesAtMost}
-use Rattle.definitions.proofs.RulesLaws.{fits}
+use Rattle.definitions.proofs.RulesLaws.{rules-fit}
 use Rattle.definitions.specs.Case.{scopeCount, ownLength, weight, isAssignment, atUsed, objective, greatest, upperBound}
 use Rattle.definitions.specs.Valid.{workingWeight, allWeights}
-use Rattle.definitions.specs.Moves.{Move, leavesRange, difference, press}
+use Rattle.definitions.specs.Moves.{Move, leavesRange, activeValues, difference, activePress}
 use Rattle.definitions.specs.Engine.{chosen, keptScopes, leastGap, round, engineNext, afterMoves}
 use Rattle.theory.proofs.Shape.{Shape}
 use Rattle.theory.proofs.Places.{IsTuple, first-tuple, all-weights, plus-length, weight-most, greatest-within}
@@ -53,7 +53,7 @@ module _ {c : Case} {w₀ : List ℤ} (shape : Shape c) where
   pub reached-length : ownLength c ≤ length w₀ → {w : List ℤ} → Reached c w₀ w → length w ≡ length w₀
   reached-length long start = refl
   reached-length long (pressed {w = w} {i = i} {a = a} h e g) =
-      plus-length c (difference c w (press i (keptScopes c w i) a)) w (omega (arith, reached-length long h)) ∙ reached-length long h
+      plus-length c (difference c w (activePress c w i (keptScopes c w i) a)) w (omega (arith, reached-length long h)) ∙ reached-length long h
 
   -- no scope's greatest weight rises
   pub reached-high : {w : List ℤ} → Reached c w₀ w → (x : ℕ) → x < scopeCount c → greatest c w x ≤ℤ greatest c w₀ x
@@ -61,10 +61,12 @@ module _ {c : Case} {w₀ : List ℤ} (shape : Shape c) where
   reached-high (pressed {w = w} r e g) x h = ≤ℤ-trans (no-rise c w shape e g x h) (reached-high r x h)
 
   -- no weight falls by more than the upper bound has
-  pub reached-low : {w : List ℤ} → Reached c w₀ w → {x k l : ℕ} → IsTuple c x k l → (weight c w₀ x k l -ℤ (upperBound c w₀ -ℤ upperBound c w)) ≤ℤ weight c w x k l
+  pub reached-low : {w : List ℤ} → Reached c w₀ w → {x k l : ℕ} → IsTuple c x k l
+      → (weight c w₀ x k l -ℤ (upperBound c w₀ -ℤ upperBound c w)) ≤ℤ weight c w x k l
   reached-low start {x} {k} {l} t = low-start (weight c w₀ x k l) (upperBound c w₀)
   reached-low (pressed {w = w} {i = i} {a = a} r e g) {x} {k} {l} t =
-      low-step (weight c w₀ x k l) (weight c w x k l) (weight c (enginePressed c w i a) x k l) (upperBound c w₀) (upperBound c w) (upperBound c (enginePressed c w i a)) (only i a x) a
+      low-step (weight c w₀ x k l) (weight c w x k l) (weight c (enginePressed c w i a) x k l) (upperBound c w₀) (upperBound c w)
+      (upperBound c (enginePressed c w i a)) (only i a x) a
       (reached-low r t) (pressed-weight c w shape e g t .0) (only-within c w shape e g x .1) (fall c w shape e g)
 
   -- no objective falls, so the upper bound never passes below a first one
@@ -73,7 +75,8 @@ module _ {c : Case} {w₀ : List ℤ} (shape : Shape c) where
     reached-objective start = omega zs
     reached-objective (pressed {w = w} {i = i} {a = a} r e g) =
         let (h, t, l) = chosen-some c w e in
-        ≤ℤ-trans (reached-objective r) (press-moves shape p assigned w i h (keptScopes c w i) (kept-refuted c w i t) a (above-zero a (amount-some c w shape e g)))
+        ≤ℤ-trans (reached-objective r) (press-moves shape p assigned w i h (activeValues c w i) (keptScopes c w i) (kept-refuted c w i t) a
+        (above-zero a (amount-some c w shape e g)))
 
     pub reached-bound : {w : List ℤ} → Reached c w₀ w → objective c w₀ p ≤ℤ upperBound c w
     reached-bound {w} r = ≤ℤ-trans (reached-objective r) (bound-above shape p assigned w)
@@ -108,7 +111,8 @@ module _ {r : Rules} {c : Case} {w₀ : List ℤ} (coherent : Coherent r) (valid
   bound-spread z above =
       Σ-most (greatest c w₀) (r .starting) 0 (scopeCount c) (λ x l u. start-greatest x (omega arith))
       ▸ Σ-least (λ x. atUsed c (zeros c) x (weight c w₀ x)) (r .starting) 0 (scopeCount c)
-      (λ x l u. at-used-holds shape (zeros c) (zeros-assigned c shape) (λ z. minus (r .starting) ≤ℤ z) x (omega arith) (weight c w₀ x) (λ k l t. start-weight t .0))
+      (λ x l u. at-used-holds shape (zeros c) (zeros-assigned c shape) (λ z. minus (r .starting) ≤ℤ z) x (omega arith) (weight c w₀ x)
+      (λ k l t. start-weight t .0))
       ▸ above (zeros c) (zeros-assigned c shape) ▸ simp flat (omega zs)
 
   -- so it falls by 2·s·U at most
@@ -119,17 +123,19 @@ module _ {r : Rules} {c : Case} {w₀ : List ℤ} (coherent : Coherent r) (valid
       → (minus ((2 * scopeCount c + 1) * r .starting) ≤ℤ weight c w x k l) × (weight c w x k l ≤ℤ pos (r .starting))
   reached-weight {w} h {x} {k} {l} t =
       let e : (2 * scopeCount c + 1) * r .starting ≡ 2 * (scopeCount c * r .starting) + r .starting = spread (scopeCount c) (r .starting) in
-      start-weight t .0 ▸ reached-low shape h t ▸ reached-fall h ▸ weight-most c w t ▸ reached-high shape h x (t .scope) ▸ start-greatest x (t .scope) ▸ simp flat (omega zs)
+      start-weight t .0 ▸ reached-low shape h t ▸ reached-fall h ▸ weight-most c w t ▸ reached-high shape h x (t .scope) ▸ start-greatest x (t .scope)
+      ▸ simp flat (omega zs)
 
   pub reached-working : {w : List ℤ} → Reached c w₀ w → T (allWeights (workingWeight r) c w)
   reached-working {w} h =
       let m : (2 * scopeCount c + 1) * r .starting ≤ (2 * scopesAtMost r + 1) * r .starting = mul-le-mul-right (r .starting) (omega arith) in
       let o : (2 * scopesAtMost r + 1) * r .starting ≤ r .working = coherent .room in
-      let q : r .starting ≤ r .working = fits coherent .starting in
+      let q : r .starting ≤ r .working = rules-fit coherent .starting in
       all-weights c (workingWeight r) w (omega (arith, reached-length shape (omega arith) h)) .1 (λ x k l t. reached-weight h t ▸ simp flat (omega zs))
 
   -- number 11 never meets the next engine press
-  pub never-leaves : {w : List ℤ} {i : ℕ} {a : ℤ} → Reached c w₀ w → chosen c w ≡ some i → leastGap c w i ≡ some a → leavesRange r c (enginePressed c w i a) ≡ false
+  pub never-leaves : {w : List ℤ} {i : ℕ} {a : ℤ} → Reached c w₀ w → chosen c w ≡ some i → leastGap c w i ≡ some a
+      → leavesRange r c (enginePressed c w i a) ≡ false
   never-leaves {w} {i} {a} h e g = ap not (is-true (allWeights (workingWeight r) c (enginePressed c w i a)) (reached-working (pressed h e g)))
 
   -- so the engine's round is made, and the upper bound is lower after it

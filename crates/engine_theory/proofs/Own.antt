@@ -3,7 +3,6 @@
 use mathlib.Core.Path.{_≡_, refl, sym, ap, ap₂, _∙_}
 use mathlib.Core.Bool.{Bool}
 use mathlib.Core.Logic.{_↔_}
-use mathlib.Core.Option.{Option, none, some}
 use mathlib.Core.List.{List, [], _∷_, _++_, map, List·Memᴰ·head, List·Memᴰ·tail}
 use Prim.Native.Nat.{ℕ, _<_}
 use native.Mathlib.Omega.{arith}
@@ -14,12 +13,11 @@ use Rattle.integers.specs.Lists.{_∈_, those-same, map-cong}
 use Rattle.definitions.specs.declared.Case.{Case}
 use Rattle.definitions.specs.Case.{ownLength, scopeCount}
 use Rattle.definitions.specs.Moves.{activeRefuted}
-use Rattle.definitions.specs.Rules.{Rules}
-use Rattle.definitions.specs.Engine.{Settled, others, chosen, trimmed, keptScopes, gap, gapAbove, leastGap, engineNext, pressNext, pressRound}
+use Rattle.definitions.specs.Engine.{Settled, others, chosen, trimmed, keptScopes, gap, gapAbove, leastGap}
 use Rattle.definitions.proofs.CaseLaws.{eachTuple-same, weight-same, greatest-same, active-same}
 use Rattle.theory.proofs.Shape.{Shape}
 use Rattle.theory.proofs.Own.{activeRefuted-same}
-use Rattle.engine_theory.proofs.Trim.{chosen-some, settled-iff, kept-scopes}
+use Rattle.engine_theory.proofs.Trim.{settled-iff, kept-scopes}
 
 module _ (c : Case) (w u : List ℤ) (own : (p : ℕ) → p < ownLength c → getD w p (pos 0) ≡ getD u p (pos 0)) where
   pub chosen-same : chosen c w ≡ chosen c u
@@ -40,9 +38,10 @@ module _ (c : Case) (w u : List ℤ) (own : (p : ℕ) → p < ownLength c → ge
   pub kept-same : (i : ℕ) → i < c .n → keptScopes c w i ≡ keptScopes c u i
   kept-same i h = trimmed-same i h [] (others c i)
 
-  pub gap-same : (x : ℕ) → x < scopeCount c → gap c w x ≡ gap c u x
-  gap-same x h = ap₂ gapAbove (greatest-same c w u own x h)
-      (ap joined (eachTuple-same c x (λ k l p q. ap₂ (λ (b : Bool) (z : ℤ). if b then [] else z ∷ []) (active-same c w u own x h k l p q) (weight-same c w u own x h k l p q))))
+  pub own-gap-same : (x : ℕ) → x < scopeCount c → gap c w x ≡ gap c u x
+  own-gap-same x h = ap₂ gapAbove (greatest-same c w u own x h)
+      (ap joined (eachTuple-same c x (λ k l p q. ap₂ (λ (b : Bool) (z : ℤ). if b then [] else z ∷ []) (active-same c w u own x h k l p q)
+      (weight-same c w u own x h k l p q))))
 
   own-or-kept : (i : ℕ) → i < c .n → {x : ℕ} → x ∈ (i ∷ keptScopes c w i) → x < scopeCount c
   own-or-kept i h (List·Memᴰ·head e) = omega arith
@@ -50,15 +49,4 @@ module _ (c : Case) (w u : List ℤ) (own : (p : ℕ) → p < ownLength c → ge
 
   pub leastGap-same : (i : ℕ) → i < c .n → leastGap c w i ≡ leastGap c u i
   leastGap-same i h = ap (λ (l : List (List ℤ)). leastOf (joined l))
-      (map-cong (i ∷ keptScopes c w i) (λ x m. gap-same x (own-or-kept i h m)) ∙ ap (λ (l : List ℕ). map (gap c u) (i ∷ l)) (kept-same i h))
-
-  pub engineNext-same : (r : Rules) → engineNext r c w ≡ engineNext r c u
-  engineNext-same r = go (chosen c w) refl ∙ ap (pressNext c u) chosen-same
-    where
-      go : (o : Option ℕ) → chosen c w ≡ o → pressNext c w o ≡ pressNext c u o
-      go none e = refl
-      go (some i) e = let h = chosen-some c w e .0 in ap (pressRound c w i) (leastGap-same i h) ∙ last (leastGap c u i) (kept-same i h)
-        where
-          last : (g : Option ℤ) → keptScopes c w i ≡ keptScopes c u i → pressRound c w i g ≡ pressRound c u i g
-          last none q = refl
-          last (some a) q = rw q
+      (map-cong (i ∷ keptScopes c w i) (λ x m. own-gap-same x (own-or-kept i h m)) ∙ ap (λ (l : List ℕ). map (gap c u) (i ∷ l)) (kept-same i h))

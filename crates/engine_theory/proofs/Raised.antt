@@ -46,17 +46,21 @@ module _ (c : Case) (w : List ℤ) (i : ℕ) (h : i < c .n) where
           subst (λ (j : ℕ). T (allowed c w Q j v 0)) (sym e) (subst (λ (v : ℕ). T (allowed c w Q i v 0)) (sym f) (active-allowed (Q i) (active c w i k 0) a)))
           (λ t. carried j v 0 (omega arith) (not-eqb-iff j i .0 t) (p .allowed-only j v g l s))
           (either (eqb j i));
-      partner-above = λ e v g l s. let (u, m, q, o) = p .partner-above e v g l s in (u, m, q, carried (c .n + e) v u (omega arith) (λ q. absurd (omega arith)) o);
-      partner-below = λ e u g l s. let (v, m, q, o) = p .partner-below e u g l s in (v, m, q, carried (c .n + e) v u (omega arith) (λ q. absurd (omega arith)) o);
+      partner-above = λ e v g l s. let (u, m, q, o) = p .partner-above e v g l s in
+          (u, m, q, carried (c .n + e) v u (omega arith) (λ q. absurd (omega arith)) o);
+      partner-below = λ e u g l s. let (v, m, q, o) = p .partner-below e u g l s in
+          (v, m, q, carried (c .n + e) v u (omega arith) (λ q. absurd (omega arith)) o);
     }
 
     own-refuted : Shape c → T (refuted c w Q i k) → T (refuted c w R i k)
     own-refuted shape t = refuted-complete c w R i k (record {
-      none-exists = λ S s. refuted-sound c w Q i k (λ e g. (omega (arith, shape .ascending e g, shape .below-n e g), shape .below-n e g)) t .none-exists S (own-supported S s);
+      none-exists = λ S s. refuted-sound c w Q i k (λ e g. (omega (arith, shape .ascending e g, shape .below-n e g), shape .below-n e g)) t .none-exists S
+          (own-supported S s);
     })
 
   pub own-scope : Shape c → (R Q : ℕ → Bool) → ((x : ℕ) → x < scopeCount c → x ≢ i → R x ≡ Q x)
       → allRefuted c w R i (activeValues c w i) ≡ allRefuted c w Q i (activeValues c w i)
   own-scope shape R Q same = all-same (c .d) (λ k l. same-test _ _
-      (λ t. imp-intro (active c w i k 0) (refuted c w Q i k) (λ a. own-refuted Q R (λ x g ne. sym (same x g ne)) k a shape (imp-elim (active c w i k 0) (refuted c w R i k) t a)))
+      (λ t. imp-intro (active c w i k 0) (refuted c w Q i k) (λ a. own-refuted Q R (λ x g ne. sym (same x g ne)) k a shape
+      (imp-elim (active c w i k 0) (refuted c w R i k) t a)))
       (λ t. imp-intro (active c w i k 0) (refuted c w R i k) (λ a. own-refuted R Q same k a shape (imp-elim (active c w i k 0) (refuted c w Q i k) t a))))

@@ -7,10 +7,9 @@ use mathlib.Core.Logic.{_↔_}
 use mathlib.Core.Option.{none, some}
 use mathlib.Core.List.{List, [], _∷_}
 use Prim.Native.Nat.{ℕ, _≤_}
-use lib.IntN.{ℤ, pos, _-ℤ_}
+use lib.IntN.{ℤ, _-ℤ_}
 use lib.Dec.{T}
 use lib.ListN.{length, take, drop}
-use lib.Seq.{take-append-seam, drop-append-seam}
 use Rattle.integers.specs.Words.{joined}
 use Rattle.integers.specs.Tests.{if-cases}
 use Rattle.integers.specs.Options.{none-some}
@@ -21,10 +20,11 @@ use Rattle.definitions.specs.declared.Round.{Round}
 use Rattle.definitions.specs.Rules.{Rules}
 use Rattle.definitions.specs.Case.{upperBound}
 use Rattle.definitions.specs.Valid.{workingWeight}
-use Rattle.definitions.specs.Moves.{Move, press, leavesRange}
+use Rattle.definitions.specs.Moves.{Move, activePress, leavesRange}
 use Rattle.definitions.specs.Lines.{overwritten}
-use Rattle.definitions.specs.Engine.{Settled, chosen, keptScopes, leastGap, Next, nothing, round, roundText, madeOf, makeNext, roundBytes, engineNext}
-use Rattle.definitions.specs.EngineCalls.{RoundCall, roundMade, roundCall}
+use Rattle.definitions.specs.Engine.{Settled, chosen, keptScopes, leastGap, Next, nothing, round, madeOf, makeNext, roundBytes, engineNext}
+use Rattle.definitions.specs.RoundLines.{roundText}
+use Rattle.calls.specs.EngineCalls.{RoundCall, roundMade, roundCall}
 use Rattle.theory.proofs.Validity.{Handed}
 use Rattle.engine_theory.proofs.Trim.{settled-iff}
 use Rattle.engine_theory.proofs.Gaps.{next-round}
@@ -33,16 +33,16 @@ use Rattle.engine_theory.proofs.Runs.{differ, engine-settled}
 use Rattle.engine_theory.proofs.Calls.{taken-iff, call-taken}
 
 -- the bytes of the lines of the press of variable i by the amount a
-abbrev pub pressText : Rules → Case → List ℤ → ℕ → ℤ → List ℕ
-pressText r c w i a = joined (roundText r c (press i (keptScopes c w i) a ∷ []) (enginePressed c w i a))
+abbrev pub engineText : Rules → Case → List ℤ → ℕ → ℤ → List ℕ
+engineText r c w i a = joined (roundText r c (activePress c w i (keptScopes c w i) a ∷ []) (enginePressed c w i a))
 
 pub data RoundIs (r : Rules) (c : Case) (w : List ℤ) (out : List ℕ) : RoundCall → Type 0 where
   settles : Settled c w → RoundIs r c w out (record { answer = Round.Settled; table = w; out = out })
   presses : {i : ℕ} {a : ℤ} → chosen c w ≡ some i → leastGap c w i ≡ some a → T (not (leavesRange r c (enginePressed c w i a)))
       → RoundIs r c w out (record {
-        answer = Round.Made (length (pressText r c w i a)) (upperBound c w -ℤ a);
+        answer = Round.Made (length (engineText r c w i a)) (upperBound c w -ℤ a);
         table = enginePressed c w i a;
-        out = overwritten (pressText r c w i a) out;
+        out = overwritten (engineText r c w i a) out;
       })
   leaves : {i : ℕ} {a : ℤ} → chosen c w ≡ some i → leastGap c w i ≡ some a → T (leavesRange r c (enginePressed c w i a))
       → RoundIs r c w out (record { answer = Round.Refused LeavesRange; table = w; out = out })
@@ -55,19 +55,8 @@ pub record RoundMade (r : Rules) (c : Case) (w : List ℤ) (out : List ℕ) (byt
   pub is-least : leastGap c w variable ≡ some amount
   pub lower : bound ≡ upperBound c w -ℤ amount
   pub table : u .table ≡ enginePressed c w variable amount
-  pub first : take bytes (u .out) ≡ pressText r c w variable amount
+  pub first : take bytes (u .out) ≡ engineText r c w variable amount
   pub rest : drop bytes (u .out) ≡ drop bytes out
-
--- an answer's numbers
-abbrev bytesOf : Round → ℕ
-bytesOf Round.Settled = 0
-bytesOf (Round.Made bytes bound) = bytes
-bytesOf (Round.Refused x) = 0
-
-abbrev boundOf : Round → ℤ
-boundOf Round.Settled = pos 0
-boundOf (Round.Made bytes bound) = bound
-boundOf (Round.Refused x) = pos 0
 
 abbrev refusalOf : Round → Refusal
 refusalOf Round.Settled = LeavesRange
@@ -83,13 +72,19 @@ module _ (r : Rules) (c : Case) (w : List ℤ) (out : List ℕ) (h : Handed r (w
       go (round moves) e =
           let (i, a, f, g, q) = next-round r c w e in
           subst (λ (m : List Move). RoundIs r c w out (roundMade r engineNext c w out (makeNext r c w (round m)))) (sym q)
-          (if-cases (λ o. RoundIs r c w out (roundMade r engineNext c w out (madeOf r c (press i (keptScopes c w i) a ∷ []) o))) (leavesRange r c (enginePressed c w i a)) none (some (enginePressed c w i a))
+          (if-cases (λ o. RoundIs r c w out (roundMade r engineNext c w out (madeOf r c (activePress c w i (keptScopes c w i) a ∷ []) o)))
+          (leavesRange r c (enginePressed c w i a)) none (some (enginePressed c w i a))
           (λ t. leaves f g t)
-          (λ t. subst (λ (b : ℤ). RoundIs r c w out (record { answer = Round.Made (length (pressText r c w i a)) b; table = enginePressed c w i a; out = overwritten (pressText r c w i a) out }))
+          (λ t. subst (λ (b : ℤ). RoundIs r c w out (record {
+            answer = Round.Made (length (engineText r c w i a)) b;
+            table = enginePressed c w i a;
+            out =
+                overwritten (engineText r c w i a) out;
+          }))
           (sym (fall c w (h .shape) f g)) (presses f g t)))
 
-  pub round-settled : roundCall r engineNext c w out .answer ≡ Round.Settled ↔ Settled c w
-  round-settled = go round-is
+  pub call-settled : roundCall r engineNext c w out .answer ≡ Round.Settled ↔ Settled c w
+  call-settled = go round-is
     where
       pressing : {i : ℕ} → chosen c w ≡ some i → Settled c w → ⊥
       pressing e f = none-some (sym (settled-iff c w (h .shape) .1 f) ∙ e)
@@ -98,25 +93,6 @@ module _ (r : Rules) (c : Case) (w : List ℤ) (out : List ℕ) (h : Handed r (w
       go (settles f) = (λ e. f, λ g. refl)
       go (presses e g t) = (λ a. differ (cc), λ f. absurd (pressing e f))
       go (leaves e g t) = (λ a. differ (cc), λ f. absurd (pressing e f))
-
-  pub round-made : {bytes : ℕ} {bound : ℤ} → roundCall r engineNext c w out .answer ≡ Round.Made bytes bound → RoundMade r c w out bytes bound (roundCall r engineNext c w out)
-  round-made {bytes} {bound} = go round-is
-    where
-      go : {u : RoundCall} → RoundIs r c w out u → u .answer ≡ Round.Made bytes bound → RoundMade r c w out bytes bound u
-      go (settles f) e = differ (cc)
-      go (leaves d g t) e = differ (cc)
-      go (presses {i} {a} d g t) e =
-          let n : length (pressText r c w i a) ≡ bytes = ap bytesOf e in
-          record {
-            variable = i;
-            amount = a;
-            is-chosen = d;
-            is-least = g;
-            lower = sym (ap boundOf e);
-            table = refl;
-            first = subst (λ (k : ℕ). take k (overwritten (pressText r c w i a) out) ≡ pressText r c w i a) n (take-append-seam (pressText r c w i a) (drop (length (pressText r c w i a)) out));
-            rest = subst (λ (k : ℕ). drop k (overwritten (pressText r c w i a) out) ≡ drop k out) n (drop-append-seam (pressText r c w i a) (drop (length (pressText r c w i a)) out));
-          }
 
   -- refused, by 11 alone
   pub round-leaves : {x : Refusal} → roundCall r engineNext c w out .answer ≡ Round.Refused x

@@ -4,7 +4,7 @@
 -- and where no move leaves the working range, a limit of the upper bound less any objective is enough to settle. The engine's rounds are such.
 -- Assumes nothing.
 use mathlib.Core.Path.{_≡_, refl, sym, ap, subst, _∙_}
-use mathlib.Core.Bool.{Bool, true, false, not}
+use mathlib.Core.Bool.{true, false, not}
 use mathlib.Core.Logic.{_↔_, Iff·trans, _⊎_, inl, inr, ⊎-elim}
 use mathlib.Core.Option.{Option, none, some}
 use mathlib.Core.List.{List, [], _∷_, _++_, map, List·Memᴰ·append-cases, List·Memᴰ·not-nil, Memᴰ·of-map}
@@ -15,7 +15,7 @@ use lib.IntN.{ℤ, pos, _+ℤ_}
 use lib.Dec.{T}
 use lib.Signed.{_≤ℤ_, _<ℤ_}
 use lib.ListN.{length, length-append, length-map}
-use Rattle.integers.specs.Words.{those, any, joined}
+use Rattle.integers.specs.Words.{any, joined}
 use Rattle.integers.specs.Tests.{false-is}
 use Rattle.integers.specs.Options.{some-inj, none-some, found-else}
 use Rattle.integers.specs.Linear.{flat, zs, _▸_}
@@ -28,15 +28,17 @@ use Rattle.definitions.specs.declared.RunAnswer.{RunAnswer}
 use Rattle.definitions.specs.Rules.{Rules, Coherent, scopesAtMost}
 use Rattle.definitions.specs.Case.{scopeCount, isAssignment, objective, upperBound}
 use Rattle.definitions.specs.Valid.{workingWeight, valid}
-use Rattle.definitions.specs.Moves.{Move, shift, press, leavesRange}
+use Rattle.definitions.specs.Moves.{Move, shift, press, activePress, leavesRange}
 use Rattle.definitions.specs.Lines.{lineText, lineLength, lineTooWide, readLine, isKind}
-use Rattle.definitions.specs.Replay.{State, fresh, after, answers, atEnd}
-use Rattle.definitions.specs.Engine.{Settled, chosen, leastGap, Next, nothing, round, keptScopes, engineNext, raiseLine, moveLines, boundLine, afterMoves, roundLines, roundText, roundBytes, madeOf, makeNext, RunOf, stopped, atLimit, onward, runFrom, run}
+use Rattle.definitions.specs.Replay.{State, fresh, after, atEnd}
+use Rattle.definitions.specs.Engine.{Settled, chosen, leastGap, Next, nothing, round, keptScopes, engineNext, afterMoves}
+use Rattle.definitions.specs.Engine.{roundBytes, madeOf, makeNext, RunOf, stopped, atLimit, onward, runFrom, run}
 use Rattle.definitions.proofs.LineLaws.{line-read, line-length}
+use Rattle.definitions.specs.RoundLines.{raiseLine, moveLines, boundLine, roundLines, roundText}
 use Rattle.engine_theory.specs.Runs.{isBound, boundLines}
 use Rattle.theory.proofs.Shape.{Shape}
 use Rattle.theory.proofs.Validity.{Handed, valid-facts}
-use Rattle.theory.proofs.Replays.{no-number, bound-sound, rounds-few, handed-after}
+use Rattle.theory.proofs.Replays.{bound-sound, rounds-few, handed-after}
 use Rattle.theory.proofs.Rounds.{AllAllowed, no-move, one-more, all-handed, MoveKinds, round-fits, after-append, moves-taken, round-taken}
 use Rattle.engine_theory.proofs.Trim.{chosen-some, settled-iff, kept-refuted, kept-rising, kept-scopes, kept-fewer, kept-some}
 use Rattle.engine_theory.proofs.Gaps.{amount-some, amount-most, next-nothing, next-round}
@@ -53,7 +55,8 @@ module _ (r : Rules) (next : Rules → Case → List ℤ → Next) (c : Case) wh
   pub data Ends (w : List ℤ) (rounds limit : ℕ) : RunAnswer → Type 0 where
     settles : rounds ≤ limit → next r c w ≡ nothing → Ends w rounds limit RunAnswer.Settled
     limits : {moves : List Move} → rounds ≡ limit → next r c w ≡ round moves → Ends w rounds limit RunAnswer.Limit
-    refuses : {moves : List Move} → rounds < limit → next r c w ≡ round moves → afterMoves r c moves w ≡ none → Ends w rounds limit (RunAnswer.Refused LeavesRange)
+    refuses : {moves : List Move} → rounds < limit → next r c w ≡ round moves → afterMoves r c moves w ≡ none
+        → Ends w rounds limit (RunAnswer.Refused LeavesRange)
 
   pub record Ran (P : ℕ → List ℤ → List (List ℕ) → Type 0) (limit : ℕ) (q : RunOf) : Type 0 where
     pub kept : P (q .rounds) (q .weights) (q .log)
@@ -63,20 +66,24 @@ module _ (r : Rules) (next : Rules → Case → List ℤ → Next) (c : Case) wh
   module _ (P : ℕ → List ℤ → List (List ℕ) → Type 0)
       (on : (done : ℕ) (w v : List ℤ) (log : List (List ℕ)) (moves : List Move) → P done w log → next r c w ≡ round moves → afterMoves r c moves w ≡ some v
       → P (suc done) v (log ++ roundText r c moves v)) where
-    pub run-keeps : (left : ℕ) {done limit : ℕ} {w : List ℤ} {log : List (List ℕ)} → done + left ≡ limit → P done w log → Ran P limit (runFrom r next c left done w log)
+    pub run-keeps : (left : ℕ) {done limit : ℕ} {w : List ℤ} {log : List (List ℕ)} → done + left ≡ limit → P done w log
+        → Ran P limit (runFrom r next c left done w log)
     run-keeps zero {done} {limit} {w} {log} h p = go (next r c w) refl
       where
         go : (n : Next) → next r c w ≡ n → Ran P limit (stopped (atLimit n) done w log)
         go nothing e = record { kept = p; ends = settles (omega arith) e }
         go (round moves) e = record { kept = p; ends = limits (omega arith) e }
-    run-keeps (suc left) {done} {limit} {w} {log} h p = go (next r c w) refl (λ v lines q. run-keeps left {done = suc done} {limit = limit} {w = v} {log = lines} (omega arith) q)
+    run-keeps (suc left) {done} {limit} {w} {log} h p =
+        go (next r c w) refl (λ v lines q. run-keeps left {done = suc done} {limit = limit} {w = v} {log = lines} (omega arith) q)
       where
-        go : (n : Next) → next r c w ≡ n → ((v : List ℤ) (lines : List (List ℕ)) → P (suc done) v lines → Ran P limit (runFrom r next c left (suc done) v lines))
+        go : (n : Next) → next r c w ≡ n → ((v : List ℤ) (lines : List (List ℕ)) → P (suc done) v lines
+            → Ran P limit (runFrom r next c left (suc done) v lines))
             → Ran P limit (onward (makeNext r c w n) done w log (λ v lines. runFrom r next c left (suc done) v lines))
         go nothing e rest = record { kept = p; ends = settles (omega arith) e }
         go (round moves) e rest = leads (afterMoves r c moves w) refl
           where
-            leads : (o : Option (List ℤ)) → afterMoves r c moves w ≡ o → Ran P limit (onward (madeOf r c moves o) done w log (λ v lines. runFrom r next c left (suc done) v lines))
+            leads : (o : Option (List ℤ)) → afterMoves r c moves w ≡ o
+                → Ran P limit (onward (madeOf r c moves o) done w log (λ v lines. runFrom r next c left (suc done) v lines))
             leads none f = record { kept = p; ends = refuses (omega arith) e f }
             leads (some v) f = rest v (log ++ roundText r c moves v) (on done w v log moves p e f)
 
@@ -91,7 +98,8 @@ module _ (r : Rules) (next : Rules → Case → List ℤ → Next) (c : Case) wh
     ends-settled (refuses {moves} h e f) = (λ a. differ (cc), λ a. differ (cc))
 
     -- limit just after so many rounds with more to come
-    pub ends-limit : {answer : RunAnswer} → Ends w rounds limit answer → answer ≡ RunAnswer.Limit ↔ (rounds ≡ limit) × (moves : List Move) × (next r c w ≡ round moves)
+    pub ends-limit : {answer : RunAnswer} → Ends w rounds limit answer → answer ≡ RunAnswer.Limit
+        ↔ (rounds ≡ limit) × (moves : List Move) × (next r c w ≡ round moves)
     ends-limit (settles h e) = (λ a. differ (cc), λ (g, moves, f). differ (cc))
     ends-limit (limits {moves} h e) = (λ a. (h, moves, e), λ a. refl)
     ends-limit (refuses {moves} h e f) = (λ a. differ (cc), λ (g, u, d). absurd (omega arith))
@@ -121,7 +129,7 @@ pub record Lawful (r : Rules) (next : Rules → Case → List ℤ → Next) (c :
 -- the engine's are
 pub data EngineRound (r : Rules) (c : Case) (w : List ℤ) : List Move → List ℤ → Type 0 where
   presses : {i : ℕ} {a : ℤ} → chosen c w ≡ some i → leastGap c w i ≡ some a → T (not (leavesRange r c (enginePressed c w i a)))
-      → EngineRound r c w (press i (keptScopes c w i) a ∷ []) (enginePressed c w i a)
+      → EngineRound r c w (activePress c w i (keptScopes c w i) a ∷ []) (enginePressed c w i a)
 
 module _ {r : Rules} {c : Case} {w : List ℤ} where
   pub engine-round : {moves : List Move} {v : List ℤ} → engineNext r c w ≡ round moves → afterMoves r c moves w ≡ some v → EngineRound r c w moves v
@@ -134,12 +142,13 @@ module _ {r : Rules} {c : Case} {w : List ℤ} where
     pub engine-allowed : Coherent r → {moves : List Move} {v : List ℤ} → EngineRound r c w moves v → AllAllowed r c w moves v
     engine-allowed coherent (presses {i} {a} e g t) =
         let (own, refutes, _) = chosen-some c w e in
-        one-more {move = press i (keptScopes c w i) a} (record {
+        one-more {move = activePress c w i (keptScopes c w i) a} (record {
           variable = own;
           some-raised = kept-some c w i (h .shape) own refutes;
           rising = kept-rising c w i;
           scopes = λ x m. kept-scopes c w i m;
           amount = coherent .difference ▸ amount-some c w (h .shape) e g ▸ amount-most c w (h .shape) e g r (h .in-range) ▸ simp flat (omega zs);
+          lowers = refl;
           refutes = kept-refuted c w i refutes;
           in-range = t;
         }) no-move
@@ -149,7 +158,8 @@ module _ {r : Rules} {c : Case} {w : List ℤ} where
 
   engine-short : {moves : List Move} {v : List ℤ} → EngineRound r c w moves v → lineLength (r .amountWidth) * length (roundLines c moves v) ≤ roundBytes r c
   engine-short (presses {i} {a} e g t) =
-      mul-le-mul-left (lineLength (r .amountWidth)) (simp length-append (omega (arith, kept-fewer c w i (chosen-some c w e .0), length-map (keptScopes c w i) raiseLine)))
+      mul-le-mul-left (lineLength (r .amountWidth)) (simp length-append
+      (omega (arith, kept-fewer c w i (chosen-some c w e .0), length-map (keptScopes c w i) raiseLine)))
 
 pub engine-lawful : {r : Rules} → Coherent r → (c : Case) → Lawful r engineNext c
 engine-lawful coherent c = record {
@@ -167,7 +177,7 @@ no-raise (x ∷ xs) = no-raise xs
 no-bound : (moves : List Move) → any (isKind 4) (joined (map moveLines moves)) ≡ false
 no-bound [] = refl
 no-bound (shift e end v a ∷ moves) = no-bound moves
-no-bound (press i raised a ∷ moves) = any-append (isKind 4) (map raiseLine raised) (joined (map moveLines moves)) ∙ rw (no-raise raised, no-bound moves)
+no-bound (press i lowered raised a ∷ moves) = any-append (isKind 4) (map raiseLine raised) (joined (map moveLines moves)) ∙ rw (no-raise raised, no-bound moves)
 
 -- after so many rounds: a table that every call takes, and a log of whole lines with a bound line for each
 pub record Tallied (r : Rules) (c : Case) (rounds : ℕ) (w : List ℤ) (log : List (List ℕ)) : Type 0 where
@@ -182,7 +192,8 @@ module _ {r : Rules} {next : Rules → Case → List ℤ → Next} {c : Case} (c
 
     -- a round's lines are whole, and its last is its one bound line
     pub round-whole : Parts (lineLength (r .amountWidth)) (roundText r c moves v)
-    round-whole t n = let (l, o, e) = Memᴰ·of-map (lineText (r .amountWidth)) (roundLines c moves v) n in rw (← e) (line-length (r .amountWidth) l (round-width o))
+    round-whole t n = let (l, o, e) = Memᴰ·of-map (lineText (r .amountWidth)) (roundLines c moves v) n in
+        rw (← e) (line-length (r .amountWidth) l (round-width o))
 
     pub round-bound : boundLines r (roundText r c moves v) ≡ lineText (r .amountWidth) (boundLine (upperBound c v)) ∷ []
     round-bound =
@@ -195,7 +206,8 @@ module _ {r : Rules} {next : Rules → Case → List ℤ → Next} {c : Case} (c
     pub handed-on : Handed r (workingWeight r) c v
     handed-on = all-handed (lawful .allowed m) (m .handed)
 
-  tallied-on : (done : ℕ) (w v : List ℤ) (log : List (List ℕ)) (moves : List Move) → Tallied r c done w log → next r c w ≡ round moves → afterMoves r c moves w ≡ some v
+  tallied-on : (done : ℕ) (w v : List ℤ) (log : List (List ℕ)) (moves : List Move) → Tallied r c done w log → next r c w ≡ round moves
+      → afterMoves r c moves w ≡ some v
       → Tallied r c (suc done) v (log ++ roundText r c moves v)
   tallied-on done w v log moves p e f =
       let m : RoundFrom r next c w moves v = record { handed = p .handed; comes = e; leads = f } in
@@ -253,10 +265,12 @@ module _ {r : Rules} {next : Rules → Case → List ℤ → Next} {c : Case} (c
     moves-above {v} {moves} a x g =
         let lines : List (List ℕ) = map (lineText (r .amountWidth)) (joined (map moveLines moves)) in
         subst (λ (u : State). objective c w₀ x ≤ℤ upperBound c (u .weights))
-        (after-append r (fresh c w₀) log lines ∙ ap (λ (u : State). after r u lines) (p .leads) ∙ moves-taken coherent kinds (between c w₀ done w) refl refl replayed-handed a)
+        (after-append r (fresh c w₀) log lines ∙ ap (λ (u : State). after r u lines) (p .leads)
+        ∙ moves-taken coherent kinds (between c w₀ done w) refl refl replayed-handed a)
         (bound-sound r c w₀ t (log ++ lines) x g)
 
-  replayed-on : (done : ℕ) (w v : List ℤ) (log : List (List ℕ)) (moves : List Move) → Replayed r c w₀ done w log → next r c w ≡ round moves → afterMoves r c moves w ≡ some v
+  replayed-on : (done : ℕ) (w v : List ℤ) (log : List (List ℕ)) (moves : List Move) → Replayed r c w₀ done w log → next r c w ≡ round moves
+      → afterMoves r c moves w ≡ some v
       → Replayed r c w₀ (suc done) v (log ++ roundText r c moves v)
   replayed-on done w v log moves p e f =
       let h = replayed-handed p in
@@ -264,7 +278,8 @@ module _ {r : Rules} {next : Rules → Case → List ℤ → Next} {c : Case} (c
       let a = lawful .allowed m in
       let spread = bound-spread coherent (valid-facts r c w₀ t) (upperBound c v) (moves-above p a) in
       let most = mul-le-mul-right {m = scopeCount c} {n = scopesAtMost r} (r .starting) (omega (arith, h .variables-most, h .edges-most)) in
-      let (few, fallen) = few-rounds done _ (r .rounds) (upperBound c w₀) (upperBound c w) (upperBound c v) (p .fallen) (lawful .lower m) spread (omega arith) in
+      let (few, fallen) = few-rounds done _ (r .rounds) (upperBound c w₀) (upperBound c w) (upperBound c v) (p .fallen) (lawful .lower m) spread
+      (omega arith) in
       record {
         leads =
             after-append r (fresh c w₀) log (roundText r c moves v) ∙ ap (λ (u : State). after r u (roundText r c moves v)) (p .leads)
@@ -280,9 +295,6 @@ module _ {r : Rules} {next : Rules → Case → List ℤ → Next} {c : Case} (c
     pub run-log-taken : after r (fresh c w₀) (run r next c limit w₀ .log) ≡ between c w₀ (run r next c limit w₀ .rounds) (run r next c limit w₀ .weights)
     run-log-taken = run-replayed limit .kept .leads
 
-    pub run-log-answers : answers r (fresh c w₀) (run r next c limit w₀ .log) ≡ map (λ t. none) (run r next c limit w₀ .log)
-    run-log-answers = no-number r (fresh c w₀) (run r next c limit w₀ .log) .0 (ap (λ (u : State). u .refusal) run-log-taken) .1
-
     pub run-log-ends : atEnd (after r (fresh c w₀) (run r next c limit w₀ .log)) ≡ none
     run-log-ends = ap atEnd run-log-taken
 
@@ -291,7 +303,8 @@ module _ {r : Rules} {next : Rules → Case → List ℤ → Next} {c : Case} (c
     run-reaches limit = run-has r next c (λ done w log. Reach w) (λ done w v log moves p e f.
         let (u, g, q) = free .goes p e in subst Reach (some-inj (sym g ∙ f)) q) limit w₀ (free .first)
 
-    ends-free : {w : List ℤ} {rounds limit : ℕ} {answer : RunAnswer} → Ends r next c w rounds limit answer → Reach w → (answer ≡ RunAnswer.Settled) ⊎ (answer ≡ RunAnswer.Limit)
+    ends-free : {w : List ℤ} {rounds limit : ℕ} {answer : RunAnswer} → Ends r next c w rounds limit answer → Reach w → (answer ≡ RunAnswer.Settled)
+        ⊎ (answer ≡ RunAnswer.Limit)
     ends-free (settles h e) p = inl refl
     ends-free (limits h e) p = inr refl
     ends-free (refuses h e f) p = let (v, g, q) = free .goes p e in absurd (none-some (sym f ∙ g))
@@ -299,14 +312,16 @@ module _ {r : Rules} {next : Rules → Case → List ℤ → Next} {c : Case} (c
     pub run-never-refused : (limit : ℕ) → (run r next c limit w₀ .answer ≡ RunAnswer.Settled) ⊎ (run r next c limit w₀ .answer ≡ RunAnswer.Limit)
     run-never-refused limit = ends-free (run-ends r next c limit w₀) (run-reaches limit .kept)
 
-    pub run-settles : (limit : ℕ) (p : List ℕ) → T (isAssignment c p) → upperBound c w₀ ≤ℤ (pos limit +ℤ objective c w₀ p) → run r next c limit w₀ .answer ≡ RunAnswer.Settled
+    pub run-settles : (limit : ℕ) (p : List ℕ) → T (isAssignment c p) → upperBound c w₀ ≤ℤ (pos limit +ℤ objective c w₀ p)
+        → run r next c limit w₀ .answer ≡ RunAnswer.Settled
     run-settles limit p a h =
         let q : RunOf = run r next c limit w₀ in
         ⊎-elim (λ e. e) (λ e.
         let (n, moves, d) = ends-limit r next c (run-ends r next c limit w₀) .0 e in
         let (v, g, _) = free .goes (run-reaches limit .kept) d in
         let more = replayed-on (q .rounds) (q .weights) v (q .log) moves (run-replayed limit .kept) d g in
-        let few = subst (λ (u : State). (pos (u .rounds) +ℤ objective c w₀ p) ≤ℤ upperBound c w₀) (more .leads) (rounds-few r c w₀ t (q .log ++ roundText r c moves v) p a) in
+        let few = subst (λ (u : State). (pos (u .rounds) +ℤ objective c w₀ p) ≤ℤ upperBound c w₀) (more .leads)
+        (rounds-few r c w₀ t (q .log ++ roundText r c moves v) p a) in
         absurd (too-many (q .rounds) limit (upperBound c w₀) (objective c w₀ p) n h few)) (run-never-refused limit)
 
 -- ---- the engine's run
@@ -327,7 +342,8 @@ module _ (r : Rules) (c : Case) (shape : Shape c) (limit : ℕ) (w : List ℤ) w
   pub run-settled : run r engineNext c limit w .answer ≡ RunAnswer.Settled ↔ Settled c (run r engineNext c limit w .weights)
   run-settled = Iff·trans (ends-settled r engineNext c (run-ends r engineNext c limit w)) (engine-settled r c shape (run r engineNext c limit w .weights))
 
-  pub run-limit : run r engineNext c limit w .answer ≡ RunAnswer.Limit ↔ (run r engineNext c limit w .rounds ≡ limit) × (Settled c (run r engineNext c limit w .weights) → ⊥)
+  pub run-limit : run r engineNext c limit w .answer ≡ RunAnswer.Limit
+      ↔ (run r engineNext c limit w .rounds ≡ limit) × (Settled c (run r engineNext c limit w .weights) → ⊥)
   run-limit =
       let e = ends-limit r engineNext c (run-ends r engineNext c limit w) in
       let f = engine-unsettled r c shape (run r engineNext c limit w .weights) in

@@ -6,7 +6,8 @@ use mathlib.Core.Path.{_≡_, refl, sym, ap, subst}
 use mathlib.Core.Bool.{Bool, true, false, not}
 use mathlib.Core.Option.{none, some}
 use mathlib.Core.Logic.{_≢_, _↔_, ⊎-elim}
-use mathlib.Core.List.{List, [], _∷_, _++_, append-nil, append-assoc, List·Memᴰ·head, List·Memᴰ·tail, List·Memᴰ·append-cases, List·Memᴰ·eq-of-singleton, Memᴰ·append-left, Memᴰ·append-right}
+use mathlib.Core.List.{List, [], _∷_, _++_, append-nil, append-assoc}
+use mathlib.Core.List.{List·Memᴰ·head, List·Memᴰ·tail, List·Memᴰ·append-cases, List·Memᴰ·eq-of-singleton, Memᴰ·append-left, Memᴰ·append-right}
 use Prim.Native.Nat.{ℕ, zero, suc, _+_, _≤_, _<_}
 use native.Mathlib.Omega.{arith}
 use lib.IntN.{ℤ}
@@ -14,10 +15,11 @@ use lib.Dec.{T, T-not, not-T, ltb, ltb→lt, eqb}
 use lib.ListN.{length, length-append}
 use Rattle.integers.specs.Words.{from, below, all, any, those, first, isIn, _⇒_}
 use Rattle.integers.specs.Tests.{tests, either, and-intro, and-left, and-right, if-false, if-cases}
-use Rattle.integers.specs.Lists.{_∈_, any-in, all-at, all-of, any-at, any-of, in-those, those-in, isIn-in, those-none, first-none, first-least, in-below, below-in, length-from}
+use Rattle.integers.specs.Lists.{_∈_, any-in, all-at, all-of, any-at, any-of, in-those, those-in}
+use Rattle.integers.specs.Lists.{isIn-in, those-none, first-none, first-least, in-below, below-in, length-from}
 use Rattle.definitions.specs.declared.Case.{Case}
 use Rattle.definitions.specs.Case.{scopes, scopeCount, lowerEnd, upperEnd, active}
-use Rattle.definitions.specs.Calls.{isRising}
+use Rattle.calls.specs.Calls.{isRising}
 use Rattle.definitions.specs.Consistency.{Family, Supported, allowed, supported, families, marks, refuted}
 use Rattle.definitions.specs.Engine.{others, chosen, Settled, trimmed, keptScopes}
 use Rattle.definitions.specs.Moves.{activeRefuted}
@@ -30,7 +32,8 @@ use Rattle.theory.proofs.Places.{IsTuple, variable-tuple, edge-tuple, some-acti
 not-all : (f : ℕ → Bool) (n : ℕ) → T (not (all f (below n))) → (x : ℕ) × (x < n) × T (not (f x))
 not-all f n t =
     ⊎-elim (any-at (λ x. not (f x)) n)
-    (λ s. absurd (T-not (all f (below n)) t (all-of f n (λ x h. ⊎-elim (λ p. p) (λ p. absurd (T-not (any (λ x. not (f x)) (below n)) s (any-of (λ x. not (f x)) n h p))) (either (f x))))))
+    (λ s. absurd (T-not (all f (below n)) t (all-of f n (λ x h. ⊎-elim (λ p. p)
+    (λ p. absurd (T-not (any (λ x. not (f x)) (below n)) s (any-of (λ x. not (f x)) n h p))) (either (f x))))))
     (either (any (λ x. not (f x)) (below n)))
 
 not-imp : (a b : Bool) → T (not (a ⇒ b)) → T a × T (not b)
@@ -74,7 +77,8 @@ no-support c w i raised shape t k h a =
 -- ---- the variable
 
 module _ (c : Case) (w : List ℤ) where
-  pub chosen-some : {i : ℕ} → chosen c w ≡ some i → (i < c .n) × T (activeRefuted c w i (others c i)) × ((j : ℕ) → j < i → T (not (activeRefuted c w j (others c j))))
+  pub chosen-some : {i : ℕ} → chosen c w ≡ some i
+      → (i < c .n) × T (activeRefuted c w i (others c i)) × ((j : ℕ) → j < i → T (not (activeRefuted c w j (others c j))))
   chosen-some = first-least (λ i. activeRefuted c w i (others c i)) (c .n)
 
   pub chosen-none : chosen c w ≡ none ↔ ((i : ℕ) → i < c .n → T (not (activeRefuted c w i (others c i))))
@@ -86,7 +90,7 @@ module _ (c : Case) (w : List ℤ) where
       test : ℕ → Bool
       test i = activeRefuted c w i (others c i)
 
-  -- settled, said without an algorithm
+  -- settled, said leavingOut an algorithm
   pub settled-iff : Shape c → chosen c w ≡ none ↔ Settled c w
   settled-iff shape = (
     λ e i h.
@@ -135,11 +139,14 @@ those-rising f kept (x ∷ xs) t =
 
 those-most : {A : Type 0} (f : A → Bool) (xs : List A) → length (those f xs) ≤ length xs
 those-most f [] = omega arith
-those-most f (y ∷ xs) = if-cases (λ l. length l ≤ suc (length xs)) (f y) (y ∷ those f xs) (those f xs) (λ t. omega (arith, those-most f xs)) (λ t. omega (arith, those-most f xs))
+those-most f (y ∷ xs) = if-cases (λ l. length l ≤ suc (length xs)) (f y) (y ∷ those f xs) (those f xs) (λ t. omega (arith, those-most f xs))
+    (λ t. omega (arith, those-most f xs))
 
 those-fewer : {A : Type 0} (f : A → Bool) {x : A} {xs : List A} → x ∈ xs → T (not (f x)) → length (those f xs) < length xs
 those-fewer f {x} (List·Memᴰ·head {x = y} {xs = xs} e) t = rw (if-false (y ∷ those f xs) (those f xs) (f y) (rw e at t)) (omega (arith, those-most f xs))
-those-fewer f {x} (List·Memᴰ·tail {x = y} {xs = xs} m) t = if-cases (λ l. length l < suc (length xs)) (f y) (y ∷ those f xs) (those f xs) (λ p. omega (arith, those-fewer f m t)) (λ p. omega (arith, those-fewer f m t))
+those-fewer f {x} (List·Memᴰ·tail {x = y} {xs = xs} m) t =
+    if-cases (λ l. length l < suc (length xs)) (f y) (y ∷ those f xs) (those f xs) (λ p. omega (arith, those-fewer f m t))
+    (λ p. omega (arith, those-fewer f m t))
 
 others-rising : (c : Case) (i : ℕ) → T (isRising (others c i))
 others-rising c i = those-rising (λ x. not (eqb x i)) [] (scopes c) (from-rising 0 (scopeCount c))
@@ -159,7 +166,11 @@ module _ (c : Case) (w : List ℤ) (i : ℕ) where
   pub kept-fewer : i < c .n → length (keptScopes c w i) < scopeCount c
   kept-fewer h = kept-has c w i (λ l. length l < scopeCount c)
       (λ kept rest x t p. omega (arith, length-append kept rest, length-append kept (x ∷ rest)))
-      (omega (arith, those-fewer (λ x. not (eqb x i)) {x = i} {xs = scopes c} (below-in {n = scopeCount c} (omega arith)) (simp tests refl), length-from 0 (scopeCount c)))
+      (omega (
+        arith,
+        those-fewer (λ x. not (eqb x i)) {x = i} {xs = scopes c} (below-in {n = scopeCount c} (omega arith)) (simp tests refl),
+        length-from 0 (scopeCount c),
+      ))
 
   -- where the active values are refuted, something is forbidden
   module _ (shape : Shape c) (own : i < c .n) where
@@ -188,10 +199,15 @@ rising-after (a ∷ kept) rest t = rising-after kept rest (rising-tail a (kept +
 
 rising-above : (x : ℕ) (xs : List ℕ) {y : ℕ} → T (isRising (x ∷ xs)) → y ∈ xs → x < y
 rising-above x (z ∷ xs) t (List·Memᴰ·head e) = omega (arith, ltb→lt x z (and-left (ltb x z) (isRising (z ∷ xs)) t))
-rising-above x (z ∷ xs) t (List·Memᴰ·tail m) = omega (arith, ltb→lt x z (and-left (ltb x z) (isRising (z ∷ xs)) t), rising-above z xs (rising-tail x (z ∷ xs) t) m)
+rising-above x (z ∷ xs) t (List·Memᴰ·tail m) = omega (
+  arith,
+  ltb→lt x z (and-left (ltb x z) (isRising (z ∷ xs)) t),
+  rising-above z xs (rising-tail x (z ∷ xs) t) m,
+)
 
 rising-below : (kept rest : List ℕ) (x : ℕ) {y : ℕ} → T (isRising (kept ++ (x ∷ rest))) → y ∈ kept → y < x
-rising-below (a ∷ kept) rest x t (List·Memᴰ·head e) = omega (arith, rising-above a (kept ++ (x ∷ rest)) t (Memᴰ·append-right kept (List·Memᴰ·head {xs = rest} refl)))
+rising-below (a ∷ kept) rest x t (List·Memᴰ·head e) =
+    omega (arith, rising-above a (kept ++ (x ∷ rest)) t (Memᴰ·append-right kept (List·Memᴰ·head {xs = rest} refl)))
 rising-below (a ∷ kept) rest x t (List·Memᴰ·tail m) = rising-below kept rest x (rising-tail a (kept ++ (x ∷ rest)) t) m
 
 abbrev pub lowerThan : ℕ → List ℕ → List ℕ
@@ -200,9 +216,6 @@ lowerThan x l = those (λ y. ltb y x) l
 abbrev pub higherThan : ℕ → List ℕ → List ℕ
 higherThan x l = those (λ y. ltb x y) l
 
-abbrev pub without : ℕ → List ℕ → List ℕ
-without x l = those (λ y. not (eqb y x)) l
-
 module _ (c : Case) (w : List ℤ) (i : ℕ) where
   -- with more scopes raised the values stay refuted
   pub activeRefuted-more : (l m : List ℕ) → ((y : ℕ) → y ∈ l → y ∈ m) → T (activeRefuted c w i l) → T (activeRefuted c w i m)
@@ -210,7 +223,8 @@ module _ (c : Case) (w : List ℤ) (i : ℕ) where
 
   trimmed-from : (kept rest : List ℕ) {y : ℕ} → y ∈ trimmed c w i kept rest → y ∈ (kept ++ rest)
   trimmed-from kept rest {y} = trimmed-has c w i (λ l. y ∈ l → y ∈ (kept ++ rest))
-      (λ k q x t p m. p (⊎-elim (λ n. Memᴰ·append-left (x ∷ q) n) (λ n. Memᴰ·append-right k (List·Memᴰ·tail n)) (List·Memᴰ·append-cases k m))) kept rest (λ m. m)
+      (λ k q x t p m. p (⊎-elim (λ n. Memᴰ·append-left (x ∷ q) n) (λ n. Memᴰ·append-right k (List·Memᴰ·tail n)) (List·Memᴰ·append-cases k m))) kept rest
+      (λ m. m)
 
   trimmed-keeps : (kept rest : List ℕ) {y : ℕ} → y ∈ kept → y ∈ trimmed c w i kept rest
   trimmed-keeps kept [] m = m
@@ -224,8 +238,10 @@ module _ (c : Case) (w : List ℤ) (i : ℕ) where
 
     tried-most : ((y : ℕ) → y ∈ kept → y ∈ l) → (y : ℕ) → y ∈ (kept ++ rest) → y ∈ tried
     tried-most sub y m = ⊎-elim
-        (λ n. Memᴰ·append-left (higherThan x (x ∷ rest)) (those-in (λ y. ltb y x) (trimmed-keeps l rest (sub y n)) (simp tests (rising-below kept rest x rises n))))
-        (λ n. Memᴰ·append-right (lowerThan x (trimmed c w i l rest)) (those-in (λ y. ltb x y) (List·Memᴰ·tail n) (simp tests (rising-above x rest (rising-after kept (x ∷ rest) rises) n))))
+        (λ n. Memᴰ·append-left (higherThan x (x ∷ rest)) (those-in (λ y. ltb y x) (trimmed-keeps l rest (sub y n))
+        (simp tests (rising-below kept rest x rises n))))
+        (λ n. Memᴰ·append-right (lowerThan x (trimmed c w i l rest))
+        (those-in (λ y. ltb x y) (List·Memᴰ·tail n) (simp tests (rising-above x rest (rising-after kept (x ∷ rest) rises) n))))
         (List·Memᴰ·append-cases kept m)
 
     tried-least : ((y : ℕ) → y ∈ l → y < x → y ∈ kept) → (y : ℕ) → y ∈ tried → y ∈ (kept ++ rest)
@@ -245,7 +261,8 @@ module _ (c : Case) (w : List ℤ) (i : ℕ) where
   trimmed-first : (kept rest : List ℕ) (x : ℕ) → T (isRising (kept ++ (x ∷ rest))) → KeptJustWhere x (trimmed c w i kept (x ∷ rest)) (x ∷ rest)
   trimmed-first kept rest x t = if-cases (λ l. KeptJustWhere x (trimmed c w i l rest) (x ∷ rest)) (activeRefuted c w i (kept ++ rest)) kept (kept ++ (x ∷ []))
       (λ a. (
-        λ m. absurd (not-less (⊎-elim (λ n. rising-below kept rest x t n) (λ n. rising-above x rest (rising-after kept (x ∷ rest) t) n) (List·Memᴰ·append-cases kept (trimmed-from kept rest m)))),
+        λ m. absurd (not-less (⊎-elim (λ n. rising-below kept rest x t n) (λ n. rising-above x rest (rising-after kept (x ∷ rest) t) n)
+            (List·Memᴰ·append-cases kept (trimmed-from kept rest m)))),
         λ n. absurd (T-not (activeRefuted c w i (tried kept rest x t kept)) n
             (activeRefuted-more (kept ++ rest) (tried kept rest x t kept) (tried-most kept rest x t kept (λ y m. m)) a)),
       ))
@@ -262,30 +279,16 @@ module _ (c : Case) (w : List ℤ) (i : ℕ) where
       back y m h = ⊎-elim (λ n. n) (λ n. let e : y ≡ x = List·Memᴰ·eq-of-singleton n in absurd (omega arith)) (List·Memᴰ·append-cases kept m)
 
   trimmed-upwards : (kept rest : List ℕ) (x : ℕ) → T (isRising (kept ++ rest)) → x ∈ rest → KeptJustWhere x (trimmed c w i kept rest) rest
-  trimmed-upwards kept (z ∷ rest) x t (List·Memᴰ·head e) = subst (λ (y : ℕ). KeptJustWhere y (trimmed c w i kept (z ∷ rest)) (z ∷ rest)) (sym e) (trimmed-first kept rest z t)
+  trimmed-upwards kept (z ∷ rest) x t (List·Memᴰ·head e) =
+      subst (λ (y : ℕ). KeptJustWhere y (trimmed c w i kept (z ∷ rest)) (z ∷ rest)) (sym e) (trimmed-first kept rest z t)
   trimmed-upwards kept (z ∷ rest) x t (List·Memᴰ·tail m) =
-      rw (if-false (z ∷ higherThan x rest) (higherThan x rest) (ltb x z) (let h = rising-above z rest (rising-after kept (z ∷ rest) t) m in simp tests (omega arith)))
+      rw (if-false (z ∷ higherThan x rest) (higherThan x rest) (ltb x z)
+      (let h = rising-above z rest (rising-after kept (z ∷ rest) t) m in simp tests (omega arith)))
       (if-cases (λ l. KeptJustWhere x (trimmed c w i l rest) rest) (activeRefuted c w i (kept ++ rest)) kept (kept ++ (z ∷ []))
       (λ a. trimmed-upwards kept rest x (drop-rising kept rest z t) m)
       (λ a. trimmed-upwards (kept ++ (z ∷ [])) rest x (rw (append-assoc kept (z ∷ []) rest) t) m))
 
   -- upwards through the others: x is kept just where the kept below x and all others above it do not refute
-  pub kept-upwards : (x : ℕ) → x ∈ others c i → (x ∈ keptScopes c w i) ↔ T (not (activeRefuted c w i (lowerThan x (keptScopes c w i) ++ higherThan x (others c i))))
+  pub kept-upwards : (x : ℕ) → x ∈ others c i → (x ∈ keptScopes c w i)
+      ↔ T (not (activeRefuted c w i (lowerThan x (keptScopes c w i) ++ higherThan x (others c i))))
   kept-upwards x = trimmed-upwards [] (others c i) x (others-rising c i)
-
-  pub kept-others : {x : ℕ} → x ∈ keptScopes c w i → x ∈ others c i
-  kept-others m = trimmed-from [] (others c i) m
-
-  -- without any one of them the kept do not refute
-  pub kept-needed : (x : ℕ) → x ∈ keptScopes c w i → T (not (activeRefuted c w i (without x (keptScopes c w i))))
-  kept-needed x m =
-      let kept : List ℕ = keptScopes c w i in
-      let n = kept-upwards x (kept-others m) .0 m in
-      not-T (activeRefuted c w i (without x kept)) (λ t. T-not (activeRefuted c w i (lowerThan x kept ++ higherThan x (others c i))) n
-      (activeRefuted-more (without x kept) (lowerThan x kept ++ higherThan x (others c i)) (λ y o. let (p, d) = in-those (λ y. not (eqb y x)) kept o in part y p (simp tests at d)) t))
-    where
-      part : (y : ℕ) → y ∈ keptScopes c w i → y ≢ x → y ∈ (lowerThan x (keptScopes c w i) ++ higherThan x (others c i))
-      part y p d = ⊎-elim
-          (λ t. Memᴰ·append-left (higherThan x (others c i)) (those-in (λ y. ltb y x) p t))
-          (λ t. Memᴰ·append-right (lowerThan x (keptScopes c w i)) (those-in (λ y. ltb x y) (kept-others p) (let h = simp tests at t in simp tests (omega arith))))
-          (either (ltb y x))

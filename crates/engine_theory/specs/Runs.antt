@@ -10,7 +10,7 @@ use Rattle.definitions.specs.declared.Line.{Line}
 use Rattle.definitions.specs.Rules.{Rules}
 use Rattle.definitions.specs.Lines.{readLine, isKind, overwritten}
 use Rattle.definitions.specs.Engine.{Next, Made, settled, refused, made, makeNext}
-use Rattle.definitions.specs.EngineCalls.{RunCall}
+use Rattle.calls.specs.EngineCalls.{RunCall}
 
 -- the bound lines among these lines
 abbrev pub isBound : Option Line → Bool
@@ -31,9 +31,9 @@ roundTexts r next c zero w = []
 roundTexts r next c (suc left) w = textsOf (makeNext r c w (next r c w)) (λ v. roundTexts r next c left v)
 
 -- an output after each round's lines were written from its first byte, one round after another
-abbrev pub writtenOver : List (List (List ℕ)) → List ℕ → List ℕ
-writtenOver [] out = out
-writtenOver (lines ∷ rest) out = writtenOver rest (overwritten (joined lines) out)
+abbrev pub writtenInTurn : List (List (List ℕ)) → List ℕ → List ℕ
+writtenInTurn [] out = out
+writtenInTurn (lines ∷ rest) out = writtenInTurn rest (overwritten (joined lines) out)
 
 -- a run before which so many rounds were made, and so much of the log was written
 abbrev pub preceded : ℕ → List ℕ → RunCall → RunCall

@@ -1,5 +1,5 @@
 -- A tuple that is not out, and its weight in its scope's part of the table. Assumes nothing.
-use mathlib.Core.Path.{_≡_, sym, ap, _∙_}
+use mathlib.Core.Path.{_≡_, ap, _∙_}
 use mathlib.Core.Bool.{Bool, true, false, not}
 use mathlib.Core.List.{List}
 use Prim.Native.Nat.{ℕ, suc, _+_, _*_, _≤_, _<_}
@@ -7,7 +7,7 @@ use native.Mathlib.Nat.{mul-le-mul-right}
 use native.Mathlib.Omega.{arith}
 use lib.IntN.{ℤ, pos}
 use lib.Dec.{T, eqb, ltb, eqb→eq, ltb→lt}
-use lib.ListN.{length, getD, take, drop, length-drop}
+use lib.ListN.{length, getD, drop, length-drop}
 use lib.Seq.{getD-take, getD-drop, length-take-le}
 use borrow.Author.Tests.{lt-ltb, le-ltb}
 use Rattle.integers.specs.Words.{if_then_else_, greatestOf}
@@ -16,10 +16,10 @@ use Rattle.definitions.specs.declared.Case.{Case}
 use Rattle.definitions.specs.Rules.{rulesOf}
 use Rattle.definitions.specs.Case.{scopeCount, isVariable, place, weight, greatest}
 use Rattle.definitions.specs.Valid.{workingWeight}
-use Rattle.definitions.specs.Calls.{tupleOut}
+use Rattle.calls.specs.Calls.{tupleOut}
 use Rattle.theory.proofs.Validity.{Handed}
-use Rattle.tables.specs.Scopes.{sizeOf, partOf, scopeWeights}
-use Rattle.tables.proofs.Parts.{part-own, part-greatest as greatest-of-part}
+use Rattle.tables.specs.Scopes.{sizeOf, scopePart, scopeWeights}
+use Rattle.tables.proofs.Parts.{part-own, part-greatest}
 use Rattle.tables.proofs.Answered.{scope-weights-known}
 
 module _ {c : Case} {w : List ℤ} (h : Handed (rulesOf c) (workingWeight (rulesOf c)) c w) where
@@ -32,7 +32,7 @@ module _ {c : Case} {w : List ℤ} (h : Handed (rulesOf c) (workingWeight (rules
       go false u = ltb→lt l (c .d) u
 
   module _ {part : List ℤ} (x : ℕ) (s : x < scopeCount c) (e : part ≡ scopeWeights (rulesOf c) c w x) where
-    part-is : part ≡ partOf c w x
+    part-is : part ≡ scopePart c w x
     part-is = e ∙ scope-weights-known h x s
 
     part-length : length part ≡ sizeOf c x
@@ -57,5 +57,5 @@ module _ {c : Case} {w : List ℤ} (h : Handed (rulesOf c) (workingWeight (rules
         let i : k * c .d + l < c .d * c .d = omega (arith, mul-le-mul-right {m = suc k} {n = c .d} (c .d) b) in
         (omega (arith, part-length), part-at (k * c .d + l) k l (omega arith) (rw z (omega arith)))
 
-    pub part-greatest : greatestOf part ≡ greatest c w x
-    part-greatest = ap greatestOf part-is ∙ greatest-of-part c w (omega (arith, h .long)) x s
+    pub scope-greatest : greatestOf part ≡ greatest c w x
+    scope-greatest = ap greatestOf part-is ∙ part-greatest c w (omega (arith, h .long)) x s

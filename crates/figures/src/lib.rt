@@ -10,7 +10,7 @@ ghost use Rattle.integers.specs.Words.{if_then_else_};
 ghost use Rattle.definitions.specs.Rules.{rulesOf};
 ghost use Rattle.definitions.specs.Case.{weight, valueOf, atUsed, objective as total, isAssignment, active};
 ghost use Rattle.definitions.specs.Valid.{workingWeight};
-ghost use Rattle.definitions.specs.Calls.{objectiveAnswer, upperBoundAnswer, isActiveAnswer, tupleOut};
+ghost use Rattle.calls.specs.Calls.{objectiveAnswer, upperBoundAnswer, isActiveAnswer, tupleOut};
 ghost use Rattle.theory.proofs.Validity.{Handed};
 
 fn weight_at(case: Case, table: &[i64], x: usize, k: usize, l: usize) -> i64
@@ -58,17 +58,11 @@ fn has_greatest(case: Case, table: &[i64], x: usize, k: usize, l: usize) -> Verd
 
 // ---- the objective
 
-fn wide(value: u8) -> usize
-    ensures { λ r. ⌜ r ≡ value ⌝ }
-{
-    value as usize
-}
-
 fn value_of(assignment: &[u8], i: usize) -> usize
     ensures { λ r. ⌜ r ≡ valueOf (now (assignment .entry)) i ⌝ }
 {
     if i < assignment.len() {
-        wide(assignment[i])
+        integers::wide_size(assignment[i])
     } else {
         0
     }
@@ -84,8 +78,8 @@ fn used_weight(case: Case, table: &[i64], assignment: &[u8], x: usize) -> i64
         return weight_at(case, table, x, value_of(assignment, x), 0);
     }
     let e = x - case.n;
-    let k = value_of(assignment, wide(case.lower[e]));
-    let l = value_of(assignment, wide(case.upper[e]));
+    let k = value_of(assignment, integers::wide_size(case.lower[e]));
+    let l = value_of(assignment, integers::wide_size(case.upper[e]));
     weight_at(case, table, x, k, l)
 }
 

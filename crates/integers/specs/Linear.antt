@@ -14,10 +14,10 @@ use native.Mathlib.Omega.{arith}
 use lib.IntN.{ℤ, pos, negsuc, negℤ, _+ℤ_, _-ℤ_, subℕ}
 use lib.Dec.{T, T-not, not-T, ltb, ltb→lt, lt→ltb, leb→le, le→leb, nltb→le}
 use lib.Signed.{mag, ltZ, leZ, _≤ℤ_, _<ℤ_}
-use mir.Syntax.{Width, w64}
+use mir.Syntax.{Width}
 use mir.Val.{SFits, hbits, toZ, ofZ}
 use mir.Facts.{toZ-ofZ}
-use Rattle.integers.specs.Words.{eqZ, withinZ, minus}
+use Rattle.integers.specs.Words.{eqZ, withinZ}
 use Rattle.integers.specs.Tests.{tests, eqb-iff}
 
 abbrev pub up : ℤ → ℕ
@@ -277,7 +277,44 @@ pub fits→ : {w : Width} {z : ℤ} → SFits w z → up z + dn z ≤ 2 ^ hbits 
 fits→ {w} {z = pos n} h = omega (arith, h .sfits)
 fits→ {w} {z = negsuc n} h = omega (arith, h .sfits)
 
-pub ruleset zs = (arith, le-sub, le-add, le-neg, le→, lt-sub, lt-add, lt-neg, lt→, eq-sub, eq-add, sub-eq, add-eq, neg-eq, eq→, T-within, T-le-sub, T-le-add, T-le-neg, T-le, T-lt-sub, T-lt-add, T-lt-neg, T-lt, T-not-le, T-not-lt, le-true, le-false, lt-true, lt-false, eq-true, eq-false, fits→, le-T, lt-T, →eq)
+pub ruleset zs = (
+  arith,
+  le-sub,
+  le-add,
+  le-neg,
+  le→,
+  lt-sub,
+  lt-add,
+  lt-neg,
+  lt→,
+  eq-sub,
+  eq-add,
+  sub-eq,
+  add-eq,
+  neg-eq,
+  eq→,
+  T-within,
+  T-le-sub,
+  T-le-add,
+  T-le-neg,
+  T-le,
+  T-lt-sub,
+  T-lt-add,
+  T-lt-neg,
+  T-lt,
+  T-not-le,
+  T-not-lt,
+  le-true,
+  le-false,
+  lt-true,
+  lt-false,
+  eq-true,
+  eq-false,
+  fits→,
+  le-T,
+  lt-T,
+  →eq,
+)
 
 -- ---- over code: a number that fits is what its bits read back as; `zb` reads that in place of its range
 pub back : {w : Width} {z : ℤ} → SFits w z → up (toZ w (ofZ w z)) + dn z ≡ up z + dn (toZ w (ofZ w z))
@@ -301,28 +338,12 @@ module _ {a b : ℤ} where
   pub ≤ℤ-of-eq : a ≡ b → a ≤ℤ b
   ≤ℤ-of-eq e = omega zs
 
-  pub ≤ℤ-of-lt : a <ℤ b → a ≤ℤ b
-  ≤ℤ-of-lt h = omega zs
-
   pub ≤ℤ-antisym : a ≤ℤ b → b ≤ℤ a → a ≡ b
   ≤ℤ-antisym h k = omega zs
 
   pub ≤ℤ-trans : {c : ℤ} → a ≤ℤ b → b ≤ℤ c → a ≤ℤ c
   ≤ℤ-trans h k = omega zs
 
-pub pos-up : {z : ℤ} → pos 0 ≤ℤ z → pos (up z) ≡ z
-pos-up {z = pos n} h = refl
-pos-up {z = negsuc n} h = absurd (h .le)
-
 -- ---- examples
 nested : (a b c d e f : ℤ) → ((a +ℤ b) -ℤ (c +ℤ d)) ≤ℤ (e +ℤ f) → b ≡ pos 4 -ℤ c → (a +ℤ pos 4) ≤ℤ ((e +ℤ f +ℤ c +ℤ c) -ℤ negℤ d)
 nested a b c d e f h k = h ▸ simp flat (omega zs)
-
-by-nodes : (a b c d e f : ℤ) → ((a +ℤ b) -ℤ (c +ℤ d)) ≤ℤ (e +ℤ f) → f ≡ minus 3 → c ≡ b → a <ℤ (e +ℤ d)
-by-nodes a b c d e f h k l = simp flat (omega (zs, add a b, add c d))
-
-a-test : (a b z : ℤ) (n : ℕ) → T (withinZ a b z) → leZ z (a +ℤ pos n) ≡ false → pos n <ℤ (b -ℤ a)
-a-test a b z n h k = k ▸ simp flat (omega zs)
-
-a-sum-fits : (x y : ℤ) → T (withinZ (minus 1000) (pos 1000) x) → SFits w64 (y -ℤ pos 2000) → y <ℤ pos 5 → SFits w64 (x +ℤ (y -ℤ negℤ y) -ℤ y)
-a-sum-fits x y = simp flat (omega zs)

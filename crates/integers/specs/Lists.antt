@@ -4,7 +4,8 @@ use mathlib.Core.Path.{_≡_, refl, sym, ap, ap₂, subst, _∙_}
 use mathlib.Core.Bool.{Bool, true, false, not, _&&_, _||_}
 use mathlib.Core.Option.{none, some, Option·none-ne-some, Option·some-ne-none, Option·some-injective}
 use mathlib.Core.Logic.{_↔_, _⊎_, inl, inr}
-use mathlib.Core.List.{List, [], _∷_, _++_, map, append-assoc, List·Memᴰ, List·Memᴰ·head, List·Memᴰ·tail, List·Memᴰ·not-nil, List·Memᴰ·append-cases, Memᴰ·append-left, Memᴰ·append-right, Memᴰ·map, Memᴰ·of-map, Memᴰ·cast, Sublistᴰ, Sublistᴰ·slnil, Sublistᴰ·cons, Sublistᴰ·cons-cons}
+use mathlib.Core.List.{List, [], _∷_, _++_, map, append-assoc, List·Memᴰ, List·Memᴰ·head}
+use mathlib.Core.List.{List·Memᴰ·tail, List·Memᴰ·not-nil, List·Memᴰ·append-cases, Memᴰ·append-left, Memᴰ·append-right, Memᴰ·map, Memᴰ·of-map, Memᴰ·cast}
 use Prim.Native.Nat.{ℕ, zero, suc, _+_, _≤_, _<_}
 use native.Mathlib.Nat.{add-zero, zero-add, add-suc, suc-add}
 use native.Mathlib.Numerals.{add-one}
@@ -12,7 +13,7 @@ use native.Mathlib.Omega.{arith}
 use lib.Dec.{T, not-T, eqb, eqb→eq, eqb-refl}
 use lib.ListN.{length, length-map}
 use Rattle.integers.specs.Words.{if_then_else_, from, below, all, any, those, first, joined, choices, isIn}
-use Rattle.integers.specs.Tests.{is-true, either, and-intro, and-left, and-right, or-left, or-right, or-cases, not-eqb-iff, same-test}
+use Rattle.integers.specs.Tests.{is-true, either, and-intro, and-left, and-right, or-left, or-right, or-cases, not-eqb-iff}
 
 infix 50 _∈_
 abbrev pub _∈_ : {A : Type 0} → A → List A → Type 0
@@ -47,14 +48,6 @@ module _ {A : Type 0} where
     pub any-in : (xs : List A) → T (any f xs) ↔ ((x : A) × x ∈ xs × T (f x))
     any-in xs = (any-to xs, λ p. any-back (p .1) (p .2))
 
-    pub all-append : (xs ys : List A) → all f (xs ++ ys) ≡ (all f xs && all f ys)
-    all-append [] ys = refl
-    all-append (x ∷ xs) ys = ap (λ b. f x && b) (all-append xs ys) ∙ and-assoc (f x)
-      where
-        and-assoc : (a : Bool) → (a && (all f xs && all f ys)) ≡ ((a && all f xs) && all f ys)
-        and-assoc true = refl
-        and-assoc false = refl
-
     pub any-append : (xs ys : List A) → any f (xs ++ ys) ≡ (any f xs || any f ys)
     any-append [] ys = refl
     any-append (x ∷ xs) ys = ap (λ b. f x || b) (any-append xs ys) ∙ or-assoc (f x)
@@ -63,16 +56,9 @@ module _ {A : Type 0} where
         or-assoc true = refl
         or-assoc false = refl
 
-    pub all-joined : (ls : List (List A)) → all f (joined ls) ≡ all (all f) ls
-    all-joined [] = refl
-    all-joined (l ∷ ls) = all-append l (joined ls) ∙ ap (λ b. all f l && b) (all-joined ls)
-
-    pub any-joined : (ls : List (List A)) → any f (joined ls) ≡ any (any f) ls
-    any-joined [] = refl
-    any-joined (l ∷ ls) = any-append l (joined ls) ∙ ap (λ b. any f l || b) (any-joined ls)
-
     -- ---- the elements at which a test passes
-    those-step : (b : Bool) {x y : A} {xs : List A} → f y ≡ b → x ∈ (if b then y ∷ those f xs else those f xs) → (x ∈ those f xs → x ∈ xs × T (f x)) → x ∈ (y ∷ xs) × T (f x)
+    those-step : (b : Bool) {x y : A} {xs : List A} → f y ≡ b → x ∈ (if b then y ∷ those f xs else those f xs) → (x ∈ those f xs → x ∈ xs × T (f x))
+        → x ∈ (y ∷ xs) × T (f x)
     those-step true {x} {y} {xs} e m r = go m
       where
         go : x ∈ (y ∷ those f xs) → x ∈ (y ∷ xs) × T (f x)
@@ -92,19 +78,12 @@ module _ {A : Type 0} where
         go true k = List·Memᴰ·tail k
         go false k = k
 
-    pub those-sub : (xs : List A) → Sublistᴰ (those f xs) xs
-    those-sub [] = Sublistᴰ·slnil
-    those-sub (y ∷ ys) = go (f y) (those-sub ys)
-      where
-        go : (b : Bool) → Sublistᴰ (those f ys) ys → Sublistᴰ (if b then y ∷ those f ys else those f ys) (y ∷ ys)
-        go true s = Sublistᴰ·cons-cons refl s
-        go false s = Sublistᴰ·cons s
-
     pub those-append : (xs ys : List A) → those f (xs ++ ys) ≡ those f xs ++ those f ys
     those-append [] ys = refl
     those-append (x ∷ xs) ys = go (f x) (those-append xs ys)
       where
-        go : (b : Bool) → those f (xs ++ ys) ≡ those f xs ++ those f ys → (if b then x ∷ those f (xs ++ ys) else those f (xs ++ ys)) ≡ (if b then x ∷ those f xs else those f xs) ++ those f ys
+        go : (b : Bool) → those f (xs ++ ys) ≡ those f xs ++ those f ys
+            → (if b then x ∷ those f (xs ++ ys) else those f (xs ++ ys)) ≡ (if b then x ∷ those f xs else those f xs) ++ those f ys
         go true e = ap (λ l. x ∷ l) e
         go false e = e
 
@@ -179,15 +158,12 @@ module _ {A B : Type 0} where
   all-map f g [] = refl
   all-map f g (x ∷ xs) = ap (λ b. f (g x) && b) (all-map f g xs)
 
-  pub any-map : (f : B → Bool) (g : A → B) (xs : List A) → any f (map g xs) ≡ any (λ x. f (g x)) xs
-  any-map f g [] = refl
-  any-map f g (x ∷ xs) = ap (λ b. f (g x) || b) (any-map f g xs)
-
   pub those-map : (f : B → Bool) (g : A → B) (xs : List A) → those f (map g xs) ≡ map g (those (λ x. f (g x)) xs)
   those-map f g [] = refl
   those-map f g (x ∷ xs) = go (f (g x)) (those-map f g xs)
     where
-      go : (b : Bool) → those f (map g xs) ≡ map g (those (λ x. f (g x)) xs) → (if b then g x ∷ those f (map g xs) else those f (map g xs)) ≡ map g (if b then x ∷ those (λ x. f (g x)) xs else those (λ x. f (g x)) xs)
+      go : (b : Bool) → those f (map g xs) ≡ map g (those (λ x. f (g x)) xs)
+          → (if b then g x ∷ those f (map g xs) else those f (map g xs)) ≡ map g (if b then x ∷ those (λ x. f (g x)) xs else those (λ x. f (g x)) xs)
       go true e = ap (λ l. g x ∷ l) e
       go false e = e
 
@@ -202,20 +178,6 @@ module _ {A : Type 0} (xs : List A) where
   choices-in (y ∷ l) h =
       joined-in (Memᴰ·map (λ r. y ∷ r) (choices-in l (λ x m. h x (List·Memᴰ·tail m))))
       (Memᴰ·map (λ x. map (λ r. x ∷ r) (choices (length l) xs)) (h y (List·Memᴰ·head refl)))
-
-  pub in-choices : (n : ℕ) {l : List A} → l ∈ choices n xs → (length l ≡ n) × ((x : A) → x ∈ l → x ∈ xs)
-  in-choices zero (List·Memᴰ·head e) = (ap length e, λ x m. absurd (List·Memᴰ·not-nil (subst (λ (k : List A). x ∈ k) e m)))
-  in-choices zero (List·Memᴰ·tail m) = absurd (List·Memᴰ·not-nil m)
-  in-choices (suc n) {l} m =
-      let (k, o, p) = in-joined (map (λ x. map (λ r. x ∷ r) (choices n xs)) xs) m in
-      let (x, i, e) = Memᴰ·of-map (λ x. map (λ r. x ∷ r) (choices n xs)) xs o in
-      let (r, j, q) = Memᴰ·of-map (λ r. x ∷ r) (choices n xs) (subst (λ (k : List (List A)). l ∈ k) (sym e) p) in
-      let (s, t) = in-choices n j in
-      (ap length (sym q) ∙ ap suc s, λ y w. go x r i t (subst (λ (k : List A). y ∈ k) (sym q) w))
-    where
-      go : (x : A) (r : List A) → x ∈ xs → ((y : A) → y ∈ r → y ∈ xs) → {y : A} → y ∈ (x ∷ r) → y ∈ xs
-      go x r i t (List·Memᴰ·head e) = Memᴰ·cast e i
-      go x r i t {y} (List·Memᴰ·tail w) = t y w
 
 -- ---- numbers in order
 pub from-in : (n : ℕ) {a x : ℕ} → a ≤ x → x < a + n → x ∈ from a n
@@ -252,19 +214,12 @@ pub length-from : (a n : ℕ) → length (from a n) ≡ n
 length-from a zero = refl
 length-from a (suc n) = ap suc (length-from (suc a) n)
 
--- tests of the numbers from a, and of the numbers below n
-module _ (f : ℕ → Bool) (a n : ℕ) where
-  pub all-from : T (all f (from a n)) ↔ ((x : ℕ) → a ≤ x → x < a + n → T (f x))
-  all-from = (λ t x l u. all-in f (from a n) .0 t x (from-in n l u), λ h. all-in f (from a n) .1 (λ x m. let (l, u) = in-from a n m in h x l u))
-
-  pub any-from : T (any f (from a n)) ↔ ((x : ℕ) × (a ≤ x) × (x < a + n) × T (f x))
-  any-from = (λ t. let (x, m, s) = any-in f (from a n) .0 t in let (l, u) = in-from a n m in (x, l, u, s), λ p. any-in f (from a n) .1 (p .0, from-in n (p .1) (p .2), p .3))
-
 least : (f : ℕ → Bool) (a n : ℕ) {x : ℕ} → first (those f (from a n)) ≡ some x → (y : ℕ) → a ≤ y → y < x → T (not (f y))
 least f a zero {x} e y l u = absurd (Option·none-ne-some x e)
 least f a (suc n) {x} e y l u = go (f a) refl e (either (eqb y a)) (λ d. least f (suc a) n d y)
   where
-    go : (b : Bool) → f a ≡ b → first (if b then a ∷ those f (from (suc a) n) else those f (from (suc a) n)) ≡ some x → T (eqb y a) ⊎ T (not (eqb y a)) → (first (those f (from (suc a) n)) ≡ some x → suc a ≤ y → y < x → T (not (f y))) → T (not (f y))
+    go : (b : Bool) → f a ≡ b → first (if b then a ∷ those f (from (suc a) n) else those f (from (suc a) n)) ≡ some x → T (eqb y a) ⊎ T (not (eqb y a))
+        → (first (those f (from (suc a) n)) ≡ some x → suc a ≤ y → y < x → T (not (f y))) → T (not (f y))
     go true p d t r = absurd (omega (arith, Option·some-injective a x d))
     go false p d (inl t) r = rw (eqb→eq y a t, p) tt
     go false p d (inr t) r = r d (omega (arith, not-eqb-iff y a .0 t)) u
@@ -322,14 +277,3 @@ isIn-in xs x = (
 
 pub isIn-append : (xs ys : List ℕ) (x : ℕ) → isIn (xs ++ ys) x ≡ (isIn xs x || isIn ys x)
 isIn-append xs ys x = any-append (λ y. eqb y x) xs ys
-
-pub isIn-those : (f : ℕ → Bool) (xs : List ℕ) (x : ℕ) → isIn (those f xs) x ≡ (isIn xs x && f x)
-isIn-those f xs x = same-test (isIn (those f xs) x) (isIn xs x && f x)
-    (λ t. let (m, s) = in-those f xs (isIn-in (those f xs) x .0 t) in and-intro (isIn xs x) (f x) (isIn-in xs x .1 m) s)
-    (λ t. isIn-in (those f xs) x .1 (those-in f (isIn-in xs x .0 (and-left (isIn xs x) (f x) t)) (and-right (isIn xs x) (f x) t)))
-
-pub isIn-from : (a n x : ℕ) → T (isIn (from a n) x) ↔ ((a ≤ x) × (x < a + n))
-isIn-from a n x = (λ t. in-from a n (isIn-in (from a n) x .0 t), λ p. isIn-in (from a n) x .1 (from-in n (p .0) (p .1)))
-
-pub isIn-map : {A : Type 0} (f : A → ℕ) (xs : List A) (x : ℕ) → isIn (map f xs) x ≡ any (λ y. eqb (f y) x) xs
-isIn-map f xs x = any-map (λ y. eqb y x) f xs

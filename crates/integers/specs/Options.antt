@@ -5,13 +5,9 @@ use mathlib.Core.Option.{Option, none, some, Option·none-ne-some, Option·some-
 use mathlib.Core.Logic.{_↔_, _⊎_, inl, inr}
 use mathlib.Core.List.{List, [], _∷_, _++_}
 use lib.Dec.{T}
-use Rattle.integers.specs.Words.{if_then_else_, _>>=_, isSome, last}
+use Rattle.integers.specs.Words.{if_then_else_, _>>=_, last}
 
 module _ {A : Type 0} where
-  pub isSome-iff : (o : Option A) → T (isSome o) ↔ ((a : A) × (o ≡ some a))
-  isSome-iff none = (λ t. absurd t, λ p. absurd (Option·none-ne-some (p .0) (p .1)))
-  isSome-iff (some a) = (λ t. (a, refl), λ p. tt)
-
   pub some-inj : {a b : A} → _≡_ {A = Option A} (some a) (some b) → a ≡ b
   some-inj {a} {b} e = Option·some-injective a b e
 

@@ -1,6 +1,6 @@
 -- Sums: over the elements of a list (`sum-…`), and over the n numbers from a (`Σ-…`). Assumes nothing.
 use mathlib.Core.Path.{_≡_, refl, sym, ap, ap₂, _∙_}
-use mathlib.Core.Bool.{Bool, true, false, not}
+use mathlib.Core.Bool.{not}
 use mathlib.Core.Logic.{_≢_, _⊎_, inl, inr}
 use mathlib.Core.List.{List, [], _∷_, _++_, map, List·Memᴰ·head, List·Memᴰ·tail}
 use Prim.Native.Nat.{ℕ, zero, suc, _+_, _*_, _≤_, _<_}
@@ -10,10 +10,10 @@ use lib.IntN.{ℤ, pos, _+ℤ_, _-ℤ_, +ℤ-idl, +ℤ-assoc}
 use lib.Dec.{T, eqb, eqb→eq}
 use lib.Signed.{_≤ℤ_, _<ℤ_}
 use lib.ListN.{length}
-use Rattle.integers.specs.Words.{if_then_else_, from, those, joined, sum, minus}
-use Rattle.integers.specs.Tests.{either, if-true, if-false, eqb-iff, not-eqb-iff}
+use Rattle.integers.specs.Words.{if_then_else_, from, sum, minus}
+use Rattle.integers.specs.Tests.{either, if-true, if-false, not-eqb-iff}
 use Rattle.integers.specs.Linear.{flat, zs, _▸_}
-use Rattle.integers.specs.Lists.{_∈_, in-from, from-in, from-split, from-shift, length-from, map-append, map-map, map-cong}
+use Rattle.integers.specs.Lists.{_∈_, in-from, from-split, length-from, map-append, map-cong}
 
 -- ---- one step of a sum
 module _ (a b s t : ℤ) where
@@ -36,10 +36,6 @@ module _ (a b s t : ℤ) where
 pub sum-append : (xs ys : List ℤ) → sum (xs ++ ys) ≡ sum xs +ℤ sum ys
 sum-append [] ys = sym (+ℤ-idl (sum ys))
 sum-append (x ∷ xs) ys = ap (λ (z : ℤ). x +ℤ z) (sum-append xs ys) ∙ sym (+ℤ-assoc x (sum xs) (sum ys))
-
-pub sum-joined : (ls : List (List ℤ)) → sum (joined ls) ≡ sum (map sum ls)
-sum-joined [] = refl
-sum-joined (l ∷ ls) = sum-append l (joined ls) ∙ ap (λ (z : ℤ). sum l +ℤ z) (sum-joined ls)
 
 module _ {A : Type 0} (f g : A → ℤ) where
   pub sum-cong : (xs : List A) → ((x : A) → x ∈ xs → f x ≡ g x) → sum (map f xs) ≡ sum (map g xs)
@@ -77,18 +73,6 @@ module _ {A : Type 0} (f : A → ℤ) where
   sum-least u [] h = simp flat (omega zs)
   sum-least u (x ∷ xs) h = h x (List·Memᴰ·head refl) ▸ sum-least u xs (λ y m. h y (List·Memᴰ·tail m)) ▸ simp flat (omega zs)
 
-  pub sum-those : (p : A → Bool) (xs : List A) → sum (map f (those p xs)) ≡ sum (map (λ x. if p x then f x else pos 0) xs)
-  sum-those p [] = refl
-  sum-those p (x ∷ xs) = go (p x) (sum-those p xs)
-    where
-      go : (b : Bool) → sum (map f (those p xs)) ≡ sum (map (λ x. if p x then f x else pos 0) xs) → sum (map f (if b then x ∷ those p xs else those p xs)) ≡ (if b then f x else pos 0) +ℤ sum (map (λ x. if p x then f x else pos 0) xs)
-      go true e = ap (λ (z : ℤ). f x +ℤ z) e
-      go false e = e ∙ sym (+ℤ-idl _)
-
-pub sum-swap : {A B : Type 0} (f : A → B → ℤ) (xs : List A) (ys : List B) → sum (map (λ x. sum (map (f x) ys)) xs) ≡ sum (map (λ y. sum (map (λ x. f x y) xs)) ys)
-sum-swap f [] ys = sym (sum-zero (λ y. pos 0) ys (λ y m. refl))
-sum-swap f (x ∷ xs) ys = ap (λ (z : ℤ). sum (map (f x) ys) +ℤ z) (sum-swap f xs ys) ∙ sym (sum-add (f x) (λ y. sum (map (λ x. f x y) xs)) ys)
-
 -- ---- over the n numbers from a
 abbrev pub Σ : (ℕ → ℤ) → ℕ → ℕ → ℤ
 Σ f a n = sum (map f (from a n))
@@ -99,9 +83,6 @@ module _ (f g : ℕ → ℤ) (a n : ℕ) where
 
   pub Σ-mono : ((x : ℕ) → a ≤ x → x < a + n → f x ≤ℤ g x) → Σ f a n ≤ℤ Σ g a n
   Σ-mono h = sum-mono f g (from a n) (λ x m. let (l, u) = in-from a n m in h x l u)
-
-  pub Σ-strict : {y : ℕ} → a ≤ y → y < a + n → f y <ℤ g y → ((x : ℕ) → a ≤ x → x < a + n → f x ≤ℤ g x) → Σ f a n <ℤ Σ g a n
-  Σ-strict l u s h = sum-strict f g (from-in n l u) s (λ x m. let (l, u) = in-from a n m in h x l u)
 
   pub Σ-add : Σ (λ x. f x +ℤ g x) a n ≡ Σ f a n +ℤ Σ g a n
   Σ-add = sum-add f g (from a n)
@@ -117,9 +98,6 @@ module _ (f : ℕ → ℤ) where
   pub Σ-last : (a n : ℕ) → Σ f a (suc n) ≡ Σ f a n +ℤ f (a + n)
   Σ-last a n = (rw (add-one n) at (Σ-split a n 1)) ▸ simp flat (omega zs)
 
-  pub Σ-shift : (a b n : ℕ) → Σ f (a + b) n ≡ Σ (λ x. f (a + x)) b n
-  Σ-shift a b n = rw (from-shift a b n, map-map f (λ x. a + x) (from b n))
-
   pub Σ-zero : (a n : ℕ) → ((x : ℕ) → a ≤ x → x < a + n → f x ≡ pos 0) → Σ f a n ≡ pos 0
   Σ-zero a n h = sum-zero f (from a n) (λ x m. let (l, u) = in-from a n m in h x l u)
 
@@ -129,15 +107,9 @@ module _ (f : ℕ → ℤ) where
   pub Σ-least : (u a n : ℕ) → ((x : ℕ) → a ≤ x → x < a + n → minus u ≤ℤ f x) → minus (n * u) ≤ℤ Σ f a n
   Σ-least u a n h = rw (length-from a n) at (sum-least f u (from a n) (λ x m. let (l, u) = in-from a n m in h x l u))
 
-pub Σ-joined : (f : ℕ → List ℤ) (a n : ℕ) → sum (joined (map f (from a n))) ≡ Σ (λ x. sum (f x)) a n
-Σ-joined f a n = sum-joined (map f (from a n)) ∙ ap sum (map-map sum f (from a n))
-
 -- ---- one entry
 abbrev pub only : ℕ → ℤ → ℕ → ℤ
 only i z x = if eqb x i then z else pos 0
-
-pub only-at : (i : ℕ) (z : ℤ) → only i z i ≡ z
-only-at i z = if-true z (pos 0) (eqb i i) (eqb-iff i i .1 refl)
 
 pub only-off : (i : ℕ) (z : ℤ) {x : ℕ} → x ≢ i → only i z x ≡ pos 0
 only-off i z {x} h = if-false z (pos 0) (eqb x i) (not-eqb-iff x i .1 h)

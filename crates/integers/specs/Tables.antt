@@ -1,16 +1,16 @@
 -- Lists read by index: the element at a place, tables of a function, and lists of equal parts, one after the other. Assumes nothing.
 use mathlib.Core.Path.{_≡_, refl, sym, ap, _∙_}
-use mathlib.Core.Bool.{Bool, true, false}
+use mathlib.Core.Bool.{Bool}
 use mathlib.Core.Logic.{_↔_}
-use mathlib.Core.List.{List, [], _∷_, _++_, map, List·Memᴰ·head, List·Memᴰ·tail, Memᴰ·of-map}
+use mathlib.Core.List.{List, [], _∷_, map, List·Memᴰ·head, List·Memᴰ·tail, Memᴰ·of-map}
 use Prim.Native.Nat.{ℕ, zero, suc, _+_, _*_, _-_, _/_, _%_, _≤_, _<_}
 use native.Mathlib.Nat.{zero-mul, zero-add, suc-mul, add-comm, add-zero, sub-zero, add-suc, suc-add, suc-sub-suc, div-add-mod', div-lt-iff-lt-mul, mod-lt}
 use native.Mathlib.Omega.{arith}
 use lib.Dec.{T}
 use lib.ListN.{length, getD, take, drop, length-append, length-map, List·getD-append}
-use lib.Seq.{take-append-add, drop-append-add, getD-append-add, ext-getD, take-at}
-use Rattle.integers.specs.Words.{if_then_else_, from, below, all, any, those, joined}
-use Rattle.integers.specs.Lists.{_∈_, in-from, in-those, all-in, any-in, length-from, in-below}
+use lib.Seq.{drop-append-add, getD-append-add, take-at}
+use Rattle.integers.specs.Words.{from, below, all, any, joined}
+use Rattle.integers.specs.Lists.{_∈_, all-in, any-in, length-from, in-below}
 
 -- ---- the element at a place
 module _ {A : Type 0} where
@@ -40,19 +40,6 @@ getD-map f [] i d e h = absurd (omega arith)
 getD-map f (x ∷ xs) zero d e h = refl
 getD-map f (x ∷ xs) (suc i) d e h = getD-map f xs i d e (omega arith)
 
--- the numbers at which a test passes, in order
-pub those-rise : (f : ℕ → Bool) (a n i j : ℕ) → i < j → j < length (those f (from a n)) → getD (those f (from a n)) i 0 < getD (those f (from a n)) j 0
-those-rise f a zero i j h u = absurd (omega arith)
-those-rise f a (suc n) i j h u = go (f a) i j h u (λ i j h u. those-rise f (suc a) n i j h u)
-  where
-    go : (b : Bool) (i j : ℕ) → i < j → j < length (if b then a ∷ those f (from (suc a) n) else those f (from (suc a) n))
-        → ((i j : ℕ) → i < j → j < length (those f (from (suc a) n)) → getD (those f (from (suc a) n)) i 0 < getD (those f (from (suc a) n)) j 0)
-        → getD (if b then a ∷ those f (from (suc a) n) else those f (from (suc a) n)) i 0 < getD (if b then a ∷ those f (from (suc a) n) else those f (from (suc a) n)) j 0
-    go false i j h u r = r i j h u
-    go true i zero h u r = absurd (omega arith)
-    go true zero (suc j) h u r = in-from (suc a) n (in-those f (from (suc a) n) (getD-in (those f (from (suc a) n)) {i = j} 0 (omega arith)) .0) .0
-    go true (suc i) (suc j) h u r = r i j (omega arith) (omega arith)
-
 -- ---- tables
 pub getD-from : (a n i d : ℕ) → i < n → getD (from a n) i d ≡ a + i
 getD-from a zero i d h = absurd (omega arith)
@@ -69,11 +56,6 @@ module _ {A : Type 0} (f : ℕ → A) where
   pub getD-tab : (n i : ℕ) (d : A) → i < n → getD (map f (below n)) i d ≡ f i
   getD-tab n i d h = getD-tab-from 0 n i d h ∙ ap f (zero-add i)
 
--- a list is the table of its elements
-pub tab-getD : {A : Type 0} (xs : List A) (d : A) → map (λ i. getD xs i d) (below (length xs)) ≡ xs
-tab-getD xs d = ext-getD d _ xs (length-tab (λ i. getD xs i d) 0 (length xs))
-    (λ i h. getD-tab (λ i. getD xs i d) (length xs) i d (omega (arith, length-tab (λ i. getD xs i d) 0 (length xs))))
-
 -- ---- equal parts, each of d elements
 abbrev pub Parts : {A : Type 0} → ℕ → List (List A) → Type 0
 Parts {A} d ls = (l : List A) → l ∈ ls → length l ≡ d
@@ -81,7 +63,8 @@ Parts {A} d ls = (l : List A) → l ∈ ls → length l ≡ d
 module _ {A : Type 0} (d : ℕ) where
   pub length-joined : (ls : List (List A)) → Parts d ls → length (joined ls) ≡ length ls * d
   length-joined [] h = sym (zero-mul d)
-  length-joined (l ∷ ls) h = rw (length-append, suc-mul, h l (List·Memᴰ·head refl), length-joined ls (λ k m. h k (List·Memᴰ·tail m))) (add-comm d (length ls * d))
+  length-joined (l ∷ ls) h = rw (length-append, suc-mul, h l (List·Memᴰ·head refl), length-joined ls (λ k m. h k (List·Memᴰ·tail m)))
+      (add-comm d (length ls * d))
 
   pub drop-joined : (ls : List (List A)) → Parts d ls → (i : ℕ) → i ≤ length ls → drop (i * d) (joined ls) ≡ joined (drop i ls)
   drop-joined ls h zero u = rw zero-mul
@@ -89,13 +72,6 @@ module _ {A : Type 0} (d : ℕ) where
   drop-joined (l ∷ ls) h (suc i) u =
       let e : suc i * d ≡ length l + i * d = omega (arith, h l (List·Memᴰ·head refl)) in
       rw (e, drop-append-add l (joined ls) (i * d)) (drop-joined ls (λ k m. h k (List·Memᴰ·tail m)) i (omega arith))
-
-  pub take-joined : (ls : List (List A)) → Parts d ls → (i : ℕ) → i ≤ length ls → take (i * d) (joined ls) ≡ joined (take i ls)
-  take-joined ls h zero u = rw zero-mul
-  take-joined [] h (suc i) u = absurd (omega arith)
-  take-joined (l ∷ ls) h (suc i) u =
-      let e : suc i * d ≡ length l + i * d = omega (arith, h l (List·Memᴰ·head refl)) in
-      rw (e, take-append-add l (joined ls) (i * d)) (ap (λ k. l ++ k) (take-joined ls (λ k m. h k (List·Memᴰ·tail m)) i (omega arith)))
 
   pub getD-joined : (ls : List (List A)) → Parts d ls → (i k : ℕ) (z : A) → i < length ls → k < d → getD (joined ls) (i * d + k) z ≡ getD (getD ls i []) k z
   getD-joined [] h i k z u v = absurd (omega arith)
@@ -108,11 +84,6 @@ module _ {A : Type 0} (d : ℕ) where
 
 -- ---- a table's first places, and what follows them
 module _ {A : Type 0} (f : ℕ → A) where
-  pub take-tab : (a n i : ℕ) → i ≤ n → take i (map f (from a n)) ≡ map f (from a i)
-  take-tab a n zero h = refl
-  take-tab a zero (suc i) h = absurd (omega arith)
-  take-tab a (suc n) (suc i) h = ap (λ l. f a ∷ l) (take-tab (suc a) n i (omega arith))
-
   pub drop-tab : (a n i : ℕ) → i ≤ n → drop i (map f (from a n)) ≡ map f (from (a + i) (n - i))
   drop-tab a n zero h = rw (add-zero, sub-zero)
   drop-tab a zero (suc i) h = absurd (omega arith)
@@ -133,11 +104,9 @@ module _ {A : Type 0} (f : ℕ → List A) (n d : ℕ) (size : (x : ℕ) → x <
   pub getD-rows : (i k : ℕ) (z : A) → i < n → k < d → getD (joined (map f (below n))) (i * d + k) z ≡ getD (f i) k z
   getD-rows i k z u v = getD-joined d (map f (below n)) rows i k z (omega (arith, length-tab f 0 n)) v ∙ ap (λ l. getD l k z) (getD-tab f n i [] u)
 
-  pub take-rows : (i : ℕ) → i ≤ n → take (i * d) (joined (map f (below n))) ≡ joined (map f (below i))
-  take-rows i u = take-joined d (map f (below n)) rows i (omega (arith, length-tab f 0 n)) ∙ ap joined (take-tab f 0 n i u)
-
   pub drop-rows : (i : ℕ) → i ≤ n → drop (i * d) (joined (map f (below n))) ≡ joined (map f (from i (n - i)))
-  drop-rows i u = drop-joined d (map f (below n)) rows i (omega (arith, length-tab f 0 n)) ∙ ap joined (drop-tab f 0 n i u) ∙ ap (λ a. joined (map f (from a (n - i)))) (zero-add i)
+  drop-rows i u = drop-joined d (map f (below n)) rows i (omega (arith, length-tab f 0 n)) ∙ ap joined (drop-tab f 0 n i u)
+      ∙ ap (λ a. joined (map f (from a (n - i)))) (zero-add i)
 
   pub row : (i : ℕ) → i < n → take d (drop (i * d) (joined (map f (below n)))) ≡ f i
   row i u =

@@ -1,11 +1,11 @@
 -- Small words that the definitions of document 01 are written with: tests, lists, whole numbers. Assumes nothing.
-use mathlib.Core.Bool.{Bool, true, false, not, _&&_, _||_}
+use mathlib.Core.Bool.{Bool, true, false, _&&_, _||_}
 use mathlib.Core.Option.{Option, none, some}
 use mathlib.Core.List.{List, [], _∷_, _++_, map}
-use Prim.Native.Nat.{ℕ, zero, suc, _+_}
+use Prim.Native.Nat.{ℕ, zero, suc}
 use lib.IntN.{ℤ, pos, negsuc, negℤ, _+ℤ_}
-use lib.Dec.{leb, ltb, eqb}
-use lib.Signed.{leZ, ltZ}
+use lib.Dec.{leb, eqb}
+use lib.Signed.{leZ}
 
 -- ---- tests
 

@@ -17,10 +17,9 @@ use Rattle.definitions.specs.Rules.{Rules, rulesOf}
 use Rattle.definitions.specs.Lines.{lineLength, cutLines, wholeLines, linesIn, hasPart}
 use Rattle.checker.specs.declared.Replay.{Replay}
 use Rattle.checker.specs.Checker.{Between, BlockCall, takenLines, firstRefused, stepBetween, afterLines, lineAnswers, foldReplay}
-use Rattle.checker_theory.proofs.Blocks.{lines-append, answers-append, orElse, folds-join, Lent, block-lent, lent-after}
+use Rattle.checker_promise.proofs.Blocks.{lines-append, answers-append, orElse, folds-join, Lent, block-lent, lent-after}
 use Rattle.texts.specs.Texts.{greatestCount}
-use Rattle.judging.specs.declared.Judging.{Judging}
-use Rattle.judging.specs.Judging.{JudgingCall, counted, answerAt, blockFrom, blockJudging}
+use Rattle.judging.specs.Judging.{JudgingState, linesCounted, answerAt, blockFrom, blockJudging}
 use Rattle.judging.specs.Cuts.{afterBlocks}
 
 -- ---- lines and answers
@@ -39,10 +38,10 @@ taken-most [] = omega arith
 taken-most (Outcome.Done ∷ os) = omega (arith, taken-most os)
 taken-most (Outcome.Refused x ∷ os) = omega arith
 
-counted-more : (at m n : ℕ) → counted (counted at m) n ≡ counted at (m + n)
+counted-more : (at m n : ℕ) → linesCounted (linesCounted at m) n ≡ linesCounted at (m + n)
 counted-more at m n = omega arith
 
-pub counted-few : (at n : ℕ) → at + n ≤ greatestCount → counted at n ≡ at + n
+pub counted-few : (at n : ℕ) → at + n ≤ greatestCount → linesCounted at n ≡ at + n
 counted-few at n h = omega arith
 
 module _ (r : Rules) where
@@ -70,31 +69,32 @@ module _ (r : Rules) where
         ∙ taken-refused (lineAnswers r b ts) (lineAnswers r (afterLines r b ts) us) e
 
     -- no whole line
-    fold-short : (bytes : List ℕ) → length bytes < lineLength (r .amountWidth) → foldReplay r c w p bytes ≡ record { block = record { replay = p; lines = 0; answer = Outcome.Done }; table = w }
+    fold-short : (bytes : List ℕ) → length bytes < lineLength (r .amountWidth)
+        → foldReplay r c w p bytes ≡ record { block = record { replay = p; lines = 0; answer = Outcome.Done }; table = w }
     unfolding foldReplay
     fold-short bytes h = let n : wholeLines (r .amountWidth) bytes ≡ 0 = div-eq-of-lt h in rw n
 
 -- ---- the fold
 
 -- what stands after blocks, beside the fold over them all from line `at`
-pub record Stands (g : JudgingCall) (c : Case) (at : ℕ) (call : BlockCall) : Type 0 where
-  pub answer : g .judging .answer ≡ answerAt (counted at (call .block .lines)) (call .block .answer)
-  pub case-kept : call .block .answer ≡ Outcome.Done → g .judging .case ≡ c
-  pub replay : call .block .answer ≡ Outcome.Done → g .judging .replay ≡ call .block .replay
-  pub table : call .block .answer ≡ Outcome.Done → g .table ≡ call .table
+pub record Stands (g : JudgingState) (c : Case) (at : ℕ) (call : BlockCall) : Type 0 where
+  pub answer : g .answer ≡ answerAt (linesCounted at (call .block .lines)) (call .block .answer)
+  pub case-kept : call .block .answer ≡ Outcome.Done → g .case ≡ c
+  pub replay : call .block .answer ≡ Outcome.Done → g .replay ≡ call .block .replay
+  pub table : call .block .answer ≡ Outcome.Done → g .weights ≡ call .table
 
 -- once refused, nothing changes
-block-stays : (g : JudgingCall) {x : Refusal} {at : ℕ} → g .judging .answer ≡ FileAnswer.Refused x at → (y : List ℕ) → blockJudging (g .judging) (g .table) y ≡ g
+block-stays : (g : JudgingState) {x : Refusal} {at : ℕ} → g .answer ≡ FileAnswer.Refused x at → (y : List ℕ) → blockJudging g y ≡ g
 unfolding blockJudging
-block-stays g e y = ap (blockFrom (g .judging) (g .table) y) e
+block-stays g e y = ap (blockFrom g y) e
 
-pub stays : (g : JudgingCall) {x : Refusal} {at : ℕ} → g .judging .answer ≡ FileAnswer.Refused x at → (xs : List (List ℕ)) → afterBlocks g xs ≡ g
+pub stays : (g : JudgingState) {x : Refusal} {at : ℕ} → g .answer ≡ FileAnswer.Refused x at → (xs : List (List ℕ)) → afterBlocks g xs ≡ g
 stays g e [] = refl
-stays g e (y ∷ ys) = ap (λ (k : JudgingCall). afterBlocks k ys) (block-stays g e y) ∙ stays g e ys
+stays g e (y ∷ ys) = ap (λ (k : JudgingState). afterBlocks k ys) (block-stays g e y) ∙ stays g e ys
 
-block-first : (j : Judging) (w : List ℤ) (x : List ℕ) {at : ℕ} → j .answer ≡ FileAnswer.Read at → blockJudging j w x ≡ blockFrom j w x (FileAnswer.Read at)
+block-first : (g : JudgingState) (x : List ℕ) {at : ℕ} → g .answer ≡ FileAnswer.Read at → blockJudging g x ≡ blockFrom g x (FileAnswer.Read at)
 unfolding blockJudging
-block-first j w x e = ap (blockFrom j w x) e
+block-first g x e = ap (blockFrom g x) e
 
 -- a block and then the others
 module _ (c : Case) (w : List ℤ) (p : Replay) (at : ℕ) (x rest : List ℕ) (whole : hasPart (rulesOf c .amountWidth) x ≡ false) where
@@ -107,13 +107,16 @@ module _ (c : Case) (w : List ℤ) (p : Replay) (at : ℕ) (x rest : List ℕ) (
   abbrev second : BlockCall
   second = foldReplay r c (first .table) (first .block .replay) rest
 
-  abbrev next : Outcome → JudgingCall
+  abbrev next : Outcome → JudgingState
   next o = record {
-    judging = record { case = c; replay = first .block .replay; answer = answerAt (counted at (first .block .lines)) o };
-    table = first .table;
+    case = c;
+    weights = first .table;
+    replay = first .block .replay;
+    answer = answerAt (linesCounted at (first .block .lines)) o;
   }
 
-  stand-done : {g : JudgingCall} → first .block .answer ≡ Outcome.Done → Stands g c (counted at (first .block .lines)) second → Stands g c at (foldReplay r c w p (x ++ rest))
+  stand-done : {g : JudgingState} → first .block .answer ≡ Outcome.Done → Stands g c (linesCounted at (first .block .lines)) second
+      → Stands g c at (foldReplay r c w p (x ++ rest))
   stand-done {g} d i =
       let a : orElse (first .block .answer) (second .block .answer) ≡ second .block .answer = rw d in
       rw (folds-join r c w p x rest whole)
@@ -129,35 +132,46 @@ module _ (c : Case) (w : List ℤ) (p : Replay) (at : ℕ) (x rest : List ℕ) (
 
   stand-refused : {y : Refusal} → first .block .answer ≡ Outcome.Refused y → Stands (next (Outcome.Refused y)) c at (foldReplay r c w p (x ++ rest))
   stand-refused {y} d =
-      let a : foldReplay r c w p (x ++ rest) .block .answer ≡ Outcome.Refused y = ap (λ (k : BlockCall). k .block .answer) (folds-join r c w p x rest whole) ∙ ap (λ (o : Outcome). orElse o (second .block .answer)) d in
+      let a : foldReplay r c w p (x ++ rest) .block .answer ≡ Outcome.Refused y = ap (λ (k : BlockCall). k .block .answer) (folds-join r c w p x rest whole)
+      ∙ ap (λ (o : Outcome). orElse o (second .block .answer)) d in
       record {
-        answer = sym (ap₂ (λ (n : ℕ) (o : Outcome). answerAt (counted at n) o) (fold-refused r c w p x rest whole d) a);
+        answer = sym (ap₂ (λ (n : ℕ) (o : Outcome). answerAt (linesCounted at n) o) (fold-refused r c w p x rest whole d) a);
         case-kept = λ e. absurd (never (sym a ∙ e));
         replay = λ e. absurd (never (sym a ∙ e));
         table = λ e. absurd (never (sym a ∙ e));
       }
 
-  stand-next : (xs : List (List ℕ)) → (first .block .answer ≡ Outcome.Done → Stands (afterBlocks (next Outcome.Done) xs) c (counted at (first .block .lines)) second)
+  stand-next : (xs : List (List ℕ)) → (first .block .answer ≡ Outcome.Done
+      → Stands (afterBlocks (next Outcome.Done) xs) c (linesCounted at (first .block .lines)) second)
       → (o : Outcome) → first .block .answer ≡ o → Stands (afterBlocks (next o) xs) c at (foldReplay r c w p (x ++ rest))
   stand-next xs i Outcome.Done d = stand-done d (i d)
   stand-next xs i (Outcome.Refused y) d = rw (stays (next (Outcome.Refused y)) refl xs) (stand-refused d)
 
 -- blocks of whole lines, and fewer bytes than a line
 module _ (c : Case) (tail : List ℕ) (short : length tail < lineLength (rulesOf c .amountWidth)) where
-  abbrev stood : Replay → FileAnswer → List ℤ → JudgingCall
-  stood p a w = record { judging = record { case = c; replay = p; answer = a }; table = w }
+  abbrev stood : Replay → FileAnswer → List ℤ → JudgingState
+  stood p a w = record { case = c; weights = w; replay = p; answer = a }
 
   pub blocks-stand : (xs : List (List ℕ)) → ((x : List ℕ) → x ∈ xs → hasPart (rulesOf c .amountWidth) x ≡ false)
       → (p : Replay) (a : FileAnswer) (w : List ℤ) (at : ℕ) → a ≡ FileAnswer.Read at → at ≤ greatestCount → Lent (rulesOf c) c w p
       → Stands (afterBlocks (stood p a w) xs) c at (foldReplay (rulesOf c) c w p (joined xs ++ tail))
   blocks-stand [] whole p a w at e few l =
       rw (fold-short (rulesOf c) c w p tail short)
-      (record { answer = e ∙ ap FileAnswer.Read (sym (counted-few at 0 (omega arith) ∙ omega arith)); case-kept = λ d. refl; replay = λ d. refl; table = λ d. refl })
+      (record {
+        answer = e ∙ ap FileAnswer.Read (sym (counted-few at 0 (omega arith) ∙ omega arith));
+        case-kept = λ d. refl;
+        replay = λ d. refl;
+        table =
+            λ d. refl;
+      })
   blocks-stand (x ∷ xs) whole p a w at e few l =
       let r : Rules = rulesOf c in
       let rest : List ℕ = joined xs ++ tail in
       let all-whole = whole x (List·Memᴰ·head refl) in
-      let g : JudgingCall = next c w p at x rest all-whole Outcome.Done in
-      let i : foldReplay r c w p x .block .answer ≡ Outcome.Done → Stands (afterBlocks g xs) c (counted at (foldReplay r c w p x .block .lines)) (second c w p at x rest all-whole) =
-      λ d. blocks-stand xs (λ k m. whole k (List·Memᴰ·tail m)) (g .judging .replay) (g .judging .answer) (g .table) (counted at (foldReplay r c w p x .block .lines)) refl (omega arith) (lent-after r c w p x l d) in
-      rw (append-assoc x (joined xs) tail, block-first (stood p a w .judging) w x e, block-lent r c w p x l) (stand-next c w p at x rest all-whole xs i (foldReplay r c w p x .block .answer) refl)
+      let g : JudgingState = next c w p at x rest all-whole Outcome.Done in
+      let i : foldReplay r c w p x .block .answer ≡ Outcome.Done → Stands (afterBlocks g xs) c (linesCounted at (foldReplay r c w p x .block .lines))
+      (second c w p at x rest all-whole) =
+      λ d. blocks-stand xs (λ k m. whole k (List·Memᴰ·tail m)) (g .replay) (g .answer) (g .weights)
+      (linesCounted at (foldReplay r c w p x .block .lines)) refl (omega arith) (lent-after r c w p x l d) in
+      rw (append-assoc x (joined xs) tail, block-first (stood p a w) x e, block-lent r c w p x l)
+      (stand-next c w p at x rest all-whole xs i (foldReplay r c w p x .block .answer) refl)

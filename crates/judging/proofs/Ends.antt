@@ -20,13 +20,13 @@ use Rattle.definitions.specs.Refusals.{Test, _when_, firstOf}
 use Rattle.definitions.specs.Answers.{outcomeOf}
 use Rattle.definitions.specs.Case.{lentLength, lowerEnd, upperEnd}
 use Rattle.definitions.specs.Valid.{workingWeight, allWeights, withinLimits, someEdge, endOutside, sameEnds, handedOver}
-use Rattle.definitions.specs.Programs.{Judged}
+use Rattle.definitions.specs.declared.Judgement.{Judgement}
 use Rattle.theory.proofs.Validity.{Handed, handed}
 use Rattle.theory.proofs.Replays.{none-iff}
 use Rattle.checker.specs.declared.Replay.{Replay}
 use Rattle.checker.specs.declared.Standing.{Standing}
-use Rattle.checker.specs.Checker.{isHeld, recordOut, endTests, endStanding, endReplay}
-use Rattle.checker_theory.proofs.Logs.{logJudged}
+use Rattle.checker.specs.Checker.{isHeld, recordOut, endingTests, endStanding, endReplay}
+use Rattle.checker_promise.proofs.Logs.{logJudged}
 use Rattle.tables.proofs.Order.{outcome-done, outcome-refused, first-stops}
 use Rattle.judging.specs.Judging.{endJudged, finishTests, finishStanding}
 
@@ -37,7 +37,8 @@ lent l n k x y u = OutsideLimits when l ∷ WrongLength when n ∷ OutOfRange wh
 
 abbrev finished : Bool → Bool → Bool → Bool → Bool → Bool → Bool → List Test
 finished l n k x y u z =
-    OutsideLimits when l ∷ WrongLength when n ∷ OutOfRange when k ∷ EndsNotAscending when x ∷ EdgeRepeated when y ∷ WeightOutOfRange when u ∷ CutShort when z ∷ []
+    OutsideLimits when l ∷ WrongLength when n ∷ OutOfRange when k ∷ EndsNotAscending when x ∷ EdgeRepeated when y ∷ WeightOutOfRange when u ∷ CutShort when
+    z ∷ []
 
 abbrev ended : Bool → Bool → Bool → Bool → Bool → List Test
 ended l k x y z = OutsideLimits when l ∷ OutOfRange when k ∷ EndsNotAscending when x ∷ EdgeRepeated when y ∷ CutShort when z ∷ []
@@ -61,7 +62,8 @@ module _ (b o e : Bool) where
       go false true e i = absurd (i .1 refl)
       go false false e i = refl
 
-  lent-same : (l n x y z u : Bool) → (T b ↔ (outcomeOf (firstOf (ended l (o || e) x y z)) ≡ Outcome.Refused OutOfRange)) → firstOf (lent l n (b || e) x y u) ≡ firstOf (lent l n (o || e) x y u)
+  lent-same : (l n x y z u : Bool) → (T b ↔ (outcomeOf (firstOf (ended l (o || e) x y z)) ≡ Outcome.Refused OutOfRange))
+      → firstOf (lent l n (b || e) x y u) ≡ firstOf (lent l n (o || e) x y u)
   lent-same true n x y z u i = refl
   lent-same false true x y z u i = refl
   lent-same false false x y z u i = ap (λ (k : Bool). firstOf (lent false false k x y u)) (out-same x y z i)
@@ -97,8 +99,9 @@ module _ (h m : Bool) where
       go false false = refl
 
 -- nothing lent but the record is refused: the judgement is by the replay's end
-alike : (at : ℕ) (good : Judged) (l n o e x y u h m part : Bool) → firstOf (lent l n e x y u) ≡ none
-    → endJudged at (outcomeOf (firstOf (finished l n (o || e) x y u (h || m || part)))) good ≡ logJudged at Outcome.Done (outcomeOf (firstOf (ended l (o || e) x y (h || m)))) part good
+alike : (at : ℕ) (good : Judgement) (l n o e x y u h m part : Bool) → firstOf (lent l n e x y u) ≡ none
+    → endJudged at (outcomeOf (firstOf (finished l n (o || e) x y u (h || m || part)))) good ≡ logJudged at Outcome.Done
+    (outcomeOf (firstOf (ended l (o || e) x y (h || m)))) part good
 alike at good true n o e x y u h m part i = absurd (none-some (sym i))
 alike at good false true o e x y u h m part i = absurd (none-some (sym i))
 alike at good false false o true x y u h m part i = absurd (none-some (sym i))
@@ -136,7 +139,7 @@ module _ (c : Case) (w : List ℤ) (p : Replay) where
   heavy = not (allWeights (workingWeight r) c w)
 
   -- what is checked with the end's 5 is checked with the record's
-  out-checked : (b : Bool) → (T b ↔ (outcomeOf (firstOf (endTests r c p)) ≡ Outcome.Refused OutOfRange))
+  out-checked : (b : Bool) → (T b ↔ (outcomeOf (firstOf (endingTests r c p)) ≡ Outcome.Refused OutOfRange))
       → firstOf (handedOver r (workingWeight r) c w false b) ≡ firstOf (handedOver r (workingWeight r) c w false (recordOut r c p))
   out-checked b i = lent-same b (recordOut r c p) outside limit long descending repeated (isHeld (p .due) || p .moved) heavy i
 
@@ -149,25 +152,28 @@ module _ (c : Case) (w : List ℤ) (p : Replay) where
   -- the end's answer, whether it is 5, and what is then checked
   module _ (good : p .standing ≡ Standing.Good) {e : Outcome} (end : e ≡ endReplay r c p) (b : Bool) (out : T b ↔ (e ≡ Outcome.Refused OutOfRange))
       {k : Outcome} (check : k ≡ outcomeOf (firstOf (handedOver r (workingWeight r) c w false b))) where
-    end-is : e ≡ outcomeOf (firstOf (endTests r c p))
+    end-is : e ≡ outcomeOf (firstOf (endingTests r c p))
     unfolding endReplay
     end-is = end ∙ ap (endStanding r c p) good
 
     check-is : k ≡ outcomeOf checked
     check-is = check ∙ ap outcomeOf (out-checked b (λ t. sym end-is ∙ out .0 t, λ d. out .1 (end-is ∙ d)))
 
-    pub end-refused : (part : Bool) {x : Refusal} → k ≡ Outcome.Refused x → Outcome.Refused x ≡ outcomeOf (firstOf (finishTests c w p part))
-    end-refused part d = ap outcomeOf (sym (stops part (outcome-refused (sym d ∙ check-is))))
+    pub finish-refused : (part : Bool) {x : Refusal} → k ≡ Outcome.Refused x → Outcome.Refused x ≡ outcomeOf (firstOf (finishTests c w p part))
+    finish-refused part d = ap outcomeOf (sym (stops part (outcome-refused (sym d ∙ check-is))))
 
     module _ (d : k ≡ Outcome.Done) (part : Bool) where
       pub end-part : part ≡ true → Outcome.Refused CutShort ≡ outcomeOf (firstOf (finishTests c w p part))
-      end-part t = rw t (ap outcomeOf (sym (left-part (isHeld (p .due)) (p .moved) limit long (recordOut r c p || outside) descending repeated heavy (outcome-done (sym d ∙ check-is)))))
+      end-part t = rw t (ap outcomeOf (sym (left-part (isHeld (p .due)) (p .moved) limit long (recordOut r c p || outside) descending repeated heavy
+          (outcome-done (sym d ∙ check-is)))))
 
       pub end-none : part ≡ false → e ≡ outcomeOf (firstOf (finishTests c w p part))
-      end-none t = rw t (end-is ∙ ap outcomeOf (sym (left-none (isHeld (p .due)) (p .moved) limit long (recordOut r c p || outside) descending repeated heavy (outcome-done (sym d ∙ check-is)))))
+      end-none t = rw t (end-is
+          ∙ ap outcomeOf (sym (left-none (isHeld (p .due)) (p .moved) limit long (recordOut r c p || outside) descending repeated heavy
+          (outcome-done (sym d ∙ check-is)))))
 
   -- a table that a call takes
-  pub finish-judged : Handed r (workingWeight r) c w → (at : ℕ) (part : Bool) (good : Judged) (s : Standing) → p .standing ≡ s
+  pub finish-judged : Handed r (workingWeight r) c w → (at : ℕ) (part : Bool) (good : Judgement) (s : Standing) → p .standing ≡ s
       → endJudged at (finishStanding c w p part (p .standing)) good ≡ logJudged at Outcome.Done (endReplay r c p) part good
   unfolding endReplay
   finish-judged h at part good (Standing.Refused x) e = rw e

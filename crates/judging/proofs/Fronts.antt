@@ -26,16 +26,17 @@ use Rattle.definitions.specs.Rules.{Rules, rulesIn, coherent}
 use Rattle.definitions.specs.Refusals.{firstOf}
 use Rattle.definitions.specs.Case.{lentLength}
 use Rattle.definitions.specs.Lines.{lineLength}
-use Rattle.definitions.specs.CaseFiles.{CaseDue, dues, dueTests, Reading, took, headTests, headed, CaseCall, caseRefused, isCut, firstLine, afterFirst, readDues, headRefusal, readCase, endTests, restRefusal, nothingAfter, readCaseAlone, caseSize}
+use Rattle.definitions.specs.CaseFiles.{CaseDue, dues, dueTests, Reading, took, headTests, headed, CaseCall, caseRefused, isCut, firstLine, afterFirst}
+use Rattle.definitions.specs.CaseFiles.{readDues, headRefusal, readCase, endTests, restRefusal, nothingAfter, readCaseAlone, caseSize}
 use Rattle.definitions.specs.Places.{longestLines, longestCase}
 use Rattle.definitions.specs.Programs.{tableFor, pressRead, pressPrints}
-use Rattle.theory.proofs.CaseDues.{run-length, dues-run}
-use Rattle.theory.proofs.CaseTests.{CaseKinds, case-kinds, head-passed}
+use Rattle.case_theory.proofs.CaseDues.{run-length, dues-run}
+use Rattle.case_theory.proofs.CaseTests.{CaseKinds, case-kinds, head-passed}
 
 -- the line of a refusal, or the lines used
-abbrev pub lineOf : FileAnswer → ℕ
-lineOf (FileAnswer.Read lines) = lines
-lineOf (FileAnswer.Refused x at) = at
+abbrev pub frontLine : FileAnswer → ℕ
+frontLine (FileAnswer.Read lines) = lines
+frontLine (FileAnswer.Refused x at) = at
 
 module _ (r : Rules) where
   -- a front that holds a line
@@ -75,14 +76,16 @@ module _ (book : Rulebook) where
     unfolding turn tried
     turns s = refl
 
-    turn-same : (b : Bool) (l : Option Line) (o : Option Refusal) (s t : List ℕ) → readDues book (took g due l) (at + 1) ds s ≡ readDues book (took g due l) (at + 1) ds t → turn b l o s ≡ turn b l o t
+    turn-same : (b : Bool) (l : Option Line) (o : Option Refusal) (s t : List ℕ)
+        → readDues book (took g due l) (at + 1) ds s ≡ readDues book (took g due l) (at + 1) ds t → turn b l o s ≡ turn b l o t
     unfolding turn
     turn-same true l o s t e = refl
     turn-same false l none s t e = e
     turn-same false l (some x) s t e = refl
 
-    turn-line : (b : Bool) (l : Option Line) (o : Option Refusal) (s : List ℕ) → lineOf (readDues book (took g due l) (at + 1) ds s .read .answer) ≤ at + 1 + length ds
-        → lineOf (turn b l o s .read .answer) ≤ at + suc (length ds)
+    turn-line : (b : Bool) (l : Option Line) (o : Option Refusal) (s : List ℕ)
+        → frontLine (readDues book (took g due l) (at + 1) ds s .read .answer) ≤ at + 1 + length ds
+        → frontLine (turn b l o s .read .answer) ≤ at + suc (length ds)
     unfolding turn
     turn-line true l o s h = omega arith
     turn-line false l none s h = omega arith
@@ -96,17 +99,19 @@ module _ (book : Rulebook) where
       let long : lineLength (r .amountWidth) ≤ length s = omega arith in
       let l : Option Line = firstLine r s in
       turns g at due ds (s ++ rest)
-      ∙ ap₂ (λ (b : Bool) (l : Option Line). turn g at due ds b l (tried g at due ds l) (afterFirst r (s ++ rest))) (cut-front r s rest long) (line-front r s rest long)
+      ∙ ap₂ (λ (b : Bool) (l : Option Line). turn g at due ds b l (tried g at due ds l) (afterFirst r (s ++ rest))) (cut-front r s rest long)
+      (line-front r s rest long)
       ∙ ap (turn g at due ds (isCut r s) l (tried g at due ds l)) (after-front r s rest long)
       ∙ turn-same g at due ds (isCut r s) l (tried g at due ds l) (afterFirst r s ++ rest) (afterFirst r s)
       (dues-front ds (took g due l) (at + 1) (afterFirst r s) rest (rw length-drop (omega arith)))
       ∙ sym (turns g at due ds s)
 
-  dues-line : (ds : List CaseDue) (g : Reading) (at : ℕ) (s : List ℕ) → lineOf (readDues book g at ds s .read .answer) ≤ at + length ds
+  dues-line : (ds : List CaseDue) (g : Reading) (at : ℕ) (s : List ℕ) → frontLine (readDues book g at ds s .read .answer) ≤ at + length ds
   dues-line [] g at s = omega arith
   dues-line (due ∷ ds) g at s =
       rw (turns g at due ds s)
-      (turn-line g at due ds (isCut r s) (firstLine r s) (tried g at due ds (firstLine r s)) (afterFirst r s) (dues-line ds (took g due (firstLine r s)) (at + 1) (afterFirst r s)))
+      (turn-line g at due ds (isCut r s) (firstLine r s) (tried g at due ds (firstLine r s)) (afterFirst r s)
+      (dues-line ds (took g due (firstLine r s)) (at + 1) (afterFirst r s)))
 
   -- ---- the head, by its refusal, its line, and what is left
   module _ (w : List ℤ) where
@@ -124,19 +129,20 @@ module _ (book : Rulebook) where
     unfolding opened
     opens t = refl
 
-    opened-same : (l : Option Line) (s t : List ℕ) → readDues book (record { case = headed book l; table = w }) 1 (dues (headed book l)) s ≡ readDues book (record { case = headed book l; table = w }) 1 (dues (headed book l)) t
+    opened-same : (l : Option Line) (s t : List ℕ) → readDues book (record { case = headed book l; table = w }) 1 (dues (headed book l)) s ≡ readDues book
+        (record { case = headed book l; table = w }) 1 (dues (headed book l)) t
         → opened none l s ≡ opened none l t
     unfolding opened
     opened-same l s t e = ap (λ (x : CaseCall). if eqb (length w) (lentLength (headed book l)) then x else caseRefused book WrongLength 0 w) e
 
-    opened-line : (l : Option Line) (s : List ℕ) (k : ℕ) → 1 + length (dues (headed book l)) ≤ k → lineOf (opened none l s .read .answer) ≤ k
+    opened-line : (l : Option Line) (s : List ℕ) (k : ℕ) → 1 + length (dues (headed book l)) ≤ k → frontLine (opened none l s .read .answer) ≤ k
     unfolding opened
     opened-line l s k h = go (eqb (length w) (lentLength (headed book l)))
       where
         g : Reading
         g = record { case = headed book l; table = w }
 
-        go : (b : Bool) → lineOf ((if b then readDues book g 1 (dues (headed book l)) s else caseRefused book WrongLength 0 w) .read .answer) ≤ k
+        go : (b : Bool) → frontLine ((if b then readDues book g 1 (dues (headed book l)) s else caseRefused book WrongLength 0 w) .read .answer) ≤ k
         go true = omega (arith, dues-line (dues (headed book l)) g 1 s)
         go false = omega arith
 
@@ -144,13 +150,13 @@ module _ (book : Rulebook) where
     unfolding opened
     opened-refused x l s t = refl
 
-    refused-line : (x : Refusal) (l : Option Line) (s : List ℕ) → lineOf (opened (some x) l s .read .answer) ≡ 0
+    refused-line : (x : Refusal) (l : Option Line) (s : List ℕ) → frontLine (opened (some x) l s .read .answer) ≡ 0
     unfolding opened
     refused-line x l s = refl
 
 -- the size by the head's refusal and its line
-unfoldable pub sized : Rulebook → Option Refusal → Option Line → CaseSize
-sized b o l =
+unfoldable pub front-sized : Rulebook → Option Refusal → Option Line → CaseSize
+front-sized b o l =
     elim o [
       | none ↦ CaseSize.Size (headed b l .n) (headed b l .d) (headed b l .m) (lentLength (headed b l))
       | some x ↦ CaseSize.Refused x
@@ -164,7 +170,8 @@ module _ (book : Rulebook) where
   kinds = case-kinds (coherent book)
 
   -- a head that is taken asks for no more
-  head-lines : (b : Bool) (l : Option Line) → (if b then some CutShort else firstOf (headTests rules l)) ≡ none → 1 + length (dues (headed book l)) ≤ longestLines rules
+  head-lines : (b : Bool) (l : Option Line) → (if b then some CutShort else firstOf (headTests rules l)) ≡ none
+      → 1 + length (dues (headed book l)) ≤ longestLines rules
   head-lines true l e = absurd (none-some (sym e))
   head-lines false none e = absurd (none-some (sym e))
   head-lines false (some l) e =
@@ -172,15 +179,17 @@ module _ (book : Rulebook) where
       let c : Case = headed book (some l) in
       let p : c .n * c .d ≤ rules .variables * rules .values = mul-le-mul (limits .variables-most) (limits .values-most) in
       let q : c .d * c .d ≤ rules .values * rules .values = mul-le-mul (limits .values-most) (limits .values-most) in
-      let u : c .m * (1 + c .d * c .d) ≤ rules .edges * (1 + rules .values * rules .values) = mul-le-mul {m₁ = 1 + c .d * c .d} (limits .edges-most) (omega arith) in
+      let u : c .m * (1 + c .d * c .d) ≤ rules .edges * (1 + rules .values * rules .values) =
+      mul-le-mul {m₁ = 1 + c .d * c .d} (limits .edges-most) (omega arith) in
       let v : suc (c .d * c .d) ≡ 1 + c .d * c .d = omega arith in
       let k = run-length (dues-run c) in
       omega (arith, ap (λ (i : ℕ). c .m * i) v)
 
-  pub case-line : (t : List ℕ) (w : List ℤ) → lineOf (readCase book t w .read .answer) ≤ longestLines rules
+  pub case-line : (t : List ℕ) (w : List ℤ) → frontLine (readCase book t w .read .answer) ≤ longestLines rules
   case-line t w = rw (opens book w t) (go (headRefusal rules t) refl)
     where
-      go : (o : Option Refusal) → headRefusal rules t ≡ o → lineOf (opened book w o (firstLine rules t) (afterFirst rules t) .read .answer) ≤ longestLines rules
+      go : (o : Option Refusal) → headRefusal rules t ≡ o → frontLine
+          (opened book w o (firstLine rules t) (afterFirst rules t) .read .answer) ≤ longestLines rules
       go none e = opened-line book w (firstLine rules t) (afterFirst rules t) (longestLines rules) (head-lines (isCut rules t) (firstLine rules t) e)
       go (some x) e = omega (arith, refused-line book w x (firstLine rules t) (afterFirst rules t))
 
@@ -190,7 +199,8 @@ module _ (book : Rulebook) where
     long = omega (arith, mul-le-mul-left {m = 1} {n = longestLines rules} (lineLength (rules .amountWidth)) (omega arith))
 
     head-front : headRefusal rules (front ++ rest) ≡ headRefusal rules front
-    head-front = ap₂ (λ (b : Bool) (l : Option Line). if b then some CutShort else firstOf (headTests rules l)) (cut-front rules front rest long) (line-front rules front rest long)
+    head-front = ap₂ (λ (b : Bool) (l : Option Line). if b then some CutShort else firstOf (headTests rules l)) (cut-front rules front rest long)
+        (line-front rules front rest long)
 
     dues-fit : (k : ℕ) → 1 + k ≤ longestLines rules → k * lineLength (rules .amountWidth) ≤ length (afterFirst rules front)
     dues-fit k g =
@@ -207,16 +217,18 @@ module _ (book : Rulebook) where
         ∙ go (headRefusal rules front) refl
         ∙ sym (opens book w front)
       where
-        go : (o : Option Refusal) → headRefusal rules front ≡ o → opened book w o (firstLine rules front) (afterFirst rules front ++ rest) ≡ opened book w o (firstLine rules front) (afterFirst rules front)
+        go : (o : Option Refusal) → headRefusal rules front ≡ o → opened book w o (firstLine rules front) (afterFirst rules front ++ rest) ≡ opened book w o
+            (firstLine rules front) (afterFirst rules front)
         go (some x) e = opened-refused book w x (firstLine rules front) (afterFirst rules front ++ rest) (afterFirst rules front)
         go none e =
             let l : Option Line = firstLine rules front in
             opened-same book w l (afterFirst rules front ++ rest) (afterFirst rules front)
-            (dues-front book (dues (headed book l)) (record { case = headed book l; table = w }) 1 (afterFirst rules front) rest (dues-fit (length (dues (headed book l))) (head-lines (isCut rules front) l e)))
+            (dues-front book (dues (headed book l)) (record { case = headed book l; table = w }) 1 (afterFirst rules front) rest
+            (dues-fit (length (dues (headed book l))) (head-lines (isCut rules front) l e)))
 
     size-front : caseSize book (front ++ rest) ≡ caseSize book front
-    unfolding sized
-    size-front = ap₂ (sized book) head-front (line-front rules front rest long)
+    unfolding front-sized
+    size-front = ap₂ (front-sized book) head-front (line-front rules front rest long)
 
   -- a front that holds the longest case or the whole input
   pub case-front : (front rest : List ℕ) → (longestCase rules ≤ length front) ⊎ (rest ≡ [])
@@ -256,13 +268,14 @@ module _ (book : Rulebook) (front rest : List ℕ) (h : longestCase (rulesIn boo
       let m : lines * l ≤ longestLines under * l = mul-le-mul-right l few in
       rw length-drop (omega (arith, mul-comm (longestLines under) l))
 
-  ends-front : (call : CaseCall) (a : FileAnswer) → lineOf a ≤ longestLines under → nothingAfter book (front ++ rest) call a ≡ nothingAfter book front call a
+  ends-front : (call : CaseCall) (a : FileAnswer) → frontLine a ≤ longestLines under → nothingAfter book (front ++ rest) call a ≡ nothingAfter book front call a
   unfolding ended
   ends-front call (FileAnswer.Refused x at) few = refl
   ends-front call (FileAnswer.Read lines) few =
       let k : ℕ = lines * lineLength (under .amountWidth) in
       let left = line-left lines few in
-      ap (ended call lines) (ap (restRefusal under) (drop-append-le k front rest (omega (arith, length-drop k front))) ∙ rest-front under (drop k front) rest left)
+      ap (ended call lines) (ap (restRefusal under) (drop-append-le k front rest (omega (arith, length-drop k front)))
+      ∙ rest-front under (drop k front) rest left)
 
   pub alone-front : (w : List ℤ) → readCaseAlone book (front ++ rest) w ≡ readCaseAlone book front w
   alone-front w =
@@ -277,4 +290,5 @@ press-front book front rest (inr e) = let n : front ++ rest ≡ front = rw e (ap
 press-front book front rest (inl h) =
     let long : longestCase (rulesIn book) ≤ length front = omega arith in
     ap (λ (k : CaseCall). pressRead k (k .read .answer))
-    (ap (λ (s : CaseSize). readCaseAlone book (front ++ rest) (tableFor s)) (size-front book front rest long) ∙ alone-front book front rest h (tableFor (caseSize book front)))
+    (ap (λ (s : CaseSize). readCaseAlone book (front ++ rest) (tableFor s)) (size-front book front rest long)
+    ∙ alone-front book front rest h (tableFor (caseSize book front)))

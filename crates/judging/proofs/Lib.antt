@@ -4,4 +4,3 @@ pub mod Tables
 pub mod Blocks
 pub mod Ends
 pub mod Prints
-pub mod Calls

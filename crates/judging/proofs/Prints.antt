@@ -23,17 +23,18 @@ use Rattle.definitions.specs.Valid.{workingWeight, valid}
 use Rattle.definitions.specs.Lines.{lineLength, wholeLines, linesIn, hasPart, overwritten}
 use Rattle.definitions.specs.Places.{longestLines}
 use Rattle.definitions.specs.CaseFiles.{CaseCall, readCase, caseSize}
-use Rattle.definitions.specs.Programs.{Judged, accepted, refused, judgedText, tableFor, judgeLog, judgeRead, judge, replayPrints}
+use Rattle.definitions.specs.declared.Judgement.{Judgement}
+use Rattle.definitions.specs.Programs.{judgementText, tableFor, judgeLog, judgeRead, judge, replayPrints}
 use Rattle.checker.specs.Checker.{BlockCall, freshReplay, endReplay, foldReplay}
 use Rattle.theory.proofs.Validity.{Handed}
 use Rattle.theory.proofs.Replays.{sound-fresh, sound-after, handed-after}
-use Rattle.theory.proofs.CaseReads.{read-rulebook}
-use Rattle.theory.proofs.CaseTexts.{IsText, written-read, text-length, lineCount}
-use Rattle.checker_theory.proofs.Logs.{logJudged, fresh-lent, log-judged, log-table, log-rounds}
-use Rattle.texts.specs.Texts.{textRoom, greatestCount, writeRefusedCall, writeAcceptedCall}
+use Rattle.case_theory.proofs.CaseReads.{read-rulebook}
+use Rattle.case_theory.proofs.CaseTexts.{IsText, written-read, text-length, lineCount}
+use Rattle.checker_promise.proofs.Logs.{logJudged, fresh-lent, log-judged, log-table, log-rounds}
+use Rattle.texts.specs.Texts.{textRoom, greatestCount, writeRefusedCall, writeAcceptedCall, writeJudgementCall}
 use Rattle.texts.proofs.Answers.{text-done}
-use Rattle.judging.specs.Judging.{JudgingCall, answerAt, writeJudged, startJudging, judgedFrom, finishJudging}
-use Rattle.judging.specs.Cuts.{Cut, afterBlocks, printedOf}
+use Rattle.judging.specs.Judging.{JudgingState, answerAt, startJudging, judgementFrom, judgementOf, finishJudging}
+use Rattle.judging.specs.Cuts.{Cut, afterBlocks, replayPrinted}
 use Rattle.judging.proofs.Fronts.{case-line, case-front}
 use Rattle.judging.proofs.Blocks.{counted-few, fold-most, Stands, stays, blocks-stand}
 use Rattle.judging.proofs.Ends.{finish-judged}
@@ -50,22 +51,25 @@ module _ (width : ℕ) where
       go true e = refl
       go false e = cc
 
-  joined-mod : (xs : List (List ℕ)) → ((x : List ℕ) → x ∈ xs → hasPart width x ≡ false) → (tail : List ℕ) → length (joined xs ++ tail) % lineLength width ≡ length tail % lineLength width
+  joined-mod : (xs : List (List ℕ)) → ((x : List ℕ) → x ∈ xs → hasPart width x ≡ false) → (tail : List ℕ)
+      → length (joined xs ++ tail) % lineLength width ≡ length tail % lineLength width
   joined-mod [] h tail = refl
   joined-mod (x ∷ xs) h tail =
       ap (λ (s : List ℕ). length s % lineLength width) (append-assoc x (joined xs) tail)
       ∙ whole-mod x (joined xs ++ tail) (h x (List·Memᴰ·head refl)) ∙ joined-mod xs (λ k m. h k (List·Memᴰ·tail m)) tail
 
-  part-is : (xs : List (List ℕ)) → ((x : List ℕ) → x ∈ xs → hasPart width x ≡ false) → (tail : List ℕ) → length tail < lineLength width
+  part-left : (xs : List (List ℕ)) → ((x : List ℕ) → x ∈ xs → hasPart width x ≡ false) → (tail : List ℕ) → length tail < lineLength width
       → hasPart width (joined xs ++ tail) ≡ not (eqb (length tail) 0)
-  part-is xs h tail short = ap (λ (n : ℕ). not (eqb n 0)) (joined-mod xs h tail ∙ mod-eq-of-lt short)
+  part-left xs h tail short = ap (λ (n : ℕ). not (eqb n 0)) (joined-mod xs h tail ∙ mod-eq-of-lt short)
 
   -- lines passed, and the whole lines after them
-  lines-after : (lines : ℕ) (t : List ℕ) → lines * lineLength width ≤ length t → lines + wholeLines width (drop (lines * lineLength width) t) ≡ wholeLines width t
+  lines-after : (lines : ℕ) (t : List ℕ) → lines * lineLength width ≤ length t
+      → lines + wholeLines width (drop (lines * lineLength width) t) ≡ wholeLines width t
   lines-after lines t h =
       let k : ℕ = lineLength width in
       let e : length t ≡ length t - lines * k + lines * k = omega arith in
-      let d : length t / k ≡ (length t - lines * k) / k + lines = ap (λ (n : ℕ). n / k) e ∙ add-mul-div-right (length t - lines * k) lines {z = k} (omega arith) in
+      let d : length t / k ≡ (length t - lines * k) / k + lines = ap (λ (n : ℕ). n / k) e
+      ∙ add-mul-div-right (length t - lines * k) lines {z = k} (omega arith) in
       rw length-drop (omega arith)
 
 -- the lines of a case that is read lie in the input's front
@@ -84,17 +88,18 @@ lines-within book front w {lines} e =
 -- ---- the text of a judgement
 
 -- the count in it
-abbrev countOf : Judged → ℕ
-countOf (accepted rounds bound) = rounds
-countOf (refused x at) = at
+abbrev countOf : Judgement → ℕ
+countOf (Judgement.Accepted rounds bound) = rounds
+countOf (Judgement.Refused x at) = at
 
-judged-written : (out : List ℕ) (j : Judged) → textRoom ≤ length out → countOf j ≤ greatestCount
-    → writeJudged out j ≡ record { answer = Written.Bytes (length (judgedText j)); out = overwritten (judgedText j) out }
+judged-written : (out : List ℕ) (j : Judgement) → textRoom ≤ length out → countOf j ≤ greatestCount
+    → writeJudgementCall out j ≡ record { answer = Written.Bytes (length (judgementText j)); out = overwritten (judgementText j) out }
 unfolding writeRefusedCall writeAcceptedCall
-judged-written out (accepted rounds bound) h g = text-done out rounds (judgedText (accepted rounds bound)) h g
-judged-written out (refused x at) h g = text-done out at (judgedText (refused x at)) h g
+judged-written out (Judgement.Accepted rounds bound) h g = text-done out rounds (judgementText (Judgement.Accepted rounds bound)) h g
+judged-written out (Judgement.Refused x at) h g = text-done out at (judgementText (Judgement.Refused x at)) h g
 
-log-count : (k at : ℕ) (answer end : Outcome) (part : Bool) (rounds : ℕ) (bound : ℤ) → at ≤ k → rounds ≤ k → countOf (logJudged at answer end part (accepted rounds bound)) ≤ k
+log-count : (k at : ℕ) (answer end : Outcome) (part : Bool) (rounds : ℕ) (bound : ℤ) → at ≤ k → rounds ≤ k
+    → countOf (logJudged at answer end part (Judgement.Accepted rounds bound)) ≤ k
 log-count k at (Outcome.Refused x) end part rounds bound p q = p
 log-count k at Outcome.Done (Outcome.Refused x) part rounds bound p q = p
 log-count k at Outcome.Done Outcome.Done true rounds bound p q = p
@@ -129,19 +134,23 @@ module _ (c : Case) (w : List ℤ) (v : T (valid (rulesOf c) c w)) (log : List �
       (omega (arith, sound-after rules _ (linesIn (rules .amountWidth) log) (sound-fresh rules c w v) .few, whole .rounds-fit))
 
   -- what stands after the blocks is judged as the log is
-  stands-judged : {g : JudgingCall} {lines : ℕ} (part : Bool) → Stands g c lines all → lines + all .block .lines ≤ greatestCount
-      → judgedFrom (g .judging) (g .table) part (g .judging .answer)
-      ≡ logJudged (lines + all .block .lines) (all .block .answer) (endReplay rules c (all .block .replay)) part (accepted (all .block .replay .rounds) (upperBound c (all .table)))
-  stands-judged {g} {lines} part s h = go (all .block .answer) refl (s .answer ∙ ap (λ (n : ℕ). answerAt n (all .block .answer)) (counted-few lines (all .block .lines) h))
+  stands-judged : {g : JudgingState} {lines : ℕ} (part : Bool) → Stands g c lines all → lines + all .block .lines ≤ greatestCount
+      → judgementFrom g part (g .answer)
+      ≡ logJudged (lines + all .block .lines) (all .block .answer) (endReplay rules c (all .block .replay)) part
+      (Judgement.Accepted (all .block .replay .rounds) (upperBound c (all .table)))
+  stands-judged {g} {lines} part s h =
+      go (all .block .answer) refl (s .answer ∙ ap (λ (n : ℕ). answerAt n (all .block .answer)) (counted-few lines (all .block .lines) h))
     where
-      go : (o : Outcome) → all .block .answer ≡ o → g .judging .answer ≡ answerAt (lines + all .block .lines) o
-          → judgedFrom (g .judging) (g .table) part (g .judging .answer)
-          ≡ logJudged (lines + all .block .lines) o (endReplay rules c (all .block .replay)) part (accepted (all .block .replay .rounds) (upperBound c (all .table)))
-      go (Outcome.Refused x) d e = ap (judgedFrom (g .judging) (g .table) part) e
+      go : (o : Outcome) → all .block .answer ≡ o → g .answer ≡ answerAt (lines + all .block .lines) o
+          → judgementFrom g part (g .answer)
+          ≡ logJudged (lines + all .block .lines) o (endReplay rules c (all .block .replay)) part
+          (Judgement.Accepted (all .block .replay .rounds) (upperBound c (all .table)))
+      go (Outcome.Refused x) d e = ap (judgementFrom g part) e
       go Outcome.Done d e =
-          ap (judgedFrom (g .judging) (g .table) part) e
+          ap (judgementFrom g part) e
           ∙ rw (s .case-kept d, s .replay d, s .table d)
-          (finish-judged c (all .table) (all .block .replay) handed-all (lines + all .block .lines) part (accepted (all .block .replay .rounds) (upperBound c (all .table))) (all .block .replay .standing) refl)
+          (finish-judged c (all .table) (all .block .replay) handed-all (lines + all .block .lines) part
+          (Judgement.Accepted (all .block .replay .rounds) (upperBound c (all .table))) (all .block .replay .standing) refl)
 
 -- ---- a cut of an input that is read under a rulebook
 module _ (book : Rulebook) (t : List ℕ) (cut : Cut book t) (short : wholeLines (rulesIn book .amountWidth) t ≤ greatestCount) where
@@ -151,11 +160,11 @@ module _ (book : Rulebook) (t : List ℕ) (cut : Cut book t) (short : wholeLines
   abbrev call : CaseCall
   call = readCase book (cut .front) lent
 
-  abbrev after : JudgingCall
+  abbrev after : JudgingState
   after = afterBlocks (startJudging book (cut .front) lent) (cut .blocks)
 
-  abbrev judged : Judged
-  judged = judgedFrom (after .judging) (after .table) (not (eqb (length (cut .tail)) 0)) (after .judging .answer)
+  abbrev judged : Judgement
+  judged = judgementOf after (not (eqb (length (cut .tail)) 0))
 
   -- the whole input is read as the front is
   same-read : readCase book t (tableFor (caseSize book t)) ≡ call
@@ -176,23 +185,21 @@ module _ (book : Rulebook) (t : List ℕ) (cut : Cut book t) (short : wholeLines
   abbrev w : List ℤ
   w = call .table
 
-  abbrev begun : JudgingCall
-  begun = record {
-    judging = record { case = c; replay = freshReplay (rulesOf c) c w; answer = call .read .answer };
-    table = w;
-  }
+  abbrev begun : JudgingState
+  begun = record { case = c; weights = w; replay = freshReplay (rulesOf c) c w; answer = call .read .answer }
 
   begins : startJudging book (cut .front) lent ≡ begun
   unfolding startJudging
   begins = refl
 
   right-refused : {x : Refusal} {at : ℕ} → call .read .answer ≡ FileAnswer.Refused x at → Right
+  unfolding judgementOf
   right-refused {x} {at} e =
-      let stay : after ≡ begun = ap (λ (g : JudgingCall). afterBlocks g (cut .blocks)) begins ∙ stays begun e (cut .blocks) in
-      let is : judge book t ≡ refused x at = judge-is ∙ ap (judgeRead t call) e in
+      let stay : after ≡ begun = ap (λ (g : JudgingState). afterBlocks g (cut .blocks)) begins ∙ stays begun e (cut .blocks) in
+      let is : judge book t ≡ Judgement.Refused x at = judge-is ∙ ap (judgeRead t call) e in
       let line : at ≤ longestLines (rulesIn book) = rw e at (case-line book (cut .front) lent) in (
-        ap (λ (g : JudgingCall). judgedFrom (g .judging) (g .table) (not (eqb (length (cut .tail)) 0)) (g .judging .answer)) stay
-            ∙ ap (judgedFrom (begun .judging) (begun .table) (not (eqb (length (cut .tail)) 0))) e ∙ sym is,
+        ap (λ (g : JudgingState). judgementFrom g (not (eqb (length (cut .tail)) 0)) (g .answer)) stay
+            ∙ ap (judgementFrom begun (not (eqb (length (cut .tail)) 0))) e ∙ sym is,
         rw is (omega (arith, few-lines (coherent book))),
       )
 
@@ -232,17 +239,21 @@ module _ (book : Rulebook) (t : List ℕ) (cut : Cut book t) (short : wholeLines
     stand : Stands after c lines (all c w (text .accepted) log)
     stand =
         rw begins
-        (blocks-stand c (cut .tail) tail-short (cut .blocks) blocks-whole (freshReplay (rulesOf c) c w) (call .read .answer) w lines e (omega (arith, lines-few)) (fresh-lent (coherent (c .rulebook)) c w (text .accepted) log))
+        (blocks-stand c (cut .tail) tail-short (cut .blocks) blocks-whole (freshReplay (rulesOf c) c w) (call .read .answer) w lines e
+        (omega (arith, lines-few)) (fresh-lent (coherent (c .rulebook)) c w (text .accepted) log))
 
     right-read : Right
+    unfolding judgementOf
     right-read =
         let b : BlockCall = all c w (text .accepted) log in
         let is = judge-is ∙ ap (judgeRead t call) e ∙ ap (judgeLog c w lines) log-is ∙ log-judged c w (text .accepted) log lines in
-        let part = part-is width (cut .blocks) blocks-whole (cut .tail) tail-short in (
+        let part = part-left width (cut .blocks) blocks-whole (cut .tail) tail-short in (
           stands-judged c w (text .accepted) log (not (eqb (length (cut .tail)) 0)) stand lines-few
-              ∙ ap (λ (p : Bool). logJudged (lines + b .block .lines) (b .block .answer) (endReplay (rulesOf c) c (b .block .replay)) p (accepted (b .block .replay .rounds) (upperBound c (b .table)))) (sym part)
+              ∙ ap (λ (p : Bool). logJudged (lines + b .block .lines) (b .block .answer) (endReplay (rulesOf c) c (b .block .replay)) p
+              (Judgement.Accepted (b .block .replay .rounds) (upperBound c (b .table)))) (sym part)
               ∙ sym is,
-          rw is (log-count greatestCount (lines + b .block .lines) (b .block .answer) (endReplay (rulesOf c) c (b .block .replay)) (hasPart width log) (b .block .replay .rounds) (upperBound c (b .table))
+          rw is (log-count greatestCount (lines + b .block .lines) (b .block .answer) (endReplay (rulesOf c) c (b .block .replay)) (hasPart width log)
+              (b .block .replay .rounds) (upperBound c (b .table))
               lines-few (rounds-few c w (text .accepted) log)),
         )
 
@@ -252,8 +263,9 @@ module _ (book : Rulebook) (t : List ℕ) (cut : Cut book t) (short : wholeLines
 
   -- for every input of at most so many lines and every cut of it, what is written is what `replay` prints
   pub replay-printed : (out : List ℕ) → textRoom ≤ length out
-      → printedOf book (cut .front) (cut .blocks) (cut .tail) out ≡ record { answer = Written.Bytes (length (replayPrints book t)); out = overwritten (replayPrints book t) out }
+      → replayPrinted book (cut .front) (cut .blocks) (cut .tail) out ≡ record
+      { answer = Written.Bytes (length (replayPrints book t)); out = overwritten (replayPrints book t) out }
   unfolding finishJudging
   replay-printed out room =
       let (p, q) = right (call .read .answer) refl in
-      ap (writeJudged out) p ∙ judged-written out (judge book t) room q
+      ap (writeJudgementCall out) p ∙ judged-written out (judge book t) room q

@@ -3,7 +3,7 @@ use mathlib.Core.Path.{_≡_, refl, sym, ap, _∙_}
 use mathlib.Core.Bool.{Bool, true, false}
 use mathlib.Core.Option.{Option, none, some}
 use mathlib.Core.List.{List, _∷_}
-use Prim.Native.Nat.{ℕ, zero, suc, _+_, _*_, _≤_}
+use Prim.Native.Nat.{ℕ, zero, suc, _*_, _≤_}
 use native.Mathlib.Nat.{mul-le-mul}
 use native.Mathlib.Omega.{arith}
 use lib.IntN.{ℤ, pos}
@@ -22,8 +22,8 @@ use Rattle.definitions.specs.Refusals.{firstOf}
 use Rattle.definitions.specs.Case.{lentLength}
 use Rattle.definitions.specs.CaseFiles.{headTests, headed, isCut, firstLine, headRefusal, caseSize}
 use Rattle.definitions.specs.Programs.{tableFor}
-use Rattle.theory.proofs.CaseTests.{case-kinds, head-passed}
-use Rattle.judging.proofs.Fronts.{sized}
+use Rattle.case_theory.proofs.CaseTests.{case-kinds, head-passed}
+use Rattle.judging.proofs.Fronts.{front-sized}
 
 module _ (book : Rulebook) where
   abbrev r : Rules
@@ -42,10 +42,10 @@ module _ (book : Rulebook) where
       omega arith
 
   table-long : (t : List ℕ) → length (tableFor (caseSize book t)) ≤ longestTable r
-  unfolding sized
+  unfolding front-sized
   table-long t = go (headRefusal r t) refl
     where
-      go : (o : Option Refusal) → headRefusal r t ≡ o → length (tableFor (sized book o (firstLine r t))) ≤ longestTable r
+      go : (o : Option Refusal) → headRefusal r t ≡ o → length (tableFor (front-sized book o (firstLine r t))) ≤ longestTable r
       go none e = let c : Case = headed book (firstLine r t) in omega (arith, length-replicate (lentLength c) (pos 0), head-long (isCut r t) (firstLine r t) e)
       go (some x) e = omega arith
 

@@ -11,12 +11,12 @@ use Rattle.integers.specs.Lists.{_∈_}
 use Rattle.definitions.specs.declared.Rulebook.{Rulebook}
 use Rattle.definitions.specs.declared.FileAnswer.{FileAnswer}
 use Rattle.definitions.specs.Rules.{rulesIn}
-use Rattle.definitions.specs.Calls.{WriteCall}
+use Rattle.calls.specs.Calls.{WriteCall}
 use Rattle.definitions.specs.Lines.{lineLength, hasPart}
 use Rattle.definitions.specs.Places.{longestCase}
 use Rattle.definitions.specs.CaseFiles.{caseSize, readCase}
 use Rattle.definitions.specs.Programs.{tableFor}
-use Rattle.judging.specs.Judging.{JudgingCall, startJudging, blockJudging, finishJudging}
+use Rattle.judging.specs.Judging.{JudgingState, startJudging, blockJudging, finishJudging}
 
 -- a cut of the input t
 pub record Cut (b : Rulebook) (t : List ℕ) : Type 0 where
@@ -33,13 +33,12 @@ pub record Cut (b : Rulebook) (t : List ℕ) : Type 0 where
   pub log : (lines : ℕ) → readCase b front (tableFor (caseSize b front)) .read .answer ≡ FileAnswer.Read lines
       → drop (lines * lineLength (rulesIn b .amountWidth)) t ≡ joined blocks ++ tail
 
--- one block after another, each with the table and the record that the last one left
-abbrev pub afterBlocks : JudgingCall → List (List ℕ) → JudgingCall
-afterBlocks g [] = g
-afterBlocks g (x ∷ xs) = afterBlocks (blockJudging (g .judging) (g .table) x) xs
+-- one block after another, each from what the last one left
+abbrev pub afterBlocks : JudgingState → List (List ℕ) → JudgingState
+afterBlocks s [] = s
+afterBlocks s (x ∷ xs) = afterBlocks (blockJudging s x) xs
 
 -- what is printed: the start, the blocks, the finish
-abbrev pub printedOf : Rulebook → List ℕ → List (List ℕ) → List ℕ → List ℕ → WriteCall
-printedOf b front blocks tail out =
-    let g = afterBlocks (startJudging b front (tableFor (caseSize b front))) blocks in
-    finishJudging (g .judging) (g .table) (not (eqb (length tail) 0)) out
+abbrev pub replayPrinted : Rulebook → List ℕ → List (List ℕ) → List ℕ → List ℕ → WriteCall
+replayPrinted b front blocks tail out =
+    finishJudging (afterBlocks (startJudging b front (tableFor (caseSize b front))) blocks) (not (eqb (length tail) 0)) out

@@ -13,23 +13,30 @@ use Rattle.definitions.specs.Refusals.{Test, _when_, firstOf}
 use Rattle.definitions.specs.Answers.{outcomeOf}
 use Rattle.definitions.specs.Case.{upperBound}
 use Rattle.definitions.specs.Valid.{workingWeight, handedOver}
-use Rattle.definitions.specs.Calls.{WriteCall}
+use Rattle.calls.specs.Calls.{WriteCall}
 use Rattle.definitions.specs.CaseFiles.{readCase}
-use Rattle.definitions.specs.Programs.{Judged, accepted, refused}
+use Rattle.definitions.specs.declared.Judgement.{Judgement}
 use Rattle.checker.specs.declared.Replay.{Replay}
 use Rattle.checker.specs.declared.Standing.{Standing}
 use Rattle.checker.specs.Checker.{isHeld, recordOut, freshReplay, blockReplay}
-use Rattle.texts.specs.Texts.{greatestCount, writeRefusedCall, writeAcceptedCall}
+use Rattle.texts.specs.Texts.{greatestCount, writeJudgementCall}
 use Rattle.judging.specs.declared.Judging.{Judging}
 
--- a start and a block, with the lent table after them
-pub record JudgingCall : Type 0 where
-  pub judging : Judging
-  pub table : List ℤ
+-- what stands between the blocks of an input: the case, the working weights, which are the lent table, the replay's record, and how far the input
+-- was read
+pub record JudgingState : Type 0 where
+  pub case : Case
+  pub weights : List ℤ
+  pub replay : Replay
+  pub answer : FileAnswer
+
+-- held by value, and the lent table
+abbrev pub stateOf : Judging → List ℤ → JudgingState
+stateOf j w = record { case = j .case; weights = w; replay = j .replay; answer = j .answer }
 
 -- lines add up, to the greatest count that is written
-abbrev pub counted : ℕ → ℕ → ℕ
-counted at more = min greatestCount (at + more)
+abbrev pub linesCounted : ℕ → ℕ → ℕ
+linesCounted at more = min greatestCount (at + more)
 
 -- after lines of which the first with a number, if any, is line `at`
 abbrev pub answerAt : ℕ → Outcome → FileAnswer
@@ -37,43 +44,35 @@ answerAt at Outcome.Done = FileAnswer.Read at
 answerAt at (Outcome.Refused x) = FileAnswer.Refused x at
 
 -- the end's number belongs to the line after the last
-abbrev pub endJudged : ℕ → Outcome → Judged → Judged
-endJudged at (Outcome.Refused x) good = refused x at
+abbrev pub endJudged : ℕ → Outcome → Judgement → Judgement
+endJudged at (Outcome.Refused x) good = Judgement.Refused x at
 endJudged at Outcome.Done good = good
 
-abbrev pub writeJudged : List ℕ → Judged → WriteCall
-writeJudged out (accepted rounds bound) = writeAcceptedCall out rounds bound
-writeJudged out (refused x at) = writeRefusedCall out x at
-
 -- the case is read as the front of the input, under a rulebook; all that follows is by the rules of the case
-unfoldable pub startJudging : Rulebook → List ℕ → List ℤ → JudgingCall
+unfoldable pub startJudging : Rulebook → List ℕ → List ℤ → JudgingState
 startJudging b front w =
     let call = readCase b front w in
     record {
-      judging = record {
-        case = call .read .case;
-        replay = freshReplay (rulesOf (call .read .case)) (call .read .case) (call .table);
-        answer = call .read .answer;
-      };
-      table = call .table;
+      case = call .read .case;
+      weights = call .table;
+      replay = freshReplay (rulesOf (call .read .case)) (call .read .case) (call .table);
+      answer = call .read .answer;
     }
 
 -- once refused, nothing changes
-abbrev pub blockFrom : Judging → List ℤ → List ℕ → FileAnswer → JudgingCall
-blockFrom j w bytes (FileAnswer.Refused x at) = record { judging = j; table = w }
-blockFrom j w bytes (FileAnswer.Read lines) =
-    let call = blockReplay (rulesOf (j .case)) (j .case) w (j .replay) bytes in
+abbrev pub blockFrom : JudgingState → List ℕ → FileAnswer → JudgingState
+blockFrom s bytes (FileAnswer.Refused x at) = s
+blockFrom s bytes (FileAnswer.Read lines) =
+    let call = blockReplay (rulesOf (s .case)) (s .case) (s .weights) (s .replay) bytes in
     record {
-      judging = record {
-        case = j .case;
-        replay = call .block .replay;
-        answer = answerAt (counted lines (call .block .lines)) (call .block .answer);
-      };
-      table = call .table;
+      case = s .case;
+      weights = call .table;
+      replay = call .block .replay;
+      answer = answerAt (linesCounted lines (call .block .lines)) (call .block .answer);
     }
 
-unfoldable pub blockJudging : Judging → List ℤ → List ℕ → JudgingCall
-blockJudging j w bytes = blockFrom j w bytes (j .answer)
+unfoldable pub blockJudging : JudgingState → List ℕ → JudgingState
+blockJudging s bytes = blockFrom s bytes (s .answer)
 
 -- where the input ends here: the number that stands, else 3 to 8 of everything handed over, else 14 if a press is held, a move has no bound
 -- line after it, or a part line is left
@@ -86,10 +85,17 @@ abbrev pub finishStanding : Case → List ℤ → Replay → Bool → Standing �
 finishStanding c w p part (Standing.Refused x) = Outcome.Refused x
 finishStanding c w p part Standing.Good = outcomeOf (firstOf (finishTests c w p part))
 
-abbrev pub judgedFrom : Judging → List ℤ → Bool → FileAnswer → Judged
-judgedFrom j w part (FileAnswer.Refused x at) = refused x at
-judgedFrom j w part (FileAnswer.Read lines) =
-    endJudged lines (finishStanding (j .case) w (j .replay) part (j .replay .standing)) (accepted (j .replay .rounds) (upperBound (j .case) w))
+abbrev pub judgementFrom : JudgingState → Bool → FileAnswer → Judgement
+judgementFrom s part (FileAnswer.Refused x at) = Judgement.Refused x at
+judgementFrom s part (FileAnswer.Read lines) =
+    endJudged
+    lines
+    (finishStanding (s .case) (s .weights) (s .replay) part (s .replay .standing))
+    (Judgement.Accepted (s .replay .rounds) (upperBound (s .case) (s .weights)))
 
-unfoldable pub finishJudging : Judging → List ℤ → Bool → List ℕ → WriteCall
-finishJudging j w part out = writeJudged out (judgedFrom j w part (j .answer))
+-- the judgement where the input ends here, and its text
+unfoldable pub judgementOf : JudgingState → Bool → Judgement
+judgementOf s part = judgementFrom s part (s .answer)
+
+unfoldable pub finishJudging : JudgingState → Bool → List ℕ → WriteCall
+finishJudging s part out = writeJudgementCall out (judgementOf s part)

@@ -3,18 +3,26 @@
 use checker::Replay;
 use checker::Standing;
 use definitions::Case;
+use definitions::CaseSize;
 use definitions::Figure;
 use definitions::FileAnswer;
+use definitions::Judgement;
 use definitions::Outcome;
 use definitions::Refusal;
 use definitions::Written;
 ghost use mathlib.Core.Path.{_≡_};
 ghost use mathlib.Core.Logic.{_↔_};
+ghost use Prim.Native.Nat.{_≤_};
 ghost use lib.Dec.{T};
+ghost use lib.ListN.{length};
 ghost use Rattle.definitions.specs.declared.Rulebook.the-variants.{Desk};
 ghost use Rattle.definitions.specs.Refusals.{firstOf};
 ghost use Rattle.definitions.specs.Answers.{outcomeOf};
-ghost use Rattle.judging.specs.Judging.{counted, answerAt, writeJudged, startJudging, blockFrom, blockJudging, finishTests, finishStanding, judgedFrom, finishJudging};
+ghost use Rattle.definitions.specs.Places.{tablePlaces};
+ghost use Rattle.definitions.specs.CaseFiles.{caseSize};
+ghost use Rattle.definitions.specs.Programs.{tableFor};
+ghost use Rattle.judging.specs.Judging.{linesCounted, answerAt, stateOf, startJudging, blockFrom, blockJudging, finishTests, finishStanding};
+ghost use Rattle.judging.specs.Judging.{judgementFrom, judgementOf, finishJudging};
 
 // The greatest count of lines.
 const GREATEST: usize = 9_223_372_036_854_775_807;
@@ -30,7 +38,7 @@ pub struct Judging {
 // ---- a block
 
 fn count(at: usize, more: usize) -> usize
-    ensures { λ r. ⌜ r ≡ counted at more ⌝ }
+    ensures { λ r. ⌜ r ≡ linesCounted at more ⌝ }
 {
     if GREATEST <= at {
         return GREATEST;
@@ -52,7 +60,7 @@ fn answer_at(at: usize, answer: Outcome) -> FileAnswer
 
 // A block after so many lines that got no number.
 fn block_from(judging: Judging, table: &mut [i64], bytes: &[u8], passed: usize) -> Judging
-    ensures { λ r. ⌜ (r ≡ blockFrom judging (now (table .entry)) (now (bytes .entry)) (FileAnswer.Read passed) .judging) × (now (table .exit) ≡ blockFrom judging (now (table .entry)) (now (bytes .entry)) (FileAnswer.Read passed) .table) ⌝ }
+    ensures { λ r. ⌜ stateOf r (now (table .exit)) ≡ blockFrom (stateOf judging (now (table .entry))) (now (bytes .entry)) (FileAnswer.Read passed) ⌝ }
 {
     let case = judging.case;
     let replay = judging.replay;
@@ -83,7 +91,7 @@ fn is_out(ended: Outcome) -> bool
 }
 
 // A record that is good. The end asks 5 of the record and of the edges, which are asked here again with the table.
-fn end_good(case: Case, table: &[i64], replay: Replay, part: bool) -> Outcome
+fn finish_good(case: Case, table: &[i64], replay: Replay, part: bool) -> Outcome
     requires { ⌜ replay .standing ≡ Standing.Good ⌝ }
     ensures { λ r. ⌜ r ≡ outcomeOf (firstOf (finishTests case (now (table .entry)) replay part)) ⌝ }
 {
@@ -98,30 +106,39 @@ fn end_good(case: Case, table: &[i64], replay: Replay, part: bool) -> Outcome
     ended
 }
 
-fn end(case: Case, table: &[i64], replay: Replay, part: bool) -> Outcome
+fn finish_standing(case: Case, table: &[i64], replay: Replay, part: bool) -> Outcome
     ensures { λ r. ⌜ r ≡ finishStanding case (now (table .entry)) replay part (replay .standing) ⌝ }
 {
     let standing = replay.standing;
     match standing {
         Standing::Refused(refusal) => Outcome::Refused(refusal),
-        Standing::Good => end_good(case, table, replay, part),
+        Standing::Good => finish_good(case, table, replay, part),
     }
 }
 
-// No line has a number.
-fn write_end(judging: Judging, table: &[i64], part: bool, passed: usize, out: &mut [u8]) -> Written
-    ensures { λ r. ⌜ (r ≡ writeJudged (now (out .entry)) (judgedFrom judging (now (table .entry)) part (FileAnswer.Read passed)) .answer) × (now (out .exit) ≡ writeJudged (now (out .entry)) (judgedFrom judging (now (table .entry)) part (FileAnswer.Read passed)) .out) ⌝ }
+// The judgement where no line has a number.
+fn end_judgement(judging: Judging, table: &[i64], part: bool, passed: usize) -> Judgement
+    ensures { λ r. ⌜ r ≡ judgementFrom (stateOf judging (now (table .entry))) part (FileAnswer.Read passed) ⌝ }
 {
     let case = judging.case;
     let replay = judging.replay;
-    let ended = end(case, table, replay, part);
+    let ended = finish_standing(case, table, replay, part);
     match ended {
-        Outcome::Refused(refusal) => texts::write_refused(out, refusal, passed),
+        Outcome::Refused(refusal) => Judgement::Refused {
+            refusal,
+            line: passed,
+        },
         Outcome::Done => {
             let sum = tables::sum_of_greatest(case, table);
             match sum {
-                Figure::Refused(refusal) => texts::write_refused(out, refusal, passed),
-                Figure::Value(bound) => texts::write_accepted(out, replay.rounds, bound),
+                Figure::Refused(refusal) => Judgement::Refused {
+                    refusal,
+                    line: passed,
+                },
+                Figure::Value(bound) => Judgement::Accepted {
+                    rounds: replay.rounds,
+                    bound,
+                },
             }
         }
     }
@@ -129,9 +146,25 @@ fn write_end(judging: Judging, table: &[i64], part: bool, passed: usize, out: &m
 
 // ---- the calls
 
+// The length of the table that the head of the case asks for.
+pub fn table_length(front: &[u8]) -> usize
+    ensures { λ r. ⌜ (r ≡ length (tableFor (caseSize Desk (now (front .entry))))) × (r ≤ tablePlaces) ⌝ }
+{
+    let size = casefile::case_size(front);
+    match size {
+        CaseSize::Refused(_) => 0,
+        CaseSize::Size {
+            n: _,
+            d: _,
+            m: _,
+            table,
+        } => table,
+    }
+}
+
 // Reads the case at the front of the input. The front must hold the longest case or the whole input.
 pub fn start(front: &[u8], table: &mut [i64]) -> Judging
-    ensures { λ r. ⌜ (r ≡ startJudging Desk (now (front .entry)) (now (table .entry)) .judging) × (now (table .exit) ≡ startJudging Desk (now (front .entry)) (now (table .entry)) .table) ⌝ }
+    ensures { λ r. ⌜ stateOf r (now (table .exit)) ≡ startJudging Desk (now (front .entry)) (now (table .entry)) ⌝ }
 {
     let read = casefile::read_case(front, table);
     let case = read.case;
@@ -146,7 +179,7 @@ pub fn start(front: &[u8], table: &mut [i64]) -> Judging
 
 // The next whole lines of the log.
 pub fn block(judging: Judging, table: &mut [i64], bytes: &[u8]) -> Judging
-    ensures { λ r. ⌜ (r ≡ blockJudging judging (now (table .entry)) (now (bytes .entry)) .judging) × (now (table .exit) ≡ blockJudging judging (now (table .entry)) (now (bytes .entry)) .table) ⌝ }
+    ensures { λ r. ⌜ stateOf r (now (table .exit)) ≡ blockJudging (stateOf judging (now (table .entry))) (now (bytes .entry)) ⌝ }
 {
     let answer = judging.answer;
     match answer {
@@ -158,13 +191,21 @@ pub fn block(judging: Judging, table: &mut [i64], bytes: &[u8]) -> Judging
     }
 }
 
-// Writes what `replay` prints where the input ends here; `part`: fewer bytes than a line are left.
-pub fn finish(judging: Judging, table: &[i64], part: bool, out: &mut [u8]) -> Written
-    ensures { λ r. ⌜ (r ≡ finishJudging judging (now (table .entry)) part (now (out .entry)) .answer) × (now (out .exit) ≡ finishJudging judging (now (table .entry)) part (now (out .entry)) .out) ⌝ }
+// The judgement where the input ends here; `part`: fewer bytes than a line are left.
+pub fn judge(judging: Judging, table: &[i64], part: bool) -> Judgement
+    ensures { λ r. ⌜ r ≡ judgementOf (stateOf judging (now (table .entry))) part ⌝ }
 {
     let answer = judging.answer;
     match answer {
-        FileAnswer::Refused { refusal, line } => texts::write_refused(out, refusal, line),
-        FileAnswer::Read { lines: passed } => write_end(judging, table, part, passed, out),
+        FileAnswer::Refused { refusal, line } => Judgement::Refused { refusal, line },
+        FileAnswer::Read { lines: passed } => end_judgement(judging, table, part, passed),
     }
+}
+
+// Writes what `replay` prints where the input ends here: the text of the judgement.
+pub fn finish(judging: Judging, table: &[i64], part: bool, out: &mut [u8]) -> Written
+    ensures { λ r. ⌜ (r ≡ finishJudging (stateOf judging (now (table .entry))) part (now (out .entry)) .answer)
+        × (now (out .exit) ≡ finishJudging (stateOf judging (now (table .entry))) part (now (out .entry)) .out) ⌝ }
+{
+    texts::write_judgement(out, judge(judging, table, part))
 }

@@ -1,10 +1,12 @@
 // What the programs print, by the calls that they are made of. Standard input holds lines of 27 bytes. One that is not in columns names what is
 // tried and is printed. Of kinds 20 and 21, a is the table's places, c the output's bytes and amount the number of bytes that follow and are the
-// program's input. Kind 20: judged by `judging`, the log in blocks of b lines, and printed. Kind 21: pressed by `pressing`, each call's text
+// program's input. Kind 20: judged by `judging`, the log in blocks of b lines, and printed. Kind 22: the same, and the judgement printed as numbers:
+// the rounds and the bound, or the number and its line. Kind 21: pressed by `pressing`, each call's text
 // printed, and then the calls of `next` and the rounds that may still follow; where b is not 0, one more call is lent the output's first b bytes,
 // and its answer is printed.
 // The file `stdout` has what the peer's programs print of these inputs; where a table or an output is too short it was worked out from document 01.
 use definitions::FileAnswer;
+use definitions::Judgement;
 use definitions::Line;
 use definitions::Written;
 use judging::Judging;
@@ -41,7 +43,7 @@ fn print_written(written: Written, out: &[u8]) -> bool {
     }
 }
 
-// ---- kind 20
+// ---- kinds 20 and 22
 
 // Where the case ends.
 fn case_end(answer: FileAnswer, most: usize) -> usize
@@ -83,14 +85,33 @@ fn judge_blocks(begun: Judging, table: &mut [i64], log: &[u8], bytes: usize) -> 
     judging
 }
 
-fn judge(input: &[u8], table: &mut [i64], out: &mut [u8], bytes: usize) {
+fn print_judgement(judgement: Judgement) {
+    match judgement {
+        Judgement::Accepted { rounds, bound } => {
+            drivers::print_count(rounds);
+            drivers::print_number(bound);
+        }
+        Judgement::Refused { refusal, line } => {
+            drivers::print_refusal(refusal);
+            drivers::print_count(line as u64);
+        }
+    }
+    drivers::print(b"\n");
+}
+
+fn judge(input: &[u8], table: &mut [i64], out: &mut [u8], bytes: usize, text: bool) {
     let begun = judging::start(input, table);
     let answer = begun.answer;
     let from = case_end(answer, input.len());
     let log = &input[from..];
     let judging = judge_blocks(begun, table, log, bytes);
-    let written = judging::finish(judging, table, log.len() % 27 != 0, out);
-    print_written(written, out);
+    let part = log.len() % 27 != 0;
+    if text {
+        let written = judging::finish(judging, table, part, out);
+        print_written(written, out);
+    } else {
+        print_judgement(judging::judge(judging, table, part));
+    }
 }
 
 // ---- kind 21
@@ -160,10 +181,10 @@ fn count(z: i64) -> usize {
 }
 
 fn call(input: &[u8], table: &mut [i64], out: &mut [u8], line: Line) {
-    if line.kind == 20 {
+    if line.kind == 20 || line.kind == 22 {
         let lines = count(line.b);
         if lines <= 1000 {
-            judge(input, table, out, lines * 27);
+            judge(input, table, out, lines * 27, line.kind == 20);
         }
     } else if line.kind == 21 {
         press(input, table, out, count(line.b));

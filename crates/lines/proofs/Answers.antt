@@ -2,7 +2,7 @@
 use mathlib.Core.Path.{_≡_, sym, _∙_}
 use mathlib.Core.Bool.{Bool, true, false, _||_}
 use mathlib.Core.Logic.{_≢_}
-use mathlib.Core.Option.{Option, none, some}
+use mathlib.Core.Option.{Option}
 use mathlib.Core.List.{List}
 use Prim.Native.Nat.{ℕ, _+_, _≤_, _<_}
 use native.Mathlib.Omega.{arith}
@@ -65,7 +65,8 @@ module _ (w : ℕ) where
     unfolding writeLineAt
     write-wide s t = rw (s, t)
 
-    pub write-done : ltb (length out) (15 + w) ≡ false → lineOut w l ≡ false → writeLineAt w out l ≡ record { answer = Outcome.Done; out = overwritten (lineText w l) out }
+    pub write-done : ltb (length out) (15 + w) ≡ false → lineOut w l ≡ false
+        → writeLineAt w out l ≡ record { answer = Outcome.Done; out = overwritten (lineText w l) out }
     unfolding writeLineAt
     write-done s t = rw (s, t)
 
@@ -74,6 +75,7 @@ module _ (out : List ℕ) (z : ℤ) where
   unfolding writeNumberCall
   number-short h = simp (lt-ltb _ _ h)
 
-  pub number-done : length (numberText z) ≤ length out → writeNumberCall out z ≡ record { answer = Written.Bytes (length (numberText z)); out = overwritten (numberText z) out }
+  pub number-done : length (numberText z) ≤ length out → writeNumberCall out z ≡ record
+      { answer = Written.Bytes (length (numberText z)); out = overwritten (numberText z) out }
   unfolding writeNumberCall
   number-done h = simp (le-ltb _ _ h)

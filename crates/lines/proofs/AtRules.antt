@@ -12,7 +12,7 @@ use Rattle.definitions.specs.declared.LineRead.{LineRead}
 use Rattle.definitions.specs.declared.Refusal.the-variants.{NotInColumns}
 use Rattle.definitions.specs.Rules.{Rules, Coherent}
 use Rattle.definitions.specs.Lines.{lineLength, lineText, lineTooWide, readLine}
-use Rattle.definitions.specs.Calls.{readLineAnswer, writeRefusal, writeLineCall}
+use Rattle.calls.specs.Calls.{readLineAnswer, writeRefusal, writeLineCall}
 use Rattle.definitions.proofs.LineLaws.{line-length}
 use Rattle.lines.specs.Found.{lineAnswer}
 use Rattle.lines.specs.AtWidth.{widthOut, lineOut, readLineAt, writeRefusalAt, writeLineAt}

@@ -5,3 +5,5 @@ pub mod Stores
 pub mod Answers
 pub mod AtRules
 pub mod Widths
+pub mod RaiseTexts
+pub mod Bits

@@ -50,9 +50,9 @@ sign-from : (z : ℤ) → ltZ z (pos 0) ≡ false → signByte z ≡ 32
 sign-from (pos n) h = refl
 sign-from (negsuc n) h = absurd (omega zs)
 
-pub text-most : (z : ℤ) → length (decimal (natAbs z)) ≤ length (numberText z)
-text-most (pos n) = omega arith
-text-most (negsuc n) = omega arith
+pub digits-most : (z : ℤ) → length (decimal (natAbs z)) ≤ length (numberText z)
+digits-most (pos n) = omega arith
+digits-most (negsuc n) = omega arith
 
 without : (z : ℤ) → ltZ z (pos 0) ≡ true → (pos 0 -ℤ (z +ℤ pos 1) ≡ pos (natAbs z - 1)) × (0 < natAbs z)
 without (pos n) h = absurd (omega zs)

@@ -100,12 +100,12 @@ module _ (t : List ℕ) (i : ℕ) where
   pair-at : i + 2 ≤ length t → take 2 (drop i t) ≡ getD t i 0 ∷ getD t (i + 1) 0 ∷ []
   pair-at h = rw (at-drop t i (omega arith), at-drop t (i + 1) (omega arith))
 
-  pub one-digit : i + 2 ≤ length t → getD t i 0 ≡ 32 → 48 ≤ getD t (i + 1) 0 → getD t (i + 1) 0 ≤ 57 → columnAt i 2 t ≡ some (pos (getD t (i + 1) 0 - 48))
-  one-digit h s l u = rw (pair-at h, s) (digit-read (getD t (i + 1) 0) l u)
+  pub one-digit-read : i + 2 ≤ length t → getD t i 0 ≡ 32 → 48 ≤ getD t (i + 1) 0 → getD t (i + 1) 0 ≤ 57 → columnAt i 2 t ≡ some (pos (getD t (i + 1) 0 - 48))
+  one-digit-read h s l u = rw (pair-at h, s) (digit-read (getD t (i + 1) 0) l u)
 
-  pub two-digits : i + 2 ≤ length t → 49 ≤ getD t i 0 → getD t i 0 ≤ 57 → 48 ≤ getD t (i + 1) 0 → getD t (i + 1) 0 ≤ 57
+  pub two-digits-read : i + 2 ≤ length t → 49 ≤ getD t i 0 → getD t i 0 ≤ 57 → 48 ≤ getD t (i + 1) 0 → getD t (i + 1) 0 ≤ 57
       → columnAt i 2 t ≡ some (pos ((getD t i 0 - 48) * 10 + (getD t (i + 1) 0 - 48)))
-  two-digits h k m l u = rw (pair-at h) (digits-read (getD t i 0) (getD t (i + 1) 0) k m l u)
+  two-digits-read h k m l u = rw (pair-at h) (digits-read (getD t i 0) (getD t (i + 1) 0) k m l u)
 
   pub two-spaces : i + 4 ≤ length t → getD t i 0 ≡ 32 → getD t (i + 1) 0 ≡ 32 → columnAt i 4 t ≡ columnAt (i + 2) 2 t
   two-spaces h a b =

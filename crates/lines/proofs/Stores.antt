@@ -14,7 +14,8 @@ use Rattle.lines.specs.Digits.{fourDigits}
 pub before : (l : List ℕ) (i v : ℕ) → 0 < i → i ≤ length l → drop (i - 1) (set l (i - 1) v) ≡ v ∷ drop i l
 before l i v p h =
     let e : suc (i - 1) ≡ i = omega arith in
-    ap (drop (i - 1)) (set-split l (i - 1) v (omega arith)) ∙ drop-at (take (i - 1) l) (v ∷ drop (suc (i - 1)) l) (i - 1) (length-take-le (i - 1) l (omega arith)) ∙ ap (λ k. v ∷ drop k l) e
+    ap (drop (i - 1)) (set-split l (i - 1) v (omega arith)) ∙ drop-at (take (i - 1) l) (v ∷ drop (suc (i - 1)) l) (i - 1)
+    (length-take-le (i - 1) l (omega arith)) ∙ ap (λ k. v ∷ drop k l) e
 
 -- the text's first byte has so many bytes before it
 pub bytes-before : (l t : List ℕ) (i : ℕ) → drop i l ≡ t → i ≤ length l → i + length t ≡ length l
@@ -45,12 +46,13 @@ spaces-next l i v h e =
 pub take-spaces : (k n v : ℕ) → k ≤ n → take k (replicate n v) ≡ replicate k v
 take-spaces k n v h =
     let e : k + (n - k) ≡ n = omega arith in
-    ap (λ n. take k (replicate n v)) (sym e) ∙ ap (take k) (sym (replicate-append-replicate k (n - k) v)) ∙ take-at (replicate k v) (replicate (n - k) v) k (length-replicate k v)
+    ap (λ n. take k (replicate n v)) (sym e) ∙ ap (take k) (sym (replicate-append-replicate k (n - k) v))
+    ∙ take-at (replicate k v) (replicate (n - k) v) k (length-replicate k v)
 
 -- ---- digits
 
-pub one-digit : (n : ℕ) → n < 10 → length (decimal n) ≡ 1
-one-digit n h = ap length (decimal-digit n h)
+pub digit-length : (n : ℕ) → n < 10 → length (decimal n) ≡ 1
+digit-length n h = ap length (decimal-digit n h)
 
 some-digit : (n : ℕ) → 0 < length (decimal n)
 some-digit = by-digit (λ n t. 0 < length t) (λ n h. omega arith) (λ n t h r. simp length-append (omega arith))
@@ -63,8 +65,9 @@ module _ (rest n i : ℕ) (l : List ℕ) (h : i ≤ length l) (most : length (de
   pub digits-room : 0 < i
   digits-room = omega (arith, simp (length-append, length-drop) at (ap length e), some-digit rest)
 
-  pub digits-next : 10 ≤ rest → decimal (rest / 10) ++ drop (i - 1) (set l (i - 1) (48 + rest % 10)) ≡ decimal n
-  digits-next g = rw (before l i (48 + rest % 10) digits-room h) (sym (append-snoc (decimal (rest / 10)) (48 + rest % 10) (drop i l)) ∙ ap (λ t. t ++ drop i l) (sym (decimal-last rest g)) ∙ e)
+  pub digits-stored : 10 ≤ rest → decimal (rest / 10) ++ drop (i - 1) (set l (i - 1) (48 + rest % 10)) ≡ decimal n
+  digits-stored g = rw (before l i (48 + rest % 10) digits-room h)
+      (sym (append-snoc (decimal (rest / 10)) (48 + rest % 10) (drop i l)) ∙ ap (λ t. t ++ drop i l) (sym (decimal-last rest g)) ∙ e)
 
   pub digits-last : rest < 10 → drop (i - 1) (set l (i - 1) (48 + rest)) ≡ decimal n
   digits-last g = before l i (48 + rest) digits-room h ∙ ap (λ t. t ++ drop i l) (sym (decimal-digit rest g)) ∙ e
@@ -86,7 +89,18 @@ decimal-four n h =
     let b : n / 10 / 10 % 10 ≡ n % 10000 / 100 % 10 = omega arith in
     let c : n / 10 % 10 ≡ n % 10000 / 10 % 10 = omega arith in
     let d : n % 10 ≡ n % 10000 % 10 = omega arith in
-    rw (decimal-last n (omega arith), decimal-last (n / 10) (omega arith), decimal-last (n / 10 / 10) (omega arith), decimal-last (n / 10 / 10 / 10) (omega arith), d1, a, b, c, d)
+    rw (
+      decimal-last n (omega arith),
+      decimal-last (n / 10) (omega arith),
+      decimal-last (n / 10 / 10) (omega arith),
+      decimal-last (n / 10 / 10 / 10)
+          (omega arith),
+      d1,
+      a,
+      b,
+      c,
+      d,
+    )
     (simp append-assoc)
 
 -- the digits of `rest` are still to be stored before i
@@ -97,14 +111,16 @@ module _ (rest n i : ℕ) (l : List ℕ) (h : i ≤ length l) (most : length (de
   pub four-room : 10000 ≤ rest → 4 ≤ i
   four-room g = omega (arith, rest-room, simp length-append at (ap length (decimal-four rest g)))
 
-  pub four-next : 10000 ≤ rest → (j : ℕ) → j + 4 ≡ i → (o : List ℕ) → o ≡ take j l ++ (fourDigits (rest % 10000) ++ drop (j + 4) l) → decimal (rest / 10000) ++ drop j o ≡ decimal n
+  pub four-next : 10000 ≤ rest → (j : ℕ) → j + 4 ≡ i → (o : List ℕ) → o ≡ take j l ++ (fourDigits (rest % 10000) ++ drop (j + 4) l)
+      → decimal (rest / 10000) ++ drop j o ≡ decimal n
   four-next g j q o f =
       rw (f, drop-at (take j l) (fourDigits (rest % 10000) ++ drop (j + 4) l) j (length-take-le j l (omega arith)), q)
       (sym (append-assoc (decimal (rest / 10000)) (fourDigits (rest % 10000)) (drop i l)) ∙ ap (λ t. t ++ drop i l) (sym (decimal-four rest g)) ∙ e)
 
   pub four-kept : (o p : List ℕ) (j : ℕ) (t : List ℕ) → j + 4 ≡ i → take i l ≡ take i p → o ≡ take j l ++ t → take j o ≡ take j p
   four-kept o p j t q f g =
-      ap (take j) g ∙ take-at (take j l) t j (length-take-le j l (omega arith)) ∙ sym (take-take j i l (omega arith)) ∙ ap (take j) f ∙ take-take j i p (omega arith)
+      ap (take j) g ∙ take-at (take j l) t j (length-take-le j l (omega arith)) ∙ sym (take-take j i l (omega arith)) ∙ ap (take j) f
+      ∙ take-take j i p (omega arith)
 
   pub few-stored : (o p : List ℕ) (r : ℕ) → r ≤ i → take i l ≡ take i p → o ≡ take r (take i l) ++ decimal rest → o ++ drop i l ≡ take r p ++ decimal n
   few-stored o p r k f g =
@@ -115,7 +131,14 @@ module _ (rest n i : ℕ) (l : List ℕ) (h : i ≤ length l) (most : length (de
 module _ (p out l : List ℕ) (n : ℕ) (front : length p ≡ n) (e : l ≡ overwritten p out) where
   pub column-next : (y : List ℕ) (k : ℕ) → length y ≡ k → take n l ++ (y ++ drop (n + k) l) ≡ overwritten (p ++ y) out
   column-next y k h =
-      rw (e, take-at p (drop (length p) out) n front, ← (drop-drop k n (overwritten p out)), drop-at p (drop (length p) out) n front, drop-drop k (length p) out)
+      rw (
+        e,
+        take-at p (drop (length p) out) n front,
+        ← (drop-drop k n (overwritten p out)),
+        drop-at p (drop (length p) out) n front,
+        drop-drop k
+            (length p) out,
+      )
       (simp (append-assoc, length-append, h))
 
   pub byte-next : (v : ℕ) → n < length out → set l n v ≡ overwritten (p ++ (v ∷ [])) out

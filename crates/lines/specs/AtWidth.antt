@@ -13,7 +13,7 @@ use Rattle.definitions.specs.declared.Refusal.{Refusal}
 use Rattle.definitions.specs.declared.Refusal.the-variants.{WrongLength, OutOfRange}
 use Rattle.definitions.specs.Refusals.{_when_, firstOf}
 use Rattle.definitions.specs.Lines.{lineLength, lineTooWide, readLine}
-use Rattle.definitions.specs.Calls.{LineCall, lineWritten}
+use Rattle.calls.specs.Calls.{LineCall, lineWritten}
 use Rattle.lines.specs.Found.{lineAnswer}
 
 -- no amount column has this width

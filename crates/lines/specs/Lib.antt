@@ -4,3 +4,4 @@ pub mod AtWidth
 pub mod WriteNumber
 pub mod Words
 pub mod Digits
+pub mod Raises

@@ -9,7 +9,7 @@ use Rattle.definitions.specs.declared.Refusal.the-variants.{WrongLength}
 use Rattle.definitions.specs.Refusals.{_when_, firstOf}
 use Rattle.definitions.specs.Answers.{unlessRefused}
 use Rattle.definitions.specs.Lines.{numberText, tooWide, overwritten}
-use Rattle.definitions.specs.Calls.{WriteCall, writtenOf}
+use Rattle.calls.specs.Calls.{WriteCall, writtenOf}
 
 -- fewer bytes than the text are number 4
 abbrev pub numberRefusal : ℕ → ℤ → Option Refusal

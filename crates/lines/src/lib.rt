@@ -7,25 +7,40 @@ use definitions::Refusal;
 use definitions::Rulebook;
 use definitions::Written;
 ghost use mathlib.Core.Path.{_≡_};
-ghost use mathlib.Core.Bool.{false};
-ghost use mathlib.Core.List.{_++_};
-ghost use Prim.Native.Nat.{_+_, _-_, _≤_, _<_, _^_};
+ghost use mathlib.Core.Bool.{true, false};
+ghost use mathlib.Core.Option.{some};
+ghost use mathlib.Core.List.{[], _∷_, _++_};
+ghost use Prim.Native.Nat.{ℕ, _+_, _-_, _≤_, _<_, _^_};
 ghost use lib.Dec.{ltb};
 ghost use lib.IntN.{pos, natAbs};
 ghost use Rattle.integers.specs.Words.{within};
 ghost use lib.ListN.{length, take, drop, replicate};
 ghost use Rattle.definitions.specs.declared.Rulebook.the-variants.{Desk};
 ghost use Rattle.definitions.specs.Rules.{rulesIn};
-ghost use Rattle.definitions.specs.Lines.{decimal, numberText, tooWide, columnText, readPositive, readNumber, readColumn, columnAt, lineLength, lineText, lineTooWide, overwritten};
-ghost use Rattle.definitions.specs.Calls.{readLineAnswer, writeLineCall};
+ghost use Rattle.definitions.specs.Lines.{decimal, numberText, tooWide, columnText, readPositive, readNumber, readColumn, columnAt, readLine};
+ghost use Rattle.definitions.specs.Lines.{lineLength, lineText, lineTooWide, overwritten};
+ghost use Rattle.definitions.specs.RoundLines.{raiseLine};
+ghost use Rattle.calls.specs.Calls.{readLineAnswer, writeLineCall};
 ghost use Rattle.lines.specs.Found.{digitsFound, digitsValue, plainFound, negativeFound, columnFound, lineFound, lineAnswer};
 ghost use Rattle.lines.specs.AtWidth.{widthOut, lineOut, readLineAt, writeLineAt};
 ghost use Rattle.lines.specs.WriteNumber.{writeNumberCall};
 ghost use Rattle.lines.specs.Words.{Word};
 ghost use Rattle.lines.specs.Digits.{fourDigits, signByte};
+ghost use Rattle.lines.specs.Raises.{isRaise, scopeFrom, raiseOf, raisedAt, smallNumbers, Digit, Small, RaiseText};
 
-// Four spaces as a word.
+// Four spaces, and three spaces and a 0, as words.
 const BLANKS: u64 = 538976288;
+
+const ZERO: u64 = 807411744;
+
+// More than three digits make.
+const NONE: u64 = 1000;
+
+// The scope of a raise line, or another text.
+pub enum RaiseRead {
+    Scope(usize),
+    Nothing,
+}
 
 // Digits, or something else.
 enum Digits {
@@ -41,21 +56,15 @@ enum Column {
 
 // ---- reading
 
-fn wide(x: u8) -> u64
-    ensures { λ r. ⌜ (r ≡ x) × (r < 256) ⌝ }
-{
-    x as u64
-}
-
 // Four bytes as one number, so that they are compared at once.
 fn word(t: &[u8], i: usize) -> u64
     requires { ⌜ i + 4 ≤ length (now t) ⌝ }
     ensures { λ r. ⌜ Word (now (t .entry)) i r ⌝ }
 {
-    let a = wide(t[i]);
-    let b = wide(t[i + 1]);
-    let c = wide(t[i + 2]);
-    let d = wide(t[i + 3]);
+    let a = integers::wide(t[i]);
+    let b = integers::wide(t[i + 1]);
+    let c = integers::wide(t[i + 2]);
+    let d = integers::wide(t[i + 3]);
     a + b * 256 + c * 65536 + d * 16777216
 }
 
@@ -108,7 +117,7 @@ fn positive(t: &[u8], from: usize) -> Digits
         if 57 < b {
             return Digits::Not;
         }
-        v = v * 10 + (wide(b) - 48);
+        v = v * 10 + (integers::wide(b) - 48);
         i += 1;
     }
     Digits::Are(v)
@@ -177,8 +186,8 @@ fn read_pair(bytes: &[u8], from: usize) -> Column
     requires { ⌜ from + 2 ≤ length (now bytes) ⌝ }
     ensures { λ r. ⌜ columnFound r ≡ columnAt from 2 (now (bytes .entry)) ⌝ }
 {
-    let c = wide(bytes[from]);
-    let d = wide(bytes[from + 1]);
+    let c = integers::wide(bytes[from]);
+    let d = integers::wide(bytes[from + 1]);
     if c == 32 && is_digit(d, 48) {
         return plain(Digits::Are(d - 48));
     }
@@ -237,6 +246,128 @@ fn line_of(kind: Column, a: Column, b: Column, c: Column, amount: Column) -> Lin
         c,
         amount,
     })
+}
+
+// ---- raise lines
+
+// Whether the amount column, which has four bytes or more and ends before byte `end`, holds a 0.
+fn no_amount(t: &[u8], end: usize) -> bool
+    requires { ⌜ (18 ≤ end) × (end ≤ length (now t)) ⌝ }
+    ensures { λ r. ⌜ (r ≡ true → columnAt 14 (end - 14) (now (t .entry)) ≡ some (pos 0)) ⌝ }
+{
+    let last = end - 4;
+    let mut blank = true;
+    let mut i: usize = 14;
+    while i < last {
+        blank = blank & (word(t, i) == BLANKS);
+        i += 4;
+    }
+    blank & (word(t, last) == ZERO)
+}
+
+// Whether a line is a raise of a scope of at most three digits, but for these digits.
+fn is_raise(t: &[u8]) -> bool
+    requires { ⌜ 19 ≤ length (now t) ⌝ }
+    ensures { λ r. ⌜ (r ≡ true → RaiseText (now (t .entry))) ⌝ }
+{
+    let end = t.len() - 1;
+    (t[0] == 32)
+        & (t[1] == 51)
+        & (t[2] == 32)
+        & (word(t, 6) == ZERO)
+        & (word(t, 10) == ZERO)
+        & no_amount(t, end)
+        & (t[end] == 10)
+}
+
+// A digit's number, or NONE.
+fn digit(b: u8) -> u64
+    ensures { λ r. ⌜ Digit b r ⌝ }
+{
+    if b < 48 {
+        return NONE;
+    }
+    if 57 < b {
+        return NONE;
+    }
+    integers::wide(b) - 48
+}
+
+fn two_digits(b: u8, c: u8) -> u64
+    ensures { λ r. ⌜ Small (32 ∷ 32 ∷ b ∷ c ∷ []) r ⌝ }
+{
+    if b == 48 {
+        return NONE;
+    }
+    digit(b) * 10 + digit(c)
+}
+
+fn three_digits(a: u8, b: u8, c: u8) -> u64
+    ensures { λ r. ⌜ Small (32 ∷ a ∷ b ∷ c ∷ []) r ⌝ }
+{
+    if a == 48 {
+        return NONE;
+    }
+    digit(a) * 100 + digit(b) * 10 + digit(c)
+}
+
+// The number of at most three digits in a column, or NONE or more.
+fn small_number(a: u8, b: u8, c: u8) -> u64
+    ensures { λ r. ⌜ Small (32 ∷ a ∷ b ∷ c ∷ []) r ⌝ }
+{
+    if a != 32 {
+        return three_digits(a, b, c);
+    }
+    if b != 32 {
+        return two_digits(b, c);
+    }
+    digit(c)
+}
+
+// The scope of a raise line, or NONE or more where another way must tell.
+fn quick_scope(t: &[u8]) -> u64
+    ensures { λ r. ⌜ ((width : ℕ) → length (now (t .entry)) ≡ lineLength width → r < smallNumbers → readLine width (now (t .entry)) ≡ some (raiseLine r)) ⌝ }
+{
+    if t.len() < 19 {
+        return NONE;
+    }
+    if !is_raise(t) {
+        return NONE;
+    }
+    small_number(t[3], t[4], t[5])
+}
+
+fn is_raise_line(line: Line) -> bool
+    ensures { λ r. ⌜ r ≡ isRaise line ⌝ }
+{
+    (line.kind == 3) & (line.b == 0) & (line.c == 0) & (line.amount == 0)
+}
+
+fn scope_from(a: i64) -> RaiseRead
+    ensures { λ r. ⌜ r ≡ scopeFrom a ⌝ }
+{
+    if a < 0 {
+        return RaiseRead::Nothing;
+    }
+    RaiseRead::Scope(a as usize)
+}
+
+fn line_scope(line: Line) -> RaiseRead
+    ensures { λ r. ⌜ r ≡ raiseOf (LineRead.Read line) ⌝ }
+{
+    if !is_raise_line(line) {
+        return RaiseRead::Nothing;
+    }
+    scope_from(line.a)
+}
+
+fn scope_of(read: LineRead) -> RaiseRead
+    ensures { λ r. ⌜ r ≡ raiseOf read ⌝ }
+{
+    match read {
+        LineRead::Refused(_) => RaiseRead::Nothing,
+        LineRead::Read(line) => line_scope(line),
+    }
 }
 
 // ---- writing
@@ -473,6 +604,23 @@ pub fn read_line_in(bytes: &[u8], width: usize) -> LineRead
     line_of(kind, a, b, c, amount)
 }
 
+// The scope of a line whose amount column has this width, if it is a raise line.
+pub fn raised_scope(bytes: &[u8], width: usize) -> RaiseRead
+    ensures { λ r. ⌜ r ≡ raisedAt width (now (bytes .entry)) ⌝ }
+{
+    if width_out(width) {
+        return RaiseRead::Nothing;
+    }
+    if bytes.len() != 15 + width {
+        return RaiseRead::Nothing;
+    }
+    let x = quick_scope(bytes);
+    if x < NONE {
+        return RaiseRead::Scope(x as usize);
+    }
+    scope_of(read_line_in(bytes, width))
+}
+
 // Writes the line at out's first bytes, with an amount column of this width.
 pub fn write_line_in(out: &mut [u8], line: Line, width: usize) -> Outcome
     ensures { λ r. ⌜ (r ≡ writeLineAt width (now (out .entry)) line .answer) × (now (out .exit) ≡ writeLineAt width (now (out .entry)) line .out) ⌝ }
@@ -497,7 +645,8 @@ pub fn read_line(bytes: &[u8]) -> LineRead
 
 // Writes the line at out's first bytes.
 pub fn write_line(out: &mut [u8], line: Line) -> Outcome
-    ensures { λ r. ⌜ (r ≡ writeLineCall (rulesIn Desk) (now (out .entry)) line .answer) × (now (out .exit) ≡ writeLineCall (rulesIn Desk) (now (out .entry)) line .out) ⌝ }
+    ensures { λ r. ⌜ (r ≡ writeLineCall (rulesIn Desk) (now (out .entry)) line .answer)
+        × (now (out .exit) ≡ writeLineCall (rulesIn Desk) (now (out .entry)) line .out) ⌝ }
 {
     write_line_in(out, line, rules::amount_width(Rulebook::Desk))
 }

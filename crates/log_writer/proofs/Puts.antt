@@ -17,7 +17,7 @@ use Rattle.definitions.specs.Rules.{Rules, Coherent}
 use Rattle.definitions.specs.Refusals.{_when_, firstOf}
 use Rattle.definitions.specs.Answers.{outcomeOf}
 use Rattle.definitions.specs.Lines.{lineLength, lineText, lineTooWide, overwritten}
-use Rattle.definitions.specs.Calls.{lineWritten, linePut, putLineCall}
+use Rattle.calls.specs.Calls.{lineWritten, linePut, putLineCall}
 use Rattle.definitions.proofs.LineLaws.{line-length}
 use Rattle.log_writer.specs.declared.Put.{Put}
 use Rattle.lines.specs.AtWidth.{lineOut, writeRefusalAt, writeLineAt}
@@ -83,7 +83,11 @@ module _ (w : ℕ) (out : List ℕ) (at : ℕ) (l : Line) where
 
   pub done-room : at ≤ length out → Outcome.Done ≡ writeLineAt w rest l .answer → at + lineLength w ≤ length out
   done-room h e =
-      omega (arith, ltb-false (length out - at) (lineLength w) (short-refused (ltb (length out - at) (lineLength w)) (lineOut w l) (e ∙ ap (λ c. c .answer) rest-by)))
+      omega (
+        arith,
+        ltb-false (length out - at) (lineLength w) (short-refused (ltb (length out - at) (lineLength w)) (lineOut w l)
+            (e ∙ ap (λ c. c .answer) rest-by)),
+      )
 
   pub put-done : at ≤ length out → (last : List ℕ) → Outcome.Done ≡ writeLineAt w rest l .answer → last ≡ writeLineAt w rest l .out
       → Put-so-code (record { answer = Outcome.Done; at = at + lineLength w }) last
@@ -104,9 +108,15 @@ put-same-length r out at l = go (ltb (length out - at) (lineLength (r .amountWid
     go true b e f = refl
     go false true e f = refl
     go false false e f =
-        over-length out (lineText (r .amountWidth) l) at (omega (arith, line-length (r .amountWidth) l f, ltb-false (length out - at) (lineLength (r .amountWidth)) e))
+        over-length out (lineText (r .amountWidth) l) at (omega (
+          arith,
+          line-length (r .amountWidth) l f,
+          ltb-false (length out - at)
+              (lineLength (r .amountWidth)) e,
+        ))
 
 -- at the width of coherent rules the line is put as under the rules
-pub put-at-rules : (r : Rules) → Coherent r → {width : ℕ} → width ≡ r .amountWidth → (out : List ℕ) (at : ℕ) (l : Line) → putLineIn width out at l ≡ putLineCall r out at l
+pub put-at-rules : (r : Rules) → Coherent r → {width : ℕ} → width ≡ r .amountWidth → (out : List ℕ) (at : ℕ) (l : Line)
+    → putLineIn width out at l ≡ putLineCall r out at l
 unfolding putLineIn putLineCall
 put-at-rules r coherent {width} e out at l = rw (refusal-at-rules r coherent e (length out - at) l) (rw e)

@@ -6,7 +6,7 @@ use denote.Ref.{now, at-last}
 use Rattle.definitions.specs.declared.Line.{Line}
 use Rattle.definitions.specs.declared.Rulebook.the-variants.{Desk}
 use Rattle.definitions.specs.Rules.{rulesIn}
-use Rattle.definitions.specs.Calls.{WriterCall, linePut, putLineCall}
+use Rattle.calls.specs.Calls.{WriterCall, linePut, putLineCall}
 use Rattle.lines.specs.AtWidth.{writeRefusalAt}
 use Rattle.log_writer.specs.declared.LogWriter.{LogWriter}
 use Rattle.log_writer.specs.declared.Put.{Put}
@@ -21,8 +21,8 @@ putOf c = record { answer = c .answer; at = c .at }
 
 -- the same borrow, with the bytes after the line, and the position after it. `at-last x l` is the reference x, with its pointer and its ghost
 -- name, at the list l
-abbrev pub written : LogWriter → Line → LogWriter
-written w l = record {
+abbrev pub writtenTo : LogWriter → Line → LogWriter
+writtenTo w l = record {
   out = at-last (w .out) (putLineCall (rulesIn Desk) (now (w .out)) (w .at) l .out);
   at = putLineCall (rulesIn Desk) (now (w .out)) (w .at) l .at;
 }

@@ -7,8 +7,8 @@ use definitions::Rulebook;
 ghost use mathlib.Core.Path.{_≡_};
 ghost use Rattle.definitions.specs.declared.Rulebook.the-variants.{Desk};
 ghost use Rattle.definitions.specs.Rules.{rulesIn};
-ghost use Rattle.definitions.specs.Calls.{putLineCall};
-ghost use Rattle.log_writer.specs.Writers.{putLineIn, putOf, written};
+ghost use Rattle.calls.specs.Calls.{putLineCall};
+ghost use Rattle.log_writer.specs.Writers.{putLineIn, putOf, writtenTo};
 
 pub struct LogWriter<'a> {
     pub out: &'a mut [u8],
@@ -48,7 +48,8 @@ pub fn put_line_in(out: &mut [u8], at: usize, line: Line, width: usize) -> Put
 
 // The same at the desk's width.
 pub fn put_line_at(out: &mut [u8], at: usize, line: Line) -> Put
-    ensures { λ r. ⌜ (r ≡ putOf (putLineCall (rulesIn Desk) (now (out .entry)) at line)) × (now (out .exit) ≡ putLineCall (rulesIn Desk) (now (out .entry)) at line .out) ⌝ }
+    ensures { λ r. ⌜ (r ≡ putOf (putLineCall (rulesIn Desk) (now (out .entry)) at line))
+        × (now (out .exit) ≡ putLineCall (rulesIn Desk) (now (out .entry)) at line .out) ⌝ }
 {
     put_line_in(out, at, line, rules::amount_width(Rulebook::Desk))
 }
@@ -62,7 +63,8 @@ pub fn new<'a>(out: &'a mut [u8]) -> LogWriter<'a>
 
 // Puts the line at the writer's position, which moves on.
 pub fn put_line<'s, 'a>(w: &'s mut LogWriter<'a>, line: Line) -> Put
-    ensures { λ r. ⌜ (r ≡ putOf (putLineCall (rulesIn Desk) (now (now (w .entry) .out)) (now (w .entry) .at) line)) × (now (w .exit) ≡ written (now (w .entry)) line) ⌝ }
+    ensures { λ r. ⌜ (r ≡ putOf (putLineCall (rulesIn Desk) (now (now (w .entry) .out)) (now (w .entry) .at) line))
+        × (now (w .exit) ≡ writtenTo (now (w .entry)) line) ⌝ }
 {
     let at = w.at;
     let put = put_line_at(&mut *w.out, at, line);
@@ -79,7 +81,8 @@ pub fn position<'a>(w: LogWriter<'a>) -> usize
 
 // Puts the line at byte `at`, through a writer of its own.
 pub fn put_through(out: &mut [u8], at: usize, line: Line) -> Put
-    ensures { λ r. ⌜ (r ≡ putOf (putLineCall (rulesIn Desk) (now (out .entry)) at line)) × (now (out .exit) ≡ putLineCall (rulesIn Desk) (now (out .entry)) at line .out) ⌝ }
+    ensures { λ r. ⌜ (r ≡ putOf (putLineCall (rulesIn Desk) (now (out .entry)) at line))
+        × (now (out .exit) ≡ putLineCall (rulesIn Desk) (now (out .entry)) at line .out) ⌝ }
 {
     let mut w = LogWriter { out: out, at: at };
     put_line(&mut w, line)

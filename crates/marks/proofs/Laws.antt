@@ -117,9 +117,6 @@ mark-zero k = ap (λ (x : ℕ). eqb (x % 2) 1) (div-eq-of-lt (pow-pos k))
 pub byte-is : (s : ℕ) (f : ℕ → Bool) → s < 256 → ((k : ℕ) → k < 8 → mark s k ≡ f k) → s ≡ byteOf f
 byte-is s f h e = sym (byteOf-mark s h) ∙ byteOf-cong e
 
-pub same-marks : (s t : ℕ) → s < 256 → t < 256 → ((k : ℕ) → k < 8 → mark s k ≡ mark t k) → s ≡ t
-same-marks s t h g e = byte-is s (mark t) h e ∙ byteOf-mark t g
-
 -- ---- values of both sets
 and-bits : (x y : ℕ) → x < 2 → y < 2 → eqb (bitAnd x y) 1 ≡ (eqb x 1 && eqb y 1)
 and-bits zero y h g = refl
@@ -148,7 +145,8 @@ mask-all = tt
 mark-mask : (v j : ℕ) → v < 8 → j < 8 → mark (255 - (1 * 2 ^ v) % 256) j ≡ not (eqb j v)
 unfolding mark mask-test
 mark-mask v j h g =
-    let e = eqb→eq ((255 - (1 * 2 ^ v) % 256) / 2 ^ j % 2) (if eqb j v then 0 else 1) (all-at (mask-test v) 8 (all-at (λ v. all (mask-test v) (below 8)) 8 mask-all v h) j g) in
+    let e = eqb→eq ((255 - (1 * 2 ^ v) % 256) / 2 ^ j % 2) (if eqb j v then 0 else 1)
+    (all-at (mask-test v) 8 (all-at (λ v. all (mask-test v) (below 8)) 8 mask-all v h) j g) in
     ap (λ (x : ℕ). eqb x 1) e ∙ by (eqb j v)
   where
     by : (b : Bool) → eqb (if b then 0 else 1) 1 ≡ not b
@@ -264,7 +262,8 @@ lowest-is s h = eqb→eq _ (lowestOf s) (and-left (eqb (trailingZeros 8 s) (lowe
 
 pub single-is : (s : ℕ) → s < 256 → eqb (ones s) 1 ≡ isSingle s
 unfolding isSingle count-test
-single-is s h = ap (λ (x : ℕ). eqb x 1) (eqb→eq (ones s) (length (members s)) (and-right (eqb (trailingZeros 8 s) (lowestOf s)) _ (all-at count-test 256 count-all s h)))
+single-is s h = ap (λ (x : ℕ). eqb x 1) (eqb→eq (ones s) (length (members s))
+    (and-right (eqb (trailingZeros 8 s) (lowestOf s)) _ (all-at count-test 256 count-all s h)))
 
 -- what the lowest value is: it is in the set, nothing below it is, and it is 8 where the set is empty
 lowest-test : ℕ → Bool
@@ -284,7 +283,8 @@ below-all = tt
 module _ (s : ℕ) (h : s < 256) where
   pub lowest-small : 0 < s → lowestOf s < 8
   unfolding lowest-test
-  lowest-small g = ltb→lt (lowestOf s) 8 (and-left (ltb (lowestOf s) 8) (mark s (lowestOf s)) (imp-elim (ltb 0 s) _ (all-at lowest-test 256 lowest-all s h) (lt→ltb 0 s g)))
+  lowest-small g = ltb→lt (lowestOf s) 8 (and-left (ltb (lowestOf s) 8) (mark s (lowestOf s))
+      (imp-elim (ltb 0 s) _ (all-at lowest-test 256 lowest-all s h) (lt→ltb 0 s g)))
 
   pub lowest-marked : 0 < s → T (mark s (lowestOf s))
   unfolding lowest-test
@@ -292,4 +292,5 @@ module _ (s : ℕ) (h : s < 256) where
 
   pub lowest-below : (j : ℕ) → j < 8 → j < lowestOf s → T (not (mark s j))
   unfolding below-test
-  lowest-below j l g = imp-elim (ltb j (lowestOf s)) _ (all-at (below-test s) 8 (all-at (λ s. all (below-test s) (below 8)) 256 below-all s h) j l) (lt→ltb j (lowestOf s) g)
+  lowest-below j l g = imp-elim (ltb j (lowestOf s)) _ (all-at (below-test s) 8 (all-at (λ s. all (below-test s) (below 8)) 256 below-all s h) j l)
+      (lt→ltb j (lowestOf s) g)

@@ -9,7 +9,7 @@ use Rattle.definitions.specs.Rules.{Rules}
 use Rattle.definitions.specs.Refusals.{Test, firstOf}
 use Rattle.definitions.specs.Answers.{outcomeOf, unlessRefused}
 use Rattle.definitions.specs.Moves.{Move, moved}
-use Rattle.definitions.specs.Calls.{moveCall}
+use Rattle.calls.specs.Calls.{moveCall}
 use Rattle.tables.proofs.Order.{outcome-done, outcome-refused, first-next, first-stops}
 
 module _ (r : Rules) (c : Case) (w : List ℤ) (move : Move) (tests rest : List Test) where

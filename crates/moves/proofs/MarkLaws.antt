@@ -17,8 +17,8 @@ use Rattle.definitions.specs.declared.Verdict.{Verdict}
 use Rattle.definitions.specs.Consistency.{allRefuted}
 use Rattle.definitions.specs.Moves.{activeValues, activeRefuted}
 use Rattle.definitions.proofs.Refutation.{refuted-same}
+use Rattle.calls.specs.Calls.{isRaised}
 use Rattle.moves.specs.Marks.{marked, saysYes}
-use Rattle.changes.specs.Kept.{isRaised}
 
 pub marked-long : (xs l : List ℕ) → length (marked l xs) ≡ length l
 unfolding marked
@@ -51,8 +51,8 @@ module _ (l raised : List ℕ) (inside : T (all (λ x. ltb x (length l)) raised)
       go false = refl
 
 -- scopes lie in a list that is long enough
-pub inside-more : (raised : List ℕ) (n k : ℕ) → n ≤ k → T (all (λ x. ltb x n) raised) → T (all (λ x. ltb x k) raised)
-inside-more raised n k h t = all-in (λ x. ltb x k) raised .1 (λ x m. lt→ltb x k (omega (arith, ltb→lt x n (all-in (λ x. ltb x n) raised .0 t x m))))
+pub marks-inside : (raised : List ℕ) (n k : ℕ) → n ≤ k → T (all (λ x. ltb x n) raised) → T (all (λ x. ltb x k) raised)
+marks-inside raised n k h t = all-in (λ x. ltb x k) raised .1 (λ x m. lt→ltb x k (omega (arith, ltb→lt x n (all-in (λ x. ltb x n) raised .0 t x m))))
 
 pub zeros : (n y : ℕ) → _≡_ {A = ℕ} (getD (replicate n 0) y 0) 0
 zeros zero y = refl
@@ -62,7 +62,8 @@ zeros (suc n) (suc y) = zeros n y
 -- every value is refuted under the marks just where it is with these scopes raised
 pub marks-refute : (c : Case) (w : List ℤ) (i : ℕ) (marks raised : List ℕ) → ((y : ℕ) → isRaised marks y ≡ isIn raised y)
     → allRefuted c w (isRaised marks) i (activeValues c w i) ≡ activeRefuted c w i raised
-marks-refute c w i marks raised same = all-same (c .d) (λ k h. ap (λ (b : Bool). activeValues c w i k ⇒ b) (refuted-same c w w (isRaised marks) (isIn raised) i k (λ p g. refl) (λ x g. same x)))
+marks-refute c w i marks raised same = all-same (c .d)
+    (λ k h. ap (λ (b : Bool). activeValues c w i k ⇒ b) (refuted-same c w w (isRaised marks) (isIn raised) i k (λ p g. refl) (λ x g. same x)))
 
 pub says-yes : (b : Bool) → saysYes (if b then Verdict.Yes else Verdict.No) ≡ b
 says-yes true = refl

@@ -1,17 +1,14 @@
 -- Rising lists: each element is below the next. Assumes nothing.
 use mathlib.Core.Path.{_≡_, subst}
-use mathlib.Core.Bool.{not, _&&_}
-use mathlib.Core.Logic.{_↔_, _⊎_, inl, inr, ⊎-elim}
+use mathlib.Core.Bool.{_&&_}
+use mathlib.Core.Logic.{_↔_, ⊎-elim}
 use mathlib.Core.List.{List, [], _∷_}
 use Prim.Native.Nat.{ℕ, zero, suc, _+_, _-_, _<_}
 use native.Mathlib.Omega.{arith}
-use lib.Dec.{T, not-T, ltb, eqb, ltb→lt, lt→ltb, eqb→eq}
-use lib.ListN.{length, getD, take}
-use lib.Seq.{getD-take, length-take-le}
-use Rattle.integers.specs.Words.{isIn}
+use lib.Dec.{T, ltb, eqb, ltb→lt, lt→ltb, eqb→eq}
+use lib.ListN.{length, getD}
 use Rattle.integers.specs.Tests.{either, and-intro, and-left, and-right, not-eqb-iff}
-use Rattle.integers.specs.Tables.{any-getD}
-use Rattle.definitions.specs.Calls.{isRising}
+use Rattle.calls.specs.Calls.{isRising}
 
 pub rising-iff : (xs : List ℕ) → T (isRising xs) ↔ ((k : ℕ) → suc k < length xs → getD xs k 0 < getD xs (suc k) 0)
 rising-iff [] = (λ t k h. absurd (omega arith), λ f. tt)
@@ -28,7 +25,8 @@ rising-iff (x ∷ y ∷ ys) = (
     to t (suc k) h r = r (and-right (ltb x y) (isRising (y ∷ ys)) t) k (omega arith)
 
 -- one more turn of a search for a step that does not rise
-pub next-rises : (xs : List ℕ) (j k : ℕ) → ((k : ℕ) → suc k < j → getD xs k 0 < getD xs (suc k) 0) → getD xs (j - 1) 0 < getD xs j 0 → suc k < j + 1 → getD xs k 0 < getD xs (suc k) 0
+pub next-rises : (xs : List ℕ) (j k : ℕ) → ((k : ℕ) → suc k < j → getD xs k 0 < getD xs (suc k) 0) → getD xs (j - 1) 0 < getD xs j 0 → suc k < j + 1
+    → getD xs k 0 < getD xs (suc k) 0
 next-rises xs j k f u h = ⊎-elim
     (λ t. let e : suc k ≡ j = eqb→eq (suc k) j t in let d : j - 1 ≡ k = omega arith in rw e (subst (λ (i : ℕ). getD xs i 0 < getD xs j 0) d u))
     (λ t. f k (omega (arith, not-eqb-iff (suc k) j .0 t)))

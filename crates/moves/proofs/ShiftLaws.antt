@@ -15,7 +15,7 @@ use Rattle.definitions.specs.Answers.{outcomeOf}
 use Rattle.definitions.specs.Case.{scopeCount}
 use Rattle.definitions.specs.Valid.{workingWeight, handedOver}
 use Rattle.definitions.specs.Moves.{shift, moved, leavesRange}
-use Rattle.definitions.specs.Calls.{moveCall, shiftOut, shiftCall}
+use Rattle.calls.specs.Calls.{moveCall, shiftOut, shiftCall}
 use Rattle.theory.proofs.Validity.{Handed}
 use Rattle.tables.specs.Scopes.{BestOf, greatestCall}
 use Rattle.tables.proofs.Best.{greatest-known}

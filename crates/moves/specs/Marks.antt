@@ -10,8 +10,8 @@ use Rattle.definitions.specs.declared.Verdict.{Verdict}
 use Rattle.definitions.specs.declared.Refusal.the-variants.{RaiseNotAscending, NotRefuted, LeavesRange}
 use Rattle.definitions.specs.Rules.{Rules}
 use Rattle.definitions.specs.Refusals.{Test, _when_}
-use Rattle.definitions.specs.Moves.{press, moved, activeRefuted, leavesRange}
-use Rattle.definitions.specs.Calls.{isRising}
+use Rattle.definitions.specs.Moves.{activePress, moved, activeRefuted, leavesRange}
+use Rattle.calls.specs.Calls.{isRising}
 
 -- 1 at each of these places
 unfoldable pub marked : List ℕ → List ℕ → List ℕ
@@ -26,7 +26,7 @@ saysYes (Verdict.Refused x) = false
 -- numbers 10 and 11
 abbrev pub askedOfRaised : Rules → Case → List ℤ → ℕ → List ℕ → ℤ → List Test
 askedOfRaised r c w i raised a =
-    NotRefuted when (not (activeRefuted c w i raised)) ∷ LeavesRange when (leavesRange r c (moved c (press i raised a) w)) ∷ []
+    NotRefuted when (not (activeRefuted c w i raised)) ∷ LeavesRange when (leavesRange r c (moved c (activePress c w i raised a) w)) ∷ []
 
 -- numbers 9, 10 and 11
 abbrev pub askedOfPress : Rules → Case → List ℤ → ℕ → List ℕ → ℤ → List Test

@@ -13,8 +13,8 @@ ghost use Rattle.integers.specs.Words.{all, any, isIn};
 ghost use Rattle.definitions.specs.Rules.{rulesOf};
 ghost use Rattle.definitions.specs.Case.{scopeCount};
 ghost use Rattle.definitions.specs.Valid.{workingWeight};
-ghost use Rattle.definitions.specs.Moves.{press as pressMove, pressAmount};
-ghost use Rattle.definitions.specs.Calls.{isRising, moveCall, shiftCall, pressOut, pressCall};
+ghost use Rattle.definitions.specs.Moves.{activePress, pressAmount};
+ghost use Rattle.calls.specs.Calls.{isRising, moveCall, shiftCall, pressOut, pressCall};
 ghost use Rattle.theory.proofs.Validity.{Handed};
 ghost use Rattle.tables.specs.Scopes.{Limited};
 ghost use Rattle.moves.specs.Marks.{marked, saysYes, askedOfRaised, askedOfPress};
@@ -120,17 +120,22 @@ fn press_raised(
     requires { ⌜ Handed (rulesOf case) (workingWeight (rulesOf case)) case (now table) ⌝ }
     requires { ⌜ (variable < case .n) × T (all (λ x. ltb x (scopeCount case)) (now raised)) ⌝ }
     requires { ⌜ T (pressAmount (rulesOf case) amount) ⌝ }
-    ensures { λ r. ⌜ r ≡ moveCall (rulesOf case) case (now (table .entry)) (pressMove variable (now (raised .entry)) amount) (askedOfRaised (rulesOf case) case (now (table .entry)) variable (now (raised .entry)) amount) .answer ⌝ }
-    ensures { λ r. ⌜ now (table .exit) ≡ moveCall (rulesOf case) case (now (table .entry)) (pressMove variable (now (raised .entry)) amount) (askedOfRaised (rulesOf case) case (now (table .entry)) variable (now (raised .entry)) amount) .table ⌝ }
+    ensures { λ r. ⌜ r ≡ moveCall (rulesOf case) case (now (table .entry))
+        (activePress case (now (table .entry)) variable (now (raised .entry)) amount)
+        (askedOfRaised (rulesOf case) case (now (table .entry)) variable (now (raised .entry)) amount) .answer ⌝ }
+    ensures { λ r. ⌜ now (table .exit) ≡ moveCall (rulesOf case) case (now (table .entry))
+        (activePress case (now (table .entry)) variable (now (raised .entry)) amount)
+        (askedOfRaised (rulesOf case) case (now (table .entry)) variable (now (raised .entry)) amount) .table ⌝ }
 {
     let mut marks = [0u8; SCOPE_PLACES];
     mark_scopes(&mut marks, raised);
     let mut best = [0i64; SCOPE_PLACES];
     tables::greatest_weights(case, table, &mut best);
-    if !is_yes(arcs::best_unsupported(case, table, &best, &marks, variable)) {
+    let values = changes::best_values(case, table, &best, variable);
+    if !is_yes(arcs::values_unsupported(case, table, &best, &marks, variable, values)) {
         return Outcome::Refused(Refusal::NotRefuted);
     }
-    changes::lower_and_raise(case, table, &mut best, &marks, variable, amount)
+    changes::lower_and_raise(case, table, &mut best, &marks, variable, values, amount)
 }
 
 // Numbers 9, 10 and 11, and the press.
@@ -144,8 +149,12 @@ fn press_checked(
     requires { ⌜ Handed (rulesOf case) (workingWeight (rulesOf case)) case (now table) ⌝ }
     requires { ⌜ (variable < case .n) × T (all (λ x. ltb x (scopeCount case)) (now raised)) ⌝ }
     requires { ⌜ T (pressAmount (rulesOf case) amount) ⌝ }
-    ensures { λ r. ⌜ r ≡ moveCall (rulesOf case) case (now (table .entry)) (pressMove variable (now (raised .entry)) amount) (askedOfPress (rulesOf case) case (now (table .entry)) variable (now (raised .entry)) amount) .answer ⌝ }
-    ensures { λ r. ⌜ now (table .exit) ≡ moveCall (rulesOf case) case (now (table .entry)) (pressMove variable (now (raised .entry)) amount) (askedOfPress (rulesOf case) case (now (table .entry)) variable (now (raised .entry)) amount) .table ⌝ }
+    ensures { λ r. ⌜ r ≡ moveCall (rulesOf case) case (now (table .entry))
+        (activePress case (now (table .entry)) variable (now (raised .entry)) amount)
+        (askedOfPress (rulesOf case) case (now (table .entry)) variable (now (raised .entry)) amount) .answer ⌝ }
+    ensures { λ r. ⌜ now (table .exit) ≡ moveCall (rulesOf case) case (now (table .entry))
+        (activePress case (now (table .entry)) variable (now (raised .entry)) amount)
+        (askedOfPress (rulesOf case) case (now (table .entry)) variable (now (raised .entry)) amount) .table ⌝ }
 {
     if !is_rising(raised) {
         return Outcome::Refused(Refusal::RaiseNotAscending);
@@ -166,7 +175,8 @@ pub fn shift(
     value: usize,
     amount: i64,
 ) -> Outcome
-    ensures { λ r. ⌜ (r ≡ shiftCall (rulesOf case) case (now (table .entry)) edge end value amount .answer) × (now (table .exit) ≡ shiftCall (rulesOf case) case (now (table .entry)) edge end value amount .table) ⌝ }
+    ensures { λ r. ⌜ (r ≡ shiftCall (rulesOf case) case (now (table .entry)) edge end value amount .answer)
+        × (now (table .exit) ≡ shiftCall (rulesOf case) case (now (table .entry)) edge end value amount .table) ⌝ }
 {
     let out = changes::transfer_out(case, edge, end, value, amount);
     let checked = tables::check_working(case, table, false, out);
@@ -181,7 +191,8 @@ pub fn shift(
 }
 
 pub fn press(case: Case, table: &mut [i64], variable: usize, raised: &[u16], amount: i64) -> Outcome
-    ensures { λ r. ⌜ (r ≡ pressCall (rulesOf case) case (now (table .entry)) variable (now (raised .entry)) amount .answer) × (now (table .exit) ≡ pressCall (rulesOf case) case (now (table .entry)) variable (now (raised .entry)) amount .table) ⌝ }
+    ensures { λ r. ⌜ (r ≡ pressCall (rulesOf case) case (now (table .entry)) variable (now (raised .entry)) amount .answer)
+        × (now (table .exit) ≡ pressCall (rulesOf case) case (now (table .entry)) variable (now (raised .entry)) amount .table) ⌝ }
 {
     if !tables::within_limits(case) {
         return Outcome::Refused(Refusal::OutsideLimits);

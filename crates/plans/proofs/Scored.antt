@@ -19,7 +19,7 @@ use Rattle.definitions.specs.Refusals.{firstOf}
 use Rattle.definitions.specs.Answers.{outcomeOf}
 use Rattle.definitions.specs.Case.{objective, isAssignment}
 use Rattle.definitions.specs.Valid.{startingWeight, workingWeight, wrongAssignment, valueOut, handedOver}
-use Rattle.definitions.specs.Calls.{objectiveAnswer, figureOf}
+use Rattle.calls.specs.Calls.{objectiveAnswer, figureOf}
 use Rattle.definitions.specs.Scoring.{betterOf}
 use Rattle.theory.proofs.Validity.{Handed, handed, Valid, working-weights, lent-assignment}
 use Rattle.tables.proofs.Order.{outcome-done, outcome-refused}
@@ -49,14 +49,15 @@ module _ {c : Case} {w : List ℤ} (h : Valid (rulesOf c) c w) where
       (handed (rulesOf c) (workingWeight (rulesOf c)) c w (wrongAssignment c p) (valueOut c p) .1 (working, s, t)))
 
 module _ (c : Case) (w : List ℤ) (p q : List ℕ) where
-  -- what is asked of two assignments
-  abbrev pub asked : Option Refusal
-  asked = firstOf (handedOver (rulesOf c) (startingWeight (rulesOf c)) c w (wrongAssignment c p || wrongAssignment c q) (valueOut c p || valueOut c q))
+  -- what is scoresAsked of two assignments
+  abbrev pub scoresAsked : Option Refusal
+  scoresAsked = firstOf (handedOver (rulesOf c) (startingWeight (rulesOf c)) c w (wrongAssignment c p || wrongAssignment c q) (valueOut c p || valueOut c q))
 
-  pub both-known : Outcome.Done ≡ outcomeOf asked → Valid (rulesOf c) c w × T (isAssignment c p) × T (isAssignment c q)
+  pub both-known : Outcome.Done ≡ outcomeOf scoresAsked → Valid (rulesOf c) c w × T (isAssignment c p) × T (isAssignment c q)
   both-known e =
-      let d : asked ≡ none = outcome-done e in
-      let (v, s, t) = handed (rulesOf c) (startingWeight (rulesOf c)) c w (wrongAssignment c p || wrongAssignment c q) (valueOut c p || valueOut c q) .0 (rw d tt) in
+      let d : scoresAsked ≡ none = outcome-done e in
+      let (v, s, t) = handed (rulesOf c) (startingWeight (rulesOf c)) c w (wrongAssignment c p || wrongAssignment c q) (valueOut c p || valueOut c q) .0
+      (rw d tt) in
       let (s₁, s₂) = not-or-iff (wrongAssignment c p) (wrongAssignment c q) .0 s in
       let (t₁, t₂) = not-or-iff (valueOut c p) (valueOut c q) .0 t in
       (v, lent-assignment c p .0 (s₁, t₁), lent-assignment c q .0 (s₂, t₂))
@@ -67,8 +68,9 @@ module _ (c : Case) (w : List ℤ) (p q : List ℕ) where
     | none ↦ if ltZ (objective c w p) (objective c w q) then Choice.Second else Choice.First
   ]
 
-  pub choice-refused : {x : Refusal} → Outcome.Refused x ≡ outcomeOf asked → Choice.Refused x ≡ betterOf (rulesOf c) c w p q
-  choice-refused {x} e = let d : asked ≡ some x = outcome-refused e in sym (ap choiceOf d)
+  pub choice-refused : {x : Refusal} → Outcome.Refused x ≡ outcomeOf scoresAsked → Choice.Refused x ≡ betterOf (rulesOf c) c w p q
+  choice-refused {x} e = let d : scoresAsked ≡ some x = outcome-refused e in sym (ap choiceOf d)
 
-  pub choice-made : Outcome.Done ≡ outcomeOf asked → (if ltZ (objective c w p) (objective c w q) then Choice.Second else Choice.First) ≡ betterOf (rulesOf c) c w p q
-  choice-made e = let d : asked ≡ none = outcome-done e in sym (ap choiceOf d)
+  pub choice-made : Outcome.Done ≡ outcomeOf scoresAsked
+      → (if ltZ (objective c w p) (objective c w q) then Choice.Second else Choice.First) ≡ betterOf (rulesOf c) c w p q
+  choice-made e = let d : scoresAsked ≡ none = outcome-done e in sym (ap choiceOf d)

@@ -69,7 +69,8 @@ pub fn better<'a>(
     number: &mut u8,
 ) -> &'a [u8]
     ensures { λ r. ⌜ now r ≡ betterPart (rulesOf case) case (now (table .entry)) (now (first .entry)) (now (second .entry)) ⌝ }
-    ensures { λ r. ⌜ (betterOf (rulesOf case) case (now (table .entry)) (now (first .entry)) (now (second .entry)) ≡ Choice.First → r ≡ first .entry) × (betterOf (rulesOf case) case (now (table .entry)) (now (first .entry)) (now (second .entry)) ≡ Choice.Second → r ≡ second .entry) ⌝ }
+    ensures { λ r. ⌜ (betterOf (rulesOf case) case (now (table .entry)) (now (first .entry)) (now (second .entry)) ≡ Choice.First → r ≡ first .entry)
+        × (betterOf (rulesOf case) case (now (table .entry)) (now (first .entry)) (now (second .entry)) ≡ Choice.Second → r ≡ second .entry) ⌝ }
     ensures { λ _. ⌜ now (number .exit) ≡ choiceSays (betterOf (rulesOf case) case (now (table .entry)) (now (first .entry)) (now (second .entry))) .number ⌝ }
 {
     let choice = better_of(case, table, first, second);

@@ -22,12 +22,12 @@ use Rattle.pressing.specs.Pressing.{PressingCall, startPressing, nextPressing}
 use Rattle.pressing.specs.Prints.{printedBytes, textOf, called, afterCalls, printedOf, Over, Printed}
 use Rattle.pressing.proofs.Prints.{press-printed}
 use Rattle.press.specs.declared.State.{State}
-use Rattle.press.specs.Rounds.{isLast, Next, Rounds, Presses}
+use Rattle.press.specs.Rounds.{nothingDue, NextCall, Rounds, Presses}
 
 -- the part that is printed of an output
-pub part-is : (x : Written) (out : List ℕ) → printedPart x out ≡ printedBytes x out
-part-is (Written.Bytes n) out = refl
-part-is (Written.Refused x) out = refl
+pub printed-part-is : (x : Written) (out : List ℕ) → printedPart x out ≡ printedBytes x out
+printed-part-is (Written.Bytes n) out = refl
+printed-part-is (Written.Refused x) out = refl
 
 after-last : (n : ℕ) (g : PressingCall) → afterCalls (suc n) g ≡ called (afterCalls n g)
 after-last zero g = refl
@@ -51,11 +51,11 @@ pub record Made (n : ℕ) (g : PressingCall) (s : State) (w : List ℤ) (out : L
   pub output : out ≡ afterCalls n g .out
   pub bytes : s .bytes ≡ length (printedOf n g)
 
-pub made-ends : {n : ℕ} {g : PressingCall} {s : State} {w : List ℤ} {out : List ℕ} → Made n g s w out → T (isLast s) ⊎ (pressLimit ≤ n) → Rounds g s w out
+pub made-ends : {n : ℕ} {g : PressingCall} {s : State} {w : List ℤ} {out : List ℕ} → Made n g s w out → T (nothingDue s) ⊎ (pressLimit ≤ n) → Rounds g s w out
 made-ends {n} m e = record { calls = n; pressed = m .pressed; table = m .table; output = m .output; bytes = m .bytes; ends = e }
 
 -- one call more
-module _ {n : ℕ} {g : PressingCall} {s r : State} {w v : List ℤ} {out after : List ℕ} (m : Made n g s w out) (x : Next s w out r v after) where
+module _ {n : ℕ} {g : PressingCall} {s r : State} {w v : List ℤ} {out after : List ℕ} (m : Made n g s w out) (x : NextCall s w out r v after) where
   same-next : nextPressing (s .pressed .pressing) w out ≡ afterCalls (suc n) g
   same-next = rw (m .pressed, m .table, m .output) (sym (after-last n g))
 
@@ -81,7 +81,8 @@ pub same-call : (x : PressingCall) {p : Pressed} {w : List ℤ} {out : List ℕ}
 same-call x e f h = rw (e, f, h) refl
 
 -- a buffer that is full, by the bytes that were read
-pub read-all : {over : Type 0} (buf : List ℕ) (to : ℕ) → length buf ≡ inputPlaces → length (take to buf) ≡ to → (length buf ≤ to) ⊎ over → (inputPlaces ≤ length (take to buf)) ⊎ over
+pub read-all : {over : Type 0} (buf : List ℕ) (to : ℕ) → length buf ≡ inputPlaces → length (take to buf) ≡ to → (length buf ≤ to) ⊎ over
+    → (inputPlaces ≤ length (take to buf)) ⊎ over
 read-all buf to long count (inl h) = inl (omega arith)
 read-all buf to long count (inr o) = inr o
 
@@ -103,13 +104,14 @@ module _ (front out : List ℕ) (filled : Filled) {r : State} {v : List ℤ} {af
   read : (rest : List ℕ) → (T (isOver filled) → rest ≡ []) → (longestCase (rulesIn Desk) + lineLength (rulesIn Desk .amountWidth) ≤ length front) ⊎ (rest ≡ [])
   read rest e = ⊎-elim (λ h. inl (omega arith)) (λ t. inr (e t)) enough
 
-  over : (rest : List ℕ) → Printed Desk (front ++ rest) begun → r .all ≡ true → T (isLast r) ⊎ (pressLimit ≤ o .calls) → Over (afterCalls (o .calls) begun)
+  over : (rest : List ℕ) → Printed Desk (front ++ rest) begun → r .all ≡ true → T (nothingDue r) ⊎ (pressLimit ≤ o .calls) → Over (afterCalls (o .calls) begun)
   over rest p e (inr h) = p .ends (o .calls) h
   over rest p e (inl t) =
       let last : T (eqb (r .pressed .pressing .left) 0) = rw e at t in
       ap (λ (k : Pressed). k .pressing .left) (sym (o .pressed)) ∙ eqb→eq (r .pressed .pressing .left) 0 last
 
-  pub rounds-press : {bytes : ℕ} {all : Bool} → isFailed filled ≡ false → bytes ≡ r .bytes → all ≡ r .all → Presses front filled (record { bytes = bytes; all = all })
+  pub rounds-press : {bytes : ℕ} {all : Bool} → isFailed filled ≡ false → bytes ≡ r .bytes → all ≡ r .all
+      → Presses front filled (record { bytes = bytes; all = all })
   rounds-press done b a = record {
     printed = printedOf (o .calls) begun;
     bytes = b ∙ o .bytes;

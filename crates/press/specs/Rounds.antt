@@ -18,11 +18,11 @@ use Rattle.press.specs.declared.Printed.{Printed}
 use Rattle.press.specs.declared.State.{State}
 
 -- a write failed, or nothing more is due
-abbrev pub isLast : State → Bool
-isLast s = not (s .all) || eqb (s .pressed .pressing .left) 0
+abbrev pub nothingDue : State → Bool
+nothingDue s = not (s .all) || eqb (s .pressed .pressing .left) 0
 
 -- the next call, whose text is handed to be printed
-pub record Next (s : State) (w : List ℤ) (out : List ℕ) (r : State) (v : List ℤ) (after : List ℕ) : Type 0 where
+pub record NextCall (s : State) (w : List ℤ) (out : List ℕ) (r : State) (v : List ℤ) (after : List ℕ) : Type 0 where
   pub pressed : r .pressed ≡ nextPressing (s .pressed .pressing) w out .pressed
   pub table : v ≡ nextPressing (s .pressed .pressing) w out .table
   pub output : after ≡ nextPressing (s .pressed .pressing) w out .out
@@ -35,7 +35,7 @@ pub record Rounds (g : PressingCall) (r : State) (v : List ℤ) (after : List �
   pub table : v ≡ afterCalls calls g .table
   pub output : after ≡ afterCalls calls g .out
   pub bytes : r .bytes ≡ length (printedOf calls g)
-  pub ends : T (isLast r) ⊎ (pressLimit ≤ calls)
+  pub ends : T (nothingDue r) ⊎ (pressLimit ≤ calls)
 
 -- what is handed to be printed where a fill read this front of the input: nothing where a read failed; else, where no write failed, what `press`
 -- prints of the input

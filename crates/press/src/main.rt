@@ -2,9 +2,7 @@
 // by `pressing` on slices. Of an input that is longer than a case and a line more, only the front is read, and it is printed as the whole is
 // (pressing, Prints.press-printed). Where a read failed nothing is printed; the rounds end where a write fails. Both are told on standard error, since
 // a settled case prints nothing either.
-use definitions::INPUT_PLACES;
 use definitions::ROUND_PLACES;
-use definitions::TABLE_PLACES;
 use libc::STDERR_FILENO;
 use libc::STDOUT_FILENO;
 use pressing::Pressed;
@@ -21,7 +19,7 @@ ghost use Rattle.definitions.specs.CaseFiles.{caseSize};
 ghost use Rattle.definitions.specs.Programs.{tableFor};
 ghost use Rattle.streams.specs.Streams.{isOver};
 ghost use Rattle.pressing.specs.Prints.{printedBytes};
-ghost use Rattle.press.specs.Rounds.{isLast, Next, Rounds, Presses};
+ghost use Rattle.press.specs.Rounds.{nothingDue, NextCall, Rounds, Presses};
 
 // The most calls that are made.
 const ROUNDS: u64 = 100_000;
@@ -37,19 +35,6 @@ struct State {
 struct Printed {
     bytes: usize,
     all: bool,
-}
-
-// Room for the longest case and a line.
-fn buffer() -> [u8; INPUT_PLACES]
-    ensures { λ r. ⌜ inputPlaces ≡ length r ⌝ }
-{
-    [0; INPUT_PLACES]
-}
-
-fn weights() -> [i64; TABLE_PLACES]
-    ensures { λ r. ⌜ r ≡ replicate tablePlaces (pos 0) ⌝ }
-{
-    [0; TABLE_PLACES]
 }
 
 // Prints what a call wrote, after so many bytes.
@@ -69,7 +54,7 @@ fn print(pressed: Pressed, out: &[u8], before: usize) -> State
 
 // A write failed, or nothing more is due.
 fn is_last(state: State) -> bool
-    ensures { λ r. ⌜ r ≡ isLast state ⌝ }
+    ensures { λ r. ⌜ r ≡ nothingDue state ⌝ }
 {
     let pressed = state.pressed;
     let pressing = pressed.pressing;
@@ -82,7 +67,7 @@ fn is_last(state: State) -> bool
 // The next call, printed.
 fn print_next(state: State, table: &mut [i64], out: &mut [u8]) -> State
     requires { ⌜ state .bytes + length (now out) < 2 ^ 62 ⌝ }
-    ensures { λ r. ⌜ Next state (now (table .entry)) (now (out .entry)) r (now (table .exit)) (now (out .exit)) ⌝ }
+    ensures { λ r. ⌜ NextCall state (now (table .entry)) (now (out .entry)) r (now (table .exit)) (now (out .exit)) ⌝ }
 {
     let pressed = state.pressed;
     let pressing = pressed.pressing;
@@ -93,7 +78,8 @@ fn print_next(state: State, table: &mut [i64], out: &mut [u8]) -> State
 // The rounds after a start that was printed.
 fn print_rounds(first: State, table: &mut [i64], out: &mut [u8]) -> State
     requires { ⌜ (length (now out) ≡ roundPlaces) × (first .bytes ≡ length (printedBytes (first .pressed .written) (now out))) ⌝ }
-    ensures { λ r. ⌜ Rounds (record { pressed = first .pressed; table = now (table .entry); out = now (out .entry) }) r (now (table .exit)) (now (out .exit)) ⌝ }
+    ensures { λ r. ⌜ Rounds (record { pressed = first .pressed; table = now (table .entry); out = now (out .entry) }) r (now (table .exit))
+        (now (out .exit)) ⌝ }
 {
     let mut state = first;
     let mut calls = ROUNDS;
@@ -143,8 +129,8 @@ fn tell(failed: bool, all: bool) {
 }
 
 fn main() {
-    let mut space = buffer();
-    let mut weights = weights();
+    let mut space = streams::buffer();
+    let mut weights = streams::weights();
     let filled = streams::fill(&mut space, 0);
     let to = filled.to;
     let input = &space[..to];

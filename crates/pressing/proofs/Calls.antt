@@ -1,12 +1,11 @@
 -- What the calls leave, at each way out of the code. Assumes nothing.
-use mathlib.Core.Path.{_≡_, refl, sym, ap, ap₂, subst, _∙_}
+use mathlib.Core.Path.{_≡_, refl, sym, ap, ap₂, _∙_}
 use mathlib.Core.Bool.{Bool}
 use mathlib.Core.Option.{Option, none, some}
 use mathlib.Core.List.{List}
-use Prim.Native.Nat.{ℕ, _-_, _<_}
-use native.Mathlib.Omega.{arith}
+use Prim.Native.Nat.{ℕ, _-_}
 use lib.IntN.{ℤ}
-use lib.Dec.{T, eqb, ltb}
+use lib.Dec.{eqb, ltb}
 use lib.ListN.{length}
 use Rattle.integers.specs.Words.{if_then_else_}
 use Rattle.definitions.specs.declared.Rulebook.{Rulebook}
@@ -19,19 +18,18 @@ use Rattle.definitions.specs.declared.RunAnswer.{RunAnswer}
 use Rattle.definitions.specs.declared.Run.{Run}
 use Rattle.definitions.specs.declared.Written.{Written}
 use Rattle.definitions.specs.Rules.{Rules, rulesOf}
-use Rattle.definitions.specs.Calls.{writtenOf}
+use Rattle.calls.specs.Calls.{writtenOf}
 use Rattle.definitions.specs.CaseFiles.{CaseCall, caseOf, caseSize, readCaseAlone}
-use borrow.Author.Tests.{ne-eqb}
 use Rattle.definitions.specs.Moves.{Move}
 use Rattle.definitions.specs.Engine.{Next, nothing, round, engineNext, afterMoves, madeOf, makeNext}
-use Rattle.definitions.specs.EngineCalls.{RoundCall, RunCall, isLeaving, answerAtLimit, roundMade, engineRefusal, roundCall, runCall}
+use Rattle.calls.specs.EngineCalls.{RoundCall, RunCall, isLeaving, answerAtLimit, roundMade, engineRefusal, roundCall, runCall}
 use Rattle.definitions.specs.Programs.{pressLimit}
 use Rattle.engine_theory.proofs.Calls.{call-taken, run-refused}
 use Rattle.texts.specs.Texts.{textRoom, writeRefusedCall}
 use Rattle.pressing.specs.declared.Pressing.{Pressing}
 use Rattle.pressing.specs.declared.Pressed.{Pressed}
-use Rattle.pressing.specs.Prints.{isText}
-use Rattle.pressing.specs.Pressing.{PressingCall, withLeft, afterText, writeRefusal, afterRound, headOrShort, afterCase, startPressing, roundNext, nextPressing}
+use Rattle.pressing.specs.Pressing.{PressingCall, withLeft, afterText, pressRefusal, afterRound}
+use Rattle.pressing.specs.Pressing.{headOrShort, afterCase, startPressing, roundNext, nextPressing}
 
 abbrev toPressed : Pressing → Written → Pressed
 toPressed p x = record { pressing = p; written = x }
@@ -54,11 +52,12 @@ module _ (p : Pressing) (x : Written) where
 -- ---- a refusal by the engine, by whether it is number 11
 module _ (x : Refusal) (lines : ℕ) (out : List ℕ) where
   pub refusal-is : {b : Bool} → b ≡ isLeaving x → {c : Bool} → b ≡ c
-      → (if c then writeRefusedCall out x lines else record { answer = Written.Refused x; out = out }) ≡ writeRefusal x lines out
+      → (if c then writeRefusedCall out x lines else record { answer = Written.Refused x; out = out }) ≡ pressRefusal x lines out
   refusal-is d e = ap (λ (b : Bool). if b then writeRefusedCall out x lines else record { answer = Written.Refused x; out = out }) (sym e ∙ d)
 
 -- ---- a round
-module _ (p : Pressing) (call : RoundCall) {res : Round} {v : List ℤ} {bytes : List ℕ} (told : (res ≡ call .answer) × (v ≡ call .table) × (bytes ≡ call .out)) where
+module _ (p : Pressing) (call : RoundCall) {res : Round} {v : List ℤ} {bytes : List ℕ}
+    (told : (res ≡ call .answer) × (v ≡ call .table) × (bytes ≡ call .out)) where
   pub round-settled : res ≡ Round.Settled → {q : Pressed} → q ≡ afterText p (Written.Bytes 0) → Leaves q v bytes (afterRound p call (call .answer))
   round-settled e d = let (a, t, o) = told in same-pressing (ap (afterRound p call) (sym e ∙ a)) (d, t, o)
 
@@ -66,25 +65,16 @@ module _ (p : Pressing) (call : RoundCall) {res : Round} {v : List ℤ} {bytes :
       → Leaves (toPressed q (Written.Bytes n)) v bytes (afterRound p call (call .answer))
   round-made {n} e d = let (a, t, o) = told in same-pressing (ap (afterRound p call) (sym e ∙ a)) (ap (λ (k : Pressing). toPressed k (Written.Bytes n)) d, t, o)
 
-  pub round-refused : {x : Refusal} → res ≡ Round.Refused x → {y : Written} {out : List ℕ} → (y ≡ writeRefusal x (p .lines) bytes .answer) × (out ≡ writeRefusal x (p .lines) bytes .out)
+  pub call-refused : {x : Refusal} → res ≡ Round.Refused x → {y : Written} {out : List ℕ}
+      → (y ≡ pressRefusal x (p .lines) bytes .answer) × (out ≡ pressRefusal x (p .lines) bytes .out)
       → {q : Pressed} → q ≡ afterText p y → Leaves q v out (afterRound p call (call .answer))
-  round-refused {x} e (w, n) d =
+  call-refused {x} e (w, n) d =
       let (a, t, o) = told in
       same-pressing (ap (afterRound p call) (sym e ∙ a)) (
-        d ∙ ap (afterText p) (w ∙ ap (λ (l : List ℕ). writeRefusal x (p .lines) l .answer) o),
+        d ∙ ap (afterText p) (w ∙ ap (λ (l : List ℕ). pressRefusal x (p .lines) l .answer) o),
         t,
-        n ∙ ap (λ (l : List ℕ). writeRefusal x (p .lines) l .out) o,
+        n ∙ ap (λ (l : List ℕ). pressRefusal x (p .lines) l .out) o,
       )
-
-text-falls : (p : Pressing) (x : Written) → 0 < p .left → T (isText (afterText p x .written)) → afterText p x .pressing .left < p .left
-text-falls p (Written.Bytes n) h t = h
-text-falls p (Written.Refused y) h t = absurd t
-
-round-falls : (p : Pressing) (call : RoundCall) (a : Round) → 0 < p .left
-    → T (isText (afterRound p call a .pressed .written)) → afterRound p call a .pressed .pressing .left < p .left
-round-falls p call Round.Settled h t = h
-round-falls p call (Round.Made bytes bound) h t = omega arith
-round-falls p call (Round.Refused x) h t = text-falls p (writeRefusal x (p .lines) (call .out) .answer) h t
 
 -- ---- a run of no round
 module _ (r : Rules) (c : Case) (w : List ℤ) (out : List ℕ) where
@@ -101,7 +91,8 @@ module _ (r : Rules) (c : Case) (w : List ℤ) (out : List ℕ) where
   unfolding runCall
   run-asks = (go (engineRefusal r engineNext c w out) refl, refl, refl)
     where
-      moved : (moves : List Move) (o : Option (List ℤ)) → ranNone (answerAtLimit (roundMade r engineNext c w out (madeOf r c moves o) .answer)) ≡ Written.Bytes 0
+      moved : (moves : List Move) (o : Option (List ℤ))
+          → ranNone (answerAtLimit (roundMade r engineNext c w out (madeOf r c moves o) .answer)) ≡ Written.Bytes 0
       moved moves none = refl
       moved moves (some v) = refl
 
@@ -125,16 +116,15 @@ module _ (p : Pressing) (w : List ℤ) (out : List ℕ) where
   unfolding nextPressing
   next-is e = sym (ap (λ (b : Bool). if b then idle else roundNext p w out) e)
 
-  -- where a call has something to print or nothing to say, fewer rounds may follow
-  pub next-falls : 0 < p .left → T (isText (nextPressing p w out .pressed .written)) → nextPressing p w out .pressed .pressing .left < p .left
-  next-falls h =
-      subst (λ (g : PressingCall). T (isText (g .pressed .written)) → g .pressed .pressing .left < p .left)
-      (next-is (ne-eqb (p .left) 0 (λ e. omega arith))) (round-falls p (roundCall (rulesOf (p .case)) engineNext (p .case) w out) (roundCall (rulesOf (p .case)) engineNext (p .case) w out .answer) h)
-
 -- ---- the start
 module _ (book : Rulebook) (t : List ℕ) (w : List ℤ) (out : List ℕ) where
   abbrev unread : PressingCall
-  unread = record { pressed = toPressed (record { case = caseOf book 0 0 0; lines = 0; left = 0 }) (Written.Refused (headOrShort (caseSize book t))); table = w; out = out }
+  unread = record {
+    pressed = toPressed (record { case = caseOf book 0 0 0; lines = 0; left = 0 }) (Written.Refused (headOrShort (caseSize book t)));
+    table =
+        w;
+    out = out;
+  }
 
   abbrev begun : PressingCall
   begun = afterCase out (readCaseAlone book t w) (readCaseAlone book t w .read .answer)

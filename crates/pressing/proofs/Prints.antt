@@ -3,11 +3,11 @@ use mathlib.Core.Path.{_≡_, refl, sym, ap, subst, _∙_}
 use mathlib.Core.Bool.{Bool}
 use mathlib.Core.Option.{Option, none, some}
 use mathlib.Core.List.{List, [], _++_, append-assoc, append-nil}
-use Prim.Native.Nat.{ℕ, zero, suc, _+_, _*_, _-_, _≤_}
+use Prim.Native.Nat.{ℕ, zero, suc, _*_, _-_, _≤_}
 use native.Mathlib.Nat.{mul-le-mul-left}
 use native.Mathlib.Omega.{arith}
 use lib.IntN.{ℤ}
-use lib.Dec.{eqb, lit≤}
+use lib.Dec.{eqb}
 use lib.ListN.{length, drop, length-append, length-drop}
 use lib.Seq.{take-append-seam}
 use borrow.Author.Tests.{le-ltb, ne-eqb}
@@ -20,26 +20,26 @@ use Rattle.definitions.specs.declared.Refusal.{Refusal}
 use Rattle.definitions.specs.declared.Refusal.the-variants.{LeavesRange}
 use Rattle.definitions.specs.declared.Written.{Written}
 use Rattle.definitions.specs.Rules.{Rules, Coherent, coherent, rulesIn, rulesOf}
-use Rattle.definitions.specs.Calls.{WriteCall, writtenOf}
+use Rattle.calls.specs.Calls.{WriteCall, writtenOf}
 use Rattle.definitions.specs.Valid.{workingWeight}
 use Rattle.definitions.specs.Moves.{Move}
 use Rattle.definitions.specs.Lines.{lineLength, overwritten}
 use Rattle.definitions.specs.CaseFiles.{CaseCall, caseOf, caseRefused, caseSize, restRefusal, nothingAfter, readCase, readCaseAlone}
-use Rattle.definitions.specs.Engine.{Next, nothing, round, Made, engineNext, afterMoves, roundText, roundBytes, madeOf, makeNext, atLimit, onward, runFrom}
-use Rattle.definitions.specs.EngineCalls.{RoundCall, roundMade, engineRefusal, roundCall}
+use Rattle.definitions.specs.Engine.{Next, nothing, round, Made, engineNext, afterMoves, roundBytes, madeOf, makeNext, atLimit, onward, runFrom}
+use Rattle.calls.specs.EngineCalls.{RoundCall, roundMade, engineRefusal, roundCall}
 use Rattle.definitions.specs.Places.{longestLines, longestRound, placed}
 use Rattle.definitions.specs.Programs.{pressLimit, refusedText, tableFor, pressEnd, pressRun, pressRead}
+use Rattle.definitions.specs.RoundLines.{roundText}
 use Rattle.theory.proofs.Validity.{Handed}
 use Rattle.theory.proofs.Replays.{handed-after}
-use Rattle.theory.proofs.CaseReads.{alone-rulebook}
-use Rattle.theory.proofs.CaseTexts.{written-read-alone}
+use Rattle.case_theory.proofs.CaseReads.{alone-rulebook}
+use Rattle.case_theory.proofs.CaseTexts.{written-read-alone}
 use Rattle.engine_theory.proofs.Runs.{RoundFrom, engine-lawful, handed-on}
 use Rattle.engine_theory.proofs.Calls.{taken-iff, call-taken, round-short}
 use Rattle.texts.specs.Texts.{textRoom, greatestCount, writeRefusedCall}
 use Rattle.texts.proofs.Answers.{text-done}
-use Rattle.judging.proofs.Fronts.{lineOf, case-line, press-front}
+use Rattle.judging.proofs.Fronts.{frontLine, case-line, press-front}
 use Rattle.judging.proofs.Prints.{few-lines}
-use Rattle.pressing.specs.declared.Pressing.{Pressing}
 use Rattle.pressing.specs.Pressing.{PressingCall, afterText, afterRound, headOrShort, afterCase, startPressing, roundNext, nextPressing}
 use Rattle.pressing.specs.Prints.{printedBytes, textOf, called, afterCalls, printedOf, Over, Printed, PressPrinted}
 
@@ -48,7 +48,11 @@ use Rattle.pressing.specs.Prints.{printedBytes, textOf, called, afterCal
 -- what a call of `next` then leaves
 abbrev idle : PressingCall → PressingCall
 idle g = record {
-  pressed = record { pressing = g .pressed .pressing; written = writtenOf (engineRefusal (rulesOf (g .pressed .pressing .case)) engineNext (g .pressed .pressing .case) (g .table) (g .out)) 0 };
+  pressed = record {
+    pressing = g .pressed .pressing;
+    written =
+        writtenOf (engineRefusal (rulesOf (g .pressed .pressing .case)) engineNext (g .pressed .pressing .case) (g .table) (g .out)) 0;
+  };
   table = g .table;
   out = g .out;
 }
@@ -84,16 +88,18 @@ module _ (book : Rulebook) (t : List ℕ) (w : List ℤ) where
     | some x ↦ caseRefused book x lines (readCase book t w .table)
   ]
 
-  rest-line : (lines : ℕ) (o : Option Refusal) → readCase book t w .read .answer ≡ FileAnswer.Read lines → lineOf (rest lines o .read .answer) ≤ longestLines (rulesIn book)
+  rest-line : (lines : ℕ) (o : Option Refusal) → readCase book t w .read .answer ≡ FileAnswer.Read lines
+      → frontLine (rest lines o .read .answer) ≤ longestLines (rulesIn book)
   unfolding rest
   rest-line lines none e = case-line book t w
-  rest-line lines (some x) e = omega (arith, case-line book t w, ap lineOf e)
+  rest-line lines (some x) e = omega (arith, case-line book t w, ap frontLine e)
 
-  alone-line : lineOf (readCaseAlone book t w .read .answer) ≤ longestLines (rulesIn book)
+  alone-line : frontLine (readCaseAlone book t w .read .answer) ≤ longestLines (rulesIn book)
   unfolding rest
   alone-line = go (readCase book t w .read .answer) refl
     where
-      go : (a : FileAnswer) → readCase book t w .read .answer ≡ a → lineOf (nothingAfter book t (readCase book t w) a .read .answer) ≤ longestLines (rulesIn book)
+      go : (a : FileAnswer) → readCase book t w .read .answer ≡ a
+          → frontLine (nothingAfter book t (readCase book t w) a .read .answer) ≤ longestLines (rulesIn book)
       go (FileAnswer.Refused x at) e = case-line book t w
       go (FileAnswer.Read lines) e = rest-line lines (restRefusal (rulesIn book) (drop (lines * lineLength (rulesIn book .amountWidth)) t)) e
 
@@ -116,11 +122,16 @@ module _ (c : Case) (at : ℕ) (few : at ≤ greatestCount) where
   -- what a call of `next` leaves where a round may follow
   data Called (left : ℕ) (w : List ℤ) (out : List ℕ) : PressingCall → Type 0 where
     settles : engineNext r c w ≡ nothing → Called left w out (stand 0 w out (Written.Bytes 0))
-    refuses : {moves : List Move} → engineNext r c w ≡ round moves → afterMoves r c moves w ≡ none → Called left w out (written (refusedText LeavesRange at) out 0 w)
+    refuses : {moves : List Move} → engineNext r c w ≡ round moves → afterMoves r c moves w ≡ none
+        → Called left w out (written (refusedText LeavesRange at) out 0 w)
     makes : {moves : List Move} {v : List ℤ} → RoundFrom r engineNext c w moves v → Called left w out (written (joined (roundText r c moves v)) out left v)
 
   module _ (left : ℕ) (w : List ℤ) (out : List ℕ) (h : Handed r (workingWeight r) c w) (long : roundBytes r c ≤ length out) (room : textRoom ≤ length out) where
-    text-written : writeRefusedCall out LeavesRange at ≡ record { answer = Written.Bytes (length (refusedText LeavesRange at)); out = overwritten (refusedText LeavesRange at) out }
+    text-written : writeRefusedCall out LeavesRange at ≡ record {
+      answer = Written.Bytes (length (refusedText LeavesRange at));
+      out =
+          overwritten (refusedText LeavesRange at) out;
+    }
     unfolding writeRefusedCall
     text-written = text-done out at (refusedText LeavesRange at) room few
 
@@ -139,9 +150,15 @@ module _ (c : Case) (at : ℕ) (few : at ≤ greatestCount) where
     called-is : (x : Written) → Called left w out (called (stand (suc left) w out x))
     called-is x = subst (Called left w out) (sym (called-told x)) (go (engineNext r c w) refl)
       where
-        leads : (moves : List Move) (o : Option (List ℤ)) → engineNext r c w ≡ round moves → afterMoves r c moves w ≡ o → Called left w out (leads-to (madeOf r c moves o))
+        leads : (moves : List Move) (o : Option (List ℤ)) → engineNext r c w ≡ round moves → afterMoves r c moves w ≡ o
+            → Called left w out (leads-to (madeOf r c moves o))
         leads moves none e f =
-            subst (Called left w out) (sym (ap (λ (k : WriteCall). record { pressed = afterText (record { case = c; lines = at; left = suc left }) (k .answer); table = w; out = k .out }) text-written)) (refuses e f)
+            subst (Called left w out) (sym (ap (λ (k : WriteCall). record {
+              pressed =
+                  afterText (record { case = c; lines = at; left = suc left }) (k .answer);
+              table = w;
+              out = k .out;
+            }) text-written)) (refuses e f)
         leads moves (some v) e f =
             let less : left ≡ suc left - 1 = omega arith in
             subst (λ (k : ℕ). Called left w out (written (joined (roundText r c moves v)) out k v)) less (makes (record { handed = h; comes = e; leads = f }))
@@ -175,15 +192,18 @@ module _ (c : Case) (at : ℕ) (few : at ≤ greatestCount) where
       go (called (stand (suc left) w out x)) (called-is left w out h long room x) (λ v bytes y g l m. ends-after left v bytes y g l m n (omega arith))
     where
       go : (g : PressingCall) → Called left w out g
-          → ((v : List ℤ) (bytes : List ℕ) (y : Written) → Handed r (workingWeight r) c v → roundBytes r c ≤ length bytes → textRoom ≤ length bytes → Over (afterCalls n (stand left v bytes y)))
+          → ((v : List ℤ) (bytes : List ℕ) (y : Written) → Handed r (workingWeight r) c v → roundBytes r c ≤ length bytes → textRoom ≤ length bytes
+          → Over (afterCalls n (stand left v bytes y)))
           → Over (afterCalls n g)
       go g (settles e) on = over-after n g refl
       go g (refuses e f) on = over-after n g refl
       go g (makes {moves} {v} m) on =
           let same = kept-long m out long in
-          on v (overwritten (joined (roundText r c moves v)) out) (Written.Bytes (length (joined (roundText r c moves v)))) (handed-on whole (engine-lawful whole c) m) (omega arith) (omega arith)
+          on v (overwritten (joined (roundText r c moves v)) out) (Written.Bytes (length (joined (roundText r c moves v))))
+          (handed-on whole (engine-lawful whole c) m) (omega arith) (omega arith)
 
-  prints-after : (left done : ℕ) (w : List ℤ) (out : List ℕ) (x : Written) (log : List (List ℕ)) → Handed r (workingWeight r) c w → roundBytes r c ≤ length out → textRoom ≤ length out
+  prints-after : (left done : ℕ) (w : List ℤ) (out : List ℕ) (x : Written) (log : List (List ℕ)) → Handed r (workingWeight r) c w
+      → roundBytes r c ≤ length out → textRoom ≤ length out
       → (n : ℕ) → Over (afterCalls n (stand left w out x)) → joined log ++ more n (stand left w out x) ≡ pressRun at (runFrom r engineNext c left done w log)
   prints-after zero done w out x log h long room n over = ap (λ (l : List ℕ). joined log ++ l) (over-more n (stand 0 w out x) refl) ∙ go (engineNext r c w)
     where
@@ -192,27 +212,34 @@ module _ (c : Case) (at : ℕ) (few : at ≤ greatestCount) where
       go (round moves) = refl
   prints-after (suc left) done w out x log h long room zero over = absurd (omega arith)
   prints-after (suc left) done w out x log h long room (suc n) over =
-      go (called (stand (suc left) w out x)) (called-is left w out h long room x) over (λ v bytes y l g k m o. prints-after left (suc done) v bytes y l g k m n o)
+      go (called (stand (suc left) w out x)) (called-is left w out h long room x) over
+      (λ v bytes y l g k m o. prints-after left (suc done) v bytes y l g k m n o)
     where
       go : (g : PressingCall) → Called left w out g → Over (afterCalls n g)
-          → ((v : List ℤ) (bytes : List ℕ) (y : Written) (l : List (List ℕ)) → Handed r (workingWeight r) c v → roundBytes r c ≤ length bytes → textRoom ≤ length bytes
+          → ((v : List ℤ) (bytes : List ℕ) (y : Written) (l : List (List ℕ)) → Handed r (workingWeight r) c v → roundBytes r c ≤ length bytes
+          → textRoom ≤ length bytes
           → Over (afterCalls n (stand left v bytes y)) → joined l ++ more n (stand left v bytes y) ≡ pressRun at (runFrom r engineNext c left (suc done) v l))
-          → joined log ++ printedOf n g ≡ pressRun at (onward (makeNext r c w (engineNext r c w)) done w log (λ v lines. runFrom r engineNext c left (suc done) v lines))
+          → joined log ++ printedOf n g ≡ pressRun at (onward (makeNext r c w (engineNext r c w)) done w log
+          (λ v lines. runFrom r engineNext c left (suc done) v lines))
       go g (settles e) over on =
           ap (λ (l : List ℕ). joined log ++ l) (over-printed n g refl)
           ∙ sym (ap (λ (k : Next). pressRun at (onward (makeNext r c w k) done w log (λ v lines. runFrom r engineNext c left (suc done) v lines))) e)
       go g (refuses {moves} e f) over on =
-          ap (λ (l : List ℕ). joined log ++ l) (over-printed n g refl ∙ take-append-seam (refusedText LeavesRange at) (drop (length (refusedText LeavesRange at)) out))
+          ap (λ (l : List ℕ). joined log ++ l) (over-printed n g refl
+          ∙ take-append-seam (refusedText LeavesRange at) (drop (length (refusedText LeavesRange at)) out))
           ∙ sym (ap (λ (k : Next). pressRun at (onward (makeNext r c w k) done w log (λ v lines. runFrom r engineNext c left (suc done) v lines))) e
           ∙ ap (λ (o : Option (List ℤ)). pressRun at (onward (madeOf r c moves o) done w log (λ v lines. runFrom r engineNext c left (suc done) v lines))) f)
       go g (makes {moves} {v} m) over on =
           let lines : List (List ℕ) = roundText r c moves v in
           let same = kept-long m out long in
-          let rest = on v (overwritten (joined lines) out) (Written.Bytes (length (joined lines))) (log ++ lines) (handed-on whole (engine-lawful whole c) m) (omega arith) (omega arith) over in
-          ap (λ (l : List ℕ). joined log ++ l) (text-more n g ∙ ap (λ (l : List ℕ). l ++ more n g) (take-append-seam (joined lines) (drop (length (joined lines)) out)))
+          let rest = on v (overwritten (joined lines) out) (Written.Bytes (length (joined lines))) (log ++ lines) (handed-on whole (engine-lawful whole c) m)
+          (omega arith) (omega arith) over in
+          ap (λ (l : List ℕ). joined log ++ l) (text-more n g
+          ∙ ap (λ (l : List ℕ). l ++ more n g) (take-append-seam (joined lines) (drop (length (joined lines)) out)))
           ∙ sym (append-assoc (joined log) (joined lines) (more n g)) ∙ ap (λ (l : List ℕ). l ++ more n g) (sym (joined-append log lines)) ∙ rest
           ∙ sym (ap (λ (k : Next). pressRun at (onward (makeNext r c w k) done w log (λ v lines. runFrom r engineNext c left (suc done) v lines))) (m .comes)
-          ∙ ap (λ (o : Option (List ℤ)). pressRun at (onward (madeOf r c moves o) done w log (λ v lines. runFrom r engineNext c left (suc done) v lines))) (m .leads))
+          ∙ ap (λ (o : Option (List ℤ)). pressRun at (onward (madeOf r c moves o) done w log (λ v lines. runFrom r engineNext c left (suc done) v lines)))
+          (m .leads))
 
 -- ---- an input that is read under a rulebook
 
@@ -239,8 +266,8 @@ module _ (book : Rulebook) (texts-fit : textRoom ≤ longestRound (rulesIn book)
           out = out;
         } else afterCase out call (call .read .answer)) (le-ltb (length out) textRoom (omega arith))
 
-    line-few : {a : FileAnswer} → call .read .answer ≡ a → lineOf a ≤ greatestCount
-    line-few e = omega (arith, alone-line book t lent, ap lineOf e, few-lines (coherent book))
+    line-few : {a : FileAnswer} → call .read .answer ≡ a → frontLine a ≤ greatestCount
+    line-few e = omega (arith, alone-line book t lent, ap frontLine e, few-lines (coherent book))
 
     refused-text : (x : Refusal) (line : ℕ) → line ≤ greatestCount → textOf (afterCase out call (FileAnswer.Refused x line)) ≡ refusedText x line
     unfolding writeRefusedCall
@@ -262,7 +289,8 @@ module _ (book : Rulebook) (texts-fit : textRoom ≤ longestRound (rulesIn book)
     right (FileAnswer.Read lines) e =
         let c : Case = call .read .case in
         let whole : Coherent (rulesOf c) = coherent (c .rulebook) in
-        let h : Handed (rulesOf c) (workingWeight (rulesOf c)) c (call .table) = handed-after (rulesOf c) c (call .table) (written-read-alone book t lent e .accepted) [] whole in
+        let h : Handed (rulesOf c) (workingWeight (rulesOf c)) c (call .table) =
+        handed-after (rulesOf c) c (call .table) (written-read-alone book t lent e .accepted) [] whole in
         let same : longestRound (rulesOf c) ≡ longestRound (rulesIn book) = ap (λ (b : Rulebook). longestRound (rulesIn b)) (alone-rulebook book t lent) in
         let fits = round-fits h in
         let k : lines ≤ greatestCount = line-few e in

@@ -14,10 +14,10 @@ use Rattle.definitions.specs.declared.Round.{Round}
 use Rattle.definitions.specs.declared.Written.{Written}
 use Rattle.definitions.specs.Rules.{rulesOf}
 use Rattle.definitions.specs.Refusals.{number}
-use Rattle.definitions.specs.Calls.{WriteCall, writtenOf}
+use Rattle.calls.specs.Calls.{WriteCall, writtenOf}
 use Rattle.definitions.specs.CaseFiles.{CaseCall, caseOf, caseSize, readCaseAlone}
 use Rattle.definitions.specs.Engine.{engineNext}
-use Rattle.definitions.specs.EngineCalls.{RoundCall, isLeaving, engineRefusal, roundCall}
+use Rattle.calls.specs.EngineCalls.{RoundCall, isLeaving, engineRefusal, roundCall}
 use Rattle.definitions.specs.Programs.{pressLimit}
 use Rattle.texts.specs.Texts.{textRoom, writeRefusedCall}
 use Rattle.pressing.specs.declared.Pressing.{Pressing}
@@ -39,8 +39,8 @@ afterText p (Written.Bytes n) = record { pressing = withLeft p 0; written = Writ
 afterText p (Written.Refused x) = record { pressing = p; written = Written.Refused x }
 
 -- number 11 is printed, at the line after the input's last; a fault of what is handed over is the call's own answer
-abbrev pub writeRefusal : Refusal → ℕ → List ℕ → WriteCall
-writeRefusal x lines out = if isLeaving x then writeRefusedCall out x lines else record { answer = Written.Refused x; out = out }
+abbrev pub pressRefusal : Refusal → ℕ → List ℕ → WriteCall
+pressRefusal x lines out = if isLeaving x then writeRefusedCall out x lines else record { answer = Written.Refused x; out = out }
 
 -- by what the engine's round answers
 abbrev pub afterRound : Pressing → RoundCall → Round → PressingCall
@@ -48,7 +48,7 @@ afterRound p call Round.Settled = record { pressed = record { pressing = withLef
 afterRound p call (Round.Made bytes bound) =
     record { pressed = record { pressing = withLeft p (p .left - 1); written = Written.Bytes bytes }; table = call .table; out = call .out }
 afterRound p call (Round.Refused x) =
-    let text : WriteCall = writeRefusal x (p .lines) (call .out) in
+    let text : WriteCall = pressRefusal x (p .lines) (call .out) in
     record { pressed = afterText p (text .answer); table = call .table; out = text .out }
 
 -- number 4 of an output that is too short, unless the head is refused by what is asked before it: 14 is asked after it
@@ -97,5 +97,9 @@ roundNext p w out =
 unfoldable pub nextPressing : Pressing → List ℤ → List ℕ → PressingCall
 nextPressing p w out =
     if eqb (p .left) 0
-    then record { pressed = record { pressing = p; written = writtenOf (engineRefusal (rulesOf (p .case)) engineNext (p .case) w out) 0 }; table = w; out = out }
+    then record {
+      pressed = record { pressing = p; written = writtenOf (engineRefusal (rulesOf (p .case)) engineNext (p .case) w out) 0 };
+      table = w;
+      out = out;
+    }
     else roundNext p w out

@@ -1,9 +1,8 @@
 -- What a start and the rounds after it print, and the promise of it. Assumes nothing.
 use mathlib.Core.Path.{_≡_}
-use mathlib.Core.Bool.{Bool, true, false}
 use mathlib.Core.Logic.{_⊎_}
 use mathlib.Core.List.{List, [], _++_}
-use Prim.Native.Nat.{ℕ, zero, suc, _+_, _*_, _≤_}
+use Prim.Native.Nat.{ℕ, zero, suc, _+_, _≤_}
 use lib.ListN.{length, take}
 use Rattle.definitions.specs.declared.Rulebook.{Rulebook}
 use Rattle.definitions.specs.declared.Written.{Written}
@@ -13,11 +12,6 @@ use Rattle.definitions.specs.CaseFiles.{caseSize}
 use Rattle.definitions.specs.Programs.{pressLimit, tableFor, pressPrints}
 use Rattle.definitions.specs.Places.{longestCase, longestRound}
 use Rattle.pressing.specs.Pressing.{PressingCall, startPressing, nextPressing}
-
--- a call answers how many bytes are to be printed
-abbrev pub isText : Written → Bool
-isText (Written.Bytes n) = true
-isText (Written.Refused x) = false
 
 -- what a call is to print: so many of the output's first bytes
 abbrev pub printedBytes : Written → List ℕ → List ℕ
@@ -52,5 +46,6 @@ pub record Printed (b : Rulebook) (t : List ℕ) (g : PressingCall) : Type 0 whe
 
 -- for every input, of which a front was read that holds the longest case and a line more or all of it, and every output as long as a round
 abbrev pub PressPrinted : Rulebook → Type 0
-PressPrinted b = (front rest out : List ℕ) → (longestCase (rulesIn b) + lineLength (rulesIn b .amountWidth) ≤ length front) ⊎ (rest ≡ []) → longestRound (rulesIn b) ≤ length out
+PressPrinted b = (front rest out : List ℕ) → (longestCase (rulesIn b) + lineLength (rulesIn b .amountWidth) ≤ length front) ⊎ (rest ≡ [])
+    → longestRound (rulesIn b) ≤ length out
     → Printed b (front ++ rest) (startPressing b front (tableFor (caseSize b front)) out)

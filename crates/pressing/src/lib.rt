@@ -15,11 +15,11 @@ ghost use lib.ListN.{length};
 ghost use Rattle.definitions.specs.declared.Rulebook.the-variants.{Desk};
 ghost use Rattle.definitions.specs.Rules.{rulesOf};
 ghost use Rattle.definitions.specs.CaseFiles.{caseOf, caseSize};
-ghost use Rattle.definitions.specs.Calls.{writtenOf};
+ghost use Rattle.calls.specs.Calls.{writtenOf};
 ghost use Rattle.definitions.specs.Engine.{engineNext};
-ghost use Rattle.definitions.specs.EngineCalls.{isLeaving, engineRefusal};
+ghost use Rattle.calls.specs.EngineCalls.{isLeaving, engineRefusal};
 ghost use Rattle.definitions.specs.Programs.{tableFor};
-ghost use Rattle.pressing.specs.Pressing.{withLeft, afterText, writeRefusal, shortOr, headOrShort, startPressing, roundNext, nextPressing};
+ghost use Rattle.pressing.specs.Pressing.{withLeft, afterText, pressRefusal, shortOr, headOrShort, startPressing, roundNext, nextPressing};
 
 // An output must have so many bytes for a text.
 const ROOM: usize = 64;
@@ -79,7 +79,7 @@ fn is_leaving(refusal: Refusal) -> bool
 }
 
 fn write_refusal(refusal: Refusal, lines: usize, out: &mut [u8]) -> Written
-    ensures { λ r. ⌜ (r ≡ writeRefusal refusal lines (now (out .entry)) .answer) × (now (out .exit) ≡ writeRefusal refusal lines (now (out .entry)) .out) ⌝ }
+    ensures { λ r. ⌜ (r ≡ pressRefusal refusal lines (now (out .entry)) .answer) × (now (out .exit) ≡ pressRefusal refusal lines (now (out .entry)) .out) ⌝ }
 {
     if is_leaving(refusal) {
         texts::write_refused(out, refusal, lines)
@@ -109,7 +109,9 @@ fn after_text(pressing: Pressing, written: Written) -> Pressed
 
 fn one_round(pressing: Pressing, table: &mut [i64], out: &mut [u8]) -> Pressed
     requires { ⌜ 0 < pressing .left ⌝ }
-    ensures { λ r. ⌜ (r ≡ roundNext pressing (now (table .entry)) (now (out .entry)) .pressed) × (now (table .exit) ≡ roundNext pressing (now (table .entry)) (now (out .entry)) .table) × (now (out .exit) ≡ roundNext pressing (now (table .entry)) (now (out .entry)) .out) ⌝ }
+    ensures { λ r. ⌜ (r ≡ roundNext pressing (now (table .entry)) (now (out .entry)) .pressed)
+        × (now (table .exit) ≡ roundNext pressing (now (table .entry)) (now (out .entry)) .table)
+        × (now (out .exit) ≡ roundNext pressing (now (table .entry)) (now (out .entry)) .out) ⌝ }
 {
     let case = pressing.case;
     let round = engine::round(case, table, out);
@@ -131,7 +133,8 @@ fn one_round(pressing: Pressing, table: &mut [i64], out: &mut [u8]) -> Pressed
 
 // No round may follow: a run of no round asks what is handed over, and changes nothing.
 fn ask_round(case: Case, table: &mut [i64], out: &mut [u8]) -> Written
-    ensures { λ r. ⌜ (r ≡ writtenOf (engineRefusal (rulesOf case) engineNext case (now (table .entry)) (now (out .entry))) 0) × (now (table .exit) ≡ now (table .entry)) × (now (out .exit) ≡ now (out .entry)) ⌝ }
+    ensures { λ r. ⌜ (r ≡ writtenOf (engineRefusal (rulesOf case) engineNext case (now (table .entry)) (now (out .entry))) 0)
+        × (now (table .exit) ≡ now (table .entry)) × (now (out .exit) ≡ now (out .entry)) ⌝ }
 {
     let run = engine::run(case, table, out, 0);
     let answer = run.answer;
@@ -187,7 +190,9 @@ pub fn table_length(bytes: &[u8]) -> usize
 
 // Reads the case. Refused, its text is written and nothing more is due.
 pub fn start(bytes: &[u8], table: &mut [i64], out: &mut [u8]) -> Pressed
-    ensures { λ r. ⌜ (r ≡ startPressing Desk (now (bytes .entry)) (now (table .entry)) (now (out .entry)) .pressed) × (now (table .exit) ≡ startPressing Desk (now (bytes .entry)) (now (table .entry)) (now (out .entry)) .table) × (now (out .exit) ≡ startPressing Desk (now (bytes .entry)) (now (table .entry)) (now (out .entry)) .out) ⌝ }
+    ensures { λ r. ⌜ (r ≡ startPressing Desk (now (bytes .entry)) (now (table .entry)) (now (out .entry)) .pressed)
+        × (now (table .exit) ≡ startPressing Desk (now (bytes .entry)) (now (table .entry)) (now (out .entry)) .table)
+        × (now (out .exit) ≡ startPressing Desk (now (bytes .entry)) (now (table .entry)) (now (out .entry)) .out) ⌝ }
 {
     if out.len() < ROOM {
         let refusal = head_or_short(bytes);
@@ -228,7 +233,9 @@ pub fn start(bytes: &[u8], table: &mut [i64], out: &mut [u8]) -> Pressed
 
 // The next round, if one may follow: its lines, or the text of a refusal by the engine. If none may, only what is handed over is asked.
 pub fn next(pressing: Pressing, table: &mut [i64], out: &mut [u8]) -> Pressed
-    ensures { λ r. ⌜ (r ≡ nextPressing pressing (now (table .entry)) (now (out .entry)) .pressed) × (now (table .exit) ≡ nextPressing pressing (now (table .entry)) (now (out .entry)) .table) × (now (out .exit) ≡ nextPressing pressing (now (table .entry)) (now (out .entry)) .out) ⌝ }
+    ensures { λ r. ⌜ (r ≡ nextPressing pressing (now (table .entry)) (now (out .entry)) .pressed)
+        × (now (table .exit) ≡ nextPressing pressing (now (table .entry)) (now (out .entry)) .table)
+        × (now (out .exit) ≡ nextPressing pressing (now (table .entry)) (now (out .entry)) .out) ⌝ }
 {
     if pressing.left == 0 {
         let case = pressing.case;

@@ -22,33 +22,34 @@ use Rattle.definitions.specs.Lines.{wholeLines, overwritten}
 use Rattle.definitions.specs.CaseFiles.{caseSize, readCase}
 use Rattle.definitions.specs.Programs.{tableFor, replayPrints}
 use Rattle.texts.specs.Texts.{textRoom, greatestCount}
-use Rattle.judging.specs.Judging.{startJudging, finishJudging}
+use Rattle.judging.specs.Judging.{JudgingState, stateOf, startJudging, finishJudging}
 use Rattle.judging.specs.Cuts.{Cut}
 use Rattle.judging.proofs.Prints.{lines-within, replay-printed}
 use Rattle.streams.specs.declared.Filled.{Filled}
 use Rattle.streams.specs.Streams.{isOver, isFailed, printedPart}
 use Rattle.replay.specs.declared.Turned.{Turned}
-use Rattle.replay.specs.Turns.{lineBytes, caseBytes, mostTurns, Judges, Prints}
+use Rattle.replay.specs.Turns.{deskLine, caseEnd, mostTurns, Judges, Prints}
 
-start-answer : (front : List ℕ) (w : List ℤ) → startJudging Desk front w .judging .answer ≡ readCase Desk front w .read .answer
+start-answer : (front : List ℕ) (w : List ℤ) → startJudging Desk front w .answer ≡ readCase Desk front w .read .answer
 unfolding startJudging
 start-answer front w = refl
 
 -- the bytes of a case that fits
-case-fits : (lines most : ℕ) → lines * lineBytes ≤ most → caseBytes (FileAnswer.Read lines) most ≡ lines * lineBytes
-case-fits lines most h = simp (le-leb lines (most / lineBytes) (omega arith))
+case-fits : (lines most : ℕ) → lines * deskLine ≤ most → caseEnd (FileAnswer.Read lines) most ≡ lines * deskLine
+case-fits lines most h = simp (le-leb lines (most / deskLine) (omega arith))
 
 module _ {room : ℕ} {front : List ℕ} {first : Filled} {r : Turned} {v : List ℤ} (enough : (longestCase (rulesIn Desk) ≤ length front) ⊎ T (isOver first))
     (o : Judges room front (tableFor (caseSize Desk front)) first r v) where
   abbrev w : List ℤ
   w = tableFor (caseSize Desk front)
 
-  log-is : (lines : ℕ) → readCase Desk front w .read .answer ≡ FileAnswer.Read lines → drop (lines * lineBytes) (front ++ o .more) ≡ joined (o .blocks) ++ o .tail
+  log-is : (lines : ℕ) → readCase Desk front w .read .answer ≡ FileAnswer.Read lines
+      → drop (lines * deskLine) (front ++ o .more) ≡ joined (o .blocks) ++ o .tail
   log-is lines e =
       let fits = lines-within Desk front w e in
-      let at : caseBytes (startJudging Desk front w .judging .answer) (length front) ≡ lines * lineBytes =
-      ap (λ (a : FileAnswer). caseBytes a (length front)) (start-answer front w ∙ e) ∙ case-fits lines (length front) fits in
-      drop-append-le (lines * lineBytes) front (o .more) fits ∙ ap (λ (n : ℕ). drop n front ++ o .more) (sym at) ∙ o .all
+      let at : caseEnd (startJudging Desk front w .answer) (length front) ≡ lines * deskLine =
+      ap (λ (a : FileAnswer). caseEnd a (length front)) (start-answer front w ∙ e) ∙ case-fits lines (length front) fits in
+      drop-append-le (lines * deskLine) front (o .more) fits ∙ ap (λ (n : ℕ). drop n front ++ o .more) (sym at) ∙ o .all
 
   held-or-all : (longestCase (rulesIn Desk) ≤ length front) ⊎ T (isOver first) → (longestCase (rulesIn Desk) ≤ length front) ⊎ (o .more ≡ [])
   held-or-all (inl h) = inl h
@@ -68,18 +69,20 @@ module _ {room : ℕ} {front : List ℕ} {first : Filled} {r : Turned} {v : List
   }
 
   finished : (out : List ℕ) → textRoom ≤ length out → wholeLines (rulesIn Desk .amountWidth) (front ++ o .more) ≤ greatestCount
-      → finishJudging (r .judging) v (not (eqb (r .held) 0)) out
+      → finishJudging (stateOf (r .judging) v) (not (eqb (r .held) 0)) out
       ≡ record { answer = Written.Bytes (length (replayPrints Desk (front ++ o .more))); out = overwritten (replayPrints Desk (front ++ o .more)) out }
   unfolding cut
-  finished out room few = rw (o .judging, o .table, o .held) (replay-printed Desk (front ++ o .more) cut few out room)
+  finished out room few =
+      ap₂ (λ (s : JudgingState) (n : ℕ). finishJudging s (not (eqb n 0)) out) (o .state) (o .held)
+      ∙ (replay-printed Desk (front ++ o .more) cut few out room)
 
   -- so few lines do not use up the turns
-  read-over : inputPlaces - lineBytes ≤ room → wholeLines (rulesIn Desk .amountWidth) (front ++ o .more) ≤ greatestCount → T (isOver (r .filled))
+  read-over : inputPlaces - deskLine ≤ room → wholeLines (rulesIn Desk .amountWidth) (front ++ o .more) ≤ greatestCount → T (isOver (r .filled))
   read-over wide few = go (o .over)
     where
       go : T (isOver (r .filled)) ⊎ (mostTurns * room ≤ length (o .more)) → T (isOver (r .filled))
       go (inl e) = e
-      go (inr h) = absurd (omega (arith, length-append front (o .more), mul-le-mul-left {m = inputPlaces - lineBytes} {n = room} mostTurns wide))
+      go (inr h) = absurd (omega (arith, length-append front (o .more), mul-le-mul-left {m = inputPlaces - deskLine} {n = room} mostTurns wide))
 
   -- a read failed
   pub failed-prints : T (isFailed (r .filled)) → (text : List ℕ) → Prints room front first text []
@@ -93,8 +96,9 @@ module _ {room : ℕ} {front : List ℕ} {first : Filled} {r : Turned} {v : List
   }
 
   -- what the finish writes after the loop
-  pub judges-prints : inputPlaces - lineBytes ≤ room → isFailed (r .filled) ≡ false → (out : List ℕ) → textRoom ≤ length out → {a : Written} {after : List ℕ}
-      → (a ≡ finishJudging (r .judging) v (not (eqb (r .held) 0)) out .answer) × (after ≡ finishJudging (r .judging) v (not (eqb (r .held) 0)) out .out)
+  pub judges-prints : inputPlaces - deskLine ≤ room → isFailed (r .filled) ≡ false → (out : List ℕ) → textRoom ≤ length out → {a : Written} {after : List ℕ}
+      → (a ≡ finishJudging (stateOf (r .judging) v) (not (eqb (r .held) 0)) out .answer)
+      × (after ≡ finishJudging (stateOf (r .judging) v) (not (eqb (r .held) 0)) out .out)
       → Prints room front first out (printedPart a after)
   judges-prints wide done out fits (p, q) = record {
     state = r;

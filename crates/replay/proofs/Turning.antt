@@ -1,8 +1,9 @@
 -- Turn after turn: the bytes read are blocks of whole lines and a part line. Assumes nothing.
-use mathlib.Core.Path.{_≡_, refl, sym, ap, ap₂, subst, _∙_}
+use mathlib.Core.Path.{_≡_, refl, sym, ap, subst, _∙_}
 use mathlib.Core.Bool.{false, not}
 use mathlib.Core.Logic.{_⊎_, inl, inr, ⊎-elim}
-use mathlib.Core.List.{List, [], _∷_, _++_, append-assoc, append-nil, List·Memᴰ·head, List·Memᴰ·tail, List·Memᴰ·append-cases, List·Memᴰ·eq-of-singleton, List·Memᴰ·not-nil}
+use mathlib.Core.List.{List, [], _∷_, _++_, append-assoc, append-nil, List·Memᴰ·head, List·Memᴰ·tail, List·Memᴰ·append-cases, List·Memᴰ·eq-of-singleton}
+use mathlib.Core.List.{List·Memᴰ·not-nil}
 use Prim.Native.Nat.{ℕ, _+_, _*_, _-_, _/_, _%_, _≤_, _<_}
 use native.Mathlib.Nat.{div-add-mod', mul-mod-left}
 use native.Mathlib.Omega.{arith}
@@ -18,14 +19,14 @@ use Rattle.definitions.specs.Lines.{hasPart}
 use Rattle.streams.specs.declared.Filled.{Filled}
 use Rattle.streams.specs.Streams.{isOver, Fills}
 use Rattle.judging.specs.declared.Judging.{Judging}
-use Rattle.judging.specs.Judging.{JudgingCall, startJudging, blockJudging}
+use Rattle.judging.specs.Judging.{JudgingState, stateOf, startJudging, blockJudging}
 use Rattle.judging.specs.Cuts.{afterBlocks}
 use Rattle.replay.specs.declared.Turned.{Turned}
-use Rattle.replay.specs.Turns.{lineBytes, wholeBytes, caseBytes, mostTurns, Turns, Goes, Judges}
+use Rattle.replay.specs.Turns.{deskLine, wholeBytes, caseEnd, mostTurns, Turns, Goes, Judges}
 
-after-append : (g : JudgingCall) (xs ys : List (List ℕ)) → afterBlocks g (xs ++ ys) ≡ afterBlocks (afterBlocks g xs) ys
+after-append : (g : JudgingState) (xs ys : List (List ℕ)) → afterBlocks g (xs ++ ys) ≡ afterBlocks (afterBlocks g xs) ys
 after-append g [] ys = refl
-after-append g (x ∷ xs) ys = after-append (blockJudging (g .judging) (g .table) x) xs ys
+after-append g (x ∷ xs) ys = after-append (blockJudging g x) xs ys
 
 -- the whole lines of some bytes
 module _ (bytes : List ℕ) where
@@ -41,19 +42,18 @@ module _ (bytes : List ℕ) where
   front-whole : hasPart (rulesIn Desk .amountWidth) front ≡ false
   front-whole =
       let n : ℕ = length bytes in
-      let e : length front ≡ n / lineBytes * lineBytes = length-take-le (wholeBytes bytes) bytes (omega arith) ∙ omega (arith, div-add-mod' n lineBytes) in
-      ap (λ (k : ℕ). not (eqb (k % lineBytes) 0)) e ∙ ap (λ (k : ℕ). not (eqb k 0)) (mul-mod-left (n / lineBytes) lineBytes)
+      let e : length front ≡ n / deskLine * deskLine = length-take-le (wholeBytes bytes) bytes (omega arith) ∙ omega (arith, div-add-mod' n deskLine) in
+      ap (λ (k : ℕ). not (eqb (k % deskLine) 0)) e ∙ ap (λ (k : ℕ). not (eqb k 0)) (mul-mod-left (n / deskLine) deskLine)
 
 -- no turn
-pub goes-none : (room : ℕ) (r : Turned) (v : List ℤ) (buf : List ℕ) → r .held ≤ length buf → r .held < lineBytes
-    → Goes 0 room (record { judging = r .judging; table = v }) (take (r .held) buf) (r .filled) r v buf
+pub goes-none : (room : ℕ) (r : Turned) (v : List ℤ) (buf : List ℕ) → r .held ≤ length buf → r .held < deskLine
+    → Goes 0 room (stateOf (r .judging) v) (take (r .held) buf) (r .filled) r v buf
 goes-none room r v buf h s = record {
   more = [];
   blocks = [];
   lines-whole = λ x i. absurd (List·Memᴰ·not-nil i);
   all = append-nil (take (r .held) buf);
-  judging = refl;
-  table = refl;
+  state = refl;
   fits = h;
   short = s;
   ends = λ e. (refl, refl);
@@ -61,9 +61,11 @@ goes-none room r v buf h s = record {
 }
 
 -- one turn more
-module _ {turns room : ℕ} {g : JudgingCall} {held : List ℕ} {first : Filled} {r : Turned} {v : List ℤ} {buf : List ℕ} (o : Goes turns room g held first r v buf)
+module _ {turns room : ℕ} {g : JudgingState} {held : List ℕ} {first : Filled} {r : Turned} {v : List ℤ} {buf : List ℕ}
+    (o : Goes turns room g held first r v buf)
     (on : isOver (r .filled) ≡ false) (bytes : List ℕ) (kept : take (r .held) bytes ≡ take (r .held) buf) {filled : Filled}
-    (full : (room ≤ length (drop (r .held) bytes)) ⊎ T (isOver filled)) {q : Turned} {u : List ℤ} {next : List ℕ} (t : Turns (r .judging) v bytes filled q u next) where
+    (full : (room ≤ length (drop (r .held) bytes)) ⊎ T (isOver filled)) {q : Turned} {u : List ℤ} {next : List ℕ}
+    (t : Turns (r .judging) v bytes filled q u next) where
   new : List ℕ
   new = drop (r .held) bytes
 
@@ -72,17 +74,18 @@ module _ {turns room : ℕ} {g : JudgingCall} {held : List ℕ} {first : Filled}
   all-next =
       sym (append-assoc held (o .more) new) ∙ ap (λ (l : List ℕ). l ++ new) (o .all) ∙ append-assoc (joined (o .blocks)) (take (r .held) buf) new
       ∙ ap (λ (l : List ℕ). joined (o .blocks) ++ l)
-      (ap (λ (l : List ℕ). l ++ new) (sym kept) ∙ take-append-drop (r .held) bytes ∙ sym (front-rest bytes) ∙ ap (λ (l : List ℕ). front bytes ++ l) (sym (t .part)))
+      (ap (λ (l : List ℕ). l ++ new) (sym kept) ∙ take-append-drop (r .held) bytes ∙ sym (front-rest bytes)
+      ∙ ap (λ (l : List ℕ). front bytes ++ l) (sym (t .part)))
       ∙ sym (append-assoc (joined (o .blocks)) (front bytes) (take (q .held) next))
-      ∙ ap (λ (l : List ℕ). l ++ take (q .held) next) (sym (joined-append (o .blocks) (front bytes ∷ []) ∙ ap (λ (l : List ℕ). joined (o .blocks) ++ l) (append-nil (front bytes))))
+      ∙ ap (λ (l : List ℕ). l ++ take (q .held) next) (sym (joined-append (o .blocks) (front bytes ∷ [])
+      ∙ ap (λ (l : List ℕ). joined (o .blocks) ++ l) (append-nil (front bytes))))
 
   whole-next : (x : List ℕ) → x ∈ (o .blocks ++ (front bytes ∷ [])) → hasPart (rulesIn Desk .amountWidth) x ≡ false
-  whole-next x i = ⊎-elim (o .lines-whole x) (λ k. subst (λ (y : List ℕ). hasPart (rulesIn Desk .amountWidth) y ≡ false) (sym (List·Memᴰ·eq-of-singleton k)) (front-whole bytes)) (List·Memᴰ·append-cases (o .blocks) i)
+  whole-next x i = ⊎-elim (o .lines-whole x) (λ k. subst (λ (y : List ℕ). hasPart (rulesIn Desk .amountWidth) y ≡ false) (sym (List·Memᴰ·eq-of-singleton k))
+      (front-whole bytes)) (List·Memᴰ·append-cases (o .blocks) i)
 
-  same : blockJudging (r .judging) v (front bytes) ≡ afterBlocks g (o .blocks ++ (front bytes ∷ []))
-  same =
-      let a : JudgingCall = afterBlocks g (o .blocks) in
-      rw (o .judging, o .table) (sym (after-append g (o .blocks) (front bytes ∷ [])))
+  same : blockJudging (stateOf (r .judging) v) (front bytes) ≡ afterBlocks g (o .blocks ++ (front bytes ∷ []))
+  same = ap (λ (k : JudgingState). blockJudging k (front bytes)) (o .state) ∙ sym (after-append g (o .blocks) (front bytes ∷ []))
 
   never : T (isOver (r .filled)) → ⊥
   never e = subst T on e
@@ -100,8 +103,7 @@ module _ {turns room : ℕ} {g : JudgingCall} {held : List ℕ} {first : Filled}
     blocks = o .blocks ++ (front bytes ∷ []);
     lines-whole = whole-next;
     all = all-next;
-    judging = t .judging ∙ ap (λ (k : JudgingCall). k .judging) same;
-    table = t .table ∙ ap (λ (k : JudgingCall). k .table) same;
+    state = t .state ∙ same;
     fits = t .fits;
     short = t .short;
     ends = λ e. absurd (never (subst (λ (f : Filled). T (isOver f)) (sym (o .ends e .1)) e));
@@ -116,31 +118,27 @@ module _ {held : ℕ} {buf : List ℕ} {filled : Filled} {read : List ℕ} (f : 
   pub fill-kept : take held (take (filled .to) read) ≡ take held buf
   fill-kept = take-take held (filled .to) read (f .onward) ∙ f .kept
 
-  pub fill-full : held < lineBytes → (length read - lineBytes ≤ length (drop held (take (filled .to) read))) ⊎ T (isOver filled)
+  pub fill-full : held < deskLine → (length read - deskLine ≤ length (drop held (take (filled .to) read))) ⊎ T (isOver filled)
   fill-full s = go (f .ends)
     where
-      go : (length read ≤ filled .to) ⊎ T (isOver filled) → (length read - lineBytes ≤ length (drop held (take (filled .to) read))) ⊎ T (isOver filled)
+      go : (length read ≤ filled .to) ⊎ T (isOver filled) → (length read - deskLine ≤ length (drop held (take (filled .to) read))) ⊎ T (isOver filled)
       go (inl h) = inl (rw (length-drop, bytes-long) (omega arith))
       go (inr e) = inr e
 
 -- where the last fill is over, the number of turns is no matter
-pub goes-over : {turns most room : ℕ} {g : JudgingCall} {held : List ℕ} {first : Filled} {r : Turned} {v : List ℤ} {buf : List ℕ}
+pub goes-over : {turns most room : ℕ} {g : JudgingState} {held : List ℕ} {first : Filled} {r : Turned} {v : List ℤ} {buf : List ℕ}
     → Goes turns room g held first r v buf → T (isOver (r .filled)) → Goes most room g held first r v buf
 goes-over o e = record {
   more = o .more;
   blocks = o .blocks;
   lines-whole = o .lines-whole;
   all = o .all;
-  judging = o .judging;
-  table = o .table;
+  state = o .state;
   fits = o .fits;
   short = o .short;
   ends = o .ends;
   over = inl e;
 }
-
-call : Judging → List ℤ → JudgingCall
-call j w = record { judging = j; table = w }
 
 in-cons : (bytes : List ℕ) (xs : List (List ℕ)) → ((x : List ℕ) → x ∈ xs → hasPart (rulesIn Desk .amountWidth) x ≡ false)
     → (x : List ℕ) → x ∈ (front bytes ∷ xs) → hasPart (rulesIn Desk .amountWidth) x ≡ false
@@ -155,16 +153,15 @@ part-from l from to h g =
     ∙ drop-at (take from l) (take (to - from) (drop from l)) from (length-take-le from l (omega arith)))
 
 -- the first turn, and then the others
-pub judges-all : {room : ℕ} (input : List ℕ) (w : List ℤ) {filled : Filled} {r : Turned} {v : List ℤ} {buf : List ℕ} {q : Turned} {u : List ℤ} {next : List ℕ} (j : Judging) (x : List ℤ) (bytes : List ℕ)
-    → j ≡ startJudging Desk input w .judging → x ≡ startJudging Desk input w .table
-    → bytes ≡ drop (caseBytes (startJudging Desk input w .judging .answer) (length input)) input
+pub judges-all : {room : ℕ} (input : List ℕ) (w : List ℤ) {filled : Filled} {r : Turned} {v : List ℤ} {buf : List ℕ} {q : Turned} {u : List ℤ} {next : List ℕ}
+    (j : Judging) (x : List ℤ) (bytes : List ℕ)
+    → stateOf j x ≡ startJudging Desk input w
+    → bytes ≡ drop (caseEnd (startJudging Desk input w .answer) (length input)) input
     → Turns j x bytes filled r v buf
-    → Goes mostTurns room (record { judging = r .judging; table = v }) (take (r .held) buf) (r .filled) q u next → Judges room input w filled q u
-unfolding call
-judges-all input w {filled} {r} {v} {buf} {q} {u} {next} j x bytes ej ex eb t o =
-    let begun : JudgingCall = startJudging Desk input w in
-    let first : blockJudging (begun .judging) (begun .table) (front bytes) ≡ call (r .judging) v =
-    ap₂ (λ (a : Judging) (b : List ℤ). blockJudging a b (front bytes)) (sym ej) (sym ex) ∙ sym (ap₂ call (t .judging) (t .table)) in
+    → Goes mostTurns room (stateOf (r .judging) v) (take (r .held) buf) (r .filled) q u next → Judges room input w filled q u
+judges-all input w {filled} {r} {v} {buf} {q} {u} {next} j x bytes begun eb t o =
+    let first : stateOf (r .judging) v ≡ blockJudging (startJudging Desk input w) (front bytes) =
+    t .state ∙ ap (λ (k : JudgingState). blockJudging k (front bytes)) begun in
     record {
       more = o .more;
       blocks = front bytes ∷ o .blocks;
@@ -174,8 +171,7 @@ judges-all input w {filled} {r} {v} {buf} {q} {u} {next} j x bytes ej ex eb t o 
           ap (λ (l : List ℕ). l ++ o .more) (sym eb ∙ sym (front-rest bytes) ∙ ap (λ (l : List ℕ). front bytes ++ l) (sym (t .part)))
           ∙ append-assoc (front bytes) (take (r .held) buf) (o .more) ∙ ap (λ (l : List ℕ). front bytes ++ l) (o .all)
           ∙ sym (append-assoc (front bytes) (joined (o .blocks)) (take (q .held) next));
-      judging = o .judging ∙ ap (λ (k : JudgingCall). afterBlocks k (o .blocks) .judging) (sym first);
-      table = o .table ∙ ap (λ (k : JudgingCall). afterBlocks k (o .blocks) .table) (sym first);
+      state = o .state ∙ ap (λ (k : JudgingState). afterBlocks k (o .blocks)) first;
       held = sym (length-take-le (q .held) next (o .fits));
       short = omega (arith, length-take-le (q .held) next (o .fits), o .short);
       ends = subst (λ (f : Filled). T (isOver f) → (o .more ≡ []) × (q .filled ≡ f)) (t .filled-last) (o .ends);

@@ -20,21 +20,22 @@ use Rattle.texts.specs.Texts.{greatestCount}
 use Rattle.streams.specs.declared.Filled.{Filled}
 use Rattle.streams.specs.Streams.{isOver, isFailed, printedPart}
 use Rattle.judging.specs.declared.Judging.{Judging}
-use Rattle.judging.specs.Judging.{JudgingCall, startJudging, blockJudging, finishJudging}
+use Rattle.judging.specs.Judging.{JudgingState, stateOf, startJudging, blockJudging, finishJudging}
 use Rattle.judging.specs.Cuts.{afterBlocks}
 use Rattle.replay.specs.declared.Turned.{Turned}
 
-abbrev pub lineBytes : ℕ
-lineBytes = lineLength (rulesIn Desk .amountWidth)
+-- the bytes of a line at the desk
+abbrev pub deskLine : ℕ
+deskLine = lineLength (rulesIn Desk .amountWidth)
 
 -- the bytes of the whole lines
 abbrev pub wholeBytes : List ℕ → ℕ
-wholeBytes bytes = length bytes - length bytes % lineBytes
+wholeBytes bytes = length bytes - length bytes % deskLine
 
 -- the bytes of a case of so many lines, all where it was refused
-abbrev pub caseBytes : FileAnswer → ℕ → ℕ
-caseBytes (FileAnswer.Refused x at) most = most
-caseBytes (FileAnswer.Read lines) most = if leb lines (most / lineBytes) then lines * lineBytes else most
+abbrev pub caseEnd : FileAnswer → ℕ → ℕ
+caseEnd (FileAnswer.Refused x at) most = most
+caseEnd (FileAnswer.Read lines) most = if leb lines (most / deskLine) then lines * deskLine else most
 
 -- the most turns that are made after the first
 abbrev pub mostTurns : ℕ
@@ -42,24 +43,22 @@ mostTurns = 18446744073709551615
 
 -- one turn on the bytes of a fill: the whole lines are a block, and the part line stands at the buffer's front
 pub record Turns (j : Judging) (w : List ℤ) (bytes : List ℕ) (filled : Filled) (r : Turned) (v : List ℤ) (buf : List ℕ) : Type 0 where
-  pub judging : r .judging ≡ blockJudging j w (take (wholeBytes bytes) bytes) .judging
-  pub table : v ≡ blockJudging j w (take (wholeBytes bytes) bytes) .table
+  pub state : stateOf (r .judging) v ≡ blockJudging (stateOf j w) (take (wholeBytes bytes) bytes)
   pub part : take (r .held) buf ≡ drop (wholeBytes bytes) bytes
   pub fits : r .held ≤ length buf
-  pub short : r .held < lineBytes
+  pub short : r .held < deskLine
   pub filled-last : r .filled ≡ filled
 
 -- many turns after a first fill, each with room for so many new bytes: the bytes held, and those read then, are blocks of whole lines and the part
 -- line. None are read where the first fill was over; the last fill is over, or so many turns were filled
-pub record Goes (turns room : ℕ) (g : JudgingCall) (held : List ℕ) (first : Filled) (r : Turned) (v : List ℤ) (buf : List ℕ) : Type 0 where
+pub record Goes (turns room : ℕ) (g : JudgingState) (held : List ℕ) (first : Filled) (r : Turned) (v : List ℤ) (buf : List ℕ) : Type 0 where
   pub more : List ℕ
   pub blocks : List (List ℕ)
   pub lines-whole : (x : List ℕ) → x ∈ blocks → hasPart (rulesIn Desk .amountWidth) x ≡ false
   pub all : held ++ more ≡ joined blocks ++ take (r .held) buf
-  pub judging : r .judging ≡ afterBlocks g blocks .judging
-  pub table : v ≡ afterBlocks g blocks .table
+  pub state : stateOf (r .judging) v ≡ afterBlocks g blocks
   pub fits : r .held ≤ length buf
-  pub short : r .held < lineBytes
+  pub short : r .held < deskLine
   pub ends : T (isOver first) → (more ≡ []) × (r .filled ≡ first)
   pub over : T (isOver (r .filled)) ⊎ (turns * room ≤ length more)
 
@@ -69,18 +68,17 @@ pub record Judges (room : ℕ) (front : List ℕ) (w : List ℤ) (first : Filled
   pub blocks : List (List ℕ)
   pub tail : List ℕ
   pub lines-whole : (x : List ℕ) → x ∈ blocks → hasPart (rulesIn Desk .amountWidth) x ≡ false
-  pub all : drop (caseBytes (startJudging Desk front w .judging .answer) (length front)) front ++ more ≡ joined blocks ++ tail
-  pub judging : r .judging ≡ afterBlocks (startJudging Desk front w) blocks .judging
-  pub table : v ≡ afterBlocks (startJudging Desk front w) blocks .table
+  pub all : drop (caseEnd (startJudging Desk front w .answer) (length front)) front ++ more ≡ joined blocks ++ tail
+  pub state : stateOf (r .judging) v ≡ afterBlocks (startJudging Desk front w) blocks
   pub held : r .held ≡ length tail
-  pub short : length tail < lineBytes
+  pub short : length tail < deskLine
   pub ends : T (isOver first) → (more ≡ []) × (r .filled ≡ first)
   pub over : T (isOver (r .filled)) ⊎ (mostTurns * room ≤ length more)
 
 -- the part of a text that is to be printed where the input ends here
 abbrev pub finishText : Turned → List ℤ → List ℕ → List ℕ
 finishText r w text =
-    let call = finishJudging (r .judging) w (not (eqb (r .held) 0)) text in
+    let call = finishJudging (stateOf (r .judging) w) (not (eqb (r .held) 0)) text in
     printedPart (call .answer) (call .out)
 
 -- what is to be printed where the first fill read this front: nothing where a read failed; else the finish of what was judged, and so what `replay`

@@ -1,11 +1,8 @@
 // The program `replay`: a case and its log on standard input, the judgement on standard output (document 01). The work is done by `judging` on
 // slices; here the input is cut into blocks of whole lines, and a part line is carried over to the next block. The input ends where a read brings
 // nothing; where a read failed nothing is printed, since what was read is not the input, and standard error tells it.
-use definitions::CaseSize;
 use definitions::FileAnswer;
-use definitions::INPUT_PLACES;
 use definitions::Rulebook;
-use definitions::TABLE_PLACES;
 use definitions::Written;
 use judging::Judging;
 use libc::STDERR_FILENO;
@@ -24,26 +21,14 @@ ghost use Rattle.definitions.specs.CaseFiles.{caseSize};
 ghost use Rattle.definitions.specs.Programs.{tableFor};
 ghost use Rattle.texts.specs.Texts.{textRoom};
 ghost use Rattle.streams.specs.Streams.{isOver, printedPart};
-ghost use Rattle.replay.specs.Turns.{lineBytes, caseBytes, mostTurns, Turns, Goes, Judges, Prints};
+ghost use Rattle.judging.specs.Judging.{stateOf};
+ghost use Rattle.replay.specs.Turns.{deskLine, caseEnd, mostTurns, Turns, Goes, Judges, Prints};
 
 // What stands between two blocks: so many bytes of a part line are held at the buffer's front; and the last fill.
 struct Turned {
     judging: Judging,
     held: usize,
     filled: Filled,
-}
-
-// Room for more than the longest case.
-fn buffer() -> [u8; INPUT_PLACES]
-    ensures { λ r. ⌜ inputPlaces ≡ length r ⌝ }
-{
-    [0; INPUT_PLACES]
-}
-
-fn weights() -> [i64; TABLE_PLACES]
-    ensures { λ r. ⌜ r ≡ replicate tablePlaces (pos 0) ⌝ }
-{
-    [0; TABLE_PLACES]
 }
 
 // Moves the bytes from `from` to `to` to the buffer's front.
@@ -61,14 +46,14 @@ fn to_front(buf: &mut [u8], from: usize, to: usize) -> usize
 }
 
 fn line_bytes() -> usize
-    ensures { λ r. ⌜ r ≡ lineBytes ⌝ }
+    ensures { λ r. ⌜ r ≡ deskLine ⌝ }
 {
     rules::line_length(Rulebook::Desk)
 }
 
 // The bytes of a part line at the end of so many.
 fn part_bytes(count: usize) -> usize
-    ensures { λ r. ⌜ (r ≡ count % lineBytes) × (r ≤ count) × (r < lineBytes) ⌝ }
+    ensures { λ r. ⌜ (r ≡ count % deskLine) × (r ≤ count) × (r < deskLine) ⌝ }
 {
     count % line_bytes()
 }
@@ -76,7 +61,8 @@ fn part_bytes(count: usize) -> usize
 // Hands over the whole lines from byte `from` to where the last fill ended.
 fn turn(judging: Judging, table: &mut [i64], buf: &mut [u8], from: usize, filled: Filled) -> Turned
     requires { ⌜ (from ≤ filled .to) × (filled .to ≤ length (now buf)) ⌝ }
-    ensures { λ r. ⌜ Turns judging (now (table .entry)) (take (filled .to - from) (drop from (now (buf .entry)))) filled r (now (table .exit)) (now (buf .exit)) ⌝ }
+    ensures { λ r. ⌜ Turns judging (now (table .entry)) (take (filled .to - from) (drop from (now (buf .entry)))) filled r (now (table .exit))
+        (now (buf .exit)) ⌝ }
 {
     let to = filled.to;
     let end = to - part_bytes(to - from);
@@ -91,7 +77,7 @@ fn turn(judging: Judging, table: &mut [i64], buf: &mut [u8], from: usize, filled
 
 // The bytes of so many lines, `most` where they are more.
 fn lines_bytes(lines: usize, most: usize) -> usize
-    ensures { λ r. ⌜ (r ≡ caseBytes (FileAnswer.Read lines) most) × (r ≤ most) ⌝ }
+    ensures { λ r. ⌜ (r ≡ caseEnd (FileAnswer.Read lines) most) × (r ≤ most) ⌝ }
 {
     let long = line_bytes();
     if lines <= most / long {
@@ -102,7 +88,7 @@ fn lines_bytes(lines: usize, most: usize) -> usize
 
 // The bytes of the case at the front of the input's first `most` bytes: all of these where it was refused.
 fn case_bytes(answer: FileAnswer, most: usize) -> usize
-    ensures { λ r. ⌜ (r ≡ caseBytes answer most) × (r ≤ most) ⌝ }
+    ensures { λ r. ⌜ (r ≡ caseEnd answer most) × (r ≤ most) ⌝ }
 {
     match answer {
         FileAnswer::Refused {
@@ -115,8 +101,9 @@ fn case_bytes(answer: FileAnswer, most: usize) -> usize
 
 // Reads on and judges until the last fill is over. The bytes of a part line stand at the buffer's front.
 fn go_on(first: Turned, table: &mut [i64], buf: &mut [u8]) -> Turned
-    requires { ⌜ (first .held ≤ length (now buf)) × (first .held < lineBytes) ⌝ }
-    ensures { λ r. ⌜ Goes mostTurns (length (now (buf .entry)) - lineBytes) (record { judging = first .judging; table = now (table .entry) }) (take (first .held) (now (buf .entry))) (first .filled) r (now (table .exit)) (now (buf .exit)) ⌝ }
+    requires { ⌜ (first .held ≤ length (now buf)) × (first .held < deskLine) ⌝ }
+    ensures { λ r. ⌜ Goes mostTurns (length (now (buf .entry)) - deskLine) (stateOf (first .judging) (now (table .entry)))
+        (take (first .held) (now (buf .entry))) (first .filled) r (now (table .exit)) (now (buf .exit)) ⌝ }
 {
     let mut state = first;
     let mut turns = u64::MAX;
@@ -135,9 +122,9 @@ fn go_on(first: Turned, table: &mut [i64], buf: &mut [u8]) -> Turned
 }
 
 // Judges the whole input, whose first bytes the first fill read.
-fn judge(buf: &mut [u8], table: &mut [i64], filled: Filled) -> Turned
+fn judge_input(buf: &mut [u8], table: &mut [i64], filled: Filled) -> Turned
     requires { ⌜ filled .to ≤ length (now buf) ⌝ }
-    ensures { λ r. ⌜ Judges (length (now (buf .entry)) - lineBytes) (take (filled .to) (now (buf .entry))) (now (table .entry)) filled r (now (table .exit)) ⌝ }
+    ensures { λ r. ⌜ Judges (length (now (buf .entry)) - deskLine) (take (filled .to) (now (buf .entry))) (now (table .entry)) filled r (now (table .exit)) ⌝ }
 {
     let to = filled.to;
     let begun = judging::start(&buf[0..to], table);
@@ -149,13 +136,14 @@ fn judge(buf: &mut [u8], table: &mut [i64], filled: Filled) -> Turned
 
 // Writes the judgement of the whole input, whose first bytes the first fill read, and answers how much of the text is to be printed: nothing where
 // a read failed.
-fn write_judgement(buf: &mut [u8], table: &mut [i64], filled: Filled, text: &mut [u8]) -> Written
+fn write_text(buf: &mut [u8], table: &mut [i64], filled: Filled, text: &mut [u8]) -> Written
     requires { ⌜ (filled .to ≤ length (now buf)) × ((length (now buf) ≤ filled .to) ⊎ T (isOver filled)) ⌝ }
     requires { ⌜ (length (now buf) ≡ inputPlaces) × (textRoom ≤ length (now text)) ⌝ }
     requires { ⌜ now table ≡ tableFor (caseSize Desk (take (filled .to) (now buf))) ⌝ }
-    ensures { λ r. ⌜ Prints (length (now (buf .entry)) - lineBytes) (take (filled .to) (now (buf .entry))) filled (now (text .entry)) (printedPart r (now (text .exit))) ⌝ }
+    ensures { λ r. ⌜ Prints (length (now (buf .entry)) - deskLine) (take (filled .to) (now (buf .entry))) filled (now (text .entry))
+        (printedPart r (now (text .exit))) ⌝ }
 {
-    let state = judge(buf, table, filled);
+    let state = judge_input(buf, table, filled);
     let last = state.filled;
     if streams::is_failed(last) {
         return Written::Bytes(0);
@@ -165,30 +153,19 @@ fn write_judgement(buf: &mut [u8], table: &mut [i64], filled: Filled, text: &mut
 }
 
 // The part of the text that is to be printed.
-fn judgement<'a>(buf: &mut [u8], table: &mut [i64], filled: Filled, text: &'a mut [u8]) -> &'a [u8]
+fn text_of_input<'a>(
+    buf: &mut [u8],
+    table: &mut [i64],
+    filled: Filled,
+    text: &'a mut [u8],
+) -> &'a [u8]
     requires { ⌜ (filled .to ≤ length (now buf)) × ((length (now buf) ≤ filled .to) ⊎ T (isOver filled)) ⌝ }
     requires { ⌜ (length (now buf) ≡ inputPlaces) × (textRoom ≤ length (now text)) ⌝ }
     requires { ⌜ now table ≡ tableFor (caseSize Desk (take (filled .to) (now buf))) ⌝ }
-    ensures { λ r. ⌜ Prints (length (now (buf .entry)) - lineBytes) (take (filled .to) (now (buf .entry))) filled (now (text .entry)) (now r) ⌝ }
+    ensures { λ r. ⌜ Prints (length (now (buf .entry)) - deskLine) (take (filled .to) (now (buf .entry))) filled (now (text .entry)) (now r) ⌝ }
 {
-    let written = write_judgement(buf, table, filled, text);
+    let written = write_text(buf, table, filled, text);
     streams::printed_part(written, text)
-}
-
-// The length of the table that the head of the case asks for.
-fn table_length(front: &[u8]) -> usize
-    ensures { λ r. ⌜ (r ≡ length (tableFor (caseSize Desk (now (front .entry))))) × (r ≤ tablePlaces) ⌝ }
-{
-    let size = casefile::case_size(front);
-    match size {
-        CaseSize::Refused(_) => 0,
-        CaseSize::Size {
-            n: _,
-            d: _,
-            m: _,
-            table,
-        } => table,
-    }
 }
 
 // Tells on standard error that a read or a write failed.
@@ -205,14 +182,14 @@ fn tell(failed: bool, all: bool) {
 }
 
 fn main() {
-    let mut space = buffer();
+    let mut space = streams::buffer();
     let buf: &mut [u8] = &mut space;
-    let mut weights = weights();
+    let mut weights = streams::weights();
     let mut text = [0u8; 64];
     let filled = streams::fill(buf, 0);
     let to = filled.to;
-    let long = table_length(&buf[0..to]);
-    let part = judgement(buf, &mut weights[0..long], filled, &mut text);
+    let long = judging::table_length(&buf[0..to]);
+    let part = text_of_input(buf, &mut weights[0..long], filled, &mut text);
     let all = io::write_all(STDOUT_FILENO, part);
     tell(part.len() == 0, all);
 }

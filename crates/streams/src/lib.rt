@@ -1,10 +1,14 @@
 // Standard input to a lent buffer, and the part of an output that is to be printed: what the two programs share.
+use definitions::INPUT_PLACES;
+use definitions::TABLE_PLACES;
 use definitions::Written;
 use libc::STDIN_FILENO;
 ghost use mathlib.Core.Path.{_≡_};
 ghost use Prim.Native.Nat.{_+_, _-_, _≤_};
-ghost use lib.ListN.{length, take};
+ghost use lib.IntN.{pos};
+ghost use lib.ListN.{length, take, replicate};
 ghost use Rattle.io.specs.Counts.{clamped};
+ghost use Rattle.definitions.specs.Places.{inputPlaces, tablePlaces};
 ghost use Rattle.streams.specs.Streams.{isOver, isFailed, Fills, printedPart};
 
 // Where the bytes in the buffer end, and what the last read answered: a count of bytes, 0 at the end of the input, -1 where it failed. Where the
@@ -63,4 +67,22 @@ pub fn printed_part(written: Written, out: &[u8]) -> &[u8]
         Written::Refused(_) => &out[..0],
         Written::Bytes(n) => { if n < out.len() { &out[..n] } else { out } }
     }
+}
+
+pub type Buffer = [u8; INPUT_PLACES];
+
+pub type Weights = [i64; TABLE_PLACES];
+
+// Room for more than the longest case.
+pub fn buffer() -> Buffer
+    ensures { λ r. ⌜ (r ≡ replicate inputPlaces 0) × (inputPlaces ≡ length r) ⌝ }
+{
+    [0; INPUT_PLACES]
+}
+
+// Room for the longest table.
+pub fn weights() -> Weights
+    ensures { λ r. ⌜ r ≡ replicate tablePlaces (pos 0) ⌝ }
+{
+    [0; TABLE_PLACES]
 }

@@ -1,6 +1,6 @@
 -- The answer to a check: what is answered where a number applies, and what is known where none does. Assumes nothing.
 use mathlib.Core.Path.{_≡_, sym, subst}
-use mathlib.Core.Bool.{Bool, true, false, not}
+use mathlib.Core.Bool.{Bool, true, not}
 use mathlib.Core.Option.{Option, none, some}
 use mathlib.Core.List.{List}
 use Prim.Native.Nat.{ℕ, _<_}
@@ -21,10 +21,10 @@ use Rattle.definitions.specs.Refusals.{firstOf}
 use Rattle.definitions.specs.Answers.{outcomeOf}
 use Rattle.definitions.specs.Case.{scopeCount, lentLength, greatest, upperBound}
 use Rattle.definitions.specs.Valid.{workingWeight, withinLimits, handedOver}
-use Rattle.definitions.specs.Calls.{figureOf, verdictOf}
+use Rattle.calls.specs.Calls.{figureOf, verdictOf}
 use Rattle.theory.proofs.Places.{first-tuple, greatest-at}
 use Rattle.theory.proofs.Validity.{Handed, handed}
-use Rattle.tables.specs.Scopes.{Limited, partOf, scopeWeights, greatestSum}
+use Rattle.tables.specs.Scopes.{Limited, scopePart, scopeWeights, greatestSum}
 use Rattle.tables.proofs.Order.{limited-by, outcome-done, outcome-refused}
 use Rattle.tables.proofs.Bounds.{sum-given}
 
@@ -72,6 +72,6 @@ module _ {c : Case} {w : List ℤ} (h : Handed (rulesOf c) (workingWeight (rules
   unfolding greatestSum
   greatest-sum-known = rw (limits-true, eq-eqb (length w) (lentLength c) (h .long)) (sym (sum-given c (greatest c w) greatest-working))
 
-  pub scope-weights-known : (x : ℕ) → x < scopeCount c → scopeWeights (rulesOf c) c w x ≡ partOf c w x
+  pub scope-weights-known : (x : ℕ) → x < scopeCount c → scopeWeights (rulesOf c) c w x ≡ scopePart c w x
   unfolding scopeWeights
   scope-weights-known x l = rw (limits-true, eq-eqb (length w) (lentLength c) (h .long), lt-ltb x (scopeCount c) l)

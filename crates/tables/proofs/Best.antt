@@ -7,7 +7,7 @@ use Prim.Native.Nat.{ℕ, _+_, _-_, _≤_, _<_}
 use native.Mathlib.Omega.{arith}
 use lib.IntN.{ℤ, pos}
 use lib.Dec.{T, ltb, ltb→lt, nltb→le}
-use lib.ListN.{length, getD, drop, length-append, length-drop, List·getD-append}
+use lib.ListN.{length, drop, length-append, length-drop, List·getD-append}
 use lib.Seq.{ext-getD, getD-append-add, getD-drop}
 use borrow.Author.Tests.{le-ltb, lt-ltb, eq-eqb, ne-eqb}
 use Rattle.integers.specs.Words.{below}
@@ -21,7 +21,7 @@ use Rattle.definitions.specs.Rules.{rulesOf}
 use Rattle.definitions.specs.Case.{scopeCount, scopes, lentLength, greatest, upperBound}
 use Rattle.definitions.specs.Valid.{workingWeight, withinLimits}
 use Rattle.theory.proofs.Validity.{Handed}
-use Rattle.tables.specs.Scopes.{bestAt, BestOf, writtenOver, BestCall, greatestCall, sumInRange, bestSum}
+use Rattle.tables.specs.Scopes.{bestAt, BestOf, writtenOver, greatestCall, sumInRange, bestSum}
 use Rattle.tables.proofs.Bounds.{sum-given, sum-same}
 use Rattle.tables.proofs.Answered.{limits-true, greatest-working}
 
@@ -59,7 +59,8 @@ best-written c w out room = record {
 }
 
 -- on a table that was checked the sum of these is the upper bound
-pub best-sum-known : {c : Case} {w best : List ℤ} → Handed (rulesOf c) (workingWeight (rulesOf c)) c w → BestOf c w best → bestSum (rulesOf c) c best ≡ Figure.Value (upperBound c w)
+pub best-sum-known : {c : Case} {w best : List ℤ} → Handed (rulesOf c) (workingWeight (rulesOf c)) c w → BestOf c w best
+    → bestSum (rulesOf c) c best ≡ Figure.Value (upperBound c w)
 unfolding bestSum
 best-sum-known {c} {w} {best} h b =
     rw (limits-true h, le-ltb (length best) (scopeCount c) (b .enough))
@@ -88,11 +89,13 @@ module _ (c : Case) (w best : List ℤ) where
     module _ (long : length w ≡ lentLength c) where
       pub greatest-short : length best < scopeCount c → Gives (Outcome.Refused WrongLength) best
       unfolding greatestCall
-      greatest-short h = let d = lt-ltb (length best) (scopeCount c) h in (rw (e, eq-eqb (length w) (lentLength c) long, d), rw (e, eq-eqb (length w) (lentLength c) long, d))
+      greatest-short h =
+          let d = lt-ltb (length best) (scopeCount c) h in (rw (e, eq-eqb (length w) (lentLength c) long, d), rw (e, eq-eqb (length w) (lentLength c) long, d))
 
       pub greatest-done : scopeCount c ≤ length best → Gives Outcome.Done (writtenOver (map (greatest c w) (scopes c)) best)
       unfolding greatestCall
-      greatest-done h = let d = le-ltb (length best) (scopeCount c) h in (rw (e, eq-eqb (length w) (lentLength c) long, d), rw (e, eq-eqb (length w) (lentLength c) long, d))
+      greatest-done h =
+          let d = le-ltb (length best) (scopeCount c) h in (rw (e, eq-eqb (length w) (lentLength c) long, d), rw (e, eq-eqb (length w) (lentLength c) long, d))
 
 -- on a table that was checked the call is done, and `best` holds the greatest weights
 pub greatest-known : {c : Case} {w : List ℤ} (best : List ℤ) → Handed (rulesOf c) (workingWeight (rulesOf c)) c w → scopeCount c ≤ length best

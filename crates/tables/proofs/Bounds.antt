@@ -20,11 +20,11 @@ use Rattle.definitions.specs.declared.Case.{Case}
 use Rattle.definitions.specs.declared.Figure.{Figure}
 use Rattle.definitions.specs.declared.Refusal.the-variants.{WeightOutOfRange}
 use Rattle.definitions.specs.Rules.{Rules, Coherent, rulesOf, scopesAtMost}
-use Rattle.definitions.proofs.RulesLaws.{fits}
+use Rattle.definitions.proofs.RulesLaws.{rules-fit}
 use Rattle.definitions.specs.Refusals.{_when_, firstOf}
 use Rattle.definitions.specs.Case.{scopeCount}
 use Rattle.definitions.specs.Valid.{workingWeight}
-use Rattle.definitions.specs.Calls.{figureOf}
+use Rattle.calls.specs.Calls.{figureOf}
 use Rattle.tables.specs.Scopes.{sumInRange}
 use Rattle.tables.proofs.Search.{found, not-found}
 
@@ -37,7 +37,7 @@ module _ (f : ℕ → ℤ) where
       let m : Σ f 0 x ≤ℤ pos (x * r .working) = Σ-most f (r .working) 0 x (λ y l u. g y (omega arith) ▸ simp flat (omega zs)) in
       let n : minus (x * r .working) ≤ℤ Σ f 0 x = Σ-least f (r .working) 0 x (λ y l u. g y (omega arith) ▸ simp flat (omega zs)) in
       let s : x * r .working ≤ scopesAtMost r * r .working = mul-le-mul-right {m = x} {n = scopesAtMost r} (r .working) h in
-      m ▸ n ▸ s ▸ fits coherent .sums ▸ simp flat (omega zs)
+      m ▸ n ▸ s ▸ rules-fit coherent .sums ▸ simp flat (omega zs)
 
 -- a sum over scopes, by whether all numbers are in the range
 module _ (c : Case) (f : ℕ → ℤ) where

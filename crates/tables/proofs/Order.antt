@@ -76,7 +76,8 @@ module _ (us : List Test) where
   first-next [] e = refl
   first-next (t ∷ ts) e = go (t .applies) e (first-next ts)
     where
-      go : (b : Bool) → (if b then some (t .refusal) else firstOf ts) ≡ none → (firstOf ts ≡ none → firstOf (ts ++ us) ≡ firstOf us) → (if b then some (t .refusal) else firstOf (ts ++ us)) ≡ firstOf us
+      go : (b : Bool) → (if b then some (t .refusal) else firstOf ts) ≡ none → (firstOf ts ≡ none → firstOf (ts ++ us) ≡ firstOf us)
+          → (if b then some (t .refusal) else firstOf (ts ++ us)) ≡ firstOf us
       go true e r = cc
       go false e r = r e
 
@@ -84,7 +85,8 @@ module _ (us : List Test) where
   first-stops [] e = cc
   first-stops (t ∷ ts) {x} e = go (t .applies) e (λ d. first-stops ts d)
     where
-      go : (b : Bool) → (if b then some (t .refusal) else firstOf ts) ≡ some x → (firstOf ts ≡ some x → firstOf (ts ++ us) ≡ some x) → (if b then some (t .refusal) else firstOf (ts ++ us)) ≡ some x
+      go : (b : Bool) → (if b then some (t .refusal) else firstOf ts) ≡ some x → (firstOf ts ≡ some x → firstOf (ts ++ us) ≡ some x)
+          → (if b then some (t .refusal) else firstOf (ts ++ us)) ≡ some x
       go true e r = e
       go false e r = r e
 
@@ -94,7 +96,8 @@ module _ (r : Rules) (range : ℤ → Bool) (c : Case) (w : List ℤ) (wrong out
   lengths-right : firstOf (handedOver r range c w wrong out) ≡ firstOf (edgeTests c out ++ (WeightOutOfRange when (not (all range w)) ∷ []))
   lengths-right = rw (e, eq-eqb (length w) (lentLength c) l, g, take-all (ownLength c) w (omega arith))
 
-  pub edges-wrong : {x : Refusal} → Outcome.Refused x ≡ outcomeOf (firstOf (edgeTests c out)) → Outcome.Refused x ≡ outcomeOf (firstOf (handedOver r range c w wrong out))
+  pub edges-wrong : {x : Refusal} → Outcome.Refused x ≡ outcomeOf (firstOf (edgeTests c out))
+      → Outcome.Refused x ≡ outcomeOf (firstOf (handedOver r range c w wrong out))
   edges-wrong d = ap outcomeOf (sym (lengths-right ∙ first-stops (WeightOutOfRange when (not (all range w)) ∷ []) (edgeTests c out) (outcome-refused d)))
 
   pub edges-right : Outcome.Done ≡ outcomeOf (firstOf (edgeTests c out))

@@ -39,8 +39,8 @@ module _ {A : Type 0} (f : A → Bool) (xs : List A) (d : A) where
   pub found-nowhere : ((k : ℕ) → k < length xs → f (getD xs k d) ≡ false) → false ≡ any f xs
   found-nowhere h = sym (is-false (any f xs) (not-T (any f xs) (λ t. let (k, l, s) = any-getD f xs d .0 t in rw (h k l) at s)))
 
-  pub passes : ((k : ℕ) → k < length xs → f (getD xs k d) ≡ true) → true ≡ all f xs
-  passes h = sym (is-true (all f xs) (all-getD f xs d .1 (λ k l. true-is (f (getD xs k d)) (h k l))))
+  pub search-passes : ((k : ℕ) → k < length xs → f (getD xs k d) ≡ true) → true ≡ all f xs
+  search-passes h = sym (is-true (all f xs) (all-getD f xs d .1 (λ k l. true-is (f (getD xs k d)) (h k l))))
 
   pub fails : (k : ℕ) → k < length xs → f (getD xs k d) ≡ false → false ≡ all f xs
   fails k l e = sym (is-false (all f xs) (not-T (all f xs) (λ t. rw e at (all-getD f xs d .0 t k l))))

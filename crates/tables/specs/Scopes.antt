@@ -20,7 +20,7 @@ use Rattle.definitions.specs.Refusals.{Test, _when_, firstOf}
 use Rattle.definitions.specs.Answers.{outcomeOf, unlessRefused}
 use Rattle.definitions.specs.Case.{scopeCount, scopes, isVariable, place, lentLength, greatest, upperBound}
 use Rattle.definitions.specs.Valid.{workingWeight, withinLimits, limitTest, lengthTest}
-use Rattle.definitions.specs.Calls.{figureOf}
+use Rattle.calls.specs.Calls.{figureOf}
 
 -- the case is within its rules' limits, and so within plain bounds
 pub record Limited (c : Case) : Type 0 where
@@ -44,8 +44,8 @@ abbrev pub sizeOf : Case → ℕ → ℕ
 sizeOf c x = if isVariable c x then c .d else c .d * c .d
 
 -- the weights of scope x
-abbrev pub partOf : Case → List ℤ → ℕ → List ℤ
-partOf c w x = take (sizeOf c x) (drop (place c x 0 0) w)
+abbrev pub scopePart : Case → List ℤ → ℕ → List ℤ
+scopePart c w x = take (sizeOf c x) (drop (place c x 0 0) w)
 
 -- ---- each scope's greatest weight, kept in the first s places of `best`
 
@@ -79,7 +79,7 @@ module _ (r : Rules) where
   -- the weights of scope x; none where the limits or the table's length are wrong or there is no such scope
   unfoldable pub scopeWeights : Case → List ℤ → ℕ → List ℤ
   scopeWeights c w x =
-      if withinLimits r (c .n) (c .d) (c .m) && eqb (length w) (lentLength c) && ltb x (scopeCount c) then partOf c w x else []
+      if withinLimits r (c .n) (c .d) (c .m) && eqb (length w) (lentLength c) && ltb x (scopeCount c) then scopePart c w x else []
 
   -- ---- sums over scopes
 

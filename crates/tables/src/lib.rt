@@ -19,7 +19,8 @@ ghost use Rattle.definitions.specs.declared.Refusal.the-variants.{WeightOutOfRa
 ghost use Rattle.definitions.specs.Answers.{outcomeOf};
 ghost use Rattle.definitions.specs.Case.{place, greatest as greatestWeight, scopeCount, scopes, lentLength};
 ghost use Rattle.definitions.specs.Valid.{startingWeight, workingWeight, withinLimits, someEdge, sameEnds, limitTest, edgeTests, handedOver};
-ghost use Rattle.tables.specs.Scopes.{Limited, ofSize, sizeOf, partOf, scopeWeights, bestAt, writtenOver, greatestCall, sumInRange, greatestSum, bestSum};
+ghost use Rattle.tables.specs.Scopes.{Limited, ofSize, sizeOf, scopePart, scopeWeights, bestAt};
+ghost use Rattle.tables.specs.Scopes.{writtenOver, greatestCall, sumInRange, greatestSum, bestSum};
 ghost use Rattle.tables.specs.Edges.{faulty, withEdges};
 
 // What can be wrong with an edge.
@@ -239,7 +240,7 @@ fn scope_part(case: Case, table: &[i64], x: usize) -> &[i64]
     requires { ⌜ Limited case ⌝ }
     requires { ⌜ length (now table) ≡ lentLength case ⌝ }
     requires { ⌜ x < case .n + case .m ⌝ }
-    ensures { λ r. ⌜ now r ≡ partOf case (now (table .entry)) x ⌝ }
+    ensures { λ r. ⌜ now r ≡ scopePart case (now (table .entry)) x ⌝ }
 {
     let first = first_place(case.n, case.d, x);
     let end = first + size_of(case.n, case.d, x);
@@ -301,12 +302,6 @@ fn add_greatest(case: Case, table: &[i64]) -> Figure
     let mut best = [0i64; SCOPE_PLACES];
     write_greatest(case, table, &mut best);
     sum_in_range(case, &best)
-}
-
-fn wide(value: u8) -> usize
-    ensures { λ r. ⌜ r ≡ value ⌝ }
-{
-    value as usize
 }
 
 // ---- the calls
@@ -378,7 +373,8 @@ pub fn greatest(weights: &[i64]) -> i64
 
 // Writes each scope's greatest weight to the first n + m places of `best`.
 pub fn greatest_weights(case: Case, table: &[i64], best: &mut [i64]) -> Outcome
-    ensures { λ r. ⌜ (r ≡ greatestCall (rulesOf case) case (now (table .entry)) (now (best .entry)) .answer) × (now (best .exit) ≡ greatestCall (rulesOf case) case (now (table .entry)) (now (best .entry)) .best) ⌝ }
+    ensures { λ r. ⌜ (r ≡ greatestCall (rulesOf case) case (now (table .entry)) (now (best .entry)) .answer)
+        × (now (best .exit) ≡ greatestCall (rulesOf case) case (now (table .entry)) (now (best .entry)) .best) ⌝ }
 {
     if !within_limits(case) {
         return Outcome::Refused(Refusal::OutsideLimits);
@@ -412,7 +408,7 @@ pub fn some_beyond(values: &[u8], d: usize) -> bool
 {
     let mut i: usize = 0;
     while i < values.len() {
-        if d <= wide(values[i]) {
+        if d <= integers::wide_size(values[i]) {
             return true;
         }
         i += 1;

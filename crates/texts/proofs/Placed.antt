@@ -11,17 +11,17 @@ use mir.Syntax.{w64}
 use mir.Val.{SFits}
 use Rattle.definitions.specs.Lines.{numberText, overwritten}
 use Rattle.lines.proofs.Signs.{abs-digits}
-use Rattle.texts.specs.Texts.{placed}
+use Rattle.texts.specs.Texts.{placedAt}
 
 -- after the bytes xs, the bytes ys
-pub placed-next : (xs ys out : List ℕ) (n : ℕ) → length xs ≡ n → placed n ys (overwritten xs out) ≡ overwritten (xs ++ ys) out
-unfolding placed
+pub placed-next : (xs ys out : List ℕ) (n : ℕ) → length xs ≡ n → placedAt n ys (overwritten xs out) ≡ overwritten (xs ++ ys) out
+unfolding placedAt
 placed-next xs ys out n e =
     rw (take-at xs (drop (length xs) out) n e, drop-at xs (drop (length xs) out) n e, drop-drop (length ys) (length xs) out)
     (simp (append-assoc, length-append))
 
-pub placed-first : (xs out : List ℕ) → placed 0 xs out ≡ overwritten xs out
-unfolding placed
+pub placed-first : (xs out : List ℕ) → placedAt 0 xs out ≡ overwritten xs out
+unfolding placedAt
 placed-first xs out = refl
 
 -- the part from byte `at` to the end
@@ -29,8 +29,8 @@ module _ (at : ℕ) (out : List ℕ) where
   pub part-is : midOf at (length out - at) out ≡ drop at out
   part-is = take-all (length out - at) (drop at out) (omega (arith, length-drop at out))
 
-  pub part-placed : (xs y : List ℕ) → y ≡ overwritten xs (drop at out) → at ≤ length out → putMid at (length out - at) out y ≡ placed at xs out
-  unfolding placed
+  pub part-placed : (xs y : List ℕ) → y ≡ overwritten xs (drop at out) → at ≤ length out → putMid at (length out - at) out y ≡ placedAt at xs out
+  unfolding placedAt
   part-placed xs y e h =
       let z : postOf at (length out - at) out ≡ [] = drop-of-length-le (drop at out) {i = length out - at} (omega (arith, length-drop at out)) in
       rw (z, e) (simp append-nil)
@@ -41,9 +41,9 @@ pub record Printed (text out l : List ℕ) (n : ℕ) : Type 0 where
   pub count : n ≡ length text
 
 module _ {text out l : List ℕ} {n : ℕ} (p : Printed text out l n) where
-  pub printed-next : (ys : List ℕ) {k : List ℕ} {m : ℕ} → m ≡ n + length ys → k ≡ placed n ys l → Printed (text ++ ys) out k m
+  pub printed-next : (ys : List ℕ) {k : List ℕ} {m : ℕ} → m ≡ n + length ys → k ≡ placedAt n ys l → Printed (text ++ ys) out k m
   printed-next ys e q = record {
-    bytes = q ∙ ap (placed n ys) (p .bytes) ∙ placed-next text ys out n (sym (p .count));
+    bytes = q ∙ ap (placedAt n ys) (p .bytes) ∙ placed-next text ys out n (sym (p .count));
     count = rw length-append (omega (arith, p .count));
   }
 

@@ -5,12 +5,13 @@ use Prim.Native.Nat.{ℕ}
 use lib.IntN.{ℤ}
 use lib.Dec.{ltb}
 use lib.ListN.{length, take, drop}
+use Rattle.definitions.specs.declared.Judgement.{Judgement}
 use Rattle.definitions.specs.declared.Refusal.{Refusal}
 use Rattle.definitions.specs.declared.Refusal.the-variants.{WrongLength, OutOfRange}
 use Rattle.definitions.specs.Refusals.{_when_, firstOf}
 use Rattle.definitions.specs.Answers.{unlessRefused}
 use Rattle.definitions.specs.Lines.{numberText, overwritten}
-use Rattle.definitions.specs.Calls.{WriteCall, writtenOf}
+use Rattle.calls.specs.Calls.{WriteCall, writtenOf}
 use Rattle.definitions.specs.Programs.{bytesOf, refusedText, acceptedText}
 
 -- the bytes that an output must have: no line that a program prints is longer
@@ -37,10 +38,14 @@ writeRefusedCall out x line = writeTextCall out line (refusedText x line)
 unfoldable pub writeAcceptedCall : List ℕ → ℕ → ℤ → WriteCall
 writeAcceptedCall out rounds bound = writeTextCall out rounds (acceptedText rounds bound)
 
+abbrev pub writeJudgementCall : List ℕ → Judgement → WriteCall
+writeJudgementCall out (Judgement.Accepted rounds bound) = writeAcceptedCall out rounds bound
+writeJudgementCall out (Judgement.Refused x line) = writeRefusedCall out x line
+
 -- a word, two numbers and a line feed
 abbrev pub printed : List ℕ → ℤ → ℤ → List ℕ
 printed word a b = word ++ numberText a ++ bytesOf " " ++ numberText b ++ bytesOf "\n"
 
 -- the output with these bytes from byte `at` on
-unfoldable pub placed : ℕ → List ℕ → List ℕ → List ℕ
-placed at bytes out = take at out ++ overwritten bytes (drop at out)
+unfoldable pub placedAt : ℕ → List ℕ → List ℕ → List ℕ
+placedAt at bytes out = take at out ++ overwritten bytes (drop at out)

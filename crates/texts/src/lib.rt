@@ -1,4 +1,5 @@
 // The lines that the programs print, written to a lent output (document 01, on `press` and `replay`).
+use definitions::Judgement;
 use definitions::Refusal;
 use definitions::Written;
 ghost use mathlib.Core.Path.{_≡_};
@@ -7,7 +8,7 @@ ghost use lib.IntN.{pos};
 ghost use lib.ListN.{length};
 ghost use Rattle.definitions.specs.Refusals.{number};
 ghost use Rattle.definitions.specs.Lines.{numberText, overwritten};
-ghost use Rattle.texts.specs.Texts.{textRoom, printed, placed, writeRefusedCall, writeAcceptedCall};
+ghost use Rattle.texts.specs.Texts.{textRoom, printed, placedAt, writeRefusedCall, writeAcceptedCall, writeJudgementCall};
 
 // An output must have so many bytes: no text is longer.
 const ROOM: usize = 64;
@@ -24,7 +25,7 @@ fn whole(x: u8) -> i64
 // Puts the bytes at byte `at`, and answers where they end.
 fn put(out: &mut [u8], at: usize, bytes: &[u8]) -> usize
     requires { ⌜ at + length (now bytes) ≤ length (now out) ⌝ }
-    ensures { λ r. ⌜ (r ≡ at + length (now (bytes .entry))) × (now (out .exit) ≡ placed at (now (bytes .entry)) (now (out .entry))) ⌝ }
+    ensures { λ r. ⌜ (r ≡ at + length (now (bytes .entry))) × (now (out .exit) ≡ placedAt at (now (bytes .entry)) (now (out .entry))) ⌝ }
 {
     at + bytes::copy(bytes, &mut out[at..])
 }
@@ -32,7 +33,7 @@ fn put(out: &mut [u8], at: usize, bytes: &[u8]) -> usize
 // The same of a number.
 fn put_number(out: &mut [u8], at: usize, z: i64) -> usize
     requires { ⌜ at + length (numberText z) ≤ length (now out) ⌝ }
-    ensures { λ r. ⌜ (r ≡ at + length (numberText z)) × (now (out .exit) ≡ placed at (numberText z) (now (out .entry))) ⌝ }
+    ensures { λ r. ⌜ (r ≡ at + length (numberText z)) × (now (out .exit) ≡ placedAt at (numberText z) (now (out .entry))) ⌝ }
 {
     let written = lines::write_number(&mut out[at..], z);
     match written {
@@ -79,7 +80,8 @@ pub fn number_of(refusal: Refusal) -> u8
 
 // `refused`, the number and the line, counted from 0.
 pub fn write_refused(out: &mut [u8], refusal: Refusal, line: usize) -> Written
-    ensures { λ r. ⌜ (r ≡ writeRefusedCall (now (out .entry)) refusal line .answer) × (now (out .exit) ≡ writeRefusedCall (now (out .entry)) refusal line .out) ⌝ }
+    ensures { λ r. ⌜ (r ≡ writeRefusedCall (now (out .entry)) refusal line .answer)
+        × (now (out .exit) ≡ writeRefusedCall (now (out .entry)) refusal line .out) ⌝ }
 {
     if out.len() < ROOM {
         return Written::Refused(Refusal::WrongLength);
@@ -93,7 +95,8 @@ pub fn write_refused(out: &mut [u8], refusal: Refusal, line: usize) -> Written
 
 // `accepted`, the rounds and the upper bound.
 pub fn write_accepted(out: &mut [u8], rounds: u64, bound: i64) -> Written
-    ensures { λ r. ⌜ (r ≡ writeAcceptedCall (now (out .entry)) rounds bound .answer) × (now (out .exit) ≡ writeAcceptedCall (now (out .entry)) rounds bound .out) ⌝ }
+    ensures { λ r. ⌜ (r ≡ writeAcceptedCall (now (out .entry)) rounds bound .answer)
+        × (now (out .exit) ≡ writeAcceptedCall (now (out .entry)) rounds bound .out) ⌝ }
 {
     if out.len() < ROOM {
         return Written::Refused(Refusal::WrongLength);
@@ -102,4 +105,15 @@ pub fn write_accepted(out: &mut [u8], rounds: u64, bound: i64) -> Written
         return Written::Refused(Refusal::OutOfRange);
     }
     Written::Bytes(print(out, b"accepted ", rounds as i64, bound))
+}
+
+// The text of a judgement.
+pub fn write_judgement(out: &mut [u8], judgement: Judgement) -> Written
+    ensures { λ r. ⌜ (r ≡ writeJudgementCall (now (out .entry)) judgement .answer)
+        × (now (out .exit) ≡ writeJudgementCall (now (out .entry)) judgement .out) ⌝ }
+{
+    match judgement {
+        Judgement::Accepted { rounds, bound } => write_accepted(out, rounds, bound),
+        Judgement::Refused { refusal, line } => write_refused(out, refusal, line),
+    }
 }

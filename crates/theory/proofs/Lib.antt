@@ -9,8 +9,3 @@ pub mod Presses
 pub mod Validity
 pub mod Replays
 pub mod Rounds
-pub mod Networks
-pub mod CaseDues
-pub mod CaseTests
-pub mod CaseReads
-pub mod CaseTexts

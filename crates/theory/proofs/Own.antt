@@ -2,21 +2,21 @@
 -- weights, and are changed in the same way by a move. Assumes nothing.
 use mathlib.Core.Path.{_≡_, refl, sym, ap, ap₂, subst}
 use mathlib.Core.Bool.{Bool, not, _&&_}
-use mathlib.Core.Logic.{_↔_, _⊎_, inl, inr}
+use mathlib.Core.Logic.{_↔_}
 use mathlib.Core.List.{List}
 use Prim.Native.Nat.{ℕ, _<_, _≤_}
 use native.Mathlib.Omega.{arith}
 use lib.IntN.{ℤ, pos, negℤ, _+ℤ_}
-use lib.Dec.{T, eqb, eqb→eq}
+use lib.Dec.{T, eqb}
 use lib.ListN.{getD, length}
 use Rattle.integers.specs.Words.{isIn, _⇒_}
-use Rattle.integers.specs.Tests.{either, is-false, same-test}
+use Rattle.integers.specs.Tests.{same-test}
 use Rattle.integers.specs.Lists.{in-below, all-same}
 use Rattle.integers.specs.Sums.{sum-cong}
 use Rattle.definitions.specs.declared.Case.{Case}
 use Rattle.definitions.specs.Case.{scopeCount, scopes, ownLength, weight, isAssignment, objective, greatest, upperBound}
 use Rattle.definitions.specs.Valid.{allWeights}
-use Rattle.definitions.specs.Moves.{Move, shift, press, onlyWhere, activeValues, activeRefuted, difference, moved}
+use Rattle.definitions.specs.Moves.{Move, shift, press, onlyWhere, activeRefuted, difference, moved}
 use Rattle.definitions.proofs.CaseLaws.{weight-same, greatest-same, active-same}
 use Rattle.definitions.proofs.Refutation.{refuted-same}
 use Rattle.theory.proofs.Shape.{Shape}
@@ -46,19 +46,19 @@ module _ (c : Case) (w u : List ℤ) (own : (p : ℕ) → p < ownLength c → ge
   pub range-same : (range : ℤ → Bool) → ownLength c ≤ length w → ownLength c ≤ length u → allWeights range c w ≡ allWeights range c u
   range-same range g h = same-test _ _
       (λ t. all-weights c range u h .1 (λ x k l i. subst (λ (z : ℤ). T (range z)) (own-places c w u .1 own x k l i) (all-weights c range w g .0 t x k l i)))
-      (λ t. all-weights c range w g .1 (λ x k l i. subst (λ (z : ℤ). T (range z)) (sym (own-places c w u .1 own x k l i)) (all-weights c range u h .0 t x k l i)))
+      (λ t. all-weights c range w g .1 (λ x k l i. subst (λ (z : ℤ). T (range z)) (sym (own-places c w u .1 own x k l i))
+      (all-weights c range u h .0 t x k l i)))
 
   pub difference-same : (move : Move) (x k l : ℕ) → IsTuple c x k l → difference c w move x k l ≡ difference c u move x k l
   difference-same (shift e end v a) x k l t = refl
-  difference-same (press i raised a) x k l t = ap₂ (λ (b d : Bool). onlyWhere b (negℤ a) +ℤ onlyWhere d a) (go (either (eqb x i)))
+  difference-same (press i lowered raised a) x k l t =
+      ap (λ (d : Bool). onlyWhere (eqb x i && lowered k) (negℤ a) +ℤ onlyWhere d a)
       (ap (λ (b : Bool). isIn raised x && not b) (active-same c w u own x (t .scope) k l (t .one) (t .two)))
-    where
-      go : T (eqb x i) ⊎ T (not (eqb x i)) → (eqb x i && activeValues c w i k) ≡ (eqb x i && activeValues c u i k)
-      go (inl s) =
-          let e : x ≡ i = eqb→eq x i s in
-          let h : i < scopeCount c = omega (arith, t .scope) in
-          ap (λ (b : Bool). eqb x i && b) (active-same c w u own i h k 0 (t .one) (omega (arith, t .one)))
-      go (inr s) = rw (is-false (eqb x i) s)
 
   pub moved-same : (move : Move) (x k l : ℕ) → IsTuple c x k l → weight c (moved c move w) x k l ≡ weight c (moved c move u) x k l
-  moved-same move x k l t = cc (weight-plus c (difference c w move) w t, weight-plus c (difference c u move) u t, own-places c w u .1 own x k l t, difference-same move x k l t)
+  moved-same move x k l t = cc (
+    weight-plus c (difference c w move) w t,
+    weight-plus c (difference c u move) u t,
+    own-places c w u .1 own x k l t,
+    difference-same move x k l t,
+  )

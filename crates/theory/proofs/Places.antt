@@ -34,7 +34,13 @@ pub record IsTuple (c : Case) (x k l : ℕ) : Type 0 where
 -- a place in n rows of d, by its row and its place there
 in-row : (n d p : ℕ) → p < n * d → (q r : ℕ) × (q < n) × (r < d) × (q * d + r ≡ p)
 in-row n zero p h = absurd (omega arith)
-in-row n (suc d) p h = (p / suc d, p % suc d, div-lt-iff-lt-mul {k = suc d} {x = p} {y = n} (omega arith) .1 h, mod-lt p {m = suc d} (omega arith), div-add-mod' p (suc d))
+in-row n (suc d) p h = (
+  p / suc d,
+  p % suc d,
+  div-lt-iff-lt-mul {k = suc d} {x = p} {y = n} (omega arith) .1 h,
+  mod-lt p {m = suc d} (omega arith),
+  div-add-mod' p (suc d),
+)
 
 -- the weights with a difference added
 abbrev after : Case → Difference → List ℤ → Difference
@@ -162,9 +168,11 @@ module _ (c : Case) where
 
         at-edge : (e k l : ℕ) → e < c .m → k < c .d → l < c .d → weight c (tableOf c f) (c .n + e) k l ≡ f (c .n + e) k l
         at-edge e k l h p q =
-            ap₂ (λ (s : List ℤ) (a : ℕ). getD s a (pos 0)) split (place-edge e k l ∙ ap (λ (a : ℕ). a + (e * (c .d * c .d) + (k * c .d + l))) (sym front-length))
+            ap₂ (λ (s : List ℤ) (a : ℕ). getD s a (pos 0)) split (place-edge e k l
+            ∙ ap (λ (a : ℕ). a + (e * (c .d * c .d) + (k * c .d + l))) (sym front-length))
             ∙ getD-append-add (joined (map row (below (c .n)))) (joined (map square (below (c .m)))) (e * (c .d * c .d) + (k * c .d + l)) (pos 0)
-            ∙ getD-rows square (c .m) (c .d * c .d) (λ e h. length-square e) e (k * c .d + l) (pos 0) h (omega (arith, mul-le-mul-right {m = suc k} {n = c .d} (c .d) p))
+            ∙ getD-rows square (c .m) (c .d * c .d) (λ e h. length-square e) e (k * c .d + l) (pos 0) h
+            (omega (arith, mul-le-mul-right {m = suc k} {n = c .d} (c .d) p))
             ∙ getD-rows (λ k. map (λ l. f (c .n + e) k l) (values c)) (c .d) (c .d) (λ k h. length-tab (λ l. f (c .n + e) k l) 0 (c .d)) k l (pos 0) p q
             ∙ getD-tab (λ l. f (c .n + e) k l) (c .d) l (pos 0) q
 
@@ -203,7 +211,8 @@ module _ (c : Case) where
       (λ t. let (x, k, l, i, e) = tuple-at p (ltb→lt p (ownLength c) t) in subst (λ (p : ℕ). getD u p (pos 0) ≡ getD w p (pos 0)) e (at-tuples x k l i))
       (λ t. past p (nltb→le p (ownLength c) t)) (either (ltb p (ownLength c))))
 
-  pub all-weights : (range : ℤ → Bool) (w : List ℤ) → ownLength c ≤ length w → T (allWeights range c w) ↔ ((x k l : ℕ) → IsTuple c x k l → T (range (weight c w x k l)))
+  pub all-weights : (range : ℤ → Bool) (w : List ℤ) → ownLength c ≤ length w → T (allWeights range c w)
+      ↔ ((x k l : ℕ) → IsTuple c x k l → T (range (weight c w x k l)))
   all-weights range w long = (
     λ t x k l i.
         let p : place c x k l < ownLength c = place-own c x k l (i .scope) (i .one) (i .two) in
@@ -245,10 +254,12 @@ module _ (c : Case) where
       -- the table that has these weights, and is w past the own places
       pub plus-is : (u : List ℤ) → length u ≡ length w → ((x k l : ℕ) → IsTuple c x k l → weight c u x k l ≡ weight c w x k l +ℤ δ x k l)
           → ((p : ℕ) → ownLength c ≤ p → getD u p (pos 0) ≡ getD w p (pos 0)) → plus c δ w ≡ u
-      plus-is u e at-tuples past = same-table (plus c δ w) u (plus-length ∙ sym e) (λ x k l t. weight-plus t ∙ sym (at-tuples x k l t)) (λ p h. plus-past p h ∙ sym (past p h))
+      plus-is u e at-tuples past = same-table (plus c δ w) u (plus-length ∙ sym e) (λ x k l t. weight-plus t ∙ sym (at-tuples x k l t))
+          (λ p h. plus-past p h ∙ sym (past p h))
 
   pub plus-zero : (δ : Difference) (w : List ℤ) → ownLength c ≤ length w → ((x k l : ℕ) → IsTuple c x k l → δ x k l ≡ pos 0) → plus c δ w ≡ w
-  plus-zero δ w long none = plus-is δ w long w refl (λ x k l t. sym (ap (λ (z : ℤ). weight c w x k l +ℤ z) (none x k l t) ∙ +ℤ-idr (weight c w x k l))) (λ p h. refl)
+  plus-zero δ w long none = plus-is δ w long w refl (λ x k l t. sym (ap (λ (z : ℤ). weight c w x k l +ℤ z) (none x k l t) ∙ +ℤ-idr (weight c w x k l)))
+      (λ p h. refl)
 
   -- ---- a scope's greatest weight
   module _ (w : List ℤ) where

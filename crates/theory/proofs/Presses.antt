@@ -14,13 +14,14 @@ use Rattle.integers.specs.Tests.{either, if-true, if-false, if-cases, imp-elim}
 use Rattle.integers.specs.Linear.{flat, zs, _▸_}
 use Rattle.integers.specs.Lists.{any-at, any-of, all-at}
 use Rattle.definitions.specs.declared.Case.{Case}
-use Rattle.definitions.specs.Case.{scopeCount, valueOf, atUsed, lowerEnd, upperEnd, isAssignment, objective, active}
-use Rattle.definitions.specs.Consistency.{Family, Supported, Refuted, forbidden, allowed, refuted}
-use Rattle.definitions.specs.Moves.{Difference, onlyWhere, pressBy, press, moved, activeValues, activeRefuted}
+use Rattle.definitions.specs.Case.{scopeCount, valueOf, atUsed, lowerEnd, upperEnd, isAssignment, objective}
+use Rattle.definitions.specs.Consistency.{Family, Supported, Refuted, forbidden, allowed, refuted, allRefuted}
+use Rattle.definitions.specs.Moves.{Difference, onlyWhere, pressBy, press, moved}
 use Rattle.definitions.proofs.Refutation.{refuted-sound}
 use Rattle.theory.proofs.Shape.{Shape}
 use Rattle.theory.proofs.Words.{sum-above}
-use Rattle.theory.proofs.Totals.{objectiveOf, objectiveOf-one, used-variable, used-edge, objectiveOf-add, objective-plus, value-used, at-used, firstUsed, secondUsed}
+use Rattle.theory.proofs.Totals.{objectiveOf, objectiveOf-one, used-variable, used-edge, objectiveOf-add}
+use Rattle.theory.proofs.Totals.{objective-plus, value-used, at-used, firstUsed, secondUsed}
 
 module _ {c : Case} (s : Shape c) (p : List ℕ) (assigned : T (isAssignment c p)) (w : List ℤ) (R : ℕ → Bool) where
   lower-below : (e : ℕ) → e < c .m → lowerEnd c e < c .n
@@ -75,7 +76,8 @@ module _ {c : Case} (s : Shape c) (p : List ℕ) (assigned : T (isAssignment c p
 
     taken : objectiveOf c down p ≡ onlyWhere (lowered (valueOf p i)) (negℤ a)
     unfolding down
-    taken = objectiveOf-one c p (λ k l. lowered k) (negℤ a) {y = i} (omega arith) ∙ ap (λ (b : Bool). onlyWhere b (negℤ a)) (used-variable c p (λ k l. lowered k) i h)
+    taken = objectiveOf-one c p (λ k l. lowered k) (negℤ a) {y = i} (omega arith)
+        ∙ ap (λ (b : Bool). onlyWhere b (negℤ a)) (used-variable c p (λ k l. lowered k) i h)
 
     given-at : (x : ℕ) → atUsed c p x (up x) ≡ onlyWhere (atUsed c p x (forbidden c w R x)) a
     unfolding up
@@ -94,15 +96,17 @@ module _ {c : Case} (s : Shape c) (p : List ℕ) (assigned : T (isAssignment c p
         paid : T (lowered (valueOf p i)) ⊎ T (not (lowered (valueOf p i))) → negℤ (onlyWhere (lowered (valueOf p i)) (negℤ a)) ≤ℤ objectiveOf c up p
         paid (inl t) =
             let (x, g, f) = forbidden-used i (refutes (valueOf p i) (value-used s p assigned i h) t) in
-            if-true (negℤ a) (pos 0) (lowered (valueOf p i)) t ▸ given x g ▸ given-at x ▸ if-true a (pos 0) (atUsed c p x (forbidden c w R x)) f ▸ simp flat (omega zs)
+            if-true (negℤ a) (pos 0) (lowered (valueOf p i)) t ▸ given x g ▸ given-at x ▸ if-true a (pos 0) (atUsed c p x (forbidden c w R x)) f
+            ▸ simp flat (omega zs)
         paid (inr t) = if-false (negℤ a) (pos 0) (lowered (valueOf p i)) t ▸ some-given i ▸ given i (omega arith) ▸ simp flat (omega zs)
 
--- the press of a variable whose active values are all refuted
-pub press-moves : {c : Case} → Shape c → (p : List ℕ) → T (isAssignment c p) → (w : List ℤ) (i : ℕ) → i < c .n → (raised : List ℕ) → T (activeRefuted c w i raised)
-    → (a : ℤ) → pos 0 ≤ℤ a → objective c w p ≤ℤ objective c (moved c (press i raised a) w) p
-press-moves {c} s p assigned w i h raised r a least =
-    objective-plus s p assigned (pressBy c w i (activeValues c w i) (isIn raised) a) w
-    ▸ press-lowers-none s p assigned w (isIn raised) i h (activeValues c w i) (λ k g t.
+-- the press of values that are all refuted, active or not
+pub press-moves : {c : Case} → Shape c → (p : List ℕ) → T (isAssignment c p) → (w : List ℤ) (i : ℕ) → i < c .n
+    → (lowered : ℕ → Bool) (raised : List ℕ) → T (allRefuted c w (isIn raised) i lowered)
+    → (a : ℤ) → pos 0 ≤ℤ a → objective c w p ≤ℤ objective c (moved c (press i lowered raised a) w) p
+press-moves {c} s p assigned w i h lowered raised r a least =
+    objective-plus s p assigned (pressBy c w i lowered (isIn raised) a) w
+    ▸ press-lowers-none s p assigned w (isIn raised) i h lowered (λ k g t.
     refuted-sound c w (isIn raised) i k (λ e u. (omega (arith, s .ascending e u, s .below-n e u), s .below-n e u))
-    (imp-elim (active c w i k 0) (refuted c w (isIn raised) i k) (all-at (λ k. active c w i k 0 ⇒ refuted c w (isIn raised) i k) (c .d) r k g) t)) a least
+    (imp-elim (lowered k) (refuted c w (isIn raised) i k) (all-at (λ k. lowered k ⇒ refuted c w (isIn raised) i k) (c .d) r k g) t)) a least
     ▸ simp flat (omega zs)

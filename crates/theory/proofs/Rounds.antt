@@ -1,11 +1,12 @@
 -- Any list of moves, each allowed where the ones before it lead, is written in lines that the plain replay takes, with the effect of the
 -- moves; where the list ends with a lower upper bound, the lines and a bound line are taken as a round. And whatever the lines, the weights
 -- after them are reached by such a list. Assumes nothing.
-use mathlib.Core.Path.{_≡_, refl, ap, ap₂, subst, _∙_}
+use mathlib.Core.Path.{_≡_, refl, sym, ap, ap₂, subst, _∙_}
 use mathlib.Core.Bool.{Bool, true, false, not, _&&_, _||_}
 use mathlib.Core.Logic.{_≢_, _⊎_, inl, inr, ⊎-elim}
 use mathlib.Core.Option.{Option, none, some}
-use mathlib.Core.List.{List, [], _∷_, _++_, map, append-assoc, List·Memᴰ·head, List·Memᴰ·tail, List·Memᴰ·append-cases, List·Memᴰ·eq-of-singleton, Memᴰ·append-right, Memᴰ·of-map}
+use mathlib.Core.List.{List, [], _∷_, _++_, map, append-assoc}
+use mathlib.Core.List.{List·Memᴰ·head, List·Memᴰ·tail, List·Memᴰ·append-cases, List·Memᴰ·eq-of-singleton, Memᴰ·append-right, Memᴰ·of-map}
 use Prim.Native.Nat.{ℕ, suc, _+_, _*_, _-_, _^_, _≤_, _<_}
 use native.Mathlib.Nat.{mul-le-mul-right}
 use native.Mathlib.Omega.{arith}
@@ -24,35 +25,32 @@ use Rattle.definitions.specs.declared.Refusal.{Refusal}
 use Rattle.definitions.specs.Rules.{Rules, Coherent, scopesAtMost}
 use Rattle.definitions.specs.Refusals.{firstOf}
 use Rattle.definitions.specs.Case.{scopeCount, greatest, upperBound}
-use Rattle.definitions.specs.Valid.{workingWeight, allWeights, valid}
-use Rattle.definitions.specs.Moves.{Move, shift, press, shiftAmount, pressAmount, activeRefuted, difference, moved, leavesRange}
+use Rattle.definitions.specs.Valid.{workingWeight, allWeights}
+use Rattle.definitions.specs.Moves.{Move, shift, press, activePress, shiftAmount, pressAmount, activeValues, activeRefuted, difference, moved, leavesRange}
 use Rattle.definitions.specs.Lines.{line, lineText, lineTooWide, readLine, notDue, outside}
-use Rattle.definitions.specs.Calls.{isRising}
-use Rattle.definitions.specs.Engine.{raiseLine, moveLines, boundLine, afterMoves, roundLines, roundText}
-use Rattle.definitions.specs.Replay.{Held, State, fresh, holding, afterBound, kindsDue, notAbove, testsOfKind, lineTests, taken, answered, stepUnrefused, step, after, answers, atEnd}
+use Rattle.calls.specs.Calls.{isRising}
+use Rattle.definitions.specs.Replay.{Held, State, holding, afterBound, kindsDue, notAbove, testsOfKind, lineTests, taken, answered, stepUnrefused, step, after}
 use Rattle.definitions.proofs.ColumnLaws.{fits-digits, fits}
 use Rattle.definitions.proofs.LineLaws.{each-fits, line-read}
+use Rattle.definitions.specs.RoundLines.{raiseLine, moveLines, boundLine, roundLines, roundText}
 use Rattle.theory.proofs.Places.{first-tuple, greatest-at, all-weights, plus-length}
 use Rattle.theory.proofs.Validity.{none-applies, Handed}
-use Rattle.theory.proofs.Replays.{AllowedShift, AllowedPress, Allowed, Quiet, Sound, sound-step, stepped, stepped-allowed, case-after, sound-fresh, none-iff, no-number}
+use Rattle.theory.proofs.Replays.{AllowedShift, AllowedPress, Allowed, Quiet, Sound, sound-step, stepped, stepped-allowed, case-after, none-iff}
 
 -- ---- moves that are allowed
 
 pub stays-in-range : (r : Rules) (c : Case) (w : List ℤ) (move : Move) → Allowed r c w move → T (not (leavesRange r c (moved c move w)))
 stays-in-range r c w (shift e end v a) h = h .in-range
-stays-in-range r c w (press i raised a) h = h .in-range
+stays-in-range r c w (press i lowered raised a) h = h .in-range
 
 -- one after another they lead from w to v
 pub data AllAllowed (r : Rules) (c : Case) : List ℤ → List Move → List ℤ → Type 0 where
   no-move : {w : List ℤ} → AllAllowed r c w [] w
   one-more : {w v : List ℤ} {move : Move} {moves : List Move} → Allowed r c w move → AllAllowed r c (moved c move w) moves v → AllAllowed r c w (move ∷ moves) v
 
-pub moves-made : {r : Rules} {c : Case} {w v : List ℤ} {moves : List Move} → AllAllowed r c w moves v → afterMoves r c moves w ≡ some v
-moves-made no-move = refl
-moves-made {r} {c} {w} (one-more {move} h k) = if-false _ _ (leavesRange r c (moved c move w)) (stays-in-range r c w move h) ∙ moves-made k
-
 -- a table in the working range stays one
-pub handed-moved : (r : Rules) (c : Case) (w : List ℤ) (move : Move) → Allowed r c w move → Handed r (workingWeight r) c w → Handed r (workingWeight r) c (moved c move w)
+pub handed-moved : (r : Rules) (c : Case) (w : List ℤ) (move : Move) → Allowed r c w move → Handed r (workingWeight r) c w
+    → Handed r (workingWeight r) c (moved c move w)
 handed-moved r c w move h k =
     let e = plus-length c (difference c w move) w (let e = k .long in omega arith) in
     record {
@@ -62,15 +60,18 @@ handed-moved r c w move h k =
       long = e ∙ k .long;
       shape = k .shape;
       apart = k .apart;
-      in-range = all-weights c (workingWeight r) (moved c move w) (let f = k .long in omega arith) .0 (not-not-iff (allWeights (workingWeight r) c (moved c move w)) .0 (stays-in-range r c w move h));
+      in-range = all-weights c (workingWeight r) (moved c move w) (let f = k .long in omega arith) .0
+          (not-not-iff (allWeights (workingWeight r) c (moved c move w)) .0 (stays-in-range r c w move h));
     }
 
-pub all-handed : {r : Rules} {c : Case} {w v : List ℤ} {moves : List Move} → AllAllowed r c w moves v → Handed r (workingWeight r) c w → Handed r (workingWeight r) c v
+pub all-handed : {r : Rules} {c : Case} {w v : List ℤ} {moves : List Move} → AllAllowed r c w moves v → Handed r (workingWeight r) c w
+    → Handed r (workingWeight r) c v
 all-handed no-move k = k
 all-handed {r} {c} {w} (one-more {move} h m) k = all-handed m (handed-moved r c w move h k)
 
 -- whatever the lines, the weights after them are reached by allowed moves
-pub moves-after : {r : Rules} {s : State} → Sound r s → (ts : List (List ℕ)) → (moves : List Move) × AllAllowed r (s .case) (s .weights) moves (after r s ts .weights)
+pub moves-after : {r : Rules} {s : State} → Sound r s → (ts : List (List ℕ))
+    → (moves : List Move) × AllAllowed r (s .case) (s .weights) moves (after r s ts .weights)
 moves-after v [] = ([], no-move)
 moves-after {r} {s} v (t ∷ ts) =
     let (moves, m) = moves-after (sound-step r s t v) ts in
@@ -80,28 +81,31 @@ moves-after {r} {s} v (t ∷ ts) =
     (λ (move, h, e). (move ∷ moves, one-more h (subst (λ (w : List ℤ). AllAllowed r (s .case) w moves (after r (step r s t) ts .weights)) e k)))
     (stepped-allowed v (stepped r s t))
 
--- from the starting weights of a valid case
-pub moves-from-fresh : (r : Rules) (c : Case) (w : List ℤ) → T (valid r c w) → (ts : List (List ℕ)) → (moves : List Move) × AllAllowed r c w moves (after r (fresh c w) ts .weights)
-moves-from-fresh r c w t ts = moves-after (sound-fresh r c w t) ts
-
 -- ---- scopes that rise
 
 -- such a list within n has room, and more with a number left out
 rising-most : (x : ℕ) (xs : List ℕ) (n : ℕ) → T (isRising (x ∷ xs)) → ((y : ℕ) → y ∈ (x ∷ xs) → y < n) → x + length (x ∷ xs) ≤ n
 rising-most x [] n t h = omega (arith, h x (List·Memᴰ·head refl))
 rising-most x (y ∷ xs) n t h =
-    omega (arith, ltb→lt x y (and-left (ltb x y) (isRising (y ∷ xs)) t), rising-most y xs n (and-right (ltb x y) (isRising (y ∷ xs)) t) (λ y m. h y (List·Memᴰ·tail m)))
+    omega (
+      arith,
+      ltb→lt x y (and-left (ltb x y) (isRising (y ∷ xs)) t),
+      rising-most y xs n (and-right (ltb x y) (isRising (y ∷ xs)) t) (λ y m. h y (List·Memᴰ·tail m)),
+    )
 
-rising-short : (lo x : ℕ) (xs : List ℕ) (n i : ℕ) → lo ≤ x → lo ≤ i → i < n → T (isRising (x ∷ xs)) → ((y : ℕ) → y ∈ (x ∷ xs) → (y < n) × (y ≢ i)) → lo + length (x ∷ xs) < n
+rising-short : (lo x : ℕ) (xs : List ℕ) (n i : ℕ) → lo ≤ x → lo ≤ i → i < n → T (isRising (x ∷ xs)) → ((y : ℕ) → y ∈ (x ∷ xs) → (y < n) × (y ≢ i))
+    → lo + length (x ∷ xs) < n
 rising-short lo x [] n i f g l t h = let (u, o) = h x (List·Memᴰ·head refl) in omega arith
 rising-short lo x (y ∷ xs) n i f g l t h =
     let (u, o) = h x (List·Memᴰ·head refl) in
     let s = ltb→lt x y (and-left (ltb x y) (isRising (y ∷ xs)) t) in
-    let k : suc x ≤ i → suc x + length (y ∷ xs) < n = λ b. rising-short (suc x) y xs n i s b l (and-right (ltb x y) (isRising (y ∷ xs)) t) (λ y m. h y (List·Memᴰ·tail m)) in
+    let k : suc x ≤ i → suc x + length (y ∷ xs) < n =
+    λ b. rising-short (suc x) y xs n i s b l (and-right (ltb x y) (isRising (y ∷ xs)) t) (λ y m. h y (List·Memᴰ·tail m)) in
     let m = rising-most x (y ∷ xs) n t (λ y m. h y m .0) in
     ⊎-elim (λ b. omega (arith, k (ltb→lt x i b))) (λ b. omega (arith, nltb→le x i b)) (either (ltb x i))
 
-raised-few : {r : Rules} {c : Case} {w : List ℤ} {i : ℕ} {raised : List ℕ} {a : ℤ} → AllowedPress r c w i raised a → length raised < scopeCount c
+raised-few : {r : Rules} {c : Case} {w : List ℤ} {i : ℕ} {lowered : ℕ → Bool} {raised : List ℕ} {a : ℤ} → AllowedPress r c w i lowered raised a
+    → length raised < scopeCount c
 raised-few {c} {i} {raised} k = go raised (k .some-raised) (k .rising) (k .scopes)
   where
     go : (xs : List ℕ) → 0 < length xs → T (isRising xs) → ((x : ℕ) → x ∈ xs → (x < scopeCount c) × (x ≢ i)) → length xs < scopeCount c
@@ -138,7 +142,8 @@ within-most m (pos n) h k = omega zs
 within-most m (negsuc n) h k = h ▸ simp flat (omega zs)
 
 module _ {r : Rules} (coherent : Coherent r) where
-  pub line-fits : (k a b c : ℕ) (z : ℤ) → k < 10 ^ 2 → a < 10 ^ 4 → b < 10 ^ 4 → c < 10 ^ 4 → natAbs z < 10 ^ (r .amountWidth - 1) → lineTooWide (r .amountWidth) (line k (pos a) (pos b) (pos c) z) ≡ false
+  pub line-fits : (k a b c : ℕ) (z : ℤ) → k < 10 ^ 2 → a < 10 ^ 4 → b < 10 ^ 4 → c < 10 ^ 4 → natAbs z < 10 ^ (r .amountWidth - 1)
+      → lineTooWide (r .amountWidth) (line k (pos a) (pos b) (pos c) z) ≡ false
   line-fits k a b c z hk ha hb hc hz = each-fits (r .amountWidth) (line k (pos a) (pos b) (pos c) z) (record {
     kind = fits-digits 2 k (omega arith) hk;
     a = fits-digits 4 a (omega arith) ha;
@@ -178,8 +183,10 @@ module _ {r : Rules} (coherent : Coherent r) where
     shift-fits {e} {end} {v} {a} k = line-fits 1 e end v a (lit< tt) (omega (arith, k .edge, scopes-small)) (omega (arith, k .side, values-small))
         (omega (arith, k .value, values-small)) (amount-small a (k .amount ▸ simp flat (omega zs)) (k .amount ▸ simp flat (omega zs)))
 
-    press-fits : {i : ℕ} {raised : List ℕ} {a : ℤ} → AllowedPress r c w i raised a → lineTooWide (r .amountWidth) (line 2 (pos i) (pos (length raised)) (pos 0) a) ≡ false
-    press-fits {i} {raised} {a} k = line-fits 2 i (length raised) 0 a (lit< tt) (omega (arith, k .variable, scopes-small)) (omega (arith, raised-few k, scopes-small))
+    press-fits : {i : ℕ} {lowered : ℕ → Bool} {raised : List ℕ} {a : ℤ} → AllowedPress r c w i lowered raised a
+        → lineTooWide (r .amountWidth) (line 2 (pos i) (pos (length raised)) (pos 0) a) ≡ false
+    press-fits {i} {raised} {a} k = line-fits 2 i (length raised) 0 a (lit< tt) (omega (arith, k .variable, scopes-small))
+        (omega (arith, raised-few k, scopes-small))
         (lit< tt) (amount-small a (k .amount ▸ simp flat (omega zs)) (k .amount ▸ simp flat (omega zs)))
 
     raise-fits : {x : ℕ} → x < scopeCount c → lineTooWide (r .amountWidth) (raiseLine x) ≡ false
@@ -190,16 +197,20 @@ module _ {r : Rules} (coherent : Coherent r) where
 
     move-fits : (move : Move) → Allowed r c w move → {l : Line} → l ∈ moveLines move → lineTooWide (r .amountWidth) l ≡ false
     move-fits (shift e end v a) k m = rw (List·Memᴰ·eq-of-singleton m) (shift-fits k)
-    move-fits (press i raised a) k (List·Memᴰ·head e) = rw e (press-fits k)
-    move-fits (press i raised a) k (List·Memᴰ·tail m) = let (x, o, e) = Memᴰ·of-map raiseLine raised m in rw (← e) (raise-fits (k .scopes x o .0))
+    move-fits (press i lowered raised a) k (List·Memᴰ·head e) = rw e (press-fits k)
+    move-fits (press i lowered raised a) k (List·Memᴰ·tail m) = let (x, o, e) = Memᴰ·of-map raiseLine raised m in rw (← e) (raise-fits (k .scopes x o .0))
 
   -- every line of a round
-  pub round-fits : {c : Case} {w v : List ℤ} {moves : List Move} → Handed r (workingWeight r) c w → AllAllowed r c w moves v → {l : Line} → l ∈ roundLines c moves v
+  pub round-fits : {c : Case} {w v : List ℤ} {moves : List Move} → Handed r (workingWeight r) c w → AllAllowed r c w moves v → {l : Line}
+      → l ∈ roundLines c moves v
       → lineTooWide (r .amountWidth) l ≡ false
   round-fits h no-move m = rw (List·Memᴰ·eq-of-singleton m) (bound-fits h)
-  round-fits {c} {w} h (one-more {v} {move} {moves} k a) {l} m = go (List·Memᴰ·append-cases (moveLines move) (subst (λ (q : List Line). l ∈ q) (append-assoc (moveLines move) (joined (map moveLines moves)) (boundLine (upperBound c v) ∷ [])) m)) (round-fits (handed-moved r c w move k h) a)
+  round-fits {c} {w} h (one-more {v} {move} {moves} k a) {l} m =
+      go (List·Memᴰ·append-cases (moveLines move) (subst (λ (q : List Line). l ∈ q)
+      (append-assoc (moveLines move) (joined (map moveLines moves)) (boundLine (upperBound c v) ∷ [])) m)) (round-fits (handed-moved r c w move k h) a)
     where
-      go : l ∈ moveLines move ⊎ l ∈ roundLines c moves v → (l ∈ roundLines c moves v → lineTooWide (r .amountWidth) l ≡ false) → lineTooWide (r .amountWidth) l ≡ false
+      go : l ∈ moveLines move ⊎ l ∈ roundLines c moves v → (l ∈ roundLines c moves v → lineTooWide (r .amountWidth) l ≡ false)
+          → lineTooWide (r .amountWidth) l ≡ false
       go (inl o) f = move-fits h move k o
       go (inr o) f = f o
 
@@ -226,7 +237,16 @@ stands : (s : State) → s .refusal ≡ none → s .held ≡ none → s ≡ stan
 stands s e f = ap₂ (λ (h : Option Held) (x : Option Refusal). again h x) f e
   where
     again : Option Held → Option Refusal → State
-    again h x = record { case = s .case; starting = s .starting; weights = s .weights; rounds = s .rounds; start = s .start; held = h; moving = s .moving; refusal = x }
+    again h x = record {
+      case = s .case;
+      starting = s .starting;
+      weights = s .weights;
+      rounds = s .rounds;
+      start = s .start;
+      held = h;
+      moving = s .moving;
+      refusal = x;
+    }
 
 not-and : (a b : Bool) → (T a → T (not b)) → T (not (a && b))
 not-and true b f = f tt
@@ -243,7 +263,8 @@ module _ {r : Rules} (coherent : Coherent r) (kinds : MoveKinds r) (s : State) w
   abbrev text : Line → List ℕ
   text l = lineText (r .amountWidth) l
 
-  line-taken : (u : State) (l : Line) → u .refusal ≡ none → lineTooWide (r .amountWidth) l ≡ false → T (not (notDue r (kindsDue (u .held)) l)) → Quiet (testsOfKind r u (u .held) l)
+  line-taken : (u : State) (l : Line) → u .refusal ≡ none → lineTooWide (r .amountWidth) l ≡ false → T (not (notDue r (kindsDue (u .held)) l))
+      → Quiet (testsOfKind r u (u .held) l)
       → step r u (text l) ≡ taken u (u .held) (some l)
   line-taken u l e f due q =
       if-false u (stepUnrefused r u (readLine (r .amountWidth) (text l))) (isSome (u .refusal)) (rw e tt)
@@ -257,22 +278,39 @@ module _ {r : Rules} (coherent : Coherent r) (kinds : MoveKinds r) (s : State) w
     shift-taken b e end v a k =
         line-taken (standing s w b) (line 1 (pos e) (pos end) (pos v) a) refl
         (shift-fits coherent h k) (kinds .shift-due e end v a)
-        (simp (and-iff, not-or-iff) ((((within-n (s .case .m) e (k .edge), within-n 2 end (k .side)), within-n (s .case .d) v (k .value)), not-not-iff (shiftAmount r a) .1 (k .amount)), (k .in-range, tt)))
+        (simp (and-iff, not-or-iff) (
+          (
+            ((within-n (s .case .m) e (k .edge), within-n 2 end (k .side)), within-n (s .case .d) v (k .value)),
+            not-not-iff (shiftAmount r a) .1 (k .amount),
+          ),
+          (k .in-range, tt),
+        ))
 
-    module _ {i : ℕ} {raised : List ℕ} {a : ℤ} (k : AllowedPress r (s .case) w i raised a) where
+    module _ {i : ℕ} {raised : List ℕ} {a : ℤ} (k : AllowedPress r (s .case) w i (activeValues (s .case) w i) raised a) where
       -- the press held with some scopes raised
       abbrev held : List ℕ → ℕ → Held
       held ys left = record { variable = i; amount = a; raised = ys; left = left }
 
-      press-taken : (b : Bool) → step r (standing s w b) (text (line 2 (pos i) (pos (length raised)) (pos 0) a)) ≡ holding (standing s w b) (held [] (length raised))
+      press-taken : (b : Bool) → step r (standing s w b) (text (line 2 (pos i) (pos (length raised)) (pos 0) a))
+          ≡ holding (standing s w b) (held [] (length raised))
       press-taken b =
           line-taken (standing s w b) (line 2 (pos i) (pos (length raised)) (pos 0) a) refl
           (press-fits coherent h k) (kinds .press-due i (length raised) a)
-          (simp (and-iff, not-or-iff) (((within-n (s .case .n) i (k .variable), not-not-iff (withinZ (pos 1) (pos (scopeCount (s .case) - 1)) (pos (length raised))) .1 (k .some-raised ▸ raised-few k ▸ simp flat (omega zs))), not-not-iff (pressAmount r a) .1 (k .amount)), tt))
+          (simp (and-iff, not-or-iff) (
+            (
+              (
+                within-n (s .case .n) i (k .variable),
+                not-not-iff (withinZ (pos 1) (pos (scopeCount (s .case) - 1)) (pos (length raised))) .1 (k .some-raised ▸ raised-few k ▸ simp flat (omega zs)),
+              ),
+              not-not-iff (pressAmount r a) .1 (k .amount),
+            ),
+            tt,
+          ))
 
       raise-taken : (b : Bool) (ys : List ℕ) (x left : ℕ) → x ∈ raised → T (not (notAbove (last ys) x)) → (left ≡ 1 → ys ++ (x ∷ []) ≡ raised)
           → step r (holding (standing s w b) (held ys left)) (text (raiseLine x))
-          ≡ (if eqb left 1 then standing s (moved (s .case) (press i (ys ++ (x ∷ [])) a) w) true else holding (standing s w b) (held (ys ++ (x ∷ [])) (left - 1)))
+          ≡ (if eqb left 1 then standing s (moved (s .case) (activePress (s .case) w i (ys ++ (x ∷ [])) a) w) true else holding (standing s w b)
+          (held (ys ++ (x ∷ [])) (left - 1)))
       raise-taken b ys x left m up whole =
           line-taken (holding (standing s w b) (held ys left)) (raiseLine x) refl
           (raise-fits coherent h (k .scopes x m .0)) (kinds .raise-due (held ys left) x)
@@ -281,35 +319,50 @@ module _ {r : Rules} (coherent : Coherent r) (kinds : MoveKinds r) (s : State) w
             (
               (up, not-eqb-iff x i .1 (k .scopes x m .1)),
               (
-                not-and (eqb left 1) (not (activeRefuted (s .case) w i (ys ++ (x ∷ [])))) (λ t. not-not-iff (activeRefuted (s .case) w i (ys ++ (x ∷ []))) .1 (rw (whole (eqb→eq left 1 t)) (k .refutes))),
-                (not-and (eqb left 1) (leavesRange r (s .case) (moved (s .case) (press i (ys ++ (x ∷ [])) a) w)) (λ t. rw (whole (eqb→eq left 1 t)) (k .in-range)), tt),
+                not-and (eqb left 1) (not (activeRefuted (s .case) w i (ys ++ (x ∷ []))))
+                    (λ t. not-not-iff (activeRefuted (s .case) w i (ys ++ (x ∷ []))) .1 (rw (whole (eqb→eq left 1 t)) (k .refutes))),
+                (
+                  not-and (eqb left 1) (leavesRange r (s .case) (moved (s .case) (activePress (s .case) w i (ys ++ (x ∷ [])) a) w))
+                      (λ t. rw (whole (eqb→eq left 1 t)) (k .in-range)),
+                  tt,
+                ),
               ),
             ),
           ))
 
       -- the raise lines that are left, after those of ys
       raises-taken : (b : Bool) (ys : List ℕ) (x : ℕ) (xs : List ℕ) → ys ++ (x ∷ xs) ≡ raised
-          → after r (holding (standing s w b) (held ys (length (x ∷ xs)))) (map text (map raiseLine (x ∷ xs))) ≡ standing s (moved (s .case) (press i raised a) w) true
+          → after r (holding (standing s w b) (held ys (length (x ∷ xs)))) (map text (map raiseLine (x ∷ xs)))
+          ≡ standing s (moved (s .case) (activePress (s .case) w i raised a) w) true
       raises-taken b ys x [] e =
           raise-taken b ys x 1 (subst (λ (l : List ℕ). x ∈ l) e (Memᴰ·append-right ys (List·Memᴰ·head refl))) (above-last r ys x [] (rw e (k .rising))) (λ _. e)
           ∙ rw e
       raises-taken b ys x (z ∷ xs) e =
           ap (λ (u : State). after r u (map text (map raiseLine (z ∷ xs))))
-          (raise-taken b ys x (length (x ∷ z ∷ xs)) (subst (λ (l : List ℕ). x ∈ l) e (Memᴰ·append-right ys (List·Memᴰ·head refl))) (above-last r ys x (z ∷ xs) (rw e (k .rising)))
+          (raise-taken b ys x (length (x ∷ z ∷ xs)) (subst (λ (l : List ℕ). x ∈ l) e (Memᴰ·append-right ys (List·Memᴰ·head refl)))
+          (above-last r ys x (z ∷ xs) (rw e (k .rising)))
           (λ n. absurd (omega arith)) ∙ if-false _ _ (eqb (length (x ∷ z ∷ xs)) 1) (not-eqb-iff (length (x ∷ z ∷ xs)) 1 .1 (λ n. omega arith))
           ∙ ap (λ (n : ℕ). holding (standing s w b) (held (ys ++ (x ∷ [])) n)) (omega arith))
           ∙ raises-taken b (ys ++ (x ∷ [])) z xs (append-assoc ys (x ∷ []) (z ∷ xs) ∙ e)
 
-    bound-taken : (b : Bool) → s .rounds < r .rounds → upperBound (s .case) w <ℤ s .start → step r (standing s w b) (text (boundLine (upperBound (s .case) w))) ≡ afterBound (standing s w b) (upperBound (s .case) w)
+    bound-taken : (b : Bool) → s .rounds < r .rounds → upperBound (s .case) w <ℤ s .start
+        → step r (standing s w b) (text (boundLine (upperBound (s .case) w))) ≡ afterBound (standing s w b) (upperBound (s .case) w)
     bound-taken b few lower =
         line-taken (standing s w b) (boundLine (upperBound (s .case) w)) refl
         (bound-fits coherent h) (kinds .bound-due (upperBound (s .case) w))
         (simp (and-iff, not-not-iff) (lt→ltb (s .rounds) (r .rounds) few, (T-eq (upperBound (s .case) w) (upperBound (s .case) w) .1 refl, (lower .lt, tt))))
 
-    move-taken : (b : Bool) (move : Move) → Allowed r (s .case) w move → after r (standing s w b) (map text (moveLines move)) ≡ standing s (moved (s .case) move w) true
+    move-taken : (b : Bool) (move : Move) → Allowed r (s .case) w move
+        → after r (standing s w b) (map text (moveLines move)) ≡ standing s (moved (s .case) move w) true
     move-taken b (shift e end v a) k = shift-taken b e end v a k
-    move-taken b (press i [] a) k = absurd (omega (arith, k .some-raised))
-    move-taken b (press i (x ∷ xs) a) k = ap (λ (u : State). after r u (map text (map raiseLine (x ∷ xs)))) (press-taken k b) ∙ raises-taken k b [] x xs refl
+    move-taken b (press i lowered [] a) k = absurd (omega (arith, k .some-raised))
+    move-taken b (press i lowered (x ∷ xs) a) k =
+        subst
+        (λ (set : ℕ → Bool). AllowedPress r (s .case) w i set (x ∷ xs) a
+        → after r (standing s w b) (map text (moveLines (press i set (x ∷ xs) a))) ≡ standing s (moved (s .case) (press i set (x ∷ xs) a) w) true)
+        (sym (k .lowers))
+        (λ k. ap (λ (u : State). after r u (map text (map raiseLine (x ∷ xs)))) (press-taken k b) ∙ raises-taken k b [] x xs refl)
+        k
 
   -- ---- moves one after another
 
@@ -327,16 +380,11 @@ module _ {r : Rules} (coherent : Coherent r) (kinds : MoveKinds r) (s : State) w
         → after r s (map (lineText (r .amountWidth)) (joined (map moveLines moves))) ≡ standing s v (isSome (first moves) || s .moving)
     moves-taken {moves} m = ap (λ (u : State). after r u (map text (joined (map moveLines moves)))) (stands s unrefused unheld) ∙ moves-on (s .moving) h m
 
-    module _ {v : List ℤ} {moves : List Move} (m : AllAllowed r (s .case) (s .weights) moves v) (few : s .rounds < r .rounds) (lower : upperBound (s .case) v <ℤ s .start) where
+    module _ {v : List ℤ} {moves : List Move} (m : AllAllowed r (s .case) (s .weights) moves v) (few : s .rounds < r .rounds)
+        (lower : upperBound (s .case) v <ℤ s .start) where
       pub round-taken : after r s (roundText r (s .case) moves v) ≡ afterBound (standing s v true) (upperBound (s .case) v)
       round-taken =
           ap (after r s) (map-append text (joined (map moveLines moves)) (boundLine (upperBound (s .case) v) ∷ []))
           ∙ after-append r s (map text (joined (map moveLines moves))) (text (boundLine (upperBound (s .case) v)) ∷ [])
           ∙ ap (λ (u : State). step r u (text (boundLine (upperBound (s .case) v)))) (moves-taken m)
           ∙ bound-taken (all-handed m h) (isSome (first moves) || s .moving) few lower
-
-      pub round-answers : answers r s (roundText r (s .case) moves v) ≡ map (λ t. none) (roundText r (s .case) moves v)
-      round-answers = no-number r s (roundText r (s .case) moves v) .0 (ap (λ (u : State). u .refusal) round-taken) .1
-
-      pub round-ends : atEnd (after r s (roundText r (s .case) moves v)) ≡ none
-      round-ends = ap atEnd round-taken

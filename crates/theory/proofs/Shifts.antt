@@ -29,7 +29,8 @@ module _ (c : Case) (e end v : ℕ) (a : ℤ) where
 
     pub shift-keeps : (p : List ℕ) → objectiveOf c (shiftBy c e end v a) p ≡ pos 0
     shift-keeps p =
-        objectiveOf-add c p (λ x k l. onlyWhere (eqb x (endVariable c e end) && eqb k v) a) (λ x k l. onlyWhere (eqb x (c .n + e) && eqb (endValue end k l) v) (negℤ a))
+        objectiveOf-add c p (λ x k l. onlyWhere (eqb x (endVariable c e end) && eqb k v) a)
+        (λ x k l. onlyWhere (eqb x (c .n + e) && eqb (endValue end k l) v) (negℤ a))
         ∙ ap₂ _+ℤ_
         (objectiveOf-one c p (λ k l. eqb k v) a {y = endVariable c e end} (omega (arith, end-below))
         ∙ ap (λ (b : Bool). onlyWhere b a) (used-variable c p (λ k l. eqb k v) (endVariable c e end) end-below))

@@ -17,11 +17,13 @@ use Rattle.integers.specs.Lists.{below-in, in-below}
 use Rattle.integers.specs.Tables.{all-getD}
 use Rattle.integers.specs.Sums.{sum-cong, sum-mono, sum-strict, sum-add}
 use Rattle.definitions.specs.declared.Case.{Case}
-use Rattle.definitions.specs.Case.{lowerEnd, upperEnd, scopeCount, scopes, isVariable, edgeOf, weight, isAssignment, valueOf, atUsed, objective, greatest, upperBound, active}
+use Rattle.definitions.specs.Case.{lowerEnd, upperEnd, scopeCount, scopes, isVariable, edgeOf, weight}
+use Rattle.definitions.specs.Case.{isAssignment, valueOf, atUsed, objective, greatest, upperBound, active}
 use Rattle.definitions.specs.Moves.{Difference, plus, onlyWhere}
 use Rattle.theory.proofs.Shape.{Shape}
 use Rattle.theory.proofs.Words.{sum-one}
-use Rattle.theory.proofs.Places.{IsTuple, by-scope, variable-is, edge-is, edge-of, variable-tuple, edge-tuple, weight-plus, weight-most, active-weight, inactive-less}
+use Rattle.theory.proofs.Places.{IsTuple, by-scope, variable-is, edge-is, edge-of, variable-tuple}
+use Rattle.theory.proofs.Places.{edge-tuple, weight-plus, weight-most, active-weight, inactive-less}
 
 -- what a number for each tuple comes to under assignment p
 abbrev pub objectiveOf : Case → Difference → List ℕ → ℤ
@@ -56,7 +58,8 @@ module _ (c : Case) (p : List ℕ) where
       ∙ sum-add (λ x. atUsed c p x (δ x)) (λ x. atUsed c p x (γ x)) (scopes c)
 
   -- a difference in one scope
-  pub objectiveOf-one : (test : ℕ → ℕ → Bool) (a : ℤ) {y : ℕ} → y < scopeCount c → objectiveOf c (λ x k l. onlyWhere (eqb x y && test k l) a) p ≡ onlyWhere (atUsed c p y test) a
+  pub objectiveOf-one : (test : ℕ → ℕ → Bool) (a : ℤ) {y : ℕ} → y < scopeCount c
+      → objectiveOf c (λ x k l. onlyWhere (eqb x y && test k l) a) p ≡ onlyWhere (atUsed c p y test) a
   objectiveOf-one test a {y} h =
       sum-one (λ x. atUsed c p x (λ k l. onlyWhere (eqb x y && test k l) a)) (scopeCount c) h
       (λ x u n. at-used (λ k l. onlyWhere (eqb x y && test k l) a) x ∙ rw (is-false (eqb x y) (not-eqb-iff x y .1 n)))
@@ -77,7 +80,8 @@ module _ {c : Case} (s : Shape c) (p : List ℕ) (a : T (isAssignment c p)) wher
       (edge-tuple c e (valueOf p (lowerEnd c e)) (valueOf p (upperEnd c e)) h (value-used (lowerEnd c e) o) (value-used (upperEnd c e) (s .below-n e h))))
 
   -- what holds at every tuple of a scope holds at the one that is used
-  pub at-used-holds : {A : Type 0} (P : A → Type 0) (x : ℕ) → x < scopeCount c → (f : ℕ → ℕ → A) → ((k l : ℕ) → IsTuple c x k l → P (f k l)) → P (atUsed c p x f)
+  pub at-used-holds : {A : Type 0} (P : A → Type 0) (x : ℕ) → x < scopeCount c → (f : ℕ → ℕ → A) → ((k l : ℕ) → IsTuple c x k l → P (f k l))
+      → P (atUsed c p x f)
   at-used-holds P x h f all-of = subst P (sym (at-used c p f x)) (all-of (firstUsed c p x) (secondUsed c p x) (used-tuple x h))
 
   module _ (δ γ : Difference) where
@@ -85,11 +89,6 @@ module _ {c : Case} (s : Shape c) (p : List ℕ) (a : T (isAssignment c p)) wher
     objectiveOf-cong same =
         sum-cong (λ x. atUsed c p x (δ x)) (λ x. atUsed c p x (γ x)) (scopes c)
         (λ x m. rw (at-used c p (δ x) x, at-used c p (γ x) x) (same x _ _ (used-tuple x (in-below (scopeCount c) m))))
-
-    pub objectiveOf-mono : ((x k l : ℕ) → IsTuple c x k l → δ x k l ≤ℤ γ x k l) → objectiveOf c δ p ≤ℤ objectiveOf c γ p
-    objectiveOf-mono le =
-        sum-mono (λ x. atUsed c p x (δ x)) (λ x. atUsed c p x (γ x)) (scopes c)
-        (λ x m. rw (at-used c p (δ x) x, at-used c p (γ x) x) (le x _ _ (used-tuple x (in-below (scopeCount c) m))))
 
   pub objective-plus : (δ : Difference) (w : List ℤ) → objective c (plus c δ w) p ≡ objective c w p +ℤ objectiveOf c δ p
   objective-plus δ w =
@@ -110,8 +109,10 @@ module _ {c : Case} (s : Shape c) (p : List ℕ) (a : T (isAssignment c p)) wher
     pub bound-met : objective c w p ≡ upperBound c w ↔ ((x : ℕ) → x < scopeCount c → T (atUsed c p x (active c w x)))
     bound-met = (
       λ e x h. ⊎-elim (λ t. t) (λ t.
-          let l : objective c w p <ℤ upperBound c w = sum-strict (λ x. atUsed c p x (weight c w x)) (greatest c w) (below-in h) (used-less x h t) (λ x m. used-most x (in-below (scopeCount c) m)) in
+          let l : objective c w p <ℤ upperBound c w = sum-strict (λ x. atUsed c p x (weight c w x)) (greatest c w) (below-in h) (used-less x h t)
+          (λ x m. used-most x (in-below (scopeCount c) m)) in
           absurd (omega zs)) (either (atUsed c p x (active c w x))),
       λ f. sum-cong (λ x. atUsed c p x (weight c w x)) (greatest c w) (scopes c) (λ x m.
-          at-used c p (weight c w x) x ∙ active-weight c w x (firstUsed c p x) (secondUsed c p x) .0 (rw (at-used c p (active c w x) x) at (f x (in-below (scopeCount c) m)))),
+          at-used c p (weight c w x) x ∙ active-weight c w x (firstUsed c p x) (secondUsed c p x) .0
+          (rw (at-used c p (active c w x) x) at (f x (in-below (scopeCount c) m)))),
     )

@@ -5,8 +5,7 @@ use mathlib.Core.Bool.{Bool, true, false, not, _&&_}
 use mathlib.Core.Logic.{_↔_}
 use mathlib.Core.Option.{some}
 use mathlib.Core.List.{List, [], _∷_}
-use Prim.Native.Nat.{ℕ, _+_, _*_, _≤_, _<_}
-use native.Mathlib.Nat.{mul-le-mul-right}
+use Prim.Native.Nat.{ℕ, _≤_, _<_}
 use native.Mathlib.Omega.{arith}
 use lib.IntN.{ℤ}
 use lib.Dec.{T, T-not, not-T, eqb, ltb}
@@ -17,10 +16,10 @@ use Rattle.integers.specs.Linear.{flat, zs, _▸_}
 use Rattle.integers.specs.Lists.{all-in, any-in}
 use Rattle.definitions.specs.declared.Case.{Case}
 use Rattle.definitions.specs.Case.{lowerEnd, upperEnd, lentLength, weight, isAssignment}
-use Rattle.definitions.specs.Rules.{Rules, Coherent, scopesAtMost}
-use Rattle.definitions.proofs.RulesLaws.{fits}
+use Rattle.definitions.specs.Rules.{Rules, Coherent}
+use Rattle.definitions.proofs.RulesLaws.{rules-fit}
 use Rattle.definitions.specs.Refusals.{Test, firstOf}
-use Rattle.definitions.specs.Valid.{startingWeight, workingWeight, allWeights, wrongAssignment, valueOut, handedOver, valid}
+use Rattle.definitions.specs.Valid.{startingWeight, workingWeight, wrongAssignment, valueOut, handedOver, valid}
 use Rattle.theory.proofs.Shape.{Shape}
 use Rattle.theory.proofs.Words.{none-below}
 use Rattle.theory.proofs.Places.{IsTuple, all-weights}
@@ -106,17 +105,15 @@ module _ (r : Rules) (c : Case) (w : List ℤ) where
 
 module _ {r : Rules} {c : Case} {w : List ℤ} (coherent : Coherent r) (h : Valid r c w) where
   pub working-weights : (x k l : ℕ) → IsTuple c x k l → T (workingWeight r (weight c w x k l))
-  working-weights x k l t = fits coherent .starting ▸ h .in-range x k l t ▸ simp flat (omega zs)
-
-  pub all-working : T (allWeights (workingWeight r) c w)
-  all-working = let e = h .long in all-weights c (workingWeight r) w (omega arith) .1 working-weights
+  working-weights x k l t = rules-fit coherent .starting ▸ h .in-range x k l t ▸ simp flat (omega zs)
 
 -- an assignment of the case's length, with all values in their range, is what `isAssignment` asks for
 module _ (c : Case) (p : List ℕ) where
   pub lent-assignment : T (not (wrongAssignment c p)) × T (not (valueOut c p)) ↔ T (isAssignment c p)
   lent-assignment = (
     λ (s, t). and-intro (eqb (length p) (c .n)) (all within-d p) (not-not-iff (eqb (length p) (c .n)) .0 s)
-        (all-in within-d p .1 (λ k m. not-not-iff (within-d k) .0 (not-T (not (within-d k)) (λ u. T-not (valueOut c p) t (any-in (λ k. not (within-d k)) p .1 (k, m, u)))))),
+        (all-in within-d p .1 (λ k m. not-not-iff (within-d k) .0 (not-T (not (within-d k))
+        (λ u. T-not (valueOut c p) t (any-in (λ k. not (within-d k)) p .1 (k, m, u)))))),
     λ a. (
       not-not-iff (eqb (length p) (c .n)) .1 (and-left (eqb (length p) (c .n)) (all within-d p) a),
       not-T (valueOut c p) (λ t.

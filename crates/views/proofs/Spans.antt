@@ -34,8 +34,8 @@ use Rattle.views.specs.Steps.{endedStep, passedStep, resumed, roundSpanA
 
 -- numbers are equal just where their bits are
 module _ (a b : ℤ) (p : mag a < 2 ^ hbits w64) (q : mag b < 2 ^ hbits w64) where
-  pub bits-test : eqb (ofZ w64 a) (ofZ w64 b) ≡ eqZ a b
-  bits-test = same-test (eqb (ofZ w64 a) (ofZ w64 b)) (eqZ a b)
+  pub kind-test : eqb (ofZ w64 a) (ofZ w64 b) ≡ eqZ a b
+  kind-test = same-test (eqb (ofZ w64 a) (ofZ w64 b)) (eqZ a b)
       (λ t. T-eq a b .1 (sym (read-back w64 a p) ∙ ap (toZ w64) (eqb→eq (ofZ w64 a) (ofZ w64 b) t) ∙ read-back w64 b q))
       (λ t. eqb-iff (ofZ w64 a) (ofZ w64 b) .1 (ap (ofZ w64) (T-eq a b .0 t)))
 
@@ -131,11 +131,13 @@ module _ (w : ℕ) where
   pub on-inside : (at from left : ℕ) {s : Step} → s ≡ On from left → StepInside at s → from ≤ at + 1
   on-inside at from left e h = rw e at h
 
-  resumed-inside : (n at : ℕ) (rest : ℕ → ℕ → Span) → (at + 1) * long ≤ n → ((f l : ℕ) → f ≤ at + 1 → Inside n (rest f l)) → (s : Step) → StepInside at s → Inside n (resumed rest s)
+  resumed-inside : (n at : ℕ) (rest : ℕ → ℕ → Span) → (at + 1) * long ≤ n → ((f l : ℕ) → f ≤ at + 1 → Inside n (rest f l)) → (s : Step) → StepInside at s
+      → Inside n (resumed rest s)
   resumed-inside n at rest l h (Stop span) i = more-inside ((at + 1) * long) n l span i
   resumed-inside n at rest l h (On from left) i = h from left i
 
-  from-inside : (part : Bool) (n : ℕ) (ts : List (List ℕ)) (at from left : ℕ) → from ≤ at → (at + length ts) * long ≤ n → Inside n (spanFrom w part at from left ts)
+  from-inside : (part : Bool) (n : ℕ) (ts : List (List ℕ)) (at from left : ℕ) → from ≤ at → (at + length ts) * long ≤ n
+      → Inside n (spanFrom w part at from left ts)
   from-inside part n [] at from left h l = tt
   from-inside part n (t ∷ ts) at from left h l =
       subst (Inside n) (step-next part ts at from t left)
@@ -172,7 +174,8 @@ module _ (w : ℕ) where
       rw i (step-next (hasPart w log) (cutLines long (whole - (at + 1)) (drop ((at + 1) * long) log)) at from (take long (drop (at * long) log)) left)
       ∙ ap (spanFrom w (hasPart w log) at from left) (sym (lines-next log whole at h))
 
-  pub at-end : (log : List ℕ) (whole at from left : ℕ) → whole ≤ at → Span.Refused (if hasPart w log then CutShort else OutOfRange) at ≡ spanAt log whole at from left
+  pub at-end : (log : List ℕ) (whole at from left : ℕ) → whole ≤ at → Span.Refused
+      (if hasPart w log then CutShort else OutOfRange) at ≡ spanAt log whole at from left
   at-end log whole at from left h = let e : whole - at ≡ 0 = omega arith in rw e
 
 -- ---- the call on all input
@@ -187,6 +190,7 @@ module _ (w : ℕ) (log : List ℕ) (round : ℕ) where
   span-within i = rw i
 
 -- at the width of coherent rules the span is that under the rules
-pub span-at-rules : (r : Rules) → Coherent r → {width : ℕ} → width ≡ r .amountWidth → (log : List ℕ) (round : ℕ) → roundSpanAt width log round ≡ roundSpan r log round
+pub span-at-rules : (r : Rules) → Coherent r → {width : ℕ} → width ≡ r .amountWidth → (log : List ℕ) (round : ℕ)
+    → roundSpanAt width log round ≡ roundSpan r log round
 unfolding roundSpanAt
 span-at-rules r coherent {width} e log round = rw (width-in r coherent e) (rw e)

@@ -69,7 +69,8 @@ fn passed(read: LineRead, long: usize, at: usize, from: usize, left: u64) -> Ste
 
 fn step_at(log: &[u8], width: usize, at: usize, from: usize, left: u64) -> Step
     requires { ⌜ (from ≤ at) × ((at + 1) * lineLength width ≤ length (now log)) ⌝ }
-    ensures { λ r. ⌜ r ≡ passedStep (readLineAt width (take (lineLength width) (drop (at * lineLength width) (now (log .entry))))) (lineLength width) at from left ⌝ }
+    ensures { λ r. ⌜ r ≡ passedStep (readLineAt width (take (lineLength width) (drop (at * lineLength width) (now (log .entry)))))
+        (lineLength width) at from left ⌝ }
 {
     let long = 15 + width;
     let start = at * long;
@@ -149,7 +150,8 @@ pub fn round_span(log: &[u8], round: u64) -> Span
 // `number` and `line`.
 pub fn round_view<'a>(log: &'a [u8], round: u64, number: &mut u8, line: &mut usize) -> &'a [u8]
     ensures { λ r. ⌜ now r ≡ roundView (rulesIn Desk) (now (log .entry)) round ⌝ }
-    ensures { λ r. ⌜ ((from to : ℕ) → roundSpan (rulesIn Desk) (now (log .entry)) round ≡ Span.Part from to → r .ptr ≡ (log .entry .ptr .0, from + log .entry .ptr .1)) ⌝ }
+    ensures { λ r. ⌜ ((from to : ℕ) → roundSpan (rulesIn Desk) (now (log .entry)) round ≡ Span.Part from to
+        → r .ptr ≡ (log .entry .ptr .0, from + log .entry .ptr .1)) ⌝ }
     ensures { λ _. ⌜ now (number .exit) ≡ spanSays (roundSpan (rulesIn Desk) (now (log .entry)) round) .number ⌝ }
     ensures { λ _. ⌜ now (line .exit) ≡ lineNamed (spanSays (roundSpan (rulesIn Desk) (now (log .entry)) round)) ⌝ }
 {

@@ -1,7 +1,6 @@
 -- `arcs::add_below` meets its contract. Assumes nothing.
 use mathlib.Core.Path.{_≡_, sym, _∙_}
 use native.Mathlib.Omega.{arith}
-use denote.Ref.{now}
 use lib.ListN.{length, length-set}
 use Rattle.arcs.proofs.Search.{lowest-struck}
 use Rattle.arcs.proofs.Crossing.{Adding, adding-start, adding-small, adding-next, adding-end}
@@ -33,19 +32,25 @@ add-requires : tie.Need-add-requires Inv-loop μ-loop
 add-requires c κs = tt
 
 element-write-bytes : tie.Need-element-write-bytes Inv-loop μ-loop
-element-write-bytes c = omega (arith, adding-small _ _ _ _ _ (c .before .before .before .before .loop .inv .0) _ (c .before .before .before .loop-test .taken) (c .before .before .lowest .ensures))
+element-write-bytes c = omega (
+  arith,
+  adding-small _ _ _ _ _ (c .before .before .before .before .loop .inv .0) _ (c .before .before .before .loop-test .taken)
+      (c .before .before .lowest .ensures),
+)
 
 strike-requires : tie.Need-strike-requires Inv-loop μ-loop
 strike-requires c κs = tt
 
 loop-less : tie.Need-loop-less Inv-loop μ-loop
-loop-less c = lowest-struck _ _ _ (c .before .before .before .before .before .loop .inv .0 .small) (c .before .before .before .before .loop-test .taken) (c .before .before .before .lowest .ensures) (c .strike .ensures) .1
+loop-less c = lowest-struck _ _ _ (c .before .before .before .before .before .loop .inv .0 .small) (c .before .before .before .before .loop-test .taken)
+    (c .before .before .before .lowest .ensures) (c .strike .ensures) .1
 
 loop-again : tie.Need-loop-again Inv-loop μ-loop
 loop-again c =
     let l = c .before .before .before .before .before .loop in
     let small = adding-small _ _ _ _ _ (l .inv .0) _ (c .before .before .before .before .loop-test .taken) (c .before .before .before .lowest .ensures) in (
-      adding-next _ _ _ _ _ (l .inv .0) _ (c .before .before .before .before .loop-test .taken) (c .before .before .before .lowest .ensures) _ _ (c .before .add .ensures) (c .strike .ensures) (omega (arith, small, l .inv .1)),
+      adding-next _ _ _ _ _ (l .inv .0) _ (c .before .before .before .before .loop-test .taken) (c .before .before .before .lowest .ensures) _ _
+          (c .before .add .ensures) (c .strike .ensures) (omega (arith, small, l .inv .1)),
       length-set (l .bytes) _ _ ∙ l .inv .1,
     )
 

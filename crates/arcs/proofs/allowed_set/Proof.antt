@@ -38,7 +38,8 @@ returns-2 : tie.Need-returns-2
 returns-2 c =
     let a = c .before .before .before .before .before .args in
     c .set-with .ensures
-    ∙ ap (λ (b : ℤ). setWhere (a .case) (hasWeight (a .case) (now (a .table)) b) (a .j)) (read-back w64 (getD (now (a .best)) (a .j) (pos 0)) (c .before .set-with-arg .given))
+    ∙ ap (λ (b : ℤ). setWhere (a .case) (hasWeight (a .case) (now (a .table)) b) (a .j))
+    (read-back w64 (getD (now (a .best)) (a .j) (pos 0)) (c .before .set-with-arg .given))
     ∙ set-raised (a .case) (now (a .table)) (now (a .best)) (now (a .raised)) (a .j) (c .before .before .if1 .left)
 
 pub allowed-set-spec : {M : Type 1} → statement M

@@ -14,9 +14,9 @@ use Rattle.definitions.specs.declared.Verdict.{Verdict}
 use Rattle.definitions.specs.Rules.{rulesOf}
 use Rattle.definitions.specs.Answers.{outcomeOf}
 use Rattle.definitions.specs.Case.{scopeCount}
-use Rattle.arcs.specs.Active.{Sized, setWhere, hasWeight}
-use Rattle.arcs.specs.Best.{hasBest, areUnsupported, bestRefusal}
-use Rattle.arcs.proofs.Best.{answer-refused, answer-given, arguments-known}
+use Rattle.arcs.specs.Active.{Sized, setWhere, hasWeight, hasBest}
+use Rattle.arcs.specs.Best.{areUnsupported, bestRefusal}
+use Rattle.arcs.proofs.Best.{answer-refused, answer-given, best-arguments-known}
 use borrow.Author.Needs.{needs}
 use Rattle.arcs.proofs.best_unsupported.Statement.{statement}
 use Rattle.arcs.proofs.best_unsupported.Tie as tie
@@ -31,12 +31,15 @@ enum-told : tie.Need-enum-told
 enum-told c = search needs
 
 -- what is known where none of the numbers applies
-right : (c : tie.After-enum-told) → let a = c .before .before .before .before .args in Outcome.Done ≡ outcomeOf (bestRefusal (rulesOf (a .case)) (a .case) (now (a .table)) (now (a .best)) (now (a .raised)) (a .variable))
+right : (c : tie.After-enum-told) → let a = c .before .before .before .before .args in Outcome.Done ≡ outcomeOf
+    (bestRefusal (rulesOf (a .case)) (a .case) (now (a .table)) (now (a .best)) (now (a .raised)) (a .variable))
 right c = sym (c .enum-told .given .1) ∙ c .before .before .check-arguments .ensures
 
 known : (c : tie.After-enum-told) → let a = c .before .before .before .before .args in
-    Sized (a .case) (now (a .table)) × ((scopeCount (a .case) ≤ length (now (a .best))) × (scopeCount (a .case) ≤ length (now (a .raised)))) × (a .variable < a .case .n)
-known c = let a = c .before .before .before .before .args in arguments-known (a .case) (now (a .table)) (now (a .best)) (now (a .raised)) (a .variable) (right c)
+    Sized (a .case) (now (a .table)) × ((scopeCount (a .case) ≤ length (now (a .best))) × (scopeCount (a .case) ≤ length (now (a .raised))))
+    × (a .variable < a .case .n)
+known c = let a = c .before .before .before .before .args in best-arguments-known (a .case) (now (a .table)) (now (a .best)) (now (a .raised)) (a .variable)
+    (right c)
 
 place : (c : tie.After-enum-told) → let a = c .before .before .before .before .args in a .variable < length (now (a .best))
 place c = omega (arith, known c .2, known c .1 .0)
@@ -59,7 +62,8 @@ verdict-requires c κs = search needs
 returns : tie.Need-returns
 returns c =
     let a = c .before .before .before .before .before .args in
-    answer-refused (a .case) (now (a .table)) (now (a .best)) (now (a .raised)) (a .variable) (sym (c .before .checked .given .1) ∙ c .before .before .before .check-arguments .ensures)
+    answer-refused (a .case) (now (a .table)) (now (a .best)) (now (a .raised)) (a .variable)
+    (sym (c .before .checked .given .1) ∙ c .before .before .before .check-arguments .ensures)
     (setWhere (a .case) (hasBest (a .case) (now (a .table)) (now (a .best))) (a .variable))
 
 returns-2 : tie.Need-returns-2
@@ -71,8 +75,10 @@ returns-2 c =
     (c .before .are-unsupported .ensures
     ∙ ap (areUnsupported (a .case) (now (a .table)) (now (a .best)) (now (a .raised)) (a .variable))
     (c .before .before .set-with .ensures
-    ∙ ap (λ (b : ℤ). setWhere (a .case) (hasWeight (a .case) (now (a .table)) b) (a .variable)) (read-back w64 (getD (now (a .best)) (a .variable) (pos 0)) (c .before .before .before .set-with-arg .given))))
-    ∙ answer-given (a .case) (now (a .table)) (now (a .best)) (now (a .raised)) (a .variable) (right q) (setWhere (a .case) (hasBest (a .case) (now (a .table)) (now (a .best))) (a .variable))
+    ∙ ap (λ (b : ℤ). setWhere (a .case) (hasWeight (a .case) (now (a .table)) b) (a .variable))
+    (read-back w64 (getD (now (a .best)) (a .variable) (pos 0)) (c .before .before .before .set-with-arg .given))))
+    ∙ answer-given (a .case) (now (a .table)) (now (a .best)) (now (a .raised)) (a .variable) (right q)
+    (setWhere (a .case) (hasBest (a .case) (now (a .table)) (now (a .best))) (a .variable))
 
 pub best-unsupported-spec : {M : Type 1} → statement M
 best-unsupported-spec =

@@ -35,7 +35,8 @@ loop-again c =
     let l = c .before .before .loop in (
       simp length-set (l .inv .0),
       omega arith,
-      λ k h. after-set (λ (s : ℕ). s ≡ getD (now (c .before .before .before .args .sets)) k 0) (l .work) (l .j) _ k (slice-write-work c) (λ q. ap (λ (x : ℕ). getD (now (c .before .before .before .args .sets)) x 0) (sym q)) (λ ne. l .inv .2 k (omega arith)),
+      λ k h. after-set (λ (s : ℕ). s ≡ getD (now (c .before .before .before .args .sets)) k 0) (l .work) (l .j) _ k (slice-write-work c)
+          (λ q. ap (λ (x : ℕ). getD (now (c .before .before .before .args .sets)) x 0) (sym q)) (λ ne. l .inv .2 k (omega arith)),
     )
 
 same-length : tie.Need-same-length Inv-loop μ-loop

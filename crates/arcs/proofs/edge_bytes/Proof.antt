@@ -1,6 +1,5 @@
 -- `arcs::edge_bytes` meets its contract. Assumes nothing.
-use mathlib.Core.Path.{_≡_, ap, subst, _∙_}
-use mathlib.Core.List.{List}
+use mathlib.Core.Path.{_≡_, subst, _∙_}
 use Prim.Native.Nat.{ℕ, _+_, _*_, _-_, _≤_}
 use native.Mathlib.Omega.{arith}
 use denote.Ref.{now}
@@ -9,13 +8,13 @@ use lib.ListN.{length, length-set, length-replicate}
 use mir.Syntax.{w64}
 use mir.Val.{toZ, ofZ}
 use Rattle.integers.specs.Linear.{read-back}
-use Rattle.arcs.specs.Active.{bestValues, Crossed}
+use Rattle.arcs.specs.Active.{bestMarks, Crossed}
 use Rattle.arcs.proofs.Crossing.{crossed-none, crossed-next, row-room}
 use Rattle.arcs.proofs.edge_bytes.Statement.{statement}
 use Rattle.arcs.proofs.edge_bytes.Tie as tie
 
 abbrev Inv-loop : tie.InvT-loop
-Inv-loop table first d best bytes₀ k₀ bytes k = (k ≤ d) × Crossed (λ j. bestValues table (first + j * d) d (toZ w64 best)) k bytes × (length bytes ≡ 16)
+Inv-loop table first d best bytes₀ k₀ bytes k = (k ≤ d) × Crossed (λ j. bestMarks table (first + j * d) d (toZ w64 best)) k bytes × (length bytes ≡ 16)
 
 abbrev μ-loop : tie.MeasureT-loop
 μ-loop table first d best bytes₀ k₀ bytes k = d - k
@@ -52,7 +51,16 @@ loop-again c =
     let a = c .before .before .before .before .before .args in
     let l = c .before .before .before .before .loop in (
       omega (arith, c .before .before .before .loop-test .taken),
-      crossed-next _ _ (l .bytes) _ _ (l .inv .1) (omega (arith, c .before .before .before .loop-test .taken, c .before .before .before .before .before .pre .0)) (omega (arith, c .before .before .before .loop-test .taken, c .before .before .before .before .before .pre .0, l .inv .2)) (c .before .before .best-values .ensures) (c .add-below .ensures),
+      crossed-next _ _ (l .bytes) _ _ (l .inv .1) (omega (
+        arith,
+        c .before .before .before .loop-test .taken,
+        c .before .before .before .before .before .pre .0,
+      )) (omega (
+        arith,
+        c .before .before .before .loop-test .taken,
+        c .before .before .before .before .before .pre .0,
+        l .inv .2,
+      )) (c .before .before .best-values .ensures) (c .add-below .ensures),
       c .add-below .ensures .same-length ∙ length-set (l .bytes) _ _ ∙ l .inv .2,
     )
 
@@ -62,8 +70,9 @@ returns c =
     let a = s .args in
     let l = c .before .loop in
     let all : l .k ≡ a .d = omega (arith, c .loop-test .left, l .inv .0) in
-    subst (λ (b : ℤ). Crossed (λ j. bestValues (now (a .table)) (a .first + j * a .d) (a .d) b) (a .d) (l .bytes)) (read-back w64 (a .best) (s .fits .best .sfits))
-    (subst (λ (k : ℕ). Crossed (λ j. bestValues (now (a .table)) (a .first + j * a .d) (a .d) (toZ w64 (ofZ w64 (a .best)))) k (l .bytes)) all (l .inv .1))
+    subst (λ (b : ℤ). Crossed (λ j. bestMarks (now (a .table)) (a .first + j * a .d) (a .d) b) (a .d) (l .bytes))
+    (read-back w64 (a .best) (s .fits .best .sfits))
+    (subst (λ (k : ℕ). Crossed (λ j. bestMarks (now (a .table)) (a .first + j * a .d) (a .d) (toZ w64 (ofZ w64 (a .best)))) k (l .bytes)) all (l .inv .1))
 
 pub edge-bytes-spec : {M : Type 1} → statement M
 edge-bytes-spec =

@@ -25,7 +25,8 @@ shared-slice-read-if1 : tie.Need-shared-slice-read-if1 Inv-loop μ-loop
 shared-slice-read-if1 c = c .before .loop-test .taken
 
 returns : tie.Need-returns Inv-loop μ-loop
-returns c = found-at (λ (s : ℕ). eqb s 0) (now (c .before .before .before .before .args .sets)) 0 _ (c .before .before .loop-test .taken) (eq-eqb _ 0 (c .if1 .taken))
+returns c = found-at (λ (s : ℕ). eqb s 0) (now (c .before .before .before .before .args .sets)) 0 _ (c .before .before .loop-test .taken)
+    (eq-eqb _ 0 (c .if1 .taken))
 
 add-j : tie.Need-add-j Inv-loop μ-loop
 add-j c = omega (arith, c .before .before .loop-test .taken, c .before .before .before .before .good)

@@ -25,10 +25,16 @@ strike-requires : tie.Need-strike-requires Inv-partners μ-partners
 strike-requires c κs = tt
 
 partners-less : tie.Need-partners-less Inv-partners μ-partners
-partners-less c = let q = c .before .before .before in lowest-struck _ _ _ (q .before .before .partners .inv .0) (q .before .if1 .left) (q .lowest .ensures) (c .strike .ensures) .1
+partners-less c = let q = c .before .before .before in lowest-struck _ _ _ (q .before .before .partners .inv .0) (q .before .if1 .left) (q .lowest .ensures)
+    (c .strike .ensures) .1
 
 partners-again : tie.Need-partners-again Inv-partners μ-partners
-partners-again c = let q = c .before .before .before in (lowest-struck _ _ _ (q .before .before .partners .inv .0) (q .before .if1 .left) (q .lowest .ensures) (c .strike .ensures) .0, lowest-step _ _ _ _ _ _ (q .before .before .partners .inv .1) (c .strike .ensures) (c .before .before .has .ensures) (c .before .if2 .left))
+partners-again c = let q = c .before .before .before in (
+  lowest-struck _ _ _ (q .before .before .partners .inv .0) (q .before .if1 .left) (q .lowest .ensures)
+      (c .strike .ensures) .0,
+  lowest-step _ _ _ _ _ _ (q .before .before .partners .inv .1) (c .strike .ensures) (c .before .before .has .ensures)
+      (c .before .if2 .left),
+)
 
 returns : tie.Need-returns Inv-partners μ-partners
 returns c = sym (sym (c .before .partners .inv .1) ∙ ap (λ (x : ℕ). lowestPartner x (c .before .before .args .other)) (c .if1 .taken) ∙ lowest-none _)
@@ -36,7 +42,8 @@ returns c = sym (sym (c .before .partners .inv .1) ∙ ap (λ (x : ℕ). lowestP
 returns-2 : tie.Need-returns-2 Inv-partners μ-partners
 returns-2 c =
     let q = c .before .before in
-    lowest-at _ _ _ _ (q .before .before .partners .inv .0) (q .before .if1 .left) (q .lowest .ensures) (c .before .has .ensures) (c .if2 .taken) ∙ q .before .before .partners .inv .1
+    lowest-at _ _ _ _ (q .before .before .partners .inv .0) (q .before .if1 .left) (q .lowest .ensures) (c .before .has .ensures) (c .if2 .taken)
+    ∙ q .before .before .partners .inv .1
 
 pub lowest-partner-spec : {M : Type 1} → statement M
 lowest-partner-spec =

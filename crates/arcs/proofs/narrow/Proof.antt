@@ -1,12 +1,13 @@
 -- `arcs::narrow` meets its contract. Assumes nothing.
 use mathlib.Core.Path.{sym, _∙_}
 use denote.Ref.{now}
-use Rattle.arcs.specs.Closure.{arcPlaces}
-use Rattle.arcs.proofs.Results.{some-empty, none-empty}
-use Rattle.arcs.proofs.Seen.{seen-none}
+use Rattle.arcs.proofs.Results.{some-empty, no-set-empty}
 use borrow.Author.Needs.{needs}
 use Rattle.arcs.proofs.narrow.Statement.{statement}
 use Rattle.arcs.proofs.narrow.Tie as tie
+
+abbrev entry : tie.After-has-empty → tie.Start
+entry c = c .before .before .before .before .before .before .before
 
 has-empty-requires : tie.Need-has-empty-requires
 has-empty-requires c κs = search needs
@@ -16,16 +17,14 @@ same-length c = search needs
 
 returns : tie.Need-returns
 returns c =
-    let s = c .before .before .before .before .before .before .before .before .args in
-    some-empty (now (s .sets)) (sym (c .before .has-empty .ensures) ∙ c .if1 .taken) (now (s .lower)) (now (s .upper)) (now (s .rows)) (now (s .raised))
-
-slice-aggregate-settle : tie.Need-slice-aggregate-settle
-slice-aggregate-settle c = search needs
+    let a = entry (c .before) .args in
+    some-empty (now (a .sets)) (sym (c .before .has-empty .ensures) ∙ c .if1 .taken) (now (a .lower)) (now (a .upper)) (now (a .rows)) (now (a .raised))
 
 settle-requires : tie.Need-settle-requires
 settle-requires c κs =
-    let s = c .before .before .before .before .before .before .before .before .before .before in
-    (s .pre, (none-empty (now (s .args .sets)) (sym (c .before .before .before .has-empty .ensures) ∙ c .before .before .if1 .left), seen-none _ arcPlaces))
+    let e = c .before in
+    let s = entry (e .before) in
+    (s .pre, no-set-empty (now (s .args .sets)) (sym (e .before .has-empty .ensures) ∙ e .if1 .left))
 
 same-length-2 : tie.Need-same-length-2
 same-length-2 c = search needs
@@ -36,4 +35,10 @@ returns-2 c = search needs
 pub narrow-spec : {M : Type 1} → statement M
 narrow-spec =
     tie.close
-    (tie.spec has-empty-requires same-length returns slice-aggregate-settle settle-requires same-length-2 returns-2)
+    (tie.spec
+    has-empty-requires
+    same-length
+    returns
+    settle-requires
+    same-length-2
+    returns-2)

@@ -7,7 +7,7 @@ use lib.ListN.{getD}
 use mir.Syntax.{w64}
 use Rattle.integers.specs.Linear.{read-back}
 use Rattle.arcs.specs.Active.{rowWhere, hasWeight}
-use Rattle.arcs.proofs.Marked.{written-kept, written-same}
+use Rattle.arcs.proofs.Marked.{written-kept, written-as}
 use Rattle.arcs.proofs.Best.{row-unraised, row-raised}
 use borrow.Author.Needs.{needs}
 use Rattle.arcs.proofs.prepare_edge.Statement.{statement}
@@ -34,8 +34,9 @@ same-length c = search needs
 returns : tie.Need-returns
 returns c =
     let a = c .before .before .before .before .before .before .before .before .before .before .args in
-    written-same _ _ _ _ _ _
-    (λ p h. ap (λ (b : ℤ). rowWhere (a .case) (hasWeight (a .case) (now (a .table)) b) (a .e) p) (read-back w64 (getD (now (a .best)) (a .case .n + a .e) (pos 0)) (c .before .before .before .before .write-edge-arg .given))
+    written-as _ _ _ _ _ _
+    (λ p h. ap (λ (b : ℤ). rowWhere (a .case) (hasWeight (a .case) (now (a .table)) b) (a .e) p)
+    (read-back w64 (getD (now (a .best)) (a .case .n + a .e) (pos 0)) (c .before .before .before .before .write-edge-arg .given))
     ∙ row-raised (a .case) (now (a .table)) (now (a .best)) (now (a .raised)) (a .e) p (c .before .before .before .before .before .if1 .taken))
     (c .before .before .write-edge .ensures)
 

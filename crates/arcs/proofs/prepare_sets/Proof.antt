@@ -22,7 +22,12 @@ allowed-set-requires : tie.Need-allowed-set-requires Inv-loop μ-loop
 allowed-set-requires c κs = let s = c .before .before .before .before in (s .pre .0, (s .pre .1 .0, s .pre .1 .1, c .loop-test .taken))
 
 slice-write-sets : tie.Need-slice-write-sets Inv-loop μ-loop
-slice-write-sets c = omega (arith, c .before .loop-test .taken, c .before .before .loop .inv .1 .same-length, c .before .before .before .before .before .pre .1 .2)
+slice-write-sets c = omega (
+  arith,
+  c .before .loop-test .taken,
+  c .before .before .loop .inv .1 .same-length,
+  c .before .before .before .before .before .pre .1 .2,
+)
 
 add-j : tie.Need-add-j Inv-loop μ-loop
 add-j c = omega (arith, c .before .loop-test .taken, c .before .before .before .before .before .pre .0 .limits .variables)
@@ -31,7 +36,11 @@ loop-less : tie.Need-loop-less Inv-loop μ-loop
 loop-less c = omega (arith, c .before .loop-test .taken)
 
 loop-again : tie.Need-loop-again Inv-loop μ-loop
-loop-again c = (omega (arith, c .before .loop-test .taken), written-next _ _ _ _ _ (c .before .before .loop .inv .1) (slice-write-sets c) (c .allowed-set .ensures))
+loop-again c = (
+  omega (arith, c .before .loop-test .taken),
+  written-next _ _ _ _ _ (c .before .before .loop .inv .1) (slice-write-sets c)
+      (c .allowed-set .ensures),
+)
 
 same-length : tie.Need-same-length Inv-loop μ-loop
 same-length c = c .before .loop .inv .1 .same-length

@@ -21,7 +21,8 @@ returns c =
     let s = c .before in
     c .best-values .ensures
     ∙ variable-with _ _ (s .pre .0) _ (s .pre .1) _
-    ∙ ap (λ (b : ℤ). setWhere (s .args .case) (hasWeight (s .args .case) (now (s .args .table)) b) (s .args .j)) (read-back w64 (s .args .best) (s .fits .best .sfits))
+    ∙ ap (λ (b : ℤ). setWhere (s .args .case) (hasWeight (s .args .case) (now (s .args .table)) b) (s .args .j))
+    (read-back w64 (s .args .best) (s .fits .best .sfits))
 
 pub set-with-spec : {M : Type 1} → statement M
 set-with-spec = tie.close (tie.spec mul-best-values best-values-requires returns)

@@ -4,13 +4,13 @@ use mathlib.Core.Bool.{false}
 use Prim.Native.Nat.{ℕ, _-_, _≤_, _<_}
 use native.Mathlib.Omega.{arith}
 use borrow.Author.Count.{below-more}
-use Rattle.arcs.specs.Closure.{endOutside}
+use Rattle.arcs.specs.Closure.{endMissing}
 use Rattle.tables.proofs.Search.{found, not-found}
 use Rattle.arcs.proofs.some_end_outside.Statement.{statement}
 use Rattle.arcs.proofs.some_end_outside.Tie as tie
 
 abbrev Inv-loop : tie.InvT-loop
-Inv-loop lower upper edges n e₀ e = (e ≤ edges) × ((f : ℕ) → f < e → endOutside n lower upper f ≡ false)
+Inv-loop lower upper edges n e₀ e = (e ≤ edges) × ((f : ℕ) → f < e → endMissing n lower upper f ≡ false)
 
 abbrev μ-loop : tie.MeasureT-loop
 μ-loop lower upper edges n e₀ e = edges - e
@@ -37,7 +37,11 @@ loop-less : tie.Need-loop-less Inv-loop μ-loop
 loop-less c = omega (arith, c .before .before .before .before .loop-test .taken)
 
 loop-again : tie.Need-loop-again Inv-loop μ-loop
-loop-again c = (omega (arith, c .before .before .before .before .loop-test .taken), below-more _ _ (c .before .before .before .before .before .loop .inv .1) (sym (c .before .end-outside .ensures) ∙ c .if1 .left))
+loop-again c = (
+  omega (arith, c .before .before .before .before .loop-test .taken),
+  below-more _ _ (c .before .before .before .before .before .loop .inv .1)
+      (sym (c .before .end-outside .ensures) ∙ c .if1 .left),
+)
 
 returns-2 : tie.Need-returns-2 Inv-loop μ-loop
 returns-2 c = not-found _ (c .before .before .before .before .args .edges) (λ f h. c .before .loop .inv .1 f (omega (arith, c .loop-test .left)))

@@ -12,7 +12,7 @@ use Rattle.definitions.specs.Answers.{outcomeOf}
 use Rattle.definitions.specs.Case.{scopeCount}
 use Rattle.arcs.specs.Active.{Sized}
 use Rattle.arcs.specs.Best.{bestRefusal}
-use Rattle.arcs.proofs.Best.{answer-refused, answer-given, arguments-known}
+use Rattle.arcs.proofs.Best.{answer-refused, answer-given, best-arguments-known}
 use borrow.Author.Needs.{needs}
 use Rattle.arcs.proofs.values_unsupported.Statement.{statement}
 use Rattle.arcs.proofs.values_unsupported.Tie as tie
@@ -27,12 +27,15 @@ enum-told : tie.Need-enum-told
 enum-told c = search needs
 
 -- what is known where none of the numbers applies
-right : (c : tie.After-enum-told) → let a = c .before .before .before .before .args in Outcome.Done ≡ outcomeOf (bestRefusal (rulesOf (a .case)) (a .case) (now (a .table)) (now (a .best)) (now (a .raised)) (a .variable))
+right : (c : tie.After-enum-told) → let a = c .before .before .before .before .args in Outcome.Done ≡ outcomeOf
+    (bestRefusal (rulesOf (a .case)) (a .case) (now (a .table)) (now (a .best)) (now (a .raised)) (a .variable))
 right c = sym (c .enum-told .given .1) ∙ c .before .before .check-arguments .ensures
 
 known : (c : tie.After-enum-told) → let a = c .before .before .before .before .args in
-    Sized (a .case) (now (a .table)) × ((scopeCount (a .case) ≤ length (now (a .best))) × (scopeCount (a .case) ≤ length (now (a .raised)))) × (a .variable < a .case .n)
-known c = let a = c .before .before .before .before .args in arguments-known (a .case) (now (a .table)) (now (a .best)) (now (a .raised)) (a .variable) (right c)
+    Sized (a .case) (now (a .table)) × ((scopeCount (a .case) ≤ length (now (a .best))) × (scopeCount (a .case) ≤ length (now (a .raised))))
+    × (a .variable < a .case .n)
+known c = let a = c .before .before .before .before .args in best-arguments-known (a .case) (now (a .table)) (now (a .best)) (now (a .raised)) (a .variable)
+    (right c)
 
 are-unsupported-requires : tie.Need-are-unsupported-requires
 are-unsupported-requires c κs = (known c .0, known c .1)
@@ -43,7 +46,8 @@ verdict-requires c κs = search needs
 returns : tie.Need-returns
 returns c =
     let a = c .before .before .before .before .before .args in
-    answer-refused (a .case) (now (a .table)) (now (a .best)) (now (a .raised)) (a .variable) (sym (c .before .checked .given .1) ∙ c .before .before .before .check-arguments .ensures) (a .values)
+    answer-refused (a .case) (now (a .table)) (now (a .best)) (now (a .raised)) (a .variable)
+    (sym (c .before .checked .given .1) ∙ c .before .before .before .check-arguments .ensures) (a .values)
 
 returns-2 : tie.Need-returns-2
 returns-2 c =

@@ -1,12 +1,12 @@
 -- `arcs::write_edge` meets its contract. Assumes nothing.
-use mathlib.Core.Path.{_≡_, ap, _∙_}
+use mathlib.Core.Path.{ap, _∙_}
 use native.Mathlib.Omega.{arith}
 use denote.Ref.{now}
 use lib.IntN.{ℤ}
 use mir.Syntax.{w64}
 use Rattle.integers.specs.Linear.{read-back}
 use Rattle.arcs.specs.Active.{rowWhere, hasWeight}
-use Rattle.arcs.proofs.Marked.{written-same}
+use Rattle.arcs.proofs.Marked.{written-as}
 use Rattle.arcs.proofs.Scopes.{few, edge-room, crossed-row}
 use borrow.Author.Needs.{needs}
 use Rattle.arcs.proofs.write_edge.Statement.{statement}
@@ -40,7 +40,7 @@ returns : tie.Need-returns
 returns c =
     let s = c .before .before .before .before .before .before .before .before in
     let a = s .args in
-    written-same _ _ _ _ _ _
+    written-as _ _ _ _ _ _
     (λ p h. crossed-row _ _ (s .pre .0) _ (s .pre .1 .0) _ _ (c .before .before .before .before .before .edge-bytes .ensures) p h
     ∙ ap (λ (b : ℤ). rowWhere (a .case) (hasWeight (a .case) (now (a .table)) b) (a .e) p) (read-back w64 (a .best) (s .fits .best .sfits)))
     (c .before .before .put-bytes .ensures)

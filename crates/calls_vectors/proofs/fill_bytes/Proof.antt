@@ -1,5 +1,4 @@
 use Prim.Native.Nat.{_≤_, _-_}
-use native.Mathlib.Omega.{arith}
 use borrow.Author.Needs.{needs}
 use Rattle.calls_vectors.proofs.fill_bytes.Statement.{statement}
 use Rattle.calls_vectors.proofs.fill_bytes.Tie as tie

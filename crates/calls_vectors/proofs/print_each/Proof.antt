@@ -1,6 +1,5 @@
 use Prim.Native.Nat.{_≤_, _-_}
 use lib.ListN.{length}
-use native.Mathlib.Omega.{arith}
 use borrow.Author.Needs.{needs}
 use Rattle.calls_vectors.proofs.print_each.Statement.{statement}
 use Rattle.calls_vectors.proofs.print_each.Tie as tie

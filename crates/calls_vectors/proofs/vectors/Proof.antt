@@ -57,10 +57,16 @@ call-marks-requires : tie.Need-call-marks-requires Inv-loop μ-loop
 call-marks-requires c κs = search needs
 
 loop-less : tie.Need-loop-less Inv-loop μ-loop
-loop-less c = omega (arith, c .before .before .before .before .before .before .before .before .before .before .before .before .before .before .before .before .before .before .before .before .before .before .before .before .loop-test .taken)
+loop-less c =
+    let called = c .before .before .before .before .before .before .before .before .before in
+    let filled = called .before .before .before .before .before .before .before .before .before in
+    omega (arith, filled .before .before .before .before .before .before .before .loop-test .taken)
 
 loop-again : tie.Need-loop-again Inv-loop μ-loop
-loop-again c = omega (arith, c .before .before .before .before .before .before .before .before .before .before .before .before .before .before .before .before .before .before .before .before .before .before .before .before .loop-test .taken)
+loop-again c =
+    let called = c .before .before .before .before .before .before .before .before .before in
+    let filled = called .before .before .before .before .before .before .before .before .before in
+    omega (arith, filled .before .before .before .before .before .before .before .loop-test .taken)
 
 returns : tie.Need-returns Inv-loop μ-loop
 returns c = search needs

@@ -10,14 +10,14 @@ read-lines-requires c κs = search needs
 enum-known-answer : tie.Need-enum-known-answer
 enum-known-answer c = search needs
 
-refused-requires : tie.Need-refused-requires
-refused-requires c κs = search needs
+file-refused-requires : tie.Need-file-refused-requires
+file-refused-requires c κs = search needs
 
 enum-known-answer-2 : tie.Need-enum-known-answer-2
 enum-known-answer-2 c = search needs
 
-accepted-requires : tie.Need-accepted-requires
-accepted-requires c κs = search needs
+file-accepted-requires : tie.Need-file-accepted-requires
+file-accepted-requires c κs = search needs
 
 same-length : tie.Need-same-length
 same-length c = search needs
@@ -25,7 +25,8 @@ same-length c = search needs
 returns : tie.Need-returns
 returns c =
     let k = c .before .before .before .before .before in
-    handed-refused (k .before .before .before .before .before .args .sizes .rulebook) (k .read-lines .result) _ (k .read-lines .ensures) (c .before .before .answer .given .1) (c .refused .ensures [])
+    handed-refused (k .before .before .before .before .before .args .sizes .rulebook) (k .read-lines .result) _ (k .read-lines .ensures)
+    (c .before .before .answer .given .1) (c .file-refused .ensures [])
 
 same-length-2 : tie.Need-same-length-2
 same-length-2 c = search needs
@@ -33,7 +34,8 @@ same-length-2 c = search needs
 returns-2 : tie.Need-returns-2
 returns-2 c =
     let k = c .before .before .before .before .before in
-    handed-taken (k .before .before .before .before .before .args .sizes .rulebook) (k .read-lines .result) _ (k .read-lines .ensures) (c .before .before .answer2 .given .1) (c .accepted .ensures [])
+    handed-taken (k .before .before .before .before .before .args .sizes .rulebook) (k .read-lines .result) _ (k .read-lines .ensures)
+    (c .before .before .answer2 .given .1) (c .file-accepted .ensures [])
 
 pub read-body-spec : {M : Type 1} → statement M
 read-body-spec =
@@ -41,9 +43,9 @@ read-body-spec =
     (tie.spec
     read-lines-requires
     enum-known-answer
-    refused-requires
+    file-refused-requires
     enum-known-answer-2
-    accepted-requires
+    file-accepted-requires
     same-length
     returns
     same-length-2

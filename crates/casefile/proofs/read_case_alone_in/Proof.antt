@@ -6,7 +6,7 @@ use lib.ListN.{length}
 use denote.Ref.{now}
 use Rattle.definitions.specs.declared.FileAnswer.{FileAnswer}
 use Rattle.definitions.specs.CaseFiles.{readCase}
-use Rattle.casefile.specs.Reads.{lineBytes}
+use Rattle.case_lines.specs.Dues.{bytesOfLine}
 use Rattle.tables.proofs.Order.{outcome-done, outcome-refused}
 use Rattle.casefile.proofs.Cases.{handed-same, read-whole}
 use Rattle.casefile.proofs.Alone.{alone-refused, alone-good, alone-more}
@@ -28,8 +28,9 @@ read-here : (k : tie.After-known-told) → let r = k .before .before .before .be
     readCase (a .rulebook) (now (a .bytes)) (now (a .table)) .read .answer ≡ FileAnswer.Read (k .before .answer .given .0 .0)
 read-here k = let r = k .before .before .before .before in sym (ap (λ c. c .answer) (r .read-case-in .ensures .0)) ∙ k .before .answer .given .1
 
-lines-here : (c : tie.After-line-length) → let k = c .before in let a = k .before .before .before .before .before .before .before .args in let lines = k .before .answer .given .0 .0 in
-    (lines * c .line-length .result ≡ lines * lineBytes (a .rulebook)) × (lines * lineBytes (a .rulebook) ≤ length (now (a .bytes)))
+lines-here : (c : tie.After-line-length) → let k =
+    c .before in let a = k .before .before .before .before .before .before .before .args in let lines = k .before .answer .given .0 .0 in
+    (lines * c .line-length .result ≡ lines * bytesOfLine (a .rulebook)) × (lines * bytesOfLine (a .rulebook) ≤ length (now (a .bytes)))
 lines-here c =
     let k = c .before in
     let a = k .before .before .before .before .before .before .before .args in
@@ -50,8 +51,8 @@ enum-told-2 c = search needs
 enum-known-rest : tie.Need-enum-known-rest
 enum-known-rest c = search needs
 
-refused-requires : tie.Need-refused-requires
-refused-requires c κs = search needs
+file-refused-requires : tie.Need-file-refused-requires
+file-refused-requires c κs = search needs
 
 same-length : tie.Need-same-length
 same-length c = search needs
@@ -60,7 +61,8 @@ returns : tie.Need-returns
 returns c =
     let r = c .before .before .before in
     let a = r .before .before .before .args in
-    handed-same (alone-refused (a .rulebook) (now (a .bytes)) (now (a .table)) (sym (ap (λ c. c .answer) (r .read-case-in .ensures .0)) ∙ c .enum-told .given .1)) (r .read-case-in .ensures)
+    handed-same (alone-refused (a .rulebook) (now (a .bytes)) (now (a .table))
+    (sym (ap (λ c. c .answer) (r .read-case-in .ensures .0)) ∙ c .enum-told .given .1)) (r .read-case-in .ensures)
 
 same-length-2 : tie.Need-same-length-2
 same-length-2 c = search needs
@@ -87,7 +89,7 @@ returns-3 c =
     let r = k .before .before .before .before in
     let a = r .before .before .before .args in
     handed-same (alone-more (a .rulebook) (now (a .bytes)) (now (a .table)) (k .before .answer .given .0 .0) (read-here k)
-    (outcome-refused (sym (m .rest .given .1) ∙ (rw (lines-here n .0) at (h .check-rest .ensures))))) (c .refused .ensures [], r .read-case-in .ensures .1)
+    (outcome-refused (sym (m .rest .given .1) ∙ (rw (lines-here n .0) at (h .check-rest .ensures))))) (c .file-refused .ensures [], r .read-case-in .ensures .1)
 
 pub read-case-alone-in-spec : {M : Type 1} → statement M
 read-case-alone-in-spec =
@@ -101,7 +103,7 @@ read-case-alone-in-spec =
     check-rest-requires
     enum-told-2
     enum-known-rest
-    refused-requires
+    file-refused-requires
     same-length
     returns
     same-length-2

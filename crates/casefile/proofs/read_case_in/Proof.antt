@@ -12,14 +12,14 @@ case-size-in-requires c κs = search needs
 enum-known-size : tie.Need-enum-known-size
 enum-known-size c = search needs
 
-refused-requires : tie.Need-refused-requires
-refused-requires c κs = search needs
+file-refused-requires : tie.Need-file-refused-requires
+file-refused-requires c κs = search needs
 
 enum-known-size-2 : tie.Need-enum-known-size-2
 enum-known-size-2 c = search needs
 
-refused-requires-2 : tie.Need-refused-requires-2
-refused-requires-2 c κs = search needs
+file-refused-requires-2 : tie.Need-file-refused-requires-2
+file-refused-requires-2 c κs = search needs
 
 returns : tie.Need-returns
 returns c =
@@ -27,7 +27,8 @@ returns c =
     let x = z .size2 .given .0 in
     let k = z .before .before in
     let a = k .before .before .args in
-    handed-same (case-wrong (a .rulebook) (now (a .bytes)) (now (a .table)) (x .0) (x .1 .0) (x .1 .1 .0) (sym (k .case-size-in .ensures) ∙ z .size2 .given .1) (c .before .if1 .taken)) (c .refused2 .ensures [], refl)
+    handed-same (case-wrong (a .rulebook) (now (a .bytes)) (now (a .table)) (x .0) (x .1 .0) (x .1 .1 .0)
+    (sym (k .case-size-in .ensures) ∙ z .size2 .given .1) (c .before .if1 .taken)) (c .file-refused2 .ensures [], refl)
 
 read-body-requires : tie.Need-read-body-requires
 read-body-requires c κs =
@@ -35,15 +36,22 @@ read-body-requires c κs =
     let x = z .size2 .given .0 in
     let k = z .before .before in
     let a = k .before .before .args in
-    let e = sym (k .case-size-in .ensures) ∙ z .size2 .given .1 in
-    (sizes-limited (a .rulebook) (now (a .bytes)) (now (a .table)) (x .0) (x .1 .0) (x .1 .1 .0) e, (head-whole (a .rulebook) (now (a .bytes)) (now (a .table)) (x .0) (x .1 .0) (x .1 .1 .0) e, case-length (a .rulebook) (now (a .bytes)) (now (a .table)) (x .0) (x .1 .0) (x .1 .1 .0) e (c .before .if1 .left)))
+    let e = sym (k .case-size-in .ensures) ∙ z .size2 .given .1 in (
+      sizes-limited (a .rulebook) (now (a .bytes)) (now (a .table)) (x .0) (x .1 .0) (x .1 .1 .0) e,
+      (
+        head-whole (a .rulebook) (now (a .bytes)) (now (a .table)) (x .0) (x .1 .0) (x .1 .1 .0) e,
+        case-length (a .rulebook) (now (a .bytes))
+            (now (a .table)) (x .0) (x .1 .0) (x .1 .1 .0) e (c .before .if1 .left),
+      ),
+    )
 
 returns-2 : tie.Need-returns-2
 returns-2 c =
     let z = c .before .before in
     let k = z .before .before in
     let a = k .before .before .args in
-    handed-same (case-refused (a .rulebook) (now (a .bytes)) (now (a .table)) (sym (k .case-size-in .ensures) ∙ z .size .given .1)) (c .refused .ensures [], refl)
+    handed-same (case-refused (a .rulebook) (now (a .bytes)) (now (a .table)) (sym (k .case-size-in .ensures) ∙ z .size .given .1))
+    (c .file-refused .ensures [], refl)
 
 same-length : tie.Need-same-length
 same-length c = search needs
@@ -54,7 +62,8 @@ returns-3 c =
     let x = z .size2 .given .0 in
     let k = z .before .before in
     let a = k .before .before .args in
-    handed-same (case-right (a .rulebook) (now (a .bytes)) (now (a .table)) (x .0) (x .1 .0) (x .1 .1 .0) (sym (k .case-size-in .ensures) ∙ z .size2 .given .1) (c .before .before .before .if1 .left)) (c .before .read-body .ensures)
+    handed-same (case-right (a .rulebook) (now (a .bytes)) (now (a .table)) (x .0) (x .1 .0) (x .1 .1 .0)
+    (sym (k .case-size-in .ensures) ∙ z .size2 .given .1) (c .before .before .before .if1 .left)) (c .before .read-body .ensures)
 
 pub read-case-in-spec : {M : Type 1} → statement M
 read-case-in-spec =
@@ -62,9 +71,9 @@ read-case-in-spec =
     (tie.spec
     case-size-in-requires
     enum-known-size
-    refused-requires
+    file-refused-requires
     enum-known-size-2
-    refused-requires-2
+    file-refused-requires-2
     returns
     read-body-requires
     returns-2

@@ -20,7 +20,8 @@ mul-result-2 c = let s = c .before .before .before in omega (arith, variables-sm
 mul-result-3 : tie.Need-mul-result-3
 mul-result-3 c = let s = c .before .before .before .before .before in omega (arith, values-small (s .args .case) (s .pre .0))
 
-squares : (c : tie.After-struct-known5) → let s = c .before .before .before .before .before in let a = s .args in (a .x - a .case .n) * (a .case .d * a .case .d) ≤ edgePlaces * 64
+squares : (c : tie.After-struct-known5) → let s = c .before .before .before .before .before in let a = s .args in (a .x - a .case .n) *
+    (a .case .d * a .case .d) ≤ edgePlaces * 64
 squares c =
     let s = c .before .before .before .before .before in
     let a = s .args in

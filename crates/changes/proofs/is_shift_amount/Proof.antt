@@ -24,7 +24,14 @@ asked : (c : tie.After-is-within) → let a = c .before .before .before .args in
 asked c =
     let most = c .before .most-moving in
     let least = c .before .before .least-moving in
-    rw (read-back w64 (least .result) (least .ok), least .ensures, read-back w64 (most .result) (most .ok), most .ensures, toZ-ofZ (c .before .before .before .fits .amount)) at (c .is-within .ensures)
+    rw (
+      read-back w64 (least .result) (least .ok),
+      least .ensures,
+      read-back w64 (most .result) (most .ok),
+      most .ensures,
+      toZ-ofZ
+          (c .before .before .before .fits .amount),
+    ) at (c .is-within .ensures)
 
 returns : tie.Need-returns
 returns c = rw (sym (asked (c .before)) ∙ not-true _ (c .if1 .taken))

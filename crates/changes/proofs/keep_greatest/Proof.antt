@@ -1,14 +1,12 @@
 use mathlib.Core.Path.{_≡_, ap, ap₂, _∙_}
 use Prim.Native.Nat.{ℕ, _+_, _-_, _≤_}
 use native.Mathlib.Omega.{arith}
-use lib.IntN.{ℤ}
 use lib.ListN.{length, take, drop, set}
 use mir.Syntax.{w64}
-use mir.Val.{toZ, ofZ}
 use Rattle.integers.specs.Words.{greatestOf}
 use Rattle.integers.specs.Linear.{read-back}
 use Rattle.definitions.specs.Case.{place, greatest}
-use Rattle.tables.specs.Scopes.{sizeOf, partOf}
+use Rattle.tables.specs.Scopes.{sizeOf, scopePart}
 use Rattle.tables.proofs.Parts.{part-own}
 use Rattle.changes.proofs.ScopeLaws.{best-known}
 use borrow.Author.Needs.{needs}
@@ -23,15 +21,21 @@ size-of-requires c κs = c .before .pre .0 .limited
 
 -- where the scope's part begins, and how long it is
 part-at : (c : tie.After-size-of) → let s = c .before .before in let a = s .args in
-    (c .before .first-place .result ≡ place (a .case) (a .x) 0 0) × ((c .before .first-place .result + c .size-of .result) - c .before .first-place .result ≡ sizeOf (a .case) (a .x))
+    (c .before .first-place .result ≡ place (a .case) (a .x) 0 0)
+    × ((c .before .first-place .result + c .size-of .result) - c .before .first-place .result ≡ sizeOf (a .case) (a .x))
     × (c .before .first-place .result + c .size-of .result ≤ length (a .table .now))
 part-at c =
     let s = c .before .before in
-    let a = s .args in
-    (c .before .first-place .ensures, omega (arith, c .size-of .ensures), omega (arith, c .before .first-place .ensures, c .size-of .ensures, part-own (a .case) (a .x) (s .pre .0 .scope), s .pre .0 .long))
+    let a = s .args in (
+      c .before .first-place .ensures,
+      omega (arith, c .size-of .ensures),
+      omega
+          (arith, c .before .first-place .ensures, c .size-of .ensures, part-own (a .case) (a .x) (s .pre .0 .scope), s .pre .0 .long),
+    )
 
 part-is : (c : tie.After-size-of) → let s = c .before .before in let a = s .args in
-    take ((c .before .first-place .result + c .size-of .result) - c .before .first-place .result) (drop (c .before .first-place .result) (a .table .now)) ≡ partOf (a .case) (a .table .now) (a .x)
+    take ((c .before .first-place .result + c .size-of .result) - c .before .first-place .result) (drop (c .before .first-place .result) (a .table .now))
+    ≡ scopePart (a .case) (a .table .now) (a .x)
 part-is c = let a = c .before .before .args in ap₂ (λ (n p : ℕ). take n (drop p (a .table .now))) (part-at c .1) (part-at c .0)
 
 add-end : tie.Need-add-end

@@ -7,16 +7,25 @@ use Rattle.changes.proofs.lengths_wrong.Statement.{statement}
 use Rattle.changes.proofs.lengths_wrong.Tie as tie
 
 mul-if1 : tie.Need-mul-if1
-mul-if1 c = let s = c .before in omega (arith, variables-small (s .args .case) (s .pre), values-small (s .args .case) (s .pre), edges-small (s .args .case) (s .pre))
+mul-if1 c = let s = c .before in omega (
+  arith,
+  variables-small (s .args .case) (s .pre),
+  values-small (s .args .case) (s .pre),
+  edges-small (s .args .case)
+      (s .pre),
+)
 
 mul-if1-2 : tie.Need-mul-if1-2
-mul-if1-2 c = let s = c .before .before in omega (arith, variables-small (s .args .case) (s .pre), values-small (s .args .case) (s .pre), edges-small (s .args .case) (s .pre))
+mul-if1-2 c = let s = c .before .before in omega
+    (arith, variables-small (s .args .case) (s .pre), values-small (s .args .case) (s .pre), edges-small (s .args .case) (s .pre))
 
 mul-if1-3 : tie.Need-mul-if1-3
-mul-if1-3 c = let s = c .before .before .before in omega (arith, variables-small (s .args .case) (s .pre), values-small (s .args .case) (s .pre), edges-small (s .args .case) (s .pre))
+mul-if1-3 c = let s = c .before .before .before in omega
+    (arith, variables-small (s .args .case) (s .pre), values-small (s .args .case) (s .pre), edges-small (s .args .case) (s .pre))
 
 add-if1 : tie.Need-add-if1
-add-if1 c = let s = c .before .before .before in omega (arith, variables-small (s .args .case) (s .pre), values-small (s .args .case) (s .pre), edges-small (s .args .case) (s .pre))
+add-if1 c = let s = c .before .before .before in omega
+    (arith, variables-small (s .args .case) (s .pre), values-small (s .args .case) (s .pre), edges-small (s .args .case) (s .pre))
 
 returns : tie.Need-returns
 returns c = let a = c .before .before .before .before .args in rw (ne-eqb (a .table) (lentLength (a .case)) (c .if1 .taken))

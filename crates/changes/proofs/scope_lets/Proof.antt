@@ -4,10 +4,9 @@ use mir.Val.{toZ, ofZ}
 use mir.Facts.{toZ-ofZ}
 use borrow.Author.Tests.{not-true, not-false}
 use Rattle.integers.specs.Linear.{read-back}
-use Rattle.changes.specs.Scopes.{topOf, restOf}
+use Rattle.definitions.specs.Rules.{rulesOf}
+use Rattle.changes.specs.Scopes.{restOf}
 use Rattle.changes.proofs.LoweringLaws.{lowering-amounts}
-use Rattle.definitions.specs.Rules.{coherent}
-use Rattle.changes.proofs.SpacedLaws.{press-back}
 use borrow.Author.Needs.{needs}
 use Rattle.changes.proofs.scope_lets.Statement.{statement}
 use Rattle.changes.proofs.scope_lets.Tie as tie
@@ -18,26 +17,31 @@ is-touched-requires c κs = search needs
 returns : tie.Need-returns
 returns c = let e = sym (c .before .is-touched .ensures) ∙ not-true _ (c .if1 .taken) in rw e
 
-top-of-requires : tie.Need-top-of-requires
-top-of-requires c κs = let s = c .before .before in let a = s .args in rw (toZ-ofZ (s .fits .amount)) (press-back (coherent (a .case .rulebook)) (a .amount) (s .pre .1))
+values-in-requires : tie.Need-values-in-requires
+values-in-requires c κs = search needs
 
 rest-of-requires : tie.Need-rest-of-requires
 rest-of-requires c κs = search needs
-
-top-is : (c : tie.After-top-of) → let a = c .before .before .before .args in toZ w64 (ofZ w64 (c .top-of .result)) ≡ topOf (a .variable) (a .amount) (a .x)
-top-is c = read-back w64 (c .top-of .result) (c .top-of .ok) ∙ rw (toZ-ofZ (c .before .before .before .fits .amount)) at (c .top-of .ensures)
 
 rest-is : (c : tie.After-rest-of) → let a = c .before .before .before .before .args in toZ w64 (ofZ w64 (c .rest-of .result)) ≡ restOf (a .mark) (a .amount)
 rest-is c = read-back w64 (c .rest-of .result) (c .rest-of .ok) ∙ rw (toZ-ofZ (c .before .before .before .before .fits .amount)) at (c .rest-of .ensures)
 
 scope-stays-requires : tie.Need-scope-stays-requires
-scope-stays-requires c κs = let s = c .before .before .before .before in let a = s .args in (s .pre .0, rw (top-is (c .before), rest-is c) (lowering-amounts _ (a .variable) (a .x) (a .mark) (a .amount) (s .pre .1)))
+scope-stays-requires c κs =
+    let s = c .before .before .before .before in
+    let a = s .args in (
+      s .pre .0,
+      rw (toZ-ofZ (s .fits .best), toZ-ofZ (s .fits .amount), rest-is c, c .before .values-in .ensures)
+          (lowering-amounts (rulesOf (a .case)) (a .variable) (a .values) (a .x) (a .mark) (a .amount) (a .best) (s .pre .1)),
+    )
 
 returns-2 : tie.Need-returns-2
-returns-2 c = let p = c .before in
-    let s = p .before .before .before .before in
-    let e = sym (p .before .before .before .is-touched .ensures) ∙ not-false _ (p .before .before .if1 .left) in
-    rw e (rw (toZ-ofZ (s .fits .best), top-is (p .before), rest-is p) at (c .scope-stays .ensures))
+returns-2 c =
+    let p = c .before in
+    let q = p .before .before in
+    let s = q .before .before in
+    let e = sym (q .before .is-touched .ensures) ∙ not-false _ (q .if1 .left) in
+    rw e (rw (toZ-ofZ (s .fits .best), toZ-ofZ (s .fits .amount), rest-is p, p .before .values-in .ensures) at (c .scope-stays .ensures))
 
 pub scope-lets-spec : {M : Type 1} → statement M
 scope-lets-spec =
@@ -45,7 +49,7 @@ scope-lets-spec =
     (tie.spec
     is-touched-requires
     returns
-    top-of-requires
+    values-in-requires
     rest-of-requires
     scope-stays-requires
     returns-2)

@@ -24,11 +24,18 @@ unfolding spacedAdd
 loop-holds c = (omega arith, refl)
 
 -- the place lies in the table as it is now
-inside : (c : tie.In-loop Inv-loop μ-loop) → c .before .before .args .start + c .before .loop .j * c .before .before .args .step < length (c .before .loop .table)
+inside : (c : tie.In-loop Inv-loop μ-loop)
+    → c .before .before .args .start + c .before .loop .j * c .before .before .args .step < length (c .before .loop .table)
 inside c =
     let s = c .before in
     let a = s .before .args in
-    omega (arith, s .before .pre .0 (s .loop .j) (c .loop-test .taken), ap length (s .loop .inv .1), spaced-long (a .table .now) (a .start) (a .step) (toZ w64 (ofZ w64 (a .by))) (s .loop .j))
+    omega (
+      arith,
+      s .before .pre .0 (s .loop .j) (c .loop-test .taken),
+      ap length (s .loop .inv .1),
+      spaced-long (a .table .now) (a .start) (a .step)
+          (toZ w64 (ofZ w64 (a .by))) (s .loop .j),
+    )
 
 -- the weight there is as it was
 held : (c : tie.After-table Inv-loop μ-loop) → let s = c .before .before in let a = s .before .args in
@@ -72,11 +79,15 @@ loop-again : tie.Need-loop-again Inv-loop μ-loop
 unfolding spacedAdd
 loop-again c = let s = c .before .before in
     let a = s .before .args in
-    let e = read-back w64 (weightAt (s .loop .table) (a .start + s .loop .j * a .step)) (c .table .given) in
-    (omega arith, rw (toZ-ofZ (add-table c), e, add-one) (ap (λ t. set t (a .start + s .loop .j * a .step) (weightAt t (a .start + s .loop .j * a .step) +ℤ toZ w64 (ofZ w64 (a .by)))) (s .loop .inv .1)))
+    let e = read-back w64 (weightAt (s .loop .table) (a .start + s .loop .j * a .step)) (c .table .given) in (
+      omega arith,
+      rw (toZ-ofZ (add-table c), e, add-one)
+          (ap (λ t. set t (a .start + s .loop .j * a .step) (weightAt t (a .start + s .loop .j * a .step) +ℤ toZ w64 (ofZ w64 (a .by)))) (s .loop .inv .1)),
+    )
 
 same-length : tie.Need-same-length Inv-loop μ-loop
-same-length c = let s = c .before in let a = s .before .args in ap length (s .loop .inv .1) ∙ spaced-long (a .table .now) (a .start) (a .step) (toZ w64 (ofZ w64 (a .by))) (s .loop .j)
+same-length c = let s = c .before in let a = s .before .args in ap length (s .loop .inv .1)
+    ∙ spaced-long (a .table .now) (a .start) (a .step) (toZ w64 (ofZ w64 (a .by))) (s .loop .j)
 
 returns : tie.Need-returns Inv-loop μ-loop
 returns c = let s = c .before in

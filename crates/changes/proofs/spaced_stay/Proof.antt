@@ -17,7 +17,8 @@ use Rattle.changes.proofs.spaced_stay.Statement.{statement}
 use Rattle.changes.proofs.spaced_stay.Tie as tie
 
 abbrev Inv-loop : tie.InvT-loop
-Inv-loop rulebook table start step count by j₀ j = (j ≤ count) × ((i : ℕ) → i < j → workingWeight (rulesIn rulebook) (weightAt table (start + i * step) +ℤ toZ w64 by) ≡ true)
+Inv-loop rulebook table start step count by j₀ j = (j ≤ count)
+    × ((i : ℕ) → i < j → workingWeight (rulesIn rulebook) (weightAt table (start + i * step) +ℤ toZ w64 by) ≡ true)
 
 abbrev μ-loop : tie.MeasureT-loop
 μ-loop rulebook table start step count by j₀ j = count - j
@@ -51,7 +52,8 @@ told c =
 returns : tie.Need-returns Inv-loop μ-loop
 returns c = let s = c .before .before .before .before in
     let a = s .before .args in
-    not-all (λ j. workingWeight (rulesIn (a .rulebook)) (weightAt (a .table .now) (a .start + j * a .step) +ℤ a .by)) (a .count) (s .loop .j) (c .before .before .before .loop-test .taken)
+    not-all (λ j. workingWeight (rulesIn (a .rulebook)) (weightAt (a .table .now) (a .start + j * a .step) +ℤ a .by)) (a .count) (s .loop .j)
+    (c .before .before .before .loop-test .taken)
     (sym (told (c .before)) ∙ not-true _ (c .if1 .taken))
 
 add-j : tie.Need-add-j Inv-loop μ-loop

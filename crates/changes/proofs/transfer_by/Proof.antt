@@ -1,4 +1,5 @@
 use mathlib.Core.Path.{_≡_, sym, _∙_}
+use mathlib.Core.Bool.{true}
 use lib.IntN.{pos, negℤ, _-ℤ_}
 use mir.Syntax.{w64}
 use mir.Val.{SFits, toZ, ofZ}
@@ -8,7 +9,7 @@ use native.Mathlib.Omega.{arith}
 use borrow.Author.Needs.{needs}
 use Rattle.integers.specs.Tests.{true-is}
 use Rattle.definitions.specs.Rules.{rulesIn, coherent}
-use Rattle.changes.specs.Spaced.{spacedAdd}
+use Rattle.changes.specs.Spaced.{spacedStay, spacedAdd}
 use Rattle.changes.proofs.SpacedLaws.{back-within, back-fits, back-is, stay-fits, inside-kept, stay-kept}
 use Rattle.changes.proofs.transfer_by.Statement.{statement}
 use Rattle.changes.proofs.transfer_by.Tie as tie
@@ -29,9 +30,18 @@ same-length : tie.Need-same-length
 same-length c = search needs
 
 returns : tie.Need-returns
-returns c = let s = c .before .before .before in
+returns c =
+    let s = c .before .before .before in
     let e = rw (toZ-ofZ (s .fits .amount)) at (sym (c .before .spaced-stay .ensures) ∙ not-true _ (c .if1 .taken)) in
     (rw e, rw e)
+
+-- ---- after the value's own weight
+module _ (c : tie.Else1) where
+  abbrev start : tie.Start
+  start = c .before .before .before
+
+  own-stays : let a = start .args in spacedStay (rulesIn (a .rulebook)) (a .table .now) (a .own) 1 1 (a .amount) ≡ true
+  own-stays = rw (toZ-ofZ (start .fits .amount)) at (sym (c .before .spaced-stay .ensures) ∙ not-false _ (c .if1 .left))
 
 spaced-stay-requires-2 : tie.Need-spaced-stay-requires-2
 spaced-stay-requires-2 c κs = let s = c .before .before .before .before in
@@ -41,26 +51,44 @@ same-length-2 : tie.Need-same-length-2
 same-length-2 c = search needs
 
 returns-2 : tie.Need-returns-2
-returns-2 c = let s = c .before .before .before .before .before .before in
-    let d = rw (toZ-ofZ (s .fits .amount)) at (sym (c .before .before .before .before .spaced-stay .ensures) ∙ not-false _ (c .before .before .before .if1 .left)) in
-    let e = rw (back-at s) at (sym (c .before .spaced-stay2 .ensures) ∙ not-true _ (c .if2 .taken)) in
+returns-2 c =
+    let q = c .before .before .before in
+    let d = own-stays q in
+    let e = rw (back-at (start q)) at (sym (c .before .spaced-stay2 .ensures) ∙ not-true _ (c .if2 .taken)) in
     (rw (d, e), rw (d, e))
 
+-- ---- after the others
+module _ (c : tie.Else2) where
+  abbrev own-passed : tie.Else1
+  own-passed = c .before .before .before
+
+  abbrev entry : tie.Start
+  entry = start own-passed
+
+  others-stay : let a = entry .args in spacedStay (rulesIn (a .rulebook)) (a .table .now) (a .start) (a .step) (a .count) (negℤ (a .amount)) ≡ true
+  others-stay = rw (back-at entry) at (sym (c .before .spaced-stay2 .ensures) ∙ not-false _ (c .if2 .left))
+
 spaced-add-requires : tie.Need-spaced-add-requires
-spaced-add-requires c κs = let s = c .before .before .before .before .before .before .before in
+spaced-add-requires c κs =
+    let q = c .before in
+    let s = entry q in
     let a = s .args in
-    let d = sym (c .before .before .before .before .before .spaced-stay .ensures) ∙ not-false _ (c .before .before .before .before .if1 .left) in
-    (s .pre .0, (stay-fits (coherent (a .rulebook)) (a .table .now) (a .own) 1 1 _ (true-is _ d), omega arith))
+    let fits = stay-fits (coherent (a .rulebook)) (a .table .now) (a .own) 1 1 (a .amount) (true-is _ (own-stays (own-passed q))) in
+    rw (toZ-ofZ (s .fits .amount)) (s .pre .0, (fits, omega arith))
 
 spaced-add-requires-2 : tie.Need-spaced-add-requires-2
-spaced-add-requires-2 c κs = let s = c .before .before .before .before .before .before .before .before .before .before in
+spaced-add-requires-2 c κs =
+    let q = c .before .before .before .before in
+    let s = entry q in
     let a = s .args in
-    let e = sym (c .before .before .before .before .before .spaced-stay2 .ensures) ∙ not-false _ (c .before .before .before .before .if2 .left) in (
-      rw (c .before .before .spaced-add .ensures, toZ-ofZ (s .fits .amount)) (inside-kept (a .table .now) (a .own) (a .start) (a .step) (a .count) (a .amount) (s .pre .1 .1 .1) (s .pre .1 .0)),
+    let apart = s .pre .1 .1 .1 in
+    let kept = stay-kept (a .table .now) (a .own) (a .start) (a .step) (a .count) (a .amount) apart (rulesIn (a .rulebook)) (negℤ (a .amount)) in (
+      rw (c .before .before .spaced-add .ensures, toZ-ofZ (s .fits .amount))
+          (inside-kept (a .table .now) (a .own) (a .start) (a .step) (a .count) (a .amount) apart (s .pre .1 .0)),
       (
         rw (c .before .before .spaced-add .ensures, back-at s, toZ-ofZ (s .fits .amount))
             (stay-fits (coherent (a .rulebook)) (spacedAdd (a .table .now) (a .own) 1 1 (a .amount)) (a .start) (a .step) (a .count) (negℤ (a .amount))
-            (true-is _ (stay-kept (a .table .now) (a .own) (a .start) (a .step) (a .count) (a .amount) (s .pre .1 .1 .1) (rulesIn (a .rulebook)) (negℤ (a .amount)) ∙ rw (back-at s) at e))),
+            (true-is _ (kept ∙ others-stay q))),
         s .pre .1 .1 .0 .1,
       ),
     )
@@ -69,10 +97,13 @@ same-length-3 : tie.Need-same-length-3
 same-length-3 c = search needs
 
 returns-3 : tie.Need-returns-3
-returns-3 c = let s = c .before .before .before .before .before .before .before .before .before .before .before .before in
-    let d = rw (toZ-ofZ (s .fits .amount)) at (sym (c .before .before .before .before .before .before .before .before .before .before .spaced-stay .ensures) ∙ not-false _ (c .before .before .before .before .before .before .before .before .before .if1 .left)) in
-    let e = rw (back-at s) at (sym (c .before .before .before .before .before .before .before .spaced-stay2 .ensures) ∙ not-false _ (c .before .before .before .before .before .before .if2 .left)) in
-    (rw (d, e), rw (d, e, c .before .spaced-add2 .ensures, c .before .before .before .before .spaced-add .ensures, back-at s, toZ-ofZ (s .fits .amount)))
+returns-3 c =
+    let k = c .before .before .before .before in
+    let q = k .before .before in
+    let s = entry q in
+    let d = own-stays (own-passed q) in
+    let e = others-stay q in
+    (rw (d, e), rw (d, e, c .before .spaced-add2 .ensures, k .spaced-add .ensures, back-at s, toZ-ofZ (s .fits .amount)))
 
 pub transfer-by-spec : {M : Type 1} → statement M
 transfer-by-spec =

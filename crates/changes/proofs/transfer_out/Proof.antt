@@ -14,13 +14,16 @@ returns-2 : tie.Need-returns-2
 returns-2 c = let a = c .before .before .before .args in rw (lt-ltb (a .edge) (a .case .m) (omega arith), le-ltb (a .end) 2 (omega arith))
 
 returns-3 : tie.Need-returns-3
-returns-3 c = let a = c .before .before .before .before .before .args in rw (lt-ltb (a .edge) (a .case .m) (omega arith), lt-ltb (a .end) 2 (omega arith), le-ltb (a .value) (a .case .d) (omega arith))
+returns-3 c = let a = c .before .before .before .before .before .args in rw
+    (lt-ltb (a .edge) (a .case .m) (omega arith), lt-ltb (a .end) 2 (omega arith), le-ltb (a .value) (a .case .d) (omega arith))
 
 is-shift-amount-requires : tie.Need-is-shift-amount-requires
 is-shift-amount-requires c κs = search needs
 
 returns-4 : tie.Need-returns-4
-returns-4 c = let a = c .before .before .before .before .before .before in rw (lt-ltb (a .args .edge) (a .args .case .m) (omega arith), lt-ltb (a .args .end) 2 (omega arith), lt-ltb (a .args .value) (a .args .case .d) (omega arith)) (ap not (rw (toZ-ofZ (a .fits .amount)) at (c .is-shift-amount .ensures)))
+returns-4 c = let a = c .before .before .before .before .before .before in rw
+    (lt-ltb (a .args .edge) (a .args .case .m) (omega arith), lt-ltb (a .args .end) 2 (omega arith), lt-ltb (a .args .value) (a .args .case .d) (omega arith))
+    (ap not (rw (toZ-ofZ (a .fits .amount)) at (c .is-shift-amount .ensures)))
 
 pub transfer-out-spec : {M : Type 1} → statement M
 transfer-out-spec =

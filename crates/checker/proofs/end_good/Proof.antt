@@ -1,10 +1,18 @@
 use mathlib.Core.Path.{sym, _∙_}
 use borrow.Author.Tests.{not-true, not-false}
 use Rattle.tables.proofs.Order.{limited}
-use Rattle.checker.proofs.Ends.{end-refused, end-cut, end-done}
+use Rattle.checker.proofs.Ends.{end-stopped, end-cut, end-done}
 use borrow.Author.Needs.{needs}
 use Rattle.checker.proofs.end_good.Statement.{statement}
 use Rattle.checker.proofs.end_good.Tie as tie
+
+-- ---- places of the code
+
+abbrev start : tie.After-check-edges → tie.Start
+start c = c .before .before .before .before .before .before
+
+abbrev checked : tie.After-is-held → tie.After-check-edges
+checked c = c .before .before .before
 
 within-limits-requires : tie.Need-within-limits-requires
 within-limits-requires c κs = search needs
@@ -16,7 +24,8 @@ slice-aggregate-record-out : tie.Need-slice-aggregate-record-out
 slice-aggregate-record-out c = search needs
 
 record-out-requires : tie.Need-record-out-requires
-record-out-requires c κs = limited (c .before .before .before .before .args .case) (sym (c .before .before .before .within-limits .ensures) ∙ not-false _ (c .before .before .if1 .left))
+record-out-requires c κs = limited (c .before .before .before .before .args .case)
+    (sym (c .before .before .before .within-limits .ensures) ∙ not-false _ (c .before .before .if1 .left))
 
 check-edges-requires : tie.Need-check-edges-requires
 check-edges-requires c κs = search needs
@@ -31,16 +40,23 @@ is-held-requires : tie.Need-is-held-requires
 is-held-requires c κs = search needs
 
 returns-2 : tie.Need-returns-2
-returns-2 c = let a = c .before .before .before .before .before .before .before .before .before .before .args in end-cut (a .case) (a .replay) (c .before .before .before .before .before .record-out .ensures) (c .before .before .before .before .check-edges .ensures) (c .before .before .enum-told .given .1) (rw (sym (c .before .is-held .ensures) ∙ c .if2 .taken))
+returns-2 c = let k = checked (c .before) in let a = start k .args in
+    end-cut (a .case) (a .replay) (k .before .record-out .ensures) (k .check-edges .ensures) (c .before .before .enum-told .given .1)
+    (rw (sym (c .before .is-held .ensures) ∙ c .if2 .taken))
 
 returns-3 : tie.Need-returns-3
-returns-3 c = let a = c .before .before .before .before .before .before .before .before .before .before .before .args in end-cut (a .case) (a .replay) (c .before .before .before .before .before .before .record-out .ensures) (c .before .before .before .before .before .check-edges .ensures) (c .before .before .before .enum-told .given .1) (rw (sym (c .before .before .is-held .ensures) ∙ c .before .if2 .left, c .if3 .taken))
+returns-3 c = let h = c .before .before in let k = checked h in let a = start k .args in
+    end-cut (a .case) (a .replay) (k .before .record-out .ensures) (k .check-edges .ensures) (h .before .enum-told .given .1)
+    (rw (sym (h .is-held .ensures) ∙ c .before .if2 .left, c .if3 .taken))
 
 returns-4 : tie.Need-returns-4
-returns-4 c = let a = c .before .before .before .before .before .before .before .before .before .args in end-refused (a .case) (a .replay) (c .before .before .before .before .record-out .ensures) (c .before .before .before .check-edges .ensures) (c .before .checked .given .1)
+returns-4 c = let k = c .before .before .before in let a = start k .args in
+    end-stopped (a .case) (a .replay) (k .before .record-out .ensures) (k .check-edges .ensures) (c .before .checked .given .1)
 
 returns-5 : tie.Need-returns-5
-returns-5 c = let a = c .before .before .before .before .before .before .before .before .before .before .before .args in end-done (a .case) (a .replay) (c .before .before .before .before .before .before .record-out .ensures) (c .before .before .before .before .before .check-edges .ensures) (c .before .before .before .enum-told .given .1) (rw (sym (c .before .before .is-held .ensures) ∙ c .before .if2 .left, c .if3 .left))
+returns-5 c = let h = c .before .before in let k = checked h in let a = start k .args in
+    end-done (a .case) (a .replay) (k .before .record-out .ensures) (k .check-edges .ensures) (h .before .enum-told .given .1)
+    (rw (sym (h .is-held .ensures) ∙ c .before .if2 .left, c .if3 .left))
 
 pub end-good-spec : {M : Type 1} → statement M
 end-good-spec =

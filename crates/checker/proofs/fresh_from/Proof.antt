@@ -18,7 +18,8 @@ returns : tie.Need-returns
 returns c = ap freshFrom (sym (c .before .start .given .1))
 
 returns-2 : tie.Need-returns-2
-returns-2 c = ap (freshOf none) (read-back w64 (c .before .start2 .given .0 .0) (c .known-told2 .given .0 .1)) ∙ ap freshFrom (sym (c .before .start2 .given .1))
+returns-2 c = ap (freshOf none) (read-back w64 (c .before .start2 .given .0 .0) (c .known-told2 .given .0 .1))
+    ∙ ap freshFrom (sym (c .before .start2 .given .1))
 
 pub fresh-from-spec : {M : Type 1} → statement M
 fresh-from-spec = tie.close (tie.spec enum-known-start enum-known-start-2 returns returns-2)

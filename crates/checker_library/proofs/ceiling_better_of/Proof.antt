@@ -24,7 +24,8 @@ returns c =
     let s = c .before .before .before .before .before in
     c .choice-of .ensures
     ∙ ap (λ x. choiceOf (choiceSays x)) (c .before .better-of .ensures)
-    ∙ ap (λ (x : Case). choiceOf (choiceSays (betterOf (rulesOf x) x (now (s .args .table)) (now (s .args .first)) (now (s .args .second))))) (c .before .before .case-of .ensures)
+    ∙ ap (λ (x : Case). choiceOf (choiceSays (betterOf (rulesOf x) x (now (s .args .table)) (now (s .args .first)) (now (s .args .second)))))
+    (c .before .before .case-of .ensures)
 
 pub ceiling-better-of-spec : {M : Type 1} → statement M
 ceiling-better-of-spec =

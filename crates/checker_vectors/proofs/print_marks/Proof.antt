@@ -1,6 +1,5 @@
-use Prim.Native.Nat.{_≤_, _-_, _<_}
+use Prim.Native.Nat.{_≤_, _-_}
 use lib.ListN.{length}
-use native.Mathlib.Omega.{arith}
 use borrow.Author.Needs.{needs}
 use Rattle.checker_vectors.proofs.print_marks.Statement.{statement}
 use Rattle.checker_vectors.proofs.print_marks.Tie as tie

@@ -29,13 +29,15 @@ returns-2 : tie.Need-returns-2
 returns-2 c =
     let a = c .before .before .before .before .before .args in
     let h = c .before .before .before in
-    second-out _ _ (ltb (a .value) (a .case .d)) (sym (h .has-other-mark .ensures) ∙ c .before .before .if1 .left) (le-ltb (a .variable) (a .case .n) (c .if2 .taken))
+    second-out _ _ (ltb (a .value) (a .case .d)) (sym (h .has-other-mark .ensures) ∙ c .before .before .if1 .left)
+    (le-ltb (a .variable) (a .case .n) (c .if2 .taken))
 
 returns-3 : tie.Need-returns-3
 returns-3 c =
     let a = c .before .before .before .before .before .before .args in
     let h = c .before .before .before .before in
-    third-out _ _ (ltb (a .value) (a .case .d)) _ (sym (h .has-other-mark .ensures) ∙ c .before .before .before .if1 .left) (lt-ltb (a .variable) (a .case .n) (c .before .if2 .left))
+    third-out _ _ (ltb (a .value) (a .case .d)) _ (sym (h .has-other-mark .ensures) ∙ c .before .before .before .if1 .left)
+    (lt-ltb (a .variable) (a .case .n) (c .before .if2 .left))
     (other-way (a .case .d) (a .value))
 
 pub arguments-out-spec : {M : Type 1} → statement M

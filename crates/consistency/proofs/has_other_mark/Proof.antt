@@ -25,7 +25,8 @@ shared-slice-read-if1 : tie.Need-shared-slice-read-if1 Inv-loop μ-loop
 shared-slice-read-if1 c = c .before .loop-test .taken
 
 returns : tie.Need-returns Inv-loop μ-loop
-returns c = found-at (λ (b : ℕ). ltb 1 b) (now (c .before .before .before .before .args .raised)) 0 _ (c .before .before .loop-test .taken) (lt-ltb 1 _ (c .if1 .taken))
+returns c = found-at (λ (b : ℕ). ltb 1 b) (now (c .before .before .before .before .args .raised)) 0 _ (c .before .before .loop-test .taken)
+    (lt-ltb 1 _ (c .if1 .taken))
 
 add-x : tie.Need-add-x Inv-loop μ-loop
 add-x c = omega (arith, c .before .before .loop-test .taken, c .before .before .before .before .good)
@@ -37,7 +38,8 @@ loop-again : tie.Need-loop-again Inv-loop μ-loop
 loop-again c = (omega (arith, c .before .before .loop-test .taken), below-more _ _ (c .before .before .before .loop .inv .1) (le-ltb 1 _ (c .if1 .left)))
 
 returns-2 : tie.Need-returns-2 Inv-loop μ-loop
-returns-2 c = found-nowhere (λ (b : ℕ). ltb 1 b) (now (c .before .before .args .raised)) 0 (λ y h. c .before .loop .inv .1 y (omega (arith, c .loop-test .left)))
+returns-2 c = found-nowhere (λ (b : ℕ). ltb 1 b) (now (c .before .before .args .raised)) 0
+    (λ y h. c .before .loop .inv .1 y (omega (arith, c .loop-test .left)))
 
 pub has-other-mark-spec : {M : Type 1} → statement M
 has-other-mark-spec =

@@ -12,7 +12,7 @@ use Rattle.definitions.specs.Answers.{outcomeOf}
 use Rattle.definitions.specs.Case.{scopeCount}
 use Rattle.definitions.specs.Valid.{workingWeight, handedOver}
 use Rattle.definitions.specs.Consistency.{refuted as refutedValue}
-use Rattle.definitions.specs.Calls.{isMarked, refutedAnswer}
+use Rattle.calls.specs.Calls.{isMarked, refutedAnswer}
 use Rattle.theory.proofs.Validity.{Handed}
 use Rattle.tables.specs.Scopes.{BestOf}
 use Rattle.tables.proofs.Answered.{limits-known, verdict-refused, verdict-given}
@@ -20,7 +20,7 @@ use Rattle.tables.proofs.Best.{greatest-known}
 use Rattle.consistency.specs.Arguments.{argumentsOut}
 use Rattle.consistency.proofs.Arguments.{arguments-known}
 use Rattle.arcs.specs.Best.{valuesUnsupportedAnswer}
-use Rattle.arcs.proofs.Best.{value-unsupported-is-refuted, marked-raised}
+use Rattle.arcs.proofs.Best.{value-unsupported-is-refuted, bytes-raised}
 use borrow.Author.Needs.{needs}
 use Rattle.consistency.proofs.refuted.Statement.{statement}
 use Rattle.consistency.proofs.refuted.Tie as tie
@@ -48,12 +48,14 @@ asked c = rw (c .before .before .other-length .ensures, c .before .arguments-out
 
 known : (c : tie.After-enum-told) → let a = c .before .before .before .before .before .before .args in
     Handed (rulesOf (a .case)) (workingWeight (rulesOf (a .case))) (a .case) (now (a .table))
-    × ((length (now (a .raised)) ≡ scopeCount (a .case)) × ((x : ℕ) → x < scopeCount (a .case) → getD (now (a .raised)) x 0 ≤ 1) × (a .variable < a .case .n) × (a .value < a .case .d))
+    × ((length (now (a .raised)) ≡ scopeCount (a .case)) × ((x : ℕ) → x < scopeCount (a .case) → getD (now (a .raised)) x 0 ≤ 1) × (a .variable < a .case .n)
+    × (a .value < a .case .d))
 known c =
     let a = c .before .before .before .before .before .before .args in
     arguments-known (a .case) (now (a .table)) (now (a .raised)) (a .variable) (a .value) (sym (c .enum-told .given .1) ∙ asked (c .before .before))
 
-best-known : (c : tie.After-greatest-weights) → let a = c .before .before .before .before .before .before .before .before .args in BestOf (a .case) (now (a .table)) (c .greatest-weights .last .1 .1 .0)
+best-known : (c : tie.After-greatest-weights) → let a = c .before .before .before .before .before .before .before .before .args in
+    BestOf (a .case) (now (a .table)) (c .greatest-weights .last .1 .1 .0)
 best-known c =
     let a = c .before .before .before .before .before .before .before .before .args in
     let h = known (c .before .before) .0 in
@@ -85,8 +87,10 @@ returns : tie.Need-returns
 unfolding refutedAnswer
 returns c =
     let a = c .before .before .before .before .before .before .before .args in
-    verdict-refused (a .case) (now (a .table)) (not (eqb (length (now (a .raised))) (scopeCount (a .case)))) (argumentsOut (a .case) (now (a .raised)) (a .variable) (a .value))
-    (refutedValue (a .case) (now (a .table)) (isMarked (now (a .raised))) (a .variable) (a .value)) (sym (c .before .checked .given .1) ∙ asked (c .before .before .before))
+    verdict-refused (a .case) (now (a .table)) (not (eqb (length (now (a .raised))) (scopeCount (a .case))))
+    (argumentsOut (a .case) (now (a .raised)) (a .variable) (a .value))
+    (refutedValue (a .case) (now (a .table)) (isMarked (now (a .raised))) (a .variable) (a .value))
+    (sym (c .before .checked .given .1) ∙ asked (c .before .before .before))
 
 returns-2 : tie.Need-returns-2
 unfolding refutedAnswer
@@ -99,10 +103,14 @@ returns-2 c =
     let best = c .before .before .before .before .greatest-weights .last .1 .1 .0 in
     c .values-unsupported .ensures
     ∙ ap (valuesUnsupportedAnswer (rulesOf (a .case)) (a .case) (now (a .table)) best (now (a .raised)) (a .variable)) (c .before .only .ensures)
-    ∙ value-unsupported-is-refuted (a .case) (now (a .table)) (k .0) best (best-known (c .before .before .before .before)) (now (a .raised)) (omega (arith, k .1 .0)) (omega arith) (omega arith)
-    (isMarked (now (a .raised))) (λ x u. marked-raised (now (a .raised)) x (k .1 .1 x u)) (a .variable) (a .value) (k .1 .2) (k .1 .3)
-    ∙ verdict-given (a .case) (now (a .table)) (not (eqb (length (now (a .raised))) (scopeCount (a .case)))) (argumentsOut (a .case) (now (a .raised)) (a .variable) (a .value))
-    (refutedValue (a .case) (now (a .table)) (isMarked (now (a .raised))) (a .variable) (a .value)) (sym (c .before .before .before .before .before .before .enum-told .given .1) ∙ asked (c .before .before .before .before .before .before .before .before))
+    ∙ value-unsupported-is-refuted (a .case) (now (a .table)) (k .0) best (best-known (c .before .before .before .before)) (now (a .raised))
+    (omega (arith, k .1 .0)) (omega arith) (omega arith)
+    (isMarked (now (a .raised))) (λ x u. bytes-raised (now (a .raised)) x (k .1 .1 x u)) (a .variable) (a .value) (k .1 .2) (k .1 .3)
+    ∙ verdict-given (a .case) (now (a .table)) (not (eqb (length (now (a .raised))) (scopeCount (a .case))))
+    (argumentsOut (a .case) (now (a .raised)) (a .variable) (a .value))
+    (refutedValue (a .case) (now (a .table)) (isMarked (now (a .raised))) (a .variable) (a .value))
+    (sym (c .before .before .before .before .before .before .enum-told .given .1)
+    ∙ asked (c .before .before .before .before .before .before .before .before))
 
 pub refuted-spec : {M : Type 1} → statement M
 refuted-spec =

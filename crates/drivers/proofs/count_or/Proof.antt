@@ -12,7 +12,8 @@ returns : tie.Need-returns
 returns c = let a = c .before in sym (count-below (a .args .other) (a .args .z) (rw (same (a .args .z) (a .fits .z)) at (c .if1 .taken)))
 
 returns-2 : tie.Need-returns-2
-returns-2 c = let a = c .before in rw (same (a .args .z) (a .fits .z)) (sym (count-from (a .args .other) (a .args .z) (rw (same (a .args .z) (a .fits .z)) at (c .if1 .left))))
+returns-2 c = let a = c .before in rw (same (a .args .z) (a .fits .z))
+    (sym (count-from (a .args .other) (a .args .z) (rw (same (a .args .z) (a .fits .z)) at (c .if1 .left))))
 
 pub count-or-spec : {M : Type 1} → statement M
 count-or-spec = tie.close (tie.spec cast-result returns returns-2)

@@ -1,6 +1,6 @@
 use mathlib.Core.Path.{sym, ap, _∙_}
 use borrow.Author.Needs.{needs}
-use Rattle.drivers.specs.Drivers.{lineOf}
+use Rattle.drivers.specs.Drivers.{lineTold}
 use Rattle.drivers.proofs.line_of.Statement.{statement}
 use Rattle.drivers.proofs.line_of.Tie as tie
 
@@ -17,10 +17,10 @@ write-all-requires : tie.Need-write-all-requires
 write-all-requires c κs = search needs
 
 returns : tie.Need-returns
-returns c = ap lineOf (sym (c .before .read .given .1) ∙ c .before .before .before .read-line .ensures)
+returns c = ap lineTold (sym (c .before .read .given .1) ∙ c .before .before .before .read-line .ensures)
 
 returns-2 : tie.Need-returns-2
-returns-2 c = ap lineOf (sym (c .before .enum-told .given .1) ∙ c .before .before .before .read-line .ensures)
+returns-2 c = ap lineTold (sym (c .before .enum-told .given .1) ∙ c .before .before .before .read-line .ensures)
 
 pub line-of-spec : {M : Type 1} → statement M
 line-of-spec =

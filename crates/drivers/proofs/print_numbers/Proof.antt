@@ -1,6 +1,5 @@
 use Prim.Native.Nat.{_≤_, _-_}
 use lib.ListN.{length}
-use native.Mathlib.Omega.{arith}
 use borrow.Author.Needs.{needs}
 use Rattle.drivers.proofs.print_numbers.Statement.{statement}
 use Rattle.drivers.proofs.print_numbers.Tie as tie

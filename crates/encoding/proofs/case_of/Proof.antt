@@ -1,5 +1,5 @@
 -- Field by field. Assumes nothing.
-use Rattle.encoding.specs.CaseBytes.{caseOf}
+use Rattle.encoding.specs.CaseBytes.{caseIn}
 use borrow.Author.Needs.{needs}
 use Rattle.encoding.proofs.case_of.Statement.{statement}
 use Rattle.encoding.proofs.case_of.Tie as tie
@@ -20,7 +20,7 @@ ends-at-requires-2 : tie.Need-ends-at-requires-2
 ends-at-requires-2 c κs = search needs
 
 returns : tie.Need-returns
-unfolding caseOf
+unfolding caseIn
 returns c = cc
 
 pub case-of-spec : {M : Type 1} → statement M

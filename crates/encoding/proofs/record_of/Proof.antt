@@ -1,7 +1,7 @@
 -- Field by field. Assumes nothing.
 use mir.Syntax.{w64}
 use Rattle.integers.specs.Linear.{read-back}
-use Rattle.encoding.specs.RecordBytes.{recordOf}
+use Rattle.encoding.specs.RecordBytes.{recordIn}
 use borrow.Author.Needs.{needs}
 use Rattle.encoding.proofs.record_of.Statement.{statement}
 use Rattle.encoding.proofs.record_of.Tie as tie
@@ -34,7 +34,7 @@ element-copy-out-t19 : tie.Need-element-copy-out-t19
 element-copy-out-t19 c = search needs
 
 returns : tie.Need-returns
-unfolding recordOf
+unfolding recordIn
 returns c =
     let marks = c .before .before .before in
     let start = marks .before .before in

@@ -3,7 +3,7 @@ use mathlib.Core.Path.{_∙_}
 use native.Mathlib.Omega.{arith}
 use mir.Syntax.{w64}
 use mir.ValLaws.{toZ-pos}
-use Rattle.encoding.proofs.Signed.{first-fits, second-fits, plain-is, negative-is}
+use Rattle.encoding.proofs.Signed.{lessened-fits, second-fits, low-word-is, high-word-is}
 use borrow.Author.Needs.{needs}
 use Rattle.encoding.proofs.signed_of.Statement.{statement}
 use Rattle.encoding.proofs.signed_of.Tie as tie
@@ -18,16 +18,16 @@ cast-m : tie.Need-cast-m
 cast-m c = search needs
 
 sub-result : tie.Need-sub-result
-sub-result c = first-fits (c .before .args .x) (c .if1 .left) (omega arith)
+sub-result c = lessened-fits (c .before .args .x) (c .if1 .left) (omega arith)
 
 sub-result-2 : tie.Need-sub-result-2
 sub-result-2 c = second-fits (c .before .args .x) (c .if1 .left) (omega arith)
 
 returns : tie.Need-returns
-returns c = let x = c .before .args .x in toZ-pos w64 x (omega arith) ∙ plain-is x (c .if1 .taken)
+returns c = let x = c .before .args .x in toZ-pos w64 x (omega arith) ∙ low-word-is x (c .if1 .taken)
 
 returns-2 : tie.Need-returns-2
-returns-2 c = negative-is (c .before .args .x) (c .if1 .left) (omega arith)
+returns-2 c = high-word-is (c .before .args .x) (c .if1 .left) (omega arith)
 
 pub signed-of-spec : {M : Type 1} → statement M
 signed-of-spec =

@@ -1,67 +1,48 @@
-use mathlib.Core.Path.{_≡_, subst, _∙_}
-use Prim.Native.Nat.{ℕ, _-_, _≤_}
+use mathlib.Core.Path.{_≡_, sym, ap, _∙_}
+use mathlib.Core.Option.{some}
+use Prim.Native.Nat.{ℕ}
 use native.Mathlib.Omega.{arith}
-use lib.IntN.{pos}
+use lib.IntN.{ℤ}
 use mir.Syntax.{w64}
-use mir.Val.{toZ}
 use denote.Ref.{now}
+use borrow.Author.Needs.{needs}
 use Rattle.integers.specs.Linear.{read-back}
-use Rattle.definitions.specs.Case.{scopeCount}
-use Rattle.tables.proofs.Answered.{limits-known}
-use Rattle.engine.specs.Gaps.{noGap}
-use Rattle.engine.proofs.Amounts.{LeastTill, till-none, till-next, amount-is}
+use Rattle.definitions.specs.declared.Figure.{Figure}
+use Rattle.definitions.specs.Engine.{leastGap}
+use Rattle.gaps.proofs.Amounts.{least-gap-known}
 use Rattle.engine.proofs.least_gap.Statement.{statement}
 use Rattle.engine.proofs.least_gap.Tie as tie
 
-abbrev Inv-loop : tie.InvT-loop
-Inv-loop case table best raised variable scopes least₀ x₀ least x = (x ≤ scopeCount case) × LeastTill case table raised variable (pos noGap) x (toZ w64 least)
+least-gap-requires : tie.Need-least-gap-requires
+least-gap-requires c κs = search needs
 
-abbrev μ-loop : tie.MeasureT-loop
-μ-loop case table best raised variable scopes least₀ x₀ least x = scopeCount case - x
+-- the answer is the amount
+answered : (c : tie.After-least-gap) {f : Figure} → c .least-gap .result ≡ f → let a = c .before .before .args in
+    (z : ℤ) × (leastGap (a .case) (now (a .table)) (a .variable) ≡ some z) × (f ≡ Figure.Value z)
+answered c e =
+    let s = c .before .before in
+    let (z, g, d) = least-gap-known (s .pre .0) (s .pre .1 .0) (now (s .args .raised)) (s .args .variable) (s .pre .1 .1 .1 .0) (s .pre .1 .1 .1 .1)
+    (s .pre .1 .1 .0) in
+    (z, g, sym e ∙ c .least-gap .ensures ∙ d)
 
-add-scopes : tie.Need-add-scopes Inv-loop μ-loop
-add-scopes c = let s = c .before .before in omega (arith, limits-known (s .pre .0) .scopes-placed)
+enum-known-gap : tie.Need-enum-known-gap
+enum-known-gap c = search needs
 
-loop-holds : tie.Need-loop-holds Inv-loop μ-loop
-loop-holds c = let a = c .before .before .args in (omega arith, till-none (a .case) (now (a .table)) (now (a .raised)) (a .variable) (pos noGap))
+enum-told : tie.Need-enum-told
+enum-told c = search needs
 
-limited-gap-requires : tie.Need-limited-gap-requires Inv-loop μ-loop
-limited-gap-requires c κs = let s = c .before .before .before .before in (s .pre .0, (s .pre .1 .0, (s .pre .1 .1 .0, omega (arith, c .loop-test .taken))))
-
-add-x : tie.Need-add-x Inv-loop μ-loop
-add-x c = omega arith
-
-loop-less : tie.Need-loop-less Inv-loop μ-loop
-loop-less c = omega (arith, c .before .loop-test .taken)
-
-loop-again : tie.Need-loop-again Inv-loop μ-loop
-loop-again c =
-    let a = c .before .before .before .before .before .args in
-    let l = c .before .before in
-    let r = c .limited-gap in (
-      omega (arith, c .before .loop-test .taken),
-      till-next (a .case) (now (a .table)) (now (a .raised)) (a .variable) (omega (arith, c .before .loop-test .taken)) (l .loop .inv .1) (read-back w64 (r .result) (r .ok) ∙ r .ensures),
-    )
-
-returns : tie.Need-returns Inv-loop μ-loop
+returns : tie.Need-returns
 returns c =
-    let s = c .before .before .before .before in
-    let a = s .args in
-    let l = c .before in
-    let e : l .loop .x ≡ scopeCount (a .case) = omega (arith, c .loop-test .left, l .loop .inv) in
-    amount-is (a .case) (now (a .table)) (now (a .raised)) (a .variable) (s .pre .1 .1 .1 .1) (s .pre .0) (s .pre .1 .1 .1 .0)
-    (subst (λ (x : ℕ). LeastTill (a .case) (now (a .table)) (now (a .raised)) (a .variable) (pos noGap) x (toZ w64 (l .loop .least))) e (l .loop .inv .1))
+    let x = c .before .gap .given in
+    let (z, g, e) = answered (c .before .before .before) (x .1) in
+    let d : z ≡ x .0 .0 = cc in
+    g ∙ ap some (d ∙ sym (read-back w64 (x .0 .0) (c .known-told .given .0 .1)))
+
+returns-2 : tie.Need-returns-2
+returns-2 c =
+    let (z, g, e) = answered (c .before .before) (c .enum-told .given .1) in
+    let u : _≡_ {A = ℕ} 0 1 = cc in
+    absurd (omega arith)
 
 pub least-gap-spec : {M : Type 1} → statement M
-least-gap-spec =
-    tie.close
-    (tie.spec
-    Inv-loop
-    μ-loop
-    add-scopes
-    loop-holds
-    limited-gap-requires
-    add-x
-    loop-less
-    loop-again
-    returns)
+least-gap-spec = tie.close (tie.spec least-gap-requires enum-known-gap enum-told returns returns-2)

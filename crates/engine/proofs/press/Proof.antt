@@ -5,6 +5,9 @@ use borrow.Author.Needs.{needs}
 use Rattle.engine.proofs.press.Statement.{statement}
 use Rattle.engine.proofs.press.Tie as tie
 
+best-values-requires : tie.Need-best-values-requires
+best-values-requires c κs = search needs
+
 lower-and-raise-requires : tie.Need-lower-and-raise-requires
 lower-and-raise-requires c κs = search needs
 
@@ -16,10 +19,14 @@ same-length-2 c = search needs
 
 returns : tie.Need-returns
 returns c =
-    let s = c .before .before .before .before .before .before in
+    let d = c .before .before in
+    let v = d .before .before .before in
+    let s = v .before .before .before .before in
     let a = s .args in
-    let e = rw (toZ-ofZ (s .fits .amount)) at (c .before .before .lower-and-raise .ensures) in
-    pressed-by (s .pre .0) (s .pre .1 .0) (now (a .raised)) (a .variable) (a .amount) (s .pre .1 .1 .0) (s .pre .1 .1 .1) (s .pre .1 .1 .2) (e .0) (e .1) (e .2)
+    let p = s .pre in
+    let e = rw (toZ-ofZ (s .fits .amount)) at (d .lower-and-raise .ensures) in
+    pressed-by (p .0) (p .1 .0) (now (a .raised)) (a .variable) (a .amount) (p .1 .1 .0) (p .1 .1 .1) (p .1 .1 .2)
+    (v .best-values .result) (v .best-values .ensures) (e .0) (e .1) (e .2)
 
 pub press-spec : {M : Type 1} → statement M
-press-spec = tie.close (tie.spec lower-and-raise-requires same-length same-length-2 returns)
+press-spec = tie.close (tie.spec best-values-requires lower-and-raise-requires same-length same-length-2 returns)

@@ -14,10 +14,11 @@ enum-known-checked c = search needs
 enum-told : tie.Need-enum-told
 enum-told c = search needs
 
-round-checked-requires : tie.Need-round-checked-requires
-round-checked-requires c κs =
+first-round-requires : tie.Need-first-round-requires
+first-round-requires c κs =
     let a = c .before .before .before .before .before .before .before .args in
-    asked-done (a .case) (now (a .table)) (now (a .out)) (sym (c .before .before .enum-told .given .1) ∙ c .before .before .before .before .check-engine .ensures)
+    asked-done (a .case) (now (a .table)) (now (a .out)) (sym (c .before .before .enum-told .given .1)
+    ∙ c .before .before .before .before .check-engine .ensures)
 
 same-length : tie.Need-same-length
 same-length c = search needs
@@ -35,7 +36,7 @@ same-length-3 : tie.Need-same-length-3
 same-length-3 c = search needs
 
 returns-2 : tie.Need-returns-2
-returns-2 c = let m = c .before .before .before .round-checked .ensures in (m .answer, m .table, m .output)
+returns-2 c = let m = c .before .before .before .first-round .ensures in (m .answer, m .table, m .output)
 
 pub round-spec : {M : Type 1} → statement M
 round-spec =
@@ -44,7 +45,7 @@ round-spec =
     check-engine-requires
     enum-known-checked
     enum-told
-    round-checked-requires
+    first-round-requires
     same-length
     returns
     same-length-2

@@ -1,8 +1,8 @@
-use mathlib.Core.Path.{subst}
+use mathlib.Core.Path.{_≡_, subst}
 use native.Mathlib.Omega.{arith}
 use denote.Ref.{now}
 use Rattle.tables.proofs.Answered.{limits-known}
-use Rattle.engine.specs.declared.Chosen.{Chosen}
+use Rattle.choice.specs.declared.Chosen.{Chosen}
 use Rattle.engine.specs.Search.{FoundIs}
 use Rattle.engine.proofs.Raising.{ones-raised}
 use Rattle.engine.proofs.Runs.{nothing-made}
@@ -10,17 +10,23 @@ use borrow.Author.Needs.{needs}
 use Rattle.engine.proofs.round_checked.Statement.{statement}
 use Rattle.engine.proofs.round_checked.Tie as tie
 
+abbrev entry : tie.After-prepare → tie.Start
+entry c = c .before .before .before .before .before .before
+
+abbrev prepared : tie.After-search → tie.After-prepare
+prepared c = c .before .before .before .before .before .before
+
 slice-aggregate-prepare : tie.Need-slice-aggregate-prepare
 slice-aggregate-prepare c = search needs
 
 slice-aggregate-prepare-2 : tie.Need-slice-aggregate-prepare-2
 slice-aggregate-prepare-2 c = search needs
 
-slice-aggregate-prepare-3 : tie.Need-slice-aggregate-prepare-3
-slice-aggregate-prepare-3 c = search needs
-
 prepare-requires : tie.Need-prepare-requires
-prepare-requires c κs = let p = c .before .before .before .before .before .pre .0 in let l = limits-known p in (p, (omega (arith, l .variables-placed), omega (arith, l .edges-placed), omega (arith, l .scopes-placed)))
+prepare-requires c κs =
+    let s = c .before .before .before .before .before in
+    let l = limits-known (s .pre .0 .0) in
+    (s .pre .0, (omega (arith, l .variables-placed), omega (arith, l .edges-placed)))
 
 slice-aggregate-search : tie.Need-slice-aggregate-search
 slice-aggregate-search c = search needs
@@ -33,16 +39,21 @@ slice-aggregate-search-3 c = search needs
 
 search-requires : tie.Need-search-requires
 search-requires c κs =
-    let p = c .before .before .before .before .before .before .before .before .before .before .before .before .pre .0 in
-    let l = limits-known p in
-    (omega (arith, l .scopes-placed), omega (arith, l .variables-placed, c .before .before .before .before .before .before .prepare .kept .1 .1 .0), l .variables-placed, l .values-few, l .edges-placed)
+    let p = c .before .before .before .before .before in
+    let l = limits-known (entry p .pre .0 .0) in
+    (omega (arith, l .scopes-placed), omega (arith, l .variables-placed, p .prepare .kept .1 .1 .1 .0), l .variables-placed, l .values-few, l .edges-placed)
 
 -- what was found
-found-is : (c : tie.After-search) → let a = c .before .before .before .before .before .before .before .before .before .before .before .before .before .args in FoundIs (a .case) (now (a .table)) (c .search .last .1 .1 .1 .0) (c .search .result)
-found-is c =
-    let s = c .before .before .before .before .before .before .before .before .before .before .before .before .before in
-    let p = s .pre .0 in
-    c .search .ensures (now (s .args .table)) (c .before .before .before .before .before .before .before .prepare .ensures .0) (ones-raised (s .args .case) (omega (arith, limits-known p .scopes-placed)))
+module _ (c : tie.After-search) where
+  abbrev start : tie.Start
+  start = entry (prepared c)
+
+  found-is : {r : Chosen} → c .search .result ≡ r → FoundIs (start .args .case) (now (start .args .table)) (c .search .last .1 .1 .1 .0) r
+  found-is e =
+      let a = start .args in
+      subst (FoundIs (a .case) (now (a .table)) (c .search .last .1 .1 .1 .0)) e
+      (c .search .ensures (now (a .table)) (prepared c .prepare .ensures) (ones-raised (a .case)
+      (omega (arith, limits-known (start .pre .0 .0) .scopes-placed))))
 
 enum-told : tie.Need-enum-told
 enum-told c = search needs
@@ -53,34 +64,45 @@ enum-known-found c = search needs
 slice-aggregate-press-round : tie.Need-slice-aggregate-press-round
 slice-aggregate-press-round c = search needs
 
-slice-aggregate-press-round-2 : tie.Need-slice-aggregate-press-round-2
-slice-aggregate-press-round-2 c = search needs
-
 press-round-requires : tie.Need-press-round-requires
 press-round-requires c κs =
-    let s = c .before .before .before .before .before .before .before .before .before .before .before .before .before .before .before .before .before .before .before .before .before in
-    let a = s .args in
-    let h = c .before .before .before .before .before .before .before .before .search in
-    let q = subst (λ (r : Chosen). FoundIs (a .case) (now (a .table)) (h .last .1 .1 .1 .0) r) (c .before .before .before .before .before .found .given .1) (found-is (c .before .before .before .before .before .before .before .before)) in
-    (s .pre .0, (c .before .before .before .before .before .before .before .before .before .before .before .before .before .before .before .prepare .ensures .1, ((omega (arith, limits-known (s .pre .0) .scopes-placed, h .kept .1 .1 .1 .0), s .pre .1), q)))
+    let f = c .before .before .before .before .before in
+    let q = f .before .before .before in
+    let s = start q in (
+      s .pre .0 .0,
+      (
+        s .pre .0 .1,
+        (
+          (omega (arith, limits-known (s .pre .0 .0) .scopes-placed, q .search .kept .1 .1 .1 .0), s .pre .1),
+          found-is q
+              (f .found .given .1),
+        ),
+      ),
+    )
 
 same-length : tie.Need-same-length
 same-length c = search needs
 
-returns : tie.Need-returns
-returns c =
-    let s = c .before .before .before .before .before .before .before .before .before .before .before .before .before .before .before .before in
-    let a = s .args in
-    nothing-made (s .pre .0) (s .pre .1) (subst (λ (r : Chosen). FoundIs (a .case) (now (a .table)) (c .before .before .before .search .last .1 .1 .1 .0) r) (c .enum-told .given .1) (found-is (c .before .before .before)))
-
 same-length-2 : tie.Need-same-length-2
 same-length-2 c = search needs
+
+returns : tie.Need-returns
+returns c =
+    let q = c .before .before .before in
+    let s = start q in
+    (nothing-made (s .pre .0 .0) (s .pre .1) (found-is q (c .enum-told .given .1)), s .pre .0 .1)
 
 same-length-3 : tie.Need-same-length-3
 same-length-3 c = search needs
 
+same-length-4 : tie.Need-same-length-4
+same-length-4 c = search needs
+
+same-length-5 : tie.Need-same-length-5
+same-length-5 c = search needs
+
 returns-2 : tie.Need-returns-2
-returns-2 c = c .before .before .before .before .press-round .ensures .0
+returns-2 c = c .before .before .before .before .press-round .ensures
 
 pub round-checked-spec : {M : Type 1} → statement M
 round-checked-spec =
@@ -88,7 +110,6 @@ round-checked-spec =
     (tie.spec
     slice-aggregate-prepare
     slice-aggregate-prepare-2
-    slice-aggregate-prepare-3
     prepare-requires
     slice-aggregate-search
     slice-aggregate-search-2
@@ -97,10 +118,11 @@ round-checked-spec =
     enum-told
     enum-known-found
     slice-aggregate-press-round
-    slice-aggregate-press-round-2
     press-round-requires
     same-length
-    returns
     same-length-2
+    returns
     same-length-3
+    same-length-4
+    same-length-5
     returns-2)

@@ -14,10 +14,11 @@ enum-known-checked c = search needs
 enum-told : tie.Need-enum-told
 enum-told c = search needs
 
-run-checked-requires : tie.Need-run-checked-requires
-run-checked-requires c κs =
+run-from-requires : tie.Need-run-from-requires
+run-from-requires c κs =
     let a = c .before .before .before .before .before .before .before .args in
-    asked-done (a .case) (now (a .table)) (now (a .out)) (sym (c .before .before .enum-told .given .1) ∙ c .before .before .before .before .check-engine .ensures)
+    asked-done (a .case) (now (a .table)) (now (a .out)) (sym (c .before .before .enum-told .given .1)
+    ∙ c .before .before .before .before .check-engine .ensures)
 
 same-length : tie.Need-same-length
 same-length c = search needs
@@ -25,7 +26,8 @@ same-length c = search needs
 returns : tie.Need-returns
 returns c =
     let a = c .before .before .before .before .before .before .args in
-    let m = run-is-refused (a .case) (now (a .table)) (now (a .out)) (a .limit) (sym (c .before .checked .given .1) ∙ c .before .before .before .check-engine .ensures) in
+    let m = run-is-refused (a .case) (now (a .table)) (now (a .out)) (a .limit) (sym (c .before .checked .given .1)
+    ∙ c .before .before .before .check-engine .ensures) in
     (m .run, m .table, m .output)
 
 same-length-2 : tie.Need-same-length-2
@@ -35,7 +37,7 @@ same-length-3 : tie.Need-same-length-3
 same-length-3 c = search needs
 
 returns-2 : tie.Need-returns-2
-returns-2 c = let m = c .before .before .before .run-checked .ensures in (m .run, m .table, m .output)
+returns-2 c = let m = c .before .before .before .run-from .ensures in (m .run, m .table, m .output)
 
 pub run-spec : {M : Type 1} → statement M
 run-spec =
@@ -44,7 +46,7 @@ run-spec =
     check-engine-requires
     enum-known-checked
     enum-told
-    run-checked-requires
+    run-from-requires
     same-length
     returns
     same-length-2

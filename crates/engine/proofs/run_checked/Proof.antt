@@ -1,6 +1,8 @@
 use mathlib.Core.Path.{_≡_, refl, subst, _∙_}
-use Prim.Native.Nat.{_-_, _≤_}
+use mathlib.Core.List.{List}
+use Prim.Native.Nat.{ℕ, _-_, _≤_}
 use native.Mathlib.Omega.{arith}
+use lib.IntN.{ℤ}
 use lib.ListN.{length}
 use denote.Ref.{now}
 use Rattle.definitions.specs.declared.Round.{Round}
@@ -8,122 +10,195 @@ use Rattle.definitions.specs.Rules.{rulesOf}
 use Rattle.definitions.specs.Valid.{workingWeight}
 use Rattle.definitions.specs.Engine.{roundBytes}
 use Rattle.theory.proofs.Validity.{Handed}
+use Rattle.tables.specs.Scopes.{BestOf}
 use Rattle.engine.specs.Rounds.{MadeRound}
-use Rattle.engine.proofs.Runs.{Going, run-starts, run-goes-on, run-settles, run-leaves, run-limits, still-settled, still-refused, still-made}
+use Rattle.engine.proofs.Runs.{Going, run-starts, run-goes-on, settled-run, run-leaves, run-limits, still-settled, still-refused, still-made}
 use borrow.Author.Needs.{needs}
 use Rattle.engine.proofs.run_checked.Statement.{statement}
 use Rattle.engine.proofs.run_checked.Tie as tie
 
+pub record Same (table₀ table : List ℤ) (out₀ out : List ℕ) (best₀ best : List ℤ) : Type 0 where
+  pub tables : length table ≡ length table₀
+  pub outs : length out ≡ length out₀
+  pub bests : length best ≡ length best₀
+
 abbrev Inv-loop : tie.InvT-loop
-Inv-loop case table₀ out₀ limit done₀ table out done =
-    (done ≤ limit) × (length table ≡ length table₀) × (length out ≡ length out₀) × Handed (rulesOf case) (workingWeight (rulesOf case)) case table × Going case limit table₀ out₀ done table out
+Inv-loop case table₀ out₀ best₀ limit done₀ table out best done =
+    (done ≤ limit) × Same table₀ table out₀ out best₀ best × Handed (rulesOf case) (workingWeight (rulesOf case)) case table × BestOf case table best
+    × Going case limit table₀ out₀ done table out
 
 abbrev μ-loop : tie.MeasureT-loop
-μ-loop case table₀ out₀ limit done₀ table out done = limit - done
+μ-loop case table₀ out₀ best₀ limit done₀ table out best done = limit - done
+
+abbrev entry : tie.At-loop Inv-loop μ-loop → tie.Start Inv-loop μ-loop
+entry c = c .before .before
+
+-- a round was made
+abbrev turn : tie.After-round-checked Inv-loop μ-loop → tie.In-loop Inv-loop μ-loop
+turn c = c .before .before .before .before
+
+abbrev made : tie.After-best Inv-loop μ-loop → tie.After-round-checked Inv-loop μ-loop
+made c = c .before .before .before .before
+
+-- there is room for a round
+room : (c : tie.At-loop Inv-loop μ-loop) → roundBytes (rulesOf (entry c .args .case)) (entry c .args .case) ≤ length (c .loop .out)
+room c = omega (arith, entry c .pre .1, c .loop .inv .1 .outs)
+
+module _ (c : tie.After-round-checked Inv-loop μ-loop) where
+  abbrev at : tie.At-loop Inv-loop μ-loop
+  at = turn c .before
+
+  did : {r : Round} → c .round-checked .result ≡ r
+      → MadeRound (entry at .args .case) (at .loop .table) (at .loop .out) (c .round-checked .last .1 .0) (c .round-checked .last .1 .1 .0) r
+  did e =
+      subst (MadeRound (entry at .args .case) (at .loop .table) (at .loop .out) (c .round-checked .last .1 .0) (c .round-checked .last .1 .1 .0)) e
+      (c .round-checked .ensures .0)
+
+  same : let a = entry at .args in
+      Same (now (a .table)) (c .round-checked .last .1 .0) (now (a .out)) (c .round-checked .last .1 .1 .0) (now (a .best))
+      (c .round-checked .last .1 .1 .1 .0)
+  same = let k = c .round-checked .kept in let s = at .loop .inv .1 in record {
+    tables = k .1 .0 ∙ s .tables;
+    outs = k .1 .1 .0 ∙ s .outs;
+    bests = k .1 .1 .1 .0 ∙ s .bests;
+  }
 
 loop-holds : tie.Need-loop-holds Inv-loop μ-loop
-loop-holds c = let s = c .before in (omega arith, refl, refl, s .pre .0, run-starts (s .args .case) (s .args .limit) (now (s .args .table)) (now (s .args .out)))
+loop-holds c =
+    let s = c .before in
+    let a = s .args in (
+      omega arith,
+      record { tables = refl; outs = refl; bests = refl },
+      s .pre .0 .0,
+      s .pre .0 .1,
+      run-starts (a .case) (a .limit) (now (a .table))
+          (now (a .out)),
+    )
 
 round-checked-requires : tie.Need-round-checked-requires Inv-loop μ-loop
-round-checked-requires c κs = let l = c .before .before .before .loop in (l .inv .3, omega (arith, c .before .before .before .before .before .pre .1, l .inv .2))
+round-checked-requires c κs = let l = c .before .before .before .before in ((l .loop .inv .2, l .loop .inv .3), room l)
+
+-- the run ends settled
+abbrev settled : tie.After-enum-told Inv-loop μ-loop → tie.After-round-checked Inv-loop μ-loop
+settled c = made (c .before .before)
+
+-- the run ends refused
+abbrev refused : tie.After-known-told Inv-loop μ-loop → tie.After-round-checked Inv-loop μ-loop
+refused c = made (c .before .before .before)
 
 enum-told : tie.Need-enum-told Inv-loop μ-loop
 enum-told c = search needs
 
--- what the round did
-made-settled : (c : tie.After-enum-told Inv-loop μ-loop) → let l = c .before .before .before .before .before .before .before .before .before .loop in let r = c .before .before .before .before .before .round-checked in
-    MadeRound (c .before .before .before .before .before .before .before .before .before .before .before .args .case) (l .table) (l .out) (r .last .1 .0) (r .last .1 .1 .0) Round.Settled
-made-settled c =
-    let l = c .before .before .before .before .before .before .before .before .before .loop in
-    let r = c .before .before .before .before .before .round-checked in
-    subst (λ (x : Round). MadeRound (c .before .before .before .before .before .before .before .before .before .before .before .args .case) (l .table) (l .out) (r .last .1 .0) (r .last .1 .1 .0) x) (c .enum-told .given .1) (r .ensures)
-
 stop-run-requires : tie.Need-stop-run-requires Inv-loop μ-loop
-stop-run-requires c κs = let l = c .before .before .before .before .before .before .before .before .before .before .loop in still-settled (l .inv .3) (omega (arith, c .before .before .before .before .before .before .before .before .before .before .before .before .pre .1, l .inv .2)) (made-settled (c .before))
+stop-run-requires c κs =
+    let e = c .before .before in
+    let q = settled e in
+    (still-settled (at q .loop .inv .2) (room (at q)) (did q (e .enum-told .given .1)), q .round-checked .ensures .1)
 
 same-length : tie.Need-same-length Inv-loop μ-loop
-same-length c = c .before .before .before .before .before .before .before .round-checked .kept .1 .0 ∙ c .before .before .before .before .before .before .before .before .before .before .before .loop .inv .1
+same-length c = same (settled (c .before .before .before)) .tables
 
 same-length-2 : tie.Need-same-length-2 Inv-loop μ-loop
-same-length-2 c = c .before .before .before .before .before .before .before .round-checked .kept .1 .1 .0 ∙ c .before .before .before .before .before .before .before .before .before .before .before .loop .inv .2
+same-length-2 c = same (settled (c .before .before .before)) .outs
+
+same-length-3 : tie.Need-same-length-3 Inv-loop μ-loop
+same-length-3 c = same (settled (c .before .before .before)) .bests
 
 returns : tie.Need-returns Inv-loop μ-loop
 returns c =
-    let s = c .before .before .before .before .before .before .before .before .before .before .before .before .before in
-    let l = c .before .before .before .before .before .before .before .before .before .before .before .loop in
-    rw (c .stop-run .ensures) (run-settles (s .args .case) (s .args .limit) (now (s .args .table)) (now (s .args .out)) (l .done) (l .table) (l .out) (l .inv .3) (omega (arith, s .pre .1, l .inv .2)) (l .inv .4) (c .before .before .before .before .before .before .before .before .before .before .loop-test .taken) (made-settled (c .before .before)))
+    let e = c .before .before .before in
+    let q = settled e in
+    let a = entry (at q) .args in
+    let l = at q .loop in
+    rw (c .stop-run .ensures)
+    (settled-run (a .case) (a .limit) (now (a .table)) (now (a .out)) (l .done) (l .table) (l .out) (l .inv .2) (room (at q)) (l .inv .4)
+    (turn q .loop-test .taken)
+    (did q (e .enum-told .given .1)))
 
 enum-known-made : tie.Need-enum-known-made Inv-loop μ-loop
 enum-known-made c = search needs
 
-made-refused : (c : tie.After-made Inv-loop μ-loop) → let l = c .before .before .before .before .before .before .before .before .before .loop in let r = c .before .before .before .before .before .round-checked in
-    MadeRound (c .before .before .before .before .before .before .before .before .before .before .before .args .case) (l .table) (l .out) (r .last .1 .0) (r .last .1 .1 .0) (Round.Refused (c .made .given .0 .0))
-made-refused c =
-    let l = c .before .before .before .before .before .before .before .before .before .loop in
-    let r = c .before .before .before .before .before .round-checked in
-    subst (λ (x : Round). MadeRound (c .before .before .before .before .before .before .before .before .before .before .before .args .case) (l .table) (l .out) (r .last .1 .0) (r .last .1 .1 .0) x) (c .made .given .1) (r .ensures)
-
 stop-run-requires-2 : tie.Need-stop-run-requires-2 Inv-loop μ-loop
-stop-run-requires-2 c κs = let l = c .before .before .before .before .before .before .before .before .before .before .before .loop in still-refused (l .inv .3) (omega (arith, c .before .before .before .before .before .before .before .before .before .before .before .before .before .pre .1, l .inv .2)) (made-refused (c .before .before))
-
-same-length-3 : tie.Need-same-length-3 Inv-loop μ-loop
-same-length-3 c = c .before .before .before .before .before .before .before .before .round-checked .kept .1 .0 ∙ c .before .before .before .before .before .before .before .before .before .before .before .before .loop .inv .1
+stop-run-requires-2 c κs =
+    let e = c .before .before in
+    let q = refused e in
+    (still-refused (at q .loop .inv .2) (room (at q)) (did q (e .before .made .given .1)), q .round-checked .ensures .1)
 
 same-length-4 : tie.Need-same-length-4 Inv-loop μ-loop
-same-length-4 c = c .before .before .before .before .before .before .before .before .round-checked .kept .1 .1 .0 ∙ c .before .before .before .before .before .before .before .before .before .before .before .before .loop .inv .2
+same-length-4 c = same (refused (c .before .before .before)) .tables
+
+same-length-5 : tie.Need-same-length-5 Inv-loop μ-loop
+same-length-5 c = same (refused (c .before .before .before)) .outs
+
+same-length-6 : tie.Need-same-length-6 Inv-loop μ-loop
+same-length-6 c = same (refused (c .before .before .before)) .bests
 
 returns-2 : tie.Need-returns-2 Inv-loop μ-loop
 returns-2 c =
-    let s = c .before .before .before .before .before .before .before .before .before .before .before .before .before .before in
-    let l = c .before .before .before .before .before .before .before .before .before .before .before .before .loop in
-    rw (c .stop-run2 .ensures) (run-leaves (s .args .case) (s .args .limit) (now (s .args .table)) (now (s .args .out)) (l .done) (l .table) (l .out) (l .inv .3) (omega (arith, s .pre .1, l .inv .2)) (l .inv .4) (c .before .before .before .before .before .before .before .before .before .before .before .loop-test .taken) (made-refused (c .before .before .before)))
+    let e = c .before .before .before in
+    let q = refused e in
+    let a = entry (at q) .args in
+    let l = at q .loop in
+    rw (c .stop-run2 .ensures)
+    (run-leaves (a .case) (a .limit) (now (a .table)) (now (a .out)) (l .done) (l .table) (l .out) (l .inv .2) (room (at q)) (l .inv .4)
+    (turn q .loop-test .taken)
+    (did q (e .before .made .given .1)))
+
+-- the run goes on
+abbrev going : tie.After-enum-told2 Inv-loop μ-loop → tie.After-round-checked Inv-loop μ-loop
+going c = made (c .before .before)
 
 enum-told-2 : tie.Need-enum-told-2 Inv-loop μ-loop
 enum-told-2 c = search needs
 
-made-made : (c : tie.After-enum-told2 Inv-loop μ-loop) → let l = c .before .before .before .before .before .before .before .before .before .loop in let r = c .before .before .before .before .before .round-checked in
-    MadeRound (c .before .before .before .before .before .before .before .before .before .before .before .args .case) (l .table) (l .out) (r .last .1 .0) (r .last .1 .1 .0) (Round.Made (c .enum-told2 .given .0 .0) (c .enum-told2 .given .0 .1 .0))
-made-made c =
-    let l = c .before .before .before .before .before .before .before .before .before .loop in
-    let r = c .before .before .before .before .before .round-checked in
-    subst (λ (x : Round). MadeRound (c .before .before .before .before .before .before .before .before .before .before .before .args .case) (l .table) (l .out) (r .last .1 .0) (r .last .1 .1 .0) x) (c .enum-told2 .given .1) (r .ensures)
-
 add-done : tie.Need-add-done Inv-loop μ-loop
-add-done c = omega arith
+add-done c = omega (arith, turn (going c) .loop-test .taken)
 
 loop-less : tie.Need-loop-less Inv-loop μ-loop
-loop-less c = omega (arith, c .before .before .before .before .before .before .before .before .loop-test .taken)
+loop-less c = omega (arith, turn (going c) .loop-test .taken)
 
 loop-again : tie.Need-loop-again Inv-loop μ-loop
 loop-again c =
-    let s = c .before .before .before .before .before .before .before .before .before .before .before in
-    let l = c .before .before .before .before .before .before .before .before .before .loop in
-    let r = c .before .before .before .before .before .round-checked in
-    let long : roundBytes (rulesOf (s .args .case)) (s .args .case) ≤ length (l .out) = omega (arith, s .pre .1, l .inv .2) in (
-      omega (arith, c .before .before .before .before .before .before .before .before .loop-test .taken),
-      r .kept .1 .0 ∙ l .inv .1,
-      r .kept .1 .1 .0 ∙ l .inv .2,
-      still-made (l .inv .3) long (made-made c),
-      run-goes-on (s .args .case) (s .args .limit) (now (s .args .table)) (now (s .args .out)) (l .done) (l .table) (l .out) (l .inv .3) long (l .inv .4) (c .before .before .before .before .before .before .before .before .loop-test .taken) (made-made c),
+    let q = going c in
+    let a = entry (at q) .args in
+    let l = at q .loop in
+    let d = did q (c .enum-told2 .given .1) in (
+      omega (arith, turn q .loop-test .taken),
+      same q,
+      still-made (l .inv .2) (room (at q)) d,
+      q .round-checked .ensures .1,
+      run-goes-on (a .case) (a .limit) (now (a .table)) (now (a .out)) (l .done) (l .table) (l .out) (l .inv .2) (room (at q)) (l .inv .4)
+          (turn q .loop-test .taken) d,
     )
 
+-- no more rounds
+abbrev over : tie.After-at-limit Inv-loop μ-loop → tie.After-loop Inv-loop μ-loop
+over c = c .before .before .before
+
 at-limit-requires : tie.Need-at-limit-requires Inv-loop μ-loop
-at-limit-requires c κs = c .before .before .loop .inv .3
+at-limit-requires c κs = let l = c .before .before .before .loop in (l .inv .2, l .inv .3)
 
 stop-run-requires-3 : tie.Need-stop-run-requires-3 Inv-loop μ-loop
-stop-run-requires-3 c κs = c .before .before .before .before .loop .inv .3
+stop-run-requires-3 c κs = let l = over (c .before .before) .before .loop in (l .inv .2, l .inv .3)
 
-same-length-5 : tie.Need-same-length-5 Inv-loop μ-loop
-same-length-5 c = c .before .before .before .before .before .loop .inv .1
+same-length-7 : tie.Need-same-length-7 Inv-loop μ-loop
+same-length-7 c = over (c .before .before .before) .before .loop .inv .1 .tables
 
-same-length-6 : tie.Need-same-length-6 Inv-loop μ-loop
-same-length-6 c = c .before .before .before .before .before .loop .inv .2
+same-length-8 : tie.Need-same-length-8 Inv-loop μ-loop
+same-length-8 c = over (c .before .before .before) .before .loop .inv .1 .outs
+
+same-length-9 : tie.Need-same-length-9 Inv-loop μ-loop
+same-length-9 c = over (c .before .before .before) .before .loop .inv .1 .bests
 
 returns-3 : tie.Need-returns-3 Inv-loop μ-loop
 returns-3 c =
-    let s = c .before .before .before .before .before .before .before in
-    let l = c .before .before .before .before .before .loop in
-    rw (c .stop-run3 .ensures, c .before .before .at-limit .ensures) (run-limits (s .args .case) (s .args .limit) (now (s .args .table)) (now (s .args .out)) (l .done) (l .table) (l .out) (l .inv .3) (omega (arith, s .pre .1, l .inv .2)) (l .inv .4) (c .before .before .before .before .loop-test .left))
+    let e = c .before .before .before in
+    let t = over e in
+    let a = entry (t .before) .args in
+    let l = t .before .loop in
+    rw (c .stop-run3 .ensures, e .at-limit .ensures)
+    (run-limits (a .case) (a .limit) (now (a .table)) (now (a .out)) (l .done) (l .table) (l .out) (l .inv .2) (room (t .before)) (l .inv .4)
+    (t .loop-test .left))
 
 pub run-checked-spec : {M : Type 1} → statement M
 run-checked-spec =
@@ -137,11 +212,13 @@ run-checked-spec =
     stop-run-requires
     same-length
     same-length-2
+    same-length-3
     returns
     enum-known-made
     stop-run-requires-2
-    same-length-3
     same-length-4
+    same-length-5
+    same-length-6
     returns-2
     enum-told-2
     add-done
@@ -149,6 +226,7 @@ run-checked-spec =
     loop-again
     at-limit-requires
     stop-run-requires-3
-    same-length-5
-    same-length-6
+    same-length-7
+    same-length-8
+    same-length-9
     returns-3)

@@ -23,7 +23,11 @@ mul-result c =
     let s = c .before .before in
     let n = c .before .line-length in
     let k = s .args .case in
-    omega (arith, times-most (n .result) (k .n + k .m + 1) 33 (scopePlaces + 1) (omega (arith, n .ensures, coherent (k .rulebook) .amount-fits)) (omega (arith, s .pre .scopes-placed)))
+    omega (
+      arith,
+      times-most (n .result) (k .n + k .m + 1) 33 (scopePlaces + 1) (omega (arith, n .ensures, coherent (k .rulebook) .amount-fits))
+          (omega (arith, s .pre .scopes-placed)),
+    )
 
 returns : tie.Need-returns
 returns c = let a = c .before .before .args in ap (λ (n : ℕ). ltb (a .length) (n * (a .case .n + a .case .m + 1))) (c .before .line-length .ensures)

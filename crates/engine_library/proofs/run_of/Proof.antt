@@ -12,7 +12,11 @@ limit-of-requires : tie.Need-limit-of-requires
 limit-of-requires c κs = search needs
 
 returns : tie.Need-returns
-returns c = rw (c .before .limit-of .ensures, c .before .before .answer-number .ensures, read-back w64 (c .before .before .before .args .run .bound) (c .struct-told .given .1 .1 .0 .1))
+returns c = rw (
+  c .before .limit-of .ensures,
+  c .before .before .answer-number .ensures,
+  read-back w64 (c .before .before .before .args .run .bound) (c .struct-told .given .1 .1 .0 .1),
+)
 
 pub run-of-spec : {M : Type 1} → statement M
 run-of-spec = tie.close (tie.spec answer-number-requires limit-of-requires returns)

@@ -2,7 +2,7 @@
 use mathlib.Core.Path.{_≡_, _∙_}
 use Rattle.definitions.specs.Case.{greatest}
 use Rattle.tables.proofs.Bounds.{same-bits, other-bits}
-use Rattle.figures.proofs.Tuples.{part-greatest}
+use Rattle.figures.proofs.Tuples.{scope-greatest}
 use borrow.Author.Needs.{needs}
 use Rattle.figures.proofs.has_greatest.Statement.{statement}
 use Rattle.figures.proofs.has_greatest.Tie as tie
@@ -20,7 +20,7 @@ weight-at-requires c κs = search needs
 most : (c : tie.After-greatest) → let a = c .before .before .args in c .greatest .result ≡ greatest (a .case) (a .table .now) (a .x)
 most c =
     let s = c .before in
-    c .greatest .ensures ∙ part-greatest (s .before .pre .0) (s .before .args .x) (s .before .pre .1 .0) (s .scope-weights .ensures)
+    c .greatest .ensures ∙ scope-greatest (s .before .pre .0) (s .before .args .x) (s .before .pre .1 .0) (s .scope-weights .ensures)
 
 returns : tie.Need-returns
 returns c = let w = c .before .weight-at in

@@ -5,7 +5,7 @@ use Rattle.definitions.specs.Case.{active}
 use Rattle.definitions.specs.Refusals.{firstOf}
 use Rattle.definitions.specs.Answers.{outcomeOf}
 use Rattle.definitions.specs.Valid.{workingWeight, handedOver}
-use Rattle.definitions.specs.Calls.{isActiveAnswer, tupleOut}
+use Rattle.calls.specs.Calls.{isActiveAnswer, tupleOut}
 use Rattle.tables.proofs.Answered.{verdict-refused, verdict-given, known}
 use Rattle.figures.proofs.Tuples.{tuple-known}
 use borrow.Author.Needs.{needs}
@@ -26,7 +26,8 @@ enum-told c = search needs
 
 -- what was checked, with the definition for the argument
 asked : (c : tie.After-check-working) → let a = c .before .before .args in
-    c .check-working .result ≡ outcomeOf (firstOf (handedOver (rulesOf (a .case)) (workingWeight (rulesOf (a .case))) (a .case) (a .table .now) false (tupleOut (a .case) (a .scope) (a .k) (a .l))))
+    c .check-working .result ≡ outcomeOf (firstOf (handedOver (rulesOf (a .case)) (workingWeight (rulesOf (a .case))) (a .case) (a .table .now) false
+    (tupleOut (a .case) (a .scope) (a .k) (a .l))))
 asked c = rw (c .before .tuple-out .ensures) at (c .check-working .ensures)
 
 has-greatest-requires : tie.Need-has-greatest-requires

@@ -7,7 +7,7 @@ use Rattle.definitions.specs.Refusals.{firstOf}
 use Rattle.definitions.specs.Answers.{outcomeOf}
 use Rattle.definitions.specs.Case.{objective}
 use Rattle.definitions.specs.Valid.{workingWeight, wrongAssignment, valueOut, handedOver}
-use Rattle.definitions.specs.Calls.{objectiveAnswer}
+use Rattle.calls.specs.Calls.{objectiveAnswer}
 use Rattle.theory.proofs.Validity.{lent-assignment}
 use Rattle.tables.proofs.Answered.{figure-refused, figure-given, known}
 use borrow.Author.Needs.{needs}
@@ -35,7 +35,8 @@ asked c = rw (c .before .some-beyond .ensures) at (c .check-working .ensures)
 sum-of-used-requires : tie.Need-sum-of-used-requires
 sum-of-used-requires c κs = let s = c .before .before in
     let a = s .before .before .before .before .args in
-    let k = known (a .case) (a .table .now) (wrongAssignment (a .case) (a .assignment .now)) (valueOut (a .case) (a .assignment .now)) (sym (c .enum-told .given .1) ∙ asked s) in
+    let k = known (a .case) (a .table .now) (wrongAssignment (a .case) (a .assignment .now)) (valueOut (a .case) (a .assignment .now))
+    (sym (c .enum-told .given .1) ∙ asked s) in
     (k .0, lent-assignment (a .case) (a .assignment .now) .0 (k .1, k .2))
 
 returns : tie.Need-returns

@@ -35,7 +35,8 @@ used-weight-requires c κs = let p = c .before .before .before .before .pre in (
 
 -- the sum after the turn
 next : (c : tie.After-used-weight Inv-loop μ-loop) → let s = c .before .before in let a = s .before .before .before .args in
-    toZ w64 (s .loop .sum) +ℤ toZ w64 (ofZ w64 (c .used-weight .result)) ≡ Σ (λ y. atUsed (a .case) (a .assignment .now) y (weight (a .case) (a .table .now) y)) 0 (s .loop .x + 1)
+    toZ w64 (s .loop .sum) +ℤ toZ w64 (ofZ w64 (c .used-weight .result))
+    ≡ Σ (λ y. atUsed (a .case) (a .assignment .now) y (weight (a .case) (a .table .now) y)) 0 (s .loop .x + 1)
 next c =
     let s = c .before .before in
     let a = s .before .before .before .args in
@@ -46,8 +47,10 @@ add-sum : tie.Need-add-sum Inv-loop μ-loop
 add-sum c = let s = c .before .before in
     let a = s .before .before .before .args in
     let h = s .before .before .before .pre .0 in
-    rw (next c) (sum-fits (λ y. atUsed (a .case) (a .assignment .now) y (weight (a .case) (a .table .now) y)) (coherent (a .case .rulebook)) (s .loop .x + 1) (omega (arith, h .variables-most, h .edges-most))
-    (λ y l. at-used-holds (h .shape) (a .assignment .now) (s .before .before .before .pre .1) (λ (z : ℤ). T (workingWeight (rulesOf (a .case)) z)) y (omega arith)
+    rw (next c) (sum-fits (λ y. atUsed (a .case) (a .assignment .now) y (weight (a .case) (a .table .now) y)) (coherent (a .case .rulebook)) (s .loop .x + 1)
+    (omega (arith, h .variables-most, h .edges-most))
+    (λ y l. at-used-holds (h .shape) (a .assignment .now) (s .before .before .before .pre .1) (λ (z : ℤ). T (workingWeight (rulesOf (a .case)) z)) y
+    (omega arith)
     (weight (a .case) (a .table .now) y) (h .in-range y)))
 
 add-x : tie.Need-add-x Inv-loop μ-loop

@@ -11,7 +11,8 @@ use Rattle.figures.proofs.tuple_out.Tie as tie
 returns : tie.Need-returns
 returns c =
     let a = c .before .before .args in
-    second-fails (ltb (a .x) (a .case .n + a .case .m)) (ltb (a .k) (a .case .d)) (if isVariable (a .case) (a .x) then eqb (a .l) 0 else ltb (a .l) (a .case .d))
+    second-fails (ltb (a .x) (a .case .n + a .case .m)) (ltb (a .k) (a .case .d))
+    (if isVariable (a .case) (a .x) then eqb (a .l) 0 else ltb (a .l) (a .case .d))
     (le-ltb (a .k) (a .case .d) (c .if1 .taken))
 
 returns-2 : tie.Need-returns-2

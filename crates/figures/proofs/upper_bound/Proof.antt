@@ -1,7 +1,7 @@
 use mathlib.Core.Path.{sym, _∙_}
 use mathlib.Core.Bool.{false}
 use Rattle.definitions.specs.Case.{upperBound}
-use Rattle.definitions.specs.Calls.{upperBoundAnswer}
+use Rattle.calls.specs.Calls.{upperBoundAnswer}
 use Rattle.tables.proofs.Answered.{figure-refused, figure-given, known, greatest-sum-known}
 use borrow.Author.Needs.{needs}
 use Rattle.figures.proofs.upper_bound.Statement.{statement}

@@ -17,12 +17,15 @@ used : (c : tie.After-value-of) → let a = c .before .before .before .args in
 used c = let e = lt-ltb _ _ (c .before .if1 .taken) in (rw e (c .value-of .ensures), rw e)
 
 used-2 : (c : tie.After-value-of3) → let a = c .before .before .before .before .before .before .before .before .args in
-    (c .before .before .before .value-of2 .result ≡ firstUsed (a .t1) (a .assignment .now) (a .x)) × (c .value-of3 .result ≡ secondUsed (a .t1) (a .assignment .now) (a .x))
+    (c .before .before .before .value-of2 .result ≡ firstUsed (a .t1) (a .assignment .now) (a .x))
+    × (c .value-of3 .result ≡ secondUsed (a .t1) (a .assignment .now) (a .x))
 used-2 c =
     let s = c .before .before .before in
     let p = s .before .before .before .before .before .args .assignment .now in
-    let e = le-ltb _ _ (s .before .before .before .if1 .left) in
-    (rw e (s .value-of2 .ensures ∙ ap (valueOf p) (s .before .wide .ensures)), rw e (c .value-of3 .ensures ∙ ap (valueOf p) (c .before .wide2 .ensures)))
+    let e = le-ltb _ _ (s .before .before .before .if1 .left) in (
+      rw e (s .value-of2 .ensures ∙ ap (valueOf p) (s .before .wide-size .ensures .0)),
+      rw e (c .value-of3 .ensures ∙ ap (valueOf p) (c .before .wide-size2 .ensures .0)),
+    )
 
 value-of-requires : tie.Need-value-of-requires
 value-of-requires c κs = search needs
@@ -42,20 +45,20 @@ returns c = let s = c .before .before .before .before in
 sub-e : tie.Need-sub-e
 sub-e c = search needs
 
-element-copy-out-wide : tie.Need-element-copy-out-wide
-element-copy-out-wide c = omega (arith, limits-known (c .before .before .pre .0))
+element-copy-out-wide-size : tie.Need-element-copy-out-wide-size
+element-copy-out-wide-size c = omega (arith, limits-known (c .before .before .pre .0))
 
-wide-requires : tie.Need-wide-requires
-wide-requires c κs = search needs
+wide-size-requires : tie.Need-wide-size-requires
+wide-size-requires c κs = search needs
 
 value-of-requires-2 : tie.Need-value-of-requires-2
 value-of-requires-2 c κs = search needs
 
-element-copy-out-wide-2 : tie.Need-element-copy-out-wide-2
-element-copy-out-wide-2 c = omega (arith, limits-known (c .before .before .before .before .before .pre .0))
+element-copy-out-wide-size-2 : tie.Need-element-copy-out-wide-size-2
+element-copy-out-wide-size-2 c = omega (arith, limits-known (c .before .before .before .before .before .pre .0))
 
-wide-requires-2 : tie.Need-wide-requires-2
-wide-requires-2 c κs = search needs
+wide-size-requires-2 : tie.Need-wide-size-requires-2
+wide-size-requires-2 c κs = search needs
 
 value-of-requires-3 : tie.Need-value-of-requires-3
 value-of-requires-3 c κs = search needs
@@ -80,11 +83,11 @@ used-weight-spec =
     weight-at-requires
     returns
     sub-e
-    element-copy-out-wide
-    wide-requires
+    element-copy-out-wide-size
+    wide-size-requires
     value-of-requires-2
-    element-copy-out-wide-2
-    wide-requires-2
+    element-copy-out-wide-size-2
+    wide-size-requires-2
     value-of-requires-3
     weight-at-requires-2
     returns-2)

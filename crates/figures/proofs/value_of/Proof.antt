@@ -4,11 +4,11 @@ use borrow.Author.Needs.{needs}
 use Rattle.figures.proofs.value_of.Statement.{statement}
 use Rattle.figures.proofs.value_of.Tie as tie
 
-shared-slice-read-wide : tie.Need-shared-slice-read-wide
-shared-slice-read-wide c = search needs
+shared-slice-read-wide-size : tie.Need-shared-slice-read-wide-size
+shared-slice-read-wide-size c = search needs
 
-wide-requires : tie.Need-wide-requires
-wide-requires c κs = search needs
+wide-size-requires : tie.Need-wide-size-requires
+wide-size-requires c κs = search needs
 
 returns : tie.Need-returns
 returns c = search needs
@@ -17,4 +17,4 @@ returns-2 : tie.Need-returns-2
 returns-2 c = sym (List·getD-eq-default (c .before .before .args .assignment .now) 0 (c .if1 .left))
 
 pub value-of-spec : {M : Type 1} → statement M
-value-of-spec = tie.close (tie.spec shared-slice-read-wide wide-requires returns returns-2)
+value-of-spec = tie.close (tie.spec shared-slice-read-wide-size wide-size-requires returns returns-2)

@@ -29,7 +29,8 @@ there c =
     let (h, (x, k, l)) = s .before .pre in
     at-variable h (a .x) x (s .scope-weights .ensures) (a .k) (a .l) (c .if1 .taken) k
 
-there-2 : (c : tie.Else1) → let s = c .before .before in let a = s .before .args in let part = now (s .scope-weights .result) in let i = a .k * a .case .d + a .l in
+there-2 : (c : tie.Else1) → let s = c .before .before in let a = s .before .args in let part = now (s .scope-weights .result) in let i =
+    a .k * a .case .d + a .l in
     (i < length part) × (getD part i (pos 0) ≡ weight (a .case) (now (a .table)) (a .x) (a .k) (a .l))
 there-2 c =
     let s = c .before .before in

@@ -1,8 +1,7 @@
 -- By what was answered before. Assumes nothing.
-use mathlib.Core.Path.{refl, sym, ap}
+use mathlib.Core.Path.{sym, ap, _∙_}
 use denote.Ref.{now}
-use Rattle.judging.specs.Judging.{blockFrom, blockJudging}
-use Rattle.judging.proofs.Calls.{same-judging}
+use Rattle.judging.specs.Judging.{stateOf, blockFrom, blockJudging}
 use borrow.Author.Needs.{needs}
 use Rattle.judging.proofs.block.Statement.{statement}
 use Rattle.judging.proofs.block.Tie as tie
@@ -20,7 +19,7 @@ returns : tie.Need-returns
 unfolding blockJudging
 returns c =
     let s = c .before .before .before in
-    same-judging (sym (ap (blockFrom (s .args .judging) (now (s .args .table)) (now (s .args .bytes))) (c .enum-told .given .1))) (refl, refl)
+    sym (ap (blockFrom (stateOf (s .args .judging) (now (s .args .table))) (now (s .args .bytes))) (c .enum-told .given .1))
 
 same-length : tie.Need-same-length
 same-length c = search needs
@@ -30,7 +29,8 @@ unfolding blockJudging
 returns-2 c =
     let k = c .before in
     let s = k .before .before .before .before .before .before in
-    same-judging (sym (ap (blockFrom (s .args .judging) (now (s .args .table)) (now (s .args .bytes))) (k .before .before .before .answer .given .1))) (k .block-from .ensures)
+    k .block-from .ensures
+    ∙ sym (ap (blockFrom (stateOf (s .args .judging) (now (s .args .table))) (now (s .args .bytes))) (k .before .before .before .answer .given .1))
 
 pub block-spec : {M : Type 1} → statement M
 block-spec =

@@ -1,5 +1,5 @@
 -- Four spaces are passed at once. Assumes nothing.
-use Prim.Native.Nat.{_≤_, _-_, _<_}
+use Prim.Native.Nat.{_≤_, _-_}
 use mathlib.Core.Path.{_≡_, _∙_}
 use lib.ListN.{length, drop}
 use denote.Ref.{now}
@@ -37,8 +37,11 @@ loop-less c = search needs
 loop-again : tie.Need-loop-again Inv-loop μ-loop
 loop-again c =
     let w = c .before in
-    let l = w .before .before in
-    (search needs, l .loop .inv .1 ∙ column-spaces (now (l .before .before .args .t)) (l .loop .i) (w .word .result) (w .word .ensures) (omega arith) (c .if1 .left))
+    let l = w .before .before in (
+      search needs,
+      l .loop .inv .1 ∙ column-spaces (now (l .before .before .args .t)) (l .loop .i) (w .word .result) (w .word .ensures) (omega arith)
+          (c .if1 .left),
+    )
 
 returns-2 : tie.Need-returns-2 Inv-loop μ-loop
 returns-2 c = search needs

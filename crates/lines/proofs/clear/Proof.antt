@@ -1,5 +1,5 @@
 -- Spaces stand up to i. Assumes nothing.
-use Prim.Native.Nat.{_≤_, _-_, _<_}
+use Prim.Native.Nat.{_≤_, _-_}
 use mathlib.Core.Path.{_≡_, refl, sym, ap, _∙_}
 use lib.ListN.{length, take, replicate, length-set}
 use lib.Seq.{take-all}

@@ -5,7 +5,7 @@ use native.Mathlib.Omega.{arith}
 use borrow.Author.Needs.{needs}
 use lib.ListN.{length}
 use Rattle.definitions.specs.Lines.{decimal}
-use Rattle.lines.proofs.Stores.{one-digit, more-digits}
+use Rattle.lines.proofs.Stores.{digit-length, more-digits}
 use Rattle.lines.proofs.digit_count.Statement.{statement}
 use Rattle.lines.proofs.digit_count.Tie as tie
 
@@ -28,7 +28,7 @@ loop-again : tie.Need-loop-again Inv-loop μ-loop
 loop-again c = omega (arith, more-digits (c .before .loop .rest) (c .loop-test .taken))
 
 returns : tie.Need-returns Inv-loop μ-loop
-returns c = omega (arith, one-digit (c .before .loop .rest) (c .loop-test .left))
+returns c = omega (arith, digit-length (c .before .loop .rest) (c .loop-test .left))
 
 pub digit-count-spec : {M : Type 1} → statement M
 digit-count-spec =

@@ -7,7 +7,8 @@ use lib.Dec.{lit<}
 use lib.ListN.{length, drop, getD}
 use denote.Ref.{now}
 use Rattle.definitions.specs.Lines.{readPositive, readDigits}
-use Rattle.lines.proofs.Steps.{positive-end, positive-leading, positive-first, digits-end, digits-low, digits-high, digits-next, next-below, below-most, pow-pos}
+use Rattle.lines.proofs.Steps.{positive-end, positive-leading, positive-first, digits-end, digits-low, digits-high, digits-next, next-below}
+use Rattle.lines.proofs.Steps.{below-most, pow-pos}
 use Rattle.lines.proofs.positive.Statement.{statement}
 use Rattle.lines.proofs.positive.Tie as tie
 
@@ -77,15 +78,19 @@ loop-again c =
     let l = c .before .before .before .before .before in
     let t = now (l .before .before .before .before .before .args .t) in (
       search needs,
-      rw (c .wide .ensures .0) (l .loop .inv .1 ∙ digits-next t (l .loop .i) (l .loop .v) (c .before .before .before .before .loop-test .taken) (c .before .before .if3 .left) (c .before .if4 .left)),
+      rw (c .wide .ensures .0) (l .loop .inv .1 ∙ digits-next t (l .loop .i) (l .loop .v) (c .before .before .before .before .loop-test .taken)
+          (c .before .before .if3 .left) (c .before .if4 .left)),
       rw (c .wide .ensures .0) (next-below (l .loop .v) (getD t (l .loop .i) 0 - 48) (l .loop .i) (omega arith) (l .loop .inv .2)),
     )
 
 returns-5 : tie.Need-returns-5 Inv-loop μ-loop
 returns-5 c =
     let l = c .before in
-    let t = now (l .before .before .before .before .before .args .t) in
-    (sym (l .loop .inv .1 ∙ digits-end t (l .loop .i) (l .loop .v) (c .loop-test .left)), below-most (l .loop .v) (l .loop .i) 18 (omega arith) (l .loop .inv .2))
+    let t = now (l .before .before .before .before .before .args .t) in (
+      sym (l .loop .inv .1 ∙ digits-end t (l .loop .i) (l .loop .v) (c .loop-test .left)),
+      below-most (l .loop .v) (l .loop .i) 18 (omega arith)
+          (l .loop .inv .2),
+    )
 
 pub positive-spec : {M : Type 1} → statement M
 positive-spec =

@@ -12,7 +12,8 @@ use Rattle.lines.proofs.put_column_at.Statement.{statement}
 use Rattle.lines.proofs.put_column_at.Tie as tie
 
 part-length : (a : tie.Start) → length (take (a .args .from + a .args .width - a .args .from) (drop (a .args .from) (now (a .args .out)))) ≡ a .args .width
-part-length a = length-take-le (a .args .from + a .args .width - a .args .from) (drop (a .args .from) (now (a .args .out))) (simp length-drop (omega arith)) ∙ omega arith
+part-length a = length-take-le (a .args .from + a .args .width - a .args .from) (drop (a .args .from) (now (a .args .out))) (simp length-drop (omega arith))
+    ∙ omega arith
 
 add-to : tie.Need-add-to
 add-to c = search needs
@@ -27,7 +28,8 @@ part-put-column-end : tie.Need-part-put-column-end
 part-put-column-end c = search needs
 
 put-column-requires : tie.Need-put-column-requires
-put-column-requires c κs = let a = c .before .before in rw (same (a .args .z) (a .fits .z), part-length a) (fits-iff (a .args .width) (a .args .z) .0 (a .pre .1))
+put-column-requires c κs =
+    let a = c .before .before in rw (same (a .args .z) (a .fits .z), part-length a) (fits-iff (a .args .width) (a .args .z) .0 (a .pre .1))
 
 same-length : tie.Need-same-length
 same-length c = search needs
@@ -36,7 +38,14 @@ returns : tie.Need-returns
 returns c =
     let a = c .before .before .before .before .before in
     let k : a .args .from + a .args .width - a .args .from ≡ a .args .width = omega arith in
-    rw (c .before .before .put-column .ensures, part-length a, same (a .args .z) (a .fits .z), k, drop-drop (a .args .width) (a .args .from) (now (a .args .out)))
+    rw (
+      c .before .before .put-column .ensures,
+      part-length a,
+      same (a .args .z) (a .fits .z),
+      k,
+      drop-drop (a .args .width) (a .args .from)
+          (now (a .args .out)),
+    )
 
 pub put-column-at-spec : {M : Type 1} → statement M
 put-column-at-spec =

@@ -44,7 +44,8 @@ loop-again c =
       omega (arith, p .kept .0),
       p .kept .0 ∙ l .inv .1,
       four-next (l .rest) (a .n) (l .i) (l .out) (l .inv .0) (omega arith) (l .inv .2) (t .loop-test .taken) (l .i - 4) q (p .last .0) (p .ensures),
-      four-kept (l .rest) (a .n) (l .i) (l .out) (l .inv .0) (omega arith) (l .inv .2) (p .last .0) (now (a .out)) (l .i - 4) (fourDigits (l .rest % 10000) ++ drop (l .i - 4 + 4) (l .out)) q (l .inv .3) (p .ensures),
+      four-kept (l .rest) (a .n) (l .i) (l .out) (l .inv .0) (omega arith) (l .inv .2) (p .last .0) (now (a .out)) (l .i - 4)
+          (fourDigits (l .rest % 10000) ++ drop (l .i - 4 + 4) (l .out)) q (l .inv .3) (p .ensures),
     )
 
 slice-relend-prefix-put-few : tie.Need-slice-relend-prefix-put-few Inv-loop μ-loop
@@ -70,7 +71,8 @@ returns c =
     let n = length-take-le (l .i) (l .out) (l .inv .0) in
     let k : p .result + length (decimal (l .rest)) ≡ l .i = p .ensures .0 ∙ n in (
       omega (arith, k, l .inv .1, length-append (decimal (l .rest)) (drop (l .i) (l .out)), length-drop (l .i) (l .out), ap length (l .inv .2)),
-      few-stored (l .rest) (a .n) (l .i) (l .out) (l .inv .0) (omega arith) (l .inv .2) (p .last .0) (now (a .out)) (p .result) (omega arith) (l .inv .3) (p .ensures .1),
+      few-stored (l .rest) (a .n) (l .i) (l .out) (l .inv .0) (omega arith) (l .inv .2) (p .last .0) (now (a .out)) (p .result) (omega arith) (l .inv .3)
+          (p .ensures .1),
     )
 
 pub put-digits-spec : {M : Type 1} → statement M

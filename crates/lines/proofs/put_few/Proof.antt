@@ -8,7 +8,7 @@ use lib.ListN.{length, take, drop, set, length-set}
 use denote.Ref.{now}
 use lib.Seq.{drop-length}
 use Rattle.definitions.specs.Lines.{decimal}
-use Rattle.lines.proofs.Stores.{kept-before, stored, bytes-before, digits-room, digits-next, digits-last}
+use Rattle.lines.proofs.Stores.{kept-before, stored, bytes-before, digits-room, digits-stored, digits-last}
 use Rattle.lines.proofs.put_few.Statement.{statement}
 use Rattle.lines.proofs.put_few.Tie as tie
 
@@ -32,7 +32,11 @@ add-out : tie.Need-add-out Inv-loop μ-loop
 add-out c = search needs
 
 slice-write-out : tie.Need-slice-write-out Inv-loop μ-loop
-slice-write-out c = let l = c .before .loop in omega (arith, digits-room (l .rest) (c .before .before .args .n) (l .i) (l .out) (l .inv .0) (omega arith) (l .inv .2))
+slice-write-out c = let l = c .before .loop in omega (
+  arith,
+  digits-room (l .rest) (c .before .before .args .n) (l .i) (l .out) (l .inv .0) (omega arith)
+      (l .inv .2),
+)
 
 loop-less : tie.Need-loop-less Inv-loop μ-loop
 loop-less c = search needs
@@ -42,7 +46,7 @@ loop-again c =
     let l = c .before .loop in (
       simp length-set (omega arith),
       simp length-set (l .inv .1),
-      digits-next (l .rest) (c .before .before .args .n) (l .i) (l .out) (l .inv .0) (omega arith) (l .inv .2) (c .loop-test .taken),
+      digits-stored (l .rest) (c .before .before .args .n) (l .i) (l .out) (l .inv .0) (omega arith) (l .inv .2) (c .loop-test .taken),
       kept-before (l .out) (now (c .before .before .args .out)) (l .i) (48 + l .rest % 10) (l .inv .3),
     )
 
@@ -56,7 +60,8 @@ add-out-2 : tie.Need-add-out-2 Inv-loop μ-loop
 add-out-2 c = search needs
 
 slice-write-out-2 : tie.Need-slice-write-out-2 Inv-loop μ-loop
-slice-write-out-2 c = let l = c .before .loop in omega (arith, digits-room (l .rest) (c .before .before .args .n) (l .i) (l .out) (l .inv .0) (omega arith) (l .inv .2))
+slice-write-out-2 c =
+    let l = c .before .loop in omega (arith, digits-room (l .rest) (c .before .before .args .n) (l .i) (l .out) (l .inv .0) (omega arith) (l .inv .2))
 
 same-length : tie.Need-same-length Inv-loop μ-loop
 same-length c = search needs

@@ -31,7 +31,8 @@ negative-requires c κs = search needs
 returns-2 : tie.Need-returns-2
 returns-2 c =
     let b = c .before .before .before .before .before in
-    c .negative .ensures ∙ ap negativeFound (c .before .positive .ensures .0) ∙ sym (b .blanks .ensures .1 ∙ number-minus (now (b .before .before .args .t)) (b .blanks .result) (omega arith) (c .before .before .if2 .taken))
+    c .negative .ensures ∙ ap negativeFound (c .before .positive .ensures .0)
+    ∙ sym (b .blanks .ensures .1 ∙ number-minus (now (b .before .before .args .t)) (b .blanks .result) (omega arith) (c .before .before .if2 .taken))
 
 add-if4 : tie.Need-add-if4
 add-if4 c = search needs
@@ -55,7 +56,9 @@ plain-requires c κs = search needs
 returns-5 : tie.Need-returns-5
 returns-5 c =
     let b = c .before .before .before .before .before .before in
-    c .plain .ensures ∙ ap plainFound (c .before .positive2 .ensures .0) ∙ sym (b .blanks .ensures .1 ∙ number-plain (now (b .before .before .args .t)) (b .blanks .result) (omega arith) (c .before .before .before .if2 .left) (c .before .before .if3 .left))
+    c .plain .ensures ∙ ap plainFound (c .before .positive2 .ensures .0)
+    ∙ sym (b .blanks .ensures .1 ∙ number-plain (now (b .before .before .args .t)) (b .blanks .result) (omega arith)
+    (c .before .before .before .if2 .left) (c .before .before .if3 .left))
 
 pub read-column-spec : {M : Type 1} → statement M
 read-column-spec =

@@ -85,7 +85,8 @@ returns-4 c =
     let a = l .before .before .before .before .args in
     let n : 14 + a .width - 14 ≡ a .width = omega arith in
     read-columns (a .width) (now (a .bytes)) (width-in (l .before)) (l .if2 .left) (f .if3 .left)
-    (k1 .read-pair .ensures) (k2 .read-narrow .ensures) (k3 .read-narrow2 .ensures) (k4 .read-narrow3 .ensures) (rw n at (k5 .read-wide .ensures)) (c .line-of .ensures)
+    (k1 .read-pair .ensures) (k2 .read-narrow .ensures) (k3 .read-narrow2 .ensures) (k4 .read-narrow3 .ensures) (rw n at (k5 .read-wide .ensures))
+    (c .line-of .ensures)
 
 pub read-line-in-spec : {M : Type 1} → statement M
 read-line-in-spec =

@@ -1,6 +1,5 @@
 -- Two spaces and two bytes, or any column. Assumes nothing.
-use mathlib.Core.Path.{_≡_, sym, _∙_}
-use lib.ListN.{getD}
+use mathlib.Core.Path.{sym, _∙_}
 use denote.Ref.{now}
 use Rattle.integers.specs.Tests.{tests}
 use Rattle.lines.proofs.Steps.{two-spaces}

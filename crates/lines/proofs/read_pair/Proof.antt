@@ -1,13 +1,12 @@
 -- A digit after a space, two digits, or any column. Assumes nothing.
 use mathlib.Core.Path.{_≡_, sym, _∙_}
 use mathlib.Core.Bool.{Bool, true}
-use Prim.Native.Nat.{ℕ, _+_, _≤_}
+use Prim.Native.Nat.{ℕ, _≤_}
 use native.Mathlib.Omega.{arith}
-use lib.ListN.{getD}
 use denote.Ref.{now}
 use Rattle.integers.specs.Words.{within}
 use Rattle.integers.specs.Tests.{tests}
-use Rattle.lines.proofs.Steps.{one-digit, two-digits}
+use Rattle.lines.proofs.Steps.{one-digit-read, two-digits-read}
 use borrow.Author.Needs.{needs}
 use Rattle.lines.proofs.read_pair.Statement.{statement}
 use Rattle.lines.proofs.read_pair.Tie as tie
@@ -45,8 +44,10 @@ returns c =
     let a = w .before .before .before .before .before in
     let first = w .before .before .wide .ensures .0 in
     let second = w .wide2 .ensures .0 in
-    let d = rw second at (digit-of 48 (w .wide2 .result) (c .before .before .is-digit .result) (c .before .before .is-digit .ensures) (c .before .if2 .taken)) in
-    c .plain .ensures ∙ rw second (sym (one-digit (now (a .args .bytes)) (a .args .from) (a .pre) (sym first ∙ c .before .before .before .if1 .taken) (d .0) (d .1)))
+    let d = rw second at (digit-of 48 (w .wide2 .result) (c .before .before .is-digit .result) (c .before .before .is-digit .ensures)
+    (c .before .if2 .taken)) in
+    c .plain .ensures ∙ rw second (sym (one-digit-read (now (a .args .bytes)) (a .args .from) (a .pre) (sym first ∙ c .before .before .before .if1 .taken)
+    (d .0) (d .1)))
 
 is-digit-requires-2 : tie.Need-is-digit-requires-2
 is-digit-requires-2 c κs = search needs
@@ -55,13 +56,18 @@ is-digit-requires-3 : tie.Need-is-digit-requires-3
 is-digit-requires-3 c κs = search needs
 
 sub-t15 : tie.Need-sub-t15
-sub-t15 c = omega (arith, digit-of 49 (c .before .before .before .before .before .before .before .wide .result) (c .before .before .before .is-digit2 .result) (c .before .before .before .is-digit2 .ensures) (c .before .before .if3 .taken) .0)
+sub-t15 c = omega (
+  arith,
+  digit-of 49 (c .before .before .before .before .before .before .before .wide .result) (c .before .before .before .is-digit2 .result)
+      (c .before .before .before .is-digit2 .ensures) (c .before .before .if3 .taken) .0,
+)
 
 mul-t16 : tie.Need-mul-t16
 mul-t16 c = search needs
 
 sub-t17 : tie.Need-sub-t17
-sub-t17 c = digit-of 48 (c .before .before .before .before .before .wide2 .result) (c .before .is-digit3 .result) (c .before .is-digit3 .ensures) (c .if4 .taken) .0
+sub-t17 c = digit-of 48 (c .before .before .before .before .before .wide2 .result) (c .before .is-digit3 .result) (c .before .is-digit3 .ensures)
+    (c .if4 .taken) .0
 
 add-t18 : tie.Need-add-t18
 add-t18 c = search needs
@@ -75,9 +81,11 @@ returns-2 c =
     let a = w .before .before .before .before .before in
     let first = w .before .before .wide .ensures .0 in
     let second = w .wide2 .ensures .0 in
-    let d = rw first at (digit-of 49 (w .before .before .wide .result) (c .before .before .before .before .is-digit2 .result) (c .before .before .before .before .is-digit2 .ensures) (c .before .before .before .if3 .taken)) in
-    let e = rw second at (digit-of 48 (w .wide2 .result) (c .before .before .is-digit3 .result) (c .before .before .is-digit3 .ensures) (c .before .if4 .taken)) in
-    c .plain2 .ensures ∙ rw (first, second) (sym (two-digits (now (a .args .bytes)) (a .args .from) (a .pre) (d .0) (d .1) (e .0) (e .1)))
+    let d = rw first at (digit-of 49 (w .before .before .wide .result) (c .before .before .before .before .is-digit2 .result)
+    (c .before .before .before .before .is-digit2 .ensures) (c .before .before .before .if3 .taken)) in
+    let e = rw second at (digit-of 48 (w .wide2 .result) (c .before .before .is-digit3 .result) (c .before .before .is-digit3 .ensures)
+    (c .before .if4 .taken)) in
+    c .plain2 .ensures ∙ rw (first, second) (sym (two-digits-read (now (a .args .bytes)) (a .args .from) (a .pre) (d .0) (d .1) (e .0) (e .1)))
 
 read-column-at-requires : tie.Need-read-column-at-requires
 read-column-at-requires c κs = search needs

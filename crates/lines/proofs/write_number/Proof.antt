@@ -20,7 +20,8 @@ text-is c =
     c .text-length .ensures ∙ ap (λ z. length (numberText z)) (same (a .args .z) (a .fits .z))
 
 -- the column is as wide as the number
-part-is : (c : tie.Else1) → length (take (c .before .text-length .result) (now (c .before .before .before .args .out))) ≡ length (numberText (c .before .before .before .args .z))
+part-is : (c : tie.Else1) → length (take (c .before .text-length .result) (now (c .before .before .before .args .out))) ≡ length
+    (numberText (c .before .before .before .args .z))
 part-is c = length-take-le (c .before .text-length .result) (now (c .before .before .before .args .out)) (c .if1 .left) ∙ text-is (c .before)
 
 exact : (z : ℤ) → columnText (length (numberText z)) z ≡ numberText z
@@ -59,7 +60,8 @@ returns-2 c =
     let t = f .before in
     let a = t .before .before in
     let p = sym (number-done (now (a .args .out)) (a .args .z) (rw (text-is t) at (f .if1 .left))) in
-    let put : c .before .before .put-column .last .0 ≡ numberText (a .args .z) = c .before .before .put-column .ensures ∙ rw (part-is f, same (a .args .z) (a .fits .z)) (exact (a .args .z)) in
+    let put : c .before .before .put-column .last .0 ≡ numberText (a .args .z) = c .before .before .put-column .ensures
+    ∙ rw (part-is f, same (a .args .z) (a .fits .z)) (exact (a .args .z)) in
     (ap Written.Bytes (text-is t) ∙ ap (λ r. r .answer) p, rw (put, text-is t) (ap (λ r. r .out) p))
 
 pub write-number-spec : {M : Type 1} → statement M

@@ -1,4 +1,6 @@
--- `log_writer::put_line` meets its contract: a walk of its MIR, by hand. The outer borrow is opened, which gives the struct's cell and what the struct owns; of that the slice is lent again to `put_line_at`, for a lifetime that is made for the call, and comes back (`Again.antt`); the position that `put_line_at` returned is stored in the cell; and the outer borrow is closed at the new record.
+-- `log_writer::put_line` meets its contract: a walk of its MIR, by hand. The outer borrow is opened, which gives the struct's cell and what the struct owns;
+-- of that the slice is lent again to `put_line_at`, for a lifetime that is made for the call, and comes back (`Again.antt`); the position that `put_line_at`
+-- returned is stored in the cell; and the outer borrow is closed at the new record.
 -- All that the proof knows of `put_line_at` is that it meets its contract.
 -- Assumes nothing.
 use mathlib.Core.Path.{_≡_, refl, ap, subst}
@@ -18,8 +20,10 @@ use ghost.Atoms.{Atoms, sem}
 use contract.Monad.{Fun, fact}
 use contract.Running.{givenOf, tables, tablesOf}
 use contract.Lifetimes.{AllOutlive}
-use types.Kit.{Given, ‵, raw, given, some, later, _⊛_, ⋆, _$_, _∵_, !, qed, by, move, keep, drop, use1, use2, use3, split, join, pick, learn, rewrite, fsplit, fsplit3, fjoin, fjoin3, feqL, feqI, suffices, frame, await, done}
-use types.Run.{look, init, forget, stop, hop, fld, from, load, addr, of-opd, and-then, no-more, assigns, land, returns, enter, alloc1, alloc0, params1, pass1, pass0, free1, free0}
+use types.Kit.{Given, ‵, raw, given, some, later, _⊛_, ⋆, _$_, _∵_, !, qed, by, move, keep, drop, use1, use2, use3, split, join, pick, learn, rewrite, fsplit}
+use types.Kit.{fsplit3, fjoin, fjoin3, feqL, feqI, suffices, frame, await, done}
+use types.Run.{look, init, forget, stop, hop, fld, from, load, addr, of-opd, and-then, no-more, assigns, land, returns, enter, alloc1, alloc0, params1, pass1}
+use types.Run.{pass0, free1, free0}
 use types.Part.{agg, whole, sub, look-in, store-in}
 use types.SemTy.{Body}
 use types.Tokens.{lft-new, lft-end}
@@ -48,7 +52,7 @@ use denote.Signature.Struct.{makes}
 use Rattle.definitions.specs.declared.Line.{Line}
 use Rattle.definitions.specs.declared.Rulebook.the-variants.{Desk}
 use Rattle.definitions.specs.Rules.{rulesIn}
-use Rattle.definitions.specs.Calls.{putLineCall}
+use Rattle.calls.specs.Calls.{putLineCall}
 use Rattle.definitions.proofs.Line as L
 use Rattle.definitions.proofs.Line.Laws as L′
 use Rattle.log_writer.specs.declared.LogWriter.{LogWriter}
@@ -79,7 +83,9 @@ stayed = (stay-ref (0 ∷ []) tt LogWriterS, (stay-none (λ _. L.the-row) yes, t
 abbrev PutLineAt : {M : Type 1} (𝓤 : URA M) (H : Heap 𝓤) (A : Atoms 𝓤) (mem : Memory → SProp 𝓤) (run : Routine → Fun 𝓤) → Contract 𝓤
 PutLineAt 𝓤 H A mem run = tripleOf 𝓤 H A put-line-at.signature (put-line-at.spec 𝓤 H A mem run)
 
-module _ {M : Type 1} (𝓤 : URA M) (H : Heap 𝓤) (A : Atoms 𝓤) (W : Given 𝓤 H A) (at-mem : Memory → SProp 𝓤) (run : Routine → Fun 𝓤) (κ κ′ : Lft) (bounds : AllOutlive 2 (put-line.signature .outlives) (κ, (κ′, tt))) (q q′ : Share) (b o : ℕ) (γ : GName) (b′ o′ : ℕ) (γ′ : GName) (ys : List ℕ) (n : ℕ) (line : Line) (line-is : Is L.the-row line (LL.val L.the-type L′.the-laws line ∷ [])) where
+module _ {M : Type 1} (𝓤 : URA M) (H : Heap 𝓤) (A : Atoms 𝓤) (W : Given 𝓤 H A) (at-mem : Memory → SProp 𝓤) (run : Routine → Fun 𝓤) (κ κ′ : Lft)
+    (bounds : AllOutlive 2 (put-line.signature .outlives) (κ, (κ′, tt))) (q q′ : Share) (b o : ℕ) (γ : GName) (b′ o′ : ℕ) (γ′ : GName) (ys : List ℕ) (n : ℕ)
+    (line : Line) (line-is : Is L.the-row line (LL.val L.the-type L′.the-laws line ∷ [])) where
   abbrev α : NamedLft
   α = record { mir = named 1; lft = κ′ }
 
@@ -123,10 +129,13 @@ module _ {M : Type 1} (𝓤 : URA M) (H : Heap 𝓤) (A : Atoms 𝓤) (W : Given
   abbrev to-put-line-at : ℕ → GName → PutLineAt 𝓤 H A at-mem run .Ghost
   to-put-line-at ν δ = (((ν ∷ [], tt), (fullShare, tt), tt, (x δ ys, (n, (line, tt))), (s ∷ [], (vint w64 n ∷ [], (u ∷ [], tt)))), tt)
 
-  goes : n < 2 ^ 64 → (ν : ℕ) (δ : GName) → ent 𝓤 (sep 𝓤 (A .lft (ν ∷ []) fullShare) (sem 𝓤 H A (MutSlice (named 0) (ν ∷ []) u8 .own (x δ ys) (s ∷ [])))) (PutLineAt 𝓤 H A at-mem run .pre (to-put-line-at ν δ))
+  goes : n < 2 ^ 64 → (ν : ℕ) (δ : GName) → ent 𝓤 (sep 𝓤 (A .lft (ν ∷ []) fullShare) (sem 𝓤 H A (MutSlice (named 0) (ν ∷ []) u8 .own (x δ ys) (s ∷ []))))
+      (PutLineAt 𝓤 H A at-mem run .pre (to-put-line-at ν δ))
   goes n-fits ν δ =
-      qed W (‵ (flft (ν ∷ []) fullShare) ∷ ‵ (MutSlice (named 0) (ν ∷ []) u8 .own (x δ ys) (s ∷ [])) ∷ []) ∵ nothing ! $ move ! (1 ∷ 0 ∷ []) $ join ! $ move ! (1 ∷ []) $
-      nothing ! $ owned ! L.the-row (Is L.the-row) (LL.makes L.the-type L′.the-plain 𝓤 H A) line _ line-is $ fjoin ! $ owned ! usize (Is usize) (uint-makes 𝓤 H A W w64) n _ (refl, n-fits) $ fjoin ! $ move ! (1 ∷ 0 ∷ []) $ fjoin ! $
+      qed W (‵ (flft (ν ∷ []) fullShare) ∷ ‵ (MutSlice (named 0) (ν ∷ []) u8 .own (x δ ys) (s ∷ [])) ∷ []) ∵ nothing ! $ move ! (1 ∷ 0 ∷ []) $ join ! $ move !
+      (1 ∷ []) $
+      nothing ! $ owned ! L.the-row (Is L.the-row) (LL.makes L.the-type L′.the-plain 𝓤 H A) line _ line-is $ fjoin ! $ owned ! usize (Is usize)
+      (uint-makes 𝓤 H A W w64) n _ (refl, n-fits) $ fjoin ! $ move ! (1 ∷ 0 ∷ []) $ fjoin ! $
       move ! (1 ∷ 0 ∷ []) $ join ! $ frame ! $ done !
 
   -- what `put_line_at` ensures
@@ -137,7 +146,8 @@ module _ {M : Type 1} (𝓤 : URA M) (H : Heap 𝓤) (A : Atoms 𝓤) (W : Given
       → ent 𝓤 (⋆ 𝓤 H A (‵ (fobs γ (R .coded .code (h zs (r .at)))) ∷ ‵ (fbor κ (Body (mem R) b o γ)) ∷ ‵ (flft κ q) ∷ ‵ (flft κ′ q′) ∷ [])) (Post (answer r))
   exits r zs e is =
       qed W (‵ (fobs γ (R .coded .code (h zs (r .at)))) ∷ ‵ (fbor κ (Body (mem R) b o γ)) ∷ ‵ (flft κ q) ∷ ‵ (flft κ′ q′) ∷ []) ∵
-      suffices ! _ (ends-at 𝓤 H A put-line.ended stayed (put-line.clauses 𝓤 H A at-mem run) W (((κ, (κ′, tt)), (q, (q′, tt)), bounds, a, vals), tt) (answer r) r (h zs (r .at), (tt, tt)) (tt, (tt, tt))) $
+      suffices ! _ (ends-at 𝓤 H A put-line.ended stayed (put-line.clauses 𝓤 H A at-mem run) W (((κ, (κ′, tt)), (q, (q′, tt)), bounds, a, vals), tt)
+      (answer r) r (h zs (r .at), (tt, tt)) (tt, (tt, tt))) $
       says ! (e .0, λ i. h (e .1 i) (e .0 i .at)) $
       nothing ! $ move ! (4 ∷ 0 ∷ []) $ join ! $ move ! (3 ∷ 0 ∷ []) $ join ! $ frame ! $ feqI ! (List Val) (vptr b o ∷ []) (vptr b o ∷ []) refl $ fjoin3 ! $
       nothing ! $ owned ! L.the-row (Is L.the-row) (LL.makes L.the-type L′.the-plain 𝓤 H A) line _ line-is $ fjoin ! $ move ! (1 ∷ 0 ∷ []) $ fjoin ! $
@@ -164,55 +174,88 @@ module _ {M : Type 1} (𝓤 : URA M) (H : Heap 𝓤) (A : Atoms 𝓤) (W : Given
   module _ (C : Calls 𝓤 H) (Λ : Loops 𝓤 H) (fm : FmC 𝓤 H (W .laws) C) (known : Triple 𝓤 (C #log-writer·put-line-at) (PutLineAt 𝓤 H A at-mem run)) where
     walk : ent 𝓤 (onEntry 𝓤 H A put-line.signature (κ, (κ′, tt)) (q, (q′, tt)) a vals) (WpFn 𝓤 H C Λ code.function (vptr b o ∷ u ∷ []) Post)
     walk =
-        qed W ((‵ (flft κ q) ⊛ ‵ (flft κ′ q′) ⊛ ‵ ftrue) ∷ ‵ (owns (MutRef (named 0) κ R ∷ L.the-row ∷ []) a vals) ∷ []) ∵ enter ! C Λ code.function (vptr b o ∷ u ∷ []) _ $
-        alloc1 ! (λ l₀. alloc1 ! (λ l₁. alloc1 ! (λ l₂. alloc1 ! (λ l₃. alloc1 ! (λ l₄. alloc1 ! (λ l₅. alloc1 ! (λ l₆. alloc1 ! (λ l₇. alloc0 ! $ params1 ! $ pass1 ! (init ! 12 refl (tt, tt)) $ pass1 ! (init ! 10 refl (LL.lawful L.the-type L′.the-laws 𝓤 H A W .typed line _ line-is .0)) $ pass0 ! $
+        qed W ((‵ (flft κ q) ⊛ ‵ (flft κ′ q′) ⊛ ‵ ftrue) ∷ ‵ (owns (MutRef (named 0) κ R ∷ L.the-row ∷ []) a vals) ∷ []) ∵ enter ! C Λ code.function
+        (vptr b o ∷ u ∷ []) _ $
+        alloc1 ! (λ l₀. alloc1 !
+        (λ l₁. alloc1 ! (λ l₂. alloc1 ! (λ l₃. alloc1 ! (λ l₄. alloc1 !
+        (λ l₅. alloc1 ! (λ l₆. alloc1 ! (λ l₇. alloc0 ! $ params1 ! $ pass1 ! (init ! 12 refl (tt, tt)) $ pass1 !
+        (init ! 10 refl (LL.lawful L.the-type L′.the-laws 𝓤 H A W .typed line _ line-is .0)) $ pass0 ! $
         -- the outer borrow is opened
         move ! (17 ∷ []) $ fsplit ! $ fsplit3 ! $ drop ! $ move ! (19 ∷ []) $ split ! $ move ! (2 ∷ 3 ∷ 0 ∷ []) $
-        opens ! tt R {h = h ys n} b o (λ vs. spelt ! R (Is R) (shows 𝓤 H A R) (LL.vals (T.the-type α) (T′.the-laws α)) (LL.tells (T.the-type α) (T′.the-laws α)) fullShare (h ys n) vs b o $
+        opens ! tt R {h = h ys n} b o (λ vs. spelt ! R (Is R) (shows 𝓤 H A R) (LL.vals (T.the-type α) (T′.the-laws α))
+        (LL.tells (T.the-type α) (T′.the-laws α)) fullShare (h ys n) vs b o $
         use1 W (‵ (fat fullShare (T′.mir erased) b o (mach n))) (W .laws .raw-at fullShare (T′.mir erased) b o (mach n)) $
         move ! (1 ∷ []) $ peeks ! R (Is R) (shows 𝓤 H A R) (h ys n) (mach n ∷ []) (λ g. move ! (1 ∷ 0 ∷ []) $
-        -- [the struct's cell; what a LogWriter owns; the open borrow; obs; auth; the inner token; line's; _7; …; _6; …; _5; …; _4; …; _3; …; _2; …; _1; …; room for _0; …]
-        assigns ! (of-opd ! (load ! (from ! (hop ! (look ! 19 refl) (fld ! refl (stop !)))) (look-in ! 0 (sub ! 1 refl (whole !))))) (from ! (stop !)) (init ! 15 refl (tt, record { fits = n-fits g })) $
-        assigns ! (of-opd ! (load ! (from ! (hop ! (look ! 19 refl) (fld ! refl (fld ! refl (stop !))))) (look-in ! 0 (sub ! 1 refl (sub ! 0 refl (whole !)))))) (from ! (stop !)) (init ! 11 refl (tt, record { fits = room g .0 })) $
-        assigns ! (addr ! (from ! (hop ! (look ! 19 refl) (fld ! refl (fld ! refl (hop ! (look-in ! 0 (sub ! 0 refl (sub ! 0 refl (whole !)))) (stop !))))))) (from ! (stop !)) (init ! 9 refl (tt, tt)) $
-        assigns ! (agg ! (and-then ! (load ! (from ! (stop !)) (look ! 9 refl)) (and-then ! (load ! (from ! (stop !)) (look ! 11 refl)) (no-more !)))) (from ! (stop !)) (init ! 7 refl (tt, (tt, (record { fits = room g .0 }, tt)))) $
+        -- [the struct's cell; what a LogWriter owns; the open borrow; obs; auth; the inner token; line's; _7; …; _6; …; _5; …; _4; …; _3; …; _2; …; _1; …;
+        -- room for _0; …]
+        assigns ! (of-opd ! (load ! (from ! (hop ! (look ! 19 refl) (fld ! refl (stop !)))) (look-in ! 0 (sub ! 1 refl (whole !))))) (from ! (stop !))
+        (init ! 15 refl (tt, record { fits = n-fits g })) $
+        assigns ! (of-opd ! (load ! (from ! (hop ! (look ! 19 refl) (fld ! refl (fld ! refl (stop !)))))
+        (look-in ! 0 (sub ! 1 refl (sub ! 0 refl (whole !)))))) (from ! (stop !)) (init ! 11 refl (tt, record { fits = room g .0 })) $
+        assigns ! (addr ! (from ! (hop ! (look ! 19 refl) (fld ! refl (fld ! refl (hop ! (look-in ! 0 (sub ! 0 refl (sub ! 0 refl (whole !)))) (stop !)))))))
+        (from ! (stop !)) (init ! 9 refl (tt, tt)) $
+        assigns ! (agg ! (and-then ! (load ! (from ! (stop !)) (look ! 9 refl)) (and-then ! (load ! (from ! (stop !)) (look ! 11 refl)) (no-more !))))
+        (from ! (stop !)) (init ! 7 refl (tt, (tt, (record { fits = room g .0 }, tt)))) $
         -- what the LogWriter owns is taken apart, and the slice is lent again for a lifetime ν of the call
-        move ! (1 ∷ []) $ use1 W (given (mach n ∷ [] ≡ mach n ∷ []) (‵ (all-own (T.the-type α .parts) (T′.the-laws α) (x γ′ ys, (n, tt))))) (own-open 𝓤 H A W (T.the-type α) (T′.the-laws α) (x γ′ ys, (n, tt)) (mach n)) $ learn ! (λ _. fsplit ! $
+        move ! (1 ∷ []) $ use1 W (given (mach n ∷ [] ≡ mach n ∷ []) (‵ (all-own (T.the-type α .parts) (T′.the-laws α) (x γ′ ys, (n, tt)))))
+        (own-open 𝓤 H A W (T.the-type α) (T′.the-laws α) (x γ′ ys, (n, tt)) (mach n)) $ learn ! (λ _. fsplit ! $
         move ! (6 ∷ []) $ split ! $ lft-new ! tt (λ ν. move ! (3 ∷ 1 ∷ []) $
-        use2 W (later (some (λ (δ : GName). ‵ (MutSlice (named 0) (ν ∷ []) u8 .own (x δ ys) (s ∷ [])) ⊛ ‵ (LentAgain u8 κ′ (ν ∷ []) q′ γ′ b′ o′ δ ys)))) (lends-again u8 κ′ (ν ∷ []) q′ γ′ b′ o′ 𝓤 H A W (named 1) (named 0) ys) $ await ! tt $ pick ! (λ δ. split ! $
+        use2 W (later (some (λ (δ : GName). ‵ (MutSlice (named 0) (ν ∷ []) u8 .own (x δ ys) (s ∷ [])) ⊛ ‵ (LentAgain u8 κ′ (ν ∷ []) q′ γ′ b′ o′ δ ys))))
+        (lends-again u8 κ′ (ν ∷ []) q′ γ′ b′ o′ 𝓤 H A W (named 1) (named 0) ys) $ await ! tt $ pick ! (λ δ. split ! $
         move ! (2 ∷ 0 ∷ []) $ use2 W (raw (PutLineAt 𝓤 H A at-mem run .pre (to-put-line-at ν δ))) (goes (n-fits g) ν δ) $
-        calls-at ! fm (PutLineAt 𝓤 H A at-mem run) known (to-put-line-at ν δ) (and-then ! (load ! (from ! (stop !)) (look ! 9 refl)) (and-then ! (load ! (from ! (stop !)) (look ! 17 refl)) (and-then ! (load ! (from ! (stop !)) (look ! 19 refl)) (no-more !)))) (λ w.
-        use1 W (later (some (λ (r : Put). ((‵ (flft (ν ∷ []) fullShare) ⊛ ‵ ftrue) ⊛ ‵ (P.the-row .own r (w ∷ []))) ⊛ raw (ensured 𝓤 H A put-line-at.ended (put-line-at.clauses 𝓤 H A at-mem run) (ν ∷ [], tt) (x δ ys, (n, (line, tt))) tt r)))) (id⊢ 𝓤 _) $ await ! tt $ pick ! (λ r.
+        calls-at ! fm (PutLineAt 𝓤 H A at-mem run) known (to-put-line-at ν δ)
+        (and-then ! (load ! (from ! (stop !)) (look ! 9 refl)) (and-then ! (load ! (from ! (stop !)) (look ! 17 refl))
+        (and-then ! (load ! (from ! (stop !)) (look ! 19 refl)) (no-more !)))) (λ w.
+        use1 W (later (some (λ (r : Put). ((‵ (flft (ν ∷ []) fullShare) ⊛ ‵ ftrue) ⊛ ‵ (P.the-row .own r (w ∷ []))) ⊛ raw
+        (ensured 𝓤 H A put-line-at.ended (put-line-at.clauses 𝓤 H A at-mem run) (ν ∷ [], tt) (x δ ys, (n, (line, tt))) tt r))))
+        (id⊢ 𝓤 _) $ await ! tt $ pick ! (λ r.
         -- what `put_line_at` ensures, at some last list
-        split ! $ move ! (1 ∷ []) $ use1 W (some (λ (zs : List ℕ × (Unit {0} × (Unit {0} × Unit {0}))). ‵ (lasts put-line-at.ended (ν ∷ [], tt) (x δ ys, (n, (line, tt))) zs) ⊛ raw (fact 𝓤 (Said r (zs .0))))) (id⊢ 𝓤 _) $ pick ! (λ zs.
+        split ! $ move ! (1 ∷ []) $ use1 W (some (λ (zs : List ℕ × (Unit {0} × (Unit {0} × Unit {0}))). ‵
+        (lasts put-line-at.ended (ν ∷ [], tt) (x δ ys, (n, (line, tt))) zs) ⊛ raw (fact 𝓤 (Said r (zs .0))))) (id⊢ 𝓤 _) $ pick ! (λ zs.
         split ! $ move ! (1 ∷ []) $ heard ! (Said r (zs .0)) (λ e. fsplit ! $ fsplit ! $ move ! (1 ∷ []) $ feqL ! (λ l.
         move ! (2 ∷ []) $ split ! $ move ! (1 ∷ []) $ peeks ! P.the-row (Is P.the-row) (shows 𝓤 H A P.the-row) r (w ∷ []) (λ is.
-        land ! (from ! (stop !)) (init ! 18 refl (LL.lawful P.the-type P′.the-laws 𝓤 H A W .typed r _ is .0)) $ rewrite ! 18 (λ (u : Val). ‵ (fat fullShare P′.mir l₄ 0 u)) (ap only (LL.tells P.the-type P′.the-laws r _ is)) refl $
+        land ! (from ! (stop !)) (init ! 18 refl (LL.lawful P.the-type P′.the-laws 𝓤 H A W .typed r _ is .0)) $ rewrite ! 18
+        (λ (u : Val). ‵ (fat fullShare P′.mir l₄ 0 u)) (ap only (LL.tells P.the-type P′.the-laws r _ is)) refl $
         -- the lifetime is ended, and the slice comes back at that list
         move ! (1 ∷ []) $ split ! $ lft-end ! tt $ move ! (0 ∷ 5 ∷ 3 ∷ []) $
-        use3 W (later (‵ (MutSlice (named 1) κ′ u8 .own (x γ′ (zs .0)) (s ∷ [])) ⊛ ‵ (flft κ′ q′))) (comes-back u8 κ′ (ν ∷ []) q′ γ′ b′ o′ 𝓤 H A W (named 1) (named 0) ys δ (zs .0) (room g) l) $ await ! tt $ split ! $
-        -- [what out's borrow owns; the inner token; …; the struct's cell; the open borrow; obs; auth; line's; _7; …; _6; …; _5; …; _4; …; _3; …; _2; …; _1; …; room for _0; …]
-        assigns ! (of-opd ! (load ! (from ! (fld ! refl (stop !))) (look-in ! 18 (sub ! 1 refl (whole !))))) (from ! (hop ! (look ! 24 refl) (fld ! refl (stop !)))) (store-in ! 7 (sub ! 1 refl (whole !)) (tt, record { fits = at-fits r w is })) $
-        assigns ! (of-opd ! (load ! (from ! (stop !)) (look ! 18 refl))) (from ! (stop !)) (init ! 26 refl (LL.lawful P.the-type P′.the-laws 𝓤 H A W .typed r _ (spelled r w is) .0)) $
+        use3 W (later (‵ (MutSlice (named 1) κ′ u8 .own (x γ′ (zs .0)) (s ∷ [])) ⊛ ‵ (flft κ′ q′)))
+        (comes-back u8 κ′ (ν ∷ []) q′ γ′ b′ o′ 𝓤 H A W (named 1) (named 0) ys δ (zs .0) (room g) l) $ await ! tt $ split ! $
+        -- [what out's borrow owns; the inner token; …; the struct's cell; the open borrow; obs; auth; line's; _7; …; _6; …; _5; …; _4; …; _3; …; _2; …; _1;
+        -- …; room for _0; …]
+        assigns ! (of-opd ! (load ! (from ! (fld ! refl (stop !))) (look-in ! 18 (sub ! 1 refl (whole !)))))
+        (from ! (hop ! (look ! 24 refl) (fld ! refl (stop !)))) (store-in ! 7 (sub ! 1 refl (whole !)) (tt, record { fits = at-fits r w is })) $
+        assigns ! (of-opd ! (load ! (from ! (stop !)) (look ! 18 refl))) (from ! (stop !))
+        (init ! 26 refl (LL.lawful P.the-type P′.the-laws 𝓤 H A W .typed r _ (spelled r w is) .0)) $
         -- the struct is put together again, at the new record, and the outer borrow is closed
         nothing ! $ owned ! usize (Is usize) (uint-makes 𝓤 H A W w64) (r .at) _ (refl, at-fits r w is) $ fjoin ! $ move ! (1 ∷ 0 ∷ []) $ fjoin ! $
-        use1 W (‵ (R .own (h (zs .0) (r .at)) (mach (r .at) ∷ []))) (makes 𝓤 H A W (MutSlice (named 1) κ′ u8 ∷ usize ∷ []) (had (r .at) (zs .0)) (s ∷ [], (vint w64 (r .at) ∷ [], tt))) $
+        use1 W (‵ (R .own (h (zs .0) (r .at)) (mach (r .at) ∷ []))) (makes 𝓤 H A W (MutSlice (named 1) κ′ u8 ∷ usize ∷ []) (had (r .at) (zs .0))
+        (s ∷ [], (vint w64 (r .at) ∷ [], tt))) $
         move ! (7 ∷ []) $ use1 W (‵ (cellAt fullShare (R .mir) (mach (r .at) ∷ []) b o)) (W .laws .at-raw fullShare (T′.mir erased) b o (mach (r .at))) $
         move ! (0 ∷ 1 ∷ 8 ∷ 9 ∷ 10 ∷ []) $ closes ! tt R (h (zs .0) (r .at)) (mach (r .at) ∷ []) b o $
-        returns ! (look ! 24 refl) $ forget ! 10 refl $ forget ! 12 refl $ forget ! 14 refl $ forget ! 16 refl $ forget ! 18 refl $ forget ! 20 refl $ forget ! 22 refl $ forget ! 24 refl $
-        move ! (24 ∷ 25 ∷ []) $ free1 ! $ move ! (22 ∷ 23 ∷ []) $ free1 ! $ move ! (20 ∷ 21 ∷ []) $ free1 ! $ move ! (18 ∷ 19 ∷ []) $ free1 ! $ move ! (16 ∷ 17 ∷ []) $ free1 ! $ move ! (14 ∷ 15 ∷ []) $ free1 ! $ move ! (12 ∷ 13 ∷ []) $ free1 ! $ move ! (10 ∷ 11 ∷ []) $ free1 ! $ free0 ! $
+        returns ! (look ! 24 refl) $ forget ! 10 refl $ forget ! 12 refl $ forget ! 14 refl $ forget ! 16 refl $ forget ! 18 refl $ forget ! 20 refl $ forget
+        ! 22 refl $ forget ! 24 refl $
+        move ! (24 ∷ 25 ∷ []) $ free1 ! $ move ! (22 ∷ 23 ∷ []) $ free1 ! $ move ! (20 ∷ 21 ∷ []) $ free1 ! $ move ! (18 ∷ 19 ∷ []) $ free1 ! $ move !
+        (16 ∷ 17 ∷ []) $ free1 ! $ move ! (14 ∷ 15 ∷ []) $ free1 ! $ move ! (12 ∷ 13 ∷ []) $ free1 ! $ move ! (10 ∷ 11 ∷ []) $ free1 ! $ free0 ! $
         keep ! (0 ∷ 1 ∷ 2 ∷ 3 ∷ []) $ by ! (exits r (zs .0) e (spelled r w is)))))))))))))))))))))
 
 module _ {M : Type 1} (𝓤 : URA M) (H : Heap 𝓤) (A : Atoms 𝓤) (W : Given 𝓤 H A) (mem : Memory → SProp 𝓤) (run : Routine → Fun 𝓤) where
-  put-line-walks : (C : Calls 𝓤 H) (Λ : Loops 𝓤 H) → FmC 𝓤 H (W .laws) C → Triple 𝓤 (C #log-writer·put-line-at) (PutLineAt 𝓤 H A mem run) → Walks 𝓤 H A put-line.ended stayed (WpFn 𝓤 H C Λ code.function) (put-line.clauses 𝓤 H A mem run)
-  put-line-walks C Λ fm known = walked 𝓤 H A put-line.ended stayed (put-line.clauses 𝓤 H A mem run) (WpFn 𝓤 H C Λ code.function) (λ κs. (ptr-vals, (LL.vals L.the-type L′.the-laws, tt))) (λ κs. (mut-tells (named 0) (κs .0) (T.the-row (namedLft 2 1 tt κs)), (LL.tells L.the-type L′.the-laws, tt)))
+  put-line-walks : (C : Calls 𝓤 H) (Λ : Loops 𝓤 H) → FmC 𝓤 H (W .laws) C → Triple 𝓤 (C #log-writer·put-line-at) (PutLineAt 𝓤 H A mem run)
+      → Walks 𝓤 H A put-line.ended stayed (WpFn 𝓤 H C Λ code.function) (put-line.clauses 𝓤 H A mem run)
+  put-line-walks C Λ fm known = walked 𝓤 H A put-line.ended stayed (put-line.clauses 𝓤 H A mem run) (WpFn 𝓤 H C Λ code.function)
+      (λ κs. (ptr-vals, (LL.vals L.the-type L′.the-laws, tt))) (λ κs. (
+        mut-tells (named 0) (κs .0) (T.the-row (namedLft 2 1 tt κs)),
+        (LL.tells L.the-type L′.the-laws, tt),
+      ))
       (λ κs qs bounds a g are. via 𝓤 _ (fst∗ 𝓤 _ (emp 𝓤))
-      (walk 𝓤 H A W mem run (κs .0) (κs .1 .0) bounds (qs .0) (qs .1 .0) (a .0 .ptr .0) (a .0 .ptr .1) (a .0 .name) (a .0 .now .out .ptr .0) (a .0 .now .out .ptr .1) (a .0 .now .out .name) (a .0 .now .out .now) (a .0 .now .at) (a .1 .0) (are .1 .0) C Λ fm known))
+      (walk 𝓤 H A W mem run (κs .0) (κs .1 .0) bounds (qs .0) (qs .1 .0) (a .0 .ptr .0) (a .0 .ptr .1) (a .0 .name) (a .0 .now .out .ptr .0)
+      (a .0 .now .out .ptr .1) (a .0 .now .out .name) (a .0 .now .out .now) (a .0 .now .at) (a .1 .0) (are .1 .0) C Λ fm known))
 
-put-line-meets : {M : Type 1} (𝓤 : URA M) (H : Heap 𝓤) (A : Atoms 𝓤) → Given 𝓤 H A → (mem : Memory → SProp 𝓤) (run : Routine → Fun 𝓤) (𝓣 : Tables 𝓤 H) → Triple 𝓤 (𝓣 .C #log-writer·put-line-at) (PutLineAt 𝓤 H A mem run)
+put-line-meets : {M : Type 1} (𝓤 : URA M) (H : Heap 𝓤) (A : Atoms 𝓤) → Given 𝓤 H A → (mem : Memory → SProp 𝓤) (run : Routine → Fun 𝓤) (𝓣 : Tables 𝓤 H)
+    → Triple 𝓤 (𝓣 .C #log-writer·put-line-at) (PutLineAt 𝓤 H A mem run)
     → Meets 𝓤 H A put-line.signature (WpFn 𝓤 H (𝓣 .C) (𝓣 .Λ) code.function) (put-line.spec 𝓤 H A mem run)
 put-line-meets 𝓤 H A W mem run 𝓣 known =
-    walk-meets 𝓤 H A put-line.ended stayed W (goes-ref 𝓤 H A W 2 0 tt LogWriterS, (goes-none 𝓤 H A W 2 (λ _. L.the-row) yes (λ κs x f. refl), tt)) (put-line.clauses 𝓤 H A mem run)
+    walk-meets 𝓤 H A put-line.ended stayed W (goes-ref 𝓤 H A W 2 0 tt LogWriterS, (goes-none 𝓤 H A W 2 (λ _. L.the-row) yes (λ κs x f. refl), tt))
+    (put-line.clauses 𝓤 H A mem run)
     (WpFn 𝓤 H (𝓣 .C) (𝓣 .Λ) code.function) (WpFn-mono 𝓤 H (W .laws) 𝓣 code.function) (put-line-walks 𝓤 H A W mem run (𝓣 .C) (𝓣 .Λ) (fmOf 𝓤 H (W .laws) 𝓣) known)
 
 pub put-line-spec : {M : Type 1} → stated.statement M
@@ -221,4 +264,5 @@ put-line-spec 𝓤 H 𝓜 𝓖 𝓡 =
     entered 𝓤 H (tripleOf 𝓤 H (𝓖 .A) put-line.signature (put-line.spec 𝓤 H (𝓖 .A) (𝓜 .mem) (𝓡 .run)))
     (tables 𝓤 H 𝓜 𝓡 code.env .C) (tables 𝓤 H 𝓜 𝓡 code.env .Λ) #log-writer·put-line code.function (code.unfolded 𝓤 H 𝓜 𝓡)
     (put-line-meets 𝓤 H (𝓖 .A) (givenOf 𝓤 H 𝓜 𝓖) (𝓜 .mem) (𝓡 .run) (tablesOf 𝓤 H 𝓜 (tables 𝓤 H 𝓜 𝓡 code.env))
-    (cited 𝓤 H (PutLineAt 𝓤 H (𝓖 .A) (𝓜 .mem) (𝓡 .run)) 𝓜 𝓡 code.env #log-writer·put-line-at put-line-at-def.routine code.calls-log-writer·put-line-at (put-line-at-thm.met 𝓤 H 𝓜 𝓖 𝓡)))
+    (cited 𝓤 H (PutLineAt 𝓤 H (𝓖 .A) (𝓜 .mem) (𝓡 .run)) 𝓜 𝓡 code.env #log-writer·put-line-at put-line-at-def.routine code.calls-log-writer·put-line-at
+    (put-line-at-thm.met 𝓤 H 𝓜 𝓖 𝓡)))

@@ -35,7 +35,8 @@ enum-told : tie.Need-enum-told
 enum-told c = search needs
 
 -- the line had room
-room : (c : tie.After-enum-told) → let a = c .before .before .before .before .before .before .before .before .args in a .at + lineLength (a .width) ≤ length (now (a .out))
+room : (c : tie.After-enum-told) → let a =
+    c .before .before .before .before .before .before .before .before .args in a .at + lineLength (a .width) ≤ length (now (a .out))
 room c =
     let w = c .before .before .before .before in
     let e = w .before .before in
@@ -56,7 +57,8 @@ returns-2 c =
     let w = c .before .before .before .before .before in
     let e = w .before .before in
     let a = e .before .before .args in
-    put-refused (a .width) (now (a .out)) (a .at) (a .line) (e .if1 .left) (w .write-line-in .last .0) (sym (c .before .answer .given .1) ∙ w .write-line-in .ensures .0) (w .write-line-in .ensures .1)
+    put-refused (a .width) (now (a .out)) (a .at) (a .line) (e .if1 .left) (w .write-line-in .last .0)
+    (sym (c .before .answer .given .1) ∙ w .write-line-in .ensures .0) (w .write-line-in .ensures .1)
 
 same-length-2 : tie.Need-same-length-2
 same-length-2 c = search needs
@@ -66,7 +68,8 @@ returns-3 c =
     let w = c .before .before .before .before in
     let e = w .before .before in
     let a = e .before .before .args in
-    put-done (a .width) (now (a .out)) (a .at) (a .line) (e .if1 .left) (w .write-line-in .last .0) (sym (c .enum-told .given .1) ∙ w .write-line-in .ensures .0) (w .write-line-in .ensures .1)
+    put-done (a .width) (now (a .out)) (a .at) (a .line) (e .if1 .left) (w .write-line-in .last .0)
+    (sym (c .enum-told .given .1) ∙ w .write-line-in .ensures .0) (w .write-line-in .ensures .1)
 
 pub put-line-in-spec : {M : Type 1} → statement M
 put-line-in-spec =

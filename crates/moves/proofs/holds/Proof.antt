@@ -32,7 +32,8 @@ scope-at-requires c κs = search needs
 returns : tie.Need-returns Inv-loop μ-loop
 returns c = let s = c .before .before .before .before in
     let a = s .before .before .args in
-    found-at (λ y. eqb y (a .x)) (a .scopes .now) 0 (s .loop .j) (omega arith) (eq-eqb (getD (a .scopes .now) (s .loop .j) 0) (a .x) (sym (c .before .scope-at .ensures) ∙ c .if1 .taken))
+    found-at (λ y. eqb y (a .x)) (a .scopes .now) 0 (s .loop .j) (omega arith)
+    (eq-eqb (getD (a .scopes .now) (s .loop .j) 0) (a .x) (sym (c .before .scope-at .ensures) ∙ c .if1 .taken))
 
 add-j : tie.Need-add-j Inv-loop μ-loop
 add-j c = omega arith
@@ -42,8 +43,11 @@ loop-less c = omega arith
 
 loop-again : tie.Need-loop-again Inv-loop μ-loop
 loop-again c = let s = c .before .before .before .before in
-    let a = s .before .before .args in
-    (omega arith, below-more _ _ (s .loop .inv .1) (ne-eqb (getD (a .scopes .now) (s .loop .j) 0) (a .x) (λ e. c .if1 .left (c .before .scope-at .ensures ∙ e))))
+    let a = s .before .before .args in (
+      omega arith,
+      below-more _ _ (s .loop .inv .1)
+          (ne-eqb (getD (a .scopes .now) (s .loop .j) 0) (a .x) (λ e. c .if1 .left (c .before .scope-at .ensures ∙ e))),
+    )
 
 returns-2 : tie.Need-returns-2 Inv-loop μ-loop
 returns-2 c = let s = c .before in

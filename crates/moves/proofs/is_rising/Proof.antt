@@ -4,7 +4,7 @@ use native.Mathlib.Omega.{arith}
 use lib.Dec.{not-T}
 use lib.ListN.{length, getD}
 use Rattle.integers.specs.Tests.{is-true, is-false}
-use Rattle.definitions.specs.Calls.{isRising}
+use Rattle.calls.specs.Calls.{isRising}
 use Rattle.moves.proofs.Rising.{rising-iff, next-rises}
 use Rattle.moves.proofs.is_rising.Statement.{statement}
 use Rattle.moves.proofs.is_rising.Tie as tie

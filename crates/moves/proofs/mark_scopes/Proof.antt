@@ -33,7 +33,13 @@ slice-write-marks : tie.Need-slice-write-marks Inv-loop μ-loop
 slice-write-marks c = let s = c .before .before .before in
     let b = s .before .before .before in
     let a = b .args in
-    omega (arith, c .scope-at .ensures, s .loop .inv .1, ltb→lt (getD (a .raised .now) (s .loop .j) 0) (length (a .marks .now)) (all-getD (λ x. ltb x (length (a .marks .now))) (a .raised .now) 0 .0 (b .pre) (s .loop .j) (omega arith)))
+    omega (
+      arith,
+      c .scope-at .ensures,
+      s .loop .inv .1,
+      ltb→lt (getD (a .raised .now) (s .loop .j) 0) (length (a .marks .now))
+          (all-getD (λ x. ltb x (length (a .marks .now))) (a .raised .now) 0 .0 (b .pre) (s .loop .j) (omega arith)),
+    )
 
 add-j : tie.Need-add-j Inv-loop μ-loop
 add-j c = omega arith

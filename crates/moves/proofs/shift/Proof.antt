@@ -12,7 +12,7 @@ use Rattle.definitions.specs.Refusals.{firstOf}
 use Rattle.definitions.specs.Answers.{outcomeOf}
 use Rattle.definitions.specs.Case.{scopeCount}
 use Rattle.definitions.specs.Valid.{workingWeight, handedOver}
-use Rattle.definitions.specs.Calls.{shiftOut}
+use Rattle.calls.specs.Calls.{shiftOut}
 use Rattle.tables.proofs.Answered.{known, limits-known}
 use Rattle.moves.proofs.ShiftLaws.{shift-refused, shift-given}
 use Rattle.moves.proofs.shift.Statement.{statement}
@@ -32,7 +32,9 @@ enum-told c = search needs
 
 -- what was checked, with the definition for the argument
 asked : (c : tie.After-check-working) → let s = c .before .before .before in let a = s .args in
-    c .check-working .result ≡ outcomeOf (firstOf (handedOver (rulesOf (a .case)) (workingWeight (rulesOf (a .case))) (a .case) (a .table .now) false (shiftOut (rulesOf (a .case)) (a .case) (a .edge) (a .end) (a .value) (a .amount))))
+    c .check-working .result ≡ outcomeOf (firstOf
+    (handedOver (rulesOf (a .case)) (workingWeight (rulesOf (a .case))) (a .case) (a .table .now) false
+    (shiftOut (rulesOf (a .case)) (a .case) (a .edge) (a .end) (a .value) (a .amount))))
 asked c = let s = c .before .before .before in rw (c .before .before .transfer-out .ensures, toZ-ofZ (s .fits .amount)) at (c .check-working .ensures)
 
 slice-aggregate-greatest-weights : tie.Need-slice-aggregate-greatest-weights
@@ -59,13 +61,19 @@ same-length-2 : tie.Need-same-length-2
 same-length-2 c = search needs
 
 returns-2 : tie.Need-returns-2
-returns-2 c = let s = c .before .before .before .before .before .before .before .before .before .before .before .before .before .before in
+returns-2 c =
+    let k = c .before .before in
+    let g = k .before .before .before .before in
+    let t = g .before .before .before in
+    let w = t .before .before in
+    let s = w .before .before .before in
     let a = s .args in
-    let d = sym (c .before .before .before .before .before .before .before .before .before .enum-told .given .1) ∙ asked (c .before .before .before .before .before .before .before .before .before .before .before) in
+    let d = sym (t .enum-told .given .1) ∙ asked w in
     let (h, right, inside) = known (a .case) (a .table .now) false (shiftOut (rulesOf (a .case)) (a .case) (a .edge) (a .end) (a .value) (a .amount)) d in
     let few : scopeCount (a .case) ≤ scopePlaces = omega (arith, limits-known h) in
-    let r = rw (toZ-ofZ (s .fits .amount)) at (c .before .before .transfer .ensures) in
-    shift-given (a .case) (a .table .now) (a .edge) (a .end) (a .value) (a .amount) d h (is-false _ inside) (replicate scopePlaces (pos 0)) few (c .before .before .before .before .before .before .greatest-weights .ensures .1) (r .0) (r .1)
+    let r = rw (toZ-ofZ (s .fits .amount)) at (k .transfer .ensures) in
+    shift-given (a .case) (a .table .now) (a .edge) (a .end) (a .value) (a .amount) d h (is-false _ inside) (replicate scopePlaces (pos 0)) few
+    (g .greatest-weights .ensures .1) (r .0) (r .1)
 
 pub shift-spec : {M : Type 1} → statement M
 shift-spec =

@@ -32,7 +32,8 @@ scope-at-requires c κs = search needs
 returns : tie.Need-returns Inv-loop μ-loop
 returns c = let s = c .before .before .before .before in
     let a = s .before .before .args in
-    found-at (λ y. not (ltb y (a .count))) (a .scopes .now) 0 (s .loop .j) (omega arith) (ap not (le-ltb (getD (a .scopes .now) (s .loop .j) 0) (a .count) (omega (arith, c .before .scope-at .ensures))))
+    found-at (λ y. not (ltb y (a .count))) (a .scopes .now) 0 (s .loop .j) (omega arith)
+    (ap not (le-ltb (getD (a .scopes .now) (s .loop .j) 0) (a .count) (omega (arith, c .before .scope-at .ensures))))
 
 add-j : tie.Need-add-j Inv-loop μ-loop
 add-j c = omega arith
@@ -42,8 +43,11 @@ loop-less c = omega arith
 
 loop-again : tie.Need-loop-again Inv-loop μ-loop
 loop-again c = let s = c .before .before .before .before in
-    let a = s .before .before .args in
-    (omega arith, below-more _ _ (s .loop .inv .1) (ap not (lt-ltb (getD (a .scopes .now) (s .loop .j) 0) (a .count) (omega (arith, c .before .scope-at .ensures)))))
+    let a = s .before .before .args in (
+      omega arith,
+      below-more _ _ (s .loop .inv .1)
+          (ap not (lt-ltb (getD (a .scopes .now) (s .loop .j) 0) (a .count) (omega (arith, c .before .scope-at .ensures)))),
+    )
 
 returns-2 : tie.Need-returns-2 Inv-loop μ-loop
 returns-2 c = let s = c .before in

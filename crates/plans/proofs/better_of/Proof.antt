@@ -10,14 +10,14 @@ use Rattle.definitions.specs.Rules.{rulesOf}
 use Rattle.definitions.specs.Answers.{outcomeOf}
 use Rattle.definitions.specs.Case.{isAssignment}
 use Rattle.theory.proofs.Validity.{Valid}
-use Rattle.plans.proofs.Scored.{asked, both-known, choice-refused, choice-made}
+use Rattle.plans.proofs.Scored.{scoresAsked, both-known, choice-refused, choice-made}
 use borrow.Author.Needs.{needs}
 use Rattle.plans.proofs.better_of.Statement.{statement}
 use Rattle.plans.proofs.better_of.Tie as tie
 
 -- what was checked, with the definitions for the arguments
 checked : (c : tie.After-check-starting) → let a = c .before .before .before .before .before .before .before .args in
-    c .check-starting .result ≡ outcomeOf (asked (a .case) (now (a .table)) (now (a .first)) (now (a .second)))
+    c .check-starting .result ≡ outcomeOf (scoresAsked (a .case) (now (a .table)) (now (a .first)) (now (a .second)))
 checked c = rw (c .before .before .some-beyond .ensures, c .before .some-beyond2 .ensures) at (c .check-starting .ensures)
 
 -- what is known where no number applies

@@ -50,7 +50,13 @@ part-weights-end : tie.Need-part-weights-end
 part-weights-end c =
     let f = c .before .before .before in
     let w = f .before .before in
-    omega (arith, c .table-length .ensures, table-most Desk (take (f .fill .result .to) (f .fill .last .0)), ap length (w .weights .ensures), length-replicate tablePlaces (pos 0))
+    omega (
+      arith,
+      c .table-length .ensures,
+      table-most Desk (take (f .fill .result .to) (f .fill .last .0)),
+      ap length (w .weights .ensures),
+      length-replicate tablePlaces (pos 0),
+    )
 
 run-requires : tie.Need-run-requires
 run-requires c κs =
@@ -62,7 +68,8 @@ run-requires c κs =
     let size : CaseSize = caseSize Desk input in
     let long : t .table-length .result - 0 ≡ length (tableFor size) = omega (arith, t .table-length .ensures) in
     let count = length-take-le filled (f .fill .last .0) (f .fill .ensures .within (omega arith)) in (
-      ap (λ (n : ℕ). take n (w .weights .result)) long ∙ ap (take (length (tableFor size))) (w .weights .ensures) ∙ table-lent size tablePlaces (table-most Desk input),
+      ap (λ (n : ℕ). take n (w .weights .result)) long ∙ ap (take (length (tableFor size))) (w .weights .ensures)
+          ∙ table-lent size tablePlaces (table-most Desk input),
       read-all (f .fill .last .0) filled (omega (arith, f .fill .kept)) count (f .fill .ensures .ends),
     )
 

@@ -4,7 +4,7 @@ use mathlib.Core.List.{List}
 use Prim.Native.Nat.{ℕ, _+_}
 use lib.ListN.{length}
 use denote.Ref.{now}
-use Rattle.press.proofs.Calls.{part-is}
+use Rattle.press.proofs.Calls.{printed-part-is}
 use borrow.Author.Needs.{needs}
 use Rattle.press.proofs.print.Statement.{statement}
 use Rattle.press.proofs.print.Tie as tie
@@ -22,7 +22,7 @@ returns : tie.Need-returns
 returns c =
     let p = c .before in
     let a = p .before .before .args in
-    (refl, ap (λ (l : List ℕ). a .before + length l) (p .printed-part .ensures ∙ part-is (a .pressed .written) (now (a .out))))
+    (refl, ap (λ (l : List ℕ). a .before + length l) (p .printed-part .ensures ∙ printed-part-is (a .pressed .written) (now (a .out))))
 
 pub print-spec : {M : Type 1} → statement M
 print-spec = tie.close (tie.spec printed-part-requires write-all-requires add-t8 returns)

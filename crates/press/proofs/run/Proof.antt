@@ -55,8 +55,10 @@ returns-2 c =
     let out : List ℕ = replicate roundPlaces 0 in
     let (lent, enough) = s .pre in
     let (p, q, x) = n .start .ensures in
-    let same = same-call (startPressing Desk front (now (s .args .table)) out) (k .print .ensures .0 ∙ p) q x ∙ ap (λ (w : List ℤ). startPressing Desk front w out) lent in
-    rounds-press front out (s .args .filled) enough (lit≤ tt) (rw same at (o .print-rounds .ensures)) (sym (e .before .is-failed .ensures) ∙ e .if1 .left) refl refl
+    let same = same-call (startPressing Desk front (now (s .args .table)) out) (k .print .ensures .0 ∙ p) q x
+    ∙ ap (λ (w : List ℤ). startPressing Desk front w out) lent in
+    rounds-press front out (s .args .filled) enough (lit≤ tt) (rw same at (o .print-rounds .ensures))
+    (sym (e .before .is-failed .ensures) ∙ e .if1 .left) refl refl
 
 pub run-spec : {M : Type 1} → statement M
 run-spec =

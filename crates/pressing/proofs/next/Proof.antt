@@ -40,7 +40,8 @@ returns-2 c =
     let k = c .before .before .before in
     let i = k .before .before .before in
     let s = i .before .before .before in
-    same-pressing (next-is (s .args .pressing) (now (s .args .table)) (now (s .args .out)) (ne-eqb (s .args .pressing .left) 0 (i .if1 .left))) (k .one-round .ensures)
+    same-pressing (next-is (s .args .pressing) (now (s .args .table)) (now (s .args .out)) (ne-eqb (s .args .pressing .left) 0 (i .if1 .left)))
+    (k .one-round .ensures)
 
 pub next-spec : {M : Type 1} → statement M
 next-spec =

@@ -2,8 +2,8 @@
 use denote.Ref.{now}
 use Rattle.definitions.specs.Rules.{rulesOf}
 use Rattle.definitions.specs.Engine.{engineNext}
-use Rattle.definitions.specs.EngineCalls.{roundCall}
-use Rattle.pressing.proofs.Calls.{round-settled, round-made, round-refused}
+use Rattle.calls.specs.EngineCalls.{roundCall}
+use Rattle.pressing.proofs.Calls.{round-settled, round-made, call-refused}
 use borrow.Author.Needs.{needs}
 use Rattle.pressing.proofs.one_round.Statement.{statement}
 use Rattle.pressing.proofs.one_round.Tie as tie
@@ -47,7 +47,8 @@ returns c =
     let e = k .before .before .before .before .before in
     let s = e .before .before .before .before .before in
     let p = s .args .pressing in
-    round-settled p (roundCall (rulesOf (p .case)) engineNext (p .case) (now (s .args .table)) (now (s .args .out))) (e .round .ensures) (k .enum-told .given .1) (c .after-text .ensures)
+    round-settled p (roundCall (rulesOf (p .case)) engineNext (p .case) (now (s .args .table)) (now (s .args .out))) (e .round .ensures)
+    (k .enum-told .given .1) (c .after-text .ensures)
 
 same-length-3 : tie.Need-same-length-3
 same-length-3 c = search needs
@@ -61,7 +62,8 @@ returns-2 c =
     let e = k .before .before .before .before .before in
     let s = e .before .before .before .before .before in
     let p = s .args .pressing in
-    round-made p (roundCall (rulesOf (p .case)) engineNext (p .case) (now (s .args .table)) (now (s .args .out))) (e .round .ensures) (k .round2 .given .1) (c .with-left .ensures)
+    round-made p (roundCall (rulesOf (p .case)) engineNext (p .case) (now (s .args .table)) (now (s .args .out))) (e .round .ensures) (k .round2 .given .1)
+    (c .with-left .ensures)
 
 same-length-5 : tie.Need-same-length-5
 same-length-5 c = search needs
@@ -76,7 +78,8 @@ returns-3 c =
     let e = k .before .before .before .before .before in
     let s = e .before .before .before .before .before in
     let p = s .args .pressing in
-    round-refused p (roundCall (rulesOf (p .case)) engineNext (p .case) (now (s .args .table)) (now (s .args .out))) (e .round .ensures) (k .round3 .given .1) (w .write-refusal .ensures) (c .after-text2 .ensures)
+    call-refused p (roundCall (rulesOf (p .case)) engineNext (p .case) (now (s .args .table)) (now (s .args .out))) (e .round .ensures) (k .round3 .given .1)
+    (w .write-refusal .ensures) (c .after-text2 .ensures)
 
 pub one-round-spec : {M : Type 1} → statement M
 one-round-spec =

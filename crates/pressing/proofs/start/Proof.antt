@@ -28,7 +28,8 @@ returns : tie.Need-returns
 returns c =
     let i = c .before .before in
     let s = i .before .before .before in
-    same-pressing (start-is Desk (now (s .args .bytes)) (now (s .args .table)) (now (s .args .out)) (lt-ltb (length (now (s .args .out))) textRoom (i .if1 .taken)))
+    same-pressing (start-is Desk (now (s .args .bytes)) (now (s .args .table)) (now (s .args .out))
+    (lt-ltb (length (now (s .args .out))) textRoom (i .if1 .taken)))
     (ap₂ toPressed (c .no-case .ensures) (c .before .head-or-short .ensures), refl, refl)
 
 read-case-alone-requires : tie.Need-read-case-alone-requires
@@ -56,8 +57,10 @@ returns-2 c =
     let d = a .before .before .before .before in
     let i = d .before .before in
     let s = i .before .before .before in
-    same-pressing (start-is Desk (now (s .args .bytes)) (now (s .args .table)) (now (s .args .out)) (le-ltb (length (now (s .args .out))) textRoom (i .if1 .left)))
-    (start-refused (now (s .args .out)) (readCaseAlone Desk (now (s .args .bytes)) (now (s .args .table))) (d .read-case-alone .ensures) (a .answer .given .1) (k .write-refused .ensures))
+    same-pressing (start-is Desk (now (s .args .bytes)) (now (s .args .table)) (now (s .args .out))
+    (le-ltb (length (now (s .args .out))) textRoom (i .if1 .left)))
+    (start-refused (now (s .args .out)) (readCaseAlone Desk (now (s .args .bytes)) (now (s .args .table))) (d .read-case-alone .ensures) (a .answer .given .1)
+    (k .write-refused .ensures))
 
 same-length-3 : tie.Need-same-length-3
 same-length-3 c = search needs
@@ -68,7 +71,8 @@ returns-3 c =
     let d = a .before .before .before .before in
     let i = d .before .before in
     let s = i .before .before .before in
-    same-pressing (start-is Desk (now (s .args .bytes)) (now (s .args .table)) (now (s .args .out)) (le-ltb (length (now (s .args .out))) textRoom (i .if1 .left)))
+    same-pressing (start-is Desk (now (s .args .bytes)) (now (s .args .table)) (now (s .args .out))
+    (le-ltb (length (now (s .args .out))) textRoom (i .if1 .left)))
     (start-read (now (s .args .out)) (readCaseAlone Desk (now (s .args .bytes)) (now (s .args .table))) (d .read-case-alone .ensures) (a .answer2 .given .1))
 
 pub start-spec : {M : Type 1} → statement M

@@ -1,7 +1,7 @@
 -- By whether it is number 11. Assumes nothing.
 use mathlib.Core.Path.{refl}
 use denote.Ref.{now}
-use Rattle.judging.proofs.Calls.{same-written}
+use Rattle.texts.proofs.Answers.{same-written}
 use Rattle.pressing.proofs.Calls.{refusal-is}
 use borrow.Author.Needs.{needs}
 use Rattle.pressing.proofs.write_refusal.Statement.{statement}
@@ -21,7 +21,8 @@ returns c =
     let k = c .before .before in
     let i = k .before .before .before in
     let s = i .before .before in
-    same-written (refusal-is (s .args .refusal) (s .args .lines) (now (s .args .out)) (i .is-leaving .ensures) (k .before .before .if1 .taken)) (k .write-refused .ensures)
+    same-written (refusal-is (s .args .refusal) (s .args .lines) (now (s .args .out)) (i .is-leaving .ensures) (k .before .before .if1 .taken))
+    (k .write-refused .ensures)
 
 returns-2 : tie.Need-returns-2
 returns-2 c =

@@ -6,7 +6,8 @@ use borrow.Author.Needs.{needs}
 use lib.Dec.{T}
 use lib.ListN.{length, take}
 use denote.Ref.{now}
-use Rattle.replay.specs.Turns.{lineBytes, mostTurns, Goes}
+use Rattle.judging.specs.Judging.{stateOf}
+use Rattle.replay.specs.Turns.{deskLine, mostTurns, Goes}
 use Rattle.replay.proofs.Turning.{goes-none, goes-next, fill-kept, fill-full, goes-over}
 use Rattle.replay.proofs.go_on.Statement.{statement}
 use Rattle.replay.proofs.go_on.Tie as tie
@@ -14,15 +15,20 @@ use Rattle.replay.proofs.go_on.Tie as tie
 abbrev Inv-loop : tie.InvT-loop
 Inv-loop table₀ buf₀ state₀ turns₀ table buf state turns =
     (length table ≡ length table₀) × (length buf ≡ length buf₀) × (turns ≤ mostTurns)
-    × Goes (mostTurns - turns) (length buf₀ - lineBytes) (record { judging = state₀ .judging; table = table₀ }) (take (state₀ .held) buf₀) (state₀ .filled) state table buf
+    × Goes (mostTurns - turns) (length buf₀ - deskLine) (stateOf (state₀ .judging) table₀) (take (state₀ .held) buf₀) (state₀ .filled) state table buf
 
 abbrev μ-loop : tie.MeasureT-loop
 μ-loop table₀ buf₀ state₀ turns₀ table buf state turns = turns
 
 loop-holds : tie.Need-loop-holds Inv-loop μ-loop
 loop-holds c =
-    let s = c .before in
-    (refl, refl, omega arith, goes-none (length (now (s .args .buf)) - lineBytes) (s .args .first) (now (s .args .table)) (now (s .args .buf)) (s .pre .0) (s .pre .1))
+    let s = c .before in (
+      refl,
+      refl,
+      omega arith,
+      goes-none (length (now (s .args .buf)) - deskLine) (s .args .first) (now (s .args .table)) (now (s .args .buf)) (s .pre .0)
+          (s .pre .1),
+    )
 
 is-over-requires : tie.Need-is-over-requires Inv-loop μ-loop
 is-over-requires c κs = tt
@@ -65,7 +71,8 @@ loop-again c =
     let long : length read ≡ length (now (l .before .before .args .buf)) = omega (arith, f .fill .kept) in
     let turned = rw whole at (t .turn .ensures) in
     let full = rw long at (fill-full (f .fill .ensures) fits (goes .short)) in
-    let more = goes-next goes (sym (e .before .is-over .ensures) ∙ e .if1 .left) (take (f .fill .result .to) read) (fill-kept (f .fill .ensures) fits) full turned in
+    let more = goes-next goes (sym (e .before .is-over .ensures) ∙ e .if1 .left) (take (f .fill .result .to) read)
+    (fill-kept (f .fill .ensures) fits) full turned in
     let left : mostTurns - l .loop .turns + 1 ≡ mostTurns - (l .loop .turns - 1) = omega arith in
     (search needs, search needs, omega arith, rw left at more)
 

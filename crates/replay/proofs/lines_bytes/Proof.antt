@@ -1,8 +1,6 @@
 -- Whether so many lines fit. Assumes nothing.
-use Prim.Native.Nat.{_/_, _≤_}
 use native.Mathlib.Omega.{arith}
 use borrow.Author.Tests.{le-leb, lt-leb}
-use Rattle.replay.specs.Turns.{lineBytes}
 use borrow.Author.Needs.{needs}
 use Rattle.replay.proofs.lines_bytes.Statement.{statement}
 use Rattle.replay.proofs.lines_bytes.Tie as tie

@@ -37,7 +37,7 @@ part-table-length-end c = c .before .before .before .fill .ensures .within (omeg
 table-length-requires : tie.Need-table-length-requires
 table-length-requires c κs = search needs
 
-sub-judgement : tie.Need-sub-judgement
+sub-judgement : tie.Need-sub-text-of-input
 sub-judgement c = search needs
 
 part-weights-start : tie.Need-part-weights-start
@@ -46,11 +46,11 @@ part-weights-start c = search needs
 part-weights-end : tie.Need-part-weights-end
 part-weights-end c = search needs
 
-slice-aggregate-judgement : tie.Need-slice-aggregate-judgement
+slice-aggregate-judgement : tie.Need-slice-aggregate-text-of-input
 slice-aggregate-judgement c = search needs
 
-judgement-requires : tie.Need-judgement-requires
-judgement-requires c κs =
+text-of-input-requires : tie.Need-text-of-input-requires
+text-of-input-requires c κs =
     let t = c .before .before in
     let f = t .before .before .before .before .before in
     let w = f .before .before in
@@ -65,7 +65,8 @@ judgement-requires c κs =
       (f .fill .ensures .within (omega arith), f .fill .ensures .ends),
       (
         (search needs, search needs),
-        ap (λ (n : ℕ). take n (w .weights .result)) so-many ∙ ap (take (length (tableFor size))) (w .weights .ensures) ∙ table-lent size tablePlaces (omega arith),
+        ap (λ (n : ℕ). take n (w .weights .result)) so-many ∙ ap (take (length (tableFor size))) (w .weights .ensures)
+            ∙ table-lent size tablePlaces (omega arith),
       ),
     )
 
@@ -94,7 +95,7 @@ main-spec =
     part-weights-start
     part-weights-end
     slice-aggregate-judgement
-    judgement-requires
+    text-of-input-requires
     write-all-requires
     tell-requires
     returns)

@@ -4,7 +4,7 @@ use Prim.Native.Nat.{ℕ, _%_}
 use native.Mathlib.Nat.{mod-le, mod-lt}
 use native.Mathlib.Omega.{arith}
 use lib.Dec.{lit<}
-use Rattle.replay.specs.Turns.{lineBytes}
+use Rattle.replay.specs.Turns.{deskLine}
 use borrow.Author.Needs.{needs}
 use Rattle.replay.proofs.part_bytes.Statement.{statement}
 use Rattle.replay.proofs.part_bytes.Tie as tie
@@ -19,7 +19,7 @@ returns : tie.Need-returns
 returns c =
     let count = c .before .args .count in
     let e = ap (λ (k : ℕ). count % k) (c .line-bytes .ensures) in
-    (e, omega (arith, e, mod-le count lineBytes), omega (arith, e, mod-lt count {m = lineBytes} (lit< tt)))
+    (e, omega (arith, e, mod-le count deskLine), omega (arith, e, mod-lt count {m = deskLine} (lit< tt)))
 
 pub part-bytes-spec : {M : Type 1} → statement M
 part-bytes-spec = tie.close (tie.spec line-bytes-requires rem-result returns)

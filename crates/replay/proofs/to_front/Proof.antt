@@ -16,7 +16,8 @@ abbrev μ-loop : tie.MeasureT-loop
 μ-loop buf₀ from to n i₀ buf i = n - i
 
 -- one byte more
-module _ (old buf : List ℕ) (from i : ℕ) (long : length buf ≡ length old) (h : from + i < length old) (t : take i buf ≡ take i (drop from old)) (d : drop i buf ≡ drop i old) where
+module _ (old buf : List ℕ) (from i : ℕ) (long : length buf ≡ length old) (h : from + i < length old) (t : take i buf ≡ take i (drop from old))
+    (d : drop i buf ≡ drop i old) where
   byte : getD buf (from + i) 0 ≡ getD (drop from old) i 0
   byte =
       let e : i + from ≡ from + i = omega arith in
@@ -26,7 +27,8 @@ module _ (old buf : List ℕ) (from i : ℕ) (long : length buf ≡ length old) 
   pub next-take : take (i + 1) (set buf i (getD buf (from + i) 0)) ≡ take (i + 1) (drop from old)
   next-take =
       let room : i < length (drop from old) = rw length-drop (omega arith) in
-      rw (add-one i, take-suc-set buf i (getD buf (from + i) 0) (omega arith), take-suc (drop from old) i 0 room) (ap₂ (λ (l : List ℕ) (b : ℕ). l ++ (b ∷ [])) t byte)
+      rw (add-one i, take-suc-set buf i (getD buf (from + i) 0) (omega arith), take-suc (drop from old) i 0 room)
+      (ap₂ (λ (l : List ℕ) (b : ℕ). l ++ (b ∷ [])) t byte)
 
   pub next-drop : drop (i + 1) (set buf i (getD buf (from + i) 0)) ≡ drop (i + 1) old
   next-drop = drop-set-lt (i + 1) buf i (getD buf (from + i) 0) (omega arith) ∙ sym (drop-drop 1 i buf) ∙ ap (drop 1) d ∙ drop-drop 1 i old

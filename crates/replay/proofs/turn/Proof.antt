@@ -8,8 +8,8 @@ use lib.Dec.{lit<}
 use lib.ListN.{length, take, drop, length-drop}
 use lib.Seq.{length-take-le, take-take, take-add, drop-at, drop-drop}
 use denote.Ref.{now}
-use Rattle.judging.specs.Judging.{JudgingCall, blockJudging}
-use Rattle.replay.specs.Turns.{lineBytes, wholeBytes}
+use Rattle.judging.specs.Judging.{stateOf, blockJudging}
+use Rattle.replay.specs.Turns.{deskLine, wholeBytes}
 use borrow.Author.Needs.{needs}
 use Rattle.replay.proofs.turn.Statement.{statement}
 use Rattle.replay.proofs.turn.Tie as tie
@@ -20,21 +20,21 @@ module _ (old : List ℕ) (from to : ℕ) (h : from ≤ to) (g : to ≤ length o
   bytes = take (to - from) (drop from old)
 
   abbrev end : ℕ
-  end = to - (to - from) % lineBytes
+  end = to - (to - from) % deskLine
 
   pub long : length bytes ≡ to - from
   long = length-take-le (to - from) (drop from old) (rw length-drop (omega arith))
 
   whole-count : wholeBytes bytes ≡ end - from
-  whole-count = rw long (omega (arith, mod-le (to - from) lineBytes))
+  whole-count = rw long (omega (arith, mod-le (to - from) deskLine))
 
   pub whole-is : take (end - from) (drop from old) ≡ take (wholeBytes bytes) bytes
   whole-is = rw whole-count (sym (take-take (end - from) (to - from) (drop from old) (omega arith)))
 
-  pub part-is : take (to - end) (drop end old) ≡ drop (wholeBytes bytes) bytes
-  part-is =
+  pub rest-is : take (to - end) (drop end old) ≡ drop (wholeBytes bytes) bytes
+  rest-is =
       let l : List ℕ = drop from old in
-      let m = mod-le (to - from) lineBytes in
+      let m = mod-le (to - from) deskLine in
       let split : end - from + (to - end) ≡ to - from = omega arith in
       let at : from + (end - from) ≡ end = omega arith in
       let front : length (take (end - from) l) ≡ end - from = length-take-le (end - from) l (rw length-drop (omega arith)) in
@@ -84,18 +84,14 @@ returns c =
     let from = s .args .from in
     let to = s .args .filled .to in
     let (h, g) = s .pre in
-    let (p, q) = rw n at (b .block .ensures) in
+    let after = rw n at (b .block .ensures) in
     let (count, part) = rw n at (f .to-front .ensures) in
-    let m = mod-le (to - from) lineBytes in
-    let call : JudgingCall = blockJudging (s .args .judging) (now (s .args .table)) (take (wholeBytes (bytes old from to h g)) (bytes old from to h g)) in
-    let same : blockJudging (s .args .judging) (now (s .args .table)) (take (end old from to h g - from) (drop from old)) ≡ call =
-    ap (blockJudging (s .args .judging) (now (s .args .table))) (whole-is old from to h g) in
+    let m = mod-le (to - from) deskLine in
     record {
-      judging = p ∙ ap (λ (k : JudgingCall). k .judging) same;
-      table = q ∙ ap (λ (k : JudgingCall). k .table) same;
-      part = part ∙ rw count (part-is old from to h g);
+      state = after ∙ ap (blockJudging (stateOf (s .args .judging) (now (s .args .table)))) (whole-is old from to h g);
+      part = part ∙ rw count (rest-is old from to h g);
       fits = omega (arith, f .to-front .kept .0);
-      short = omega (arith, mod-lt (to - from) {m = lineBytes} (lit< tt));
+      short = omega (arith, mod-lt (to - from) {m = deskLine} (lit< tt));
       filled-last = refl;
     }
 

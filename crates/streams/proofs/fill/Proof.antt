@@ -81,8 +81,13 @@ loop-again c =
     let (long, first, fits, q, none) = l .loop .inv in
     let read = k .read-to .result in
     let (to, same) = k .read-to .ensures in
-    let room = most (read .got) (length (l .loop .buf) - l .loop .filled .to) in
-    (omega arith, omega arith, λ h. omega arith, kept (now (l .before .before .args .buf)) (l .loop .buf) (k .read-to .last .0) first same q, λ h. absurd (omega arith))
+    let room = most (read .got) (length (l .loop .buf) - l .loop .filled .to) in (
+      omega arith,
+      omega arith,
+      λ h. omega arith,
+      kept (now (l .before .before .args .buf)) (l .loop .buf) (k .read-to .last .0) first same q,
+      λ h. absurd (omega arith),
+    )
 
 same-length-2 : tie.Need-same-length-2 Inv-loop μ-loop
 same-length-2 c = c .before .before .loop .inv .0

@@ -39,8 +39,10 @@ returns c =
     let r = k .before .before .before .before in
     let s = r .before .before .before .before in
     let l = length (now (s .args .buf)) in
-    let room : length (r .read .last .1 .0) ≡ l - s .args .at = omega (arith, r .read .kept) in
-    (ap (λ (n : ℕ). s .args .at + n) (k .count .ensures .1 ∙ ap (clamped (toZ w64 (ofZ w64 (r .read .result)))) room), take-put (s .args .at) (l - s .args .at) (now (s .args .buf)) (r .read .last .1 .0) (s .pre))
+    let room : length (r .read .last .1 .0) ≡ l - s .args .at = omega (arith, r .read .kept) in (
+      ap (λ (n : ℕ). s .args .at + n) (k .count .ensures .1 ∙ ap (clamped (toZ w64 (ofZ w64 (r .read .result)))) room),
+      take-put (s .args .at) (l - s .args .at) (now (s .args .buf)) (r .read .last .1 .0) (s .pre),
+    )
 
 pub read-to-spec : {M : Type 1} → statement M
 read-to-spec =

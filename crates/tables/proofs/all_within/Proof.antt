@@ -13,7 +13,7 @@ use mir.Syntax.{w64}
 use mir.Val.{toZ}
 use Rattle.integers.specs.Linear.{read-back}
 use Rattle.integers.specs.Words.{withinZ}
-use Rattle.tables.proofs.Search.{passes, fails}
+use Rattle.tables.proofs.Search.{search-passes, fails}
 use Rattle.tables.proofs.all_within.Statement.{statement}
 use Rattle.tables.proofs.all_within.Tie as tie
 
@@ -54,12 +54,15 @@ loop-less : tie.Need-loop-less Inv-loop μ-loop
 loop-less c = omega arith
 
 loop-again : tie.Need-loop-again Inv-loop μ-loop
-loop-again c = let s = c .before .before .before .before in
-    (omega arith, below-more _ _ (s .loop .inv .1) (simp (toZ-ofZ (s .before .fits .low), toZ-ofZ (s .before .fits .high)) (sym (told (c .before)) ∙ not-false _ (c .if1 .left))))
+loop-again c = let s = c .before .before .before .before in (
+  omega arith,
+  below-more _ _ (s .loop .inv .1) (simp (toZ-ofZ (s .before .fits .low), toZ-ofZ (s .before .fits .high))
+      (sym (told (c .before)) ∙ not-false _ (c .if1 .left))),
+)
 
 returns-2 : tie.Need-returns-2 Inv-loop μ-loop
 returns-2 c = let s = c .before in
-    passes (withinZ (s .before .args .low) (s .before .args .high)) (s .before .args .weights .now) (pos 0)
+    search-passes (withinZ (s .before .args .low) (s .before .args .high)) (s .before .args .weights .now) (pos 0)
     (λ k h. simp (toZ-ofZ (s .before .fits .low), toZ-ofZ (s .before .fits .high)) at (s .loop .inv .1 k (omega arith)))
 
 pub all-within-spec : {M : Type 1} → statement M

@@ -51,7 +51,8 @@ weight-outcome-requires c κs = search needs
 returns-3 : tie.Need-returns-3
 returns-3 c = let s = c .before .before .before in
     let a = s .before .before .before .before .before .before .args in
-    edges-wrong (rulesOf (a .case)) (withinZ (a .low) (a .high)) (a .case) (a .table .now) (a .wrong) (a .out) (right (s .before) .0) (right (s .before) .1) (right (s .before) .2)
+    edges-wrong (rulesOf (a .case)) (withinZ (a .low) (a .high)) (a .case) (a .table .now) (a .wrong) (a .out) (right (s .before) .0) (right (s .before) .1)
+    (right (s .before) .2)
     (sym (c .before .edges .given .1) ∙ s .edge-outcome .ensures)
 
 returns-4 : tie.Need-returns-4
@@ -59,7 +60,8 @@ returns-4 c = let s = c .before .before .before in
     let a = s .before .before .before .before .before .before .args in
     let f = s .before .before .before .before .before .before .fits in
     (simp (toZ-ofZ (f .low), toZ-ofZ (f .high)) at (c .weight-outcome .ensures))
-    ∙ edges-right (rulesOf (a .case)) (withinZ (a .low) (a .high)) (a .case) (a .table .now) (a .wrong) (a .out) (right (s .before) .0) (right (s .before) .1) (right (s .before) .2)
+    ∙ edges-right (rulesOf (a .case)) (withinZ (a .low) (a .high)) (a .case) (a .table .now) (a .wrong) (a .out) (right (s .before) .0) (right (s .before) .1)
+    (right (s .before) .2)
     (sym (c .before .enum-told .given .1) ∙ s .edge-outcome .ensures)
 
 pub check-spec : {M : Type 1} → statement M

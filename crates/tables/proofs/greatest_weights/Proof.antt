@@ -35,12 +35,19 @@ scope-count-requires c κs = let s = c .before .before in limited (s .before .be
 returns-3 : tie.Need-returns-3
 returns-3 c = let s = c .before .before .before .before in
     let a = s .before .before .args in
-    greatest-short (a .case) (a .table .now) (a .best .now) (right s) (c .before .before .if2 .left ∙ c .before .before .before .table-length .ensures) (omega (arith, c .before .scope-count .ensures, c .if3 .taken))
+    greatest-short (a .case) (a .table .now) (a .best .now) (right s) (c .before .before .if2 .left ∙ c .before .before .before .table-length .ensures)
+    (omega (arith, c .before .scope-count .ensures, c .if3 .taken))
 
 write-greatest-requires : tie.Need-write-greatest-requires
 write-greatest-requires c κs = let q = c .before in
-    let s = q .before .before .before .before in
-    (limited (s .before .before .args .case) (right s), (q .before .before .if2 .left ∙ q .before .before .before .table-length .ensures, omega (arith, q .before .scope-count .ensures, q .if3 .left)))
+    let s = q .before .before .before .before in (
+      limited (s .before .before .args .case) (right s),
+      (
+        q .before .before .if2 .left
+            ∙ q .before .before .before .table-length .ensures,
+        omega (arith, q .before .scope-count .ensures, q .if3 .left),
+      ),
+    )
 
 same-length : tie.Need-same-length
 same-length c = search needs
@@ -49,7 +56,8 @@ returns-4 : tie.Need-returns-4
 returns-4 c = let q = c .before .before .before in
     let s = q .before .before .before .before in
     let a = s .before .before .args in
-    let d = greatest-done (a .case) (a .table .now) (a .best .now) (right s) (q .before .before .if2 .left ∙ q .before .before .before .table-length .ensures) (omega (arith, q .before .scope-count .ensures, q .if3 .left)) in
+    let d = greatest-done (a .case) (a .table .now) (a .best .now) (right s) (q .before .before .if2 .left ∙ q .before .before .before .table-length .ensures)
+    (omega (arith, q .before .scope-count .ensures, q .if3 .left)) in
     (d .0, c .before .write-greatest .ensures ∙ d .1)
 
 pub greatest-weights-spec : {M : Type 1} → statement M

@@ -31,8 +31,11 @@ loop-less c = omega arith
 loop-again : tie.Need-loop-again Inv-loop μ-loop
 loop-again c =
     let l = c .before .before in
-    let a = l .before .args in
-    (omega arith, ap₂ (λ a b. a || b) (l .loop .inv .1) (c .same-ends .ensures) ∙ sym (any-next (sameEnds (withEdges 0 (a .lower .now) (a .upper .now)) (a .e)) (l .loop .f)))
+    let a = l .before .args in (
+      omega arith,
+      ap₂ (λ a b. a || b) (l .loop .inv .1) (c .same-ends .ensures)
+          ∙ sym (any-next (sameEnds (withEdges 0 (a .lower .now) (a .upper .now)) (a .e)) (l .loop .f)),
+    )
 
 returns : tie.Need-returns Inv-loop μ-loop
 returns c =

@@ -28,12 +28,14 @@ part-result-start : tie.Need-part-result-start
 part-result-start c = search needs
 
 part-result-end : tie.Need-part-result-end
-part-result-end c = let a = c .before .before .args in omega (arith, c .before .first-place .ensures, c .size-of .ensures, part-own (a .case) (a .x) (omega arith))
+part-result-end c = let a = c .before .before .args in omega
+    (arith, c .before .first-place .ensures, c .size-of .ensures, part-own (a .case) (a .x) (omega arith))
 
 returns : tie.Need-returns
 returns c = let s = c .before .before in
     let a = s .before .args in
-    let e : (s .first-place .result + c .before .size-of .result) - s .first-place .result ≡ sizeOf (a .case) (a .x) = omega (arith, c .before .size-of .ensures) in
+    let e : (s .first-place .result + c .before .size-of .result) - s .first-place .result ≡ sizeOf (a .case) (a .x) =
+    omega (arith, c .before .size-of .ensures) in
     ap₂ (λ n p. take n (drop p (a .table .now))) e (s .first-place .ensures)
 
 pub scope-part-spec : {M : Type 1} → statement M

@@ -21,17 +21,17 @@ abbrev μ-loop : tie.MeasureT-loop
 loop-holds : tie.Need-loop-holds Inv-loop μ-loop
 loop-holds c = (omega arith, λ k h. absurd (omega arith))
 
-shared-slice-read-wide : tie.Need-shared-slice-read-wide Inv-loop μ-loop
-shared-slice-read-wide c = omega arith
+shared-slice-read-wide-size : tie.Need-shared-slice-read-wide-size Inv-loop μ-loop
+shared-slice-read-wide-size c = omega arith
 
-wide-requires : tie.Need-wide-requires Inv-loop μ-loop
-wide-requires c κs = search needs
+wide-size-requires : tie.Need-wide-size-requires Inv-loop μ-loop
+wide-size-requires c κs = search needs
 
 returns : tie.Need-returns Inv-loop μ-loop
 returns c = let s = c .before .before .before .before in
     let a = s .before .before .args in
     found-at (λ k. not (ltb k (a .d))) (a .values .now) 0 (s .loop .i) (omega arith)
-    (ap not (le-ltb (getD (a .values .now) (s .loop .i) 0) (a .d) (omega (arith, c .before .wide .ensures))))
+    (ap not (le-ltb (getD (a .values .now) (s .loop .i) 0) (a .d) (omega (arith, c .before .wide-size .ensures))))
 
 add-i : tie.Need-add-i Inv-loop μ-loop
 add-i c = omega arith
@@ -41,8 +41,11 @@ loop-less c = omega arith
 
 loop-again : tie.Need-loop-again Inv-loop μ-loop
 loop-again c = let s = c .before .before .before .before in
-    let a = s .before .before .args in
-    (omega arith, below-more _ _ (s .loop .inv .1) (ap not (lt-ltb (getD (a .values .now) (s .loop .i) 0) (a .d) (omega (arith, c .before .wide .ensures)))))
+    let a = s .before .before .args in (
+      omega arith,
+      below-more _ _ (s .loop .inv .1) (ap not (lt-ltb (getD (a .values .now) (s .loop .i) 0) (a .d)
+          (omega (arith, c .before .wide-size .ensures)))),
+    )
 
 returns-2 : tie.Need-returns-2 Inv-loop μ-loop
 returns-2 c = let s = c .before in
@@ -56,8 +59,8 @@ some-beyond-spec =
     Inv-loop
     μ-loop
     loop-holds
-    shared-slice-read-wide
-    wide-requires
+    shared-slice-read-wide-size
+    wide-size-requires
     returns
     add-i
     loop-less

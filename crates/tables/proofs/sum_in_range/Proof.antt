@@ -14,7 +14,7 @@ use Rattle.integers.specs.Linear.{read-back}
 use Rattle.integers.specs.Tests.{true-is}
 use Rattle.integers.specs.Sums.{Σ}
 use Rattle.definitions.specs.declared.Figure.{Figure}
-use Rattle.definitions.specs.Rules.{rulesIn, rulesOf, coherent, scopesAtMost}
+use Rattle.definitions.specs.Rules.{rulesIn, rulesOf, coherent}
 use Rattle.definitions.specs.Valid.{workingWeight}
 use Rattle.tables.specs.Scopes.{bestAt}
 use Rattle.tables.proofs.Bounds.{sum-more, sum-fits, sum-given, sum-refused}
@@ -22,7 +22,8 @@ use Rattle.tables.proofs.sum_in_range.Statement.{statement}
 use Rattle.tables.proofs.sum_in_range.Tie as tie
 
 abbrev Inv-loop : tie.InvT-loop
-Inv-loop best scopes rulebook sum₀ x₀ sum x = (x ≤ scopes) × ((y : ℕ) → y < x → T (workingWeight (rulesIn rulebook) (bestAt best y))) × (toZ w64 sum ≡ Σ (bestAt best) 0 x)
+Inv-loop best scopes rulebook sum₀ x₀ sum x =
+    (x ≤ scopes) × ((y : ℕ) → y < x → T (workingWeight (rulesIn rulebook) (bestAt best y))) × (toZ w64 sum ≡ Σ (bestAt best) 0 x)
 
 abbrev μ-loop : tie.MeasureT-loop
 μ-loop best scopes rulebook sum₀ x₀ sum x = scopes - x

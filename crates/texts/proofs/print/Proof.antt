@@ -55,12 +55,14 @@ after2 c = let s = to0 (to1 c) in
 after3 : (c : tie.After-put2) → let s = to0 (to1 (to2 c)) in Printed ((word s ++ first s) ++ bytesOf " ") (out s) (c .put2 .last .0) (c .put2 .result)
 after3 c = printed-next (after2 (to2 c)) (bytesOf " ") (c .put2 .ensures .0) (c .put2 .ensures .1)
 
-after4 : (c : tie.After-put-number2) → let s = to0 (to1 (to2 (to3 c))) in Printed (((word s ++ first s) ++ bytesOf " ") ++ second s) (out s) (c .put-number2 .last .0) (c .put-number2 .result)
+after4 : (c : tie.After-put-number2) → let s =
+    to0 (to1 (to2 (to3 c))) in Printed (((word s ++ first s) ++ bytesOf " ") ++ second s) (out s) (c .put-number2 .last .0) (c .put-number2 .result)
 after4 c = let s = to0 (to1 (to2 (to3 c))) in
     let e = rw (same (s .args .b) (s .fits .b)) at (c .put-number2 .ensures) in
     printed-next (after3 (to3 c)) (second s) (e .0) (e .1)
 
-after5 : (c : tie.After-put3) → let s = to0 (to1 (to2 (to3 (to4 c)))) in Printed ((((word s ++ first s) ++ bytesOf " ") ++ second s) ++ bytesOf "\n") (out s) (c .put3 .last .0) (c .put3 .result)
+after5 : (c : tie.After-put3) → let s =
+    to0 (to1 (to2 (to3 (to4 c)))) in Printed ((((word s ++ first s) ++ bytesOf " ") ++ second s) ++ bytesOf "\n") (out s) (c .put3 .last .0) (c .put3 .result)
 after5 c = printed-next (after4 (to4 c)) (bytesOf "\n") (c .put3 .ensures .0) (c .put3 .ensures .1)
 
 put-requires : tie.Need-put-requires
@@ -97,7 +99,8 @@ put-requires-3 : tie.Need-put-requires-3
 put-requires-3 c κs =
     let k = c .before .before .before .before in
     let s = to0 (to1 (to2 (to3 k))) in
-    room-left (after4 k) 1 (simp length-append (omega (arith, s .pre .0, s .pre .1, number-length (s .args .a) (s .fits .a), number-length (s .args .b) (s .fits .b))))
+    room-left (after4 k) 1
+    (simp length-append (omega (arith, s .pre .0, s .pre .1, number-length (s .args .a) (s .fits .a), number-length (s .args .b) (s .fits .b))))
 
 same-length : tie.Need-same-length
 same-length c = search needs

@@ -22,13 +22,17 @@ module _ (k : tie.After-write-number) where
   abbrev z : ℤ
   z = s .args .z
 
-  filled : (k .write-number .result ≡ Written.Bytes (length (numberText z))) × (k .write-number .last .0 ≡ overwritten (numberText z) (drop (s .args .at) (now (s .args .out))))
+  filled : (k .write-number .result ≡ Written.Bytes (length (numberText z)))
+      × (k .write-number .last .0 ≡ overwritten (numberText z) (drop (s .args .at) (now (s .args .out))))
   filled =
       let rest = drop (s .args .at) (now (s .args .out)) in
       let room : length (numberText z) ≤ length rest = omega (arith, length-drop (s .args .at) (now (s .args .out))) in
       let e = number-done rest z room in
-      let (p, q) = k .write-number .ensures in
-      (p ∙ rw (part-is (s .args .at) (now (s .args .out)), same z (s .fits .z)) (ap (λ r. r .answer) e), q ∙ rw (part-is (s .args .at) (now (s .args .out)), same z (s .fits .z)) (ap (λ r. r .out) e))
+      let (p, q) = k .write-number .ensures in (
+        p ∙ rw (part-is (s .args .at) (now (s .args .out)), same z (s .fits .z)) (ap (λ r. r .answer) e),
+        q
+            ∙ rw (part-is (s .args .at) (now (s .args .out)), same z (s .fits .z)) (ap (λ r. r .out) e),
+      )
 
 bytes-same : {r : Written} {m n : ℕ} → r ≡ Written.Bytes m → r ≡ Written.Bytes n → m ≡ n
 bytes-same p q = cc
@@ -67,8 +71,11 @@ same-length c = search needs
 returns : tie.Need-returns
 returns c =
     let k = c .before .before .before .before .before in
-    let t = s k in
-    (ap (λ (n : ℕ). t .args .at + n) (count (c .before)), part-placed (t .args .at) (now (t .args .out)) (numberText (t .args .z)) (k .write-number .last .0) (filled k .1) (omega arith))
+    let t = s k in (
+      ap (λ (n : ℕ). t .args .at + n) (count (c .before)),
+      part-placed (t .args .at) (now (t .args .out)) (numberText (t .args .z)) (k .write-number .last .0)
+          (filled k .1) (omega arith),
+    )
 
 same-length-2 : tie.Need-same-length-2
 same-length-2 c = search needs

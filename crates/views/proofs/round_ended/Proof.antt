@@ -8,7 +8,14 @@ use Rattle.views.proofs.round_ended.Tie as tie
 mul-t6 : tie.Need-mul-t6
 mul-t6 c =
     let a = c .before .args in
-    record { fits = omega (arith, c .before .pre .2, fewer-within (a .long) (a .from) (a .at + 1) ((a .at + 1) * a .long) (omega (arith, c .before .pre .0)) (omega arith)) }
+    record {
+      fits = omega (
+        arith,
+        c .before .pre .2,
+        fewer-within (a .long) (a .from) (a .at + 1) ((a .at + 1) * a .long) (omega (arith, c .before .pre .0))
+            (omega arith),
+      );
+    }
 
 add-t7 : tie.Need-add-t7
 add-t7 c = search needs

@@ -20,10 +20,12 @@ firstByte (Span.Part from to) = from
 firstByte (Span.Refused x at) = 0
 
 -- the span that was found is the round's
-found : (c : tie.After-round-span) {x : Span} → c .round-span .result ≡ x → let a = c .before .before .args in x ≡ roundSpan (rulesIn Desk) (now (a .log)) (a .round)
+found : (c : tie.After-round-span) {x : Span} → c .round-span .result ≡ x → let a =
+    c .before .before .args in x ≡ roundSpan (rulesIn Desk) (now (a .log)) (a .round)
 found c e = sym e ∙ c .round-span .ensures
 
-within : (c : tie.After-known-told) → (c .before .span .given .0 .0 ≤ c .before .span .given .0 .1 .0) × (c .before .span .given .0 .1 .0 ≤ length (now (c .before .before .before .before .before .args .log)))
+within : (c : tie.After-known-told) → (c .before .span .given .0 .0 ≤ c .before .span .given .0 .1 .0)
+    × (c .before .span .given .0 .1 .0 ≤ length (now (c .before .before .before .before .before .args .log)))
 within c =
     let s = c .before .before .before in
     let a = s .before .before .args in

@@ -39,8 +39,11 @@ step-at-requires : tie.Need-step-at-requires Inv-loop μ-loop
 step-at-requires c κs =
     let l = c .before in
     let a = l .before .before .args in
-    let long = lineLength (a .width) in
-    (omega arith, fewer-within long (l .loop .at + 1) (length (now (a .log)) / long) (length (now (a .log))) (omega arith) (div-mul-le-self (length (now (a .log))) long))
+    let long = lineLength (a .width) in (
+      omega arith,
+      fewer-within long (l .loop .at + 1) (length (now (a .log)) / long) (length (now (a .log))) (omega arith)
+          (div-mul-le-self (length (now (a .log))) long),
+    )
 
 enum-known-step : tie.Need-enum-known-step Inv-loop μ-loop
 enum-known-step c = search needs
@@ -88,7 +91,8 @@ loop-again c =
       omega arith,
       refl,
       on-inside (a .width) (l .loop .at) (c .before .step2 .given .0 .0) (c .before .step2 .given .0 .1 .0) (sym (t .step-at .ensures) ∙ e)
-          (passed-inside (a .width) (l .loop .at) (l .loop .from) (l .loop .inv .2) (readLineAt (a .width) (take long (drop (l .loop .at * long) log))) (l .loop .left)),
+          (passed-inside (a .width) (l .loop .at) (l .loop .from) (l .loop .inv .2) (readLineAt (a .width) (take long (drop (l .loop .at * long) log)))
+          (l .loop .left)),
       ap (resumed (spanAt (a .width) log (length log / long) (l .loop .at + 1))) (sym e) ∙ stepped t,
     )
 

@@ -20,7 +20,8 @@ returns c = let a = c .before .before .before .args in sym (ap (endStanding (rul
 
 returns-2 : tie.Need-returns-2
 unfolding endReplay
-returns-2 c = let a = c .before .before .before .args in c .end-good .ensures ∙ sym (ap (endStanding (rulesOf (a .case)) (a .case) (a .self)) (c .before .enum-told .given .1))
+returns-2 c = let a = c .before .before .before .args in
+    c .end-good .ensures ∙ sym (ap (endStanding (rulesOf (a .case)) (a .case) (a .self)) (c .before .enum-told .given .1))
 
 pub end-spec : {M : Type 1} → statement M
 end-spec = tie.close (tie.spec enum-known-standing enum-told end-good-requires returns returns-2)

@@ -1,78 +1,63 @@
-use mathlib.Core.Path.{sym, ap, _∙_}
-use Prim.Native.Nat.{_≤_}
-use native.Mathlib.Omega.{arith}
-use lib.ListN.{length}
-use lib.Seq.{length-take-le}
-use Rattle.checker.specs.Checker.{BlockCall}
-use Rattle.checker.specs.Taken.{lineBytes}
-use Rattle.checker.proofs.Fold.{block-none, first-done, first-refused}
+use mathlib.Core.Path.{_≡_, sym, ap, _∙_}
+use mathlib.Core.Option.{none}
+use Rattle.definitions.specs.Rules.{rulesOf}
+use Rattle.tables.proofs.Order.{outcome-done, outcome-refused}
+use Rattle.checker.specs.Checker.{BlockCall, lentStanding}
+use Rattle.checker.proofs.Front.{good-known}
+use Rattle.checker.proofs.Fold.{block-good}
 use borrow.Author.Needs.{needs}
 use Rattle.checker.proofs.Replay.lines.Statement.{statement}
 use Rattle.checker.proofs.Replay.lines.Tie as tie
 
-line-length-requires : tie.Need-line-length-requires
-line-length-requires c κs = search needs
+abbrev start : tie.After-lent-answer → tie.Start
+start c = c .before .before .before
 
-no-line-requires : tie.Need-no-line-requires
-no-line-requires c κs = search needs
+-- nothing applies to what was handed over
+right : (c : tie.After-enum-told) → let a = start (c .before .before) .args in
+    lentStanding (rulesOf (a .case)) (a .case) (a .table .now) (a .self) (a .self .standing) ≡ none
+right c = outcome-done (sym (c .enum-told .given .1) ∙ c .before .before .lent-answer .ensures)
+
+lent-answer-requires : tie.Need-lent-answer-requires
+lent-answer-requires c κs = search needs
+
+enum-known-lent : tie.Need-enum-known-lent
+enum-known-lent c = search needs
+
+refused-lines-requires : tie.Need-refused-lines-requires
+refused-lines-requires c κs = search needs
+
+enum-told : tie.Need-enum-told
+enum-told c = search needs
+
+good-lines-requires : tie.Need-good-lines-requires
+good-lines-requires c κs = let a = start (c .before .before .before) .args in
+    let (h, g, r) = good-known (a .case) (a .table .now) (a .self) (right (c .before)) in (h, (g, r))
 
 same-length : tie.Need-same-length
 same-length c = search needs
 
 returns : tie.Need-returns
-returns c = let a = c .before .before .before .before .before .args in
-    let (e, d) = block-none (a .case) (a .table .now) (a .self) (a .bytes .now) (omega (arith, c .before .before .before .line-length .ensures, c .before .before .if1 .taken)) in (c .no-line .ensures ∙ sym e, sym d)
-
-slice-aggregate-step : tie.Need-slice-aggregate-step
-slice-aggregate-step c = sym (length-take-le (c .before .before .before .line-length .result) (c .before .before .before .before .before .args .bytes .now) (c .before .before .if1 .left))
-
-step-requires : tie.Need-step-requires
-step-requires c κs = search needs
-
-enum-told : tie.Need-enum-told
-enum-told c = search needs
-
-enum-told-2 : tie.Need-enum-told-2
-enum-told-2 c = search needs
-
-good-lines-requires : tie.Need-good-lines-requires
-good-lines-requires c κs = let a = c .before .before .before .before .before .before .before .before .before .before .before .args in let w = a .table .now in let line = c .before .before .before .before .before .before .before .before .before .line-length in
-    let long : lineBytes (a .case) ≤ length (a .bytes .now) = omega (arith, line .ensures, c .before .before .before .before .before .before .before .before .if1 .left) in
-    let s = rw (line .ensures) at (c .before .before .before .before .before .step .ensures) in
-    let k = first-done (a .case) w (a .self) (a .bytes .now) long (c .before .before .before .before .before .step .result) _ (s .0) (s .1) (c .before .enum-told2 .given .1) in (k .1, (k .3, k .2, long))
+returns c = let k = c .before .before .before .before in let a = start k .args in
+    c .refused-lines .ensures (a .table .now) (outcome-refused (sym (c .before .before .lent .given .1) ∙ k .lent-answer .ensures))
 
 same-length-2 : tie.Need-same-length-2
 same-length-2 c = search needs
 
 returns-2 : tie.Need-returns-2
-returns-2 c = let a = c .before .before .before .before .before .before .before .before .before .before .args in let w = a .table .now in let line = c .before .before .before .before .before .before .before .before .line-length in
-    let long : lineBytes (a .case) ≤ length (a .bytes .now) = omega (arith, line .ensures, c .before .before .before .before .before .before .before .if1 .left) in
-    let s = rw (line .ensures) at (c .before .before .before .before .step .ensures) in
-    let e = first-refused (a .case) w (a .self) (a .bytes .now) long (c .before .before .before .before .step .result) _ (s .0) (s .1) (c .enum-told .given .1) in (sym (ap (λ (x : BlockCall). x .block) e), sym (ap (λ (x : BlockCall). x .table) e))
-
-same-length-3 : tie.Need-same-length-3
-same-length-3 c = search needs
-
-returns-3 : tie.Need-returns-3
-returns-3 c = let a = c .before .before .before .before .before .before .before .before .before .before .before .before .before .args in let w = a .table .now in let line = c .before .before .before .before .before .before .before .before .before .before .before .line-length in
-    let long : lineBytes (a .case) ≤ length (a .bytes .now) = omega (arith, line .ensures, c .before .before .before .before .before .before .before .before .before .before .if1 .left) in
-    let s = rw (line .ensures) at (c .before .before .before .before .before .before .before .step .ensures) in
-    let e = first-done (a .case) w (a .self) (a .bytes .now) long (c .before .before .before .before .before .before .before .step .result) _ (s .0) (s .1) (c .before .before .before .enum-told2 .given .1) .0 in (c .before .good-lines .ensures .0 ∙ sym (ap (λ (x : BlockCall). x .block) e), c .before .good-lines .ensures .1 ∙ sym (ap (λ (x : BlockCall). x .table) e))
+returns-2 c = let k = c .before .before .before in let a = start (k .before .before) .args in
+    let e = sym (block-good (a .case) (a .table .now) (a .self) (a .bytes .now) (right k)) in
+    (c .before .good-lines .ensures .0 ∙ ap (λ (x : BlockCall). x .block) e, c .before .good-lines .ensures .1 ∙ ap (λ (x : BlockCall). x .table) e)
 
 pub lines-spec : {M : Type 1} → statement M
 lines-spec =
     tie.close
     (tie.spec
-    line-length-requires
-    no-line-requires
+    lent-answer-requires
+    enum-known-lent
+    refused-lines-requires
+    enum-told
+    good-lines-requires
     same-length
     returns
-    slice-aggregate-step
-    step-requires
-    enum-told
-    enum-told-2
-    good-lines-requires
     same-length-2
-    returns-2
-    same-length-3
-    returns-3)
+    returns-2)

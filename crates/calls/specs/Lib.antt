@@ -1,0 +1,5 @@
+-- The library's calls on all input: what each answers and leaves in everything lent.
+pub mod Calls
+pub mod EngineCalls
+pub mod CallSamples
+pub mod CallBorders

@@ -1,0 +1,3 @@
+-- Laws that the proofs of readers and writers cite.
+pub mod Tests
+pub mod Dues

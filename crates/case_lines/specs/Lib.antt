@@ -1,0 +1,2 @@
+-- The lines of a case after its head.
+pub mod Dues

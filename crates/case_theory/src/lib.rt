@@ -1,0 +1,1 @@
+// Case texts, read and written: see proofs/. There is no code here.

@@ -1,0 +1,65 @@
+// The head: the sizes that it says.
+use crate::columns;
+use definitions::CaseSize;
+use definitions::Line;
+use definitions::Refusal;
+use definitions::Rulebook;
+ghost use mathlib.Core.Path.{_≡_};
+ghost use mathlib.Core.Option.{none, some};
+ghost use Prim.Native.Nat.{_+_, _*_, _≤_, _<_};
+ghost use lib.IntN.{pos};
+ghost use Rattle.integers.specs.Words.{withinZ};
+ghost use Rattle.definitions.specs.Rules.{rulesIn, edgePlaces};
+ghost use Rattle.definitions.specs.Refusals.{firstOf};
+ghost use Rattle.definitions.specs.CaseFiles.{headTests};
+ghost use Rattle.casefile.specs.Reads.{limitsZ, Few, headAnswer};
+
+fn in_limit(z: i64, low: i64, most: usize) -> bool
+    requires { ⌜ most < 65536 ⌝ }
+    ensures { λ r. ⌜ r ≡ withinZ low (pos most) z ⌝ }
+{
+    columns::is_between(z, low, most as i64)
+}
+
+fn head_limited(rulebook: Rulebook, line: Line) -> bool
+    ensures { λ r. ⌜ r ≡ limitsZ rulebook (line .a) (line .b) (line .c) ⌝ }
+{
+    in_limit(line.a, 1, rules::variables(rulebook))
+        & in_limit(line.b, 1, rules::values(rulebook))
+        & in_limit(line.c, 0, rules::edges(rulebook))
+}
+
+fn sized(n: usize, d: usize, m: usize) -> CaseSize
+    requires { ⌜ (n ≤ 256) × (d ≤ 8) × (m ≤ edgePlaces) ⌝ }
+    ensures { λ r. ⌜ r ≡ CaseSize.Size n d m (n * d + m * (d * d)) ⌝ }
+{
+    CaseSize::Size {
+        n,
+        d,
+        m,
+        table: n * d + m * (d * d),
+    }
+}
+
+fn head_size(line: Line) -> CaseSize
+    requires { ⌜ Few 256 (line .a) × Few 8 (line .b) × Few edgePlaces (line .c) ⌝ }
+    ensures { λ r. ⌜ r ≡ headAnswer none line ⌝ }
+{
+    sized(
+        columns::count_of(line.a),
+        columns::count_of(line.b),
+        columns::count_of(line.c),
+    )
+}
+
+pub(crate) fn head_answer(rulebook: Rulebook, line: Line) -> CaseSize
+    ensures { λ r. ⌜ r ≡ headAnswer (firstOf (headTests (rulesIn rulebook) (some line))) line ⌝ }
+{
+    if !columns::is_of_kind(line, 10, true, false) {
+        return CaseSize::Refused(Refusal::NotDue);
+    }
+    if !head_limited(rulebook, line) {
+        return CaseSize::Refused(Refusal::OutsideLimits);
+    }
+    head_size(line)
+}

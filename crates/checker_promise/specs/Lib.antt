@@ -1,0 +1,2 @@
+-- The checker's promise.
+pub mod Lists

@@ -1,1 +1,0 @@
-// Laws of the replay's definitions: see proofs/. There is no code here.

@@ -1,0 +1,95 @@
+-- Demand 3 of the tender as one statement, clause by clause, in the tender's order, each clause quoted above what says it. Its first half is
+-- the checker's promise (checker_promise, Lists.LinesTrusted), over which the engine's stands. The statement is about the definitions that the
+-- contracts of the library's functions name: those of Replay::fresh, step and end; `roundCall` and `runCall` at `engineNext` of the engine's
+-- round and run. engine's proofs/Demand3 proves it for every valid case. Assumes nothing.
+use mathlib.Core.Path.{_≡_}
+use mathlib.Core.Bool.{false}
+use mathlib.Core.Logic.{_↔_, _⊎_}
+use mathlib.Core.List.{List, []}
+use Prim.Native.Nat.{ℕ, suc, _≤_}
+use lib.IntN.{ℤ, pos, _-ℤ_}
+use lib.Dec.{T}
+use lib.Signed.{_≤ℤ_}
+use lib.ListN.{length, take}
+use Rattle.integers.specs.Words.{joined}
+use Rattle.definitions.specs.declared.Case.{Case}
+use Rattle.definitions.specs.declared.Refusal.{Refusal}
+use Rattle.definitions.specs.declared.Round.{Round}
+use Rattle.definitions.specs.declared.RunAnswer.{RunAnswer}
+use Rattle.definitions.specs.Rules.{Rules, rulesOf}
+use Rattle.definitions.specs.Valid.{valid}
+use Rattle.definitions.specs.Answers.{runSays}
+use Rattle.definitions.specs.Case.{isAssignment, objective, upperBound}
+use Rattle.definitions.specs.Lines.{linesIn, hasPart}
+use Rattle.definitions.specs.Engine.{Settled, engineNext, roundBytes, RunOf, run}
+use Rattle.calls.specs.EngineCalls.{RunCall, answerAtLimit, roundCall, stopRun, runCall}
+use Rattle.checker.specs.Checker.{afterLines}
+use Rattle.checker_promise.specs.Lists.{begun, Accepted, ReplayTrusted}
+use Rattle.engine_theory.specs.Runs.{boundLines, roundTexts, writtenInTurn, preceded}
+
+-- "For every limit, a run from the starting weights": q is document 01's run, u the library's on a lent output, `log` the lines of its log
+pub record RunTrusted (r : Rules) (c : Case) (w : List ℤ) (limit : ℕ) (out : List ℕ) (q : RunOf) (u : RunCall) (log : List (List ℕ)) : Type 0 where
+  -- "makes the rounds" (L7): as many, with the same lines and the same weights, written from the output's first byte one after another
+  pub rounds : u .run .rounds ≡ q .rounds
+  pub weights : u .table ≡ q .weights
+  pub bound : u .run .bound ≡ upperBound c (u .table)
+  pub lines : u .log ≡ joined (q .log)
+  pub round-lines : q .log ≡ joined (roundTexts r engineNext c limit w)
+  pub round-count : length (roundTexts r engineNext c limit w) ≡ u .run .rounds
+  pub output : u .out ≡ writtenInTurn (roundTexts r engineNext c limit w) out
+  -- "and gives the answer of document 01's run," (L7)
+  pub answer : runSays (u .run .answer) ≡ runSays (q .answer)
+  -- which is settled exactly where every variable has an active value with a supported family, and limit exactly where as many rounds as the
+  -- limit were made and it is not settled (L9a); it is never refused (L10)
+  pub settled : u .run .answer ≡ RunAnswer.Settled ↔ Settled c (u .table)
+  pub limited : u .run .answer ≡ RunAnswer.Limit ↔ (u .run .rounds ≡ limit) × (Settled c (u .table) → ⊥)
+  pub unrefused : (u .run .answer ≡ RunAnswer.Settled) ⊎ (u .run .answer ≡ RunAnswer.Limit)
+  pub within : u .run .rounds ≤ limit
+  -- "and its log, replayed from them, is accepted" (L8), with no part of a line left over
+  pub log-whole : hasPart (r .amountWidth) (u .log) ≡ false
+  pub log-accepted : Accepted r c w log
+  -- "with the run's own rounds, ceiling and working weights;"
+  pub log-rounds : afterLines r (begun r c w) log .replay .rounds ≡ u .run .rounds
+  pub log-bound : upperBound c (afterLines r (begun r c w) log .table) ≡ u .run .bound
+  pub log-weights : afterLines r (begun r c w) log .table ≡ u .table
+  -- and so its upper bound is at least every assignment's starting objective
+  pub bound-least : (p : List ℕ) → T (isAssignment c p) → objective c w p ≤ℤ u .run .bound
+  -- "where the limit is at least that difference for the best plan (no other has a greater starting total), the run ends settled." (L9), said
+  -- of any plan, and so of the best
+  pub settles : (p : List ℕ) → T (isAssignment c p) → (upperBound c w -ℤ objective c w p) ≤ℤ pos limit → u .run .answer ≡ RunAnswer.Settled
+
+-- "A run makes its rounds one after another on the tables it is lent, each writing its lines from the output's first byte; the run's log is
+-- all these lines joined in order. It hands back its number of rounds and its ceiling. Where a round is refused, the earlier rounds stand."
+-- (document 01; L9b): for every limit, every table, whatever it holds, and every output
+pub record RunIterates (r : Rules) (c : Case) : Type 0 where
+  pub made : (limit : ℕ) (w : List ℤ) (out : List ℕ) {bytes : ℕ} {bound : ℤ} → roundCall r engineNext c w out .answer ≡ Round.Made bytes bound
+      → runCall r engineNext c (suc limit) w out
+      ≡ preceded 1 (take bytes (roundCall r engineNext c w out .out))
+      (runCall r engineNext c limit (roundCall r engineNext c w out .table) (roundCall r engineNext c w out .out))
+  pub settled : (limit : ℕ) (w : List ℤ) (out : List ℕ) → roundCall r engineNext c w out .answer ≡ Round.Settled
+      → runCall r engineNext c (suc limit) w out ≡ stopRun r engineNext c RunAnswer.Settled 0 w out []
+  pub refused : (limit : ℕ) (w : List ℤ) (out : List ℕ) {x : Refusal} → roundCall r engineNext c w out .answer ≡ Round.Refused x
+      → runCall r engineNext c (suc limit) w out ≡ stopRun r engineNext c (RunAnswer.Refused x) 0 w out []
+  pub no-round : (w : List ℤ) (out : List ℕ) → runCall r engineNext c 0 w out
+      ≡ stopRun r engineNext c (answerAtLimit (roundCall r engineNext c w out .answer)) 0 w out []
+  -- a round that was made hands back the upper bound of the table that it left; settled or refused, it leaves table and output as they were
+  pub round-bound : (w : List ℤ) (out : List ℕ) {bytes : ℕ} {bound : ℤ} → roundCall r engineNext c w out .answer ≡ Round.Made bytes bound
+      → bound ≡ upperBound c (roundCall r engineNext c w out .table)
+  pub unmade : (w : List ℤ) (out : List ℕ) → ((bytes : ℕ) (bound : ℤ) → roundCall r engineNext c w out .answer ≡ Round.Made bytes bound → ⊥)
+      → (roundCall r engineNext c w out .table ≡ w) × (roundCall r engineNext c w out .out ≡ out)
+  -- its rounds are as many as the bound lines written
+  pub bound-lines : (limit : ℕ) (w : List ℤ) (out : List ℕ)
+      → length (boundLines r (linesIn (r .amountWidth) (runCall r engineNext c limit w out .log))) ≡ runCall r engineNext c limit w out .run .rounds
+
+-- demand 3 whole (L11)
+pub record Demand3 (r : Rules) (c : Case) (w : List ℤ) : Type 0 where
+  pub any-lines : ReplayTrusted r c w
+  -- "In demand 3 a run is lent what number 4 asks" (document 01)
+  pub any-run : (limit : ℕ) (out : List ℕ) → roundBytes r c ≤ length out
+      → RunTrusted r c w limit out (run r engineNext c limit w) (runCall r engineNext c limit w out)
+      (linesIn (r .amountWidth) (runCall r engineNext c limit w out .log))
+  pub any-table : RunIterates r c
+
+-- "For every valid case", by the rules it is under
+abbrev pub Guarantee : Type 0
+Guarantee = (c : Case) (w : List ℤ) → T (valid (rulesOf c) c w) → Demand3 (rulesOf c) c w

@@ -1,0 +1,2 @@
+-- Demand 3 as one statement.
+pub mod Demand3

@@ -1,0 +1,2 @@
+-- Laws of supported families, of the largest one, and of the network of a case.
+pub mod Networks
