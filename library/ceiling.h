@@ -21,7 +21,7 @@ extern "C" {
 #endif
 
 /* The version that this header is of: major * 10000 + minor * 100 + patch. */
-#define CEILING_VERSION 10000
+#define CEILING_VERSION 10100
 
 /* The most links, channels and pairs of a case, and the bytes of a line. */
 #define CEILING_LINKS 48
@@ -33,8 +33,9 @@ extern "C" {
 #define CEILING_CASE (24 + 2 * CEILING_PAIRS)
 #define CEILING_RECORD (52 + CEILING_LINKS + CEILING_PAIRS)
 
-/* Room for the lines of any round. */
-#define CEILING_ROOM (CEILING_LINE * (CEILING_LINKS + CEILING_PAIRS + 1))
+/* Room for the lines of any round: a line for each link and pair, two for each channel and one more. The engine's functions ask for that much by
+ * the case's own counts, also where nothing is written. */
+#define CEILING_ROOM (CEILING_LINE * (CEILING_LINKS + CEILING_PAIRS + 2 * CEILING_CHANNELS + 1))
 
 /* No call takes more bytes of stack. */
 #define CEILING_STACK 16384
@@ -89,13 +90,16 @@ struct ceiling_rounds_answer ceiling_replay_end(const uint8_t case_bytes[CEILING
 /* Where a round's lines lie in a log, from the first byte to before `to`; or the refusal and its line. */
 struct ceiling_span_answer ceiling_round_span(const uint8_t *log, size_t log_length, uint64_t round);
 
-/* ---- the engine */
+/* ---- the engine
+ *
+ * A pair gains if the greatest weights of the pair and its two links add up to more than these three weights do for any two channels. Its round
+ * shifts the links' weights into the pair, which keeps every plan's total. A pair whose round would leave the working range is passed over. */
 
 /* The version of libengine_library.a. */
 uint64_t ceiling_engine_version(void);
 
-/* One round: its lines from the output's first byte, how many bytes, and the ceiling. No bytes and number 0: settled, and `bound` says
- * nothing then: ask ceiling_upper_bound. */
+/* One round, of the lowest pair that gains and is not passed over, or else a press: its lines from the output's first byte, how many bytes, and
+ * the ceiling. No bytes and number 0: settled, and `bound` says nothing then: ask ceiling_upper_bound. */
 struct ceiling_round_answer ceiling_round(const uint8_t case_bytes[CEILING_CASE], int64_t *table, size_t table_length,
                                           uint8_t *out, size_t out_length);
 
@@ -103,6 +107,10 @@ struct ceiling_round_answer ceiling_round(const uint8_t case_bytes[CEILING_CASE]
  * Refused by 11, the earlier rounds stand. */
 struct ceiling_run_answer ceiling_run(const uint8_t case_bytes[CEILING_CASE], int64_t *table, size_t table_length,
                                       uint8_t *out, size_t out_length, uint64_t limit);
+
+/* The same with pair rounds only: settled where no pair gains but those passed over, also where a press is left. Never refused by 11. */
+struct ceiling_run_answer ceiling_run_pairs(const uint8_t case_bytes[CEILING_CASE], int64_t *table, size_t table_length,
+                                            uint8_t *out, size_t out_length, uint64_t limit);
 
 /* ---- null pointers
  *
@@ -178,6 +186,13 @@ CEILING_INLINE struct ceiling_run_answer ceiling_run_or_empty(const uint8_t case
     return ceiling_run(case_bytes, table_length ? table : &no_weight, table_length, out_length ? out : &none, out_length, limit);
 }
 
+CEILING_INLINE struct ceiling_run_answer ceiling_run_pairs_or_empty(const uint8_t case_bytes[CEILING_CASE], int64_t *table,
+                                                                    size_t table_length, uint8_t *out, size_t out_length, uint64_t limit) {
+    uint8_t none = 0;
+    int64_t no_weight = 0;
+    return ceiling_run_pairs(case_bytes, table_length ? table : &no_weight, table_length, out_length ? out : &none, out_length, limit);
+}
+
 #define ceiling_case_size ceiling_case_size_or_empty
 #define ceiling_read_case ceiling_read_case_or_empty
 #define ceiling_upper_bound ceiling_upper_bound_or_empty
@@ -188,6 +203,7 @@ CEILING_INLINE struct ceiling_run_answer ceiling_run_or_empty(const uint8_t case
 #define ceiling_round_span ceiling_round_span_or_empty
 #define ceiling_round ceiling_round_or_empty
 #define ceiling_run ceiling_run_or_empty
+#define ceiling_run_pairs ceiling_run_pairs_or_empty
 
 #ifdef __cplusplus
 }

@@ -1,5 +1,5 @@
 /* Reads a case file, lets the engine lower its ceiling, replays the log in blocks, and prints what the checker says, the first round's lines,
- * and which of two simple plans is better. */
+ * which of two simple plans is better, and what pair rounds alone come to. */
 #include <stdio.h>
 #include <stdlib.h>
 #include <string.h>
@@ -91,6 +91,13 @@ int main(int count, char **arguments) {
     struct ceiling_total_answer total = ceiling_objective(case_bytes, start, size.table, plan, size.n);
     if (better.number || total.number) return 2;
     printf("plan %llu %lld\n", (unsigned long long)better.choice, (long long)total.total);
+
+    /* Pair rounds only: the plan keeps its total. */
+    memcpy(again, start, size.table * sizeof *again);
+    struct ceiling_run_answer pairs = ceiling_run_pairs(case_bytes, again, size.table, out, CEILING_ROOM, ROUNDS);
+    struct ceiling_total_answer kept = ceiling_objective(case_bytes, again, size.table, plan, size.n);
+    if (pairs.number || kept.number || kept.total != total.total) return 2;
+    printf("pairs %llu %lld\n", (unsigned long long)pairs.rounds, (long long)pairs.bound);
 
     free(out), free(again), free(log), free(table), free(start), free(text);
     return 0;

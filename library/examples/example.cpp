@@ -1,5 +1,5 @@
 // Reads a case file, lets the engine lower its ceiling, replays the log in blocks, and prints what the checker says, the first round's lines,
-// and which of two simple plans is better.
+// which of two simple plans is better, and what pair rounds alone come to.
 #include <algorithm>
 #include <array>
 #include <cstdint>
@@ -80,16 +80,32 @@ std::uint64_t replay(const Case &c, Table &table, const Bytes &log) {
     return end.rounds;
 }
 
+// A plan's total.
+std::int64_t total(const Case &c, const Table &table, const Bytes &plan) {
+    const auto answer = ceiling_objective(c.bytes.data(), table.data(), table.size(), plan.data(), plan.size());
+    ask(answer.number, 0);
+    return answer.total;
+}
+
 // Every link on channel 0, or the channels in turn.
-void print_better_plan(const Case &c) {
+Bytes print_better_plan(const Case &c) {
     Bytes first(c.size.n), second(c.size.n);
     for (std::size_t i = 0; i < second.size(); i++) second[i] = static_cast<std::uint8_t>(i % c.size.d);
     const auto better = ceiling_better_of(c.bytes.data(), c.start.data(), c.start.size(), first.data(), first.size(), second.data(), second.size());
     ask(better.number, 0);
     const Bytes &plan = better.choice ? second : first;
-    const auto total = ceiling_objective(c.bytes.data(), c.start.data(), c.start.size(), plan.data(), plan.size());
-    ask(total.number, 0);
-    std::cout << "plan " << better.choice << ' ' << total.total << '\n';
+    std::cout << "plan " << better.choice << ' ' << total(c, c.start, plan) << '\n';
+    return plan;
+}
+
+// Pair rounds only: the plan keeps its total.
+void print_pair_rounds(const Case &c, const Bytes &plan) {
+    Table table = c.start;
+    Bytes out(CEILING_ROOM);
+    const auto made = ceiling_run_pairs(c.bytes.data(), table.data(), table.size(), out.data(), out.size(), rounds_at_most);
+    ask(made.number, c.lines);
+    if (total(c, table, plan) != total(c, c.start, plan)) throw std::logic_error("another total");
+    std::cout << "pairs " << made.rounds << ' ' << made.bound << '\n';
 }
 
 void example(const Bytes &text) {
@@ -107,7 +123,7 @@ void example(const Bytes &text) {
         ask(view.number, view.line);
         std::cout.write(reinterpret_cast<const char *>(log.data()) + view.from, static_cast<std::streamsize>(view.to - view.from));
     }
-    print_better_plan(c);
+    print_pair_rounds(c, print_better_plan(c));
 }
 
 }  // namespace

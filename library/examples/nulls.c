@@ -43,6 +43,7 @@ static void calls(uint8_t *bytes, uint8_t *more, int64_t *weights, size_t length
     ceiling_round_span(bytes, length, 0), test("ceiling_round_span", 1, text, length);
     ceiling_round(case_bytes, weights, length, bytes, length), test("ceiling_round", 2, plan, length);
     ceiling_run(case_bytes, weights, length, bytes, length, 0), test("ceiling_run", 2, plan, length);
+    ceiling_run_pairs(case_bytes, weights, length, bytes, length, 0), test("ceiling_run_pairs", 2, plan, length);
 }
 
 int main(void) {
@@ -66,6 +67,7 @@ int main(void) {
 #undef ceiling_round_span
 #undef ceiling_round
 #undef ceiling_run
+#undef ceiling_run_pairs
 
 static struct ceiling_size_answer no_size;
 static struct ceiling_lines_answer no_lines;
@@ -126,6 +128,12 @@ struct ceiling_round_answer ceiling_round(const uint8_t case_bytes[CEILING_CASE]
 
 struct ceiling_run_answer ceiling_run(const uint8_t case_bytes[CEILING_CASE], int64_t *table, size_t places, uint8_t *out, size_t room,
                                       uint64_t limit) {
+    (void)case_bytes, (void)limit, note(table, places), note(out, room);
+    return no_run;
+}
+
+struct ceiling_run_answer ceiling_run_pairs(const uint8_t case_bytes[CEILING_CASE], int64_t *table, size_t places, uint8_t *out, size_t room,
+                                            uint64_t limit) {
     (void)case_bytes, (void)limit, note(table, places), note(out, room);
     return no_run;
 }

@@ -1,11 +1,11 @@
-/* Calls every function of ceiling.h on accepted and on refused input and compares answers and everything lent with what document 01 says.
- * Each call is a test: a line for each that failed, the count as the last line. */
+/* Calls every function of ceiling.h on accepted and on refused input and compares answers and everything lent with what document 01 says, and
+ * document 02 of pair rounds. Each call is a test: a line for each that failed, the count as the last line. */
 #include <stdio.h>
 #include <string.h>
 
 #include "ceiling.h"
 
-enum { PLACES = 40, OUT = 200, TEXT = 64 * CEILING_LINE };
+enum { PLACES = 40, OUT = 320, TEXT = 64 * CEILING_LINE };
 static const int64_t STARTING = 1000000, WORKING = 500000000;
 
 static unsigned passed, failed;
@@ -47,9 +47,16 @@ static const struct sample P1 = {3, 2, 3, {0, 0, 1}, {1, 2, 2}, {0, 0, 0, 0, 0, 
 static const struct sample P4 = {2, 2, 1, {0}, {1}, {2, 0, 2, 0, -3, 0, 0, 0}, 8, 4};
 static const struct sample P10 = {2, 2, 1, {0}, {1}, {3, 4, 6, 2, -2, -4, 1, 1}, 8, 11};
 static const struct sample P11 = {1, 1, 0, {0}, {0}, {-7}, 1, -7};
-/* Not starting weights: the engine's first round by 1 takes link 0 to the end of the range, its second is number 11. */
+/* A pair round, and then a press. */
+static const struct sample TWO = {3, 2, 2, {0, 1}, {1, 2}, {0, 0, 1, 0, -1, 0, -2, 0, -2, -1, 0, 0, 0, -1}, 14, 1};
+/* Not starting weights, and the pairs (0,1) gain but are passed over. LOW: the first press by 1 takes link 0 to the end of the range, the second
+ * is number 11. COMES: after a press the pair's round stays in range. BACK: end 0 would leave the range, and end 1 come back. HIGHER: the pair
+ * (1,2) gains too. */
 static const struct sample LOW = {2, 3, 1, {0}, {1},
     {-499999999, -499999999, -499999999, 2, 1, 0, -3, -3, 0, -3, -3, 0, -3, -3, 0}, 15, -499999997};
+static const struct sample COMES = {2, 2, 1, {0}, {1}, {1, -500000000, 0, 0, -2, -2, 0, -1}, 8, 1};
+static const struct sample BACK = {2, 2, 1, {0}, {1}, {2, -2, -3, 0, 500000000, 0, 0, 0}, 8, 500000002};
+static const struct sample HIGHER = {3, 2, 2, {0, 1}, {1, 2}, {0, 0, -1, 0, 0, 0, 1, 0, -500000000, 0, 0, 1, 0, 0}, 14, 2};
 
 static void put_number(uint8_t *at, uint64_t z) {
     for (int i = 0; i < 8; i++) at[i] = (uint8_t)(z >> (8 * i));
@@ -215,7 +222,7 @@ static void readings(void) {
 /* ---- ceiling, totals, scoring: they change nothing */
 
 static void ceilings(void) {
-    static const struct sample *const rows[] = {&P1, &P4, &P10, &P11, &LOW};
+    static const struct sample *const rows[] = {&P1, &P4, &P10, &P11, &TWO, &LOW, &COMES, &BACK, &HIGHER};
     uint8_t bytes[CEILING_CASE];
     for (size_t i = 0; i < sizeof rows / sizeof *rows; i++) {
         case_of(rows[i], bytes);
@@ -346,6 +353,9 @@ struct step {
 
 #define START {2, 0, 2, 0, -3, 0, 0, 0}
 #define PRESSED {0, 0, 2, 2, -1, 0, 0, 0}
+#define SHIFTED {0, 0, 0, 0, 1, 2, 2, 0}
+#define SHIFT_0 {1, 0, 0, 0, -2}
+#define SHIFT_1 {1, 0, 1, 0, -2}
 #define PRESS {2, 0, 2, 0, 2}
 #define FIRST {3, 1, 0, 0, 0}
 #define LAST {3, 2, 0, 0, 0}
@@ -356,6 +366,7 @@ static const struct step STEPS[] = {
     {"a raise", {PRESS, FIRST}, 2, 0, 2, {0, 4, 0, 2, 1, 1, 0, 1, 1, 0, {0, 1}}, START, 14},
     {"the last raise", {PRESS, FIRST, LAST}, 3, 0, 3, {0, 4, 0, 0, 0, 0, 1, 0, 0, 0, {0}}, PRESSED, 14},
     {"a round", {PRESS, FIRST, LAST, BOUND}, 4, 0, 4, {1, 2, 0, 0, 0, 0, 0, 0, 0, 0, {0}}, PRESSED, 0},
+    {"a pair round", {SHIFT_0, SHIFT_1, BOUND}, 3, 0, 3, {1, 2, 0, 0, 0, 0, 0, 0, 0, 0, {0}}, SHIFTED, 0},
     {"a shift", {{1, 0, 1, 0, 5}}, 1, 0, 1, {0, 4, 0, 0, 0, 0, 1, 0, 0, 0, {0}}, {2, 0, 7, 0, -8, 0, -5, 0}, 14},
     {"kind not due", {{3, 1, 0, 0, 0}}, 1, 2, 0, {0, 4, 0, 0, 0, 0, 0, 0, 0, 2, {0}}, START, 2},
     {"unused column", {PRESS, {3, 1, 0, 0, 1}}, 2, 2, 1, {0, 4, 0, 2, 2, 0, 0, 1, 0, 2, {0}}, START, 2},
@@ -539,36 +550,87 @@ static void spans(void) {
 
 /* ---- the engine */
 
-/* What a round or a run must leave: the text of the last round's lines, and the table. */
+/* What a round or a run must leave: lines at the output's first bytes, the last round's first, and the table. */
 struct engine {
     const char *name;
     const struct sample *sample;
     size_t out;
     uint64_t limit; /* a run's; a round has none */
     struct ceiling_run_answer answer;
-    int first, count; /* the raised scopes of the last round, none: no line is written */
-    long long amount;
-    int64_t bound;
+    int lines[5][5];
+    size_t count;
     int64_t table[PLACES];
 };
 
-#define LOWER {-500000000, -500000000, -500000000, 2, 2, 1, -2, -2, 0, -2, -2, 0, -2, -2, 0}
-#define TRIANGLE {-1, -1}
+/* No line is written; the tables before, and lines and tables after rounds. */
+#define NONE {{0}}, 0
 #define AS_P1 {0, 0, 0, 0, 0, 0, -1, 0, 0, -1, -1, 0, 0, -1, -1, 0, 0, -1}
 #define AS_P10 {3, 4, 6, 2, -2, -4, 1, 1}
+#define AS_TWO {0, 0, 1, 0, -1, 0, -2, 0, -2, -1, 0, 0, 0, -1}
+#define AS_LOW {-499999999, -499999999, -499999999, 2, 1, 0, -3, -3, 0, -3, -3, 0, -3, -3, 0}
+#define AS_COMES {1, -500000000, 0, 0, -2, -2, 0, -1}
+#define AS_BACK {2, -2, -3, 0, 500000000, 0, 0, 0}
+#define P1_PRESS {{2, 0, 3, 0, 1}, {3, 3, 0, 0, 0}, {3, 4, 0, 0, 0}, {3, 5, 0, 0, 0}, {4, 0, 0, 0, -1}}, 5, {-1, -1}
+#define P5_PAIR {SHIFT_0, SHIFT_1, BOUND}, 3, SHIFTED
+#define TWO_PAIR {{1, 0, 1, 0, -1}, {4, 0, 0, 0, 0}}, 2, {0, 0, 0, 0, -1, 0, -1, 0, -1, -1, 0, 0, 0, -1}
+#define TWO_PRESS {{2, 0, 3, 0, 1}, {3, 2, 0, 0, 0}, {3, 3, 0, 0, 0}, {3, 4, 0, 0, 0}, {4, 0, 0, 0, -1}}, 5, {-1, -1}
+#define LOW_PRESS {{2, 0, 2, 0, 1}, FIRST, LAST, {4, 0, 0, 0, -499999998}}, 4, \
+    {-500000000, -500000000, -500000000, 2, 2, 1, -2, -2, 0, -2, -2, 0, -2, -2, 0}
+#define COMES_PRESS {{2, 0, 1, 0, 1}, LAST, {4, 0, 0, 0, 0}}, 3, {0, -500000000, 0, 0, -1, -1, 0, 0}
+/* the pair round's two lines, and the last line of the press before it */
+#define COMES_PAIR {{1, 0, 0, 1, 500000000}, {4, 0, 0, 0, -1}, {4, 0, 0, 0, 0}}, 3, {0, 0, 0, 0, -1, -1, -500000000, -500000000}
+#define BACK_PRESS {{2, 0, 2, 0, 3}, FIRST, LAST, {4, 0, 0, 0, 499999999}}, 4, {-1, -2, 0, 0, 500000000, 3, 3, 3}
+#define HIGHER_PAIR {{1, 1, 0, 0, 1}, {4, 0, 0, 0, 1}}, 2, {0, 0, 0, 0, 0, 0, 1, 0, -500000000, 0, -1, 0, 0, 0}
 
 static const struct engine RUNS[] = {
-    {"P1, limit 0", &P1, 189, 0, {0, 1, 0, 0}, 0, 0, 0, 0, AS_P1},
-    {"P1, limit 1", &P1, 189, 1, {0, 0, 1, -1}, 3, 3, 1, -1, TRIANGLE},
-    {"P1, no limit", &P1, OUT, UINT64_MAX, {0, 0, 1, -1}, 3, 3, 1, -1, TRIANGLE},
-    {"P1, a short output", &P1, 188, 1, {4, 0, 0, 0}, 0, 0, 0, 0, AS_P1},
-    {"P1, a short output and limit 0", &P1, 188, 0, {4, 0, 0, 0}, 0, 0, 0, 0, AS_P1},
-    {"P4", &P4, 108, 9, {0, 0, 1, 2}, 1, 2, 2, 2, PRESSED},
-    {"P10", &P10, 108, 0, {0, 0, 0, 11}, 0, 0, 0, 0, AS_P10},
-    {"P10, a short output", &P10, 107, 0, {4, 0, 0, 0}, 0, 0, 0, 0, AS_P10},
-    {"P12", &P11, 54, 0, {0, 0, 0, -7}, 0, 0, 0, 0, {-7}},
-    {"out of range, limit 1", &LOW, 108, 1, {0, 1, 1, -499999998}, 1, 2, 1, -499999998, LOWER},
-    {"out of range", &LOW, 108, 2, {11, 0, 1, -499999998}, 1, 2, 1, -499999998, LOWER},
+    {"P1, limit 0", &P1, 297, 0, {0, 1, 0, 0}, NONE, AS_P1},
+    {"P1, limit 1", &P1, 297, 1, {0, 0, 1, -1}, P1_PRESS},
+    {"P1, no limit", &P1, OUT, UINT64_MAX, {0, 0, 1, -1}, P1_PRESS},
+    {"P1, a short output", &P1, 296, 1, {4, 0, 0, 0}, NONE, AS_P1},
+    {"P1, a short output and limit 0", &P1, 296, 0, {4, 0, 0, 0}, NONE, AS_P1},
+    {"P5", &P4, 216, 9, {0, 0, 1, 2}, P5_PAIR},
+    {"P5, limit 0", &P4, 216, 0, {0, 1, 0, 4}, NONE, START},
+    {"P5, limit 1", &P4, 216, 1, {0, 0, 1, 2}, P5_PAIR},
+    {"P5, a short output", &P4, 215, 9, {4, 0, 0, 0}, NONE, START},
+    {"P10", &P10, 216, 9, {0, 0, 0, 11}, NONE, AS_P10},
+    {"P10, limit 0", &P10, 216, 0, {0, 0, 0, 11}, NONE, AS_P10},
+    {"P10, a short output", &P10, 215, 9, {4, 0, 0, 0}, NONE, AS_P10},
+    {"P10, a short output and limit 0", &P10, 215, 0, {4, 0, 0, 0}, NONE, AS_P10},
+    {"P12", &P11, 108, 9, {0, 0, 0, -7}, NONE, {-7}},
+    {"P12, limit 0", &P11, 108, 0, {0, 0, 0, -7}, NONE, {-7}},
+    {"P12, a short output", &P11, 107, 9, {4, 0, 0, 0}, NONE, {-7}},
+    {"a pair, limit 1", &TWO, 270, 1, {0, 1, 1, 0}, TWO_PAIR},
+    {"a pair, then a press", &TWO, 270, 2, {0, 0, 2, -1}, TWO_PRESS},
+    {"out of range, limit 0", &LOW, 270, 0, {0, 1, 0, -499999997}, NONE, AS_LOW},
+    {"out of range, limit 1", &LOW, 270, 1, {0, 1, 1, -499999998}, LOW_PRESS},
+    {"out of range", &LOW, 270, 2, {11, 0, 1, -499999998}, LOW_PRESS},
+    {"out of range, a short output", &LOW, 269, 2, {4, 0, 0, 0}, NONE, AS_LOW},
+    {"passed over, a press, limit 1", &COMES, 216, 1, {0, 1, 1, 0}, COMES_PRESS},
+    {"passed over, a press, then the pair", &COMES, 216, 9, {0, 0, 2, -1}, COMES_PAIR},
+    {"passed over at end 0", &BACK, 216, 9, {0, 0, 1, 499999999}, BACK_PRESS},
+    {"passed over, a higher pair", &HIGHER, 270, 9, {0, 0, 1, 1}, HIGHER_PAIR},
+};
+
+static const struct engine PAIR_RUNS[] = {
+    {"P1, a press is left", &P1, 297, 9, {0, 0, 0, 0}, NONE, AS_P1},
+    {"P1, limit 0", &P1, 297, 0, {0, 0, 0, 0}, NONE, AS_P1},
+    {"P1, a short output", &P1, 296, 9, {4, 0, 0, 0}, NONE, AS_P1},
+    {"P5", &P4, 216, 9, {0, 0, 1, 2}, P5_PAIR},
+    {"P5, no limit", &P4, OUT, UINT64_MAX, {0, 0, 1, 2}, P5_PAIR},
+    {"P5, limit 0", &P4, 216, 0, {0, 1, 0, 4}, NONE, START},
+    {"P5, limit 1", &P4, 216, 1, {0, 0, 1, 2}, P5_PAIR},
+    {"P5, a short output", &P4, 215, 9, {4, 0, 0, 0}, NONE, START},
+    {"P5, a short output and limit 0", &P4, 215, 0, {4, 0, 0, 0}, NONE, START},
+    {"P10", &P10, 216, 9, {0, 0, 0, 11}, NONE, AS_P10},
+    {"P12", &P11, 108, 9, {0, 0, 0, -7}, NONE, {-7}},
+    {"P12, a short output", &P11, 107, 9, {4, 0, 0, 0}, NONE, {-7}},
+    {"a pair, limit 0", &TWO, 270, 0, {0, 1, 0, 1}, NONE, AS_TWO},
+    {"a pair, and a press is left", &TWO, 270, 9, {0, 0, 1, 0}, TWO_PAIR},
+    {"passed over, before 11", &LOW, 270, 9, {0, 0, 0, -499999997}, NONE, AS_LOW},
+    {"passed over, and a press is left", &COMES, 216, 9, {0, 0, 0, 1}, NONE, AS_COMES},
+    {"passed over, limit 0", &COMES, 216, 0, {0, 0, 0, 1}, NONE, AS_COMES},
+    {"passed over at end 0", &BACK, 216, 9, {0, 0, 0, 500000002}, NONE, AS_BACK},
+    {"passed over, a higher pair", &HIGHER, 270, 9, {0, 0, 1, 1}, HIGHER_PAIR},
 };
 
 /* The output must hold the lines and then what it held; so must everything behind what was lent. */
@@ -576,7 +638,8 @@ static int left(const struct engine *row, const uint8_t *out, const int64_t *tab
     uint8_t wanted[OUT];
     int64_t after[PLACES];
     memset(wanted, 0xa5, sizeof wanted);
-    if (row->count) put_round(wanted, 0, row->first, row->count, row->amount, row->bound);
+    for (size_t i = 0, at = 0; i < row->count; i++)
+        at = put_line(wanted, at, row->lines[i][0], row->lines[i][1], row->lines[i][2], row->lines[i][3], row->lines[i][4]);
     for (size_t i = 0; i < PLACES; i++) after[i] = i < row->sample->length ? row->table[i] : 77;
     return !memcmp(out, wanted, OUT) && !memcmp(table, after, sizeof after);
 }
@@ -595,33 +658,83 @@ static void runs(void) {
         lend(row->sample, bytes, table, out);
         struct ceiling_run_answer a = ceiling_run(bytes, table, row->sample->length, out, row->out, row->limit);
         test("ceiling_run", row->name, !memcmp(&a, &row->answer, sizeof a) && left(row, out, table));
-        if (row->limit == 0 || (row->answer.number && row->answer.rounds)) continue;
+        /* one round alone is the run's first: the rows whose run ended with it */
+        if (row->limit == 0 || row->answer.rounds > 1 || (row->answer.number && row->answer.rounds)) continue;
         lend(row->sample, bytes, table, out);
         struct ceiling_round_answer r = ceiling_round(bytes, table, row->sample->length, out, row->out);
-        size_t written = row->count ? (size_t)(row->count + 2) * CEILING_LINE : 0;
-        test("ceiling_round", row->name, r.number == row->answer.number && r.bytes == written && r.bound == row->bound && left(row, out, table));
+        int64_t bound = row->count ? row->lines[row->count - 1][4] : 0;
+        int good = r.number == row->answer.number && r.bytes == row->count * CEILING_LINE && r.bound == bound;
+        test("ceiling_round", row->name, good && left(row, out, table));
+    }
+}
+
+/* Every plan's total on the table is its total on the sample's. */
+static int same_totals(const struct sample *s, const uint8_t bytes[CEILING_CASE], const int64_t *table) {
+    size_t plans = 1;
+    for (size_t i = 0; i < s->n; i++) plans *= s->d;
+    for (size_t p = 0; p < plans; p++) {
+        uint8_t plan[3];
+        for (size_t i = 0, rest = p; i < s->n; i++, rest /= s->d) plan[i] = (uint8_t)(rest % s->d);
+        struct ceiling_total_answer before = ceiling_objective(bytes, s->table, s->length, plan, s->n);
+        struct ceiling_total_answer after = ceiling_objective(bytes, table, s->length, plan, s->n);
+        if (before.number || after.number || before.total != after.total) return 0;
+    }
+    return 1;
+}
+
+static void pair_runs(void) {
+    uint8_t bytes[CEILING_CASE], out[OUT];
+    int64_t table[PLACES];
+    for (size_t i = 0; i < sizeof PAIR_RUNS / sizeof *PAIR_RUNS; i++) {
+        const struct engine *row = &PAIR_RUNS[i];
+        lend(row->sample, bytes, table, out);
+        struct ceiling_run_answer a = ceiling_run_pairs(bytes, table, row->sample->length, out, row->out, row->limit);
+        int good = !memcmp(&a, &row->answer, sizeof a) && left(row, out, table);
+        test("ceiling_run_pairs", row->name, good && same_totals(row->sample, bytes, table));
     }
 }
 
 /* Rounds one after another: settled writes nothing, number 11 changes nothing. */
 static void rounds(void) {
-    static const struct engine rows[] = {
-        {"P10, settled", &P10, 108, 0, {0, 0, 0, 0}, 0, 0, 0, 0, AS_P10},
-        {"P10, settled, a short output", &P10, 107, 0, {4, 0, 0, 0}, 0, 0, 0, 0, AS_P10},
-        {"P11, settled", &P11, 54, 0, {0, 0, 0, 0}, 0, 0, 0, 0, {-7}},
+    static const struct {
+        struct ceiling_round_answer answers[3];
+        struct engine after;
+    } rows[] = {
+        {{{0, 54, 0}, {0, 135, -1}, {0, 0, 0}}, {"a pair, a press, settled", &TWO, 270, 0, {0, 0, 0, 0}, TWO_PRESS}},
+        {{{0, 81, 0}, {0, 54, -1}, {0, 0, 0}}, {"a press, a pair, settled", &COMES, 216, 0, {0, 0, 0, 0}, COMES_PAIR}},
+        {{{0, 108, -499999998}, {11, 0, 0}, {11, 0, 0}}, {"a press, out of range", &LOW, 270, 0, {0, 0, 0, 0}, LOW_PRESS}},
     };
     uint8_t bytes[CEILING_CASE], out[OUT];
     int64_t table[PLACES];
     for (size_t i = 0; i < sizeof rows / sizeof *rows; i++) {
-        lend(rows[i].sample, bytes, table, out);
-        struct ceiling_round_answer r = ceiling_round(bytes, table, rows[i].sample->length, out, rows[i].out);
-        test("ceiling_round", rows[i].name, r.number == rows[i].answer.number && r.bytes == 0 && r.bound == 0 && left(&rows[i], out, table));
+        const struct engine *after = &rows[i].after;
+        lend(after->sample, bytes, table, out);
+        for (size_t k = 0; k < 3; k++) {
+            struct ceiling_round_answer r = ceiling_round(bytes, table, after->sample->length, out, after->out);
+            test("ceiling_round", after->name, !memcmp(&r, &rows[i].answers[k], sizeof r) && (k == 0 || left(after, out, table)));
+        }
     }
-    struct engine second = RUNS[sizeof RUNS / sizeof *RUNS - 1];
-    lend(&LOW, bytes, table, out);
-    ceiling_round(bytes, table, LOW.length, out, 108);
-    struct ceiling_round_answer r = ceiling_round(bytes, table, LOW.length, out, 108);
-    test("ceiling_round", "out of range", r.number == 11 && r.bytes == 0 && r.bound == 0 && left(&second, out, table));
+}
+
+/* The largest case, all of its weights 0: settled with room for the longest round, and number 4 with a byte less. */
+static void rooms(void) {
+    enum { TABLE = CEILING_LINKS * CEILING_CHANNELS + CEILING_PAIRS * CEILING_CHANNELS * CEILING_CHANNELS };
+    static int64_t table[TABLE];
+    uint8_t bytes[CEILING_CASE], out[CEILING_ROOM];
+    put_number(bytes, CEILING_LINKS), put_number(bytes + 8, CEILING_CHANNELS), put_number(bytes + 16, CEILING_PAIRS);
+    for (int e = 0; e < CEILING_PAIRS; e++) {
+        bytes[24 + e] = (uint8_t)(e % 24);
+        bytes[120 + e] = (uint8_t)(24 + (e % 24 + e / 24) % 24);
+    }
+    for (size_t less = 0; less < 2; less++) {
+        size_t room = CEILING_ROOM - less;
+        uint64_t number = less ? 4 : 0;
+        struct ceiling_round_answer r = ceiling_round(bytes, table, TABLE, out, room);
+        test("ceiling_round", "the longest round", r.number == number && r.bytes == 0);
+        struct ceiling_run_answer a = ceiling_run(bytes, table, TABLE, out, room, 1), p = ceiling_run_pairs(bytes, table, TABLE, out, room, 1);
+        test("ceiling_run", "the longest round", a.number == number && a.limit == 0 && a.rounds == 0);
+        test("ceiling_run_pairs", "the longest round", p.number == number && p.limit == 0 && p.rounds == 0);
+    }
 }
 
 static void engine_faults(void) {
@@ -638,6 +751,9 @@ static void engine_faults(void) {
         struct ceiling_run_answer a = ceiling_run(bytes, table, s.length, out, OUT, 9), wanted = {FAULTS[i].number, 0, 0, 0};
         same = !memcmp(table, start, sizeof start) && !memcmp(out, before, sizeof out);
         test("ceiling_run", FAULTS[i].name, !memcmp(&a, &wanted, sizeof a) && same);
+        a = ceiling_run_pairs(bytes, table, s.length, out, OUT, 9);
+        same = !memcmp(table, start, sizeof start) && !memcmp(out, before, sizeof out);
+        test("ceiling_run_pairs", FAULTS[i].name, !memcmp(&a, &wanted, sizeof a) && same);
     }
 }
 
@@ -671,6 +787,7 @@ static void nulls(void) {
     test("ceiling_round", "null table", ceiling_round(bytes, NULL, 0, text, sizeof text).number == 4);
     test("ceiling_round", "null output", ceiling_round(bytes, table, 8, NULL, 0).number == 4);
     test("ceiling_run", "null", ceiling_run(bytes, NULL, 0, NULL, 0, 1).number == 4);
+    test("ceiling_run_pairs", "null", ceiling_run_pairs(bytes, NULL, 0, NULL, 0, 1).number == 4);
 }
 
 int main(void) {
@@ -681,7 +798,7 @@ int main(void) {
     for (size_t i = 0; i < sizeof STEPS / sizeof *STEPS; i++) step(&STEPS[i], 0), step(&STEPS[i], 1);
     no_whole_line(), handed_over(), records(), last_round();
     spans();
-    runs(), rounds(), engine_faults();
+    runs(), pair_runs(), rounds(), rooms(), engine_faults();
     printf("%u passed, %u failed\n", passed, failed);
     return failed > 0;
 }

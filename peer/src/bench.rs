@@ -3,6 +3,7 @@
 
 use crate::generate::{self, Plan, Shape, Weights};
 use crate::options::Options;
+use crate::programs::Engine;
 use crate::random::Random;
 use crate::refute::all_active_refuted;
 use crate::replay::replay_file;
@@ -28,6 +29,8 @@ pub fn bench(options: &mut Options) -> Result<ExitCode, String> {
         ("uniform, mesh", Shape::Mesh, Weights::Uniform, 0),
         ("small, -9 to 9", Shape::Random, Weights::Small(9), 0),
         ("small, -1 to 1", Shape::Random, Weights::Small(1), 0),
+        ("links 0, whole range", Shape::Random, Weights::Flat(START_LIMIT), 0),
+        ("links 0, -9 to 9", Shape::Mesh, Weights::Flat(9), 0),
         ("extreme", Shape::Random, Weights::Extreme, 0),
         ("interference, mesh", Shape::Mesh, Weights::Interference, 0),
         (
@@ -74,24 +77,32 @@ fn engine_rounds(
     cases: &[Case],
     seconds: f64,
     limit: u64,
-    run: fn(&Case, u64) -> Run,
+    run: Engine,
 ) {
-    let (mut rounds, mut raises, mut spent) = (0, 0, 0.0);
+    let (mut rounds, mut pairs, mut raises, mut spent) = (0, 0, 0, 0.0);
     for case in cases {
-        let whole = run(case, limit);
+        let whole = run(case, Rounds::All, limit);
         rounds += whole.rounds;
-        raises += (whole.log.len() / LINE_BYTES) as u64 - 2 * whole.rounds;
+        let presses = count_kind(&whole.log, b'2');
+        raises += count_kind(&whole.log, b'3');
+        pairs += whole.rounds - presses;
         spent += best_time(seconds / CASES as f64, || {
-            black_box(run(case, limit));
+            black_box(run(case, Rounds::All, limit));
         });
     }
     println!(
-        "{engine:<7} {name:<24} {:>9.0} rounds/s  ({CASES} cases, {rounds} rounds, {:.1} raise \
-         lines a round, {:.2} ms a case)",
+        "{engine:<7} {name:<24} {:>9.0} rounds/s  ({CASES} cases, {rounds} rounds, {pairs} of \
+         pairs, {:.1} raise lines a press, {:.2} ms a case)",
         rounds as f64 / spent,
-        raises as f64 / rounds.max(1) as f64,
+        raises as f64 / (rounds - pairs).max(1) as f64,
         1000.0 * spent / CASES as f64
     );
+}
+
+/// Lines of a kind below 10.
+fn count_kind(log: &[u8], kind: u8) -> u64 {
+    let lines = log.chunks(LINE_BYTES);
+    lines.filter(|line| line[1] == kind).count() as u64
 }
 
 /// A log of untrimmed presses by 1: almost all raise lines.
@@ -116,7 +127,7 @@ pub fn raise_log(case: &Case, rounds: usize) -> Vec<u8> {
 fn replays(seconds: f64) {
     let case = largest(&mut Random::new(7), Shape::Random, Weights::Uniform, 0);
     let untrimmed = raise_log(&case, 4000);
-    let own = engine::run_case(&case, PROGRAM_ROUNDS).log;
+    let own = engine::run_case(&case, Rounds::All, PROGRAM_ROUNDS).log;
     for (name, log) in [
         ("untrimmed presses", &untrimmed),
         ("the engine's own log", &own),

@@ -20,7 +20,11 @@ pub fn table_length(variables: usize, values: usize, edges: usize) -> usize {
 
 /// Reads a case at the front of the input; hands back the lines used.
 pub fn read_front(input: &[u8]) -> Result<(Case, usize), Refusal> {
-    let mut reader = Reader { input, at: 0 };
+    read_within(input, START_LIMIT)
+}
+
+fn read_within(input: &[u8], limit: i64) -> Result<(Case, usize), Refusal> {
+    let mut reader = Reader { input, at: 0, limit };
     let (mut case, edges) = reader.head()?;
     let mut place = 0;
     for variable in 0..case.variables {
@@ -45,7 +49,16 @@ pub fn read_front(input: &[u8]) -> Result<(Case, usize), Refusal> {
 
 /// Reads a case file alone: no kind is due after its last line.
 pub fn read_alone(input: &[u8]) -> Result<(Case, usize), Refusal> {
-    let (case, used) = read_front(input)?;
+    read_alone_within(input, START_LIMIT)
+}
+
+/// The same for a working table, whose weights have the working range.
+pub fn read_table(input: &[u8]) -> Result<(Case, usize), Refusal> {
+    read_alone_within(input, WORK_LIMIT)
+}
+
+fn read_alone_within(input: &[u8], limit: i64) -> Result<(Case, usize), Refusal> {
+    let (case, used) = read_within(input, limit)?;
     let rest = &input[used * LINE_BYTES..];
     if rest.is_empty() {
         return Ok((case, used));
@@ -63,6 +76,7 @@ pub fn read_alone(input: &[u8]) -> Result<(Case, usize), Refusal> {
 struct Reader<'a> {
     input: &'a [u8],
     at: usize,
+    limit: i64,
 }
 
 impl Reader<'_> {
@@ -118,7 +132,7 @@ impl Reader<'_> {
         if line.a != a as i64 || line.b != b as i64 || line.c != c as i64 {
             return self.refuse(5);
         }
-        if line.amount.abs() > START_LIMIT {
+        if line.amount.abs() > self.limit {
             return self.refuse(8);
         }
         self.at += 1;

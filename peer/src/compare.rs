@@ -1,6 +1,7 @@
 //! The comparison: samples, fast reading against slow one, and other programs
 //! against the fast reading, byte for byte.
 
+use crate::calls::{self, Batch};
 use crate::check::{Check, Difference};
 use crate::counts::Counts;
 use crate::inputs::{input_for, random_for, sized_case, Program};
@@ -77,19 +78,19 @@ pub fn compare(options: &mut Options) -> Result<ExitCode, String> {
     let seed = options.number("seed", 1)?;
     let keep = PathBuf::from(options.text("keep").unwrap_or(DEFAULT_KEEP.into()));
     let seconds = options.number("seconds", DEFAULT_SECONDS)? as f64;
-    let paths = [options.text("press"), options.text("replay")];
+    let paths = ["press", "replay", "engine"].map(|name| options.text(name));
     let counts = options.flag("counts");
     options.finish()?;
     println!("seed {seed}");
-    let none = paths.iter().all(|path| path.is_none());
-    let slow_share = if none { 1.0 } else { 0.3 };
     let began = Instant::now();
     let mut check = Check::new();
     let mut programs = Programs::new(paths, &keep)?;
+    let [slow, files, tables] = programs.shares().map(|share| share * seconds);
     let result = samples_first().and_then(|samples| {
-        against_slow(&mut check, seed, &in_seconds(seconds * slow_share))?;
+        against_slow(&mut check, seed, &in_seconds(slow))?;
         programs.samples()?;
-        programs.generated(seed, &in_seconds(seconds * (1.0 - slow_share)))?;
+        programs.generated(seed, &in_seconds(files))?;
+        programs.batches(seed, &in_seconds(tables))?;
         Ok(samples)
     });
     finish(
@@ -138,7 +139,7 @@ fn slow_figures(check: &Check) -> String {
     let figures = check.figures;
     format!(
         "slow mode: cases {} and {} large, comparisons {} (refutations {}, runs {}, lines {}, \
-         lists {}, programs {}, others {}; rounds with a climb {})",
+         lists {}, programs {}, others {}; rounds with a climb {}), {}",
         figures.cases,
         figures.large,
         figures.comparisons(),
@@ -148,7 +149,25 @@ fn slow_figures(check: &Check) -> String {
         figures.lists,
         figures.programs,
         figures.others,
-        figures.climbs
+        figures.climbs,
+        pair_figures(check)
+    )
+}
+
+fn pair_figures(check: &Check) -> String {
+    let pairs = check.figures.pairs;
+    format!(
+        "pair rounds {} ({} with a lower pair passed over, {} of one passed over before, {} \
+         after a press), presses with a pair passed over {}, pairs out of range half way only \
+         {}, runs refused {}, settled with a pair passed over {}",
+        pairs.rounds,
+        pairs.higher,
+        pairs.back,
+        pairs.after_press,
+        pairs.presses,
+        pairs.half_way,
+        pairs.refused,
+        pairs.settled_passed
     )
 }
 
@@ -208,21 +227,37 @@ fn keep_input(keep: &Path, difference: &Difference, seed: u64) -> std::io::Resul
 struct Programs {
     press: Option<Outside>,
     replay: Option<Outside>,
+    engine: Option<Outside>,
     counts: Counts,
     compared: [u64; 2],
+    called: calls::Figures,
     bytes: u64,
 }
 
 impl Programs {
-    fn new(paths: [Option<String>; 2], keep: &Path) -> Result<Programs, String> {
-        let [press, replay] = paths.map(|path| path.map(|path| Outside::new(&path, keep)));
+    fn new(paths: [Option<String>; 3], keep: &Path) -> Result<Programs, String> {
+        let [press, replay, engine] = paths.map(|path| path.map(|path| Outside::new(&path, keep)));
         Ok(Programs {
             press: press.transpose()?,
             replay: replay.transpose()?,
+            engine: engine.transpose()?,
             counts: Counts::default(),
             compared: [0; 2],
+            called: calls::Figures::default(),
             bytes: 0,
         })
+    }
+
+    /// Which part of the time goes to the slow mode, to inputs of `press` and `replay`,
+    /// and to tables for the engine.
+    fn shares(&self) -> [f64; 3] {
+        let files = self.press.is_some() || self.replay.is_some();
+        match (files, self.engine.is_some()) {
+            (false, false) => [1.0, 0.0, 0.0],
+            (true, false) => [0.3, 0.7, 0.0],
+            (false, true) => [0.3, 0.0, 0.7],
+            (true, true) => [0.3, 0.35, 0.35],
+        }
     }
 
     fn samples(&mut self) -> Result<(), Difference> {
@@ -234,7 +269,7 @@ impl Programs {
             };
             self.ask(program, &input, &output, name)?;
         }
-        Ok(())
+        self.call("samples", &calls::samples())
     }
 
     fn generated(&mut self, seed: u64, end: &End) -> Result<(), Difference> {
@@ -277,39 +312,100 @@ impl Programs {
         let Some(outside) = outside else {
             return Ok(());
         };
-        let (found, note) = outside.answer(input);
-        if found != expected || !note.is_empty() {
-            let what = format!(
-                "{name}, program {program:?} {note}\nfound:\n{}\nexpected:\n{}",
-                shown(&found),
-                shown(expected)
-            );
-            return Err(Difference {
-                what,
-                input: input.to_vec(),
-            });
-        }
+        answers(outside, &format!("{name}, program {program:?}"), input, expected)?;
         self.counts.note_output(input, expected);
         self.compared[program as usize] += 1;
         self.bytes += input.len() as u64;
         Ok(())
     }
 
+    /// Working tables, many in one input.
+    fn batches(&mut self, seed: u64, end: &End) -> Result<(), Difference> {
+        let mut index = 0;
+        while self.engine.is_some() && !end.reached(index) {
+            self.call(&format!("batch {index}"), &calls::batch(seed, index))?;
+            index += 1;
+        }
+        Ok(())
+    }
+
+    fn call(&mut self, name: &str, batch: &Batch) -> Result<(), Difference> {
+        let Some(outside) = &mut self.engine else {
+            return Ok(());
+        };
+        let name = format!("{name}, program Engine");
+        answers(outside, &name, &batch.input, &batch.output)?;
+        self.called.add(&batch.figures);
+        self.bytes += batch.input.len() as u64;
+        Ok(())
+    }
+
     fn figures(&self) -> String {
-        if self.press.is_none() && self.replay.is_none() {
+        if self.shares()[0] == 1.0 {
             return "no programs".into();
         }
         let [press, replay] = self.compared;
         format!(
-            "press {press} inputs, replay {replay} inputs, {} MB in",
+            "press {press} inputs, replay {replay} inputs, {}, {} MB in",
+            self.call_figures(),
             self.bytes / 1_000_000
+        )
+    }
+
+    fn call_figures(&self) -> String {
+        let called = self.called;
+        format!(
+            "engine {} tables ({} calls, {} rounds; calls refused by 3 to 8 {}, that met 11 {}, \
+             that ended with a pair passed over {}; pair rounds of one passed over before {})",
+            called.tables,
+            called.calls,
+            called.rounds,
+            called.refused,
+            called.met_11,
+            called.passed,
+            called.back
         )
     }
 }
 
-fn shown(bytes: &[u8]) -> String {
-    let mut text = String::from_utf8_lossy(&bytes[..bytes.len().min(600)]).into_owned();
-    if bytes.len() > 600 {
+/// The program's answer to the input is the expected one.
+fn answers(
+    outside: &mut Outside,
+    name: &str,
+    input: &[u8],
+    expected: &[u8],
+) -> Result<(), Difference> {
+    let (found, note) = outside.answer(input);
+    if found == expected && note.is_empty() {
+        return Ok(());
+    }
+    let same = found.iter().zip(expected).take_while(|(a, b)| a == b);
+    let same = same.count();
+    let what = format!(
+        "{name} {note}\nbytes alike: {same}{}\nfound:\n{}\nexpected:\n{}",
+        last_name(&expected[..same]),
+        shown(&found, same),
+        shown(expected, same)
+    );
+    Err(Difference {
+        what,
+        input: input.to_vec(),
+    })
+}
+
+/// The last table named in an answer.
+fn last_name(answer: &[u8]) -> String {
+    let text = String::from_utf8_lossy(answer);
+    let name = text.lines().rfind(|line| line.starts_with("table "));
+    name.map_or(String::new(), |name| format!(", {}", name.trim_end()))
+}
+
+/// The answer, or some of it around a byte.
+fn shown(bytes: &[u8], around: usize) -> String {
+    let from = around.saturating_sub(300);
+    let to = bytes.len().min(from + 600);
+    let mut text = String::from_utf8_lossy(&bytes[from..to]).into_owned();
+    if to - from < bytes.len() {
         text.push_str(&format!("... {} bytes in all", bytes.len()));
     }
     text

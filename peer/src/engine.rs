@@ -1,17 +1,24 @@
 //! The engine's round and its run, fast.
 //!
-//! A round takes the lowest variable whose active values are all refuted with all
+//! A round is the pair round of the lowest edge that is due and not passed over, or
+//! else a press. An edge is due while no choice of values is active in all its three
+//! scopes. A passed-over one is asked again before each round.
+//!
+//! A press takes the lowest variable whose active values are all refuted with all
 //! other scopes raised, and drops raised scopes upwards. The dropping is done in
 //! halves: a block of scopes without which the values stay refuted (lower kept and
 //! all higher ones raised) is dropped at once, which gives the same kept scopes as
 //! one after another, because raising more scopes never takes a refutation away.
 //!
-//! No engine round makes an active tuple inactive (every amount is at most every
-//! gap), so a variable passed over stays passed over, and a run looks on from the
-//! variable it pressed last.
+//! No press makes an active tuple inactive (every amount is at most every gap), and a
+//! pair round does so in its own edge only, which had no active choice and has one
+//! after it. So an edge that is not due never becomes so, and once none is due, no
+//! edge is looked at again. While one is due, no family at all is supported and the
+//! lowest variable is 0; after that a variable passed over stays passed over, and a
+//! run looks on from the variable it pressed last.
 
 use crate::line;
-use crate::refute::{close, full_domains, none_supported, Joint};
+use crate::refute::{close, full_domains, no_active_choice, none_supported, Joint};
 use crate::scopes::Scopes;
 use crate::state::State;
 use crate::types::*;
@@ -107,30 +114,99 @@ fn write_press(out: &mut Vec<u8>, state: &State, press: &Press) {
     press.raised.each_edge(|edge| raise(state.variables + edge));
 }
 
+/// The shifts of the edge's pair round, read before it.
+pub fn write_shifts(out: &mut Vec<u8>, state: &State, edge: usize) {
+    for (end, variable) in state.ends[edge].into_iter().enumerate() {
+        for (value, weight) in state.working(variable as usize).enumerate() {
+            if weight != 0 {
+                let (edge, end, value) = (edge as i64, end as i64, value as i64);
+                line::write(out, 1, edge, end, value, -i64::from(weight));
+            }
+        }
+    }
+}
+
+/// The edges of a working table that are due and passed over.
+pub fn passed_over(table: &Case) -> Vec<usize> {
+    let state = State::new(table);
+    let passed = |&edge: &usize| no_active_choice(&state, edge) && state.gathered(edge).is_none();
+    (0..state.edges).filter(passed).collect()
+}
+
+enum Round {
+    /// The edge and its weights after the round.
+    Pair(usize, Vec<i32>),
+    Press(Press),
+}
+
+/// Where a run looks on: whether an edge can still be due, and a variable below which
+/// none can be pressed.
+struct Search {
+    kind: Rounds,
+    edges: bool,
+    from: usize,
+}
+
+impl Search {
+    /// The lowest edge that is due and not passed over.
+    fn pair(&mut self, state: &State) -> Option<Round> {
+        if !self.edges {
+            return None;
+        }
+        let due = (0..state.edges).filter(|&edge| no_active_choice(state, edge));
+        let mut due = due.peekable();
+        self.edges = due.peek().is_some();
+        due.find_map(|edge| Some(Round::Pair(edge, state.gathered(edge)?)))
+    }
+
+    fn next(&mut self, state: &State) -> Option<Round> {
+        let pair = self.pair(state);
+        if pair.is_some() || self.kind == Rounds::Pairs {
+            return pair;
+        }
+        let press = find_press(state, self.from)?;
+        self.from = press.variable;
+        Some(Round::Press(press))
+    }
+}
+
+fn make(state: &mut State, round: &Round, log: &mut Vec<u8>) -> Result<(), u8> {
+    match round {
+        Round::Pair(edge, weights) => {
+            write_shifts(log, state, *edge);
+            state.gather(*edge, weights);
+        }
+        Round::Press(press) => {
+            state.press(press.variable, &press.raised, press.amount)?;
+            write_press(log, state, press);
+        }
+    }
+    line::write(log, 4, 0, 0, 0, state.upper_bound);
+    Ok(())
+}
+
 /// Runs up to `limit` rounds from the given state.
-pub fn run(state: &mut State, limit: u64, log: &mut Vec<u8>) -> (Stop, u64) {
+fn run(state: &mut State, kind: Rounds, limit: u64, log: &mut Vec<u8>) -> (Stop, u64) {
     let mut rounds = 0;
-    let mut from = 0;
-    while let Some(press) = find_press(state, from) {
+    let (edges, from) = (true, 0);
+    let mut search = Search { kind, edges, from };
+    while let Some(round) = search.next(state) {
         if rounds == limit {
             return (Stop::Limit, rounds);
         }
-        if let Err(number) = state.press(press.variable, &press.raised, press.amount) {
+        if let Err(number) = make(state, &round, log) {
             return (Stop::Refused(number), rounds);
         }
-        write_press(log, state, &press);
-        line::write(log, 4, 0, 0, 0, state.upper_bound);
-        from = press.variable;
         rounds += 1;
     }
     (Stop::Settled, rounds)
 }
 
-/// A run from a case's starting weights, with everything it hands back.
-pub fn run_case(case: &Case, limit: u64) -> Run {
+/// A run from the weights that the case holds, with everything it hands back.
+pub fn run_case(case: &Case, kind: Rounds, limit: u64) -> Run {
     let mut state = State::new(case);
     let mut log = Vec::new();
-    let (stop, rounds) = run(&mut state, limit, &mut log);
+    let (stop, rounds) = run(&mut state, kind, limit, &mut log);
     Run {
         stop,
         rounds,

@@ -1,11 +1,11 @@
-//! Logs as other engines write them: shifts, untrimmed presses by odd amounts,
+//! Logs as other engines write them: shifts, whole pair rounds, untrimmed presses by odd amounts,
 //! several moves a round, rounds whose first move raises the ceiling. A careful
 //! writer's log is accepted; a careless one also writes what must be refused.
 
-use crate::engine::find_press;
+use crate::engine::{find_press, write_shifts};
 use crate::line;
 use crate::random::Random;
-use crate::refute::all_active_refuted;
+use crate::refute::{all_active_refuted, no_active_choice};
 use crate::scopes::Scopes;
 use crate::state::State;
 use crate::types::*;
@@ -49,6 +49,9 @@ impl Writer<'_> {
         let before = (self.state.clone(), self.log.len());
         if self.random.chance(1, 3) {
             self.raise_and_return();
+        }
+        if self.random.chance(1, 4) {
+            self.any_pair_round();
         }
         for _ in 0..*self.random.pick(&[0, 0, 1, 2, 4]) {
             if self.random.chance(1, 2) {
@@ -147,6 +150,22 @@ impl Writer<'_> {
     fn any_shift(&mut self) {
         if let Some(shift) = self.some_shift() {
             self.shift(shift);
+        }
+    }
+
+    /// The shifts of a pair round of any edge, mostly one that is due.
+    fn any_pair_round(&mut self) {
+        let offset = self.random.below(self.state.edges);
+        let any = self.random.chance(1, 6);
+        for step in 0..self.state.edges {
+            let edge = (offset + step) % self.state.edges;
+            if !any && !no_active_choice(&self.state, edge) {
+                continue;
+            }
+            if let Some(weights) = self.state.gathered(edge) {
+                write_shifts(&mut self.log, &self.state, edge);
+                return self.state.gather(edge, &weights);
+            }
         }
     }
 

@@ -20,6 +20,10 @@ pub enum Weights {
     Small(i64),
     /// The ends of the range and numbers beside them.
     Extreme,
+    /// Links 0, pairs from minus to plus this number.
+    Flat(i64),
+    /// At and near the ends of the working range and its half, or small; no case file.
+    Border,
     /// Likes on links, losses for equal and neighbouring channels on pairs.
     Interference,
 }
@@ -36,8 +40,8 @@ pub struct Plan {
     pub edges: usize,
 }
 
-pub const KINDS: [&str; 8] = [
-    "uniform", "small", "extreme", "chain", "ring", "tree", "mesh", "unusable",
+pub const KINDS: [&str; 10] = [
+    "uniform", "small", "extreme", "flat", "chain", "ring", "tree", "mesh", "unusable", "border",
 ];
 
 /// Shape, weights and unusable share of a named kind.
@@ -46,6 +50,8 @@ pub fn kind(name: &str) -> Option<(Shape, Weights, u64)> {
         "uniform" => (Shape::Random, Weights::Uniform, 0),
         "small" => (Shape::Random, Weights::Small(9), 0),
         "extreme" => (Shape::Random, Weights::Extreme, 0),
+        "flat" => (Shape::Random, Weights::Flat(9), 0),
+        "border" => (Shape::Random, Weights::Border, 0),
         "chain" => (Shape::Chain, Weights::Interference, 0),
         "ring" => (Shape::Ring, Weights::Interference, 0),
         "tree" => (Shape::Tree, Weights::Interference, 0),
@@ -57,6 +63,19 @@ pub fn kind(name: &str) -> Option<(Shape, Weights, u64)> {
 
 pub fn case(random: &mut Random, plan: Plan) -> Case {
     let edges = join(random, plan);
+    let weights = match plan.weights {
+        Weights::Border => border_table(random, plan.variables, plan.values, edges.len()),
+        _ => table(random, plan, edges.len()),
+    };
+    Case {
+        variables: plan.variables,
+        values: plan.values,
+        edges,
+        weights,
+    }
+}
+
+fn table(random: &mut Random, plan: Plan, edges: usize) -> Vec<i32> {
     let mut weights = Vec::new();
     let scale = *random.pick(&[1, 1, 3, 10, 100]);
     for _ in 0..plan.variables {
@@ -64,14 +83,34 @@ pub fn case(random: &mut Random, plan: Plan) -> Case {
             weights.push(variable_weight(random, plan, scale));
         }
     }
-    for _ in &edges {
+    for _ in 0..edges {
         edge_weights(random, plan, scale, &mut weights);
     }
-    Case {
-        variables: plan.variables,
-        values: plan.values,
-        edges,
-        weights,
+    weights
+}
+
+fn border_table(random: &mut Random, variables: usize, values: usize, edges: usize) -> Vec<i32> {
+    let mut weights = Vec::new();
+    let spread = *random.pick(&[1, 2, 3, 6, 30]);
+    for _ in 0..variables {
+        border_weights(random, values, spread, &mut weights);
+    }
+    for _ in 0..edges {
+        border_weights(random, values * values, spread, &mut weights);
+    }
+    weights
+}
+
+/// A scope's weights, most of them near one number.
+fn border_weights(random: &mut Random, count: usize, spread: i64, weights: &mut Vec<i32>) {
+    let half = WORK_LIMIT / 2;
+    let middles = [0, 0, 0, WORK_LIMIT, -WORK_LIMIT, half, -half];
+    let middle = *random.pick(&middles);
+    for _ in 0..count {
+        let other = random.chance(1, 12);
+        let near = if other { *random.pick(&middles) } else { middle };
+        let weight = near + random.between(-spread, spread);
+        weights.push(weight.clamp(-WORK_LIMIT, WORK_LIMIT) as i32);
     }
 }
 
@@ -81,13 +120,14 @@ fn variable_weight(random: &mut Random, plan: Plan, scale: i64) -> i32 {
     }
     match plan.weights {
         Weights::Interference => (scale * random.between(0, 20)) as i32,
+        Weights::Flat(_) => 0,
         other => plain_weight(random, other),
     }
 }
 
 fn plain_weight(random: &mut Random, weights: Weights) -> i32 {
     let weight = match weights {
-        Weights::Small(most) => random.between(-most, most),
+        Weights::Small(most) | Weights::Flat(most) => random.between(-most, most),
         Weights::Extreme => {
             let most = START_LIMIT;
             *random.pick(&[-most, most, -most, most, 0, 1 - most, most - 1, 1, -1])
@@ -191,6 +231,28 @@ fn mesh(random: &mut Random, variables: usize, edges: usize) -> Vec<(usize, usiz
     near
 }
 
+/// A working table near the borders for the links and pairs of a case.
+pub fn border_for(random: &mut Random, case: &Case) -> Case {
+    let weights = border_table(random, case.variables, case.values, case.edges.len());
+    Case { weights, ..case.clone() }
+}
+
+/// Weights of all sizes for the links and pairs of a case, or low ones only.
+pub fn any_table_for(random: &mut Random, case: &Case) -> Case {
+    let size = *random.pick(&[2, 1_000_000, WORK_LIMIT]);
+    let low = random.chance(1, 2);
+    let mut any = || {
+        let weight = random.between(-size, size);
+        if low {
+            (weight.abs() / 1000 - WORK_LIMIT) as i32
+        } else {
+            weight as i32
+        }
+    };
+    let weights = case.weights.iter().map(|_| any()).collect();
+    Case { weights, ..case.clone() }
+}
+
 /// Any kind of case with at most these sizes.
 pub fn any_case(random: &mut Random, variables: usize, values: usize, edges: usize) -> Case {
     let shape = *random.pick(&[
@@ -201,7 +263,8 @@ pub fn any_case(random: &mut Random, variables: usize, values: usize, edges: usi
         Shape::Random,
     ]);
     let small = *random.pick(&[1, 2, 3, 9, 50]);
-    let weights = match random.below(8) {
+    let weights = match random.below(9) {
+        8 => Weights::Flat(small),
         0 => Weights::Uniform,
         1 => Weights::Extreme,
         2 | 3 => Weights::Interference,

@@ -77,7 +77,7 @@ fn largest_case(random: &mut Random) -> Case {
 /// The engine's own log, or a foreign one.
 pub fn some_log(random: &mut Random, case: &Case) -> Vec<u8> {
     match random.below(4) {
-        0 => engine::run_case(case, random.below(60) as u64).log,
+        0 => engine::run_case(case, Rounds::All, random.below(60) as u64).log,
         1 => foreign::log(random, case, false),
         _ => foreign::log(random, case, true),
     }

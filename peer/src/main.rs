@@ -1,7 +1,8 @@
-//! The peer: a second reading of document 01 in plain Rust, to hold programs,
-//! vectors and speed against. See ../README.md.
+//! The peer: a second reading of document 01 and of change 1 of document 02 in plain
+//! Rust, to hold programs, vectors and speed against. See ../README.md.
 
 mod bench;
+mod calls;
 mod case;
 mod check;
 mod compare;
@@ -14,6 +15,7 @@ mod inputs;
 mod line;
 mod options;
 mod outside;
+mod pair_samples;
 mod plain;
 mod plain_replay;
 mod programs;
@@ -36,9 +38,11 @@ use std::process::ExitCode;
 use types::*;
 
 const USAGE: &str = "usage: peer COMMAND [OPTIONS]
-  press [--limit ROUNDS] [--plain]  case file in, log out (by the plain engine)
+  press [--pairs] [--limit ROUNDS] [--plain]  case file in, log out (by the plain engine)
   replay [--plain]            case file and log in, accepted or refused out
-  slow-press, slow-replay     the same by the slow reading
+  slow-press [--pairs] [--limit ROUNDS], slow-replay  the same by the slow reading
+  run-table [--pairs] [--limit ROUNDS] [--plain | --slow]  working table as a case file
+                              in, log and settled, limit or refused 11 out
   view ROUND                  log in, the round's lines out
   score FIRST SECOND          case file in, first or second out (plans like 0,1,0)
   total PLAN                  case file in, the plan's starting total out
@@ -48,7 +52,8 @@ const USAGE: &str = "usage: peer COMMAND [OPTIONS]
   damage [--seed S]           any input in, damaged input out
   untrimmed [--rounds N]      case file in, a log of untrimmed presses by 1 out
   check [--seconds N | --cases N] [--seed S] [--keep DIR] [--counts]
-  compare [--seconds N] [--seed S] [--press PROGRAM] [--replay PROGRAM] [--keep DIR] [--counts]
+  compare [--seconds N] [--seed S] [--press PROGRAM] [--replay PROGRAM] [--engine PROGRAM]
+          [--keep DIR] [--counts]
   bench [--seconds N]         figures of speed";
 
 fn main() -> ExitCode {
@@ -56,7 +61,7 @@ fn main() -> ExitCode {
     let Some((command, rest)) = arguments.split_first() else {
         return usage("no command");
     };
-    match Options::new(rest).and_then(|mut options| {
+    match Options::new(command, rest).and_then(|mut options| {
         let code = run(command, &mut options)?;
         Ok(code)
     }) {
@@ -75,8 +80,9 @@ fn run(command: &str, options: &mut Options) -> Result<ExitCode, String> {
         "press" => press(options),
         "replay" if options.flag("plain") => print_after(options, programs::plain_replay),
         "replay" => print_after(options, programs::replay),
-        "slow-press" => print_after(options, slow::programs::press),
+        "slow-press" => slow_press(options),
         "slow-replay" => print_after(options, slow::programs::replay),
+        "run-table" => run_table(options),
         "view" => view_round(options),
         "score" => score_plans(options),
         "total" => total(options),
@@ -121,18 +127,41 @@ fn print_after(
     output(&answer(&input()))
 }
 
+fn rounds_option(options: &mut Options) -> Result<(Rounds, u64), String> {
+    let kind = match options.flag("pairs") {
+        true => Rounds::Pairs,
+        false => Rounds::All,
+    };
+    Ok((kind, options.number("limit", PROGRAM_ROUNDS)?))
+}
+
 fn press(options: &mut Options) -> Result<ExitCode, String> {
-    let limit = options.number("limit", PROGRAM_ROUNDS)?;
-    let run_case = if options.flag("plain") {
-        plain::run_case
-    } else {
-        engine::run_case
+    let (kind, limit) = rounds_option(options)?;
+    let engine = match options.flag("plain") {
+        true => plain::run_case,
+        false => engine::run_case,
     };
     print_after(options, |input| {
-        match programs::press_answer(input, limit, run_case) {
-            Ok(run) => run.log,
-            Err(refusal) => programs::refusal_text(refusal),
-        }
+        programs::press_by(input, engine, kind, limit)
+    })
+}
+
+fn slow_press(options: &mut Options) -> Result<ExitCode, String> {
+    let (kind, limit) = rounds_option(options)?;
+    print_after(options, |input| {
+        slow::programs::press_rounds(input, kind, limit)
+    })
+}
+
+fn run_table(options: &mut Options) -> Result<ExitCode, String> {
+    let (kind, limit) = rounds_option(options)?;
+    let engine = match (options.flag("plain"), options.flag("slow")) {
+        (true, _) => plain::run_case,
+        (_, true) => slow::engine::run,
+        _ => engine::run_case,
+    };
+    print_after(options, |input| {
+        programs::run_table(input, engine, kind, limit)
     })
 }
 

@@ -6,10 +6,15 @@ pub struct Options {
     flags: Vec<String>,
 }
 
-const FLAGS: [&str; 3] = ["counts", "careful", "plain"];
+const FLAGS: [&str; 5] = ["counts", "careful", "plain", "slow", "pairs"];
+
+/// `generate` takes a number of pairs; elsewhere `--pairs` stands alone.
+fn is_flag(command: &str, name: &str) -> bool {
+    FLAGS.contains(&name) && (command, name) != ("generate", "pairs")
+}
 
 impl Options {
-    pub fn new(arguments: &[String]) -> Result<Options, String> {
+    pub fn new(command: &str, arguments: &[String]) -> Result<Options, String> {
         let mut options = Options {
             words: vec![],
             named: vec![],
@@ -19,7 +24,7 @@ impl Options {
         while let Some(argument) = left.next() {
             match argument.strip_prefix("--") {
                 None => options.words.push(argument.clone()),
-                Some(name) if FLAGS.contains(&name) => options.flags.push(name.into()),
+                Some(name) if is_flag(command, name) => options.flags.push(name.into()),
                 Some(name) => {
                     let value = left.next().ok_or(format!("--{name} needs a value"))?;
                     options.named.push((name.into(), value.clone()));

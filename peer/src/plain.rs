@@ -124,11 +124,46 @@ fn trim(case: &Case, active: &Active, variable: usize, raised: &mut [bool]) {
     }
 }
 
-/// One round: its lines and the table after it; nothing if settled.
-fn round(case: &Case, weights: &mut [i64], log: &mut Vec<u8>) -> Option<Result<i64, u8>> {
-    let active = read(case, weights);
-    let (variable, mut raised) = choose(case, &active)?;
-    trim(case, &active, variable, &mut raised);
+/// The weights of pair e after the shifts of end 0 and after those of both ends.
+fn shifted(case: &Case, weights: &[i64], e: usize) -> [Vec<i64>; 2] {
+    let d = case.values;
+    let (i, j) = case.edges[e];
+    let pair = weights[part(case, case.variables + e)].iter().enumerate();
+    let half: Vec<i64> = pair.map(|(at, w)| w + weights[i * d + at / d]).collect();
+    let whole = half.iter().enumerate().map(|(at, w)| w + weights[j * d + at % d]).collect();
+    [half, whole]
+}
+
+/// The lowest pair to shift into, and its weights after it.
+fn choose_pair(case: &Case, active: &Active, weights: &[i64]) -> Option<(usize, Vec<i64>)> {
+    let good = |pair: &Vec<i64>| pair.iter().all(|w| w.abs() <= WORK_LIMIT);
+    case.edges.iter().enumerate().find_map(|(e, &(i, j))| {
+        let greatest = [i, j, case.variables + e].map(|x| active.greatest[x]);
+        let [half, whole] = shifted(case, weights, e);
+        let due = greatest.iter().sum::<i64>() > *whole.iter().max().unwrap();
+        (due && good(&half) && good(&whole)).then_some((e, whole))
+    })
+}
+
+fn shift_all(case: &Case, weights: &mut [i64], e: usize, pair: &[i64], log: &mut Vec<u8>) {
+    let (i, j) = case.edges[e];
+    for (end, link) in [(0, i), (1, j)] {
+        for (k, w) in weights[part(case, link)].iter_mut().enumerate().filter(|(_, w)| **w != 0) {
+            line::write(log, 1, e as i64, end, k as i64, -*w);
+            *w = 0;
+        }
+    }
+    weights[part(case, case.variables + e)].copy_from_slice(pair);
+}
+
+fn press(
+    case: &Case,
+    active: &Active,
+    weights: &mut [i64],
+    (variable, mut raised): (usize, Vec<bool>),
+    log: &mut Vec<u8>,
+) -> Result<(), u8> {
+    trim(case, active, variable, &mut raised);
     let touched: Vec<usize> = (0..raised.len()).filter(|&x| raised[x] || x == variable).collect();
     let amount = touched
         .iter()
@@ -146,7 +181,7 @@ fn round(case: &Case, weights: &mut [i64], log: &mut Vec<u8>) -> Option<Result<i
                 *w += amount;
             }
             if w.abs() > WORK_LIMIT {
-                return Some(Err(11));
+                return Err(11);
             }
         }
     }
@@ -155,26 +190,47 @@ fn round(case: &Case, weights: &mut [i64], log: &mut Vec<u8>) -> Option<Result<i
     for &x in touched.iter().filter(|&&x| x != variable) {
         line::write(log, 3, x as i64, 0, 0, 0);
     }
-    let bound = upper_bound(case, weights);
-    line::write(log, 4, 0, 0, 0, bound);
-    Some(Ok(bound))
+    Ok(())
 }
 
-pub fn run_case(case: &Case, limit: u64) -> Run {
+/// One round: its lines and the table after it; nothing if settled. Without `make` it
+/// is looked for only.
+fn round(
+    case: &Case,
+    kind: Rounds,
+    weights: &mut [i64],
+    log: &mut Vec<u8>,
+    make: bool,
+) -> Option<Result<(), u8>> {
+    let active = read(case, weights);
+    if let Some((e, pair)) = choose_pair(case, &active, weights) {
+        if make {
+            shift_all(case, weights, e, &pair, log);
+        }
+        return Some(Ok(()));
+    }
+    if kind == Rounds::Pairs {
+        return None;
+    }
+    let chosen = choose(case, &active)?;
+    Some(if make { press(case, &active, weights, chosen, log) } else { Ok(()) })
+}
+
+/// A run from the weights that the case holds.
+pub fn run_case(case: &Case, kind: Rounds, limit: u64) -> Run {
     let mut weights: Vec<i64> = case.weights.iter().map(|&w| i64::from(w)).collect();
     let mut log = Vec::new();
-    let (mut rounds, mut upper_bound) = (0, upper_bound(case, &weights));
+    let mut rounds = 0;
     let stop = loop {
-        if rounds == limit {
-            let settled = choose(case, &read(case, &weights)).is_none();
-            break if settled { Stop::Settled } else { Stop::Limit };
-        }
-        match round(case, &mut weights, &mut log) {
+        match round(case, kind, &mut weights, &mut log, rounds < limit) {
             None => break Stop::Settled,
+            Some(_) if rounds == limit => break Stop::Limit,
             Some(Err(number)) => break Stop::Refused(number),
-            Some(Ok(bound)) => (rounds, upper_bound) = (rounds + 1, bound),
+            Some(Ok(())) => rounds += 1,
         }
+        line::write(&mut log, 4, 0, 0, 0, upper_bound(case, &weights));
     };
+    let upper_bound = upper_bound(case, &weights);
     let weights = weights.into_iter().map(|weight| weight as i32).collect();
     Run { stop, rounds, upper_bound, log, weights }
 }

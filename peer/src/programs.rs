@@ -10,25 +10,43 @@ pub fn refusal_text(refusal: Refusal) -> Vec<u8> {
     format!("refused {} {}\n", refusal.number, refusal.line).into_bytes()
 }
 
-/// The log of up to `limit` rounds of the given engine, or the refusal.
-pub fn press_answer(
-    input: &[u8],
-    limit: u64,
-    run_case: fn(&Case, u64) -> Run,
-) -> Result<Run, Refusal> {
-    let (case, used) = case::read_alone(input)?;
-    let run = run_case(&case, limit);
-    match run.stop {
-        Stop::Refused(number) => Err(Refusal { number, line: used }),
-        _ => Ok(run),
+/// A run of one of the engines from the weights that a case holds.
+pub type Engine = fn(&Case, Rounds, u64) -> Run;
+
+pub fn press_by(input: &[u8], engine: Engine, kind: Rounds, limit: u64) -> Vec<u8> {
+    match case::read_alone(input) {
+        Ok((case, used)) => press_text(engine(&case, kind, limit), used),
+        Err(refusal) => refusal_text(refusal),
     }
 }
 
-pub fn press(input: &[u8]) -> Vec<u8> {
-    match press_answer(input, PROGRAM_ROUNDS, engine::run_case) {
-        Ok(run) => run.log,
-        Err(refusal) => refusal_text(refusal),
+/// The log of the rounds that stand, then the refusal if there is one.
+pub fn press_text(run: Run, line: usize) -> Vec<u8> {
+    let mut text = run.log;
+    if let Stop::Refused(number) = run.stop {
+        text.extend(refusal_text(Refusal { number, line }));
     }
+    text
+}
+
+pub fn press(input: &[u8]) -> Vec<u8> {
+    press_by(input, engine::run_case, Rounds::All, PROGRAM_ROUNDS)
+}
+
+/// The log of a run from a working table, then how it ended, rounds and ceiling.
+pub fn run_table(input: &[u8], engine: Engine, kind: Rounds, limit: u64) -> Vec<u8> {
+    let (table, _) = match case::read_table(input) {
+        Ok(read) => read,
+        Err(refusal) => return refusal_text(refusal),
+    };
+    let run = engine(&table, kind, limit);
+    let stop = match run.stop {
+        Stop::Settled => "settled".into(),
+        Stop::Limit => "limit".into(),
+        Stop::Refused(number) => format!("refused {number}"),
+    };
+    let last = format!("{stop} {} {}\n", run.rounds, run.upper_bound);
+    [run.log, last.into_bytes()].concat()
 }
 
 /// Rounds and upper bound of an accepted case and log, or the refusal.

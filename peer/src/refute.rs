@@ -35,6 +35,13 @@ fn supported_jointly(rows: u64, domains: u64) -> u64 {
     all
 }
 
+/// Whether no choice of values is active in the edge and in both its variables: then
+/// the three greatest weights add up to more than any total of the three.
+pub fn no_active_choice(state: &State, edge: usize) -> bool {
+    let [lower, higher] = state.ends[edge].map(|variable| state.active[variable as usize]);
+    lower & supported(state.rows[edge][0], higher) == 0
+}
+
 /// Domains for one try.
 pub type Domains = [u8; MAX_VARIABLES];
 

@@ -1,9 +1,9 @@
-//! The samples P1 to P12 of document 01 and P13 of the register, asked of both
-//! readings.
+//! The samples P1 to P12 of document 01, P5 as document 02 restates it, and P13 of the
+//! register, asked of both readings.
 
 use crate::refusals::by_hand;
 use crate::types::*;
-use crate::{case, engine, programs, slow};
+use crate::{case, engine, pair_samples, programs, slow};
 
 pub struct Sample {
     pub name: &'static str,
@@ -20,7 +20,7 @@ const P1_LOG: &str = " 2   0   3   0           1
  4   0   0   0          -1
 ";
 
-fn case_of(values: usize, edges: &[(usize, usize)], weights: &[i32]) -> Case {
+pub fn case_of(values: usize, edges: &[(usize, usize)], weights: &[i32]) -> Case {
     let pairs = edges.len() * values * values;
     let variables = (weights.len() - pairs) / values;
     Case {
@@ -35,6 +35,19 @@ fn triangle() -> Case {
     let pair = [-1, 0, 0, -1];
     let weights = [[0; 6].as_slice(), &pair, &pair, &pair].concat();
     case_of(2, &[(0, 1), (0, 2), (1, 2)], &weights)
+}
+
+/// P1's case with −3 for equal values and −1 at link 0, value 1: no pair round.
+fn uneven_triangle() -> Case {
+    let pair = [-3, 0, 0, -3];
+    let weights = [[0, -1, 0, 0, 0, 0].as_slice(), &pair, &pair, &pair].concat();
+    case_of(2, &[(0, 1), (0, 2), (1, 2)], &weights)
+}
+
+fn triangle_press(amount: i64, bound: i64) -> Vec<u8> {
+    let raise = |scope| [3, scope, 0, 0, 0];
+    let press = [2, 0, 3, 0, amount];
+    lines(&[press, raise(3), raise(4), raise(5), [4, 0, 0, 0, bound]])
 }
 
 fn two(first: [i32; 2], second: [i32; 2], pair: [i32; 4]) -> Case {
@@ -67,10 +80,15 @@ pub fn lines(numbers: &[[i64; 5]]) -> Vec<u8> {
     text
 }
 
-/// The press of P4 by another amount, and a bound line.
+/// A press of P4 as other engines may make it, and a bound line.
 fn press_by(amount: i64, bound: i64) -> Vec<u8> {
     let press = [2, 0, 2, 0, amount];
     lines(&[press, [3, 1, 0, 0, 0], [3, 2, 0, 0, 0], [4, 0, 0, 0, bound]])
+}
+
+/// P5's pair round.
+fn shifts_of_p5() -> Vec<u8> {
+    lines(&[[1, 0, 0, 0, -2], [1, 0, 1, 0, -2], [4, 0, 0, 0, 2]])
 }
 
 pub fn replayed(name: &'static str, case: &Case, log: &[u8], output: &str) -> Sample {
@@ -111,8 +129,9 @@ fn program_samples() -> Vec<Sample> {
         ),
         replayed("P1 no lines", &triangle(), b"", "accepted 0 0"),
         replayed("P3", &triangle(), &without_5, "refused 10 24"),
-        pressed("P4 P5 press", &p4(), &press_by(2, 2)),
-        replayed("P4 P5 replay", &p4(), &press_by(2, 2), "accepted 1 2"),
+        pressed("P4 P5 press", &p4(), &shifts_of_p5()),
+        replayed("P4 P5 replay", &p4(), &shifts_of_p5(), "accepted 1 2"),
+        replayed("P4 press by 2", &p4(), &press_by(2, 2), "accepted 1 2"),
         replayed("P4 no lines", &p4(), b"", "accepted 0 4"),
         replayed("P6", &p4(), &press_by(1, 3), "accepted 1 3"),
         replayed("P7", &p4(), &press_by(3, 3), "accepted 1 3"),
@@ -169,12 +188,13 @@ fn limit_samples() -> Vec<Sample> {
 /// The register's P13: what P1 to P12 leave alive.
 fn p13_samples() -> Vec<Sample> {
     let own_gap = two([2, 1], [2, 0], [-3, 0, 0, 0]);
-    let own_first = lines(&[
-        [2, 0, 2, 0, 1],
-        [3, 1, 0, 0, 0],
-        [3, 2, 0, 0, 0],
+    let all_weights = lines(&[
+        [1, 0, 0, 0, -2],
+        [1, 0, 0, 1, -1],
+        [1, 0, 1, 0, -2],
         [4, 0, 0, 0, 3],
     ]);
+    let own_first = [triangle_press(1, -1), triangle_press(2, -3)].concat();
     let half = two([0, 2], [0, 2], [0, 0, 0, -3]);
     let up_first = lines(&[
         [1, 0, 0, 1, 3],
@@ -186,7 +206,8 @@ fn p13_samples() -> Vec<Sample> {
     ]);
     let two_rounds = [press_by(1, 3), press_by(1, 2)].concat();
     vec![
-        pressed("P13 own gap", &own_gap, &own_first),
+        pressed("P13 two values of a link", &own_gap, &all_weights),
+        pressed("P13 own gap", &uneven_triangle(), &own_first),
         replayed(
             "P13 own gap by 2",
             &own_gap,
@@ -235,8 +256,8 @@ fn ask_runs() -> Result<usize, String> {
     let count = 2 * table.len();
     for (name, case, limit, stop, rounds, bound) in table {
         for run in [
-            engine::run_case(&case, limit),
-            slow::engine::run(&case, limit),
+            engine::run_case(&case, Rounds::All, limit),
+            slow::engine::run(&case, Rounds::All, limit),
         ] {
             if (run.stop, run.rounds, run.upper_bound) != (stop, rounds, bound) {
                 return Err(format!("{name}: {run:?}"));
@@ -244,7 +265,7 @@ fn ask_runs() -> Result<usize, String> {
         }
     }
     let all_active = [vec![-1; 2], vec![0; 16]].concat();
-    if engine::run_case(&triangle(), 1).weights != all_active {
+    if engine::run_case(&triangle(), Rounds::All, 1).weights != all_active {
         return Err("P2: not all is active".into());
     }
     Ok(count + 1)
@@ -254,13 +275,16 @@ fn all() -> Vec<Sample> {
     let mut samples = program_samples();
     samples.extend(limit_samples());
     samples.extend(p13_samples());
+    for (name, case, log) in pair_samples::for_press() {
+        samples.push(pressed(name, &case, &log));
+    }
     samples.extend(by_hand());
     samples
 }
 
 /// Every sample of both readings; the number of answers compared.
 pub fn check() -> Result<usize, String> {
-    let mut count = ask_runs()?;
+    let mut count = ask_runs()? + pair_samples::check()?;
     for sample in all() {
         ask(&sample)?;
         count += 2;

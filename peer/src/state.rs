@@ -42,11 +42,8 @@ pub struct State {
 const NONE: i32 = i32::MIN;
 
 impl State {
+    /// The state with the weights that the case holds.
     pub fn new(case: &Case) -> State {
-        State::with_weights(case, case.weights.clone())
-    }
-
-    pub fn with_weights(case: &Case, weights: Vec<i32>) -> State {
         let full = (0xffu16 >> (8 - case.values)) as u8;
         let used_rows = u64::MAX >> (8 * (8 - case.values));
         let mut state = State {
@@ -58,7 +55,7 @@ impl State {
             ends: [[0; 2]; MAX_EDGES],
             first_near: [0; MAX_VARIABLES + 1],
             near: [Near::default(); 2 * MAX_EDGES],
-            stored: weights,
+            stored: case.weights.clone(),
             mark: [0; MAX_SCOPES],
             lift: [0; MAX_SCOPES],
             greatest: [0; MAX_SCOPES],
@@ -122,6 +119,13 @@ impl State {
         let square = self.values * self.values;
         let from = self.variables * self.values + (scope - self.variables) * square;
         from..from + square
+    }
+
+    /// The scope's working weights in table order.
+    pub fn working(&self, scope: usize) -> impl Iterator<Item = i32> + '_ {
+        let (top, mark, lift) = (self.greatest[scope], self.mark[scope], self.lift[scope]);
+        let now = move |&weight: &i32| if weight == mark { top } else { weight + lift };
+        self.stored[self.places(scope)].iter().map(now)
     }
 
     /// The table of working weights.
@@ -213,6 +217,34 @@ impl State {
         self.refresh(variable);
         self.refresh(scope);
         Ok(())
+    }
+
+    /// What the edge's weights become when both variables' weights are shifted into it;
+    /// nothing if a weight is out of range then or after the shifts of end 0.
+    pub fn gathered(&self, edge: usize) -> Option<Vec<i32>> {
+        let [lower, higher] = self.ends[edge].map(usize::from);
+        let lower: Vec<i32> = self.working(lower).collect();
+        let higher: Vec<i32> = self.working(higher).collect();
+        let sums = |(at, weight): (usize, i32)| {
+            let half = weight + lower[at / self.values];
+            let whole = half + higher[at % self.values];
+            (in_range(half) && in_range(whole)).then_some(whole)
+        };
+        let tuples = self.working(self.variables + edge).enumerate();
+        tuples.map(sums).collect()
+    }
+
+    /// Gives the edge what `gathered` found and its variables zeros.
+    pub fn gather(&mut self, edge: usize, weights: &[i32]) {
+        let scope = self.variables + edge;
+        let places = self.places(scope);
+        self.stored[places].copy_from_slice(weights);
+        self.refresh(scope);
+        for variable in self.ends[edge].map(usize::from) {
+            let places = self.places(variable);
+            self.stored[places].fill(0);
+            self.refresh(variable);
+        }
     }
 
     /// Press, or number 11. That it is allowed is the caller's to know.

@@ -1,4 +1,4 @@
-//! Data types and limits of document 01, shared by the fast and the slow reading.
+//! Data types and limits of documents 01 and 02, shared by the fast and the slow reading.
 //! Nothing here computes anything.
 
 pub const LINE_BYTES: usize = 27;
@@ -12,8 +12,9 @@ pub const MOVE_LIMIT: i64 = 1_000_000_000;
 pub const ROUND_LIMIT: u64 = 999_999_999_999_999_999;
 pub const PROGRAM_ROUNDS: u64 = 100_000;
 
-/// One case: `edges[e]` joins a lower and a higher variable; `weights` is the
-/// table of starting weights in document 01's order.
+/// One case: `edges[e]` joins a lower and a higher variable; `weights` is the table in
+/// document 01's order, of starting weights or, where a run is lent one, of working
+/// weights.
 #[derive(Clone, PartialEq, Eq, Debug)]
 pub struct Case {
     pub variables: usize,
@@ -44,6 +45,13 @@ pub enum Stop {
     Settled,
     Limit,
     Refused(u8),
+}
+
+/// Which rounds a run makes: pair rounds and presses, or pair rounds only.
+#[derive(Clone, Copy, PartialEq, Eq, Debug)]
+pub enum Rounds {
+    All,
+    Pairs,
 }
 
 /// What a run hands back.

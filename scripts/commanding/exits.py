@@ -8,7 +8,7 @@ import time
 
 import planning.sources
 from picturing.columns import LINE
-from running.inputs import P4, P4_ROUND, line, with_line
+from running.inputs import P4, P4_PRESS, P4_ROUND, line, with_line
 
 from .trial import last_line
 
@@ -76,7 +76,7 @@ def refused_pages(trial):
     """A refused line as editors and as `replay` count it, its rule, and how lines are written for rule 1 alone."""
     columns = b"Each column holds"
     for name, case, log, rule, counts in (
-        ("a log", P4, P4_ROUND[:-LINE] + line(4, 0, 0, 0, 3), b"rule 12,", (4, 13)),
+        ("a log", P4, P4_PRESS[:-LINE] + line(4, 0, 0, 0, 3), b"rule 12,", (4, 13)),
         ("a case", with_line(P4, 2, line(11, 1, 1)), b"", b"Rule 5,", (3, 2)),
         ("a case's columns", b"x" + P4[1:], b"", b"Rule 1,", (1, 0)),
     ):
@@ -254,7 +254,7 @@ def environments(trial):
     with open(os.path.join(folder, "select.py"), "w", encoding="ascii") as file:
         file.write("raise SystemExit(0)\n")
     for variable, value in (("PYTHONSAFEPATH", "1"), ("PYTHONINSPECT", "1"), ("PYTHONHOME", "/x"), ("PYTHONPATH", folder)):
-        for log, status, verdict in ((files.log, 0, b"accepted 1 2\n"), (files.bad_log, 1, b"refused 14 13\n")):
+        for log, status, verdict in ((files.log, 0, b"accepted 1 2\n"), (files.bad_log, 1, b"refused 14 12\n")):
             ended = trial.run("check", files.case, log, variables={variable: value})
             trial.ends(f"check {told([log])} with {variable}", ended, status, verdict)
     ended = trial.run("check", files.case, files.log, variables={"PATH": folder})

@@ -6,7 +6,7 @@ import shutil
 
 from picturing.case import MOST_CHANNELS, MOST_LINKS, MOST_PAIRS, STARTING
 from picturing.columns import LINE
-from running.inputs import P4, P4_ROUND, case, line
+from running.inputs import P4, P4_PRESS, P4_ROUND, case, line
 
 
 def total(links, pairs, values, plan):
@@ -99,7 +99,7 @@ def unfit(trial):
 def beside_ceiling(trial):
     path, log = trial.both(P4, P4_ROUND)
     met, below = trial.file("met", b"0 1"), trial.file("below", b"1 1")
-    higher = trial.file("plan.log", line(2, 0, 2, 0, 1) + P4_ROUND[LINE : 3 * LINE] + line(4, 0, 0, 0, 3))
+    higher = trial.file("plan.log", line(2, 0, 2, 0, 1) + P4_PRESS[LINE : 3 * LINE] + line(4, 0, 0, 0, 3))
     meets = b"the best plan meets the ceiling: no plan is better"
     for name, plans, used, rounds, ceiling, out in (
         ("met", [met], log, 1, 2, f"2 {met}\nbest 2 {met}\n"),

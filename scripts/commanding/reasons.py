@@ -7,7 +7,7 @@ import re
 from picturing.case import MOST_CHANNELS, MOST_LINKS, MOST_PAIRS, STARTING, read_case
 from picturing.columns import COLUMNS, LINE
 from picturing.log import MOVE, WORKING, read_log
-from running.inputs import P4, P4_ROUND, case, line, with_line
+from running.inputs import P4, P4_PRESS, case, line, with_line
 
 from .trial import cut, plain
 from .verdicts import explained
@@ -55,10 +55,10 @@ def not_in_columns(trial):
         ("a line feed too early", P4[: 2 * LINE + 3] + P4[2 * LINE + 4 :], ["line feed"], 3 * LINE - 1),
         ("an empty line", P4[: 3 * LINE] + b"\n" + P4[3 * LINE :], ["empty|line feed"], 3 * LINE + 1),
         ("one line with CRLF", P4[: 3 * LINE - 1] + b"\r" + P4[3 * LINE - 1 :], ["carriage return|CRLF"], 3 * LINE),
-        ("a log with CRLF", (P4, P4_ROUND.replace(b"\n", b"\r\n")), ["CRLF|carriage return"], LINE),
-        ("a log with a byte order mark", (P4, b"\xef\xbb\xbf" + P4_ROUND), ["byte order mark|BOM"], 1),
-        ("a log in UTF-16", (P4, P4_ROUND.decode().encode("utf-16")), ["UTF-16"], 1),
-        ("a tab in the log", (P4, with_byte(P4_ROUND, LINE + 4, b"\t")), [r"\btab"], LINE + 5),
+        ("a log with CRLF", (P4, P4_PRESS.replace(b"\n", b"\r\n")), ["CRLF|carriage return"], LINE),
+        ("a log with a byte order mark", (P4, b"\xef\xbb\xbf" + P4_PRESS), ["byte order mark|BOM"], 1),
+        ("a log in UTF-16", (P4, P4_PRESS.decode().encode("utf-16")), ["UTF-16"], 1),
+        ("a tab in the log", (P4, with_byte(P4_PRESS, LINE + 4, b"\t")), [r"\btab"], LINE + 5),
     ):
         asked(trial, name, text, 1, patterns, byte)
     first, end = COLUMNS[4]
@@ -102,13 +102,13 @@ def foreign(trial):
         asked(trial, f"{name} as a case", data, number, [*patterns, "not a case sheet"])
         asked(trial, f"{name} as a log", (P4, data), number, [patterns[0], "not a log", "ceiling press"])
     asked(trial, "a head with commas", b"10,2,2,1,0\n" + P4[LINE:], 1, ["Written in columns", r"\A(?!.*(CSV|wcsp))"])
-    asked(trial, "a tab first", (P4, with_byte(P4_ROUND, 0, b"\t")), 1, [r"\btab", r"\A(?!.*CSV)"], 1)
+    asked(trial, "a tab first", (P4, with_byte(P4_PRESS, 0, b"\t")), 1, [r"\btab", r"\A(?!.*CSV)"], 1)
     asked(trial, "a head without columns", b"10 2 2 1 0\n" + P4[LINE:], 1, ["Written in columns", r"\A(?!.*(CSV|wcsp))"])
 
 
 def kinds(trial):
     """Number 2: the kinds that are due, the column that must be 0."""
-    press, raised, rest = P4_ROUND[:LINE], P4_ROUND[LINE : 2 * LINE], P4_ROUND[2 * LINE :]
+    press, raised, rest = P4_PRESS[:LINE], P4_PRESS[LINE : 2 * LINE], P4_PRESS[2 * LINE :]
     for name, text, patterns in (
         ("another head", with_line(P4, 0, line(11, 2, 2, 1)), [r"\b10\b"]),
         ("a pair weight for a link's", with_line(P4, 2, line(13, 0, 1)), [r"\b11\b"]),
@@ -119,9 +119,9 @@ def kinds(trial):
         ("a raise line first", (P4, line(3, 1)), [r"\b1\b.*\b2\b.*\b4\b", r"\A(?!.*too small)"]),
         ("a kind that nobody knows", (P4, line(77)), [r"\b1\b.*\b2\b.*\b4\b"]),
         ("a bound line in a press", (P4, press + raised + line(4, 0, 0, 0, 2)), [r"\b3\b|raise"]),
-        ("a raise line too many", (P4, P4_ROUND[:-LINE] + line(3, 2)), [r"\b1\b.*\b2\b.*\b4\b", "press of link 0 in line 1 counts 2 .*too small"]),
-        ("a raise line after a bound line", (P4, P4_ROUND + line(3, 2)), [r"\b4\b", r"\A(?!.*too small)"]),
-        ("a bound line with a", (P4, P4_ROUND[:-LINE] + line(4, 1, 0, 0, 2)), [r"\ba\b"]),
+        ("a raise line too many", (P4, P4_PRESS[:-LINE] + line(3, 2)), [r"\b1\b.*\b2\b.*\b4\b", "press of link 0 in line 1 counts 2 .*too small"]),
+        ("a raise line after a bound line", (P4, P4_PRESS + line(3, 2)), [r"\b4\b", r"\A(?!.*too small)"]),
+        ("a bound line with a", (P4, P4_PRESS[:-LINE] + line(4, 1, 0, 0, 2)), [r"\ba\b"]),
         ("a raise line with an amount", (P4, press + line(3, 1, 0, 0, 1) + rest), ["amount"]),
         ("a raise line with b", (P4, press + line(3, 1, 5) + rest), [r"\bb\b"]),
         ("a press with c", (P4, line(2, 0, 2, 1, 2) + raised + rest), [r"\bc\b"]),
@@ -187,7 +187,7 @@ def heads(trial):
         head = line(10, 3, channels, 3)
         size = "1 channel" if channels == 1 else f"{channels} channels"
         asked(trial, f"a head with {size} of 2", with_line(TRIANGLE, 0, head), 5, [f"{counts} 3 links, {size} and 3 pairs"])
-    asked(trial, "a case line after a log", P4 + P4_ROUND + line(13, 0, 1, 1), 2, ["line of a case", "which ends with line 10"])
+    asked(trial, "a case line after a log", P4 + P4_PRESS + line(13, 0, 1, 1), 2, ["line of a case", "which ends with line 10"])
 
 
 def neighbours(trial):

@@ -22,7 +22,7 @@ def slow_press(trial, log):
     path = trial.file("log", log)
     size = len(log) // PIECES
     steps = [f"dd bs={size} skip={at} count=1 if={path} 2> /dev/null; sleep {PAUSE}\n" for at in range(PIECES)]
-    assert size % (4 * LINE) == 0 and size * PIECES == len(log)
+    assert size % (5 * LINE) == 0 and size * PIECES == len(log)
     return "cat > /dev/null\n" + "".join(steps)
 
 

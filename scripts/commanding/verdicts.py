@@ -4,7 +4,7 @@ import os
 import re
 
 from picturing.columns import LINE
-from running.inputs import P4, P4_ROUND, line
+from running.inputs import P4, P4_PRESS, P4_ROUND, line
 from running.stand_ins import COMPLAINS, DIES, judges, says
 
 from .trial import cut, plain
@@ -122,7 +122,7 @@ def damaged(trial):
 
 def other_words(trial):
     """A `replay` that says something else: what it says is passed on. One that gives no judgement: none is given."""
-    files = trial.both(P4, P4_ROUND)
+    files = trial.both(P4, P4_PRESS)
     fine = says("accepted 0 4\n")
     for said in ("accepted 3 -77", "accepted 1 99", "accepted 0 4", "refused 13 2", "refused 12 13", "refused 10 999999", "refused 99 1"):
         text = said + "\n"

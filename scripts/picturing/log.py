@@ -1,6 +1,7 @@
 """The log's moves, made on the weights without asking whether a press is allowed."""
 
 from .columns import LINE, Lines, NotInColumns, Refused
+from .pair_rounds import Begun
 
 WORKING = 500_000_000
 MOVE = 1_000_000_000
@@ -15,6 +16,9 @@ class Log:
         self.greatest = [max(self.table[slice(*case.span(s))]) for s in range(case.scopes)]
         self.ceilings = [sum(self.greatest)]
         self.ends = []
+        self.begun = Begun()
+        # Which rounds are pair rounds.
+        self.pair_rounds = []
         self.stopped = None
 
     @property
@@ -66,6 +70,7 @@ def shift(log, at, pair, end, value, amount):
     raised = log.table[link * d + value] + amount
     if max(map(abs, lowered + [raised])) > WORKING:
         log.lines.refuse(at, "the move takes a weight out of its range")
+    log.begun.shift(case, log.table, pair, end, value, amount)
     log.table[inside] = lowered
     log.table[link * d + value] = raised
     for scope in (link, case.n + pair):
@@ -93,6 +98,7 @@ def press(log, at, link, count, amount):
     for scope, weights in changed.items():
         log.table[slice(*case.span(scope))] = weights
         log.greatest[scope] = max(weights)
+    log.begun.press()
     return at + 1 + count
 
 
@@ -114,5 +120,8 @@ def bound(log, at, amount):
         log.lines.refuse(at, f"the bound line states another number than the ceiling, {ceiling:,}")
     if ceiling >= log.ceilings[-1]:
         log.lines.refuse(at, "the ceiling is not lower than at the round's start")
+    if log.begun.whole:
+        log.pair_rounds.append(log.rounds)
+    log.begun = Begun()
     log.ceilings.append(ceiling)
     log.ends.append(at + 1)

@@ -101,6 +101,7 @@ def head(names, case, log, judgement):
         ("pairs", number(case.m)),
         ("log lines" if log.stopped is None else "log lines read", number(log.lines.count)),
         ("rounds" if log.stopped is None else "rounds drawn", number(log.rounds)),
+        *([("pair rounds among them", number(len(log.pair_rounds)))] if log.pair_rounds else []),
         ("ceiling at the start", number(first)),
         ("ceiling at the end" if log.stopped is None else "ceiling after them", number(last)),
         ("fall", number(first - last)),
@@ -140,7 +141,8 @@ def stop(log):
 COLOURS = (
     '<p class="legend"><span class="key pressed"></span>pressed link '
     '<span class="key raised"></span>raised link or pair '
-    '<span class="key shifted"></span>shifted pair, in the round chosen below</p>\n'
+    '<span class="key shifted"></span>shifted pair '
+    '<span class="key emptied"></span>link emptied by a pair round, in the round chosen below</p>\n'
 )
 AXIS = (
     '<p class="legend">The upright axis covers the fall only. '
@@ -201,6 +203,9 @@ def reading():
         "<li>A press by an amount lowers the active channels of its link by that amount, and in "
         "every raised scope raises all weights that are not active (closed) by it. A shift moves "
         "an amount between a link\u2019s channel and a pair; totals stay.</li>\n"
+        "<li>A pair round shifts the whole weights of a pair\u2019s two links into the pair: both links weigh 0 after it, and "
+        "no plan\u2019s total changes. The ceiling falls because the three greatest weights, of the two links and of the pair, "
+        "do not go together.</li>\n"
         "<li>A row shows the line of the case sheet, with the weight that the case started with, "
         "then the weight before and after the move.</li>\n</ul>"
     )
@@ -210,8 +215,10 @@ def data(case, log):
     if carried_rounds(log) == 0:
         return ""
     carried = log.ends[carried_rounds(log) - 1] * LINE
+    pair_rounds = [at for at in log.pair_rounds if at < carried_rounds(log)]
     return (
         f'<script type="text/plain" id="case">{case.data.decode("ascii")}</script>\n'
         f'<script type="text/plain" id="log">{log.data[:carried].decode("ascii")}</script>\n'
+        f'<script type="application/json" id="pair-rounds">{pair_rounds}</script>\n'
         f"<script>\n{part('rounds.js')}</script>"
     )

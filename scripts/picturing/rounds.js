@@ -52,6 +52,7 @@ for (let line = 0; line < log.length / LINE; line++) {
   ceilings.push(column(log, line, 4));
 }
 const rounds = firstLines.length - 1;
+const pairRounds = new Set(JSON.parse(byId("pair-rounds").textContent));
 
 // ---- moves
 
@@ -182,22 +183,39 @@ function pairRow(scope) {
   return `<tr class="same"><td class="no">${line}</td><td class="text">${row(sheet, line)}</td></tr>`;
 }
 
-function why(active, own, change) {
-  const amount = (change > 0 ? "+" : "") + number(change);
-  if (change === 0) return active ? "active" : "";
-  return (own ? "active " : "closed ") + amount;
+function signed(change) {
+  return (change > 0 ? "+" : "") + number(change);
 }
 
-function scopeRows(scope, own, before, after) {
-  const [from, to] = span(scope);
+function pressedRows(scope, own, before, after) {
   const top = greatest(before, scope);
+  return scopeRows(scope, before, after, (place) => {
+    const change = after[place] - before[place];
+    if (change === 0) return before[place] === top ? "active" : "";
+    return (own ? "active " : "closed ") + signed(change);
+  });
+}
+
+function shiftedRows(scope, before, after) {
+  const top = greatest(before, scope);
+  const now = greatest(after, scope);
+  return scopeRows(scope, before, after, (place) => {
+    const change = after[place] - before[place];
+    const words = change === 0 ? [] : [signed(change)];
+    if (before[place] === top) words.unshift("active");
+    if (scope >= n && after[place] === now) words.push("greatest now");
+    return words.join(", ");
+  });
+}
+
+function scopeRows(scope, before, after, word) {
+  const [from, to] = span(scope);
   const tables = [];
   const each = scope >= n && d > 4 ? d : to - from;
   for (let first = from; first < to; first += each) {
     const rows = first === from ? [pairRow(scope)] : [];
     for (let place = first; place < first + each; place++) {
-      const change = after[place] - before[place];
-      rows.push(weightRow(place, before[place], after[place], why(before[place] === top, own, change)));
+      rows.push(weightRow(place, before[place], after[place], word(place)));
     }
     tables.push(rowTable(rows));
   }
@@ -217,10 +235,10 @@ function folded(title, inner, unfold) {
 
 // ---- blocks: a line of the log beside its rows
 
-function block(line, words, rows) {
+function block(lines, words, rows) {
+  const said = lines.map((line) => `<span class="no">${sheetLines + line}</span><code>${row(log, line)}</code>`);
   return (
-    `<section class="block"><div class="said"><span class="no">${sheetLines + line}</span>` +
-    `<code>${row(log, line)}</code>${words ? `<p>${words}</p>` : ""}</div>` +
+    `<section class="block"><div class="said">${said.join("")}${words ? `<p>${words}</p>` : ""}</div>` +
     `<div class="beside">${rows}</div></section>`
   );
 }
@@ -228,31 +246,52 @@ function block(line, words, rows) {
 function pressBlocks(move, before, after, unfold) {
   const [changed, all] = touched(move.link, before, after);
   const title = `Press link ${move.link}: ${changed} of ${counted(all, "channel")} active, lowered by ${number(move.amount)}`;
-  const rows = folded(title, scopeRows(move.link, true, before, after), true);
-  const blocks = [block(move.line, moveWords(move) + ".", rows)];
+  const rows = folded(title, pressedRows(move.link, true, before, after), true);
+  const blocks = [block([move.line], moveWords(move) + ".", rows)];
   move.raised.forEach((scope, k) => {
     const [up, of] = touched(scope, before, after);
     const head = `Raise ${scopeName(scope)}: ${up} of ${counted(of, "weight")} closed, raised by ${number(move.amount)}`;
-    const rows = scopeRows(scope, false, before, after);
-    blocks.push(block(move.line + 1 + k, "", folded(head, rows, unfold)));
+    const rows = pressedRows(scope, false, before, after);
+    blocks.push(block([move.line + 1 + k], "", folded(head, rows, unfold)));
   });
   return blocks;
 }
 
 function shiftBlock(move, before, after) {
   const link = pairEnds[move.pair][move.end];
-  const shiftRow = (place) => {
-    const change = after[place] - before[place];
-    return weightRow(place, before[place], after[place], (change > 0 ? "+" : "") + number(change));
-  };
+  const shiftRow = (place) => weightRow(place, before[place], after[place], signed(after[place] - before[place]));
   const rows = [shiftRow(link * d + move.value), pairRow(n + move.pair), ...shiftPlaces(move).map(shiftRow)];
   const title = `Shift between channel ${move.value} of link ${link} and ${scopeName(n + move.pair)}`;
-  return block(move.line, moveWords(move) + ".", folded(title, rowTable(rows), true));
+  return block([move.line], moveWords(move) + ".", folded(title, rowTable(rows), true));
 }
 
-function layOut(round) {
-  const moves = movesOf(round);
-  const table = tableBefore(round);
+// The lines of each end beside the link that they empty, then the pair that takes its weights up.
+function pairBlocks(moves, before, after) {
+  const pair = moves[0].pair;
+  const blocks = pairEnds[pair].map((link, end) => {
+    const lines = moves.filter((move) => move.end === end).map((move) => move.line);
+    const [changed, all] = touched(link, before, after);
+    const title = `Link ${link}: ${changed} of ${counted(all, "channel")} emptied into pair ${pair}`;
+    const words = lines.length ? "" : "No line: the link weighs 0 on every channel.";
+    return block(lines, words, folded(title, shiftedRows(link, before, after), true));
+  });
+  const title = `Pair ${pair} takes up the weights of both links`;
+  return [...blocks, block([], "", folded(title, shiftedRows(n + pair, before, after), true))];
+}
+
+function pairWords(pair, before, after) {
+  const [low, high] = pairEnds[pair];
+  const [first, second, third] = [low, high, n + pair].map((scope) => greatest(before, scope));
+  const best = greatest(after, n + pair);
+  return (
+    `<p>A pair round of ${scopeName(n + pair)}: the whole weights of both links are moved into the pair, and no plan\u2019s total ` +
+    `changes. The three greatest weights, ${number(first)} of link ${low}, ${number(second)} of link ${high} and ${number(third)} of the ` +
+    `pair, add up to ${number(first + second + third)}. They do not go together: whichever two channels the links take, the three weights ` +
+    `make ${number(best)} at most. The ceiling falls by the difference, ${number(first + second + third - best)}.</p>`
+  );
+}
+
+function moveBlocks(moves, table) {
   const scopes = moves.flatMap((move) => move.raised || []);
   const total = scopes.reduce((sum, scope) => sum + (scope < n ? d : d * d), 0);
   const blocks = [];
@@ -262,12 +301,22 @@ function layOut(round) {
     if (move.kind === 1) blocks.push(shiftBlock(move, before, table));
     else blocks.push(...pressBlocks(move, before, table, total <= 140));
   }
+  return blocks;
+}
+
+function layOut(round) {
+  const moves = movesOf(round);
+  const before = tableBefore(round);
+  const after = tableBefore(round + 1);
+  const paired = pairRounds.has(round);
+  const words = paired ? pairWords(moves[0].pair, before, after) : "";
+  const blocks = paired ? pairBlocks(moves, before, after) : moveBlocks(moves, before);
   const fall = ceilings[round] - ceilings[round + 1];
   const bound = `<p>Bound: the ceiling is ${number(ceilings[round + 1])}, ${number(fall)} below the round\u2019s start.</p>`;
-  blocks.push(block(firstLines[round + 1] - 1, "", bound));
+  blocks.push(block([firstLines[round + 1] - 1], "", bound));
   return (
-    `<h3>Round ${number(round)}: the ceiling falls by ${number(fall)}, from ${number(ceilings[round])} ` +
-    `to ${number(ceilings[round + 1])}</h3><div class="heads"><span><span class="no">line</span>of the log</span>` +
+    `<h3>Round ${number(round)}${paired ? ", a pair round" : ""}: the ceiling falls by ${number(fall)}, from ` +
+    `${number(ceilings[round])} to ${number(ceilings[round + 1])}</h3>${words}<div class="heads"><span><span class="no">line</span>of the log</span>` +
     `<span>The rows of the case sheet that the line touches</span></div>` + blocks.join("")
   );
 }
@@ -276,9 +325,11 @@ function layOut(round) {
 
 function mark(round) {
   for (const element of document.querySelectorAll("#network .link, #network .pair")) {
-    element.classList.remove("pressed", "raised", "shifted");
+    element.classList.remove("pressed", "raised", "shifted", "emptied");
   }
-  for (const move of movesOf(round)) {
+  const moves = movesOf(round);
+  if (pairRounds.has(round)) for (const link of pairEnds[moves[0].pair]) byId("s" + link).classList.add("emptied");
+  for (const move of moves) {
     if (move.kind === 1) byId("s" + (n + move.pair)).classList.add("shifted");
     for (const scope of move.raised || []) byId("s" + scope).classList.add("raised");
     if (move.kind === 2) byId("s" + move.link).classList.add("pressed");
@@ -315,6 +366,10 @@ function roundOfLine(line) {
 
 function listMoves(round) {
   const moves = movesOf(round);
+  if (pairRounds.has(round)) {
+    const [low, high] = pairEnds[moves[0].pair];
+    return `Pair round of pair ${moves[0].pair}: links ${low} and ${high} are emptied into it`;
+  }
   const words = moves.slice(0, 3).map(moveWords).join("; ");
   return words + (moves.length > 3 ? `; and ${counted(moves.length - 3, "more move")}` : "");
 }

@@ -3,7 +3,7 @@
 from picturing.case import read_case
 from picturing.columns import LINE, Lines, Refused
 
-from . import standard
+from . import pair_rounds, standard
 from .in_case import Sheet
 from .judging import judge, judge_case, line
 from .places import Place
@@ -23,7 +23,7 @@ def run(options):
     verdict = judge_case(case) if log else judge(case.chunks())
     if log and verdict.accepted:
         start, verdict = verdict, judge(case.chunks(), log.chunks())
-        words = accepted_log(start, verdict) if verdict.accepted else refused(log_place(case, log, verdict), verdict)
+        words = accepted_log(start, verdict, case.front(), log, 0) if verdict.accepted else refused(log_place(case, log, verdict), verdict)
     else:
         words = accepted_case(case, verdict) if verdict.accepted else refused(case_place(case, verdict), verdict)
     words = list(words)
@@ -34,12 +34,14 @@ def run(options):
     return 0 if verdict.accepted else 1
 
 
-def accepted_log(start, verdict):
+def accepted_log(start, verdict, case, source, first):
+    """Of a case and its log, which begins at a byte of the source."""
     rounds, ceiling = verdict.first, verdict.second
     if rounds == 0:
         yield f"The log has no rounds: the ceiling stays {ceiling}, what it is at the start."
     else:
         yield f"The log is accepted: {'1 round lowers' if rounds == 1 else f'{rounds} rounds lower'} the ceiling from {start.second} to {ceiling}."
+        yield from pair_rounds.told(case, source, first, verdict)
     yield f"No plan's total is above {ceiling}."
 
 
@@ -51,7 +53,8 @@ def accepted_case(case, verdict):
         yield f"Its ceiling at the start is {verdict.second}: no plan's total is above it. `ceiling press` lowers it."
         return
     yield f"The file holds a case ({size}) and after it a log. Other commands take the case alone."
-    yield from accepted_log(judge([case.front()[: sheet.count * LINE]]), verdict)
+    alone = case.front()[: sheet.count * LINE]
+    yield from accepted_log(judge([alone]), verdict, alone, case, len(alone))
 
 
 def log_place(case, log, verdict):

@@ -5,6 +5,7 @@ from picturing.log import MOVE, WORKING, pressed, raised as raised_weights
 
 from .family import active, family_words, listed, not_refuted
 from .in_case import edge, unused
+from .pair_rounds import incomplete
 from .reason import reason
 from .rules import KINDS, counted, kind_named
 
@@ -159,6 +160,7 @@ def other_ceiling(standing, numbers, before):
         words += right_bound(ceiling)
     else:
         words.append(f"A bound line may stand here only when the ceiling is below {start}, what it was at the round's start.")
+        words += incomplete(standing.log)
     return reason(edge(4), *words)
 
 
@@ -172,7 +174,7 @@ def not_lower(standing, numbers, before):
     if ceiling < start:
         return None
     words = f"At the round's start the ceiling was {start}, now it is {ceiling}: it has to be lower."
-    return reason(edge(4), words, *([] if standing.line > log.ends[-1] else ["The round has no move."]))
+    return reason(edge(4), words, *(incomplete(log) if standing.line > log.ends[-1] else ["The round has no move."]))
 
 
 def log_ends(standing, before):
@@ -188,5 +190,7 @@ def log_ends(standing, before):
         return ["What stands before is complete: nothing has to follow."]
     ceiling, start = sum(log.greatest), log.ceilings[-1]
     if ceiling >= start:
-        return [f"The moves since the last bound line have not lowered the ceiling yet: {ceiling}, at the round's start {start}."]
-    return ["The round's bound line is missing.", *right_bound(ceiling)]
+        words = [f"The moves since the last bound line have not lowered the ceiling yet: {ceiling}, at the round's start {start}."]
+    else:
+        words = ["The round's bound line is missing.", *right_bound(ceiling)]
+    return words + incomplete(log)

@@ -6,7 +6,7 @@ from picturing.log import Log, read_move
 
 BLOCK = 1 << 20
 
-# The weights before a line of the log; where a press is held: its line, link, amount, count of raise lines, and the scopes raised.
+# The weights before a line of the log, and the round so far; where a press is held: its line, link, amount, count of raise lines, and the scopes raised.
 Standing = namedtuple("Standing", "log line press")
 Press = namedtuple("Press", "line link amount count raised")
 
@@ -32,7 +32,7 @@ class Stretch:
 def stand_before(case, data, line):
     """The standing before a line, where all lines before it can be taken."""
     log = Log(case, data)
-    log.ceilings, log.ends = deque(log.ceilings, maxlen=1), deque([0], maxlen=1)
+    log.ceilings, log.ends, log.pair_rounds = deque(log.ceilings, maxlen=1), deque([0], maxlen=1), deque(maxlen=1)
     at = 0
     while at < line:
         kind, link, count, _, amount = log.lines.read(at)

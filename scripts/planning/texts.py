@@ -63,8 +63,9 @@ is judged alone first: no line of the log can stand in for one of the case.""",
         ["CASE", "[LOG]"],
         """\
 Prints the judgement of `replay` on the case, or on case and log as `check` does, and
-then what it means: what an accepted log shows; of a refused file the rule, the line as
-editors count it, the byte, and what would have been right.""",
+then what it means: what an accepted log shows, and how many of its rounds are pair
+rounds; of a refused file the rule, the line as editors count it, the byte, and what
+would have been right.""",
         "0 accepted, 1 refused, 2 otherwise",
         ["ceiling explain samples/valley.case", "ceiling explain samples/valley.case samples/valley.log"],
     ),

@@ -6,7 +6,9 @@ from picturing.columns import LINE, line
 BLOCK = 262144
 
 P4 = case(2, [[2, 0], [2, 0]], [(0, 1, [-3, 0, 0, 0])])
-P4_ROUND = line(2, 0, 2, 0, 2) + line(3, 1) + line(3, 2) + line(4, 0, 0, 0, 2)
+# Its one round, and a press that another engine could make instead, to the same ceiling.
+P4_ROUND = line(1, 0, 0, 0, -2) + line(1, 0, 1, 0, -2) + line(4, 0, 0, 0, 2)
+P4_PRESS = line(2, 0, 2, 0, 2) + line(3, 1) + line(3, 2) + line(4, 0, 0, 0, 2)
 
 
 def shifts(count):
@@ -17,8 +19,8 @@ def shifts(count):
 
 
 def accepted_log(lines):
-    """P4's case, shifts that change nothing and P4's round, so many lines in all: `accepted 1 2`."""
-    return P4 + shifts(lines - len(P4 + P4_ROUND) // LINE) + P4_ROUND
+    """P4's case, shifts that change nothing and P4's press, so many lines in all: `accepted 1 2`."""
+    return P4 + shifts(lines - len(P4 + P4_PRESS) // LINE) + P4_PRESS
 
 
 # A line that each replay of P4 turns back where a move or bound is due, and its number.
@@ -57,15 +59,33 @@ def long_round():
 
 
 def many_rounds():
-    """A case of 168 rounds, and its log.
+    """A case of 161 rounds, all presses, and its log.
 
-    In each of 24 pairs the lower link has no choice but the higher one's value 7, which weighs 7 less than value 0 and is reached in steps of 1.
-    One such pair is enough to refute the values of link 0. Scopes are dropped upwards, so that the last pair is kept until it is done.
+    Link 0 has a pair with each of 23 other links, and each of these with one more. The pair with link 0 asks for another value than 0 there, and
+    then the second pair for value 7 of the last link, which weighs 7 less than its value 0 and is reached in steps of 1. In each pair by itself
+    the greatest weights go together. One such chain is enough to refute the values of link 0, and scopes are dropped upwards, so that the last one
+    is kept until it is done.
+    """
+    links = [[0] * 8] + [[0] * 8, [-l for l in range(8)]] * 23
+    first = [-100 if l == 0 else 0 for k in range(8) for l in range(8)]
+    second = [0 if k == 0 or l == 7 else -100 for k in range(8) for l in range(8)]
+    log = []
+    for step in range(161):
+        e = 22 - step // 7
+        raised = (2 * e + 2, 47 + 2 * e, 48 + 2 * e)
+        log += [line(2, 0, 3, 0, 1), *map(line, (3, 3, 3), raised), line(4, 0, 0, 0, -step - 1)]
+    chains = [pair for e in range(23) for pair in ((0, 2 * e + 1, first), (2 * e + 1, 2 * e + 2, second))]
+    return case(8, links, chains), b"".join(log)
+
+
+def pair_rounds():
+    """A case of 24 pair rounds, and its log.
+
+    In each pair the lower link, all of whose values weigh 0, has no choice but the higher one's value 7, which weighs 7 less than value 0.
     """
     links = [[0] * 8, [-l for l in range(8)]] * 24
     weights = [0 if l == 7 else -100 for k in range(8) for l in range(8)]
     log = []
-    for step in range(168):
-        e = 23 - step // 7
-        log += [line(2, 0, 2, 0, 1), line(3, 2 * e + 1), line(3, 48 + e), line(4, 0, 0, 0, -step - 1)]
+    for e in range(24):
+        log += [line(1, e, 1, l, l) for l in range(1, 8)] + [line(4, 0, 0, 0, -7 * (e + 1))]
     return case(8, links, [(2 * e, 2 * e + 1, weights) for e in range(24)]), b"".join(log)

@@ -9,11 +9,12 @@ use Rattle.integers.specs.Words.{minus}
 use Rattle.definitions.specs.declared.Refusal.the-variants.{WrongLength, WeightOutOfRange, LeavesRange}
 use Rattle.definitions.specs.declared.RunAnswer.{RunAnswer}
 use Rattle.definitions.specs.declared.RunAnswer.the-variants.{Settled, Limit, Refused}
-use Rattle.definitions.specs.Rules.{standard}
+use Rattle.definitions.specs.declared.Case.{Case}
+use Rattle.definitions.specs.Rules.{Rules, standard}
 use Rattle.definitions.specs.Answers.{Says, outcomeSays, figureSays, verdictSays, lineSays}
 use Rattle.definitions.specs.Answers.{writtenSays, roundSays}
 use Rattle.definitions.specs.Lines.{line}
-use Rattle.definitions.specs.Engine.{engineNext, run}
+use Rattle.definitions.specs.Engine.{Next, engineNext, pairsNext}
 use Rattle.definitions.specs.Programs.{bytesOf}
 use Rattle.calls.specs.Calls.{TableCall, WriterCall, WriteCall, objectiveAnswer, upperBoundAnswer, isActiveAnswer}
 use Rattle.calls.specs.Calls.{refutedAnswer, shiftCall, pressCall, readLineAnswer, writeLineCall, putLineCall, writeCaseCall}
@@ -21,7 +22,8 @@ use Rattle.calls.specs.EngineCalls.{RoundCall, RunCall, roundCall, runCa
 use Rattle.definitions.specs.Samples.{Input, answer}
 use Rattle.definitions.specs.Samples.{given, triangle, couple, clash, example2, single, zeros}
 use Rattle.definitions.specs.Borders.{_is_, Hold, says, no, value, W, clashFrom, triangleFrom, edges, twoSteps}
-use Rattle.definitions.specs.Borders.{afterOne, afterTwo, lastRound, afterLast, step1, step2, byOne, ones, l}
+use Rattle.definitions.specs.Borders.{lastRound, afterLast, byOne, ones, l}
+use Rattle.definitions.specs.Borders.{pairStep, afterPair, pressStep, afterPress}
 
 -- ---- totals, refutation, and numbers 3 to 8 of what is handed over
 
@@ -68,23 +70,31 @@ figures = refl
 
 -- a run as a call: answer, rounds, upper bound, table, output and log
 pub runs :
-    let ran : Input → ℕ → ℕ → RunCall = λ i limit room. runCall standard engineNext (i .case) limit (i .weights) (ones room) in
+    let run : (Rules → Case → List ℤ → Next) → Input → ℕ → ℕ → RunCall =
+    λ next i limit room. runCall standard next (i .case) limit (i .weights) (ones room)
+    in
+    let ran = run engineNext in
+    let paired = run pairsNext in
     let told : RunAnswer → ℕ → ℤ → List ℤ → List ℕ → List ℕ → RunCall =
     λ a n z w out log. record { run = record { answer = a; rounds = n; bound = z }; table = w; out = out; log = log }
     in
+    let unmade : RunAnswer → ℤ → Input → ℕ → RunCall = λ a z i room. told a 0 z (i .weights) (ones room) [] in
     Hold
-    (ran twoSteps 1 162 is told Limit 1 (pos 0) afterOne (step1 ++ ones 27) step1
+    (ran twoSteps 1 270 is told Limit 1 (pos 0) afterPair (pairStep ++ ones 216) pairStep
     -- the lines of a round from the output's first byte, the bytes past them kept
-    ∷ ran twoSteps 2 162 is told Settled 2 (minus 1) afterTwo (step2 ++ drop 108 step1 ++ ones 27) (step1 ++ step2)
-    -- 11: before the first round, at the limit, and after a round
-    ∷ ran (triangleFrom (minus W)) 5 189 is told (Refused LeavesRange) 0 (minus W) (triangleFrom (minus W) .weights) (ones 189) []
-    ∷ ran (triangleFrom (minus W)) 0 189 is told Limit 0 (minus W) (triangleFrom (minus W) .weights) (ones 189) []
-    ∷ ran lastRound 5 108 is told (Refused LeavesRange) 1 (minus 499_999_998) afterLast byOne byOne
+    ∷ ran twoSteps 2 270 is told Settled 2 (minus 1) afterPress (pressStep ++ ones 135) (pairStep ++ pressStep)
+    -- pair rounds only: settled though a press is left
+    ∷ paired twoSteps 2 270 is told Settled 1 (pos 0) afterPair (pairStep ++ ones 216) pairStep
+    ∷ paired twoSteps 0 270 is unmade Limit (pos 1) twoSteps 270
+    -- 11: before the first round, at the limit, and after a round; never with pair rounds only
+    ∷ ran (triangleFrom (minus W)) 5 297 is unmade (Refused LeavesRange) (minus W) (triangleFrom (minus W)) 297
+    ∷ ran (triangleFrom (minus W)) 0 297 is unmade Limit (minus W) (triangleFrom (minus W)) 297
+    ∷ ran lastRound 5 216 is told (Refused LeavesRange) 1 (minus 499_999_998) afterLast (byOne ++ ones 108) byOne
+    ∷ paired lastRound 5 216 is unmade Settled (minus 499_999_997) lastRound 216
     -- 4, also at limit 0 and where settled; 8
-    ∷ ran clash 5 107 is told (Refused WrongLength) 0 (pos 0) (clash .weights) (ones 107) []
-    ∷ ran clash 0 107 is told (Refused WrongLength) 0 (pos 0) (clash .weights) (ones 107) []
-    ∷ ran single 5 53 is told (Refused WrongLength) 0 (pos 0) (single .weights) (ones 53) []
-    ∷ ran (clashFrom (pos (W + 1))) 5 108 is told (Refused WeightOutOfRange) 0 (pos 0) (clashFrom (pos (W + 1)) .weights) (ones 108) []
+    ∷ ran clash 5 215 is unmade (Refused WrongLength) (pos 0) clash 215 ∷ ran clash 0 215 is unmade (Refused WrongLength) (pos 0) clash 215
+    ∷ paired triangle 5 296 is unmade (Refused WrongLength) (pos 0) triangle 296 ∷ ran single 5 107 is unmade (Refused WrongLength) (pos 0) single 107
+    ∷ ran (clashFrom (pos (W + 1))) 5 216 is unmade (Refused WeightOutOfRange) (pos 0) (clashFrom (pos (W + 1))) 216
     ∷ [])
 unfolding roundCall runCall
 runs = refl
@@ -94,9 +104,9 @@ pub rounds :
     let told : RoundCall → Says × List ℤ × List ℕ = λ q. (roundSays (q .answer), q .table, q .out) in
     let made : Input → ℕ → Says × List ℤ × List ℕ = λ i room. told (roundCall standard engineNext (i .case) (i .weights) (ones room)) in
     Hold
-    (made twoSteps 162 is (says 0 (pos 135 ∷ pos 0 ∷ []), afterOne, step1 ++ ones 27)
-    ∷ made single 54 is (says 0 [], single .weights, ones 54) ∷ made single 53 is (no 4, single .weights, ones 53)
-    ∷ made (triangleFrom (minus W)) 189 is (no 11, triangleFrom (minus W) .weights, ones 189)
+    (made twoSteps 270 is (says 0 (pos 54 ∷ pos 0 ∷ []), afterPair, pairStep ++ ones 216)
+    ∷ made single 108 is (says 0 [], single .weights, ones 108) ∷ made single 107 is (no 4, single .weights, ones 107)
+    ∷ made (triangleFrom (minus W)) 297 is (no 11, triangleFrom (minus W) .weights, ones 297)
     ∷ [])
 unfolding roundCall
 rounds = refl

@@ -62,11 +62,11 @@ told q = (runSays (q .run .answer), q .run .rounds, q .run .bound, q .out, q .lo
 
 -- P1: one round, its lines from the output's first byte, the bytes past them kept; a byte short, number 4 and nothing written
 pub runs :
-    map told (runOn triangle 100_000 (sevens 189) ∷ runOn triangle 0 (sevens 189) ∷ runOn triangle 100_000 (sevens 188) ∷ runOn single 0 (sevens 54) ∷ [])
-    ≡ (record { number = 0; values = pos 0 ∷ [] }, 1, minus 1, joined (texts log1) ++ sevens 54, joined (texts log1))
-    ∷ (record { number = 0; values = pos 1 ∷ [] }, 0, pos 0, sevens 189, [])
-    ∷ (record { number = 4; values = [] }, 0, pos 0, sevens 188, [])
-    ∷ (record { number = 0; values = pos 0 ∷ [] }, 0, minus 7, sevens 54, [])
+    map told (runOn triangle 100_000 (sevens 297) ∷ runOn triangle 0 (sevens 297) ∷ runOn triangle 100_000 (sevens 296) ∷ runOn single 0 (sevens 108) ∷ [])
+    ≡ (record { number = 0; values = pos 0 ∷ [] }, 1, minus 1, joined (texts log1) ++ sevens 162, joined (texts log1))
+    ∷ (record { number = 0; values = pos 1 ∷ [] }, 0, pos 0, sevens 297, [])
+    ∷ (record { number = 4; values = [] }, 0, pos 0, sevens 296, [])
+    ∷ (record { number = 0; values = pos 0 ∷ [] }, 0, minus 7, sevens 108, [])
     ∷ []
 unfolding roundCall runCall
 runs = refl

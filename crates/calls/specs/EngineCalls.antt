@@ -41,25 +41,25 @@ answerAtLimit Round.Settled = RunAnswer.Settled
 answerAtLimit (Round.Made bytes bound) = RunAnswer.Limit
 answerAtLimit (Round.Refused x) = if isLeaving x then RunAnswer.Limit else RunAnswer.Refused x
 
+-- ---- one round: its lines from the output's first byte; settled or refused, table and output keep what they held
+
+abbrev pub roundMade : Case → List ℤ → List ℕ → Made → RoundCall
+roundMade c w out settled = record { answer = Round.Settled; table = w; out = out }
+roundMade c w out (refused x) = record { answer = Round.Refused x; table = w; out = out }
+roundMade c w out (made v lines) = record {
+  answer = Round.Made (length (joined lines)) (upperBound c v);
+  table = v;
+  out = overwritten (joined lines) out;
+}
+
 module _ (r : Rules) (next : Rules → Case → List ℤ → Next) (c : Case) where
-  -- ---- one round: its lines from the output's first byte; settled or refused, table and output keep what they held
-
-  abbrev pub roundMade : List ℤ → List ℕ → Made → RoundCall
-  roundMade w out settled = record { answer = Round.Settled; table = w; out = out }
-  roundMade w out (refused x) = record { answer = Round.Refused x; table = w; out = out }
-  roundMade w out (made v lines) = record {
-    answer = Round.Made (length (joined lines)) (upperBound c v);
-    table = v;
-    out = overwritten (joined lines) out;
-  }
-
   abbrev pub engineRefusal : List ℤ → List ℕ → Option Refusal
   engineRefusal w out = firstOf (handedOver r (workingWeight r) c w (ltb (length out) (roundBytes r c)) false)
 
   unfoldable pub roundCall : List ℤ → List ℕ → RoundCall
   roundCall w out = elim (engineRefusal w out) [
     | some x ↦ record { answer = Round.Refused x; table = w; out = out }
-    | none ↦ roundMade w out (makeNext r c w (next r c w))
+    | none ↦ roundMade c w out (makeNext r c w (next r c w))
   ]
 
   -- ---- the run

@@ -1,3 +1,3 @@
 -- Laws that the functions' proofs cite.
 mod Narrowed
-mod Firsts
+pub mod Firsts

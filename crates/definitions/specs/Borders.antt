@@ -24,12 +24,12 @@ use Rattle.definitions.specs.Moves.{shift, activePress}
 use Rattle.definitions.specs.Lines.{line, lineText}
 use Rattle.definitions.specs.CaseFiles.{CaseCall, caseText, caseSize, readCase, readCaseAlone}
 use Rattle.definitions.specs.Replay.{State, step, fresh, after, keepsRules}
-use Rattle.definitions.specs.Engine.{Next, round, RunOf, stopped, engineNext, run}
+use Rattle.definitions.specs.Engine.{Next, round, stopped, pressesNext, engineNext, run}
 use Rattle.definitions.specs.Views.{roundSpan, roundView}
 use Rattle.definitions.specs.Scoring.{betterOf, better}
 use Rattle.definitions.specs.Programs.{pressLimit, bytesOf, pressRun, pressPrints, replayPrints}
 use Rattle.definitions.specs.Samples.{Input, Question, replay-of, Result, replayed, Sample, answer}
-use Rattle.definitions.specs.Samples.{given, triangle, couple, clash, texts, log5, log8, twoRounds, zeros}
+use Rattle.definitions.specs.Samples.{given, triangle, couple, clash, texts, log5, byTwo, log8, twoRounds, zeros}
 
 -- ---- questions and answers
 
@@ -81,7 +81,7 @@ pub tests :
     ∷ starts (clashFrom (pos 1_000_001)) is false ∷ starts (clashFrom (minus 1_000_001)) is false
     ∷ isAssignment (clash .case) (0 ∷ 1 ∷ []) is true ∷ isAssignment (clash .case) (0 ∷ 2 ∷ []) is false
     ∷ isAssignment (clash .case) (0 ∷ []) is false ∷ isAssignment (clash .case) (0 ∷ 0 ∷ 0 ∷ []) is false
-    ∷ keeps [] is true ∷ keeps log5 is true ∷ keeps log8 is false ∷ keeps (take 3 log5) is false
+    ∷ keeps [] is true ∷ keeps log5 is true ∷ keeps byTwo is true ∷ keeps log8 is false ∷ keeps (take 2 log5) is false ∷ keeps (take 3 byTwo) is false
     ∷ [])
 tests = refl
 
@@ -235,7 +235,8 @@ heads = refl
 
 -- ---- the engine
 
--- edges (0,1), (1,2): a round of five lines and then one of four
+-- edges (0,1), (1,2): by presses alone a round of five lines and then one of four; the engine makes a pair round of two lines and then a press
+-- of five
 abbrev pub twoSteps : Input
 twoSteps =
     given 3 2 2 (0 ∷ 1 ∷ []) (1 ∷ 2 ∷ [])
@@ -264,17 +265,46 @@ step1 = pressed (l 2 0 3 0 1) (2 ∷ 3 ∷ 4 ∷ []) " 4   0   0   0           0
 abbrev pub step2 : List ℕ
 step2 = pressed (l 2 0 2 0 1) (1 ∷ 3 ∷ []) " 4   0   0   0          -1\n"
 
+abbrev pub pairStep : List ℕ
+pairStep = bytesOf " 1   0   1   0          -1\n" ++ bytesOf " 4   0   0   0           0\n"
+
+abbrev pub afterPair : List ℤ
+afterPair = zeros 4 ++ (minus 1 ∷ pos 0 ∷ minus 1 ∷ pos 0 ∷ minus 1 ∷ minus 1 ∷ zeros 3 ++ (minus 1 ∷ []))
+
+abbrev pub pressStep : List ℕ
+pressStep = pressed (l 2 0 3 0 1) (2 ∷ 3 ∷ 4 ∷ []) " 4   0   0   0          -1\n"
+
+abbrev pub afterPress : List ℤ
+afterPress = minus 1 ∷ minus 1 ∷ zeros 12
+
 abbrev pub byOne : List ℕ
 byOne = pressed (l 2 0 2 0 1) (1 ∷ 2 ∷ []) " 4   0   0   0  -499999998\n"
 
 abbrev pub ones : ℕ → List ℕ
 ones n = replicate n 1
 
--- The plain run: answer, rounds, weights and log. `three` has D 3 and no partner for value 0 of variable 0; in `two` variable 0 clashes
+-- link weights 2, 1 and 2, 0, pair weights 0 but −3 at (0,0): the own scope's gap is strictly least
+abbrev nearTie : Input
+nearTie = couple (pos 2 ∷ pos 1 ∷ pos 2 ∷ pos 0 ∷ minus 3 ∷ zeros 3)
+
+-- links 0 and 1, and 0 and 2, clash as in P4: the active value of link 0 is refuted through link 1 and through link 2
+abbrev twoReasons : Input
+twoReasons =
+    given 3 2 2 (0 ∷ 0 ∷ []) (1 ∷ 2 ∷ [])
+    (pos 2 ∷ pos 0 ∷ pos 2 ∷ pos 0 ∷ pos 2 ∷ pos 0 ∷ minus 3 ∷ zeros 3 ++ (minus 3 ∷ zeros 3))
+
+abbrev pub ToldRun : Type 0
+ToldRun = RunAnswer × ℕ × List ℤ × List ℕ
+
+abbrev pub ranBy : (Rules → Case → List ℤ → Next) → Input → ℕ → ToldRun
+ranBy next i limit =
+    let q = run standard next (i .case) limit (i .weights) in
+    (q .answer, q .rounds, q .weights, joined (q .log))
+
+-- Presses alone: answer, rounds, weights and log. `three` has D 3 and no partner for value 0 of variable 0; in `two` variable 0 clashes
 -- with 1 and with 2, and the first reason is dropped; in `four` P1's triangle lies over variables 1 to 3, and variable 0 is not refuted.
-pub plain-runs :
-    let told : RunOf → RunAnswer × ℕ × List ℤ × List ℕ = λ q. (q .answer, q .rounds, q .weights, joined (q .log)) in
-    let ran : Input → ℕ → RunAnswer × ℕ × List ℤ × List ℕ = λ i limit. told (run standard engineNext (i .case) limit (i .weights)) in
+pub press-runs :
+    let ran = ranBy pressesNext in
     let three : ℕ → ℕ → Input =
     λ first low. given 2 3 1 (0 ∷ []) (1 ∷ []) (pos first ∷ pos 1 ∷ pos 3 ∷ zeros 3 ++ replicate 3 (minus low) ++ zeros 6)
     in
@@ -291,12 +321,22 @@ pub plain-runs :
     ∷ ran (triangleFrom (minus W)) 5 is (Refused LeavesRange, 0, triangleFrom (minus W) .weights, [])
     ∷ ran (triangleFrom (minus W)) 0 is (Limit, 0, triangleFrom (minus W) .weights, [])
     ∷ ran lastRound 5 is (Refused LeavesRange, 1, afterLast, byOne)
+    -- P5 as it was before change 1: one round of amount 2, raising scopes 1 and 2
+    ∷ ran clash 5 is (Settled, 1, pos 0 ∷ pos 0 ∷ pos 2 ∷ pos 2 ∷ minus 1 ∷ zeros 3, joined (texts byTwo))
+    -- the own scope's gap is strictly least; trimmed upwards, scopes 1 and 3 are dropped
+    ∷ ran nearTie 5 is (Settled, 1, pos 1 ∷ pos 1 ∷ pos 2 ∷ pos 1 ∷ minus 2 ∷ zeros 3, pressed (l 2 0 2 0 1) (1 ∷ 2 ∷ []) " 4   0   0   0           3\n")
+    ∷ ran twoReasons 5 is (
+      Settled,
+      1,
+      pos 0 ∷ pos 0 ∷ pos 2 ∷ pos 0 ∷ pos 2 ∷ pos 2 ∷ minus 3 ∷ zeros 3 ++ (minus 1 ∷ zeros 3),
+      pressed (l 2 0 2 0 2) (2 ∷ 4 ∷ []) " 4   0   0   0           4\n",
+    )
     -- the gap of a scope is to its greatest inactive weight; a dropped scope's does not count; the lowest variable refuted is pressed
     ∷ ran (three 5 9) 5 is (Settled, 1, three 3 7 .weights, pressed (l 2 0 1 0 2) (2 ∷ []) " 4   0   0   0           3\n")
     ∷ ran (two 2 0 3) 5 is (Settled, 1, two 0 2 1 .weights, pressed (l 2 0 2 0 2) (2 ∷ 4 ∷ []) " 4   0   0   0           4\n")
     ∷ ran (four 0 1) 5 is (Settled, 1, four 1 0 .weights, pressed (l 2 1 3 0 1) (4 ∷ 5 ∷ 6 ∷ []) " 4   0   0   0          -1\n")
     ∷ [])
-plain-runs = refl
+press-runs = refl
 
 -- a round of several moves, as another engine could make it: P5's press after a shift and back
 abbrev detour : Rules → Case → List ℤ → Next
@@ -305,7 +345,7 @@ detour r c w = round (shift 0 1 0 (pos 3) ∷ shift 0 1 0 (minus 3) ∷ activePr
 pub detours :
     run standard detour (clash .case) 1 (clash .weights)
     ≡ stopped Limit 1 (pos 0 ∷ pos 0 ∷ pos 2 ∷ pos 2 ∷ minus 1 ∷ zeros 3)
-    (texts (" 1   0   1   0           3\n" ∷ " 1   0   1   0          -3\n" ∷ log5))
+    (texts (" 1   0   1   0           3\n" ∷ " 1   0   1   0          -3\n" ∷ byTwo))
 detours = refl
 
 -- ---- scoring and views
@@ -343,7 +383,7 @@ pub prints :
     ∷ replay (more (l 4 0 0 0 5 ++ l 4 0 0 0 5)) is bytesOf "refused 12 22\n" ∷ replay (more (l 2 0 3 0 1)) is bytesOf "refused 14 23\n"
     ∷ replay (more (l 2 0 3 0 1 ++ l 3 3 0 0 0 ++ xs 1)) is bytesOf "refused 14 24\n"
     ∷ replay (file twoSteps ++ step1 ++ step2) is bytesOf "accepted 2 -1\n"
-    ∷ pressPrints Desk (file twoSteps) is (step1 ++ step2) ∷ pressPrints Desk (cut 100) is bytesOf "refused 14 3\n"
+    ∷ pressPrints Desk (file twoSteps) is (pairStep ++ pressStep) ∷ pressPrints Desk (cut 100) is bytesOf "refused 14 3\n"
     ∷ pressRun 22 (run standard engineNext (lastRound .case) 5 (lastRound .weights)) is (byOne ++ bytesOf "refused 11 22\n")
     ∷ [])
 prints = refl

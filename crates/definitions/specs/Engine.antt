@@ -1,4 +1,4 @@
--- Document 01, "The engine's round", and its run. Assumes nothing.
+-- Document 01, "The engine's round", and its run, with pair rounds before presses (document 02, change 1). Assumes nothing.
 use mathlib.Core.Bool.{not}
 use mathlib.Core.Option.{Option, none, some}
 use mathlib.Core.List.{List, [], _∷_, _++_, map}
@@ -13,7 +13,8 @@ use Rattle.definitions.specs.declared.RunAnswer.{RunAnswer}
 use Rattle.definitions.specs.Rules.{Rules}
 use Rattle.definitions.specs.Case.{scopes, scopeCount, eachTuple, weight, greatest, active}
 use Rattle.definitions.specs.Consistency.{Family, Supported}
-use Rattle.definitions.specs.Moves.{Move, activePress, moved, activeRefuted, leavesRange}
+use Rattle.definitions.specs.Moves.{Move, activePress, activeRefuted, afterMoves}
+use Rattle.definitions.specs.PairRounds.{pairRound, lowestPair, PairsSettled}
 use Rattle.definitions.specs.Lines.{lineLength}
 use Rattle.definitions.specs.RoundLines.{roundText}
 
@@ -27,10 +28,10 @@ others c i = those (λ x. not (eqb x i)) (scopes c)
 abbrev pub chosen : Case → List ℤ → Option ℕ
 chosen c w = first (those (λ i. activeRefuted c w i (others c i)) (below (c .n)))
 
--- if there is none, the state is settled: every variable has an active value with a supported family, all other scopes raised. This says it
--- without an algorithm (engine_theory, Trim.settled-iff)
-abbrev pub Settled : Case → List ℤ → Type 0
-Settled c w = (i : ℕ) → i < c .n → (k : ℕ) × (k < c .d) × T (active c w i k 0) × (S : Family) × Supported c w (isIn (others c i)) i k S
+-- if there is none, no press is left: every variable has an active value with a supported family, all other scopes raised. This says it
+-- without an algorithm (press_theory, Trim.no-press-iff)
+abbrev pub NoPress : Case → List ℤ → Type 0
+NoPress c w = (i : ℕ) → i < c .n → (k : ℕ) × (k < c .d) × T (active c w i k 0) × (S : Family) × Supported c w (isIn (others c i)) i k S
 
 -- upwards through the raised scopes, dropping each one without which the values stay refuted: `kept` were kept, `rest` are still to be tried
 abbrev pub trimmed : Case → List ℤ → ℕ → List ℕ → List ℕ → List ℕ
@@ -61,7 +62,7 @@ pub data Next : Type 0 where
   nothing : Next
   round : List Move → Next
 
--- a chosen variable always has a least gap (engine_theory, Gaps.amount), so that the first line is never used
+-- a chosen variable always has a least gap (press_theory, Gaps.amount), so that the first line is never used
 abbrev pub pressRound : Case → List ℤ → ℕ → Option ℤ → Next
 pressRound c w i none = nothing
 pressRound c w i (some a) = round (activePress c w i (keptScopes c w i) a ∷ [])
@@ -70,19 +71,31 @@ abbrev pub pressNext : Case → List ℤ → Option ℕ → Next
 pressNext c w none = nothing
 pressNext c w (some i) = pressRound c w i (leastGap c w i)
 
+-- presses only
+abbrev pub pressesNext : Rules → Case → List ℤ → Next
+pressesNext r c w = pressNext c w (chosen c w)
+
+-- a pair's round, if there is a pair; else the other
+abbrev pub pairNext : Case → List ℤ → Option ℕ → Next → Next
+pairNext c w none other = other
+pairNext c w (some e) other = round (pairRound c w e)
+
+-- before a press the engine looks for the lowest pair
 abbrev pub engineNext : Rules → Case → List ℤ → Next
-engineNext r c w = pressNext c w (chosen c w)
+engineNext r c w = pairNext c w (lowestPair r c w) (pressesNext r c w)
 
--- ---- the weights after a round, and what its lines need
+-- pair rounds only
+abbrev pub pairsNext : Rules → Case → List ℤ → Next
+pairsNext r c w = pairNext c w (lowestPair r c w) nothing
 
--- the moves one after another; none where one would take a working weight outside its range
-abbrev pub afterMoves : Rules → Case → List Move → List ℤ → Option (List ℤ)
-afterMoves r c [] w = some w
-afterMoves r c (move ∷ moves) w = if leavesRange r c (moved c move w) then none else afterMoves r c moves (moved c move w)
+-- the state is settled: no pair that gains is left but passed-over ones, and no press
+pub record Settled (r : Rules) (c : Case) (w : List ℤ) : Type 0 where
+  pub pairs : PairsSettled r c w
+  pub presses : NoPress c w
 
--- what an output must hold for one round: a line for each scope and one more
+-- what an output must hold for one round: a line for each scope, two for each value and one more
 abbrev pub roundBytes : Rules → Case → ℕ
-roundBytes r c = lineLength (r .amountWidth) * (scopeCount c + 1)
+roundBytes r c = lineLength (r .amountWidth) * (scopeCount c + 2 * c .d + 1)
 
 -- ---- one round on weights: settled, refused, or the weights after it and its lines
 

@@ -1,4 +1,4 @@
--- Document 01 as definitions, in its order; Samples has P1 to P12.
+-- Document 01 as definitions, in its order, with document 02's change 1 (PairRounds); Samples has P1 to P12.
 pub mod Rules
 pub mod Refusals
 pub mod Answers
@@ -11,9 +11,11 @@ pub mod Places
 pub mod CaseFiles
 pub mod Replay
 pub mod RoundLines
+pub mod PairRounds
 pub mod Engine
 pub mod Views
 pub mod Scoring
 pub mod Programs
 pub mod Samples
 pub mod Borders
+pub mod PairBorders

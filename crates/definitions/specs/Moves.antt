@@ -1,6 +1,7 @@
 -- Document 01, "Moves": each is a difference that is added to the table. Assumes nothing.
 use mathlib.Core.Bool.{Bool, not, _&&_}
-use mathlib.Core.List.{List, _++_, map}
+use mathlib.Core.Option.{Option, none, some}
+use mathlib.Core.List.{List, [], _∷_, _++_, map}
 use Prim.Native.Nat.{ℕ, _+_}
 use lib.IntN.{ℤ, pos, negℤ, _+ℤ_}
 use lib.Dec.{eqb}
@@ -82,3 +83,8 @@ pressAmount r a = withinZ (pos 1) (pos (r .moving)) a
 -- number 11: a move would take a working weight outside its range
 abbrev pub leavesRange : Rules → Case → List ℤ → Bool
 leavesRange r c w = not (allWeights (workingWeight r) c w)
+
+-- the moves one after another; none where one would take a working weight outside its range
+abbrev pub afterMoves : Rules → Case → List Move → List ℤ → Option (List ℤ)
+afterMoves r c [] w = some w
+afterMoves r c (move ∷ moves) w = if leavesRange r c (moved c move w) then none else afterMoves r c moves (moved c move w)

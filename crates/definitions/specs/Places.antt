@@ -18,7 +18,7 @@ longestTable r = r .variables * r .values + r .edges * (r .values * r .values)
 
 -- no round has more bytes
 abbrev pub longestRound : Rules → ℕ
-longestRound r = lineLength (r .amountWidth) * (scopesAtMost r + 1)
+longestRound r = lineLength (r .amountWidth) * (scopesAtMost r + 2 * r .values + 1)
 
 -- the places of the arrays that the programs lend: a table, an input, and the output of a round
 abbrev pub tablePlaces : ℕ
@@ -28,7 +28,7 @@ abbrev pub inputPlaces : ℕ
 inputPlaces = 262144
 
 abbrev pub roundPlaces : ℕ
-roundPlaces = 3915
+roundPlaces = 4347
 
 pub record Placed (r : Rules) : Type 0 where
   pub table : longestTable r ≤ tablePlaces

@@ -159,7 +159,7 @@ log3 =
     ∷ " 3   4   0   0           0\n"
     ∷ []
 
--- the press of P5 to P8: its first line, two raise lines, a bound line
+-- the press of P6 to P8: its first line, two raise lines, a bound line
 abbrev pub raising1and2 : String → String → List String
 raising1and2 begin stated =
     begin
@@ -168,8 +168,17 @@ raising1and2 begin stated =
     ∷ stated
     ∷ []
 
+-- P5 as change 1 restates it: two shifts by −2
 abbrev pub log5 : List String
-log5 = raising1and2 " 2   0   2   0           2\n" " 4   0   0   0           2\n"
+log5 =
+    " 1   0   0   0          -2\n"
+    ∷ " 1   0   1   0          -2\n"
+    ∷ " 4   0   0   0           2\n"
+    ∷ []
+
+-- the press that P5 was before: another engine's
+abbrev pub byTwo : List String
+byTwo = raising1and2 " 2   0   2   0           2\n" " 4   0   0   0           2\n"
 
 abbrev pub log6 : List String
 log6 = raising1and2 " 2   0   2   0           1\n" " 4   0   0   0           3\n"
@@ -207,11 +216,12 @@ samples =
     -- P3: the same press without scope 5
     ∷ replay-of triangle log3 gives replayed (0 ∷ 0 ∷ 10 ∷ []) 10 0 (pos 0) (triangle .weights)
     ∷ replay-on (caseFile ++ log3) gives prints (bytesOf "refused 10 24\n")
-    -- P4, P5: ceiling 4; one round of amount 2, raising scopes 1 and 2, gives 2, settled
+    -- P4, P5: ceiling 4; "the engine now makes one pair round of two shifts by −2, again to ceiling 2", settled
     ∷ bound-of clash gives bound (pos 4)
-    ∷ run-of clash 100_000 gives ran RunAnswer.Settled 1 (pos 2) (pos 0 ∷ pos 0 ∷ pos 2 ∷ pos 2 ∷ minus 1 ∷ zeros 3) (texts log5)
-    ∷ replay-of clash log5 gives replayed none4 0 1 (pos 2) (pos 0 ∷ pos 0 ∷ pos 2 ∷ pos 2 ∷ minus 1 ∷ zeros 3)
-    -- P6, P7, P8: the same press by 1: ceiling 3; by 3: 3; by 4: 5, so number 13 at a bound line stating 5
+    ∷ run-of clash 100_000 gives ran RunAnswer.Settled 1 (pos 2) (zeros 4 ++ (pos 1 ∷ pos 2 ∷ pos 2 ∷ pos 0 ∷ [])) (texts log5)
+    ∷ replay-of clash log5 gives replayed (0 ∷ 0 ∷ 0 ∷ []) 0 1 (pos 2) (zeros 4 ++ (pos 1 ∷ pos 2 ∷ pos 2 ∷ pos 0 ∷ []))
+    ∷ replay-of clash byTwo gives replayed none4 0 1 (pos 2) (pos 0 ∷ pos 0 ∷ pos 2 ∷ pos 2 ∷ minus 1 ∷ zeros 3)
+    -- P6, P7, P8 "remain presses": by 1: ceiling 3; by 3: 3; by 4: 5, so number 13 at a bound line stating 5
     ∷ replay-of clash log6 gives replayed none4 0 1 (pos 3) (pos 1 ∷ pos 0 ∷ pos 2 ∷ pos 1 ∷ minus 2 ∷ zeros 3)
     ∷ replay-of clash log7 gives replayed none4 0 1 (pos 3) (minus 1 ∷ pos 0 ∷ pos 2 ∷ pos 3 ∷ zeros 4)
     ∷ replay-of clash log8 gives replayed (0 ∷ 0 ∷ 0 ∷ 13 ∷ []) 13 0 (pos 5) (minus 2 ∷ pos 0 ∷ pos 2 ∷ pos 4 ∷ pos 1 ∷ zeros 3)
@@ -240,19 +250,9 @@ triangle-written = refl
 
 -- ---- samples of ours: readings that P1 to P12 leave alive
 
--- link weights 2, 1 and 2, 0, pair weights 0 but −3 at (0,0): the own scope's gap is strictly least
-abbrev nearTie : Input
-nearTie = couple (pos 2 ∷ pos 1 ∷ pos 2 ∷ pos 0 ∷ minus 3 ∷ zeros 3)
-
 -- link weights 0, 2 and 0, 2, pair weights 0 but −3 at (1,1)
 abbrev clashAbove : Input
 clashAbove = couple (pos 0 ∷ pos 2 ∷ pos 0 ∷ pos 2 ∷ pos 0 ∷ pos 0 ∷ pos 0 ∷ minus 3 ∷ [])
-
--- links 0 and 1, and 0 and 2, clash as above: the active value of link 0 is refuted through link 1 and through link 2
-abbrev twoReasons : Input
-twoReasons =
-    given 3 2 2 (0 ∷ 0 ∷ []) (1 ∷ 2 ∷ [])
-    (pos 2 ∷ pos 0 ∷ pos 2 ∷ pos 0 ∷ pos 2 ∷ pos 0 ∷ minus 3 ∷ zeros 3 ++ (minus 3 ∷ zeros 3))
 
 -- two rounds; a second round whose bound is no lower than the first's
 abbrev pub twoRounds : List String
@@ -278,20 +278,7 @@ boundAgain = log6 ++ (" 4   0   0   0           3\n" ∷ [])
 
 abbrev pub ourSamples : List Sample
 ourSamples =
-    run-of nearTie 100_000 gives
-    ran RunAnswer.Settled 1 (pos 3) (pos 1 ∷ pos 1 ∷ pos 2 ∷ pos 1 ∷ minus 2 ∷ zeros 3)
-    (texts (raising1and2 " 2   0   2   0           1\n" " 4   0   0   0           3\n"))
-    -- trimmed upwards, scopes 1 and 3 are dropped
-    ∷ run-of twoReasons 100_000 gives
-    ran RunAnswer.Settled 1 (pos 4)
-    (pos 0 ∷ pos 0 ∷ pos 2 ∷ pos 0 ∷ pos 2 ∷ pos 2 ∷ minus 3 ∷ zeros 3 ++ (minus 1 ∷ zeros 3))
-    (texts
-    (" 2   0   2   0           2\n"
-    ∷ " 3   2   0   0           0\n"
-    ∷ " 3   4   0   0           0\n"
-    ∷ " 4   0   0   0           4\n"
-    ∷ []))
-    ∷ replay-of clash twoRounds gives
+    replay-of clash twoRounds gives
     replayed (none4 ++ none4) 0 2 (pos 2) (pos 0 ∷ pos 0 ∷ pos 2 ∷ pos 2 ∷ minus 1 ∷ zeros 3)
     ∷ replay-of clash staleStart gives
     replayed (none4 ++ (0 ∷ 13 ∷ [])) 13 1 (pos 3) (pos 0 ∷ pos 0 ∷ pos 2 ∷ pos 1 ∷ minus 1 ∷ pos 1 ∷ zeros 2)
@@ -328,7 +315,7 @@ ourSamples =
 pub our-samples-hold : map (λ s. answer (s .ask)) ourSamples ≡ map (λ s. s .gives) ourSamples
 our-samples-hold = refl
 
-pub our-samples-valid : T (all (λ i. valid standard (i .case) (i .weights)) (nearTie ∷ clashAbove ∷ twoReasons ∷ []))
+pub our-samples-valid : T (all (λ i. valid standard (i .case) (i .weights)) (clashAbove ∷ []))
 our-samples-valid = tt
 
 -- 48 links pass

@@ -12,7 +12,7 @@ pub const TABLE_PLACES: usize = 8 * VARIABLE_PLACES + 64 * EDGE_PLACES;
 
 pub const INPUT_PLACES: usize = 262144;
 
-pub const ROUND_PLACES: usize = 3915;
+pub const ROUND_PLACES: usize = 4347;
 
 // Which rules a case is under. The planner's desk has those of document 01.
 pub enum Rulebook {

@@ -1,9 +1,11 @@
--- Demand 3 of the tender as one statement, clause by clause, in the tender's order, each clause quoted above what says it. Its first half is
--- the checker's promise (checker_promise, Lists.LinesTrusted), over which the engine's stands. The statement is about the definitions that the
--- contracts of the library's functions name: those of Replay::fresh, step and end; `roundCall` and `runCall` at `engineNext` of the engine's
--- round and run. engine's proofs/Demand3 proves it for every valid case. Assumes nothing.
+-- Demand 3 of the tender as one statement, clause by clause, in the tender's order, each clause quoted above what says it, and amended as
+-- document 02 asks. Its first half is the checker's promise (checker_promise, Lists.LinesTrusted), over which the engine's stands. The statement
+-- is about the definitions that the contracts of the library's functions name: those of Replay::fresh, step and end; `roundCall` and `runCall`
+-- at `engineNext` of the engine's round and run, `runCall` at `pairsNext` of its run of pair rounds only. engine's proofs/Demand3 proves it for
+-- every valid case. Assumes nothing.
 use mathlib.Core.Path.{_≡_}
 use mathlib.Core.Bool.{false}
+use mathlib.Core.Option.{none}
 use mathlib.Core.Logic.{_↔_, _⊎_}
 use mathlib.Core.List.{List, []}
 use Prim.Native.Nat.{ℕ, suc, _≤_}
@@ -14,6 +16,7 @@ use lib.ListN.{length, take}
 use Rattle.integers.specs.Words.{joined}
 use Rattle.definitions.specs.declared.Case.{Case}
 use Rattle.definitions.specs.declared.Refusal.{Refusal}
+use Rattle.definitions.specs.declared.Refusal.the-variants.{LeavesRange}
 use Rattle.definitions.specs.declared.Round.{Round}
 use Rattle.definitions.specs.declared.RunAnswer.{RunAnswer}
 use Rattle.definitions.specs.Rules.{Rules, rulesOf}
@@ -21,28 +24,36 @@ use Rattle.definitions.specs.Valid.{valid}
 use Rattle.definitions.specs.Answers.{runSays}
 use Rattle.definitions.specs.Case.{isAssignment, objective, upperBound}
 use Rattle.definitions.specs.Lines.{linesIn, hasPart}
-use Rattle.definitions.specs.Engine.{Settled, engineNext, roundBytes, RunOf, run}
-use Rattle.calls.specs.EngineCalls.{RunCall, answerAtLimit, roundCall, stopRun, runCall}
+use Rattle.definitions.specs.PairRounds.{PairsSettled}
+use Rattle.definitions.specs.Engine.{Settled, Next, engineNext, pairsNext, roundBytes, RunOf, run}
+use Rattle.calls.specs.EngineCalls.{RunCall, answerAtLimit, engineRefusal, roundCall, stopRun, runCall}
 use Rattle.checker.specs.Checker.{afterLines}
 use Rattle.checker_promise.specs.Lists.{begun, Accepted, ReplayTrusted}
+use Rattle.reach_theory.specs.Most.{mostRounds}
 use Rattle.engine_theory.specs.Runs.{boundLines, roundTexts, writtenInTurn, preceded}
 
--- "For every limit, a run from the starting weights": q is document 01's run, u the library's on a lent output, `log` the lines of its log
-pub record RunTrusted (r : Rules) (c : Case) (w : List ℤ) (limit : ℕ) (out : List ℕ) (q : RunOf) (u : RunCall) (log : List (List ℕ)) : Type 0 where
+-- what comes next: the engine's round, or a pair round only
+abbrev pub Follows : Type 0
+Follows = Rules → Case → List ℤ → Next
+
+-- "For every limit, a run from the starting weights": `next` says what comes next, and `Rest` is the settled states; q is the plain run, u
+-- the library's on a lent output, `log` the lines of its log
+pub record RunTrusted (r : Rules) (next : Follows) (Rest : List ℤ → Type 0) (c : Case) (w : List ℤ) (limit : ℕ) (out : List ℕ) (q : RunOf) (u : RunCall)
+    (log : List (List ℕ)) : Type 0 where
   -- "makes the rounds" (L7): as many, with the same lines and the same weights, written from the output's first byte one after another
   pub rounds : u .run .rounds ≡ q .rounds
   pub weights : u .table ≡ q .weights
   pub bound : u .run .bound ≡ upperBound c (u .table)
   pub lines : u .log ≡ joined (q .log)
-  pub round-lines : q .log ≡ joined (roundTexts r engineNext c limit w)
-  pub round-count : length (roundTexts r engineNext c limit w) ≡ u .run .rounds
-  pub output : u .out ≡ writtenInTurn (roundTexts r engineNext c limit w) out
+  pub round-lines : q .log ≡ joined (roundTexts r next c limit w)
+  pub round-count : length (roundTexts r next c limit w) ≡ u .run .rounds
+  pub output : u .out ≡ writtenInTurn (roundTexts r next c limit w) out
   -- "and gives the answer of document 01's run," (L7)
   pub answer : runSays (u .run .answer) ≡ runSays (q .answer)
-  -- which is settled exactly where every variable has an active value with a supported family, and limit exactly where as many rounds as the
-  -- limit were made and it is not settled (L9a); it is never refused (L10)
-  pub settled : u .run .answer ≡ RunAnswer.Settled ↔ Settled c (u .table)
-  pub limited : u .run .answer ≡ RunAnswer.Limit ↔ (u .run .rounds ≡ limit) × (Settled c (u .table) → ⊥)
+  -- which is settled exactly in a settled state, and limit exactly where as many rounds as the limit were made and the state is not settled
+  -- (L9a); it is never refused (L10)
+  pub settled : u .run .answer ≡ RunAnswer.Settled ↔ Rest (u .table)
+  pub limited : u .run .answer ≡ RunAnswer.Limit ↔ (u .run .rounds ≡ limit) × (Rest (u .table) → ⊥)
   pub unrefused : (u .run .answer ≡ RunAnswer.Settled) ⊎ (u .run .answer ≡ RunAnswer.Limit)
   pub within : u .run .rounds ≤ limit
   -- "and its log, replayed from them, is accepted" (L8), with no part of a line left over
@@ -61,34 +72,60 @@ pub record RunTrusted (r : Rules) (c : Case) (w : List ℤ) (limit : ℕ) (out :
 -- "A run makes its rounds one after another on the tables it is lent, each writing its lines from the output's first byte; the run's log is
 -- all these lines joined in order. It hands back its number of rounds and its ceiling. Where a round is refused, the earlier rounds stand."
 -- (document 01; L9b): for every limit, every table, whatever it holds, and every output
-pub record RunIterates (r : Rules) (c : Case) : Type 0 where
-  pub made : (limit : ℕ) (w : List ℤ) (out : List ℕ) {bytes : ℕ} {bound : ℤ} → roundCall r engineNext c w out .answer ≡ Round.Made bytes bound
-      → runCall r engineNext c (suc limit) w out
-      ≡ preceded 1 (take bytes (roundCall r engineNext c w out .out))
-      (runCall r engineNext c limit (roundCall r engineNext c w out .table) (roundCall r engineNext c w out .out))
-  pub settled : (limit : ℕ) (w : List ℤ) (out : List ℕ) → roundCall r engineNext c w out .answer ≡ Round.Settled
-      → runCall r engineNext c (suc limit) w out ≡ stopRun r engineNext c RunAnswer.Settled 0 w out []
-  pub refused : (limit : ℕ) (w : List ℤ) (out : List ℕ) {x : Refusal} → roundCall r engineNext c w out .answer ≡ Round.Refused x
-      → runCall r engineNext c (suc limit) w out ≡ stopRun r engineNext c (RunAnswer.Refused x) 0 w out []
-  pub no-round : (w : List ℤ) (out : List ℕ) → runCall r engineNext c 0 w out
-      ≡ stopRun r engineNext c (answerAtLimit (roundCall r engineNext c w out .answer)) 0 w out []
+pub record RunIterates (r : Rules) (next : Follows) (c : Case) : Type 0 where
+  pub made : (limit : ℕ) (w : List ℤ) (out : List ℕ) {bytes : ℕ} {bound : ℤ} → roundCall r next c w out .answer ≡ Round.Made bytes bound
+      → runCall r next c (suc limit) w out
+      ≡ preceded 1 (take bytes (roundCall r next c w out .out))
+      (runCall r next c limit (roundCall r next c w out .table) (roundCall r next c w out .out))
+  pub settled : (limit : ℕ) (w : List ℤ) (out : List ℕ) → roundCall r next c w out .answer ≡ Round.Settled
+      → runCall r next c (suc limit) w out ≡ stopRun r next c RunAnswer.Settled 0 w out []
+  pub refused : (limit : ℕ) (w : List ℤ) (out : List ℕ) {x : Refusal} → roundCall r next c w out .answer ≡ Round.Refused x
+      → runCall r next c (suc limit) w out ≡ stopRun r next c (RunAnswer.Refused x) 0 w out []
+  pub no-round : (w : List ℤ) (out : List ℕ) → runCall r next c 0 w out
+      ≡ stopRun r next c (answerAtLimit (roundCall r next c w out .answer)) 0 w out []
   -- a round that was made hands back the upper bound of the table that it left; settled or refused, it leaves table and output as they were
-  pub round-bound : (w : List ℤ) (out : List ℕ) {bytes : ℕ} {bound : ℤ} → roundCall r engineNext c w out .answer ≡ Round.Made bytes bound
-      → bound ≡ upperBound c (roundCall r engineNext c w out .table)
-  pub unmade : (w : List ℤ) (out : List ℕ) → ((bytes : ℕ) (bound : ℤ) → roundCall r engineNext c w out .answer ≡ Round.Made bytes bound → ⊥)
-      → (roundCall r engineNext c w out .table ≡ w) × (roundCall r engineNext c w out .out ≡ out)
+  pub round-bound : (w : List ℤ) (out : List ℕ) {bytes : ℕ} {bound : ℤ} → roundCall r next c w out .answer ≡ Round.Made bytes bound
+      → bound ≡ upperBound c (roundCall r next c w out .table)
+  pub unmade : (w : List ℤ) (out : List ℕ) → ((bytes : ℕ) (bound : ℤ) → roundCall r next c w out .answer ≡ Round.Made bytes bound → ⊥)
+      → (roundCall r next c w out .table ≡ w) × (roundCall r next c w out .out ≡ out)
   -- its rounds are as many as the bound lines written
   pub bound-lines : (limit : ℕ) (w : List ℤ) (out : List ℕ)
-      → length (boundLines r (linesIn (r .amountWidth) (runCall r engineNext c limit w out .log))) ≡ runCall r engineNext c limit w out .run .rounds
+      → length (boundLines r (linesIn (r .amountWidth) (runCall r next c limit w out .log))) ≡ runCall r next c limit w out .run .rounds
+
+-- How a run ends, for every limit, every table that is handed over and not refused before the first round, and every output
+pub record RunEnds (Rest : List ℤ → Type 0) (c : Case) (limit : ℕ) (u : RunCall) : Type 0 where
+  -- it answers settled exactly in a settled state, and limit exactly where as many rounds as the limit were made and the state is not settled
+  pub rests : u .run .answer ≡ RunAnswer.Settled ↔ Rest (u .table)
+  pub limits : u .run .answer ≡ RunAnswer.Limit ↔ (u .run .rounds ≡ limit) × (Rest (u .table) → ⊥)
+  -- its rounds are few, whatever the table (ours, beyond the documents)
+  pub rounds-most : u .run .rounds ≤ mostRounds c
+  -- "The press may now meet number 11; reaching the settled state is promised where it doesn't." (document 02, change 1)
+  pub reaches : mostRounds c ≤ limit → (u .run .answer ≡ RunAnswer.Settled) ⊎ (u .run .answer ≡ RunAnswer.Refused LeavesRange)
+
+-- "A run may be of pair rounds only, settled when all left are passed over; it keeps every plan's total." (document 02, change 1): from every
+-- table v that is handed over and not refused before the first round. It is never refused after it either
+pub record PairsKept (c : Case) (v : List ℤ) (u : RunCall) : Type 0 where
+  pub unrefused : (u .run .answer ≡ RunAnswer.Settled) ⊎ (u .run .answer ≡ RunAnswer.Limit)
+  pub totals : (p : List ℕ) → T (isAssignment c p) → objective c (u .table) p ≡ objective c v p
 
 -- demand 3 whole (L11)
 pub record Demand3 (r : Rules) (c : Case) (w : List ℤ) : Type 0 where
   pub any-lines : ReplayTrusted r c w
   -- "In demand 3 a run is lent what number 4 asks" (document 01)
   pub any-run : (limit : ℕ) (out : List ℕ) → roundBytes r c ≤ length out
-      → RunTrusted r c w limit out (run r engineNext c limit w) (runCall r engineNext c limit w out)
+      → RunTrusted r engineNext (Settled r c) c w limit out (run r engineNext c limit w) (runCall r engineNext c limit w out)
       (linesIn (r .amountWidth) (runCall r engineNext c limit w out .log))
-  pub any-table : RunIterates r c
+  pub any-table : RunIterates r engineNext c
+  pub any-end : (limit : ℕ) (v : List ℤ) (out : List ℕ) → engineRefusal r engineNext c v out ≡ none
+      → RunEnds (Settled r c) c limit (runCall r engineNext c limit v out)
+  -- the same of pair rounds only (document 02, change 1); one such round is the run with limit 1
+  pub any-pairs-run : (limit : ℕ) (out : List ℕ) → roundBytes r c ≤ length out
+      → RunTrusted r pairsNext (PairsSettled r c) c w limit out (run r pairsNext c limit w) (runCall r pairsNext c limit w out)
+      (linesIn (r .amountWidth) (runCall r pairsNext c limit w out .log))
+  pub any-pairs-table : RunIterates r pairsNext c
+  pub any-pairs-end : (limit : ℕ) (v : List ℤ) (out : List ℕ) → engineRefusal r pairsNext c v out ≡ none
+      → RunEnds (PairsSettled r c) c limit (runCall r pairsNext c limit v out)
+  pub pairs-kept : (limit : ℕ) (v : List ℤ) (out : List ℕ) → engineRefusal r pairsNext c v out ≡ none → PairsKept c v (runCall r pairsNext c limit v out)
 
 -- "For every valid case", by the rules it is under
 abbrev pub Guarantee : Type 0

@@ -21,7 +21,7 @@ use Rattle.definitions.specs.Moves.{activeRefuted}
 use Rattle.definitions.specs.Engine.{others, chosen}
 use Rattle.calls.specs.Calls.{isRaised}
 use Rattle.theory.proofs.Shape.{Shape}
-use Rattle.engine_theory.proofs.Raised.{own-scope}
+use Rattle.press_theory.proofs.Raised.{own-scope}
 use Rattle.arcs.specs.Tried.{triedAnswer}
 use Rattle.choice.specs.Choice.{saysUnsupported, chosenOf, lowestUnsupported}
 use Rattle.engine.specs.Search.{Prepared, refutesIn, AllRaised, OthersRaised, ChosenIn, ChosenIs}

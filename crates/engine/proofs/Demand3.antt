@@ -1,14 +1,19 @@
--- Demand 3 holds for every valid case: the replay's half from checker_promise, the run's from engine_theory. Assumes nothing.
+-- Demand 3 holds for every valid case: the replay's half from checker_promise, the run's from engine_theory, over what comes next: the engine's
+-- round, or pair rounds only. Assumes nothing.
 use mathlib.Core.Path.{_≡_, refl, sym, ap, subst, _∙_}
+use mathlib.Core.Logic.{_↔_, _⊎_, inl, inr}
 use mathlib.Core.Option.{Option, none, some}
 use mathlib.Core.List.{List, []}
 use Prim.Native.Nat.{ℕ, _≤_}
+use native.Mathlib.Omega.{arith}
 use lib.IntN.{ℤ, pos}
 use lib.Dec.{T}
 use lib.ListN.{length}
 use Rattle.integers.specs.Linear.{flat, zs, _▸_}
 use Rattle.definitions.specs.declared.Refusal.{Refusal}
+use Rattle.definitions.specs.declared.Refusal.the-variants.{LeavesRange}
 use Rattle.definitions.specs.declared.Round.{Round}
+use Rattle.definitions.specs.declared.RunAnswer.{RunAnswer}
 use Rattle.definitions.specs.Answers.{runSays}
 use Rattle.definitions.specs.declared.Case.{Case}
 use Rattle.definitions.specs.Rules.{Rules, Coherent, coherent}
@@ -16,19 +21,24 @@ use Rattle.definitions.specs.Case.{upperBound}
 use Rattle.definitions.specs.Valid.{workingWeight, valid}
 use Rattle.definitions.specs.Lines.{linesIn, hasPart}
 use Rattle.definitions.specs.Replay.{State, fresh, after}
-use Rattle.definitions.specs.Engine.{Made, settled, refused, made, makeNext, engineNext, roundBytes, run}
+use Rattle.definitions.specs.PairRounds.{PairsSettled}
+use Rattle.definitions.specs.Engine.{Settled, nothing, Made, settled, refused, made, makeNext, engineNext, pairsNext, roundBytes, run}
 use Rattle.calls.specs.EngineCalls.{RoundCall, RunCall, roundMade, engineRefusal, roundCall, runCall}
 use Rattle.definitions.proofs.LineLaws.{no-part}
+use Rattle.theory.proofs.Shape.{Shape}
 use Rattle.theory.proofs.Validity.{Handed}
 use Rattle.theory.proofs.Replays.{keeps-iff, handed-after}
 use Rattle.theory.proofs.Rounds.{MoveKinds, move-kinds}
+use Rattle.reach_theory.proofs.Counts.{left-most}
 use Rattle.checker_promise.specs.Lists.{ReplayTrusted}
 use Rattle.checker_promise.proofs.Accepts.{replay-trusted}
-use Rattle.engine_theory.proofs.Runs.{engine-lawful, engine-free, run-settled, run-limit, run-log-taken, run-log-ends, run-never-refused, run-settles}
-use Rattle.engine_theory.proofs.Runs.{run-tallied, run-ends, ends-within}
+use Rattle.engine_theory.proofs.Runs.{Ends, settles, limits, refuses, Lawful, Free, run-settled, run-limit, run-log-taken, run-log-ends}
+use Rattle.engine_theory.proofs.Runs.{run-never-refused, run-settles, run-tallied, run-ends, ends-within}
+use Rattle.engine_theory.proofs.Engine.{engine-lawful, pairs-lawful, engine-settled, pairs-settled, engine-free, pairs-free, pairs-keep}
+use Rattle.engine_theory.proofs.Engine.{Lessening, run-few, run-unlimited, engine-lessens, pairs-lessen}
 use Rattle.engine_theory.proofs.Calls.{call-taken, round-refused, unmade-keeps, run-made, run-settled-first, run-refused-first, run-no-round, texts-joined}
 use Rattle.engine_theory.proofs.Calls.{texts-count, taken-iff, same-run, call-lines, call-bound-lines}
-use Rattle.demand3.specs.Demand3.{RunTrusted, RunIterates, Demand3, Guarantee}
+use Rattle.demand3.specs.Demand3.{Follows, RunTrusted, RunIterates, RunEnds, PairsKept, Demand3, Guarantee}
 
 -- what a round that was made hands back
 abbrev statedBound : Round → ℤ
@@ -36,81 +46,134 @@ statedBound Round.Settled = pos 0
 statedBound (Round.Made bytes bound) = bound
 statedBound (Round.Refused x) = pos 0
 
-module _ (r : Rules) (c : Case) (w : List ℤ) (out : List ℕ) (bytes : ℕ) (bound : ℤ) where
+-- ---- over any lawful rounds
+
+-- what is known of what comes next
+record Known (r : Rules) (next : Follows) (Rest : List ℤ → Type 0) (c : Case) : Type 0 where
+  pub lawful : Lawful r next c
+  pub rest : Shape c → (w : List ℤ) → next r c w ≡ nothing ↔ Rest w
+  pub lessening : Lessening r next c
+
+module _ (r : Rules) (next : Follows) (c : Case) (w : List ℤ) (out : List ℕ) (bytes : ℕ) (bound : ℤ) where
   abbrev Stated : RoundCall → Type 0
   Stated u = u .answer ≡ Round.Made bytes bound → bound ≡ upperBound c (u .table)
 
-  made-states : (m : Made) → Stated (roundMade r engineNext c w out m)
+  made-states : (m : Made) → Stated (roundMade c w out m)
   made-states settled e = cc
   made-states (refused x) e = cc
   made-states (made v lines) e = sym (ap statedBound e)
 
-  round-states : Stated (roundCall r engineNext c w out)
-  round-states = asked (engineRefusal r engineNext c w out) refl
+  round-states : Stated (roundCall r next c w out)
+  round-states = asked (engineRefusal r next c w out) refl
     where
-      asked : (o : Option Refusal) → engineRefusal r engineNext c w out ≡ o → Stated (roundCall r engineNext c w out)
-      asked none f = subst Stated (sym (call-taken r engineNext c w out f)) (made-states (makeNext r c w (engineNext r c w)))
-      asked (some x) f = subst Stated (sym (round-refused r engineNext c w out f)) (made-states (refused x))
+      asked : (o : Option Refusal) → engineRefusal r next c w out ≡ o → Stated (roundCall r next c w out)
+      asked none f = subst Stated (sym (call-taken r next c w out f)) (made-states (makeNext r c w (next r c w)))
+      asked (some x) f = subst Stated (sym (round-refused r next c w out f)) (made-states (refused x))
 
-pub engine-iterates : {r : Rules} → Coherent r → (c : Case) → RunIterates r c
-engine-iterates {r} coherent c = record {
-  made = run-made r engineNext c;
-  settled = run-settled-first r engineNext c;
-  refused = run-refused-first r engineNext c;
-  no-round = run-no-round r engineNext c;
-  round-bound = λ w out {bytes} {bound}. round-states r c w out bytes bound;
-  unmade = λ w out. unmade-keeps r engineNext c w out;
-  bound-lines = call-bound-lines coherent (engine-lawful coherent c);
-}
+module _ {r : Rules} {next : Follows} {Rest : List ℤ → Type 0} {c : Case} (coherent : Coherent r) (known : Known r next Rest c) where
+  iterates : RunIterates r next c
+  iterates = record {
+    made = run-made r next c;
+    settled = run-settled-first r next c;
+    refused = run-refused-first r next c;
+    no-round = run-no-round r next c;
+    round-bound = λ w out {bytes} {bound}. round-states r next c w out bytes bound;
+    unmade = λ w out. unmade-keeps r next c w out;
+    bound-lines = call-bound-lines coherent (known .lawful);
+  }
 
-module _ {r : Rules} (coherent : Coherent r) (kinds : MoveKinds r) (c : Case) (w : List ℤ) (t : T (valid r c w)) where
-  trusted : ReplayTrusted r c w
-  trusted = replay-trusted coherent c w t
+  -- not by its limit, if that is not less than the rounds that can be
+  ends-not-limit : {w : List ℤ} {rounds limit : ℕ} {answer : RunAnswer} → Ends r next c w rounds limit answer → (answer ≡ RunAnswer.Limit → ⊥)
+      → (answer ≡ RunAnswer.Settled) ⊎ (answer ≡ RunAnswer.Refused LeavesRange)
+  ends-not-limit (settles h e) n = inl refl
+  ends-not-limit (limits h e) n = absurd (n refl)
+  ends-not-limit (refuses h e f) n = inr refl
 
-  run-trusted : (limit : ℕ) (out : List ℕ) → roundBytes r c ≤ length out
-      → RunTrusted r c w limit out (run r engineNext c limit w) (runCall r engineNext c limit w out)
-      (linesIn (r .amountWidth) (runCall r engineNext c limit w out .log))
-  run-trusted limit out long =
-      let lawful = engine-lawful coherent c in
-      let free = engine-free {w₀ = w} coherent t in
-      let h : Handed r (workingWeight r) c w = handed-after r c w t [] coherent in
-      let taken = taken-iff r engineNext c w out .1 (h, long) in
-      let same = same-run coherent lawful limit w out taken in
-      let lines = call-lines coherent lawful limit w out taken in
-      let u : RunCall = runCall r engineNext c limit w out in
-      let log : List (List ℕ) = linesIn (r .amountWidth) (u .log) in
-      -- the plain replay of the log's lines
-      let replayed = ap (after r (fresh c w)) lines ∙ run-log-taken coherent kinds lawful w t limit in
-      let rounds : after r (fresh c w) log .rounds ≡ u .run .rounds = ap (λ (s : State). s .rounds) replayed ∙ sym (same .rounds) in
-      let weights : after r (fresh c w) log .weights ≡ u .table = ap (λ (s : State). s .weights) replayed ∙ sym (same .table) in
-      let bound : u .run .bound ≡ upperBound c (u .table) = same .bound ∙ ap (upperBound c) (sym (same .table)) in
+  ends : (limit : ℕ) (w : List ℤ) (out : List ℕ) → engineRefusal r next c w out ≡ none → RunEnds Rest c limit (runCall r next c limit w out)
+  ends limit w out taken =
+      let (h, long) = taken-iff r next c w out .0 taken in
+      let same = same-run coherent (known .lawful) limit w out taken in
+      let most = left-most c w in
       record {
-        rounds = same .rounds;
-        weights = same .table;
-        bound = bound;
-        lines = same .log;
-        round-lines = sym (texts-joined r engineNext c limit w);
-        round-count = texts-count r engineNext c limit w ∙ sym (same .rounds);
-        output = same .out;
-        answer = ap runSays (same .answer);
-        settled = rw (same .answer, same .table) (run-settled r c (h .shape) limit w);
-        limited = rw (same .answer, same .rounds, same .table) (run-limit r c (h .shape) limit w);
-        unrefused = rw (same .answer) (run-never-refused coherent kinds lawful w t free limit);
-        within = rw (same .rounds) (ends-within r engineNext c (run-ends r engineNext c limit w));
-        log-whole =
-            ap (hasPart (r .amountWidth)) (same .log) ∙ no-part (r .amountWidth) (run r engineNext c limit w .log)
-            (run-tallied coherent lawful limit w h .kept .whole);
-        log-accepted = trusted log .accepted .1 (keeps-iff r c w log .1 (rw lines (run-log-ends coherent kinds lawful w t limit)));
-        log-rounds = trusted log .rounds ∙ rounds;
-        log-bound = ap (upperBound c) (trusted log .weights ∙ weights) ∙ sym bound;
-        log-weights = trusted log .weights ∙ weights;
-        bound-least = λ p a. rw (bound, ← weights, ← trusted log .weights) (trusted log .bound-least p a);
-        settles = λ p a l. same .answer ∙ run-settles coherent kinds lawful w t free limit p a (l ▸ simp flat (omega zs));
+        rests = rw (same .answer, same .table) (run-settled r next c (known .rest (h .shape)) limit w);
+        limits = rw (same .answer, same .rounds, same .table) (run-limit r next c (known .rest (h .shape)) limit w);
+        rounds-most = omega (arith, same .rounds, run-few (known .lawful) (known .lessening) limit w h);
+        reaches = λ enough. rw (same .answer) (ends-not-limit (run-ends r next c limit w)
+            (run-unlimited (known .lawful) (known .lessening) limit w h (omega arith)));
       }
 
-  pub demand3 : Demand3 r c w
-  demand3 = record { any-lines = trusted; any-run = run-trusted; any-table = engine-iterates coherent c }
+  module _ (kinds : MoveKinds r) (w : List ℤ) (t : T (valid r c w)) {Reach : List ℤ → Type 0} (free : Free r next c w Reach) where
+    run-trusted : (limit : ℕ) (out : List ℕ) → roundBytes r c ≤ length out
+        → RunTrusted r next Rest c w limit out (run r next c limit w) (runCall r next c limit w out)
+        (linesIn (r .amountWidth) (runCall r next c limit w out .log))
+    run-trusted limit out long =
+        let lawful = known .lawful in
+        let trusted : ReplayTrusted r c w = replay-trusted coherent c w t in
+        let h : Handed r (workingWeight r) c w = handed-after r c w t [] coherent in
+        let taken = taken-iff r next c w out .1 (h, long) in
+        let same = same-run coherent lawful limit w out taken in
+        let lines = call-lines coherent lawful limit w out taken in
+        let u : RunCall = runCall r next c limit w out in
+        let log : List (List ℕ) = linesIn (r .amountWidth) (u .log) in
+        -- the plain replay of the log's lines
+        let replayed = ap (after r (fresh c w)) lines ∙ run-log-taken coherent kinds lawful w t limit in
+        let rounds : after r (fresh c w) log .rounds ≡ u .run .rounds = ap (λ (s : State). s .rounds) replayed ∙ sym (same .rounds) in
+        let weights : after r (fresh c w) log .weights ≡ u .table = ap (λ (s : State). s .weights) replayed ∙ sym (same .table) in
+        let bound : u .run .bound ≡ upperBound c (u .table) = same .bound ∙ ap (upperBound c) (sym (same .table)) in
+        record {
+          rounds = same .rounds;
+          weights = same .table;
+          bound = bound;
+          lines = same .log;
+          round-lines = sym (texts-joined r next c limit w);
+          round-count = texts-count r next c limit w ∙ sym (same .rounds);
+          output = same .out;
+          answer = ap runSays (same .answer);
+          settled = ends limit w out taken .rests;
+          limited = ends limit w out taken .limits;
+          unrefused = rw (same .answer) (run-never-refused free limit);
+          within = rw (same .rounds) (ends-within r next c (run-ends r next c limit w));
+          log-whole =
+              ap (hasPart (r .amountWidth)) (same .log) ∙ no-part (r .amountWidth) (run r next c limit w .log)
+              (run-tallied coherent lawful limit w h .kept .whole);
+          log-accepted = trusted log .accepted .1 (keeps-iff r c w log .1 (rw lines (run-log-ends coherent kinds lawful w t limit)));
+          log-rounds = trusted log .rounds ∙ rounds;
+          log-bound = ap (upperBound c) (trusted log .weights ∙ weights) ∙ sym bound;
+          log-weights = trusted log .weights ∙ weights;
+          bound-least = λ p a. rw (bound, ← weights, ← trusted log .weights) (trusted log .bound-least p a);
+          settles = λ p a l. same .answer ∙ run-settles coherent kinds lawful w t free limit p a (l ▸ simp flat (omega zs));
+        }
+
+-- ---- the engine's rounds, and those of pairs only
+
+module _ {r : Rules} (coherent : Coherent r) (c : Case) where
+  engine-known : Known r engineNext (Settled r c) c
+  engine-known = record { lawful = engine-lawful coherent c; rest = engine-settled r c; lessening = engine-lessens c }
+
+  pairs-known : Known r pairsNext (PairsSettled r c) c
+  pairs-known = record { lawful = pairs-lawful coherent c; rest = pairs-settled r c; lessening = pairs-lessen c }
+
+  pairs-kept : (limit : ℕ) (v : List ℤ) (out : List ℕ) → engineRefusal r pairsNext c v out ≡ none → PairsKept c v (runCall r pairsNext c limit v out)
+  pairs-kept limit v out taken =
+      let (h, long) = taken-iff r pairsNext c v out .0 taken in
+      let same = same-run coherent (pairs-lawful coherent c) limit v out taken in
+      record {
+        unrefused = rw (same .answer) (run-never-refused (pairs-free coherent h) limit);
+        totals = λ p a. rw (same .table) (pairs-keep coherent limit v h p a);
+      }
+
+  pub demand3 : MoveKinds r → (w : List ℤ) → T (valid r c w) → Demand3 r c w
+  demand3 kinds w t = record {
+    any-lines = replay-trusted coherent c w t;
+    any-run = run-trusted coherent engine-known kinds w t (engine-free coherent t);
+    any-table = iterates coherent engine-known;
+    any-end = ends coherent engine-known;
+    any-pairs-run = run-trusted coherent pairs-known kinds w t (pairs-free coherent (handed-after r c w t [] coherent));
+    any-pairs-table = iterates coherent pairs-known;
+    any-pairs-end = ends coherent pairs-known;
+    pairs-kept = pairs-kept;
+  }
 
 -- for every valid case, by the rules it is under
 pub rules-demand3 : Guarantee
-rules-demand3 c = demand3 (coherent (c .rulebook)) (move-kinds (coherent (c .rulebook))) c
+rules-demand3 c = demand3 (coherent (c .rulebook)) c (move-kinds (coherent (c .rulebook)))

@@ -5,4 +5,5 @@ mod Choice
 mod Trims
 mod Rounds
 mod Runs
+mod Pairs
 pub mod Demand3

@@ -1,7 +1,7 @@
--- What a call of the engine's round answers and leaves, by what its press did. Assumes nothing.
+-- What a call of the engine's round answers and leaves where no pair comes first, by what its press did. Assumes nothing.
 use mathlib.Core.Path.{_≡_, refl, sym, ap, ap₂, subst, _∙_}
 use mathlib.Core.Bool.{Bool, true, false, not, _&&_}
-use mathlib.Core.Option.{none, some}
+use mathlib.Core.Option.{Option, none, some}
 use mathlib.Core.List.{List, [], _∷_, _++_, map, append-nil, List·Memᴰ·head, List·Memᴰ·tail}
 use Prim.Native.Nat.{ℕ, _+_, _*_, _≤_, _<_}
 use native.Mathlib.Nat.{mul-le-mul-left}
@@ -27,17 +27,19 @@ use Rattle.definitions.specs.Case.{scopes, scopeCount, active, upperBound}
 use Rattle.definitions.specs.Valid.{workingWeight}
 use Rattle.definitions.specs.Moves.{activePress, onlyWhere, pressBy, activeValues, pressAmount, leavesRange}
 use Rattle.definitions.specs.Lines.{lineLength, lineText, lineTooWide, overwritten}
-use Rattle.definitions.specs.Engine.{chosen, keptScopes, leastGap, Next, roundBytes, madeOf, makeNext, engineNext}
+use Rattle.definitions.specs.PairRounds.{lowestPair}
+use Rattle.definitions.specs.Engine.{chosen, keptScopes, leastGap, Next, roundBytes, madeOf, makeNext, pairNext, pressesNext, engineNext}
 use Rattle.definitions.specs.RoundLines.{raiseLine, boundLine, roundLines, roundText}
 use Rattle.calls.specs.Calls.{WriteCall, isRaised}
 use Rattle.calls.specs.EngineCalls.{RoundCall, roundMade, roundCall}
 use Rattle.theory.proofs.Validity.{Handed}
 use Rattle.theory.proofs.Places.{plus-cong}
 use Rattle.theory.proofs.Rounds.{AllAllowed, all-handed, round-fits}
-use Rattle.engine_theory.proofs.Trim.{chosen-some, kept-fewer}
-use Rattle.engine_theory.proofs.Gaps.{amount-some, amount-most, next-press}
-use Rattle.engine_theory.proofs.Fall.{enginePressed}
-use Rattle.engine_theory.proofs.Runs.{differ, presses, engine-allowed}
+use Rattle.press_theory.proofs.Trim.{chosen-some, kept-fewer}
+use Rattle.press_theory.proofs.Gaps.{amount-some, amount-most, next-press}
+use Rattle.press_theory.proofs.Fall.{enginePressed}
+use Rattle.engine_theory.proofs.Runs.{differ}
+use Rattle.engine_theory.proofs.Engine.{presses, engine-allowed}
 use Rattle.engine_theory.proofs.Calls.{taken-iff, call-taken}
 use Rattle.tables.specs.Scopes.{BestOf}
 use Rattle.tables.proofs.Answered.{limits-true}
@@ -98,7 +100,7 @@ module _ {c : Case} {w : List ℤ} {i : ℕ} {a : ℤ} (h : Handed (rulesOf c) (
       amount-some c w (h .shape) which least ▸ amount-most c w (h .shape) which least (rulesOf c) (h .in-range)
       ▸ coherent (c .rulebook) .difference ▸ simp flat (omega zs)
 
-  module _ (raised : List ℕ) (same : raisedBelow raised (scopeCount c) ≡ keptScopes c w i) where
+  module _ (no-pair : lowestPair (rulesOf c) c w ≡ none) (raised : List ℕ) (same : raisedBelow raised (scopeCount c) ≡ keptScopes c w i) where
     kept-in : (x : ℕ) → x < scopeCount c → isRaised raised x ≡ isIn (keptScopes c w i) x
     kept-in x g = same-test (isRaised raised x) (isIn (keptScopes c w i) x)
         (λ t. subst (λ (l : List ℕ). T (isIn l x)) same (isIn-in (raisedBelow raised (scopeCount c)) x .1 (those-in (isRaised raised) (below-in g) t)))
@@ -117,17 +119,18 @@ module _ {c : Case} {w : List ℤ} {i : ℕ} {a : ℤ} (h : Handed (rulesOf c) (
 
     module _ (out : List ℕ) (long : roundBytes (rulesOf c) c ≤ length out) where
       call-is : (b : Bool) → leavesRange (rulesOf c) c (enginePressed c w i a) ≡ b
-          → roundCall (rulesOf c) engineNext c w out ≡ roundMade (rulesOf c) engineNext c w out
+          → roundCall (rulesOf c) engineNext c w out ≡ roundMade c w out
           (madeOf (rulesOf c) c (activePress c w i (keptScopes c w i) a ∷ []) (if b then none else some (enginePressed c w i a)))
       call-is b e =
           call-taken (rulesOf c) engineNext c w out (taken-iff (rulesOf c) engineNext c w out .1 (h, long))
-          ∙ ap (λ (n : Next). roundMade (rulesOf c) engineNext c w out (makeNext (rulesOf c) c w n)) (next-press (rulesOf c) c w which least)
-          ∙ ap (λ (q : Bool). roundMade (rulesOf c) engineNext c w out
+          ∙ ap (λ (n : Next). roundMade c w out (makeNext (rulesOf c) c w n))
+          (ap (λ (o : Option ℕ). pairNext c w o (pressesNext (rulesOf c) c w)) no-pair ∙ next-press (rulesOf c) c w which least)
+          ∙ ap (λ (q : Bool). roundMade c w out
           (madeOf (rulesOf c) c (activePress c w i (keptScopes c w i) a ∷ []) (if q then none else some (enginePressed c w i a)))) e
 
       -- number 11
       pub made-refused : {x : Refusal} {after best : List ℤ} → Pressed c i raised a w after best (Outcome.Refused x)
-          → MadeRound c w out after out (Round.Refused x) × BestOf c after best
+          → MadeRound false c w out after out (Round.Refused x) × BestOf c after best
       made-refused {x} p =
           let (e, f) = refused-way (leavesRange (rulesOf c) c (pressedBy c i raised a w)) (p .answer) in
           let d = call-is true (ap (leavesRange (rulesOf c) c) (sym pressed-is) ∙ e) in (
@@ -149,7 +152,7 @@ module _ {c : Case} {w : List ℤ} {i : ℕ} {a : ℤ} (h : Handed (rulesOf c) (
             (done-way (leavesRange (rulesOf c) c (pressedBy c i raised a w)) (p .answer)) ∙ pressed-is
 
         allows : AllAllowed (rulesOf c) c w (activePress c w i (keptScopes c w i) a ∷ []) (enginePressed c w i a)
-        allows = engine-allowed h (coherent (c .rulebook)) (presses which least (false-is (leavesRange (rulesOf c) c (enginePressed c w i a)) stays))
+        allows = engine-allowed h (coherent (c .rulebook)) (presses no-pair which least (false-is (leavesRange (rulesOf c) c (enginePressed c w i a)) stays))
 
         pub done-handed : Handed (rulesOf c) (workingWeight (rulesOf c)) c after
         done-handed = rw after-is (all-handed allows h)
@@ -173,7 +176,7 @@ module _ {c : Case} {w : List ℤ} {i : ℕ} {a : ℤ} (h : Handed (rulesOf c) (
         pub made-done : scopeCount c ≤ length raised → {r : Round} {bound : ℤ} {written : List ℕ} → bound ≡ upperBound c after
             → r ≡ roundWritten (writeAllCall (rulesOf c) c out raised i a bound .answer) bound
             → written ≡ writeAllCall (rulesOf c) c out raised i a bound .out
-            → MadeRound c w out after written r
+            → MadeRound false c w out after written r
         made-done room {r} {bound} {written} e n o =
             let d = call-is false stays in
             let u : writeAllCall (rulesOf c) c out raised i a (upperBound c after)

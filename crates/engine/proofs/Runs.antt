@@ -1,7 +1,7 @@
--- A run, round by round. Assumes nothing.
+-- A run, round by round, with pair rounds only or not. Assumes nothing.
 use mathlib.Core.Path.{_≡_, refl, sym, ap, ap₂, subst, _∙_}
 use mathlib.Core.Bool.{Bool, true, false, not}
-use mathlib.Core.Option.{Option, none, some}
+use mathlib.Core.Option.{some}
 use mathlib.Core.List.{List, [], _∷_, _++_}
 use Prim.Native.Nat.{ℕ, suc, _+_, _-_, _≤_, _<_}
 use native.Mathlib.Omega.{arith}
@@ -23,16 +23,16 @@ use Rattle.definitions.specs.Refusals.{Test, firstOf}
 use Rattle.definitions.specs.Answers.{outcomeOf}
 use Rattle.definitions.specs.Case.{upperBound}
 use Rattle.definitions.specs.Valid.{workingWeight, handedOver}
-use Rattle.definitions.specs.Engine.{chosen, roundBytes, engineNext}
+use Rattle.definitions.specs.Engine.{Next, nothing, round, atLimit, roundBytes}
 use Rattle.calls.specs.EngineCalls.{RoundCall, RunCall, isLeaving, answerAtLimit, roundCall, boundAt, stopRun, goOn, runCallFrom, runCall}
 use Rattle.theory.proofs.Validity.{Handed}
-use Rattle.engine_theory.proofs.Trim.{settled-iff}
-use Rattle.theory.proofs.Rounds.{all-handed}
-use Rattle.engine_theory.proofs.Runs.{differ, engine-allowed, presses as pressed}
+use Rattle.engine_theory.proofs.Runs.{Lawful, differ, handed-on}
+use Rattle.engine_theory.proofs.Engine.{engine-lawful, pairs-lawful}
 use Rattle.engine_theory.proofs.Calls.{taken-iff, round-refused, run-refused, unmade-keeps}
-use Rattle.engine_theory.proofs.Round.{RoundIs, settles, presses, leaves, round-is, call-settled, round-leaves}
+use Rattle.engine_theory.proofs.Round.{RoundIs, settles, makes, leaves, round-is, round-leaves}
 use Rattle.tables.proofs.Order.{outcome-done, outcome-refused}
-use Rattle.engine.specs.Rounds.{MadeRound, RunIs, limitAnswer, stoppedRun, engineRefusalOf}
+use Rattle.round_lines.specs.Asked.{roundRefusal}
+use Rattle.engine.specs.Rounds.{nextIn, MadeRound, RunIs, stoppedRun}
 
 abbrev pub runWith : RunAnswer → ℕ → ℤ → Run
 runWith answer rounds bound = record { answer = answer; rounds = rounds; bound = bound }
@@ -49,96 +49,107 @@ not-leaving (t ∷ ts) h {x} e = go (t .applies) (and-left (not (isLeaving (t .r
     go true h rest e = subst (λ (y : Refusal). T (not (isLeaving y))) (some-inj e) h
     go false h rest e = rest e
 
-module _ (c : Case) (w : List ℤ) (out : List ℕ) where
-  pub asked-done : Outcome.Done ≡ outcomeOf (engineRefusalOf c w (length out))
+module _ (pairs : Bool) (c : Case) (w : List ℤ) (out : List ℕ) where
+  pub asked-done : Outcome.Done ≡ outcomeOf (roundRefusal (rulesOf c) c w (length out) false)
       → Handed (rulesOf c) (workingWeight (rulesOf c)) c w × (roundBytes (rulesOf c) c ≤ length out)
-  asked-done e = taken-iff (rulesOf c) engineNext c w out .0 (outcome-done e)
+  asked-done e = taken-iff (rulesOf c) (nextIn pairs) c w out .0 (outcome-done e)
 
-  pub asked-refused : {x : Refusal} → Outcome.Refused x ≡ outcomeOf (engineRefusalOf c w (length out)) → MadeRound c w out w out (Round.Refused x)
-  asked-refused e = let d = round-refused (rulesOf c) engineNext c w out (outcome-refused e) in record {
+  pub asked-refused : {x : Refusal} → Outcome.Refused x ≡ outcomeOf (roundRefusal (rulesOf c) c w (length out) false)
+      → MadeRound pairs c w out w out (Round.Refused x)
+  asked-refused e = let d = round-refused (rulesOf c) (nextIn pairs) c w out (outcome-refused e) in record {
     answer = sym (ap (λ (u : RoundCall). u .answer) d);
     table = sym (ap (λ (u : RoundCall). u .table) d);
     output = sym (ap (λ (u : RoundCall). u .out) d);
   }
 
-  pub run-is-refused : {x : Refusal} (limit : ℕ) → Outcome.Refused x ≡ outcomeOf (engineRefusalOf c w (length out))
-      → RunIs c limit w out w out (runWith (RunAnswer.Refused x) 0 (pos 0))
+  pub run-is-refused : {x : Refusal} (limit : ℕ) → Outcome.Refused x ≡ outcomeOf (roundRefusal (rulesOf c) c w (length out) false)
+      → RunIs pairs c limit w out w out (runWith (RunAnswer.Refused x) 0 (pos 0))
   run-is-refused {x} limit e =
-      let d = run-refused (rulesOf c) engineNext c w out limit (outcome-refused e) in
+      let d = run-refused (rulesOf c) (nextIn pairs) c w out limit (outcome-refused e) in
       let n = not-eleven (outcome-refused e) in record {
         run = ap (runWith (RunAnswer.Refused x) 0) (sym (if-false (upperBound c w) (pos 0) (isLeaving x) n)) ∙ sym (ap (λ (u : RunCall). u .run) d);
         table = sym (ap (λ (u : RunCall). u .table) d);
         output = sym (ap (λ (u : RunCall). u .out) d);
       }
     where
-      not-eleven : {x : Refusal} → engineRefusalOf c w (length out) ≡ some x → T (not (isLeaving x))
+      not-eleven : {x : Refusal} → roundRefusal (rulesOf c) c w (length out) false ≡ some x → T (not (isLeaving x))
       not-eleven = not-leaving (handedOver (rulesOf c) (workingWeight (rulesOf c)) c w (ltb (length out) (roundBytes (rulesOf c) c)) false) tt
 
 -- ---- a round on a table that was checked
 
-module _ {c : Case} {w : List ℤ} {out : List ℕ} (h : Handed (rulesOf c) (workingWeight (rulesOf c)) c w) (long : roundBytes (rulesOf c) c ≤ length out) where
-  pub nothing-made : chosen c w ≡ none → MadeRound c w out w out Round.Settled
-  nothing-made e =
-      let s = call-settled (rulesOf c) c w out h long .1 (settled-iff c w (h .shape) .0 e) in
-      let (t, o) = unmade-keeps (rulesOf c) engineNext c w out (λ bytes bound d. differ (cc)) in
-      record { answer = sym s; table = sym t; output = sym o }
+lawful-in : (pairs : Bool) (c : Case) → Lawful (rulesOf c) (nextIn pairs) c
+lawful-in true c = pairs-lawful (coherent (c .rulebook)) c
+lawful-in false c = engine-lawful (coherent (c .rulebook)) c
+
+module _ {pairs : Bool} {c : Case} {w : List ℤ} {out : List ℕ} (h : Handed (rulesOf c) (workingWeight (rulesOf c)) c w)
+    (long : roundBytes (rulesOf c) c ≤ length out) where
+  pub nothing-made : nextIn pairs (rulesOf c) c w ≡ nothing → MadeRound pairs c w out w out Round.Settled
+  nothing-made e = let (a, t, o) = go (round-is (rulesOf c) (nextIn pairs) c w out h long) in record { answer = a; table = t; output = o }
+    where
+      go : {u : RoundCall} → RoundIs (rulesOf c) (nextIn pairs) c w out u → (Round.Settled ≡ u .answer) × (w ≡ u .table) × (out ≡ u .out)
+      go (settles f) = (refl, refl, refl)
+      go (makes m) = let d = m .comes in differ (cc)
+      go (leaves f g) = differ (cc)
 
   module _ {after : List ℤ} {written : List ℕ} where
-    settled-keeps : MadeRound c w out after written Round.Settled → (after ≡ w) × (written ≡ out)
+    settled-keeps : MadeRound pairs c w out after written Round.Settled → (after ≡ w) × (written ≡ out)
     settled-keeps p =
         let a = p .answer in
-        let (t, o) = unmade-keeps (rulesOf c) engineNext c w out (λ bytes bound d. differ (cc)) in
+        let (t, o) = unmade-keeps (rulesOf c) (nextIn pairs) c w out (λ bytes bound d. differ (cc)) in
         (p .table ∙ t, p .output ∙ o)
 
-    refused-keeps : {x : Refusal} → MadeRound c w out after written (Round.Refused x) → (after ≡ w) × (written ≡ out) × (x ≡ LeavesRange)
+    refused-keeps : {x : Refusal} → MadeRound pairs c w out after written (Round.Refused x) → (after ≡ w) × (written ≡ out) × (x ≡ LeavesRange)
     refused-keeps p =
         let a = p .answer in
-        let (t, o) = unmade-keeps (rulesOf c) engineNext c w out (λ bytes bound d. differ (cc)) in
-        (p .table ∙ t, p .output ∙ o, round-leaves (rulesOf c) c w out h long (sym a) .0)
+        let (t, o) = unmade-keeps (rulesOf c) (nextIn pairs) c w out (λ bytes bound d. differ (cc)) in
+        (p .table ∙ t, p .output ∙ o, round-leaves (rulesOf c) (nextIn pairs) c w out h long (sym a))
 
-    pub still-settled : MadeRound c w out after written Round.Settled → Handed (rulesOf c) (workingWeight (rulesOf c)) c after
+    pub still-settled : MadeRound pairs c w out after written Round.Settled → Handed (rulesOf c) (workingWeight (rulesOf c)) c after
     still-settled p = rw (settled-keeps p .0) h
 
-    pub still-refused : {x : Refusal} → MadeRound c w out after written (Round.Refused x) → Handed (rulesOf c) (workingWeight (rulesOf c)) c after
+    pub still-refused : {x : Refusal} → MadeRound pairs c w out after written (Round.Refused x) → Handed (rulesOf c) (workingWeight (rulesOf c)) c after
     still-refused p = rw (refused-keeps p .0) h
 
-    pub still-made : {bytes : ℕ} {bound : ℤ} → MadeRound c w out after written (Round.Made bytes bound)
+    pub still-made : {bytes : ℕ} {bound : ℤ} → MadeRound pairs c w out after written (Round.Made bytes bound)
         → Handed (rulesOf c) (workingWeight (rulesOf c)) c after
-    still-made {bytes} {bound} p = rw (p .table) (go (round-is (rulesOf c) c w out h long) (sym (p .answer)))
+    still-made {bytes} {bound} p = rw (p .table) (go (round-is (rulesOf c) (nextIn pairs) c w out h long) (sym (p .answer)))
       where
-        go : {u : RoundCall} → RoundIs (rulesOf c) c w out u → u .answer ≡ Round.Made bytes bound → Handed (rulesOf c) (workingWeight (rulesOf c)) c (u .table)
+        go : {u : RoundCall} → RoundIs (rulesOf c) (nextIn pairs) c w out u → u .answer ≡ Round.Made bytes bound
+            → Handed (rulesOf c) (workingWeight (rulesOf c)) c (u .table)
         go (settles f) e = differ (cc)
-        go (leaves d g t) e = differ (cc)
-        go (presses d g t) e = all-handed (engine-allowed h (coherent (c .rulebook)) (pressed d g t)) h
+        go (leaves f g) e = differ (cc)
+        go (makes m) e = handed-on (coherent (c .rulebook)) (lawful-in pairs c) m
 
--- at its limit a run answers by the variable that is chosen
-limit-answer : {c : Case} {w : List ℤ} (out : List ℕ) → Handed (rulesOf c) (workingWeight (rulesOf c)) c w → roundBytes (rulesOf c) c ≤ length out
-    → answerAtLimit (roundCall (rulesOf c) engineNext c w out .answer) ≡ limitAnswer (chosen c w)
-limit-answer {c} {w} out h long = go (round-is (rulesOf c) c w out h long)
+-- at its limit a run answers by what comes next
+limit-answer : (pairs : Bool) {c : Case} {w : List ℤ} (out : List ℕ) → Handed (rulesOf c) (workingWeight (rulesOf c)) c w
+    → roundBytes (rulesOf c) c ≤ length out
+    → answerAtLimit (roundCall (rulesOf c) (nextIn pairs) c w out .answer) ≡ atLimit (nextIn pairs (rulesOf c) c w)
+limit-answer pairs {c} {w} out h long = go (round-is (rulesOf c) (nextIn pairs) c w out h long)
   where
-    go : {u : RoundCall} → RoundIs (rulesOf c) c w out u → answerAtLimit (u .answer) ≡ limitAnswer (chosen c w)
-    go (settles f) = sym (ap limitAnswer (settled-iff c w (h .shape) .1 f))
-    go (presses d g t) = sym (ap limitAnswer d)
-    go (leaves d g t) = sym (ap limitAnswer d)
+    go : {u : RoundCall} → RoundIs (rulesOf c) (nextIn pairs) c w out u → answerAtLimit (u .answer) ≡ atLimit (nextIn pairs (rulesOf c) c w)
+    go (settles f) = sym (ap atLimit f)
+    go (makes m) = sym (ap atLimit (m .comes))
+    go (leaves f g) = sym (ap atLimit f)
 
-limit-bound : (c : Case) (w : List ℤ) (o : Option ℕ) → boundAt (rulesOf c) engineNext c (limitAnswer o) w ≡ upperBound c w
-limit-bound c w none = refl
-limit-bound c w (some i) = refl
+limit-bound : (pairs : Bool) (c : Case) (w : List ℤ) (n : Next) → boundAt (rulesOf c) (nextIn pairs) c (atLimit n) w ≡ upperBound c w
+limit-bound pairs c w nothing = refl
+limit-bound pairs c w (round moves) = refl
 
 -- ---- the rounds of a run
 
-module _ (c : Case) (limit : ℕ) (first : List ℤ) (lent : List ℕ) where
+module _ (pairs : Bool) (c : Case) (limit : ℕ) (first : List ℤ) (lent : List ℕ) where
   -- after so many rounds the run goes on from this table and output
   abbrev pub Going : ℕ → List ℤ → List ℕ → Type 0
-  Going done w out = (log : List ℕ) × (runCallFrom (rulesOf c) engineNext c (limit - done) done w out log ≡ runCall (rulesOf c) engineNext c limit first lent)
+  Going done w out = (log : List ℕ)
+      × (runCallFrom (rulesOf c) (nextIn pairs) c (limit - done) done w out log ≡ runCall (rulesOf c) (nextIn pairs) c limit first lent)
 
   pub run-starts : Going 0 first lent
   unfolding runCall
-  run-starts = let e : limit - 0 ≡ limit = omega arith in ([], ap (λ (n : ℕ). runCallFrom (rulesOf c) engineNext c n 0 first lent []) e)
+  run-starts = let e : limit - 0 ≡ limit = omega arith in ([], ap (λ (n : ℕ). runCallFrom (rulesOf c) (nextIn pairs) c n 0 first lent []) e)
 
-  ended : {done : ℕ} {w : List ℤ} {out log : List ℕ} {answer : RunAnswer} → boundAt (rulesOf c) engineNext c answer w ≡ upperBound c w
-      → stopRun (rulesOf c) engineNext c answer done w out log ≡ runCall (rulesOf c) engineNext c limit first lent
-      → RunIs c limit first lent w out (stoppedRun c w answer done)
+  ended : {done : ℕ} {w : List ℤ} {out log : List ℕ} {answer : RunAnswer} → boundAt (rulesOf c) (nextIn pairs) c answer w ≡ upperBound c w
+      → stopRun (rulesOf c) (nextIn pairs) c answer done w out log ≡ runCall (rulesOf c) (nextIn pairs) c limit first lent
+      → RunIs pairs c limit first lent w out (stoppedRun c w answer done)
   ended {done} {w} {out} {log} {answer} b e = record {
     run = ap (runWith answer done) (sym b) ∙ ap (λ (u : RunCall). u .run) e;
     table = ap (λ (u : RunCall). u .table) e;
@@ -149,42 +160,42 @@ module _ (c : Case) (limit : ℕ) (first : List ℤ) (lent : List ℕ) where
       (going : Going done w out) where
     module _ (more : done < limit) where
       -- what this round's answer leads to
-      leads : {a : Round} → a ≡ roundCall (rulesOf c) engineNext c w out .answer
-          → goOn (rulesOf c) engineNext c a (roundCall (rulesOf c) engineNext c w out) done w out (going .0)
-          (λ v b l. runCallFrom (rulesOf c) engineNext c (limit - (done + 1)) (suc done) v b l)
-          ≡ runCall (rulesOf c) engineNext c limit first lent
+      leads : {a : Round} → a ≡ roundCall (rulesOf c) (nextIn pairs) c w out .answer
+          → goOn (rulesOf c) (nextIn pairs) c a (roundCall (rulesOf c) (nextIn pairs) c w out) done w out (going .0)
+          (λ v b l. runCallFrom (rulesOf c) (nextIn pairs) c (limit - (done + 1)) (suc done) v b l)
+          ≡ runCall (rulesOf c) (nextIn pairs) c limit first lent
       leads e =
           let n : suc (limit - (done + 1)) ≡ limit - done = omega arith in
-          ap (λ (a : Round). goOn (rulesOf c) engineNext c a (roundCall (rulesOf c) engineNext c w out) done w out (going .0)
-          (λ v b l. runCallFrom (rulesOf c) engineNext c (limit - (done + 1)) (suc done) v b l)) e
-          ∙ ap (λ (k : ℕ). runCallFrom (rulesOf c) engineNext c k done w out (going .0)) n ∙ going .1
+          ap (λ (a : Round). goOn (rulesOf c) (nextIn pairs) c a (roundCall (rulesOf c) (nextIn pairs) c w out) done w out (going .0)
+          (λ v b l. runCallFrom (rulesOf c) (nextIn pairs) c (limit - (done + 1)) (suc done) v b l)) e
+          ∙ ap (λ (k : ℕ). runCallFrom (rulesOf c) (nextIn pairs) c k done w out (going .0)) n ∙ going .1
 
-      pub run-goes-on : {after : List ℤ} {written : List ℕ} {bytes : ℕ} {bound : ℤ} → MadeRound c w out after written (Round.Made bytes bound)
+      pub run-goes-on : {after : List ℤ} {written : List ℕ} {bytes : ℕ} {bound : ℤ} → MadeRound pairs c w out after written (Round.Made bytes bound)
           → Going (done + 1) after written
       run-goes-on {bytes = bytes} p =
           let n : done + 1 ≡ suc done = omega arith in (
-            going .0 ++ take bytes (roundCall (rulesOf c) engineNext c w out .out),
-            ap₂ (λ (v : List ℤ) (b : List ℕ). runCallFrom (rulesOf c) engineNext c (limit - (done + 1)) (done + 1) v b
-                (going .0 ++ take bytes (roundCall (rulesOf c) engineNext c w out .out))) (p .table) (p .output)
-                ∙ ap (λ (k : ℕ). runCallFrom (rulesOf c) engineNext c (limit - (done + 1)) k (roundCall (rulesOf c) engineNext c w out .table)
-                (roundCall (rulesOf c) engineNext c w out .out) (going .0 ++ take bytes (roundCall (rulesOf c) engineNext c w out .out))) n
+            going .0 ++ take bytes (roundCall (rulesOf c) (nextIn pairs) c w out .out),
+            ap₂ (λ (v : List ℤ) (b : List ℕ). runCallFrom (rulesOf c) (nextIn pairs) c (limit - (done + 1)) (done + 1) v b
+                (going .0 ++ take bytes (roundCall (rulesOf c) (nextIn pairs) c w out .out))) (p .table) (p .output)
+                ∙ ap (λ (k : ℕ). runCallFrom (rulesOf c) (nextIn pairs) c (limit - (done + 1)) k (roundCall (rulesOf c) (nextIn pairs) c w out .table)
+                (roundCall (rulesOf c) (nextIn pairs) c w out .out) (going .0 ++ take bytes (roundCall (rulesOf c) (nextIn pairs) c w out .out))) n
                 ∙ leads (p .answer),
           )
 
-      pub settled-run : {after : List ℤ} {written : List ℕ} → MadeRound c w out after written Round.Settled
-          → RunIs c limit first lent after written (stoppedRun c after RunAnswer.Settled done)
+      pub settled-run : {after : List ℤ} {written : List ℕ} → MadeRound pairs c w out after written Round.Settled
+          → RunIs pairs c limit first lent after written (stoppedRun c after RunAnswer.Settled done)
       settled-run p = let (a, o) = settled-keeps h long p in rw (a, o) (ended {answer = RunAnswer.Settled} refl (leads (p .answer)))
 
-      pub run-leaves : {after : List ℤ} {written : List ℕ} {x : Refusal} → MadeRound c w out after written (Round.Refused x)
-          → RunIs c limit first lent after written (stoppedRun c after (RunAnswer.Refused x) done)
+      pub run-leaves : {after : List ℤ} {written : List ℕ} {x : Refusal} → MadeRound pairs c w out after written (Round.Refused x)
+          → RunIs pairs c limit first lent after written (stoppedRun c after (RunAnswer.Refused x) done)
       run-leaves {x = x} p =
           let (a, o, e) = refused-keeps h long p in
-          rw (a, o) (ended {answer = RunAnswer.Refused x} (ap (λ (y : Refusal). boundAt (rulesOf c) engineNext c (RunAnswer.Refused y) w) e)
+          rw (a, o) (ended {answer = RunAnswer.Refused x} (ap (λ (y : Refusal). boundAt (rulesOf c) (nextIn pairs) c (RunAnswer.Refused y) w) e)
           (leads (p .answer)))
 
-    pub run-limits : limit ≤ done → RunIs c limit first lent w out (stoppedRun c w (limitAnswer (chosen c w)) done)
+    pub run-limits : limit ≤ done → RunIs pairs c limit first lent w out (stoppedRun c w (atLimit (nextIn pairs (rulesOf c) c w)) done)
     run-limits e =
         let z : 0 ≡ limit - done = omega arith in
-        ended {answer = limitAnswer (chosen c w)} (limit-bound c w (chosen c w))
-        (ap (λ (a : RunAnswer). stopRun (rulesOf c) engineNext c a done w out (going .0)) (sym (limit-answer out h long))
-        ∙ ap (λ (k : ℕ). runCallFrom (rulesOf c) engineNext c k done w out (going .0)) z ∙ going .1)
+        ended {answer = atLimit (nextIn pairs (rulesOf c) c w)} (limit-bound pairs c w (nextIn pairs (rulesOf c) c w))
+        (ap (λ (a : RunAnswer). stopRun (rulesOf c) (nextIn pairs) c a done w out (going .0)) (sym (limit-answer pairs out h long))
+        ∙ ap (λ (k : ℕ). runCallFrom (rulesOf c) (nextIn pairs) c k done w out (going .0)) z ∙ going .1)

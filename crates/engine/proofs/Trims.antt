@@ -17,7 +17,7 @@ use Rattle.definitions.specs.Case.{scopeCount}
 use Rattle.definitions.specs.Moves.{activeRefuted}
 use Rattle.definitions.specs.Engine.{trimmed, keptScopes}
 use Rattle.calls.specs.Calls.{isRaised}
-use Rattle.engine_theory.proofs.Raised.{refuted-more}
+use Rattle.press_theory.proofs.Raised.{refuted-more}
 use Rattle.engine.specs.Search.{refutesIn, OthersRaised, Enough, Dropped}
 use Rattle.round_lines.specs.Press.{raisedBelow}
 use Rattle.round_lines.proofs.Texts.{those-next}

@@ -1,31 +1,34 @@
--- What a press and a round do to a table that was checked before. Assumes nothing.
+-- What a press and a round do to a table that was checked before, with pair rounds only or not. Assumes nothing.
 use mathlib.Core.Path.{_≡_}
-use mathlib.Core.Bool.{false}
-use mathlib.Core.Option.{Option, none, some}
+use mathlib.Core.Bool.{Bool, true, false}
+use mathlib.Core.Option.{none, some}
 use mathlib.Core.List.{List}
 use Prim.Native.Nat.{ℕ}
 use lib.IntN.{ℤ}
-use lib.Dec.{ltb}
 use Rattle.integers.specs.Words.{if_then_else_}
 use Rattle.definitions.specs.declared.Case.{Case}
 use Rattle.definitions.specs.declared.Outcome.{Outcome}
 use Rattle.definitions.specs.declared.Round.{Round}
 use Rattle.definitions.specs.declared.Run.{Run}
 use Rattle.definitions.specs.declared.RunAnswer.{RunAnswer}
-use Rattle.definitions.specs.declared.Refusal.{Refusal}
 use Rattle.definitions.specs.declared.Written.{Written}
 use Rattle.definitions.specs.declared.Refusal.the-variants.{LeavesRange}
-use Rattle.definitions.specs.Rules.{rulesOf}
-use Rattle.definitions.specs.Refusals.{firstOf}
+use Rattle.definitions.specs.Rules.{Rules, rulesOf}
 use Rattle.definitions.specs.Case.{scopeCount, upperBound}
-use Rattle.definitions.specs.Valid.{workingWeight, handedOver}
+use Rattle.definitions.specs.Valid.{workingWeight}
 use Rattle.definitions.specs.Moves.{plus, pressBy, activeValues, leavesRange}
-use Rattle.definitions.specs.Engine.{chosen, keptScopes, leastGap, engineNext, roundBytes}
+use Rattle.definitions.specs.PairRounds.{lowestPair}
+use Rattle.definitions.specs.Engine.{Next, chosen, keptScopes, leastGap, engineNext, pairsNext}
 use Rattle.calls.specs.Calls.{isRaised}
 use Rattle.calls.specs.EngineCalls.{roundCall, runCall}
 use Rattle.theory.proofs.Validity.{Handed}
 use Rattle.tables.specs.Scopes.{BestOf}
 use Rattle.round_lines.specs.Press.{raisedBelow}
+
+-- what comes next, with pair rounds only or not
+abbrev pub nextIn : Bool → Rules → Case → List ℤ → Next
+nextIn true = pairsNext
+nextIn false = engineNext
 
 -- the table after a press of the raised scopes
 abbrev pub pressedBy : Case → ℕ → List ℕ → ℤ → List ℤ → List ℤ
@@ -39,6 +42,7 @@ pub record Pressed (c : Case) (i : ℕ) (raised : List ℕ) (a : ℤ) (w after b
 -- the engine's press of the kept scopes was made, by the least gap
 pub record PressMade (c : Case) (i : ℕ) (raised : List ℕ) (a : ℤ) (w after best : List ℤ) : Type 0 where
   pub handed : Handed (rulesOf c) (workingWeight (rulesOf c)) c w
+  pub no-pair : lowestPair (rulesOf c) c w ≡ none
   pub which : chosen c w ≡ some i
   pub kept : raisedBelow raised (scopeCount c) ≡ keptScopes c w i
   pub least : leastGap c w i ≡ some a
@@ -50,27 +54,18 @@ roundWritten (Written.Bytes n) bound = Round.Made n bound
 roundWritten (Written.Refused x) bound = Round.Refused x
 
 -- what a call of the round answers and leaves
-pub record MadeRound (c : Case) (w : List ℤ) (out : List ℕ) (after : List ℤ) (written : List ℕ) (r : Round) : Type 0 where
-  pub answer : r ≡ roundCall (rulesOf c) engineNext c w out .answer
-  pub table : after ≡ roundCall (rulesOf c) engineNext c w out .table
-  pub output : written ≡ roundCall (rulesOf c) engineNext c w out .out
+pub record MadeRound (pairs : Bool) (c : Case) (w : List ℤ) (out : List ℕ) (after : List ℤ) (written : List ℕ) (r : Round) : Type 0 where
+  pub answer : r ≡ roundCall (rulesOf c) (nextIn pairs) c w out .answer
+  pub table : after ≡ roundCall (rulesOf c) (nextIn pairs) c w out .table
+  pub output : written ≡ roundCall (rulesOf c) (nextIn pairs) c w out .out
 
 -- ---- the run
-
--- where no more rounds may be made: settled if no variable is chosen
-abbrev pub limitAnswer : Option ℕ → RunAnswer
-limitAnswer none = RunAnswer.Settled
-limitAnswer (some i) = RunAnswer.Limit
 
 abbrev pub stoppedRun : Case → List ℤ → RunAnswer → ℕ → Run
 stoppedRun c w answer rounds = record { answer = answer; rounds = rounds; bound = upperBound c w }
 
 -- what a call of the run answers and leaves
-pub record RunIs (c : Case) (limit : ℕ) (w : List ℤ) (out : List ℕ) (after : List ℤ) (written : List ℕ) (r : Run) : Type 0 where
-  pub run : r ≡ runCall (rulesOf c) engineNext c limit w out .run
-  pub table : after ≡ runCall (rulesOf c) engineNext c limit w out .table
-  pub output : written ≡ runCall (rulesOf c) engineNext c limit w out .out
-
--- numbers 3 to 8, with an output of so many bytes
-abbrev pub engineRefusalOf : Case → List ℤ → ℕ → Option Refusal
-engineRefusalOf c w length = firstOf (handedOver (rulesOf c) (workingWeight (rulesOf c)) c w (ltb length (roundBytes (rulesOf c) c)) false)
+pub record RunIs (pairs : Bool) (c : Case) (limit : ℕ) (w : List ℤ) (out : List ℕ) (after : List ℤ) (written : List ℕ) (r : Run) : Type 0 where
+  pub run : r ≡ runCall (rulesOf c) (nextIn pairs) c limit w out .run
+  pub table : after ≡ runCall (rulesOf c) (nextIn pairs) c limit w out .table
+  pub output : written ≡ runCall (rulesOf c) (nextIn pairs) c limit w out .out

@@ -1,4 +1,5 @@
-// The engine (document 01, "The engine's round"): one round, and the run that makes rounds one after another.
+// The engine (document 01, "The engine's round"; document 02, change 1): one round, and the run that makes rounds one after another, or pair
+// rounds only.
 mod choosing;
 mod guess;
 mod trim;
@@ -15,25 +16,29 @@ use definitions::RunAnswer;
 use definitions::SCOPE_PLACES;
 use definitions::VARIABLE_PLACES;
 use definitions::Written;
+use pair_choice::Paired;
 ghost use mathlib.Core.Path.{_≡_};
-ghost use mathlib.Core.Option.{some};
+ghost use mathlib.Core.Bool.{Bool, false};
+ghost use mathlib.Core.Option.{none, some};
 ghost use mathlib.Core.List.{List};
 ghost use Prim.Native.Nat.{_*_, _≤_, _<_};
-ghost use lib.Dec.{T, ltb};
+ghost use lib.Dec.{T};
 ghost use lib.IntN.{ℤ};
 ghost use lib.ListN.{length};
+ghost use Rattle.integers.specs.Words.{isSome};
 ghost use Rattle.definitions.specs.Rules.{rulesOf, variablePlaces, edgePlaces};
-ghost use Rattle.definitions.specs.Answers.{outcomeOf};
 ghost use Rattle.definitions.specs.Case.{scopeCount};
 ghost use Rattle.definitions.specs.Valid.{workingWeight};
 ghost use Rattle.definitions.specs.Moves.{pressAmount};
-ghost use Rattle.definitions.specs.Engine.{chosen, keptScopes, leastGap, roundBytes, engineNext};
+ghost use Rattle.definitions.specs.PairRounds.{lowestPair};
+ghost use Rattle.definitions.specs.Engine.{chosen, keptScopes, leastGap, atLimit, roundBytes, engineNext, pairsNext};
 ghost use Rattle.calls.specs.EngineCalls.{roundCall, runCall};
 ghost use Rattle.theory.proofs.Validity.{Handed};
 ghost use Rattle.tables.specs.Scopes.{Limited, BestOf};
 ghost use Rattle.engine.specs.Search.{Prepared, AllRaised, FoundIs};
 ghost use Rattle.round_lines.specs.Press.{raisedBelow, writeAllCall};
-ghost use Rattle.engine.specs.Rounds.{Pressed, PressMade, roundWritten, MadeRound, RunIs, limitAnswer, stoppedRun, engineRefusalOf};
+ghost use Rattle.pair_choice.specs.PairChoice.{pairedOf};
+ghost use Rattle.engine.specs.Rounds.{nextIn, Pressed, PressMade, roundWritten, MadeRound, RunIs, stoppedRun};
 
 // ---- the amount
 
@@ -53,13 +58,15 @@ fn least_gap(case: Case, table: &[i64], best: &[i64], raised: &[u8], variable: u
 
 // ---- the round
 
-// What is prepared of a table and each scope's greatest weight.
-fn prepare(case: Case, table: &[i64], best: &[i64], acts: &mut [u8], rows: &mut [u8])
+// Writes the marks of a table, for the searches, and answers the lowest pair whose round comes before a press.
+fn prepare(case: Case, table: &[i64], best: &[i64], acts: &mut [u8], rows: &mut [u8]) -> Paired
     requires { ⌜ Handed (rulesOf case) (workingWeight (rulesOf case)) case (now table) × BestOf case (now table) (now best) ⌝ }
     requires { ⌜ (case .n ≤ length (now acts)) × (16 * case .m ≤ length (now rows)) ⌝ }
-    ensures { λ _. ⌜ Prepared case (now (table .entry)) (now (acts .exit)) (now (rows .exit)) ⌝ }
+    ensures { λ r. ⌜ (r ≡ pairedOf (lowestPair (rulesOf case) case (now (table .entry))))
+        × Prepared case (now (table .entry)) (now (acts .exit)) (now (rows .exit)) ⌝ }
 {
     arcs::active_marks(case, table, best, acts, rows);
+    pair_choice::lowest_pair(case, table, acts, rows)
 }
 
 fn press(
@@ -109,7 +116,7 @@ fn write_pressed(
 ) -> Round
     requires { ⌜ (scopeCount case ≤ length (now raised)) × (roundBytes (rulesOf case) case ≤ length (now out)) ⌝ }
     ensures { λ r. ⌜ ((w after : List ℤ) → PressMade case variable (now (raised .entry)) amount w after (now (best .entry))
-        → MadeRound case w (now (out .entry)) after (now (out .exit)) r) ⌝ }
+        → MadeRound false case w (now (out .entry)) after (now (out .exit)) r) ⌝ }
 {
     let sum = tables::sum_of_best(case, best);
     match sum {
@@ -130,8 +137,9 @@ fn press_round(
     requires { ⌜ Handed (rulesOf case) (workingWeight (rulesOf case)) case (now table) ⌝ }
     requires { ⌜ BestOf case (now table) (now best) ⌝ }
     requires { ⌜ (scopeCount case ≤ length (now raised)) × (roundBytes (rulesOf case) case ≤ length (now out)) ⌝ }
+    requires { ⌜ lowestPair (rulesOf case) case (now table) ≡ none ⌝ }
     requires { ⌜ (chosen case (now table) ≡ some variable) × (raisedBelow (now raised) (scopeCount case) ≡ keptScopes case (now table) variable) ⌝ }
-    ensures { λ r. ⌜ MadeRound case (now (table .entry)) (now (out .entry)) (now (table .exit)) (now (out .exit)) r
+    ensures { λ r. ⌜ MadeRound false case (now (table .entry)) (now (out .entry)) (now (table .exit)) (now (out .exit)) r
         × BestOf case (now (table .exit)) (now (best .exit)) ⌝ }
 {
     let amount = least_gap(case, table, best, raised, variable);
@@ -159,18 +167,24 @@ fn search(case: Case, acts: &[u8], rows: &[u8], raised: &mut [u8]) -> Chosen
     }
 }
 
-// One round on a case and a table that were checked before. `best` holds each scope's greatest weight, before and after.
-fn round_checked(case: Case, table: &mut [i64], out: &mut [u8], best: &mut [i64]) -> Round
+// A press and its lines, where no pair comes first.
+fn press_next(
+    case: Case,
+    table: &mut [i64],
+    out: &mut [u8],
+    best: &mut [i64],
+    acts: &[u8],
+    rows: &[u8],
+) -> Round
     requires { ⌜ Handed (rulesOf case) (workingWeight (rulesOf case)) case (now table) × BestOf case (now table) (now best) ⌝ }
     requires { ⌜ roundBytes (rulesOf case) case ≤ length (now out) ⌝ }
-    ensures { λ r. ⌜ MadeRound case (now (table .entry)) (now (out .entry)) (now (table .exit)) (now (out .exit)) r
+    requires { ⌜ Prepared case (now table) (now acts) (now rows) × (case .n ≤ length (now acts)) ⌝ }
+    requires { ⌜ lowestPair (rulesOf case) case (now table) ≡ none ⌝ }
+    ensures { λ r. ⌜ MadeRound false case (now (table .entry)) (now (out .entry)) (now (table .exit)) (now (out .exit)) r
         × BestOf case (now (table .exit)) (now (best .exit)) ⌝ }
 {
-    let mut acts = [0u8; VARIABLE_PLACES];
-    let mut rows = [0u8; ROW_PLACES];
     let mut raised = [1u8; SCOPE_PLACES];
-    prepare(case, table, best, &mut acts, &mut rows);
-    let found = search(case, &acts, &rows, &mut raised);
+    let found = search(case, acts, rows, &mut raised);
     match found {
         Chosen::Nothing => Round::Settled,
         Chosen::Variable(i) => press_round(case, table, out, best, &raised, i),
@@ -185,31 +199,91 @@ fn greatest_of(case: Case, table: &[i64], best: &mut [i64])
     tables::greatest_weights(case, table, best);
 }
 
+// The round of the lowest pair.
+fn pair_round(case: Case, table: &mut [i64], out: &mut [u8], best: &mut [i64], edge: usize) -> Round
+    requires { ⌜ Handed (rulesOf case) (workingWeight (rulesOf case)) case (now table) × BestOf case (now table) (now best) ⌝ }
+    requires { ⌜ roundBytes (rulesOf case) case ≤ length (now out) ⌝ }
+    requires { ⌜ lowestPair (rulesOf case) case (now table) ≡ some edge ⌝ }
+    ensures { λ r. ⌜ ((pairs : Bool) → MadeRound pairs case (now (table .entry)) (now (out .entry)) (now (table .exit)) (now (out .exit)) r)
+        × BestOf case (now (table .exit)) (now (best .exit)) ⌝ }
+{
+    let made = pair_rounds::make_round(case, table, out, edge);
+    greatest_of(case, table, best);
+    made
+}
+
+// One round on a case and a table that were checked before; pair rounds only, if `pairs`. `best` holds each scope's greatest weight, before and
+// after.
+fn round_checked(
+    case: Case,
+    table: &mut [i64],
+    out: &mut [u8],
+    best: &mut [i64],
+    pairs: bool,
+) -> Round
+    requires { ⌜ Handed (rulesOf case) (workingWeight (rulesOf case)) case (now table) × BestOf case (now table) (now best) ⌝ }
+    requires { ⌜ roundBytes (rulesOf case) case ≤ length (now out) ⌝ }
+    ensures { λ r. ⌜ MadeRound pairs case (now (table .entry)) (now (out .entry)) (now (table .exit)) (now (out .exit)) r
+        × BestOf case (now (table .exit)) (now (best .exit)) ⌝ }
+{
+    let mut acts = [0u8; VARIABLE_PLACES];
+    let mut rows = [0u8; ROW_PLACES];
+    let found = prepare(case, table, best, &mut acts, &mut rows);
+    match found {
+        Paired::Pair(edge) => pair_round(case, table, out, best, edge),
+        Paired::Nothing => {
+            if pairs {
+                return Round::Settled;
+            }
+            press_next(case, table, out, best, &acts, &rows)
+        }
+    }
+}
+
 fn first_round(case: Case, table: &mut [i64], out: &mut [u8]) -> Round
     requires { ⌜ Handed (rulesOf case) (workingWeight (rulesOf case)) case (now table) ⌝ }
     requires { ⌜ roundBytes (rulesOf case) case ≤ length (now out) ⌝ }
-    ensures { λ r. ⌜ MadeRound case (now (table .entry)) (now (out .entry)) (now (table .exit)) (now (out .exit)) r ⌝ }
+    ensures { λ r. ⌜ MadeRound false case (now (table .entry)) (now (out .entry)) (now (table .exit)) (now (out .exit)) r ⌝ }
 {
     let mut best = [0i64; SCOPE_PLACES];
     greatest_of(case, table, &mut best);
-    round_checked(case, table, out, &mut best)
+    round_checked(case, table, out, &mut best, false)
 }
 
 // ---- the run
 
+// Whether a press is left.
+fn has_press(case: Case, acts: &[u8], rows: &[u8]) -> bool
+    requires { ⌜ Limited case × (case .n ≤ length (now acts)) ⌝ }
+    ensures { λ r. ⌜ ((w : List ℤ) → Prepared case w (now (acts .entry)) (now (rows .entry)) → r ≡ isSome (chosen case w)) ⌝ }
+{
+    let raised = [1u8; SCOPE_PLACES];
+    let found = choosing::choose(case, acts, rows, &raised);
+    match found {
+        Chosen::Nothing => false,
+        Chosen::Variable(_) => true,
+    }
+}
+
 // What a run answers that may make no more rounds.
-fn at_limit(case: Case, table: &[i64], best: &[i64]) -> RunAnswer
+fn at_limit(case: Case, table: &[i64], best: &[i64], pairs: bool) -> RunAnswer
     requires { ⌜ Handed (rulesOf case) (workingWeight (rulesOf case)) case (now table) × BestOf case (now table) (now best) ⌝ }
-    ensures { λ r. ⌜ r ≡ limitAnswer (chosen case (now (table .entry))) ⌝ }
+    ensures { λ r. ⌜ r ≡ atLimit (nextIn pairs (rulesOf case) case (now (table .entry))) ⌝ }
 {
     let mut acts = [0u8; VARIABLE_PLACES];
     let mut rows = [0u8; ROW_PLACES];
-    let raised = [1u8; SCOPE_PLACES];
-    prepare(case, table, best, &mut acts, &mut rows);
-    let found = choosing::choose(case, &acts, &rows, &raised);
+    let found = prepare(case, table, best, &mut acts, &mut rows);
     match found {
-        Chosen::Nothing => RunAnswer::Settled,
-        Chosen::Variable(_) => RunAnswer::Limit,
+        Paired::Pair(_) => RunAnswer::Limit,
+        Paired::Nothing => {
+            if pairs {
+                return RunAnswer::Settled;
+            }
+            if has_press(case, &acts, &rows) {
+                return RunAnswer::Limit;
+            }
+            RunAnswer::Settled
+        }
     }
 }
 
@@ -232,14 +306,21 @@ fn stop_run(case: Case, table: &[i64], best: &[i64], answer: RunAnswer, rounds: 
     }
 }
 
-fn run_checked(case: Case, table: &mut [i64], out: &mut [u8], best: &mut [i64], limit: u64) -> Run
+fn run_checked(
+    case: Case,
+    table: &mut [i64],
+    out: &mut [u8],
+    best: &mut [i64],
+    limit: u64,
+    pairs: bool,
+) -> Run
     requires { ⌜ Handed (rulesOf case) (workingWeight (rulesOf case)) case (now table) × BestOf case (now table) (now best) ⌝ }
     requires { ⌜ roundBytes (rulesOf case) case ≤ length (now out) ⌝ }
-    ensures { λ r. ⌜ RunIs case limit (now (table .entry)) (now (out .entry)) (now (table .exit)) (now (out .exit)) r ⌝ }
+    ensures { λ r. ⌜ RunIs pairs case limit (now (table .entry)) (now (out .entry)) (now (table .exit)) (now (out .exit)) r ⌝ }
 {
     let mut done: u64 = 0;
     while done < limit {
-        let made = round_checked(case, table, out, best);
+        let made = round_checked(case, table, out, best, pairs);
         match made {
             Round::Settled => return stop_run(case, table, best, RunAnswer::Settled, done),
             Round::Refused(refusal) => {
@@ -249,36 +330,33 @@ fn run_checked(case: Case, table: &mut [i64], out: &mut [u8], best: &mut [i64], 
         }
         done += 1;
     }
-    let answer = at_limit(case, table, best);
+    let answer = at_limit(case, table, best, pairs);
     stop_run(case, table, best, answer, done)
 }
 
-fn run_from(case: Case, table: &mut [i64], out: &mut [u8], limit: u64) -> Run
+fn run_from(case: Case, table: &mut [i64], out: &mut [u8], limit: u64, pairs: bool) -> Run
     requires { ⌜ Handed (rulesOf case) (workingWeight (rulesOf case)) case (now table) ⌝ }
     requires { ⌜ roundBytes (rulesOf case) case ≤ length (now out) ⌝ }
-    ensures { λ r. ⌜ RunIs case limit (now (table .entry)) (now (out .entry)) (now (table .exit)) (now (out .exit)) r ⌝ }
+    ensures { λ r. ⌜ RunIs pairs case limit (now (table .entry)) (now (out .entry)) (now (table .exit)) (now (out .exit)) r ⌝ }
 {
     let mut best = [0i64; SCOPE_PLACES];
     greatest_of(case, table, &mut best);
-    run_checked(case, table, out, &mut best, limit)
+    run_checked(case, table, out, &mut best, limit, pairs)
 }
 
-// An output is too short for a round.
-fn too_short(case: Case, length: usize) -> bool
-    requires { ⌜ Limited case ⌝ }
-    ensures { λ r. ⌜ r ≡ ltb length (roundBytes (rulesOf case) case) ⌝ }
+// A run, after what is asked before its first round.
+fn run_asked(case: Case, table: &mut [i64], out: &mut [u8], limit: u64, pairs: bool) -> Run
+    ensures { λ r. ⌜ RunIs pairs case limit (now (table .entry)) (now (out .entry)) (now (table .exit)) (now (out .exit)) r ⌝ }
 {
-    let rulebook = case.rulebook;
-    length < rules::line_length(rulebook) * (case.n + case.m + 1)
-}
-
-fn check_engine(case: Case, table: &[i64], length: usize) -> Outcome
-    ensures { λ r. ⌜ r ≡ outcomeOf (engineRefusalOf case (now (table .entry)) length) ⌝ }
-{
-    if !tables::within_limits(case) {
-        return Outcome::Refused(Refusal::OutsideLimits);
+    let checked = round_lines::check_round(case, table, out.len(), false);
+    match checked {
+        Outcome::Refused(refusal) => Run {
+            answer: RunAnswer::Refused(refusal),
+            rounds: 0,
+            bound: 0,
+        },
+        Outcome::Done => run_from(case, table, out, limit, pairs),
     }
-    tables::check_working(case, table, too_short(case, length), false)
 }
 
 // ---- the calls
@@ -289,7 +367,7 @@ pub fn round(case: Case, table: &mut [i64], out: &mut [u8]) -> Round
         × (now (table .exit) ≡ roundCall (rulesOf case) engineNext case (now (table .entry)) (now (out .entry)) .table)
         × (now (out .exit) ≡ roundCall (rulesOf case) engineNext case (now (table .entry)) (now (out .entry)) .out) ⌝ }
 {
-    let checked = check_engine(case, table, out.len());
+    let checked = round_lines::check_round(case, table, out.len(), false);
     match checked {
         Outcome::Refused(refusal) => Round::Refused(refusal),
         Outcome::Done => first_round(case, table, out),
@@ -302,13 +380,14 @@ pub fn run(case: Case, table: &mut [i64], out: &mut [u8], limit: u64) -> Run
         × (now (table .exit) ≡ runCall (rulesOf case) engineNext case limit (now (table .entry)) (now (out .entry)) .table)
         × (now (out .exit) ≡ runCall (rulesOf case) engineNext case limit (now (table .entry)) (now (out .entry)) .out) ⌝ }
 {
-    let checked = check_engine(case, table, out.len());
-    match checked {
-        Outcome::Refused(refusal) => Run {
-            answer: RunAnswer::Refused(refusal),
-            rounds: 0,
-            bound: 0,
-        },
-        Outcome::Done => run_from(case, table, out, limit),
-    }
+    run_asked(case, table, out, limit, false)
+}
+
+// Pair rounds only, one after another, at most `limit`.
+pub fn run_pairs(case: Case, table: &mut [i64], out: &mut [u8], limit: u64) -> Run
+    ensures { λ r. ⌜ (r ≡ runCall (rulesOf case) pairsNext case limit (now (table .entry)) (now (out .entry)) .run)
+        × (now (table .exit) ≡ runCall (rulesOf case) pairsNext case limit (now (table .entry)) (now (out .entry)) .table)
+        × (now (out .exit) ≡ runCall (rulesOf case) pairsNext case limit (now (table .entry)) (now (out .entry)) .out) ⌝ }
+{
+    run_asked(case, table, out, limit, true)
 }

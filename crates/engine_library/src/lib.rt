@@ -9,7 +9,7 @@ ghost use mathlib.Core.Path.{_≡_};
 ghost use Rattle.definitions.specs.Rules.{rulesOf};
 ghost use Rattle.definitions.specs.Refusals.{number};
 ghost use Rattle.definitions.specs.Answers.{roundSays, runSays, countAt};
-ghost use Rattle.definitions.specs.Engine.{engineNext};
+ghost use Rattle.definitions.specs.Engine.{engineNext, pairsNext};
 ghost use Rattle.calls.specs.EngineCalls.{roundCall, runCall};
 ghost use Rattle.encoding.specs.CaseBytes.{caseIn};
 ghost use Rattle.encoding.specs.Version.{versionNumber};
@@ -132,4 +132,22 @@ pub extern "C" fn ceiling_run(
         ≡ runCall (rulesOf (caseIn (now (case .entry)))) engineNext (caseIn (now (case .entry))) limit (now (table .entry)) (now (out .entry)) .out) ⌝ }
 {
     run_of(engine::run(encoding::case_of(case), table, out, limit))
+}
+
+// Pair rounds only, one after another, at most `limit`.
+#[no_mangle]
+pub extern "C" fn ceiling_run_pairs(
+    case: &CaseArray,
+    table: &mut [i64],
+    out: &mut [u8],
+    limit: u64,
+) -> CeilingRun
+    ensures { λ r. ⌜ (r ≡ runOf
+        (runCall (rulesOf (caseIn (now (case .entry)))) pairsNext (caseIn (now (case .entry))) limit (now (table .entry)) (now (out .entry)) .run))
+        × (now (table .exit)
+        ≡ runCall (rulesOf (caseIn (now (case .entry)))) pairsNext (caseIn (now (case .entry))) limit (now (table .entry)) (now (out .entry)) .table)
+        × (now (out .exit)
+        ≡ runCall (rulesOf (caseIn (now (case .entry)))) pairsNext (caseIn (now (case .entry))) limit (now (table .entry)) (now (out .entry)) .out) ⌝ }
+{
+    run_of(engine::run_pairs(encoding::case_of(case), table, out, limit))
 }

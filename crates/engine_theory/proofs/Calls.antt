@@ -28,9 +28,9 @@ use Rattle.definitions.specs.Rules.{Rules, Coherent}
 use Rattle.definitions.specs.Refusals.{Test, firstOf}
 use Rattle.definitions.specs.Case.{upperBound}
 use Rattle.definitions.specs.Valid.{workingWeight, handedOver}
-use Rattle.definitions.specs.Moves.{Move}
+use Rattle.definitions.specs.Moves.{Move, afterMoves}
 use Rattle.definitions.specs.Lines.{lineText, lineLength, linesIn, overwritten}
-use Rattle.definitions.specs.Engine.{Next, nothing, round, Made, settled, refused, made, afterMoves, roundBytes}
+use Rattle.definitions.specs.Engine.{Next, nothing, round, Made, settled, refused, made, roundBytes}
 use Rattle.definitions.specs.Engine.{madeOf, makeNext, RunOf, stopped, atLimit, onward, runFrom, run}
 use Rattle.calls.specs.EngineCalls.{RoundCall, RunCall, isLeaving, answerAtLimit, roundMade, engineRefusal}
 use Rattle.calls.specs.EngineCalls.{roundCall, boundAt, stopRun, goOn, runCallFrom, runCall}
@@ -61,11 +61,11 @@ module _ (r : Rules) (next : Rules → Case → List ℤ → Next) (c : Case) (w
         λ (p, q). n .0 (h .1 (p, simp tests (omega arith), tt)),
       )
 
-  pub call-taken : engineRefusal r next c w out ≡ none → roundCall r next c w out ≡ roundMade r next c w out (makeNext r c w (next r c w))
+  pub call-taken : engineRefusal r next c w out ≡ none → roundCall r next c w out ≡ roundMade c w out (makeNext r c w (next r c w))
   unfolding roundCall
   call-taken e = rw (e, roundCall)
 
-  pub round-refused : {x : Refusal} → engineRefusal r next c w out ≡ some x → roundCall r next c w out ≡ roundMade r next c w out (refused x)
+  pub round-refused : {x : Refusal} → engineRefusal r next c w out ≡ some x → roundCall r next c w out ≡ roundMade c w out (refused x)
   unfolding roundCall
   round-refused e = rw (e, roundCall)
 
@@ -74,7 +74,7 @@ module _ (r : Rules) (next : Rules → Case → List ℤ → Next) (c : Case) (w
       → (roundCall r next c w out .table ≡ w) × (roundCall r next c w out .out ≡ out)
   unmade-keeps unmade = asked (engineRefusal r next c w out) refl
     where
-      keeps : (m : Made) → roundCall r next c w out ≡ roundMade r next c w out m → (roundCall r next c w out .table ≡ w) × (roundCall r next c w out .out ≡ out)
+      keeps : (m : Made) → roundCall r next c w out ≡ roundMade c w out m → (roundCall r next c w out .table ≡ w) × (roundCall r next c w out .out ≡ out)
       keeps settled e = (ap (λ (u : RoundCall). u .table) e, ap (λ (u : RoundCall). u .out) e)
       keeps (refused x) e = (ap (λ (u : RoundCall). u .table) e, ap (λ (u : RoundCall). u .out) e)
       keeps (made v lines) e = absurd (unmade _ _ (ap (λ (u : RoundCall). u .answer) e))
@@ -220,12 +220,12 @@ module _ {r : Rules} {next : Rules → Case → List ℤ → Next} {c : Case} (c
       (sym (call-taken r next c w out (taken-iff r next c w out .1 (h, long)))) (go (next r c w))
     where
       go : (n : Next) → SameRun r c (stopped (atLimit n) done w log) [] out
-          (stopRun r next c (answerAtLimit (roundMade r next c w out (makeNext r c w n) .answer)) done w out (joined log))
+          (stopRun r next c (answerAtLimit (roundMade c w out (makeNext r c w n) .answer)) done w out (joined log))
       go nothing = stops RunAnswer.Settled done w out log refl
       go (round moves) = leads (afterMoves r c moves w)
         where
           leads : (o : Option (List ℤ)) → SameRun r c (stopped RunAnswer.Limit done w log) [] out
-              (stopRun r next c (answerAtLimit (roundMade r next c w out (madeOf r c moves o) .answer)) done w out (joined log))
+              (stopRun r next c (answerAtLimit (roundMade c w out (madeOf r c moves o) .answer)) done w out (joined log))
           leads none = stops RunAnswer.Limit done w out log refl
           leads (some v) = stops RunAnswer.Limit done w out log refl
   calls-from (suc left) done w out log h long =
@@ -241,14 +241,14 @@ module _ {r : Rules} {next : Rules → Case → List ℤ → Next} {c : Case} (c
 
       go : (n : Next) → next r c w ≡ n → ((v : List ℤ) (out : List ℕ) (log : List (List ℕ)) → Handed r (workingWeight r) c v → roundBytes r c ≤ length out
           → SameRun r c (runFrom r next c left (suc done) v log) (roundTexts r next c left v) out (runCallFrom r next c left (suc done) v out (joined log)))
-          → Same (makeNext r c w n) (goOn r next c (roundMade r next c w out (makeNext r c w n) .answer)
-          (roundMade r next c w out (makeNext r c w n)) done w out (joined log) rest)
+          → Same (makeNext r c w n) (goOn r next c (roundMade c w out (makeNext r c w n) .answer)
+          (roundMade c w out (makeNext r c w n)) done w out (joined log) rest)
       go nothing e on = stops RunAnswer.Settled done w out log refl
       go (round moves) e on = leads (afterMoves r c moves w) refl
         where
           leads : (o : Option (List ℤ)) → afterMoves r c moves w ≡ o
-              → Same (madeOf r c moves o) (goOn r next c (roundMade r next c w out (madeOf r c moves o) .answer)
-              (roundMade r next c w out (madeOf r c moves o)) done w out (joined log) rest)
+              → Same (madeOf r c moves o) (goOn r next c (roundMade c w out (madeOf r c moves o) .answer)
+              (roundMade c w out (madeOf r c moves o)) done w out (joined log) rest)
           leads none f = stops (RunAnswer.Refused LeavesRange) done w out log refl
           leads (some v) f =
               let m : RoundFrom r next c w moves v = record { handed = h; comes = e; leads = f } in

@@ -1,10 +1,5 @@
--- Laws of the engine's definitions, and demand 3 over them.
-pub mod Raised
-pub mod Trim
-pub mod Gaps
-pub mod Own
-pub mod Fall
-pub mod InRange
+-- Runs over any lawful rounds, and that the engine's rounds are such.
 pub mod Runs
+pub mod Engine
 pub mod Calls
 pub mod Round

@@ -1,23 +1,22 @@
 -- Runs, over any `next` whose rounds are lawful: each is a list of moves that are allowed one after another, lowers the upper bound, and is
 -- short enough for an output. From starting weights the plain replay takes a run's log and is left with the run's rounds and weights; the log
 -- has a bound line for each round; a run answers settled just where nothing comes next, and limit just after so many rounds with more to come;
--- and where no move leaves the working range, a limit of the upper bound less any objective is enough to settle. The engine's rounds are such.
--- Assumes nothing.
+-- and where no move leaves the working range, a limit of the upper bound less any objective is enough to settle. Assumes nothing.
 use mathlib.Core.Path.{_≡_, refl, sym, ap, subst, _∙_}
-use mathlib.Core.Bool.{true, false, not}
+use mathlib.Core.Bool.{true, false}
 use mathlib.Core.Logic.{_↔_, Iff·trans, _⊎_, inl, inr, ⊎-elim}
 use mathlib.Core.Option.{Option, none, some}
 use mathlib.Core.List.{List, [], _∷_, _++_, map, List·Memᴰ·append-cases, List·Memᴰ·not-nil, Memᴰ·of-map}
 use Prim.Native.Nat.{ℕ, zero, suc, _+_, _*_, _≤_, _<_}
-use native.Mathlib.Nat.{mul-le-mul-left, mul-le-mul-right}
+use native.Mathlib.Nat.{mul-le-mul-right}
 use native.Mathlib.Omega.{arith}
 use lib.IntN.{ℤ, pos, _+ℤ_}
 use lib.Dec.{T}
 use lib.Signed.{_≤ℤ_, _<ℤ_}
-use lib.ListN.{length, length-append, length-map}
+use lib.ListN.{length, length-append}
 use Rattle.integers.specs.Words.{any, joined}
 use Rattle.integers.specs.Tests.{false-is}
-use Rattle.integers.specs.Options.{some-inj, none-some, found-else}
+use Rattle.integers.specs.Options.{some-inj, none-some}
 use Rattle.integers.specs.Linear.{flat, zs, _▸_}
 use Rattle.integers.specs.Lists.{_∈_, any-append, those-append, those-none, those-cong, those-map}
 use Rattle.integers.specs.Tables.{Parts}
@@ -28,22 +27,17 @@ use Rattle.definitions.specs.declared.RunAnswer.{RunAnswer}
 use Rattle.definitions.specs.Rules.{Rules, Coherent, scopesAtMost}
 use Rattle.definitions.specs.Case.{scopeCount, isAssignment, objective, upperBound}
 use Rattle.definitions.specs.Valid.{workingWeight, valid}
-use Rattle.definitions.specs.Moves.{Move, shift, press, activePress, leavesRange}
+use Rattle.definitions.specs.Moves.{Move, shift, press, afterMoves}
 use Rattle.definitions.specs.Lines.{lineText, lineLength, lineTooWide, readLine, isKind}
 use Rattle.definitions.specs.Replay.{State, fresh, after, atEnd}
-use Rattle.definitions.specs.Engine.{Settled, chosen, leastGap, Next, nothing, round, keptScopes, engineNext, afterMoves}
-use Rattle.definitions.specs.Engine.{roundBytes, madeOf, makeNext, RunOf, stopped, atLimit, onward, runFrom, run}
+use Rattle.definitions.specs.Engine.{Next, nothing, round, roundBytes, madeOf, makeNext, RunOf, stopped, atLimit, onward, runFrom, run}
 use Rattle.definitions.proofs.LineLaws.{line-read, line-length}
 use Rattle.definitions.specs.RoundLines.{raiseLine, moveLines, boundLine, roundLines, roundText}
 use Rattle.engine_theory.specs.Runs.{isBound, boundLines}
-use Rattle.theory.proofs.Shape.{Shape}
 use Rattle.theory.proofs.Validity.{Handed, valid-facts}
 use Rattle.theory.proofs.Replays.{bound-sound, rounds-few, handed-after}
-use Rattle.theory.proofs.Rounds.{AllAllowed, no-move, one-more, all-handed, MoveKinds, round-fits, after-append, moves-taken, round-taken}
-use Rattle.engine_theory.proofs.Trim.{chosen-some, settled-iff, kept-refuted, kept-rising, kept-scopes, kept-fewer, kept-some}
-use Rattle.engine_theory.proofs.Gaps.{amount-some, amount-most, next-nothing, next-round}
-use Rattle.engine_theory.proofs.Fall.{enginePressed, fall}
-use Rattle.engine_theory.proofs.InRange.{Reached, start, bound-spread, next-made}
+use Rattle.theory.proofs.Rounds.{AllAllowed, all-handed, MoveKinds, round-fits, after-append, moves-taken, round-taken}
+use Rattle.press_theory.proofs.InRange.{bound-spread}
 
 pub differ : {A : Type 0} → _≡_ {A = ℕ} 0 1 → A
 differ e = absurd (omega arith)
@@ -113,6 +107,27 @@ module _ (r : Rules) (next : Rules → Case → List ℤ → Next) (c : Case) wh
   pub run-ends : (limit : ℕ) (w : List ℤ) → Ends (run r next c limit w .weights) (run r next c limit w .rounds) limit (run r next c limit w .answer)
   run-ends limit w = run-has (λ done w log. T true) (λ done w v log moves p e f. tt) limit w tt .ends
 
+  -- where nothing comes next just in the states P
+  module _ {P : List ℤ → Type 0} (none-left : (w : List ℤ) → next r c w ≡ nothing ↔ P w) (limit : ℕ) (w : List ℤ) where
+    pub run-settled : run r next c limit w .answer ≡ RunAnswer.Settled ↔ P (run r next c limit w .weights)
+    run-settled = Iff·trans (ends-settled (run-ends limit w)) (none-left (run r next c limit w .weights))
+
+    pub run-limit : run r next c limit w .answer ≡ RunAnswer.Limit
+        ↔ (run r next c limit w .rounds ≡ limit) × (P (run r next c limit w .weights) → ⊥)
+    run-limit =
+        let e = ends-limit (run-ends limit w) in
+        let v = run r next c limit w .weights in (
+          λ a. let (n, moves, d) = e .0 a in (n, λ f. let g = none-left v .1 f in differ (cc)),
+          λ (n, u). let (moves, d) = more v u in e .1 (n, moves, d),
+        )
+      where
+        more : (v : List ℤ) → (P v → ⊥) → (moves : List Move) × (next r c v ≡ round moves)
+        more v u = go (next r c v) refl
+          where
+            go : (n : Next) → next r c v ≡ n → (moves : List Move) × (next r c v ≡ round moves)
+            go nothing e = absurd (u (none-left v .0 e))
+            go (round moves) e = (moves, e)
+
 -- ---- lawful rounds
 
 -- from w, a table that every call takes, these moves come next and lead to v
@@ -125,48 +140,6 @@ pub record Lawful (r : Rules) (next : Rules → Case → List ℤ → Next) (c :
   pub allowed : {w v : List ℤ} {moves : List Move} → RoundFrom r next c w moves v → AllAllowed r c w moves v
   pub lower : {w v : List ℤ} {moves : List Move} → RoundFrom r next c w moves v → upperBound c v <ℤ upperBound c w
   pub short : {w v : List ℤ} {moves : List Move} → RoundFrom r next c w moves v → lineLength (r .amountWidth) * length (roundLines c moves v) ≤ roundBytes r c
-
--- the engine's are
-pub data EngineRound (r : Rules) (c : Case) (w : List ℤ) : List Move → List ℤ → Type 0 where
-  presses : {i : ℕ} {a : ℤ} → chosen c w ≡ some i → leastGap c w i ≡ some a → T (not (leavesRange r c (enginePressed c w i a)))
-      → EngineRound r c w (activePress c w i (keptScopes c w i) a ∷ []) (enginePressed c w i a)
-
-module _ {r : Rules} {c : Case} {w : List ℤ} where
-  pub engine-round : {moves : List Move} {v : List ℤ} → engineNext r c w ≡ round moves → afterMoves r c moves w ≡ some v → EngineRound r c w moves v
-  engine-round {moves} {v} d l =
-      let (i, a, e, g, q) = next-round r c w d in
-      let (t, z) = found-else (leavesRange r c (enginePressed c w i a)) (some (enginePressed c w i a)) (ap (λ m. afterMoves r c m w) (sym q) ∙ l) in
-      rw (q, ← (some-inj z)) (presses e g t)
-
-  module _ (h : Handed r (workingWeight r) c w) where
-    pub engine-allowed : Coherent r → {moves : List Move} {v : List ℤ} → EngineRound r c w moves v → AllAllowed r c w moves v
-    engine-allowed coherent (presses {i} {a} e g t) =
-        let (own, refutes, _) = chosen-some c w e in
-        one-more {move = activePress c w i (keptScopes c w i) a} (record {
-          variable = own;
-          some-raised = kept-some c w i (h .shape) own refutes;
-          rising = kept-rising c w i;
-          scopes = λ x m. kept-scopes c w i m;
-          amount = coherent .difference ▸ amount-some c w (h .shape) e g ▸ amount-most c w (h .shape) e g r (h .in-range) ▸ simp flat (omega zs);
-          lowers = refl;
-          refutes = kept-refuted c w i refutes;
-          in-range = t;
-        }) no-move
-
-    engine-lower : {moves : List Move} {v : List ℤ} → EngineRound r c w moves v → upperBound c v <ℤ upperBound c w
-    engine-lower (presses e g t) = fall c w (h .shape) e g ▸ amount-some c w (h .shape) e g ▸ simp flat (omega zs)
-
-  engine-short : {moves : List Move} {v : List ℤ} → EngineRound r c w moves v → lineLength (r .amountWidth) * length (roundLines c moves v) ≤ roundBytes r c
-  engine-short (presses {i} {a} e g t) =
-      mul-le-mul-left (lineLength (r .amountWidth)) (simp length-append
-      (omega (arith, kept-fewer c w i (chosen-some c w e .0), length-map (keptScopes c w i) raiseLine)))
-
-pub engine-lawful : {r : Rules} → Coherent r → (c : Case) → Lawful r engineNext c
-engine-lawful coherent c = record {
-  allowed = λ m. engine-allowed (m .handed) coherent (engine-round (m .comes) (m .leads));
-  lower = λ m. engine-lower (m .handed) (engine-round (m .comes) (m .leads));
-  short = λ m. engine-short (engine-round (m .comes) (m .leads));
-}
 
 -- ---- bound lines
 
@@ -254,6 +227,20 @@ pub record Free (r : Rules) (next : Rules → Case → List ℤ → Next) (c : C
   pub first : Reach w₀
   pub goes : {w : List ℤ} {moves : List Move} → Reach w → next r c w ≡ round moves → (v : List ℤ) × (afterMoves r c moves w ≡ some v) × Reach v
 
+module _ {r : Rules} {next : Rules → Case → List ℤ → Next} {c : Case} {w₀ : List ℤ} {Reach : List ℤ → Type 0} (free : Free r next c w₀ Reach) where
+  pub run-reaches : (limit : ℕ) → Ran r next c (λ done w log. Reach w) limit (run r next c limit w₀)
+  run-reaches limit = run-has r next c (λ done w log. Reach w) (λ done w v log moves p e f.
+      let (u, g, q) = free .goes p e in subst Reach (some-inj (sym g ∙ f)) q) limit w₀ (free .first)
+
+  ends-free : {w : List ℤ} {rounds limit : ℕ} {answer : RunAnswer} → Ends r next c w rounds limit answer → Reach w → (answer ≡ RunAnswer.Settled)
+      ⊎ (answer ≡ RunAnswer.Limit)
+  ends-free (settles h e) p = inl refl
+  ends-free (limits h e) p = inr refl
+  ends-free (refuses h e f) p = let (v, g, q) = free .goes p e in absurd (none-some (sym f ∙ g))
+
+  pub run-never-refused : (limit : ℕ) → (run r next c limit w₀ .answer ≡ RunAnswer.Settled) ⊎ (run r next c limit w₀ .answer ≡ RunAnswer.Limit)
+  run-never-refused limit = ends-free (run-ends r next c limit w₀) (run-reaches limit .kept)
+
 module _ {r : Rules} {next : Rules → Case → List ℤ → Next} {c : Case} (coherent : Coherent r) (kinds : MoveKinds r)
     (lawful : Lawful r next c) (w₀ : List ℤ) (t : T (valid r c w₀)) where
   module _ {done : ℕ} {w : List ℤ} {log : List (List ℕ)} (p : Replayed r c w₀ done w log) where
@@ -299,58 +286,14 @@ module _ {r : Rules} {next : Rules → Case → List ℤ → Next} {c : Case} (c
     run-log-ends = ap atEnd run-log-taken
 
   module _ {Reach : List ℤ → Type 0} (free : Free r next c w₀ Reach) where
-    run-reaches : (limit : ℕ) → Ran r next c (λ done w log. Reach w) limit (run r next c limit w₀)
-    run-reaches limit = run-has r next c (λ done w log. Reach w) (λ done w v log moves p e f.
-        let (u, g, q) = free .goes p e in subst Reach (some-inj (sym g ∙ f)) q) limit w₀ (free .first)
-
-    ends-free : {w : List ℤ} {rounds limit : ℕ} {answer : RunAnswer} → Ends r next c w rounds limit answer → Reach w → (answer ≡ RunAnswer.Settled)
-        ⊎ (answer ≡ RunAnswer.Limit)
-    ends-free (settles h e) p = inl refl
-    ends-free (limits h e) p = inr refl
-    ends-free (refuses h e f) p = let (v, g, q) = free .goes p e in absurd (none-some (sym f ∙ g))
-
-    pub run-never-refused : (limit : ℕ) → (run r next c limit w₀ .answer ≡ RunAnswer.Settled) ⊎ (run r next c limit w₀ .answer ≡ RunAnswer.Limit)
-    run-never-refused limit = ends-free (run-ends r next c limit w₀) (run-reaches limit .kept)
-
     pub run-settles : (limit : ℕ) (p : List ℕ) → T (isAssignment c p) → upperBound c w₀ ≤ℤ (pos limit +ℤ objective c w₀ p)
         → run r next c limit w₀ .answer ≡ RunAnswer.Settled
     run-settles limit p a h =
         let q : RunOf = run r next c limit w₀ in
         ⊎-elim (λ e. e) (λ e.
         let (n, moves, d) = ends-limit r next c (run-ends r next c limit w₀) .0 e in
-        let (v, g, _) = free .goes (run-reaches limit .kept) d in
+        let (v, g, _) = free .goes (run-reaches free limit .kept) d in
         let more = replayed-on (q .rounds) (q .weights) v (q .log) moves (run-replayed limit .kept) d g in
         let few = subst (λ (u : State). (pos (u .rounds) +ℤ objective c w₀ p) ≤ℤ upperBound c w₀) (more .leads)
         (rounds-few r c w₀ t (q .log ++ roundText r c moves v) p a) in
-        absurd (too-many (q .rounds) limit (upperBound c w₀) (objective c w₀ p) n h few)) (run-never-refused limit)
-
--- ---- the engine's run
-
-module _ (r : Rules) (c : Case) (shape : Shape c) (w : List ℤ) where
-  pub engine-settled : engineNext r c w ≡ nothing ↔ Settled c w
-  engine-settled = (λ e. settled-iff c w shape .0 (next-nothing r c w shape .0 e), λ f. next-nothing r c w shape .1 (settled-iff c w shape .1 f))
-
-  pub engine-unsettled : ((moves : List Move) × (engineNext r c w ≡ round moves)) ↔ (Settled c w → ⊥)
-  engine-unsettled = (λ (moves, e) f. let g = engine-settled .1 f in differ (cc), go (engineNext r c w) refl)
-    where
-      go : (n : Next) → engineNext r c w ≡ n → (Settled c w → ⊥) → (moves : List Move) × (engineNext r c w ≡ round moves)
-      go nothing e f = absurd (f (engine-settled .0 e))
-      go (round moves) e f = (moves, e)
-
--- the engine's run from any table: settled just where it ends settled, limit just after so many rounds where it does not
-module _ (r : Rules) (c : Case) (shape : Shape c) (limit : ℕ) (w : List ℤ) where
-  pub run-settled : run r engineNext c limit w .answer ≡ RunAnswer.Settled ↔ Settled c (run r engineNext c limit w .weights)
-  run-settled = Iff·trans (ends-settled r engineNext c (run-ends r engineNext c limit w)) (engine-settled r c shape (run r engineNext c limit w .weights))
-
-  pub run-limit : run r engineNext c limit w .answer ≡ RunAnswer.Limit
-      ↔ (run r engineNext c limit w .rounds ≡ limit) × (Settled c (run r engineNext c limit w .weights) → ⊥)
-  run-limit =
-      let e = ends-limit r engineNext c (run-ends r engineNext c limit w) in
-      let f = engine-unsettled r c shape (run r engineNext c limit w .weights) in
-      (λ a. let (n, moves, d) = e .0 a in (n, f .0 (moves, d)), λ (n, u). let (moves, d) = f .1 u in e .1 (n, moves, d))
-
-pub engine-free : {r : Rules} {c : Case} {w₀ : List ℤ} → Coherent r → T (valid r c w₀) → Free r engineNext c w₀ (Reached c w₀)
-engine-free {r} {c} {w₀} coherent t = record {
-  first = start;
-  goes = λ h e. let (v, g, q, l) = next-made coherent (valid-facts r c w₀ t) h e in (v, g, q);
-}
+        absurd (too-many (q .rounds) limit (upperBound c w₀) (objective c w₀ p) n h few)) (run-never-refused free limit)

@@ -1,1 +1,1 @@
-// Laws of the engine's definitions: see proofs/. There is no code here.
+// The engine's runs as mathematics. No code.

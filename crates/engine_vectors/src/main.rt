@@ -1,9 +1,9 @@
 // Rounds and runs of the engine. Standard input holds lines of 27 bytes. One that is not in columns names what is tried and is printed. Kinds 10
 // to 13 are a case, taken as it stands: none of its numbers is asked, and each weight goes to the next place of the table.
-// Kind 20: a run with limit amount; kind 21: one round; both with an output of a dots, which is printed after it.
+// Kind 20: a run with limit amount; kind 24: one of pair rounds only; kind 21: one round; all with an output of a dots, which is printed after it.
 // Kind 22: amount rounds with an output of a dots; the bound after them and a checksum of their log are printed.
 // Kind 23: the table's first a weights are printed.
-// The file `stdout` was worked out from document 01 by a small engine of its own; the peer writes the same log of each case that a case file can
+// The file `stdout` was worked out from documents 01 and 02 by a small engine of its own; the peer writes the same log of each case that a case file can
 // hold. The largest case's log is the peer's.
 use definitions::Case;
 use definitions::EDGE_PLACES;
@@ -49,6 +49,14 @@ fn run(case: Case, table: &mut [i64], out: &mut [u8], limit: u64) {
     drivers::print(b"run");
     drivers::print_count(limit);
     print_run(engine::run(case, table, out, limit));
+    drivers::print(out);
+    drivers::print(b"\n");
+}
+
+fn run_pairs(case: Case, table: &mut [i64], out: &mut [u8], limit: u64) {
+    drivers::print(b"pairs");
+    drivers::print_count(limit);
+    print_run(engine::run_pairs(case, table, out, limit));
     drivers::print(out);
     drivers::print(b"\n");
 }
@@ -174,6 +182,8 @@ fn call(case: Case, table: &mut [i64], out: &mut [u8], line: Line) {
         run(case, table, out, most);
     } else if line.kind == 21 {
         round(case, table, out);
+    } else if line.kind == 24 {
+        run_pairs(case, table, out, most);
     } else {
         rounds(case, table, out, most);
     }
@@ -181,8 +191,8 @@ fn call(case: Case, table: &mut [i64], out: &mut [u8], line: Line) {
 
 fn with_output(case: Case, table: &mut [i64], line: Line) {
     let room = count(line.a);
-    let mut out = [46u8; 4000];
-    if room <= 4000 {
+    let mut out = [46u8; 4400];
+    if room <= 4400 {
         call(case, table, &mut out[0..room], line);
     }
 }

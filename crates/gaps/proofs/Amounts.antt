@@ -24,8 +24,8 @@ use Rattle.definitions.specs.Valid.{workingWeight}
 use Rattle.definitions.specs.Engine.{chosen, keptScopes, leastGap}
 use Rattle.theory.proofs.Places.{IsTuple, tuple-in, in-tuples, inactive-less}
 use Rattle.theory.proofs.Validity.{Handed}
-use Rattle.engine_theory.proofs.Trim.{chosen-some}
-use Rattle.engine_theory.proofs.Gaps.{amount, amount-reached, amount-room, amount-most}
+use Rattle.press_theory.proofs.Trim.{chosen-some}
+use Rattle.press_theory.proofs.Gaps.{amount, amount-reached, amount-room, amount-most}
 use Rattle.tables.specs.Scopes.{BestOf, bestAt, scopePart}
 use Rattle.tables.proofs.Parts.{scope-part}
 use Rattle.tables.proofs.Answered.{limits-true, greatest-working}

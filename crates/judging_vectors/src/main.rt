@@ -195,9 +195,9 @@ fn lend(input: &[u8], line: Line) {
     let places = count(line.a);
     let room = count(line.c);
     let mut table = [0i64; 64];
-    let mut out = [46u8; 256];
+    let mut out = [46u8; 320];
     if places <= 64 {
-        if room <= 256 {
+        if room <= 320 {
             call(input, &mut table[0..places], &mut out[0..room], line);
         }
     }

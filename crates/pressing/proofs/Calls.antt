@@ -20,8 +20,8 @@ use Rattle.definitions.specs.declared.Written.{Written}
 use Rattle.definitions.specs.Rules.{Rules, rulesOf}
 use Rattle.calls.specs.Calls.{writtenOf}
 use Rattle.definitions.specs.CaseFiles.{CaseCall, caseOf, caseSize, readCaseAlone}
-use Rattle.definitions.specs.Moves.{Move}
-use Rattle.definitions.specs.Engine.{Next, nothing, round, engineNext, afterMoves, madeOf, makeNext}
+use Rattle.definitions.specs.Moves.{Move, afterMoves}
+use Rattle.definitions.specs.Engine.{Next, nothing, round, engineNext, madeOf, makeNext}
 use Rattle.calls.specs.EngineCalls.{RoundCall, RunCall, isLeaving, answerAtLimit, roundMade, engineRefusal, roundCall, runCall}
 use Rattle.definitions.specs.Programs.{pressLimit}
 use Rattle.engine_theory.proofs.Calls.{call-taken, run-refused}
@@ -92,11 +92,11 @@ module _ (r : Rules) (c : Case) (w : List ℤ) (out : List ℕ) where
   run-asks = (go (engineRefusal r engineNext c w out) refl, refl, refl)
     where
       moved : (moves : List Move) (o : Option (List ℤ))
-          → ranNone (answerAtLimit (roundMade r engineNext c w out (madeOf r c moves o) .answer)) ≡ Written.Bytes 0
+          → ranNone (answerAtLimit (roundMade c w out (madeOf r c moves o) .answer)) ≡ Written.Bytes 0
       moved moves none = refl
       moved moves (some v) = refl
 
-      made : (n : Next) → ranNone (answerAtLimit (roundMade r engineNext c w out (makeNext r c w n) .answer)) ≡ Written.Bytes 0
+      made : (n : Next) → ranNone (answerAtLimit (roundMade c w out (makeNext r c w n) .answer)) ≡ Written.Bytes 0
       made nothing = refl
       made (round moves) = moved moves (afterMoves r c moves w)
 

@@ -22,10 +22,10 @@ use Rattle.definitions.specs.declared.Written.{Written}
 use Rattle.definitions.specs.Rules.{Rules, Coherent, coherent, rulesIn, rulesOf}
 use Rattle.calls.specs.Calls.{WriteCall, writtenOf}
 use Rattle.definitions.specs.Valid.{workingWeight}
-use Rattle.definitions.specs.Moves.{Move}
+use Rattle.definitions.specs.Moves.{Move, afterMoves}
 use Rattle.definitions.specs.Lines.{lineLength, overwritten}
 use Rattle.definitions.specs.CaseFiles.{CaseCall, caseOf, caseRefused, caseSize, restRefusal, nothingAfter, readCase, readCaseAlone}
-use Rattle.definitions.specs.Engine.{Next, nothing, round, Made, engineNext, afterMoves, roundBytes, madeOf, makeNext, atLimit, onward, runFrom}
+use Rattle.definitions.specs.Engine.{Next, nothing, round, Made, engineNext, roundBytes, madeOf, makeNext, atLimit, onward, runFrom}
 use Rattle.calls.specs.EngineCalls.{RoundCall, roundMade, engineRefusal, roundCall}
 use Rattle.definitions.specs.Places.{longestLines, longestRound, placed}
 use Rattle.definitions.specs.Programs.{pressLimit, refusedText, tableFor, pressEnd, pressRun, pressRead}
@@ -34,7 +34,8 @@ use Rattle.theory.proofs.Validity.{Handed}
 use Rattle.theory.proofs.Replays.{handed-after}
 use Rattle.case_theory.proofs.CaseReads.{alone-rulebook}
 use Rattle.case_theory.proofs.CaseTexts.{written-read-alone}
-use Rattle.engine_theory.proofs.Runs.{RoundFrom, engine-lawful, handed-on}
+use Rattle.engine_theory.proofs.Runs.{RoundFrom, handed-on}
+use Rattle.engine_theory.proofs.Engine.{engine-lawful}
 use Rattle.engine_theory.proofs.Calls.{taken-iff, call-taken, round-short}
 use Rattle.texts.specs.Texts.{textRoom, greatestCount, writeRefusedCall}
 use Rattle.texts.proofs.Answers.{text-done}
@@ -138,14 +139,14 @@ module _ (c : Case) (at : ℕ) (few : at ≤ greatestCount) where
     abbrev told : RoundCall → PressingCall
     told u = afterRound (record { case = c; lines = at; left = suc left }) u (u .answer)
 
-    called-told : (x : Written) → called (stand (suc left) w out x) ≡ told (roundMade r engineNext c w out (makeNext r c w (engineNext r c w)))
+    called-told : (x : Written) → called (stand (suc left) w out x) ≡ told (roundMade c w out (makeNext r c w (engineNext r c w)))
     unfolding nextPressing
     called-told x =
         ap (λ (b : Bool). if b then idle (stand (suc left) w out x) else told (roundCall r engineNext c w out)) (ne-eqb (suc left) 0 (λ z. omega arith))
         ∙ ap told (call-taken r engineNext c w out (taken-iff r engineNext c w out .1 (h, long)))
 
     abbrev leads-to : Made → PressingCall
-    leads-to m = told (roundMade r engineNext c w out m)
+    leads-to m = told (roundMade c w out m)
 
     called-is : (x : Written) → Called left w out (called (stand (suc left) w out x))
     called-is x = subst (Called left w out) (sym (called-told x)) (go (engineNext r c w) refl)
@@ -244,7 +245,7 @@ module _ (c : Case) (at : ℕ) (few : at ≤ greatestCount) where
 -- ---- an input that is read under a rulebook
 
 round-fits : {c : Case} {w : List ℤ} → Handed (rulesOf c) (workingWeight (rulesOf c)) c w → roundBytes (rulesOf c) c ≤ longestRound (rulesOf c)
-round-fits {c} h = mul-le-mul-left (lineLength (rulesOf c .amountWidth)) (omega (arith, h .variables-most, h .edges-most))
+round-fits {c} h = mul-le-mul-left (lineLength (rulesOf c .amountWidth)) (omega (arith, h .variables-most, h .edges-most, h .values-most))
 
 module _ (book : Rulebook) (texts-fit : textRoom ≤ longestRound (rulesIn book)) where
   module _ (t out : List ℕ) (long : longestRound (rulesIn book) ≤ length out) where

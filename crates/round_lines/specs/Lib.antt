@@ -1,2 +1,3 @@
 -- What the functions answer, and what the private ones may take as known.
 pub mod Press
+pub mod Asked

@@ -1,4 +1,5 @@
-// The lines of a round of one press (document 01, "The engine's round"), written from an output's first byte.
+// What a round of the engine is asked before it is made, and the lines of a round of one press (document 01, "The engine's round"), written from
+// an output's first byte.
 use definitions::Case;
 use definitions::Line;
 use definitions::Outcome;
@@ -7,17 +8,20 @@ use definitions::Written;
 ghost use mathlib.Core.Path.{_≡_};
 ghost use mathlib.Core.Bool.{not};
 ghost use Prim.Native.Nat.{_+_, _*_, _^_, _≤_, _<_};
-ghost use lib.Dec.{T};
+ghost use lib.Dec.{T, ltb};
 ghost use lib.IntN.{pos};
 ghost use lib.ListN.{length};
 ghost use Rattle.definitions.specs.Rules.{rulesOf};
 ghost use Rattle.definitions.specs.Case.{scopeCount};
 ghost use Rattle.definitions.specs.Lines.{lineText, lineLength, lineTooWide, overwritten};
+ghost use Rattle.definitions.specs.Answers.{outcomeOf};
 ghost use Rattle.definitions.specs.RoundLines.{raiseLine, boundLine};
+ghost use Rattle.definitions.specs.Engine.{roundBytes};
 ghost use Rattle.lines.specs.AtWidth.{widthOut, lineOut};
 ghost use Rattle.tables.specs.Scopes.{Limited};
 ghost use Rattle.round_lines.specs.Press.{raisedFrom, raisedBelow, raiseTexts, putText, Put, pressLine};
 ghost use Rattle.round_lines.specs.Press.{putCall, checkedCall, writeAllCall};
+ghost use Rattle.round_lines.specs.Asked.{roundRefusal};
 
 // A line of the widest amount column.
 const LINE_PLACES: usize = 33;
@@ -216,6 +220,25 @@ fn write_checked(
     let first = press_line(variable, count, amount);
     let last = bound_line(bound);
     write_lines(out, raised, scopes, first, last, amount_width(case))
+}
+
+// An output is too short for a round.
+fn too_short(case: Case, length: usize) -> bool
+    requires { ⌜ Limited case ⌝ }
+    ensures { λ r. ⌜ r ≡ ltb length (roundBytes (rulesOf case) case) ⌝ }
+{
+    let rulebook = case.rulebook;
+    length < rules::line_length(rulebook) * (case.n + case.m + 2 * case.d + 1)
+}
+
+// Numbers 3 to 8 of a case, its working weights and an output of so many bytes, 4 also where a round may need more; 5 also where `outside` says so.
+pub fn check_round(case: Case, table: &[i64], length: usize, outside: bool) -> Outcome
+    ensures { λ r. ⌜ r ≡ outcomeOf (roundRefusal (rulesOf case) case (now (table .entry)) length outside) ⌝ }
+{
+    if !tables::within_limits(case) {
+        return Outcome::Refused(Refusal::OutsideLimits);
+    }
+    tables::check_working(case, table, too_short(case, length), outside)
 }
 
 // The lines of a round that presses `variable` by `amount`, raises each scope of the case whose byte in `raised` is not 0, and says `bound`:

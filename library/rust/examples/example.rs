@@ -1,5 +1,5 @@
 //! Reads a case file, lets the engine lower its ceiling, replays the log in blocks, and prints what the checker says, the first round's
-//! lines, and which of two simple plans is better.
+//! lines, which of two simple plans is better, and what pair rounds alone come to.
 
 use ceiling::{case_size, read_case, view, Refused, Replay, LINE, ROOM};
 use std::io::Write;
@@ -58,6 +58,13 @@ fn example(text: &[u8]) -> Result<Vec<u8>, Refused> {
     let second: Vec<u8> = (0..size.n).map(|i| (i % size.d) as u8).collect();
     let better = case.better(&start, &first, &second)?;
     let choice = if std::ptr::eq(better.as_ptr(), first.as_ptr()) { 0 } else { 1 };
-    printed.extend_from_slice(format!("plan {choice} {}\n", case.objective(&start, better)?).as_bytes());
+    let total = case.objective(&start, better)?;
+    printed.extend_from_slice(format!("plan {choice} {total}\n").as_bytes());
+
+    // Pair rounds only: the plan keeps its total.
+    let mut table = start.clone();
+    let pairs = case.run_pairs(&mut table, &mut out, ROUNDS);
+    assert!(pairs.refused.is_none() && case.objective(&table, better)? == total);
+    printed.extend_from_slice(format!("pairs {} {}\n", pairs.rounds, pairs.bound).as_bytes());
     Ok(printed)
 }

@@ -93,5 +93,6 @@ mod engine {
         pub fn ceiling_engine_version() -> u64;
         pub fn ceiling_round(case: *const u8, table: *mut i64, t: usize, out: *mut u8, o: usize) -> Round;
         pub fn ceiling_run(case: *const u8, table: *mut i64, t: usize, out: *mut u8, o: usize, limit: u64) -> Run;
+        pub fn ceiling_run_pairs(case: *const u8, table: *mut i64, t: usize, out: *mut u8, o: usize, limit: u64) -> Run;
     }
 }

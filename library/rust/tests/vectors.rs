@@ -1,8 +1,9 @@
 //! Calls every function of the Rust wrapper on accepted and on refused input and compares answers and everything lent with what document 01
-//! says. Each call is a test: a line for each that failed, the count as the last line. vectors.c has more rows; here the wrapper is tried.
-//! A case's table of the wrong length (number 4) cannot be handed to `read_case`, which makes the table itself.
+//! says, and document 02 of pair rounds. Each call is a test: a line for each that failed, the count as the last line. vectors.c has more rows;
+//! here the wrapper is tried. A case's table of the wrong length (number 4) cannot be handed to `read_case`, which makes the table itself.
 
-use ceiling::{case_size, engine_version, read_case, version, view, Case, Made, Refused, Replay, Run, Size, CASE, LINE, RECORD};
+use ceiling::{case_size, engine_version, read_case, version, view, Case, Made, Refused, Replay, Run, Size};
+use ceiling::{CASE, CHANNELS, LINE, LINKS, PAIRS, RECORD, ROOM};
 
 const STARTING: i64 = 1_000_000;
 const WORKING: i64 = 500_000_000;
@@ -62,7 +63,12 @@ fn p10() -> Sample {
     sample(2, 2, &[[0, 1]], &[3, 4, 6, 2, -2, -4, 1, 1])
 }
 
-/// Not starting weights: the engine's first round by 1 takes link 0 to the end of the range, its second is number 11.
+/// A pair round, and then a press.
+fn two() -> Sample {
+    sample(3, 2, &[[0, 1], [1, 2]], &[0, 0, 1, 0, -1, 0, -2, 0, -2, -1, 0, 0, 0, -1])
+}
+
+/// Not starting weights: the pair gains but is passed over, the first press by 1 takes link 0 to the end of the range, the second is number 11.
 fn low() -> Sample {
     let pair = [-3, -3, 0];
     sample(2, 3, &[[0, 1]], &[&[-499_999_999; 3][..], &[2, 1, 0], &pair, &pair, &pair].concat())
@@ -186,6 +192,8 @@ const LAST: [i64; 5] = [3, 2, 0, 0, 0];
 const BOUND: [i64; 5] = [4, 0, 0, 0, 2];
 const START: [i64; 8] = [2, 0, 2, 0, -3, 0, 0, 0];
 const PRESSED: [i64; 8] = [0, 0, 2, 2, -1, 0, 0, 0];
+const SHIFTS: [[i64; 5]; 2] = [[1, 0, 0, 0, -2], [1, 0, 1, 0, -2]];
+const SHIFTED: [i64; 8] = [0, 0, 0, 0, 1, 2, 2, 0];
 
 /// Lines of a replay of P4: what the block answers, the table after it, and what the end answers.
 type Row = (&'static str, &'static [[i64; 5]], Result<usize, Refused>, [i64; 8], Result<u64, u64>);
@@ -196,6 +204,7 @@ const fn at(number: u64, line: usize) -> Result<usize, Refused> {
 
 const ROWS: &[Row] = &[
     ("a round", &[PRESS, FIRST, LAST, BOUND], Ok(4), PRESSED, Ok(1)),
+    ("a pair round", &[SHIFTS[0], SHIFTS[1], BOUND], Ok(3), SHIFTED, Ok(1)),
     ("a press without a bound", &[PRESS, FIRST, LAST], Ok(3), PRESSED, Err(14)),
     ("a shift", &[[1, 0, 1, 0, 5]], Ok(1), [2, 0, 7, 0, -8, 0, -5, 0], Err(14)),
     ("kind not due", &[FIRST], at(2, 0), START, Err(2)),
@@ -257,35 +266,71 @@ fn views(count: &mut Count) {
     count.test("view", "not in columns", view(&bad, 1) == refused(1, 5));
 }
 
+/// A run's answer, and that the output begins with these lines and keeps what it held behind them.
+type RunRow<'a> = (&'static str, Sample, u64, usize, Run, &'a [u8]);
+
+fn ran(count: &mut Count, function: &str, row: RunRow, call: fn(&Case, &mut [i64], &mut [u8], u64) -> Run) {
+    let (name, s, limit, room, answer, wrote) = row;
+    let (mut table, mut out) = (s.table.clone(), vec![0xa5; room]);
+    let run = call(&s.case(), &mut table, &mut out, limit);
+    let kept = out[wrote.len()..].iter().all(|&byte| byte == 0xa5);
+    count.test(function, name, run == answer && out.starts_with(wrote) && kept && (run.rounds > 0) == (table != s.table));
+}
+
 fn engine(count: &mut Count) {
     let made = |refused, settled, rounds, bound| Run { refused, settled, rounds, bound };
     let one = lines(&[[2, 0, 3, 0, 1], [3, 3, 0, 0, 0], [3, 4, 0, 0, 0], [3, 5, 0, 0, 0], [4, 0, 0, 0, -1]]);
-    let four = lines(&[PRESS, FIRST, LAST, BOUND]);
+    let pair = lines(&[SHIFTS[0], SHIFTS[1], BOUND]);
+    let first = lines(&[[1, 0, 1, 0, -1], [4, 0, 0, 0, 0]]);
+    let second = lines(&[[2, 0, 3, 0, 1], LAST, [3, 3, 0, 0, 0], [3, 4, 0, 0, 0], [4, 0, 0, 0, -1]]);
     let lowest = lines(&[[2, 0, 2, 0, 1], FIRST, LAST, [4, 0, 0, 0, -499_999_998]]);
-    for (name, s, limit, room, answer, wrote) in [
-        ("P1, limit 0", p1(), 0, 189, made(None, false, 0, 0), &b""[..]),
-        ("P1, limit 1", p1(), 1, 189, made(None, true, 1, -1), &one),
-        ("P1, a short output", p1(), 1, 188, made(Some(4), false, 0, 0), b""),
-        ("P4", p4(), 9, 108, made(None, true, 1, 2), &four),
-        ("P10", p10(), 0, 108, made(None, true, 0, 11), b""),
-        ("out of range", low(), 9, 108, made(Some(11), false, 1, -499_999_998), &lowest),
+    for row in [
+        ("P1, limit 0", p1(), 0, 297, made(None, false, 0, 0), &b""[..]),
+        ("P1, limit 1", p1(), 1, 297, made(None, true, 1, -1), &one),
+        ("P1, a short output", p1(), 1, 296, made(Some(4), false, 0, 0), b""),
+        ("P5", p4(), 9, 216, made(None, true, 1, 2), &pair),
+        ("P10", p10(), 0, 216, made(None, true, 0, 11), b""),
+        ("a pair, limit 1", two(), 1, 270, made(None, false, 1, 0), &first),
+        ("a pair, then a press", two(), 9, 270, made(None, true, 2, -1), &second),
+        ("out of range", low(), 9, 270, made(Some(11), false, 1, -499_999_998), &lowest),
     ] {
-        let (mut table, mut out) = (s.table.clone(), vec![0xa5; room]);
-        let run = s.case().run(&mut table, &mut out, limit);
-        let kept = out[wrote.len()..].iter().all(|&byte| byte == 0xa5);
-        count.test("run", name, run == answer && out.starts_with(wrote) && kept && (run.rounds > 0) == (table != s.table));
+        ran(count, "run", row, Case::run);
     }
-    let (mut table, mut out) = (p4().table, vec![0xa5; 109]);
-    let first = p4().case().round(&mut table, &mut out);
-    count.test("round", "P4", first == Ok(Some(Made { bytes: 108, bound: 2 })) && out == [&four[..], b"\xa5"].concat() && table == PRESSED);
-    count.test("round", "settled", p4().case().round(&mut table, &mut out) == Ok(None) && table == PRESSED);
-    count.test("round", "a short output", p4().case().round(&mut table, &mut out[..107]) == refused(4, 0) && table == PRESSED);
+    for row in [
+        ("P1, a press is left", p1(), 9, 297, made(None, true, 0, 0), &b""[..]),
+        ("P1, a short output", p1(), 9, 296, made(Some(4), false, 0, 0), b""),
+        ("P5", p4(), 9, 216, made(None, true, 1, 2), &pair),
+        ("P5, limit 0", p4(), 0, 216, made(None, false, 0, 4), b""),
+        ("a pair, and a press is left", two(), 9, 270, made(None, true, 1, 0), &first),
+        ("passed over, before 11", low(), 9, 270, made(None, true, 0, -499_999_997), b""),
+    ] {
+        ran(count, "run_pairs", row, Case::run_pairs);
+    }
+    let (mut table, mut out) = (p4().table, vec![0xa5; 217]);
+    let round = p4().case().round(&mut table, &mut out);
+    let kept = out[81..].iter().all(|&byte| byte == 0xa5);
+    count.test("round", "P5", round == Ok(Some(Made { bytes: 81, bound: 2 })) && out.starts_with(&pair) && kept && table == SHIFTED);
+    count.test("round", "settled", p4().case().round(&mut table, &mut out) == Ok(None) && table == SHIFTED);
+    count.test("round", "a short output", p4().case().round(&mut table, &mut out[..215]) == refused(4, 0) && table == SHIFTED);
     for (name, number, s) in faults(WORKING) {
-        let (mut table, mut out) = (s.table.clone(), vec![0xa5; 200]);
-        let same = |table: &[i64], out: &[u8]| table == s.table && out == [0xa5; 200];
+        let (mut table, mut out) = (s.table.clone(), vec![0xa5; 320]);
+        let same = |table: &[i64], out: &[u8]| table == s.table && out == [0xa5; 320];
         count.test("round", name, s.case().round(&mut table, &mut out) == refused(number, 0) && same(&table, &out));
         count.test("run", name, s.case().run(&mut table, &mut out, 9) == made(Some(number), false, 0, 0) && same(&table, &out));
+        count.test("run_pairs", name, s.case().run_pairs(&mut table, &mut out, 9) == made(Some(number), false, 0, 0) && same(&table, &out));
     }
+}
+
+/// The largest case, all of its weights 0: settled with room for the longest round, and number 4 with a byte less.
+fn room(count: &mut Count) {
+    let pairs: Vec<[u8; 2]> = (0..PAIRS as u8).map(|e| [e % 24, 24 + (e % 24 + e / 24) % 24]).collect();
+    let places = LINKS * CHANNELS + PAIRS * CHANNELS * CHANNELS;
+    let s = sample(LINKS as u64, CHANNELS as u64, &pairs, &vec![0; places]);
+    let (case, mut table, mut out) = (s.case(), s.table, vec![0; ROOM]);
+    count.test("round", "the longest round", case.round(&mut table, &mut out) == Ok(None));
+    count.test("round", "a byte less", case.round(&mut table, &mut out[1..]) == refused(4, 0));
+    count.test("run", "a byte less", case.run(&mut table, &mut out[1..], 1).refused == Some(4));
+    count.test("run_pairs", "a byte less", case.run_pairs(&mut table, &mut out[1..], 1).refused == Some(4));
 }
 
 /// Both libraries are of this package's version.
@@ -303,6 +348,7 @@ fn all(count: &mut Count) {
     replays(count);
     views(count);
     engine(count);
+    room(count);
 }
 
 /// The same on four threads at once, each with little stack.

@@ -3,12 +3,14 @@
 
 mod lists;
 mod outputs;
+mod pairs;
 mod runs;
 mod tables;
 
 use crate::counts::Counts;
 use crate::damage::damage;
 use crate::inputs::{input_for, random_for, sized_case, small_case, some_log, Program};
+use crate::generate::{any_table_for, border_for};
 use crate::random::Random;
 use crate::refute;
 use crate::replay::Replay;
@@ -47,6 +49,7 @@ pub struct Figures {
     pub climbs: u64,
     pub programs: u64,
     pub others: u64,
+    pub pairs: pairs::PairFigures,
 }
 
 impl Figures {
@@ -125,7 +128,7 @@ impl Check {
     }
 
     /// A case of any size, where plans cannot be listed nor families tried: some
-    /// rounds from the start and from later tables, and logs of the first few rounds.
+    /// rounds from the start and from other tables, and logs of the first few rounds.
     fn large(&mut self, random: &mut Random) -> Result<(), Difference> {
         let case = sized_case(random);
         self.files(&case)?;
@@ -135,21 +138,23 @@ impl Check {
         } else {
             1 + random.below(2) as u64
         };
-        let slow = slow::engine::run(&case, limit);
-        same(
-            "run",
-            &engine::run_case(&case, limit),
-            &slow,
-            &case::write(&case),
-        )?;
-        let most = engine::run_case(&case, PROGRAM_ROUNDS).rounds as usize;
-        let later = engine::run_case(&case, random.below(most + 1) as u64).weights;
-        self.run_from(&case, later, 1)?;
+        self.run_of_all(&case, Rounds::All, limit)?;
+        self.run_of_all(&case, Rounds::Pairs, limit)?;
+        let most = self.whole_run(&case)?.rounds as usize;
+        let made = random.below(most + 1) as u64;
+        let weights = engine::run_case(&case, Rounds::All, made).weights;
+        let later = Case { weights, ..case.clone() };
+        self.run_of_all(&later, Rounds::All, 1)?;
+        let table = border_for(random, &case);
+        self.run_of_all(&table, Rounds::Pairs, limit)?;
+        self.run_of_all(&table, Rounds::All, limit)?;
+        self.against_plain(&table, Rounds::Pairs, PROGRAM_ROUNDS)?;
+        self.against_plain(&table, Rounds::All, 40)?;
+        self.whole_run(&table)?;
         let careless = random.chance(1, 2);
         let log = foreign::log(random, &case, careless);
         self.list(&case, &cut(&log))?;
         self.programs(random, &case)?;
-        self.figures.runs += 1;
         self.figures.large += 1;
         Ok(())
     }

@@ -3,48 +3,36 @@
 use super::*;
 
 impl Check {
-    /// Runs from the starting weights, and from a table with weights near the ends.
+    /// Runs from the starting weights and from tables that are none.
     pub fn runs(&mut self, random: &mut Random, case: &Case) -> Result<(), Difference> {
+        self.run_both_kinds(random, case)?;
+        self.from_start(case)?;
+        let table = any_table_for(random, case);
+        self.run_both_kinds(random, &table)?;
+        for _ in 0..3 {
+            let table = border_for(random, case);
+            self.run_both_kinds(random, &table)?;
+        }
+        Ok(())
+    }
+
+    /// What holds of runs from starting weights only.
+    fn from_start(&mut self, case: &Case) -> Result<(), Difference> {
         let file = case::write(case);
         let weights = figures::starting_weights(case);
-        let start = figures::upper_bound(case, &weights);
         let totals = figures::assignments(case);
-        let totals = totals
-            .iter()
-            .map(|plan| figures::objective(case, &weights, plan));
-        let enough = (start - totals.max().unwrap_or(start)) as u64;
-        let full = slow::engine::run(case, enough);
-        same("run", &engine::run_case(case, enough), &full, &file)?;
-        same("plain run", &plain::run_case(case, enough), &full, &file)?;
-        holds(
-            "settled when the limit is enough",
-            full.stop == Stop::Settled,
-            &file,
-        )?;
-        holds("run's rounds", full.rounds <= enough, &file)?;
-        let limit = random.below(full.rounds as usize + 2) as u64;
-        let slow = slow::engine::run(case, limit);
-        same(
-            "run with a limit",
-            &engine::run_case(case, limit),
-            &slow,
-            &file,
-        )?;
-        same(
-            "plain run with a limit",
-            &plain::run_case(case, limit),
-            &slow,
-            &file,
-        )?;
-        let early = if limit < full.rounds {
-            Stop::Limit
-        } else {
-            Stop::Settled
-        };
-        holds("limit rule", slow.stop == early, &file)?;
-        self.figures.runs += 4;
-        self.own_log(case, &full)?;
-        self.run_elsewhere(random, case)
+        let totals = totals.iter().map(|plan| figures::objective(case, &weights, plan));
+        let enough = figures::upper_bound(case, &weights) - totals.max().unwrap();
+        let run = self.run_of_all(case, Rounds::All, enough as u64)?;
+        holds("settled when the limit is enough", run.stop == Stop::Settled, &file)?;
+        let steps = pairs::steps(case, &run.log, pairs::start_range(case));
+        holds("weights of a run from the start", steps.is_some(), &file)?;
+        let steps = steps.unwrap_or_default();
+        let first = steps.iter().take_while(|step| step.is_pair_round()).count();
+        let sorted = !steps[first..].iter().any(|step| step.is_pair_round());
+        holds("pair rounds come first", sorted, &file)?;
+        let none = steps.iter().all(|step| step.passed.is_empty());
+        holds("no pair is passed over from the start", none, &file)
     }
 
     /// The run's log is accepted with the run's rounds, ceiling and weights.
@@ -63,45 +51,5 @@ impl Check {
         let expected = (None, run.rounds, run.upper_bound, run.weights.clone());
         self.figures.others += 1;
         same("own log replayed", &found, &expected, &file)
-    }
-
-    pub fn run_elsewhere(&mut self, random: &mut Random, case: &Case) -> Result<(), Difference> {
-        let size = *random.pick(&[2, 1_000_000, WORK_LIMIT]);
-        let low = random.chance(1, 2);
-        let mut any = || {
-            let weight = random.between(-size, size);
-            if low {
-                (weight.abs() / 1000 - WORK_LIMIT) as i32
-            } else {
-                weight as i32
-            }
-        };
-        let weights: Vec<i32> = case.weights.iter().map(|_| any()).collect();
-        self.run_from(case, weights, 12)
-    }
-
-    pub fn run_from(
-        &mut self,
-        case: &Case,
-        weights: Vec<i32>,
-        limit: u64,
-    ) -> Result<(), Difference> {
-        let wide = weights.iter().map(|&weight| i64::from(weight)).collect();
-        let slow = slow::engine::run_from(case, wide, limit);
-        let mut state = State::with_weights(case, weights);
-        let mut log = Vec::new();
-        let (stop, rounds) = engine::run(&mut state, limit, &mut log);
-        let fast = Run {
-            stop,
-            rounds,
-            upper_bound: state.upper_bound,
-            log,
-            weights: state.weights(),
-        };
-        if let Stop::Refused(number) = slow.stop {
-            self.counts.note("run", number, "table".into());
-        }
-        self.figures.runs += 1;
-        same("run from another table", &fast, &slow, &case::write(case))
     }
 }

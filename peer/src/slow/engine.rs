@@ -4,7 +4,7 @@ use super::figures::*;
 use super::line;
 use super::moves;
 use super::refute::active_refuted;
-use crate::types::{Case, Line, Run, Stop};
+use crate::types::{Case, Line, Rounds, Run, Stop};
 
 fn all_but(case: &Case, variable: usize) -> Vec<usize> {
     (0..scope_count(case))
@@ -41,8 +41,71 @@ fn gap(case: &Case, weights: &[i64], scope: usize) -> Option<i64> {
         .min()
 }
 
-/// One round: its lines and the table after it; nothing if settled.
-fn round(case: &Case, weights: &[i64]) -> Option<Result<(Vec<u8>, Vec<i64>), u8>> {
+/// A round: its lines and the table after it, or number 11.
+pub type Round = Result<(Vec<u8>, Vec<i64>), u8>;
+
+fn line_of(kind: i64, a: usize, b: usize, c: usize, amount: i64) -> Vec<u8> {
+    line::write(Line {
+        kind,
+        a: a as i64,
+        b: b as i64,
+        c: c as i64,
+        amount,
+    })
+}
+
+fn bound_line(case: &Case, weights: &[i64]) -> Vec<u8> {
+    line_of(4, 0, 0, 0, upper_bound(case, weights))
+}
+
+/// The total of a pair and its two links for every choice of values.
+pub fn totals_of_three(case: &Case, weights: &[i64], edge: usize) -> Vec<i64> {
+    let (lower, higher) = case.edges[edge];
+    let scope = case.variables + edge;
+    let total = |tuple: &Tuple| {
+        weight(case, weights, lower, &tuple[..1])
+            + weight(case, weights, higher, &tuple[1..])
+            + weight(case, weights, scope, tuple)
+    };
+    tuples(case, scope).iter().map(total).collect()
+}
+
+/// The three greatest weights add up to more than the best total of the three.
+pub fn due(case: &Case, weights: &[i64], edge: usize) -> bool {
+    let (lower, higher) = case.edges[edge];
+    let three = [lower, higher, case.variables + edge];
+    let greatest: i64 = three.iter().map(|&x| greatest(case, weights, x)).sum();
+    totals_of_three(case, weights, edge)
+        .iter()
+        .all(|&total| total < greatest)
+}
+
+/// Every link value's whole weight shifted into the pair, one shift after another.
+pub fn pair_round(case: &Case, weights: &[i64], edge: usize) -> Round {
+    let mut now = weights.to_vec();
+    let mut log = Vec::new();
+    for (end, link) in members(case, case.variables + edge).into_iter().enumerate() {
+        for value in 0..case.values {
+            let amount = -weight(case, &now, link, &[value]);
+            if amount != 0 {
+                now = moves::shift(case, &now, edge, end, value, amount)?;
+                log.extend(line_of(1, edge, end, value, amount));
+            }
+        }
+    }
+    log.extend(bound_line(case, &now));
+    Ok((log, now))
+}
+
+/// The round of the lowest pair that is due and not passed over.
+fn lowest_pair_round(case: &Case, weights: &[i64]) -> Option<Round> {
+    (0..case.edges.len())
+        .filter(|&edge| due(case, weights, edge))
+        .map(|edge| pair_round(case, weights, edge))
+        .find(|round| round.is_ok())
+}
+
+fn press_round(case: &Case, weights: &[i64]) -> Option<Round> {
     let variable = lowest(case, weights)?;
     let kept = trim(case, weights, variable);
     let mut limits: Vec<i64> = kept.iter().filter_map(|&s| gap(case, weights, s)).collect();
@@ -52,39 +115,29 @@ fn round(case: &Case, weights: &[i64]) -> Option<Result<(Vec<u8>, Vec<i64>), u8>
         Ok(next) => next,
         Err(number) => return Some(Err(number)),
     };
-    let count = kept.len() as i64;
-    let mut log = line::write(Line {
-        kind: 2,
-        a: variable as i64,
-        b: count,
-        c: 0,
-        amount,
-    });
+    let mut log = line_of(2, variable, kept.len(), 0, amount);
     for &scope in &kept {
-        log.extend(line::write(Line {
-            kind: 3,
-            a: scope as i64,
-            b: 0,
-            c: 0,
-            amount: 0,
-        }));
+        log.extend(line_of(3, scope, 0, 0, 0));
     }
-    let amount = upper_bound(case, &next);
-    log.extend(line::write(Line {
-        kind: 4,
-        a: 0,
-        b: 0,
-        c: 0,
-        amount,
-    }));
+    log.extend(bound_line(case, &next));
     Some(Ok((log, next)))
 }
 
-pub fn run_from(case: &Case, mut weights: Vec<i64>, limit: u64) -> Run {
+/// The next round; nothing if settled.
+fn round(case: &Case, weights: &[i64], rounds: Rounds) -> Option<Round> {
+    match (lowest_pair_round(case, weights), rounds) {
+        (None, Rounds::All) => press_round(case, weights),
+        (found, _) => found,
+    }
+}
+
+/// A run from the weights that the case holds.
+pub fn run(case: &Case, kind: Rounds, limit: u64) -> Run {
+    let mut weights = starting_weights(case);
     let mut log = Vec::new();
     let mut rounds = 0;
     let stop = loop {
-        match round(case, &weights) {
+        match round(case, &weights, kind) {
             None => break Stop::Settled,
             Some(_) if rounds == limit => break Stop::Limit,
             Some(Err(number)) => break Stop::Refused(number),
@@ -104,8 +157,4 @@ pub fn run_from(case: &Case, mut weights: Vec<i64>, limit: u64) -> Run {
         log,
         weights,
     }
-}
-
-pub fn run(case: &Case, limit: u64) -> Run {
-    run_from(case, starting_weights(case), limit)
 }

@@ -1,6 +1,6 @@
-//! A second, naive reading of document 01: every family tried, every assignment
-//! listed, maxima by scanning, trimming one scope after another. It shares only
-//! the data types with the fast reading.
+//! A second, naive reading of document 01 and of change 1: every family tried, every
+//! assignment listed, maxima by scanning, trimming one scope after another, pair
+//! rounds shift by shift. It shares only the data types with the fast reading.
 
 pub mod case;
 pub mod engine;

@@ -5,22 +5,30 @@ use super::engine;
 use super::figures::upper_bound;
 use super::line;
 use super::replay::PlainReplay;
-use crate::types::{Refusal, Stop};
+use crate::types::{Refusal, Rounds, Run, Stop};
 
 fn refused(refusal: Refusal) -> String {
     format!("refused {} {}\n", refusal.number, refusal.line)
 }
 
 pub fn press(input: &[u8]) -> Vec<u8> {
-    let (case, used) = match case::read_alone(input) {
-        Ok(read) => read,
-        Err(refusal) => return refused(refusal).into_bytes(),
-    };
-    let run = engine::run(&case, 100_000);
-    match run.stop {
-        Stop::Refused(number) => refused(Refusal { number, line: used }).into_bytes(),
-        _ => run.log,
+    press_rounds(input, Rounds::All, 100_000)
+}
+
+pub fn press_rounds(input: &[u8], kind: Rounds, limit: u64) -> Vec<u8> {
+    match case::read_alone(input) {
+        Ok((case, used)) => press_text(engine::run(&case, kind, limit), used),
+        Err(refusal) => refused(refusal).into_bytes(),
     }
+}
+
+/// The log of the rounds that stand, then the refusal if there is one.
+pub fn press_text(run: Run, line: usize) -> Vec<u8> {
+    let last = match run.stop {
+        Stop::Refused(number) => refused(Refusal { number, line }),
+        _ => String::new(),
+    };
+    [run.log, last.into_bytes()].concat()
 }
 
 pub fn replay(input: &[u8]) -> Vec<u8> {

@@ -6,7 +6,7 @@ use denote.Ref.{now}
 use Rattle.integers.specs.Linear.{read-back}
 use Rattle.definitions.specs.declared.Outcome.{Outcome}
 use Rattle.definitions.specs.Engine.{leastGap}
-use Rattle.engine_theory.proofs.Trim.{chosen-some}
+use Rattle.press_theory.proofs.Trim.{chosen-some}
 use Rattle.engine.specs.Rounds.{Pressed}
 use Rattle.engine.proofs.Rounds.{amount-within, made-refused}
 use borrow.Author.Needs.{needs}
@@ -26,7 +26,8 @@ press-requires c κs =
     let l = c .before .before in
     let s = l .before .before .before .before .before in
     let p = s .pre .1 .1 in
-    (s .pre .0, (s .pre .1 .0, (p .0 .0, chosen-some (s .args .case) (now (s .args .table)) (p .1 .0) .0, amount-within (s .pre .0) (p .1 .0) (amount l))))
+    let n = chosen-some (s .args .case) (now (s .args .table)) (p .1 .1 .0) .0 in
+    (s .pre .0, (s .pre .1 .0, (p .0 .0, n, amount-within (s .pre .0) (p .1 .1 .0) (amount l))))
 
 -- what the press did, by its answer
 pressed : (c : tie.After-press) {r : Outcome} → c .press .result ≡ r → let l = c .before .before .before in
@@ -62,7 +63,8 @@ returns c =
     let l = k .before .before .before in
     let s = l .before .before .before .before .before in
     let p = s .pre .1 .1 in
-    made-refused (s .pre .0) (p .1 .0) (amount l) (now (s .args .raised)) (p .1 .1) (now (s .args .out)) (p .0 .1) (pressed k (c .before .pressed .given .1))
+    made-refused (s .pre .0) (p .1 .1 .0) (amount l) (p .1 .0) (now (s .args .raised)) (p .1 .1 .1) (now (s .args .out)) (p .0 .1)
+    (pressed k (c .before .pressed .given .1))
 
 same-length-3 : tie.Need-same-length-3
 same-length-3 c = search needs
@@ -83,7 +85,7 @@ returns-2 c =
     let p = s .pre .1 .1 in
     let d = pressed k (t .enum-told .given .1) in (
       q .write-pressed .ensures (now (s .args .table)) (k .press .last .1 .0)
-          (record { handed = s .pre .0; which = p .1 .0; kept = p .1 .1; least = amount l; pressed = d }),
+          (record { handed = s .pre .0; no-pair = p .1 .0; which = p .1 .1 .0; kept = p .1 .1 .1; least = amount l; pressed = d }),
       d .greatest-kept,
     )
 

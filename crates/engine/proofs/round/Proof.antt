@@ -1,12 +1,13 @@
 use mathlib.Core.Path.{sym, _∙_}
+use mathlib.Core.Bool.{false}
 use denote.Ref.{now}
 use Rattle.engine.proofs.Runs.{asked-done, asked-refused}
 use borrow.Author.Needs.{needs}
 use Rattle.engine.proofs.round.Statement.{statement}
 use Rattle.engine.proofs.round.Tie as tie
 
-check-engine-requires : tie.Need-check-engine-requires
-check-engine-requires c κs = search needs
+check-round-requires : tie.Need-check-round-requires
+check-round-requires c κs = search needs
 
 enum-known-checked : tie.Need-enum-known-checked
 enum-known-checked c = search needs
@@ -17,8 +18,8 @@ enum-told c = search needs
 first-round-requires : tie.Need-first-round-requires
 first-round-requires c κs =
     let a = c .before .before .before .before .before .before .before .args in
-    asked-done (a .case) (now (a .table)) (now (a .out)) (sym (c .before .before .enum-told .given .1)
-    ∙ c .before .before .before .before .check-engine .ensures)
+    asked-done false (a .case) (now (a .table)) (now (a .out)) (sym (c .before .before .enum-told .given .1)
+    ∙ c .before .before .before .before .check-round .ensures)
 
 same-length : tie.Need-same-length
 same-length c = search needs
@@ -26,7 +27,8 @@ same-length c = search needs
 returns : tie.Need-returns
 returns c =
     let a = c .before .before .before .before .before .before .args in
-    let m = asked-refused (a .case) (now (a .table)) (now (a .out)) (sym (c .before .checked .given .1) ∙ c .before .before .before .check-engine .ensures) in
+    let m = asked-refused false (a .case) (now (a .table)) (now (a .out))
+    (sym (c .before .checked .given .1) ∙ c .before .before .before .check-round .ensures) in
     (m .answer, m .table, m .output)
 
 same-length-2 : tie.Need-same-length-2
@@ -42,7 +44,7 @@ pub round-spec : {M : Type 1} → statement M
 round-spec =
     tie.close
     (tie.spec
-    check-engine-requires
+    check-round-requires
     enum-known-checked
     enum-told
     first-round-requires

@@ -1,20 +1,23 @@
-use mathlib.Core.Path.{_≡_, subst}
+use mathlib.Core.Path.{_≡_, sym, subst, _∙_}
+use mathlib.Core.Bool.{Bool}
+use mathlib.Core.Option.{none}
 use native.Mathlib.Omega.{arith}
 use denote.Ref.{now}
 use Rattle.tables.proofs.Answered.{limits-known}
-use Rattle.choice.specs.declared.Chosen.{Chosen}
-use Rattle.engine.specs.Search.{FoundIs}
-use Rattle.engine.proofs.Raising.{ones-raised}
+use Rattle.definitions.specs.declared.Round.{Round}
+use Rattle.definitions.specs.Rules.{rulesOf}
+use Rattle.definitions.specs.PairRounds.{lowestPair}
+use Rattle.pair_choice.specs.declared.Paired.{Paired}
+use Rattle.pair_choice.specs.PairChoice.{pairedOf}
+use Rattle.engine.specs.Rounds.{MadeRound}
 use Rattle.engine.proofs.Runs.{nothing-made}
+use Rattle.engine.proofs.Pairs.{found-pair, found-nothing, next-pairs}
 use borrow.Author.Needs.{needs}
 use Rattle.engine.proofs.round_checked.Statement.{statement}
 use Rattle.engine.proofs.round_checked.Tie as tie
 
 abbrev entry : tie.After-prepare → tie.Start
 entry c = c .before .before .before .before .before .before
-
-abbrev prepared : tie.After-search → tie.After-prepare
-prepared c = c .before .before .before .before .before .before
 
 slice-aggregate-prepare : tie.Need-slice-aggregate-prepare
 slice-aggregate-prepare c = search needs
@@ -28,57 +31,23 @@ prepare-requires c κs =
     let l = limits-known (s .pre .0 .0) in
     (s .pre .0, (omega (arith, l .variables-placed), omega (arith, l .edges-placed)))
 
-slice-aggregate-search : tie.Need-slice-aggregate-search
-slice-aggregate-search c = search needs
-
-slice-aggregate-search-2 : tie.Need-slice-aggregate-search-2
-slice-aggregate-search-2 c = search needs
-
-slice-aggregate-search-3 : tie.Need-slice-aggregate-search-3
-slice-aggregate-search-3 c = search needs
-
-search-requires : tie.Need-search-requires
-search-requires c κs =
-    let p = c .before .before .before .before .before in
-    let l = limits-known (entry p .pre .0 .0) in
-    (omega (arith, l .scopes-placed), omega (arith, l .variables-placed, p .prepare .kept .1 .1 .1 .0), l .variables-placed, l .values-few, l .edges-placed)
-
 -- what was found
-module _ (c : tie.After-search) where
-  abbrev start : tie.Start
-  start = entry (prepared c)
-
-  found-is : {r : Chosen} → c .search .result ≡ r → FoundIs (start .args .case) (now (start .args .table)) (c .search .last .1 .1 .1 .0) r
-  found-is e =
-      let a = start .args in
-      subst (FoundIs (a .case) (now (a .table)) (c .search .last .1 .1 .1 .0)) e
-      (c .search .ensures (now (a .table)) (prepared c .prepare .ensures) (ones-raised (a .case)
-      (omega (arith, limits-known (start .pre .0 .0) .scopes-placed))))
-
-enum-told : tie.Need-enum-told
-enum-told c = search needs
+found-is : (c : tie.After-prepare) {r : Paired} → c .prepare .result ≡ r → let a = entry c .args in
+    r ≡ pairedOf (lowestPair (rulesOf (a .case)) (a .case) (now (a .table)))
+found-is c e = sym e ∙ c .prepare .ensures .0
 
 enum-known-found : tie.Need-enum-known-found
 enum-known-found c = search needs
 
-slice-aggregate-press-round : tie.Need-slice-aggregate-press-round
-slice-aggregate-press-round c = search needs
+pair-round-requires : tie.Need-pair-round-requires
+pair-round-requires c κs =
+    let f = c .before .before .before .before in
+    let q = f .before .before .before .before in
+    let s = entry q in
+    (s .pre .0, (s .pre .1, found-pair _ (found-is q (f .found .given .1))))
 
-press-round-requires : tie.Need-press-round-requires
-press-round-requires c κs =
-    let f = c .before .before .before .before .before in
-    let q = f .before .before .before in
-    let s = start q in (
-      s .pre .0 .0,
-      (
-        s .pre .0 .1,
-        (
-          (omega (arith, limits-known (s .pre .0 .0) .scopes-placed, q .search .kept .1 .1 .1 .0), s .pre .1),
-          found-is q
-              (f .found .given .1),
-        ),
-      ),
-    )
+enum-told : tie.Need-enum-told
+enum-told c = search needs
 
 same-length : tie.Need-same-length
 same-length c = search needs
@@ -86,11 +55,40 @@ same-length c = search needs
 same-length-2 : tie.Need-same-length-2
 same-length-2 c = search needs
 
+-- there is no pair
+abbrev looked : tie.After-enum-told → tie.After-prepare
+looked c = c .before .before .before .before
+
+no-pair : (c : tie.After-enum-told) → let a = entry (looked c) .args in lowestPair (rulesOf (a .case)) (a .case) (now (a .table)) ≡ none
+no-pair c = found-nothing _ (found-is (looked c) (c .enum-told .given .1))
+
 returns : tie.Need-returns
 returns c =
-    let q = c .before .before .before in
-    let s = start q in
-    (nothing-made (s .pre .0 .0) (s .pre .1) (found-is q (c .enum-told .given .1)), s .pre .0 .1)
+    let t = c .before in
+    let s = entry (looked t) in
+    let a = s .args in (
+      subst (λ (b : Bool). MadeRound b (a .case) (now (a .table)) (now (a .out)) (now (a .table)) (now (a .out)) Round.Settled) (sym (c .if1 .taken))
+          (nothing-made (s .pre .0 .0) (s .pre .1) (next-pairs (a .case) (now (a .table)) (no-pair t))),
+      s .pre .0 .1,
+    )
+
+slice-aggregate-press-next : tie.Need-slice-aggregate-press-next
+slice-aggregate-press-next c = search needs
+
+slice-aggregate-press-next-2 : tie.Need-slice-aggregate-press-next-2
+slice-aggregate-press-next-2 c = search needs
+
+press-next-requires : tie.Need-press-next-requires
+press-next-requires c κs =
+    let t = c .before .before .before .before .before .before in
+    let q = looked t in
+    let s = entry q in (
+      s .pre .0,
+      (
+        s .pre .1,
+        ((q .prepare .ensures .1, omega (arith, limits-known (s .pre .0 .0) .variables-placed, q .prepare .kept .1 .1 .1 .0)), no-pair t),
+      ),
+    )
 
 same-length-3 : tie.Need-same-length-3
 same-length-3 c = search needs
@@ -102,7 +100,31 @@ same-length-5 : tie.Need-same-length-5
 same-length-5 c = search needs
 
 returns-2 : tie.Need-returns-2
-returns-2 c = c .before .before .before .before .press-round .ensures
+returns-2 c =
+    let p = c .before .before .before .before in
+    let s = entry (p .before .before .before .before .before .before .before .before .before) in
+    let e = p .pair-round .ensures in
+    (e .0 (s .args .pairs), e .1)
+
+same-length-6 : tie.Need-same-length-6
+same-length-6 c = search needs
+
+same-length-7 : tie.Need-same-length-7
+same-length-7 c = search needs
+
+same-length-8 : tie.Need-same-length-8
+same-length-8 c = search needs
+
+returns-3 : tie.Need-returns-3
+returns-3 c =
+    let p = c .before .before .before .before in
+    let f = p .before .before .before .before .before .before in
+    let a = entry (looked (f .before)) .args in
+    let k = p .press-next in (
+      subst (λ (b : Bool). MadeRound b (a .case) (now (a .table)) (now (a .out)) (k .last .1 .0) (k .last .1 .1 .0) (k .result)) (sym (f .if1 .left))
+          (k .ensures .0),
+      k .ensures .1,
+    )
 
 pub round-checked-spec : {M : Type 1} → statement M
 round-checked-spec =
@@ -111,18 +133,20 @@ round-checked-spec =
     slice-aggregate-prepare
     slice-aggregate-prepare-2
     prepare-requires
-    slice-aggregate-search
-    slice-aggregate-search-2
-    slice-aggregate-search-3
-    search-requires
-    enum-told
     enum-known-found
-    slice-aggregate-press-round
-    press-round-requires
+    pair-round-requires
+    enum-told
     same-length
     same-length-2
     returns
+    slice-aggregate-press-next
+    slice-aggregate-press-next-2
+    press-next-requires
     same-length-3
     same-length-4
     same-length-5
-    returns-2)
+    returns-2
+    same-length-6
+    same-length-7
+    same-length-8
+    returns-3)

@@ -23,12 +23,12 @@ pub record Same (table₀ table : List ℤ) (out₀ out : List ℕ) (best₀ bes
   pub bests : length best ≡ length best₀
 
 abbrev Inv-loop : tie.InvT-loop
-Inv-loop case table₀ out₀ best₀ limit done₀ table out best done =
+Inv-loop case table₀ out₀ best₀ limit pairs done₀ table out best done =
     (done ≤ limit) × Same table₀ table out₀ out best₀ best × Handed (rulesOf case) (workingWeight (rulesOf case)) case table × BestOf case table best
-    × Going case limit table₀ out₀ done table out
+    × Going pairs case limit table₀ out₀ done table out
 
 abbrev μ-loop : tie.MeasureT-loop
-μ-loop case table₀ out₀ best₀ limit done₀ table out best done = limit - done
+μ-loop case table₀ out₀ best₀ limit pairs done₀ table out best done = limit - done
 
 abbrev entry : tie.At-loop Inv-loop μ-loop → tie.Start Inv-loop μ-loop
 entry c = c .before .before
@@ -49,9 +49,11 @@ module _ (c : tie.After-round-checked Inv-loop μ-loop) where
   at = turn c .before
 
   did : {r : Round} → c .round-checked .result ≡ r
-      → MadeRound (entry at .args .case) (at .loop .table) (at .loop .out) (c .round-checked .last .1 .0) (c .round-checked .last .1 .1 .0) r
+      → MadeRound (entry at .args .pairs) (entry at .args .case) (at .loop .table) (at .loop .out) (c .round-checked .last .1 .0)
+      (c .round-checked .last .1 .1 .0) r
   did e =
-      subst (MadeRound (entry at .args .case) (at .loop .table) (at .loop .out) (c .round-checked .last .1 .0) (c .round-checked .last .1 .1 .0)) e
+      subst (MadeRound (entry at .args .pairs) (entry at .args .case) (at .loop .table) (at .loop .out) (c .round-checked .last .1 .0)
+      (c .round-checked .last .1 .1 .0)) e
       (c .round-checked .ensures .0)
 
   same : let a = entry at .args in
@@ -71,7 +73,7 @@ loop-holds c =
       record { tables = refl; outs = refl; bests = refl },
       s .pre .0 .0,
       s .pre .0 .1,
-      run-starts (a .case) (a .limit) (now (a .table))
+      run-starts (a .pairs) (a .case) (a .limit) (now (a .table))
           (now (a .out)),
     )
 
@@ -111,7 +113,7 @@ returns c =
     let a = entry (at q) .args in
     let l = at q .loop in
     rw (c .stop-run .ensures)
-    (settled-run (a .case) (a .limit) (now (a .table)) (now (a .out)) (l .done) (l .table) (l .out) (l .inv .2) (room (at q)) (l .inv .4)
+    (settled-run (a .pairs) (a .case) (a .limit) (now (a .table)) (now (a .out)) (l .done) (l .table) (l .out) (l .inv .2) (room (at q)) (l .inv .4)
     (turn q .loop-test .taken)
     (did q (e .enum-told .given .1)))
 
@@ -140,7 +142,7 @@ returns-2 c =
     let a = entry (at q) .args in
     let l = at q .loop in
     rw (c .stop-run2 .ensures)
-    (run-leaves (a .case) (a .limit) (now (a .table)) (now (a .out)) (l .done) (l .table) (l .out) (l .inv .2) (room (at q)) (l .inv .4)
+    (run-leaves (a .pairs) (a .case) (a .limit) (now (a .table)) (now (a .out)) (l .done) (l .table) (l .out) (l .inv .2) (room (at q)) (l .inv .4)
     (turn q .loop-test .taken)
     (did q (e .before .made .given .1)))
 
@@ -167,7 +169,7 @@ loop-again c =
       same q,
       still-made (l .inv .2) (room (at q)) d,
       q .round-checked .ensures .1,
-      run-goes-on (a .case) (a .limit) (now (a .table)) (now (a .out)) (l .done) (l .table) (l .out) (l .inv .2) (room (at q)) (l .inv .4)
+      run-goes-on (a .pairs) (a .case) (a .limit) (now (a .table)) (now (a .out)) (l .done) (l .table) (l .out) (l .inv .2) (room (at q)) (l .inv .4)
           (turn q .loop-test .taken) d,
     )
 
@@ -197,7 +199,7 @@ returns-3 c =
     let a = entry (t .before) .args in
     let l = t .before .loop in
     rw (c .stop-run3 .ensures, e .at-limit .ensures)
-    (run-limits (a .case) (a .limit) (now (a .table)) (now (a .out)) (l .done) (l .table) (l .out) (l .inv .2) (room (t .before)) (l .inv .4)
+    (run-limits (a .pairs) (a .case) (a .limit) (now (a .table)) (now (a .out)) (l .done) (l .table) (l .out) (l .inv .2) (room (t .before)) (l .inv .4)
     (t .loop-test .left))
 
 pub run-checked-spec : {M : Type 1} → statement M

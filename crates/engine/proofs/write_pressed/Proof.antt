@@ -28,7 +28,7 @@ summed c e w after p =
     let s = c .before .before .before in
     let a = s .args in
     sym e ∙ c .sum-of-best .ensures
-    ∙ best-sum-known (done-handed (p .handed) (p .which) (p .least) (now (a .raised)) (p .kept) (now (a .out)) (s .pre .1) (p .pressed))
+    ∙ best-sum-known (done-handed (p .handed) (p .which) (p .least) (p .no-pair) (now (a .raised)) (p .kept) (now (a .out)) (s .pre .1) (p .pressed))
     (p .pressed .greatest-kept)
 
 enum-known-sum : tie.Need-enum-known-sum
@@ -60,7 +60,7 @@ returns-2 c w after p =
     let e = summed m (z .1) w after p in
     let d : z .0 .0 ≡ upperBound (a .case) after = cc in
     let p : PressMade (a .case) (a .variable) (now (a .raised)) (toZ w64 (ofZ w64 (a .amount))) w after (now (a .best)) = rw (toZ-ofZ (s .fits .amount)) p in
-    made-done (p .handed) (p .which) (p .least) (now (a .raised)) (p .kept) (now (a .out)) (s .pre .1) (p .pressed) (s .pre .0)
+    made-done (p .handed) (p .which) (p .least) (p .no-pair) (now (a .raised)) (p .kept) (now (a .out)) (s .pre .1) (p .pressed) (s .pre .0)
     (read-back w64 (z .0 .0) (k .known-told2 .given .0 .1) ∙ d) (q .write-lines .ensures .0) (q .write-lines .ensures .1)
 
 pub write-pressed-spec : {M : Type 1} → statement M

@@ -5,7 +5,7 @@ use native.Mathlib.Omega.{arith}
 use lib.ListN.{length, set, length-set}
 use denote.Ref.{now}
 use Rattle.integers.specs.Tests.{is-true}
-use Rattle.engine_theory.proofs.Trim.{chosen-some}
+use Rattle.press_theory.proofs.Trim.{chosen-some}
 use Rattle.engine.proofs.Choice.{lowered-one, others-refuted}
 use Rattle.engine.proofs.trim.trim.Statement.{statement}
 use Rattle.engine.proofs.trim.trim.Tie as tie

@@ -1,0 +1,2 @@
+-- What the functions answer, and what the private ones may take as known.
+pub mod PairChoice

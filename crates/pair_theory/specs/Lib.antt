@@ -1,0 +1,2 @@
+-- When a pair's round leaves the working range.
+pub mod Closed

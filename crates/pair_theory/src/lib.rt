@@ -1,0 +1,1 @@
+// Pair rounds as mathematics (document 02, change 1). No code.

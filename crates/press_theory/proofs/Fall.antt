@@ -1,0 +1,84 @@
+-- What the engine's press does to the table: the variable's own greatest weight falls by the amount, no other scope's changes, and so the
+-- upper bound falls by exactly the amount. No weight falls by more, and none passes its scope's new greatest weight. Assumes nothing.
+use mathlib.Core.Path.{_≡_, refl, sym, ap, ap₂, _∙_}
+use mathlib.Core.Bool.{Bool, true, false, not, _&&_, _||_}
+use mathlib.Core.Option.{some}
+use mathlib.Core.Logic.{⊎-elim}
+use mathlib.Core.List.{List, _∷_, List·Memᴰ·head, List·Memᴰ·tail}
+use Prim.Native.Nat.{ℕ, _<_}
+use native.Mathlib.Omega.{arith}
+use lib.IntN.{ℤ, pos, negℤ, _+ℤ_, _-ℤ_}
+use lib.Dec.{T, eqb, eqb→eq}
+use lib.Signed.{_≤ℤ_}
+use Rattle.integers.specs.Words.{if_then_else_, isIn}
+use Rattle.integers.specs.Tests.{or-cases, if-cases}
+use Rattle.integers.specs.Linear.{flat, zs, _▸_, ≤ℤ-antisym}
+use Rattle.integers.specs.Lists.{_∈_, isIn-in}
+use Rattle.integers.specs.Sums.{Σ-cong, Σ-sub, Σ-only, only}
+use Rattle.definitions.specs.declared.Case.{Case}
+use Rattle.definitions.specs.Case.{scopeCount, weight, greatest, upperBound, active}
+use Rattle.definitions.specs.Moves.{onlyWhere, activePress, moved, pressBy, activeValues}
+use Rattle.definitions.specs.Engine.{chosen, keptScopes, leastGap}
+use Rattle.theory.proofs.Shape.{Shape}
+use Rattle.theory.proofs.Places.{IsTuple, first-tuple, weight-plus, weight-most, greatest-at, greatest-there}
+use Rattle.press_theory.proofs.Trim.{chosen-some, kept-scopes}
+use Rattle.press_theory.proofs.Gaps.{amount-some, amount-room}
+
+-- a tuple of weight y in a scope of greatest weight g: `s` says that the scope is the variable's own, `r` that it is raised, `f` that the tuple is active
+press-step : (s r f : Bool) (y g a : ℤ) → (T s → T r → ⊥) → pos 1 ≤ℤ a → y ≤ℤ g → (T (s || r) → T (not f) → (y +ℤ a) ≤ℤ g)
+    → ((y -ℤ (if s then a else pos 0)) ≤ℤ (y +ℤ (onlyWhere (s && f) (negℤ a) +ℤ onlyWhere (r && not f) a)))
+    × ((y +ℤ (onlyWhere (s && f) (negℤ a) +ℤ onlyWhere (r && not f) a)) ≤ℤ (g -ℤ (if s then a else pos 0)))
+press-step true true f y g a n p h k = absurd (n tt tt)
+press-step true false true y g a n p h k = h ▸ p ▸ simp flat (omega zs)
+press-step true false false y g a n p h k = k tt tt ▸ p ▸ simp flat (omega zs)
+press-step false true true y g a n p h k = h ▸ p ▸ simp flat (omega zs)
+press-step false true false y g a n p h k = k tt tt ▸ p ▸ simp flat (omega zs)
+press-step false false f y g a n p h k = h ▸ p ▸ simp flat (omega zs)
+
+and-same : (s : Bool) {f g : Bool} → (T s → f ≡ g) → (s && f) ≡ (s && g)
+and-same true h = h tt
+and-same false h = refl
+
+-- the table after it
+abbrev pub enginePressed : Case → List ℤ → ℕ → ℤ → List ℤ
+enginePressed c w i a = moved c (activePress c w i (keptScopes c w i) a) w
+
+module _ (c : Case) (w : List ℤ) {i : ℕ} {a : ℤ} (shape : Shape c) (which : chosen c w ≡ some i) (least : leastGap c w i ≡ some a) where
+  limits : (x : ℕ) → T (eqb x i || isIn (keptScopes c w i) x) → x ∈ (i ∷ keptScopes c w i)
+  limits x t = ⊎-elim (λ s. List·Memᴰ·head (eqb→eq x i s)) (λ s. List·Memᴰ·tail (isIn-in (keptScopes c w i) x .0 s))
+      (or-cases (eqb x i) (isIn (keptScopes c w i) x) t)
+
+  own-active : {x k l : ℕ} → IsTuple c x k l → T (eqb x i) → active c w i k 0 ≡ active c w x k l
+  own-active {x} {k} {l} u t =
+      let e : x ≡ i = eqb→eq x i t in
+      ap₂ (λ (x l : ℕ). active c w x k l) (sym e) (sym (u .alone (rw e (chosen-some c w which .0))))
+
+  pub pressed-weight : {x k l : ℕ} → IsTuple c x k l
+      → ((weight c w x k l -ℤ only i a x) ≤ℤ weight c (enginePressed c w i a) x k l)
+      × (weight c (enginePressed c w i a) x k l ≤ℤ (greatest c w x -ℤ only i a x))
+  pressed-weight {x} {k} {l} u =
+      rw (weight-plus c (pressBy c w i (activeValues c w i) (isIn (keptScopes c w i)) a) w u, and-same (eqb x i) (own-active u))
+      (press-step (eqb x i) (isIn (keptScopes c w i) x) (active c w x k l) (weight c w x k l) (greatest c w x) a
+      (λ s r. kept-scopes c w i (isIn-in (keptScopes c w i) x .0 r) .1 (eqb→eq x i s))
+      (amount-some c w shape which least) (weight-most c w u) (λ s t. amount-room c w shape which least (limits x s) u t))
+
+  pub only-within : (x : ℕ) → (pos 0 ≤ℤ only i a x) × (only i a x ≤ℤ a)
+  only-within x =
+      let p = amount-some c w shape which least in
+      if-cases (λ z. (pos 0 ≤ℤ z) × (z ≤ℤ a)) (eqb x i) a (pos 0) (λ t. (omega zs, omega zs)) (λ t. (omega zs, omega zs))
+
+  pub greatest-pressed : (x : ℕ) → x < scopeCount c → greatest c (enginePressed c w i a) x ≡ greatest c w x -ℤ only i a x
+  greatest-pressed x h =
+      let (k, l, u, e) = greatest-at c w (first-tuple c (shape .some-value) x h) in
+      let (p, q) = pressed-weight u in
+      let d : weight c (enginePressed c w i a) x k l ≡ greatest c w x -ℤ only i a x = ≤ℤ-antisym q (rw e at p) in
+      greatest-there c (enginePressed c w i a) u (λ k l v. rw d (pressed-weight v .1)) ∙ d
+
+  pub no-rise : (x : ℕ) → x < scopeCount c → greatest c (enginePressed c w i a) x ≤ℤ greatest c w x
+  no-rise x h = greatest-pressed x h ▸ only-within x ▸ simp flat (omega zs)
+
+  pub fall : upperBound c (enginePressed c w i a) ≡ upperBound c w -ℤ a
+  fall =
+      Σ-cong (greatest c (enginePressed c w i a)) (λ x. greatest c w x -ℤ only i a x) 0 (scopeCount c) (λ x l u. greatest-pressed x (omega arith))
+      ∙ Σ-sub (greatest c w) (only i a) 0 (scopeCount c)
+      ∙ ap (λ (z : ℤ). upperBound c w -ℤ z) (Σ-only i a 0 (scopeCount c) (omega arith) (omega (arith, chosen-some c w which .0)))

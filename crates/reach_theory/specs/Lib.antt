@@ -1,0 +1,2 @@
+-- What laws of other crates name.
+pub mod Most

@@ -1,0 +1,1 @@
+// Tables that the engine's rounds reach, as mathematics. No code.
