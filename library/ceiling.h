@@ -1,6 +1,6 @@
 /* The ceiling library: a checker and an engine for channel plans. docs/LIBRARY.md has the layouts and the numbers.
  *
- * Every answer has a number: 0, or why the call was refused, 1 to 14. Every function returns on all contents; of its pointers it asks that
+ * Every answer has a number: 0, or why the call was refused, 1 to 16. Every function returns on all contents; of its pointers it asks that
  * each is aligned for its type and points to as many elements as its length or its array says, and that nothing a call writes overlaps
  * another argument. Where a length is 0 the pointer may be null or anything (see the end).
  *
@@ -21,13 +21,16 @@ extern "C" {
 #endif
 
 /* The version that this header is of: major * 10000 + minor * 100 + patch. */
-#define CEILING_VERSION 10100
+#define CEILING_VERSION 10200
 
 /* The most links, channels and pairs of a case, and the bytes of a line. */
 #define CEILING_LINKS 48
 #define CEILING_CHANNELS 8
 #define CEILING_PAIRS 96
 #define CEILING_LINE 27
+
+/* What a table holds where a channel, or a pair of channels, is barred. A plan that uses such a place is unlawful: it has no total. */
+#define CEILING_BARRED (-2000000000)
 
 /* A case and the replay's record as bytes. */
 #define CEILING_CASE (24 + 2 * CEILING_PAIRS)
@@ -43,7 +46,7 @@ extern "C" {
 struct ceiling_size_answer { uint64_t number; size_t n, d, m, table; };
 struct ceiling_lines_answer { uint64_t number; size_t lines; };
 struct ceiling_total_answer { uint64_t number; int64_t total; };
-struct ceiling_rounds_answer { uint64_t number, rounds; };
+struct ceiling_rounds_answer { uint64_t number, rounds, is_void; };
 struct ceiling_span_answer { uint64_t number; size_t from, to, line; };
 struct ceiling_choice_answer { uint64_t number, choice; };
 struct ceiling_round_answer { uint64_t number; size_t bytes; int64_t bound; };
@@ -62,14 +65,15 @@ struct ceiling_size_answer ceiling_case_size(const uint8_t *text, size_t text_le
 struct ceiling_lines_answer ceiling_read_case(const uint8_t *text, size_t text_length, uint8_t case_bytes[CEILING_CASE],
                                               int64_t *table, size_t table_length);
 
-/* The ceiling: the sum over scopes of the greatest weight. */
+/* The ceiling: the sum over scopes of the greatest weight. No lawful plan's total is above it. */
 struct ceiling_total_answer ceiling_upper_bound(const uint8_t case_bytes[CEILING_CASE], const int64_t *table, size_t table_length);
 
-/* A plan's total; a plan is one channel, a byte, for each link. */
+/* A plan's total; a plan is one channel, a byte, for each link. An unlawful one is number 5. */
 struct ceiling_total_answer ceiling_objective(const uint8_t case_bytes[CEILING_CASE], const int64_t *table, size_t table_length,
                                               const uint8_t *plan, size_t plan_length);
 
-/* Which plan has the greater total on starting weights: 0 the first, 1 the second, the first on a tie. */
+/* Which plan has the greater total on starting weights: 0 the first, 1 the second, the first on a tie. Unlawful plans are level, below the
+ * lawful. */
 struct ceiling_choice_answer ceiling_better_of(const uint8_t case_bytes[CEILING_CASE], const int64_t *table, size_t table_length,
                                                const uint8_t *first, size_t first_length, const uint8_t *second, size_t second_length);
 
@@ -83,7 +87,9 @@ uint64_t ceiling_replay_start(const uint8_t case_bytes[CEILING_CASE], const int6
 struct ceiling_lines_answer ceiling_replay_lines(const uint8_t case_bytes[CEILING_CASE], int64_t *table, size_t table_length,
                                                  uint8_t record[CEILING_RECORD], const uint8_t *lines, size_t lines_length);
 
-/* The end of the log, after whose last whole line `part` bytes are left: its rounds, or the number that stands, or 14 inside a round or a line. */
+/* The end of the log, after whose last whole line `part` bytes are left: its rounds, or the number that stands, or 14 inside a round or a line.
+ * With number 0 and `is_void` 1 the log is void: it ends with a void line, which shows that no lawful plan exists, and has no rounds to tell. Else
+ * `is_void` is 0: the log is accepted. */
 struct ceiling_rounds_answer ceiling_replay_end(const uint8_t case_bytes[CEILING_CASE], const uint8_t record[CEILING_RECORD],
                                                 size_t part);
 
@@ -91,6 +97,8 @@ struct ceiling_rounds_answer ceiling_replay_end(const uint8_t case_bytes[CEILING
 struct ceiling_span_answer ceiling_round_span(const uint8_t *log, size_t log_length, uint64_t round);
 
 /* ---- the engine
+ *
+ * It takes no barred channels yet: a table with one is number 8.
  *
  * A pair gains if the greatest weights of the pair and its two links add up to more than these three weights do for any two channels. Its round
  * shifts the links' weights into the pair, which keeps every plan's total. A pair whose round would leave the working range is passed over. */

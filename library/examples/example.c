@@ -70,6 +70,10 @@ int main(int count, char **arguments) {
     }
     struct ceiling_rounds_answer end = ceiling_replay_end(case_bytes, record, logged % CEILING_LINE);
     if (end.number) return refused(end.number, read.lines + logged / CEILING_LINE);
+    if (end.is_void) {
+        puts("void");
+        return 0;
+    }
     struct ceiling_total_answer ceiling = ceiling_upper_bound(case_bytes, table, size.table);
     if (ceiling.number || end.rounds != run.rounds || ceiling.total != run.bound) return 2;
     printf("accepted %llu %lld\n", (unsigned long long)end.rounds, (long long)ceiling.total);

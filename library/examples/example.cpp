@@ -66,8 +66,8 @@ ceiling_run_answer run(const Case &c, Table &table) {
     return made;
 }
 
-// The replay of the log in blocks, on the starting weights: its rounds.
-std::uint64_t replay(const Case &c, Table &table, const Bytes &log) {
+// The replay of the log in blocks, on the starting weights: its rounds, or that it is void.
+ceiling_rounds_answer replay(const Case &c, Table &table, const Bytes &log) {
     std::array<std::uint8_t, CEILING_RECORD> record{};
     ask(ceiling_replay_start(c.bytes.data(), table.data(), table.size(), record.data()), c.lines);
     for (std::size_t at = 0; at < log.size(); at += block) {
@@ -77,7 +77,7 @@ std::uint64_t replay(const Case &c, Table &table, const Bytes &log) {
     }
     const auto end = ceiling_replay_end(c.bytes.data(), record.data(), log.size() % CEILING_LINE);
     ask(end.number, c.lines + log.size() / CEILING_LINE);
-    return end.rounds;
+    return end;
 }
 
 // A plan's total.
@@ -113,12 +113,16 @@ void example(const Bytes &text) {
     Table table = c.start, again = c.start, replayed = c.start;
     const Bytes log = press(c, table);
     const auto made = run(c, again);
-    const auto rounds = replay(c, replayed, log);
+    const auto end = replay(c, replayed, log);
+    if (end.is_void) {
+        std::cout << "void\n";
+        return;
+    }
     const auto ceiling = ceiling_upper_bound(c.bytes.data(), replayed.data(), replayed.size());
     ask(ceiling.number, 0);
-    if (again != table || replayed != table || rounds != made.rounds || ceiling.total != made.bound) throw std::logic_error("not the same");
-    std::cout << "accepted " << rounds << ' ' << ceiling.total << '\n';
-    if (rounds) {
+    if (again != table || replayed != table || end.rounds != made.rounds || ceiling.total != made.bound) throw std::logic_error("not the same");
+    std::cout << "accepted " << end.rounds << ' ' << ceiling.total << '\n';
+    if (end.rounds) {
         const auto view = ceiling_round_span(log.data(), log.size(), 0);
         ask(view.number, view.line);
         std::cout.write(reinterpret_cast<const char *>(log.data()) + view.from, static_cast<std::streamsize>(view.to - view.from));

@@ -1,5 +1,5 @@
 /* Calls every function of ceiling.h on accepted and on refused input and compares answers and everything lent with what document 01 says, and
- * document 02 of pair rounds. Each call is a test: a line for each that failed, the count as the last line. */
+ * document 02 of pair rounds and barred channels. Each call is a test: a line for each that failed, the count as the last line. */
 #include <stdio.h>
 #include <string.h>
 
@@ -7,6 +7,7 @@
 
 enum { PLACES = 40, OUT = 320, TEXT = 64 * CEILING_LINE };
 static const int64_t STARTING = 1000000, WORKING = 500000000;
+#define BAR CEILING_BARRED
 
 static unsigned passed, failed;
 
@@ -49,6 +50,10 @@ static const struct sample P10 = {2, 2, 1, {0}, {1}, {3, 4, 6, 2, -2, -4, 1, 1},
 static const struct sample P11 = {1, 1, 0, {0}, {0}, {-7}, 1, -7};
 /* A pair round, and then a press. */
 static const struct sample TWO = {3, 2, 2, {0, 1}, {1, 2}, {0, 0, 1, 0, -1, 0, -2, 0, -2, -1, 0, 0, 0, -1}, 14, 1};
+/* Barred channels. SINGLE: one lawful plan, 0 1. NO_PLAN: none. A_PLAN: one, 0 1 again, but no press that a void line would need. */
+static const struct sample SINGLE = {2, 2, 1, {0}, {1}, {2, BAR, 1, 0, BAR, 0, 0, 3}, 8, 6};
+static const struct sample NO_PLAN = {2, 2, 1, {0}, {1}, {0, BAR, 0, BAR, BAR, 0, 0, 0}, 8, 0};
+static const struct sample A_PLAN = {2, 2, 1, {0}, {1}, {0, BAR, 0, -5, BAR, 0, 0, 0}, 8, 0};
 /* Not starting weights, and the pairs (0,1) gain but are passed over. LOW: the first press by 1 takes link 0 to the end of the range, the second
  * is number 11. COMES: after a press the pair's round stays in range. BACK: end 0 would leave the range, and end 1 come back. HIGHER: the pair
  * (1,2) gains too. */
@@ -71,15 +76,20 @@ static void case_of(const struct sample *s, uint8_t bytes[CEILING_CASE]) {
     memcpy(bytes + 120, s->higher, sizeof s->higher);
 }
 
+/* A weight's line, of kind 11 or 13; barred it is 14 or 15. */
+static size_t put_weight(uint8_t *text, size_t at, int kind, int a, int b, int c, int64_t weight) {
+    return weight == BAR ? put_line(text, at, kind == 11 ? 14 : 15, a, b, c, 0) : put_line(text, at, kind, a, b, c, weight);
+}
+
 static size_t put_case(const struct sample *s, uint8_t *text) {
     size_t at = put_line(text, 0, 10, (int)s->n, (int)s->d, (int)s->m, 0), place = 0;
     int d = (int)s->d;
     for (int i = 0; i < (int)s->n; i++)
-        for (int k = 0; k < d; k++) at = put_line(text, at, 11, i, k, 0, s->table[place++]);
+        for (int k = 0; k < d; k++) at = put_weight(text, at, 11, i, k, 0, s->table[place++]);
     for (int e = 0; e < (int)s->m; e++) {
         at = put_line(text, at, 12, e, s->lower[e], s->higher[e], 0);
         for (int k = 0; k < d; k++)
-            for (int l = 0; l < d; l++) at = put_line(text, at, 13, e, k, l, s->table[place++]);
+            for (int l = 0; l < d; l++) at = put_weight(text, at, 13, e, k, l, s->table[place++]);
     }
     return at;
 }
@@ -156,16 +166,21 @@ static void sizes(void) {
     }
 }
 
-/* One reading: the answer, the case's bytes, and so many weights read before places that keep what they held. */
-static void reading(const char *name, const uint8_t *text, size_t length, size_t lent, uint64_t number, size_t line, size_t weights) {
+/* One reading of a sample's file, changed: the answer, the case's bytes, and so many weights read before places that keep what they held. */
+static void reading_of(const struct sample *s, const char *name, const uint8_t *text, size_t length, size_t lent, uint64_t number, size_t line,
+                       size_t weights) {
     uint8_t bytes[CEILING_CASE], wanted[CEILING_CASE];
     int64_t table[PLACES], after[PLACES];
     memset(bytes, 0xa5, sizeof bytes), memset(wanted, 0xa5, sizeof wanted);
-    if (!number) case_of(&P1, wanted);
-    for (size_t i = 0; i < PLACES; i++) table[i] = 77, after[i] = i < weights ? P1.table[i] : 77;
+    if (!number) case_of(s, wanted);
+    for (size_t i = 0; i < PLACES; i++) table[i] = 77, after[i] = i < weights ? s->table[i] : 77;
     struct ceiling_lines_answer a = ceiling_read_case(text, length, bytes, table, lent);
     int same = !memcmp(bytes, wanted, sizeof bytes) && !memcmp(table, after, sizeof table);
     test("ceiling_read_case", name, a.number == number && a.lines == line && same);
+}
+
+static void reading(const char *name, const uint8_t *text, size_t length, size_t lent, uint64_t number, size_t line, size_t weights) {
+    reading_of(&P1, name, text, length, lent, number, line, weights);
 }
 
 /* A line of P1's case file changed, and the number at it. */
@@ -183,6 +198,14 @@ static const struct {
     {"link weight of another kind", 2, 6, "12   0   0   1           0\n"},
     {"another link", 5, 1, "11   1   0   0           0\n"},
     {"link weight above", 8, 6, "11   2   1   0     1000001\n"},
+    {"barred by a weight", 8, 3, "11   1   0   0 -2000000000\n"},
+    {"barred, an amount", 2, 3, "14   1   0   0           1\n"},
+    {"barred, c", 2, 3, "14   1   0   1           0\n"},
+    {"barred, another link", 5, 3, "14   0   0   0           0\n"},
+    {"barred as in a pair", 2, 3, "15   1   0   0           0\n"},
+    {"barred pair, an amount", 2, 9, "15   0   0   1          -1\n"},
+    {"barred pair, another value", 5, 9, "15   0   1   0           0\n"},
+    {"barred as a link", 2, 9, "14   0   0   0           0\n"},
     {"pair's unused column", 2, 7, "12   0   0   1           1\n"},
     {"an end that is no link", 5, 7, "12   0   0   3           0\n"},
     {"equal ends", 6, 12, "12   1   2   2           0\n"},
@@ -219,10 +242,31 @@ static void readings(void) {
     reading("no line behind the case", text, length + CEILING_LINE, P1.length, 1, 22, 18);
 }
 
+/* Cases with barred channels; a scope with nothing else is number 15 at its last line. */
+static void barred_readings(void) {
+    static const struct {
+        const char *name;
+        struct sample sample;
+        uint64_t number;
+        size_t line, weights;
+    } rows[] = {
+        {"barred channels", {2, 2, 1, {0}, {1}, {2, BAR, 1, 0, BAR, 0, 0, 3}, 8, 0}, 0, 10, 8},
+        {"a link wholly barred", {2, 2, 1, {0}, {1}, {0, 0, BAR, BAR, 0, 0, 0, 0}, 8, 0}, 15, 4, 3},
+        {"a pair wholly barred", {2, 2, 1, {0}, {1}, {0, 0, 0, 0, BAR, BAR, BAR, BAR}, 8, 0}, 15, 9, 7},
+        {"the first of both", {2, 2, 1, {0}, {1}, {BAR, BAR, 0, 0, BAR, BAR, BAR, BAR}, 8, 0}, 15, 2, 1},
+        {"one channel, barred", {1, 1, 0, {0}, {0}, {BAR}, 1, 0}, 15, 1, 0},
+    };
+    uint8_t text[TEXT];
+    for (size_t i = 0; i < sizeof rows / sizeof *rows; i++) {
+        const struct sample *s = &rows[i].sample;
+        reading_of(s, rows[i].name, text, put_case(s, text), s->length, rows[i].number, rows[i].line, rows[i].weights);
+    }
+}
+
 /* ---- ceiling, totals, scoring: they change nothing */
 
 static void ceilings(void) {
-    static const struct sample *const rows[] = {&P1, &P4, &P10, &P11, &TWO, &LOW, &COMES, &BACK, &HIGHER};
+    static const struct sample *const rows[] = {&P1, &P4, &P10, &P11, &TWO, &SINGLE, &NO_PLAN, &A_PLAN, &LOW, &COMES, &BACK, &HIGHER};
     uint8_t bytes[CEILING_CASE];
     for (size_t i = 0; i < sizeof rows / sizeof *rows; i++) {
         case_of(rows[i], bytes);
@@ -296,6 +340,60 @@ static void choices(void) {
     }
 }
 
+/* Unlawful plans have no total, and rank level, below the lawful. */
+static void unlawful(void) {
+    static const struct {
+        uint8_t plan[2];
+        uint64_t number;
+        int64_t total;
+    } rows[] = {{{0, 1}, 0, 2}, {{0, 0}, 5, 0}, {{1, 0}, 5, 0}, {{1, 1}, 5, 0}};
+    uint8_t bytes[CEILING_CASE];
+    case_of(&SINGLE, bytes);
+    for (size_t i = 0; i < 4; i++) {
+        struct ceiling_total_answer a = ceiling_objective(bytes, SINGLE.table, 8, rows[i].plan, 2);
+        test("ceiling_objective", "barred channels", a.number == rows[i].number && a.total == rows[i].total);
+        for (size_t k = 0; k < 4; k++) {
+            struct ceiling_choice_answer c = ceiling_better_of(bytes, SINGLE.table, 8, rows[i].plan, 2, rows[k].plan, 2);
+            test("ceiling_better_of", "barred channels", c.number == 0 && c.choice == (i > 0 && k == 0));
+        }
+    }
+}
+
+/* Tables that every call of the checker refuses; of a total, 5 of an unlawful plan comes before 8 and 15. */
+static void barred_tables(void) {
+    static const struct {
+        const char *name;
+        int64_t table[8];
+        uint64_t number, total;
+    } rows[] = {
+        {"a link wholly barred", {0, 0, BAR, BAR, 0, 0, 0, 0}, 15, 5},
+        {"a pair wholly barred", {0, 0, 0, 0, BAR, BAR, BAR, BAR}, 15, 5},
+        {"8 before 15", {500000001, 0, 0, 0, BAR, BAR, BAR, BAR}, 8, 5},
+        {"5 before 8", {0, 500000001, 0, 0, BAR, 0, 0, 0}, 8, 5},
+        {"8, a lawful plan", {0, 500000001, 0, 0, 0, BAR, 0, 0}, 8, 8},
+        {"below barred", {0, 0, 0, BAR - 1, 0, 0, 0, 0}, 8, 8},
+        {"above barred", {0, 0, 0, BAR + 1, 0, 0, 0, 0}, 8, 8},
+    };
+    uint8_t bytes[CEILING_CASE], record[CEILING_RECORD], line[CEILING_LINE], plan[2] = {0, 0};
+    case_of(&P4, bytes);
+    put_line(line, 0, 1, 0, 0, 0, 1);
+    for (size_t i = 0; i < sizeof rows / sizeof *rows; i++) {
+        int64_t table[8];
+        memcpy(table, rows[i].table, sizeof table);
+        test("ceiling_upper_bound", rows[i].name, ceiling_upper_bound(bytes, table, 8).number == rows[i].number);
+        test("ceiling_objective", rows[i].name, ceiling_objective(bytes, table, 8, plan, 2).number == rows[i].total);
+        test("ceiling_better_of", rows[i].name, ceiling_better_of(bytes, table, 8, plan, 2, plan, 2).number == rows[i].number);
+        uint64_t number = ceiling_replay_start(bytes, table, 8, record);
+        test("ceiling_replay_start", rows[i].name, number == rows[i].number && record[51] == number);
+        test("ceiling_replay_end", rows[i].name, ceiling_replay_end(bytes, record, 0).number == number);
+        for (size_t length = 0; length <= CEILING_LINE; length += CEILING_LINE) {
+            memset(record, 0, sizeof record);
+            struct ceiling_lines_answer a = ceiling_replay_lines(bytes, table, 8, record, line, length);
+            test("ceiling_replay_lines", rows[i].name, a.number == rows[i].number && record[51] == a.number && !memcmp(table, rows[i].table, sizeof table));
+        }
+    }
+}
+
 /* ---- the replay */
 
 /* What the record must say; the marks of raised scopes are compared as 0 and not 0. */
@@ -303,14 +401,14 @@ struct record {
     uint64_t rounds;
     int64_t ceiling;
     uint64_t link, amount, left, last;
-    uint8_t moved, inside, raised, standing, marks[3];
+    uint8_t moved, due, raised, standing, marks[3];
 };
 
 static int says(const uint8_t record[CEILING_RECORD], const struct record *r) {
     uint8_t wanted[CEILING_RECORD] = {0}, marked[CEILING_RECORD];
     const uint64_t numbers[6] = {r->rounds, (uint64_t)r->ceiling, r->link, r->amount, r->left, r->last};
     for (int i = 0; i < 6; i++) put_number(wanted + 8 * i, numbers[i]);
-    wanted[48] = r->moved, wanted[49] = r->inside, wanted[50] = r->raised, wanted[51] = r->standing;
+    wanted[48] = r->moved, wanted[49] = r->due, wanted[50] = r->raised, wanted[51] = r->standing;
     memcpy(wanted + 52, r->marks, sizeof r->marks);
     memcpy(marked, record, CEILING_RECORD);
     for (int i = 52; i < CEILING_RECORD; i++) marked[i] = marked[i] != 0;
@@ -339,7 +437,7 @@ static void starts(void) {
     }
 }
 
-/* Lines handed to P4's replay one block after another: the answer to the last block, the record and the table after it. */
+/* Lines handed to a sample's replay one block after another: the answer to the last block, the record and the table after it. */
 struct step {
     const char *name;
     int lines[5][5];
@@ -348,7 +446,7 @@ struct step {
     size_t passed;
     struct record after;
     int64_t table[8];
-    uint64_t end; /* the number at the end */
+    uint64_t end; /* the number at the end; with none and nothing due any more the log is void */
 };
 
 #define START {2, 0, 2, 0, -3, 0, 0, 0}
@@ -383,14 +481,47 @@ static const struct step STEPS[] = {
     {"the first refusal stands", {{4, 0, 0, 0, 5}, PRESS, FIRST, LAST, BOUND}, 5, 12, 0, {0, 4, 0, 0, 0, 0, 0, 0, 0, 12, {0}}, START, 12},
 };
 
+/* Void lines: on a case without a lawful plan, and on one with. Byte 49 is 2 inside a void line and 3 after it. */
+#define AS_NO_PLAN {0, BAR, 0, BAR, BAR, 0, 0, 0}
+#define AS_A_PLAN {0, BAR, 0, -5, BAR, 0, 0, 0}
+#define VOID {5, 0, 2, 0, 0}
+#define IS_VOID {0, 0, 0, 0, 0, 0, 0, 3, 0, 0, {0}}
+
+static const struct step NO_PLAN_STEPS[] = {
+    {"a void line", {VOID}, 1, 0, 1, {0, 0, 0, 0, 2, 0, 0, 2, 0, 0, {0}}, AS_NO_PLAN, 14},
+    {"a raise of a void line", {VOID, FIRST}, 2, 0, 2, {0, 0, 0, 0, 1, 1, 0, 2, 1, 0, {0, 1}}, AS_NO_PLAN, 14},
+    {"a whole void line", {VOID, FIRST, LAST}, 3, 0, 3, IS_VOID, AS_NO_PLAN, 0},
+    {"a void line after shifts", {{1, 0, 0, 0, 5}, {1, 0, 0, 1, 5}, VOID, FIRST, LAST}, 5, 0, 5, {0, 0, 0, 0, 0, 0, 1, 3, 0, 0, {0}},
+     {5, BAR, 0, BAR, BAR, -5, -5, -5}, 0},
+    {"a bound after a void line", {VOID, FIRST, LAST, {4, 0, 0, 0, 0}}, 4, 2, 3, {0, 0, 0, 0, 0, 0, 0, 3, 0, 2, {0}}, AS_NO_PLAN, 2},
+    {"a raise after a void line", {VOID, FIRST, LAST, LAST}, 4, 2, 3, {0, 0, 0, 0, 0, 0, 0, 3, 0, 2, {0}}, AS_NO_PLAN, 2},
+    {"a bound in a void line", {VOID, {4, 0, 0, 0, 0}}, 2, 2, 1, {0, 0, 0, 0, 2, 0, 0, 2, 0, 2, {0}}, AS_NO_PLAN, 2},
+    {"a void line with an amount", {{5, 0, 2, 0, 1}}, 1, 2, 0, {0, 0, 0, 0, 0, 0, 0, 0, 0, 2, {0}}, AS_NO_PLAN, 2},
+    {"a void line of no raise lines", {{5, 0, 0, 0, 0}}, 1, 5, 0, {0, 0, 0, 0, 0, 0, 0, 0, 0, 5, {0}}, AS_NO_PLAN, 5},
+    {"a void line of every scope", {{5, 0, 3, 0, 0}}, 1, 5, 0, {0, 0, 0, 0, 0, 0, 0, 0, 0, 5, {0}}, AS_NO_PLAN, 5},
+    {"its own scope", {VOID, {3, 0, 0, 0, 0}}, 2, 9, 1, {0, 0, 0, 0, 2, 0, 0, 2, 0, 9, {0}}, AS_NO_PLAN, 9},
+    {"void, not refuted", {{5, 0, 1, 0, 0}, FIRST}, 2, 10, 1, {0, 0, 0, 0, 1, 0, 0, 2, 0, 10, {0}}, AS_NO_PLAN, 10},
+    {"a press without a gap", {{2, 0, 2, 0, 7}, FIRST, LAST, {4, 0, 0, 0, -7}}, 4, 0, 4, {1, -7, 0, 0, 0, 0, 0, 0, 0, 0, {0}},
+     {-7, BAR, 0, BAR, BAR, 0, 0, 0}, 0},
+};
+
+static const struct step A_PLAN_STEPS[] = {
+    {"not all barred", {VOID, FIRST, LAST}, 3, 16, 2, {0, 0, 0, 0, 1, 1, 0, 2, 1, 16, {0, 1}}, AS_A_PLAN, 16},
+    {"10 before 16", {{5, 0, 1, 0, 0}, FIRST}, 2, 10, 1, {0, 0, 0, 0, 1, 0, 0, 2, 0, 10, {0}}, AS_A_PLAN, 10},
+    {"a press beside barred places", {{2, 0, 2, 0, 5}, FIRST, LAST, {4, 0, 0, 0, -5}}, 4, 0, 4, {1, -5, 0, 0, 0, 0, 0, 0, 0, 0, {0}},
+     {-5, BAR, 0, 0, BAR, 0, 0, 0}, 0},
+    {"a shift of a barred channel", {{1, 0, 0, 1, 4}}, 1, 0, 1, {0, 0, 0, 0, 0, 0, 1, 0, 0, 0, {0}}, {0, BAR, 0, -5, BAR, 0, -4, -4}, 14},
+    {"a shift beside a barred pair", {{1, 0, 0, 0, 4}}, 1, 0, 1, {0, 0, 0, 0, 0, 0, 1, 0, 0, 0, {0}}, {4, BAR, 0, -5, BAR, -4, 0, 0}, 14},
+};
+
 /* A row in one block and line by line. */
-static void step(const struct step *row, int by_line) {
+static void step(const struct sample *s, const struct step *row, int by_line) {
     uint8_t bytes[CEILING_CASE], record[CEILING_RECORD], text[TEXT];
     int64_t table[8];
     struct ceiling_lines_answer a = {0, 0};
     size_t taken = 0, length = 0;
-    case_of(&P4, bytes);
-    memcpy(table, P4.table, sizeof table);
+    case_of(s, bytes);
+    memcpy(table, s->table, sizeof table);
     if (ceiling_replay_start(bytes, table, 8, record)) return test("ceiling_replay_start", row->name, 0);
     for (size_t i = 0; i < row->count; i++)
         length = put_line(text, length, row->lines[i][0], row->lines[i][1], row->lines[i][2], row->lines[i][3], row->lines[i][4]);
@@ -403,15 +534,20 @@ static void step(const struct step *row, int by_line) {
     int same = says(record, &row->after) && !memcmp(table, row->table, sizeof table);
     test("ceiling_replay_lines", row->name, a.number == row->number && taken == row->passed && same);
     struct ceiling_rounds_answer e = ceiling_replay_end(bytes, record, 0), part = ceiling_replay_end(bytes, record, 1);
-    test("ceiling_replay_end", row->name, e.number == row->end && e.rounds == (row->end ? 0 : row->after.rounds));
-    test("ceiling_replay_end", "a part line left", part.number == (row->end ? row->end : 14) && part.rounds == 0);
+    uint64_t is_void = !row->end && row->after.due == 3, rounds = row->end || is_void ? 0 : row->after.rounds;
+    test("ceiling_replay_end", row->name, e.number == row->end && e.rounds == rounds && e.is_void == is_void);
+    test("ceiling_replay_end", "a part line left", part.number == (row->end ? row->end : 14) && part.rounds == 0 && part.is_void == 0);
 }
 
-/* A block without a whole line: the number that stands, else 3 to 8, else 0. */
+static void steps(const struct sample *s, const struct step *rows, size_t count) {
+    for (size_t i = 0; i < count; i++) step(s, &rows[i], 0), step(s, &rows[i], 1);
+}
+
+/* A block without a whole line: the number that stands, else 3 to 8 and 15, else 0. */
 static void no_whole_line(void) {
     uint8_t bytes[CEILING_CASE], record[CEILING_RECORD], text[CEILING_LINE] = {0};
     for (size_t length = 0; length < CEILING_LINE; length += CEILING_LINE - 1) {
-        for (int standing = 0; standing < 15; standing++) {
+        for (int standing = 0; standing < 17; standing++) {
             struct record wanted = FRESH;
             int64_t table[8];
             wanted.standing = (uint8_t)standing;
@@ -434,7 +570,7 @@ static void no_whole_line(void) {
     }
 }
 
-/* A good record on a case or a table with a fault: lines that are in columns and due ask 3 to 8. */
+/* A good record on a case or a table with a fault: lines that are in columns and due ask 3 to 8 and 15. */
 static void handed_over(void) {
     uint8_t bytes[CEILING_CASE], record[CEILING_RECORD], line[CEILING_LINE];
     const struct record fresh = {0, 0, 0, 0, 0, 0, 0, 0, 0, 0, {0}};
@@ -470,18 +606,22 @@ static void records(void) {
         int kept; /* the record's bytes stay: they say no record */
     } rows[] = {
         {"moved is 2", 48, 2, 5, 1},
-        {"inside is 2", 49, 2, 5, 1},
+        {"due is 4", 49, 4, 5, 1},
+        {"a press with no lines left", 49, 1, 5, 0},
+        {"a void line with no lines left", 49, 2, 5, 0},
         {"raised is 2", 50, 2, 5, 1},
-        {"15 stands", 51, 15, 5, 1},
-        {"14 stands", 51, 14, 14, 1},
+        {"17 stands", 51, 17, 5, 1},
+        {"16 stands", 51, 16, 16, 1},
+        {"15 stands", 51, 15, 15, 1},
         {"1 stands", 51, 1, 1, 1},
         {"too many rounds", 0, 1000000000000000000, 5, 0},
     };
     uint8_t bytes[CEILING_CASE], record[CEILING_RECORD], before[CEILING_RECORD], line[CEILING_LINE];
     int64_t table[8];
     case_of(&P4, bytes);
-    put_line(line, 0, 1, 0, 0, 0, 1);
     for (size_t i = 0; i < sizeof rows / sizeof *rows; i++) {
+        int raise = rows[i].byte == 49;
+        put_line(line, 0, raise ? 3 : 1, 0, 0, 0, !raise);
         memcpy(table, P4.table, sizeof table);
         ceiling_replay_start(bytes, table, 8, record);
         if (rows[i].byte < 48) put_number(record + rows[i].byte, rows[i].value);
@@ -755,6 +895,10 @@ static void engine_faults(void) {
         same = !memcmp(table, start, sizeof start) && !memcmp(out, before, sizeof out);
         test("ceiling_run_pairs", FAULTS[i].name, !memcmp(&a, &wanted, sizeof a) && same);
     }
+    lend(&SINGLE, bytes, table, out);
+    test("ceiling_round", "barred channels", ceiling_round(bytes, table, SINGLE.length, out, OUT).number == 8);
+    test("ceiling_run", "barred channels", ceiling_run(bytes, table, SINGLE.length, out, OUT, 9).number == 8);
+    test("ceiling_run_pairs", "barred channels", ceiling_run_pairs(bytes, table, SINGLE.length, out, OUT, 9).number == 8);
 }
 
 /* ---- the version, and null pointers with length 0 */
@@ -792,10 +936,12 @@ static void nulls(void) {
 
 int main(void) {
     versions(), nulls();
-    sizes(), readings();
-    ceilings(), totals(), choices();
+    sizes(), readings(), barred_readings();
+    ceilings(), totals(), choices(), unlawful(), barred_tables();
     starts();
-    for (size_t i = 0; i < sizeof STEPS / sizeof *STEPS; i++) step(&STEPS[i], 0), step(&STEPS[i], 1);
+    steps(&P4, STEPS, sizeof STEPS / sizeof *STEPS);
+    steps(&NO_PLAN, NO_PLAN_STEPS, sizeof NO_PLAN_STEPS / sizeof *NO_PLAN_STEPS);
+    steps(&A_PLAN, A_PLAN_STEPS, sizeof A_PLAN_STEPS / sizeof *A_PLAN_STEPS);
     no_whole_line(), handed_over(), records(), last_round();
     spans();
     runs(), pair_runs(), rounds(), rooms(), engine_faults();

@@ -1,7 +1,7 @@
 //! Figures of speed: the engine's rounds on the largest cases, and the bytes a
 //! second of replay, case reading and case writing.
 
-use crate::generate::{self, Plan, Shape, Weights};
+use crate::generate::{self, Bars, Plan, Shape, Weights};
 use crate::options::Options;
 use crate::programs::Engine;
 use crate::random::Random;
@@ -25,30 +25,38 @@ pub fn bench(options: &mut Options) -> Result<ExitCode, String> {
     options.finish()?;
     println!("largest cases: {MAX_VARIABLES} links, {MAX_VALUES} values, {MAX_EDGES} pairs");
     let kinds = [
-        ("uniform, whole range", Shape::Random, Weights::Uniform, 0),
-        ("uniform, mesh", Shape::Mesh, Weights::Uniform, 0),
-        ("small, -9 to 9", Shape::Random, Weights::Small(9), 0),
-        ("small, -1 to 1", Shape::Random, Weights::Small(1), 0),
-        ("links 0, whole range", Shape::Random, Weights::Flat(START_LIMIT), 0),
-        ("links 0, -9 to 9", Shape::Mesh, Weights::Flat(9), 0),
-        ("extreme", Shape::Random, Weights::Extreme, 0),
-        ("interference, mesh", Shape::Mesh, Weights::Interference, 0),
+        ("uniform, whole range", Shape::Random, Weights::Uniform, 0, Bars::None),
+        ("uniform, mesh", Shape::Mesh, Weights::Uniform, 0, Bars::None),
+        ("small, -9 to 9", Shape::Random, Weights::Small(9), 0, Bars::None),
+        ("small, -1 to 1", Shape::Random, Weights::Small(1), 0, Bars::None),
+        ("links 0, whole range", Shape::Random, Weights::Flat(START_LIMIT), 0, Bars::None),
+        ("links 0, -9 to 9", Shape::Mesh, Weights::Flat(9), 0, Bars::None),
+        ("extreme", Shape::Random, Weights::Extreme, 0, Bars::None),
+        ("interference, mesh", Shape::Mesh, Weights::Interference, 0, Bars::None),
         (
             "interference, unusable",
             Shape::Mesh,
             Weights::Interference,
             25,
+            Bars::None,
         ),
+        ("uniform, 20% barred", Shape::Mesh, Weights::Uniform, 0, Bars::Share(20)),
+        ("equal values barred", Shape::Mesh, Weights::Uniform, 0, Bars::Near(0)),
     ];
-    for (name, shape, weights, unusable) in kinds {
-        rounds(name, shape, weights, unusable, seconds);
+    for (name, shape, weights, unusable, bars) in kinds {
+        let kind = (shape, weights, unusable, bars);
+        rounds(name, kind, seconds);
     }
     replays(seconds);
     files(seconds);
     Ok(ExitCode::SUCCESS)
 }
 
-fn largest(random: &mut Random, shape: Shape, weights: Weights, unusable: u64) -> Case {
+type Kind = (Shape, Weights, u64, Bars);
+
+const UNIFORM: Kind = (Shape::Random, Weights::Uniform, 0, Bars::None);
+
+fn largest(random: &mut Random, (shape, weights, unusable, bars): Kind) -> Case {
     let (variables, values, edges) = (MAX_VARIABLES, MAX_VALUES, MAX_EDGES);
     generate::case(
         random,
@@ -56,6 +64,7 @@ fn largest(random: &mut Random, shape: Shape, weights: Weights, unusable: u64) -
             shape,
             weights,
             unusable,
+            bars,
             variables,
             values,
             edges,
@@ -63,9 +72,9 @@ fn largest(random: &mut Random, shape: Shape, weights: Weights, unusable: u64) -
     )
 }
 
-fn rounds(name: &str, shape: Shape, weights: Weights, unusable: u64, seconds: f64) {
+fn rounds(name: &str, kind: Kind, seconds: f64) {
     let cases: Vec<Case> = (0..CASES)
-        .map(|seed| largest(&mut Random::new(seed), shape, weights, unusable))
+        .map(|seed| largest(&mut Random::new(seed), kind))
         .collect();
     engine_rounds("engine", name, &cases, seconds, PROGRAM_ROUNDS, engine::run_case);
     engine_rounds("plain", name, &cases, seconds, PLAIN_ROUNDS, plain::run_case);
@@ -125,7 +134,7 @@ pub fn raise_log(case: &Case, rounds: usize) -> Vec<u8> {
 }
 
 fn replays(seconds: f64) {
-    let case = largest(&mut Random::new(7), Shape::Random, Weights::Uniform, 0);
+    let case = largest(&mut Random::new(7), UNIFORM);
     let untrimmed = raise_log(&case, 4000);
     let own = engine::run_case(&case, Rounds::All, PROGRAM_ROUNDS).log;
     for (name, log) in [
@@ -142,7 +151,7 @@ fn replays(seconds: f64) {
 }
 
 fn files(seconds: f64) {
-    let case = largest(&mut Random::new(7), Shape::Random, Weights::Uniform, 0);
+    let case = largest(&mut Random::new(7), UNIFORM);
     let file = case::write(&case);
     let lines = file.len() / LINE_BYTES;
     let reading = rate(file.len(), seconds, || {

@@ -2,12 +2,12 @@
 //! over as case lines, and on each of them calls one after another.
 
 use crate::case::{self, table_length};
-use crate::generate::{any_case, any_table_for, border_for};
+use crate::generate::{any_case, any_table_for, border_for, unbarred};
 use crate::inputs::{random_for, sized_case, small_case};
 use crate::programs::Engine;
 use crate::random::Random;
 use crate::types::*;
-use crate::{engine, line, pair_samples, plain, slow};
+use crate::{barred_samples, engine, line, pair_samples, plain, slow};
 
 /// Batches are numbered apart from the other programs' inputs.
 const FIRST: u64 = 1 << 41;
@@ -29,8 +29,12 @@ pub struct Figures {
     pub tables: u64,
     pub calls: u64,
     pub rounds: u64,
-    /// Calls refused by 3 to 8.
+    /// Calls refused by 3 to 8 or 15.
     pub refused: u64,
+    /// Calls that answered void.
+    pub void: u64,
+    /// Tables with barred combinations.
+    pub barred: u64,
     /// Calls refused by 11.
     pub met_11: u64,
     /// Calls after which a pair is passed over.
@@ -45,6 +49,8 @@ impl Figures {
         self.calls += other.calls;
         self.rounds += other.rounds;
         self.refused += other.refused;
+        self.void += other.void;
+        self.barred += other.barred;
         self.met_11 += other.met_11;
         self.passed += other.passed;
         self.back += other.back;
@@ -66,12 +72,19 @@ impl Call {
         }
     }
 
-    /// A round is a run of at most one.
-    fn rounds(self) -> (Rounds, u64) {
-        match self {
-            Call::Run(rounds, limit) => (rounds, limit),
-            Call::Round => (Rounds::All, 1),
-        }
+    /// A round is a run of at most one, without the void line that may come after it.
+    fn run(self, engine: Engine, case: &Case) -> Run {
+        let Call::Run(kind, limit) = self else {
+            let mut run = engine(case, Rounds::All, 1);
+            if run.rounds == 1 {
+                let ends = |line: &[u8]| line.starts_with(b" 4");
+                let lines = 1 + run.log.chunks(LINE_BYTES).take_while(|line| !ends(line)).count();
+                run.log.truncate(lines * LINE_BYTES);
+                run.stop = Stop::Limit;
+            }
+            return run;
+        };
+        engine(case, kind, limit)
     }
 
     fn write(self, out: &mut Vec<u8>, bytes: usize) {
@@ -92,6 +105,7 @@ impl Call {
         let stop = match run.stop {
             Stop::Settled => "settled".into(),
             Stop::Limit => "limit".into(),
+            Stop::Void => "void".into(),
             Stop::Refused(number) => format!("refused {number}"),
         };
         format!("{word} {limit} {stop} {} {}\n", run.rounds, run.upper_bound)
@@ -101,6 +115,7 @@ impl Call {
 fn round_answer(run: &Run) -> String {
     match run.stop {
         Stop::Refused(number) => format!("round refused {number}\n"),
+        Stop::Void => format!("round void {}\n", run.log.len()),
         _ if run.rounds == 0 => "round settled\n".into(),
         _ => format!("round made {} {}\n", run.log.len(), run.upper_bound),
     }
@@ -119,15 +134,16 @@ fn last_written(log: &[u8], bytes: usize) -> Vec<u8> {
 }
 
 /// What the output must hold at least.
-fn needed(case: &Case) -> usize {
+pub fn needed(case: &Case) -> usize {
     LINE_BYTES * (case.scopes() + 2 * case.values + 1)
 }
 
-/// The lowest of the numbers 3 to 8 that applies to the call.
-fn refusal(case: &Case, bytes: usize) -> Option<u8> {
+/// The first of the numbers 3 to 8 and 15 that applies to the call.
+pub fn refusal(case: &Case, bytes: usize) -> Option<u8> {
     let (n, d, m) = (case.variables, case.values, case.edges.len());
     let seen = |at: usize| case.edges[..at].contains(&case.edges[at]);
-    let outside = |&weight: &i32| i64::from(weight).abs() > WORK_LIMIT;
+    let outside = |&weight: &i32| weight != BARRED && i64::from(weight).abs() > WORK_LIMIT;
+    let barred = |scope| case.weights[plain::part(case, scope)].iter().all(|&w| w == BARRED);
     let sized = (1..=MAX_VARIABLES).contains(&n) && (1..=MAX_VALUES).contains(&d);
     let numbers = [
         (3, !sized || m > MAX_EDGES),
@@ -138,16 +154,18 @@ fn refusal(case: &Case, bytes: usize) -> Option<u8> {
         (8, case.weights.iter().any(outside)),
     ];
     let first = numbers.iter().find(|(_, applies)| *applies);
-    first.map(|&(number, _)| number)
+    let first = first.map(|&(number, _)| number);
+    first.or_else(|| (0..case.scopes()).any(barred).then_some(15))
 }
 
-/// The table's lines; a table of another length ends with fewer or more weights.
+/// The table's lines, kinds 11 and 13 for barred places too; a table of another length
+/// ends with fewer or more weights.
 fn table_lines(case: &Case) -> Vec<u8> {
     let length = table_length(case.variables, case.values, case.edges.len());
     let held = case.weights.len();
     let mut whole = case.clone();
     whole.weights.resize(length.max(held), 0);
-    let mut lines = case::write(&whole);
+    let mut lines = case::write_numbers(&whole);
     for _ in held..length {
         lines.truncate(lines.len() - LINE_BYTES);
     }
@@ -172,6 +190,7 @@ impl Batch {
         self.output.extend(name);
         self.input.extend(table_lines(case));
         self.figures.tables += 1;
+        self.figures.barred += u64::from(case.has_barred());
     }
 
     fn print(&mut self, call: Call, bytes: usize, run: &Run) {
@@ -181,6 +200,7 @@ impl Batch {
         self.output.push(b'\n');
         self.figures.calls += 1;
         self.figures.rounds += run.rounds;
+        self.figures.void += u64::from(run.stop == Stop::Void);
     }
 
     fn print_weights(&mut self, weights: &[i32]) {
@@ -219,9 +239,8 @@ impl Table {
     }
 
     fn run(&mut self, figures: &mut Figures, call: Call) -> Run {
-        let (kind, limit) = call.rounds();
         self.passed.extend(engine::passed_over(&self.case));
-        let run = (self.engine)(&self.case, kind, limit);
+        let run = call.run(self.engine, &self.case);
         let weights = run.weights.clone();
         let after = Case { weights, ..self.case.clone() };
         let back = |&edge: &usize| self.passed.contains(&edge);
@@ -251,10 +270,10 @@ fn shifted(log: &[u8]) -> Vec<usize> {
     edges
 }
 
-/// The runs made by hand.
-pub fn samples() -> Batch {
+/// The runs made by hand; no place is barred unless `barred`.
+pub fn samples(barred: bool) -> Batch {
     let mut batch = Batch::default();
-    for (name, case, (kind, limit), run) in pair_samples::runs() {
+    for (name, case, (kind, limit), run) in pair_samples::runs(barred) {
         batch.hand_over(name, &case);
         batch.print(Call::Run(kind, limit), needed(&case), &run);
         batch.print_weights(&run.weights);
@@ -263,15 +282,24 @@ pub fn samples() -> Batch {
         let after = engine::passed_over(&Case { weights, ..case });
         batch.figures.passed += u64::from(!after.is_empty());
     }
+    let more = if barred { barred_samples::refused() } else { vec![] };
+    for (name, case, number) in more {
+        batch.hand_over(name, &case);
+        for call in [Call::Run(Rounds::All, 5), Call::Run(Rounds::Pairs, 0), Call::Round] {
+            batch.print(call, needed(&case), &refused(number, &case));
+            batch.print_weights(&case.weights);
+            batch.figures.refused += 1;
+        }
+    }
     batch
 }
 
-/// Batch number `index` of a seed.
-pub fn batch(seed: u64, index: u64) -> Batch {
+/// Batch number `index` of a seed; no place is barred unless `barred`.
+pub fn batch(seed: u64, index: u64, barred: bool) -> Batch {
     let mut random = random_for(seed, FIRST + index);
     let mut batch = Batch::default();
     for at in 0..MOST_TABLES {
-        let next = one_table(&mut random, &format!("table {at} of {index}"));
+        let next = one_table(&mut random, &format!("table {at} of {index}"), barred);
         if batch.input.len() + next.input.len() > MOST_INPUT {
             break;
         }
@@ -280,11 +308,14 @@ pub fn batch(seed: u64, index: u64) -> Batch {
     batch
 }
 
-fn one_table(random: &mut Random, name: &str) -> Batch {
-    let case = match random.below(10) {
+fn one_table(random: &mut Random, name: &str, barred: bool) -> Batch {
+    let mut case = match random.below(10) {
         0 => spoilt_case(random),
         _ => some_table(random),
     };
+    if !barred {
+        case = unbarred(random, &case);
+    }
     let mut batch = Batch::default();
     batch.hand_over(name, &case);
     let engine = some_engine(random, &case);
@@ -362,13 +393,17 @@ fn spoilt_case(random: &mut Random) -> Case {
 }
 
 fn spoil(random: &mut Random, case: &mut Case) {
-    let most = *random.pick(&[WORK_LIMIT + 1, 2_000_000_000]) as i32;
-    let weight = *random.pick(&[most, -most]);
+    let most = *random.pick(&[WORK_LIMIT + 1, 1_999_999_999, 2_000_000_000, 2_000_000_001]);
+    let weight = *random.pick(&[most, -most]) as i32;
     let place = random.below(case.weights.len());
     let edge = random.below(case.edges.len());
     let (paired, n) = (!case.edges.is_empty(), case.variables);
     let whole = case.weights.len() == table_length(n, case.values, case.edges.len());
-    match random.below(7) {
+    match random.below(9) {
+        7 | 8 if whole => {
+            let scope = plain::part(case, random.below(case.scopes()));
+            case.weights[scope].fill(BARRED);
+        }
         0 if whole && place > 0 => drop(case.weights.pop()),
         1 => case.weights.push(0),
         2 if paired => case.edges[edge].1 = n + random.below(3),

@@ -12,6 +12,11 @@ impl Case {
         let square = self.values * self.values;
         1 + self.variables * self.values + self.edges.len() * (1 + square)
     }
+
+    /// Whether some combination is barred.
+    pub fn has_barred(&self) -> bool {
+        self.weights.contains(&BARRED)
+    }
 }
 
 pub fn table_length(variables: usize, values: usize, edges: usize) -> usize {
@@ -32,6 +37,7 @@ fn read_within(input: &[u8], limit: i64) -> Result<(Case, usize), Refusal> {
             case.weights[place] = reader.weight(11, variable, value, 0)?;
             place += 1;
         }
+        reader.not_barred(&case.weights[place - case.values..place])?;
     }
     let mut paired = [0u64; MAX_VARIABLES];
     for edge in 0..edges {
@@ -43,6 +49,7 @@ fn read_within(input: &[u8], limit: i64) -> Result<(Case, usize), Refusal> {
                 place += 1;
             }
         }
+        reader.not_barred(&case.weights[place - case.values * case.values..place])?;
     }
     Ok((case, reader.at))
 }
@@ -89,13 +96,21 @@ impl Reader<'_> {
 
     #[inline]
     fn due(&self, kind: i64) -> Result<Line, Refusal> {
+        let line = self.line()?;
+        if line.kind != kind {
+            return self.refuse(2);
+        }
+        Ok(line)
+    }
+
+    #[inline]
+    fn line(&self) -> Result<Line, Refusal> {
         let from = self.at * LINE_BYTES;
         let Some(bytes) = self.input.get(from..from + LINE_BYTES) else {
             return self.refuse(14);
         };
         match line::parse(bytes) {
             None => self.refuse(1),
-            Some(line) if line.kind != kind => self.refuse(2),
             Some(line) => Ok(line),
         }
     }
@@ -123,10 +138,15 @@ impl Reader<'_> {
         Ok((case, edges))
     }
 
+    /// The weight of a line of kind 11 or 13, or of the kind that bars instead.
     #[inline]
     fn weight(&mut self, kind: i64, a: usize, b: usize, c: usize) -> Result<i32, Refusal> {
-        let line = self.due(kind)?;
-        if kind == 11 && line.c != 0 {
+        let line = self.line()?;
+        let barred = line.kind == barring(kind);
+        if line.kind != kind && !barred {
+            return self.refuse(2);
+        }
+        if kind == 11 && line.c != 0 || barred && line.amount != 0 {
             return self.refuse(2);
         }
         if line.a != a as i64 || line.b != b as i64 || line.c != c as i64 {
@@ -136,7 +156,16 @@ impl Reader<'_> {
             return self.refuse(8);
         }
         self.at += 1;
-        Ok(line.amount as i32)
+        Ok(if barred { BARRED } else { line.amount as i32 })
+    }
+
+    /// Number 15 at the scope's last line, which was read just now.
+    fn not_barred(&self, scope: &[i32]) -> Result<(), Refusal> {
+        if scope.iter().any(|&weight| weight != BARRED) {
+            return Ok(());
+        }
+        let (number, line) = (15, self.at - 1);
+        Err(Refusal { number, line })
     }
 
     fn edge(
@@ -169,6 +198,15 @@ impl Reader<'_> {
     }
 }
 
+/// The kind that bars where a weight of this kind is due.
+fn barring(kind: i64) -> i64 {
+    if kind == 11 {
+        14
+    } else {
+        15
+    }
+}
+
 fn limited(number: i64, least: usize, most: usize) -> Option<usize> {
     let number = usize::try_from(number).ok()?;
     (least..=most).contains(&number).then_some(number)
@@ -176,13 +214,26 @@ fn limited(number: i64, least: usize, most: usize) -> Option<usize> {
 
 /// The case file of a valid case.
 pub fn write(case: &Case) -> Vec<u8> {
+    write_table(case, |kind, weight| match weight {
+        BARRED => (barring(kind), 0),
+        _ => (kind, weight.into()),
+    })
+}
+
+/// The same lines with every weight as it stands, barred ones too.
+pub fn write_numbers(case: &Case) -> Vec<u8> {
+    write_table(case, |kind, weight| (kind, weight.into()))
+}
+
+fn write_table(case: &Case, shown: impl Fn(i64, i32) -> (i64, i64)) -> Vec<u8> {
     let mut out = Vec::with_capacity(case.file_lines() * LINE_BYTES);
     let (variables, values) = (case.variables as i64, case.values as i64);
     line::write(&mut out, 10, variables, values, case.edges.len() as i64, 0);
     let mut place = 0;
     for variable in 0..variables {
         for value in 0..values {
-            line::write(&mut out, 11, variable, value, 0, case.weights[place].into());
+            let (kind, weight) = shown(11, case.weights[place]);
+            line::write(&mut out, kind, variable, value, 0, weight);
             place += 1;
         }
     }
@@ -190,8 +241,8 @@ pub fn write(case: &Case) -> Vec<u8> {
         line::write(&mut out, 12, edge as i64, lower as i64, higher as i64, 0);
         for first in 0..values {
             for second in 0..values {
-                let weight = case.weights[place].into();
-                line::write(&mut out, 13, edge as i64, first, second, weight);
+                let (kind, weight) = shown(13, case.weights[place]);
+                line::write(&mut out, kind, edge as i64, first, second, weight);
                 place += 1;
             }
         }

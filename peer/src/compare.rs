@@ -2,12 +2,13 @@
 //! against the fast reading, byte for byte.
 
 use crate::calls::{self, Batch};
-use crate::check::{Check, Difference};
+use crate::check::{every, Check, Difference};
 use crate::counts::Counts;
-use crate::inputs::{input_for, random_for, sized_case, Program};
+use crate::generate::unbarred;
+use crate::inputs::{input_for, press_input, random_for, sized_case, Program};
 use crate::options::Options;
 use crate::outside::Outside;
-use crate::{programs, samples};
+use crate::{case, programs, samples};
 use std::path::{Path, PathBuf};
 use std::process::ExitCode;
 use std::time::{Duration, Instant};
@@ -80,11 +81,12 @@ pub fn compare(options: &mut Options) -> Result<ExitCode, String> {
     let seconds = options.number("seconds", DEFAULT_SECONDS)? as f64;
     let paths = ["press", "replay", "engine"].map(|name| options.text(name));
     let counts = options.flag("counts");
+    let barred_engine = options.flag("barred-engine");
     options.finish()?;
     println!("seed {seed}");
     let began = Instant::now();
     let mut check = Check::new();
-    let mut programs = Programs::new(paths, &keep)?;
+    let mut programs = Programs::new(paths, &keep, barred_engine)?;
     let [slow, files, tables] = programs.shares().map(|share| share * seconds);
     let result = samples_first().and_then(|samples| {
         against_slow(&mut check, seed, &in_seconds(slow))?;
@@ -116,6 +118,34 @@ pub fn compare(options: &mut Options) -> Result<ExitCode, String> {
     )
 }
 
+/// `peer every`: all tables of a size, or one of so many.
+pub fn every(options: &mut Options) -> Result<ExitCode, String> {
+    let keep = PathBuf::from(options.text("keep").unwrap_or(DEFAULT_KEEP.into()));
+    let links = options.size("links", 1, 4, 2)?;
+    let values = options.size("values", 1, 4, 2)?;
+    let pairs = options.size("pairs", 0, 6, 1)?;
+    let most = options.size("weights", 0, 9, 1)? as i32;
+    let part = options.number("part", 1)?.max(1);
+    let seed = options.number("seed", 1)?;
+    options.finish()?;
+    let began = Instant::now();
+    let mut check = Check::new();
+    let mut random = random_for(seed, 0);
+    let mut case = every::empty_case(links, values, pairs);
+    every::first(&mut case);
+    let mut result = Ok(0);
+    while every::advance(&mut case, most) {
+        if part > 1 && !random.chance(1, part) {
+            continue;
+        }
+        if let Err(difference) = check.each(&mut random, &case) {
+            result = Err(difference);
+            break;
+        }
+    }
+    finish(result, &keep, "every", seed, |_| slow_figures(&check), began)
+}
+
 fn samples_first() -> Result<usize, Difference> {
     samples::check().map_err(|what| Difference {
         what,
@@ -139,7 +169,8 @@ fn slow_figures(check: &Check) -> String {
     let figures = check.figures;
     format!(
         "slow mode: cases {} and {} large, comparisons {} (refutations {}, runs {}, lines {}, \
-         lists {}, programs {}, others {}; rounds with a climb {}), {}",
+         lists {}, programs {}, others {}; rounds with a climb {}, void lists {}; cases barred \
+         {}, without a lawful plan {}), {}",
         figures.cases,
         figures.large,
         figures.comparisons(),
@@ -150,6 +181,9 @@ fn slow_figures(check: &Check) -> String {
         figures.programs,
         figures.others,
         figures.climbs,
+        figures.voids,
+        figures.barred,
+        figures.unlawful,
         pair_figures(check)
     )
 }
@@ -157,15 +191,19 @@ fn slow_figures(check: &Check) -> String {
 fn pair_figures(check: &Check) -> String {
     let pairs = check.figures.pairs;
     format!(
-        "pair rounds {} ({} with a lower pair passed over, {} of one passed over before, {} \
-         after a press), presses with a pair passed over {}, pairs out of range half way only \
-         {}, runs refused {}, settled with a pair passed over {}",
+        "pair rounds {} ({} with a lower pair passed over, {} of one passed over before, {} of \
+         one not lower before, {} after a press), presses with a pair passed over {}, pairs out of range half way only \
+         {}, pairs without a choice {}, pairs not lower {}, runs void {}, refused {}, settled with a pair passed over {}",
         pairs.rounds,
         pairs.higher,
         pairs.back,
+        pairs.lower_now,
         pairs.after_press,
         pairs.presses,
         pairs.half_way,
+        pairs.no_choice,
+        pairs.not_lower,
+        pairs.void,
         pairs.refused,
         pairs.settled_passed
     )
@@ -174,10 +212,10 @@ fn pair_figures(check: &Check) -> String {
 /// Which numbers the programs can answer were not met.
 fn missing(counts: &[&Counts]) -> String {
     let met = |part: &str, number: &u8| counts.iter().any(|c| c.numbers(part).contains(number));
-    let case = [1, 2, 3, 5, 6, 7, 8, 14]
+    let case = [1, 2, 3, 5, 6, 7, 8, 14, 15]
         .into_iter()
         .filter(|number| !met("case", number));
-    let log = [1, 2, 5, 9, 10, 11, 12, 13, 14]
+    let log = [1, 2, 5, 9, 10, 11, 12, 13, 14, 16]
         .into_iter()
         .filter(|number| !met("log", number));
     let (case, log): (Vec<u8>, Vec<u8>) = (case.collect(), log.collect());
@@ -229,20 +267,33 @@ struct Programs {
     replay: Option<Outside>,
     engine: Option<Outside>,
     counts: Counts,
+    /// Whether `press` and the engine are handed barred places too.
+    barred_engine: bool,
     compared: [u64; 2],
+    /// Inputs of each with barred places.
+    barred: [u64; 2],
+    /// Logs that ended void.
+    void: u64,
     called: calls::Figures,
     bytes: u64,
 }
 
 impl Programs {
-    fn new(paths: [Option<String>; 3], keep: &Path) -> Result<Programs, String> {
+    fn new(
+        paths: [Option<String>; 3],
+        keep: &Path,
+        barred_engine: bool,
+    ) -> Result<Programs, String> {
         let [press, replay, engine] = paths.map(|path| path.map(|path| Outside::new(&path, keep)));
         Ok(Programs {
             press: press.transpose()?,
             replay: replay.transpose()?,
             engine: engine.transpose()?,
             counts: Counts::default(),
+            barred_engine,
             compared: [0; 2],
+            barred: [0; 2],
+            void: 0,
             called: calls::Figures::default(),
             bytes: 0,
         })
@@ -269,7 +320,7 @@ impl Programs {
             };
             self.ask(program, &input, &output, name)?;
         }
-        self.call("samples", &calls::samples())
+        self.call("samples", &calls::samples(self.barred_engine))
     }
 
     fn generated(&mut self, seed: u64, end: &End) -> Result<(), Difference> {
@@ -281,7 +332,11 @@ impl Programs {
             let mut random = random_for(seed, index);
             let case = sized_case(&mut random);
             for _ in 0..4 {
-                let input = input_for(&mut random, &case);
+                let mut input = input_for(&mut random, &case);
+                if input.program == Program::Press && !self.barred_engine {
+                    let case = unbarred(&mut random, &case);
+                    input = press_input(&mut random, &case);
+                }
                 let expected = match input.program {
                     Program::Press => programs::press(&input.bytes),
                     Program::Replay => programs::replay(&input.bytes),
@@ -312,9 +367,15 @@ impl Programs {
         let Some(outside) = outside else {
             return Ok(());
         };
+        let barred = case::read_front(input).is_ok_and(|(case, _)| case.has_barred());
+        if barred && program == Program::Press && !self.barred_engine {
+            return Ok(());
+        }
         answers(outside, &format!("{name}, program {program:?}"), input, expected)?;
         self.counts.note_output(input, expected);
         self.compared[program as usize] += 1;
+        self.barred[program as usize] += u64::from(barred);
+        self.void += u64::from(expected == b"void\n");
         self.bytes += input.len() as u64;
         Ok(())
     }
@@ -323,7 +384,8 @@ impl Programs {
     fn batches(&mut self, seed: u64, end: &End) -> Result<(), Difference> {
         let mut index = 0;
         while self.engine.is_some() && !end.reached(index) {
-            self.call(&format!("batch {index}"), &calls::batch(seed, index))?;
+            let batch = calls::batch(seed, index, self.barred_engine);
+            self.call(&format!("batch {index}"), &batch)?;
             index += 1;
         }
         Ok(())
@@ -345,8 +407,11 @@ impl Programs {
             return "no programs".into();
         }
         let [press, replay] = self.compared;
+        let [press_barred, replay_barred] = self.barred;
         format!(
-            "press {press} inputs, replay {replay} inputs, {}, {} MB in",
+            "press {press} inputs ({press_barred} barred), replay {replay} inputs ({replay_barred} \
+             barred, {} void), {}, {} MB in",
+            self.void,
             self.call_figures(),
             self.bytes / 1_000_000
         )
@@ -355,12 +420,14 @@ impl Programs {
     fn call_figures(&self) -> String {
         let called = self.called;
         format!(
-            "engine {} tables ({} calls, {} rounds; calls refused by 3 to 8 {}, that met 11 {}, \
-             that ended with a pair passed over {}; pair rounds of one passed over before {})",
+            "engine {} tables ({} barred; {} calls, {} rounds; calls refused by 3 to 8 or 15 {}, \
+             void {}, that met 11 {}, that ended with a pair passed over {}; pair rounds of one passed over before {})",
             called.tables,
+            called.barred,
             called.calls,
             called.rounds,
             called.refused,
+            called.void,
             called.met_11,
             called.passed,
             called.back

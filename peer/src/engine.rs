@@ -2,7 +2,8 @@
 //!
 //! A round is the pair round of the lowest edge that is due and not passed over, or
 //! else a press. An edge is due while no choice of values is active in all its three
-//! scopes. A passed-over one is asked again before each round.
+//! scopes. It is passed over if no choice is unbarred in all three, if a shift would
+//! leave the range, or if the round would not lower the ceiling.
 //!
 //! A press takes the lowest variable whose active values are all refuted with all
 //! other scopes raised, and drops raised scopes upwards. The dropping is done in
@@ -11,11 +12,15 @@
 //! one after another, because raising more scopes never takes a refutation away.
 //!
 //! No press makes an active tuple inactive (every amount is at most every gap), and a
-//! pair round does so in its own edge only, which had no active choice and has one
-//! after it. So an edge that is not due never becomes so, and once none is due, no
-//! edge is looked at again. While one is due, no family at all is supported and the
-//! lowest variable is 0; after that a variable passed over stays passed over, and a
-//! run looks on from the variable it pressed last.
+//! pair round does so in its own edge only: the unbarred values of its two variables
+//! are all active after it. So an edge that is not due never becomes so, and one that
+//! had its pair round has no second one. An edge passed over because its round would
+//! not lower the ceiling is asked again after pair rounds only, one out of range before
+//! each round. While an edge is without active choice, no family at all is supported
+//! and the lowest variable is 0; after that a variable passed over stays passed over,
+//! and a run looks on from the variable it pressed last.
+//!
+//! Where no scope of a press sets a gap, it is a void line instead, and the run ends.
 
 use crate::line;
 use crate::refute::{close, full_domains, no_active_choice, none_supported, Joint};
@@ -23,10 +28,11 @@ use crate::scopes::Scopes;
 use crate::state::State;
 use crate::types::*;
 
+/// A press, or a void line, which has no amount.
 pub struct Press {
     pub variable: usize,
     pub raised: Scopes,
-    pub amount: i32,
+    pub amount: Option<i32>,
 }
 
 /// Scopes that close something, without the pressed variable's own, rising.
@@ -82,14 +88,14 @@ fn lowest(state: &State, from: usize) -> Option<usize> {
     (from..state.variables).find(|&variable| none_supported(state, &all, variable, &base))
 }
 
-/// The least gap among the kept scopes and the variable's own scope.
-fn amount(state: &State, variable: usize, raised: &Scopes) -> i32 {
+/// The least gap among the kept scopes and the variable's own scope, if there is one.
+fn amount(state: &State, variable: usize, raised: &Scopes) -> Option<i32> {
     let mut least = i32::MAX;
     let mut limit = |scope: usize| least = least.min(state.gap(scope).unwrap_or(i32::MAX));
     limit(variable);
     raised.each_variable(&mut limit);
     raised.each_edge(|edge| limit(state.variables + edge));
-    least
+    (least < i32::MAX).then_some(least)
 }
 
 /// The press of the next round, or nothing if settled. `from` is a variable below
@@ -107,8 +113,11 @@ pub fn find_press(state: &State, from: usize) -> Option<Press> {
 }
 
 fn write_press(out: &mut Vec<u8>, state: &State, press: &Press) {
-    let count = press.raised.count() as i64;
-    line::write(out, 2, press.variable as i64, count, 0, press.amount.into());
+    let (variable, count) = (press.variable as i64, press.raised.count() as i64);
+    match press.amount {
+        Some(amount) => line::write(out, 2, variable, count, 0, amount.into()),
+        None => line::write(out, 5, variable, count, 0, 0),
+    }
     let mut raise = |scope: usize| line::write(out, 3, scope as i64, 0, 0, 0);
     press.raised.each_variable(&mut raise);
     press.raised.each_edge(|edge| raise(state.variables + edge));
@@ -118,7 +127,7 @@ fn write_press(out: &mut Vec<u8>, state: &State, press: &Press) {
 pub fn write_shifts(out: &mut Vec<u8>, state: &State, edge: usize) {
     for (end, variable) in state.ends[edge].into_iter().enumerate() {
         for (value, weight) in state.working(variable as usize).enumerate() {
-            if weight != 0 {
+            if weight != 0 && weight != BARRED {
                 let (edge, end, value) = (edge as i64, end as i64, value as i64);
                 line::write(out, 1, edge, end, value, -i64::from(weight));
             }
@@ -126,10 +135,33 @@ pub fn write_shifts(out: &mut Vec<u8>, state: &State, edge: usize) {
     }
 }
 
-/// The edges of a working table that are due and passed over.
+/// What is to be said of an edge.
+enum Look {
+    /// It is not due, or has no unbarred choice, now and later.
+    Never,
+    /// Its round would not lower the ceiling.
+    Level,
+    OutOfRange,
+    /// Its weights after its round.
+    Round(Vec<i32>),
+}
+
+fn look(state: &State, edge: usize) -> Look {
+    if !no_active_choice(state, edge) || !state.choice[edge] {
+        return Look::Never;
+    }
+    match state.gathered(edge) {
+        None => Look::OutOfRange,
+        Some(weights) if state.lowers(edge, &weights) => Look::Round(weights),
+        Some(_) => Look::Level,
+    }
+}
+
+/// The edges of a working table that are due and passed over, but those without an
+/// unbarred choice.
 pub fn passed_over(table: &Case) -> Vec<usize> {
     let state = State::new(table);
-    let passed = |&edge: &usize| no_active_choice(&state, edge) && state.gathered(edge).is_none();
+    let passed = |&edge: &usize| matches!(look(&state, edge), Look::Level | Look::OutOfRange);
     (0..state.edges).filter(passed).collect()
 }
 
@@ -139,24 +171,48 @@ enum Round {
     Press(Press),
 }
 
-/// Where a run looks on: whether an edge can still be due, and a variable below which
-/// none can be pressed.
+/// An edge that may have its round yet; `level` if no press makes it so.
+struct Left {
+    edge: usize,
+    level: bool,
+}
+
+/// Where a run looks on: the edges left, and a variable below which none can be pressed.
 struct Search {
     kind: Rounds,
-    edges: bool,
+    edges: Vec<Left>,
     from: usize,
 }
 
 impl Search {
+    fn new(state: &State, kind: Rounds) -> Search {
+        let level = false;
+        let edges = (0..state.edges).map(|edge| Left { edge, level }).collect();
+        Search { kind, edges, from: 0 }
+    }
+
     /// The lowest edge that is due and not passed over.
     fn pair(&mut self, state: &State) -> Option<Round> {
-        if !self.edges {
-            return None;
+        let mut found = None;
+        self.edges.retain_mut(|left| {
+            if found.is_some() || left.level {
+                return true;
+            }
+            match look(state, left.edge) {
+                Look::Never => return false,
+                Look::OutOfRange => {}
+                Look::Level => left.level = true,
+                Look::Round(weights) => {
+                    found = Some(Round::Pair(left.edge, weights));
+                    return false;
+                }
+            }
+            true
+        });
+        if found.is_some() {
+            self.edges.iter_mut().for_each(|left| left.level = false);
         }
-        let due = (0..state.edges).filter(|&edge| no_active_choice(state, edge));
-        let mut due = due.peekable();
-        self.edges = due.peek().is_some();
-        due.find_map(|edge| Some(Round::Pair(edge, state.gathered(edge)?)))
+        found
     }
 
     fn next(&mut self, state: &State) -> Option<Round> {
@@ -177,7 +233,8 @@ fn make(state: &mut State, round: &Round, log: &mut Vec<u8>) -> Result<(), u8> {
             state.gather(*edge, weights);
         }
         Round::Press(press) => {
-            state.press(press.variable, &press.raised, press.amount)?;
+            let amount = press.amount.unwrap_or_default();
+            state.press(press.variable, &press.raised, amount)?;
             write_press(log, state, press);
         }
     }
@@ -188,9 +245,12 @@ fn make(state: &mut State, round: &Round, log: &mut Vec<u8>) -> Result<(), u8> {
 /// Runs up to `limit` rounds from the given state.
 fn run(state: &mut State, kind: Rounds, limit: u64, log: &mut Vec<u8>) -> (Stop, u64) {
     let mut rounds = 0;
-    let (edges, from) = (true, 0);
-    let mut search = Search { kind, edges, from };
+    let mut search = Search::new(state, kind);
     while let Some(round) = search.next(state) {
+        if let Round::Press(void @ Press { amount: None, .. }) = &round {
+            write_press(log, state, void);
+            return (Stop::Void, rounds);
+        }
         if rounds == limit {
             return (Stop::Limit, rounds);
         }

@@ -1,8 +1,8 @@
 //! Logs as other engines write them: shifts, whole pair rounds, untrimmed presses by odd amounts,
-//! several moves a round, rounds whose first move raises the ceiling. A careful
+//! several moves a round, rounds whose first move raises the ceiling, void lines. A careful
 //! writer's log is accepted; a careless one also writes what must be refused.
 
-use crate::engine::{find_press, write_shifts};
+use crate::engine::{find_press, run_case, write_shifts};
 use crate::line;
 use crate::random::Random;
 use crate::refute::{all_active_refuted, no_active_choice};
@@ -33,16 +33,40 @@ pub fn log(random: &mut Random, case: &Case, careless: bool) -> Vec<u8> {
         log: Vec::new(),
         careless,
     };
-    let rounds = *writer.random.pick(&[0, 1, 1, 2, 2, 3, 5, 8, 8, 20]);
+    if writer.random.chance(1, 3) {
+        writer.engine_rounds(case);
+    }
+    let rounds = *writer.random.pick(&[0, 0, 1, 1, 2, 2, 3, 5, 8, 8, 20]);
     for _ in 0..rounds {
         if !writer.round() {
-            break;
+            return writer.log;
         }
+    }
+    if writer.random.chance(1, 2) {
+        writer.some_void();
     }
     writer.log
 }
 
+/// Tables up to this length begin with many of the engine's rounds now and then.
+const MANY_ROUNDS: usize = 250;
+
 impl Writer<'_> {
+    /// Some of the engine's rounds first, or all, but for its void line.
+    fn engine_rounds(&mut self, case: &Case) {
+        let many = case.weights.len() <= MANY_ROUNDS;
+        let limit = match self.random.below(3) {
+            0 if many => PROGRAM_ROUNDS,
+            _ => self.random.below(30) as u64,
+        };
+        let run = run_case(case, Rounds::All, limit);
+        let is_void = |line: &[u8]| line.starts_with(b" 5");
+        let lines = run.log.chunks(LINE_BYTES).take_while(|line| !is_void(line)).count();
+        self.log.extend(&run.log[..lines * LINE_BYTES]);
+        let weights = run.weights;
+        self.state = State::new(&Case { weights, ..case.clone() });
+    }
+
     /// One round. False if the log ends here.
     fn round(&mut self) -> bool {
         let start = self.state.upper_bound;
@@ -52,6 +76,9 @@ impl Writer<'_> {
         }
         if self.random.chance(1, 4) {
             self.any_pair_round();
+        }
+        if self.random.chance(1, 6) && self.some_void() {
+            return self.careless && self.random.chance(1, 3);
         }
         for _ in 0..*self.random.pick(&[0, 0, 1, 2, 4]) {
             if self.random.chance(1, 2) {
@@ -65,6 +92,9 @@ impl Writer<'_> {
                 break;
             }
             self.any_press();
+        }
+        if self.random.chance(1, 12) && self.some_void() {
+            return self.careless && self.random.chance(1, 3);
         }
         if self.state.upper_bound >= start {
             self.engine_press();
@@ -213,8 +243,85 @@ impl Writer<'_> {
 
     fn engine_press(&mut self) {
         if let Some(press) = find_press(&self.state, 0) {
-            self.press(press.variable, press.raised, press.amount);
+            let amount = press.amount.unwrap_or(1);
+            self.press(press.variable, press.raised, amount);
         }
+    }
+
+    /// A void line where it holds, with more scopes than needed. A careless writer also
+    /// writes others. True if one was written.
+    fn some_void(&mut self) -> bool {
+        let bad = self.careless && self.random.chance(1, 3);
+        match self.find_void() {
+            Some((variable, raised)) if bad => self.wrong_void(variable, raised),
+            Some((variable, raised)) => self.write_void(variable, &raised),
+            None if !bad => return false,
+            None => return self.bad_void(),
+        }
+        true
+    }
+
+    /// A link and scopes that set no gap and refute all its active values.
+    fn find_void(&mut self) -> Option<(usize, Scopes)> {
+        let offset = self.random.below(self.state.variables);
+        for step in 0..self.state.variables {
+            let variable = (offset + step) % self.state.variables;
+            let mut raised = Scopes::default();
+            for scope in 0..self.state.scopes() {
+                if scope != variable && self.state.gap(scope).is_none() {
+                    raised.insert(self.state.variables, scope);
+                }
+            }
+            let good = self.state.bars_rest(variable, &raised)
+                && all_active_refuted(&self.state, &raised, variable);
+            if good {
+                return Some((variable, self.drop_some(variable, raised)));
+            }
+        }
+        None
+    }
+
+    /// A void line that would hold, made wrong, perhaps: a scope less, a scope more, or
+    /// another link.
+    fn wrong_void(&mut self, variable: usize, mut raised: Scopes) {
+        let variables = self.state.variables;
+        let list = raised.list(variables);
+        let scope = self.random.below(self.state.scopes());
+        match self.random.below(4) {
+            0 if list.len() > 1 => raised.remove(variables, *self.random.pick(&list)),
+            1 if scope < variables && raised.variables >> scope & 1 == 0 => {
+                return self.write_void(scope, &raised);
+            }
+            2 => raised = self.state.others(variable),
+            _ if scope != variable => raised.insert(variables, scope),
+            _ => {}
+        }
+        self.write_void(variable, &raised);
+    }
+
+    /// A void line of a link that can be pressed, or of any.
+    fn bad_void(&mut self) -> bool {
+        let any = self.random.chance(1, 4);
+        let offset = self.random.below(self.state.variables);
+        for step in 0..self.state.variables {
+            let variable = (offset + step) % self.state.variables;
+            let mut raised = self.state.others(variable);
+            if all_active_refuted(&self.state, &raised, variable) {
+                raised = self.drop_some(variable, raised);
+            } else if !any {
+                continue;
+            }
+            if raised.count() > 0 {
+                self.write_void(variable, &raised);
+                return true;
+            }
+        }
+        false
+    }
+
+    fn write_void(&mut self, variable: usize, raised: &Scopes) {
+        line::write(&mut self.log, 5, variable as i64, raised.count() as i64, 0, 0);
+        self.write_raised(raised);
     }
 
     fn drop_some(&mut self, variable: usize, mut raised: Scopes) -> Scopes {
@@ -237,7 +344,7 @@ impl Writer<'_> {
         let mut scopes = raised.list(state.variables);
         scopes.push(variable);
         let gaps = scopes.iter().filter_map(|&scope| state.gap(scope));
-        let least = gaps.min().unwrap_or(1).max(1);
+        let least = gaps.min().unwrap_or(1 + self.random.below(1000) as i32).max(1);
         let amount = match self.random.below(6) {
             0 => 1,
             1 | 2 => i64::from(least),
@@ -277,6 +384,10 @@ impl Writer<'_> {
     fn write_press(&mut self, variable: usize, raised: &Scopes, amount: i32) {
         let count = raised.count() as i64;
         line::write(&mut self.log, 2, variable as i64, count, 0, amount.into());
+        self.write_raised(raised);
+    }
+
+    fn write_raised(&mut self, raised: &Scopes) {
         for scope in raised.list(self.state.variables) {
             line::write(&mut self.log, 3, scope as i64, 0, 0, 0);
         }

@@ -1,5 +1,6 @@
 //! Cases of many kinds and sizes.
 
+use crate::plain;
 use crate::random::Random;
 use crate::types::*;
 
@@ -28,6 +29,22 @@ pub enum Weights {
     Interference,
 }
 
+/// Which combinations are barred; every scope keeps one that is not.
+#[derive(Clone, Copy, PartialEq, Eq, Debug)]
+pub enum Bars {
+    None,
+    /// So many of a hundred link values and pair combinations.
+    Share(u64),
+    /// So many of a hundred link values.
+    Links(u64),
+    /// So many of a hundred pair combinations.
+    Pairs(u64),
+    /// Values that differ by this or less, in most pairs.
+    Near(usize),
+    /// All but so many combinations of most pairs.
+    Few(usize),
+}
+
 /// What a generated case looks like.
 #[derive(Clone, Copy, Debug)]
 pub struct Plan {
@@ -35,6 +52,7 @@ pub struct Plan {
     pub weights: Weights,
     /// Of a hundred link values, how many may not be used (−1,000,000).
     pub unusable: u64,
+    pub bars: Bars,
     pub variables: usize,
     pub values: usize,
     pub edges: usize,
@@ -67,11 +85,60 @@ pub fn case(random: &mut Random, plan: Plan) -> Case {
         Weights::Border => border_table(random, plan.variables, plan.values, edges.len()),
         _ => table(random, plan, edges.len()),
     };
-    Case {
+    let mut case = Case {
         variables: plan.variables,
         values: plan.values,
         edges,
         weights,
+    };
+    bar(random, &mut case, plan.bars);
+    case
+}
+
+/// Bars combinations of a table.
+pub fn bar(random: &mut Random, case: &mut Case, bars: Bars) {
+    for scope in 0..case.scopes() {
+        let (is_link, d) = (scope < case.variables, case.values);
+        let places = plain::part(case, scope);
+        let count = places.len();
+        let spared = random.below(count);
+        let skipped = random.chance(1, 6);
+        for (at, place) in places.enumerate() {
+            let barred = match bars {
+                Bars::None => false,
+                Bars::Share(percent) => random.chance(percent, 100),
+                Bars::Links(percent) => is_link && random.chance(percent, 100),
+                Bars::Pairs(percent) => !is_link && random.chance(percent, 100),
+                Bars::Near(most) => !is_link && !skipped && (at / d).abs_diff(at % d) <= most,
+                Bars::Few(left) => !is_link && !skipped && !random.chance(left as u64, count as u64),
+            };
+            if barred && at != spared {
+                case.weights[place] = BARRED;
+            }
+        }
+    }
+}
+
+/// The same table with other weights where it is barred.
+pub fn unbarred(random: &mut Random, case: &Case) -> Case {
+    let mut case = case.clone();
+    for weight in case.weights.iter_mut().filter(|weight| **weight == BARRED) {
+        *weight = *random.pick(&[0, 1, -9, -(START_LIMIT as i32)]);
+    }
+    case
+}
+
+/// Some way of barring, or none.
+fn some_bars(random: &mut Random) -> Bars {
+    let percent = *random.pick(&[3, 10, 25, 50, 80]);
+    match random.below(12) {
+        0 | 1 => Bars::Share(percent),
+        2 => Bars::Links(percent),
+        3 | 4 => Bars::Pairs(percent),
+        5 => Bars::Near(0),
+        6 => Bars::Near(1),
+        7 | 8 => Bars::Few(1 + random.below(3)),
+        _ => Bars::None,
     }
 }
 
@@ -231,13 +298,24 @@ fn mesh(random: &mut Random, variables: usize, edges: usize) -> Vec<(usize, usiz
     near
 }
 
-/// A working table near the borders for the links and pairs of a case.
+/// A working table near the borders for the links and pairs of a case, barred where the
+/// case is.
 pub fn border_for(random: &mut Random, case: &Case) -> Case {
     let weights = border_table(random, case.variables, case.values, case.edges.len());
+    with_bars_of(case, weights)
+}
+
+fn with_bars_of(case: &Case, mut weights: Vec<i32>) -> Case {
+    for (weight, &old) in weights.iter_mut().zip(&case.weights) {
+        if old == BARRED {
+            *weight = BARRED;
+        }
+    }
     Case { weights, ..case.clone() }
 }
 
-/// Weights of all sizes for the links and pairs of a case, or low ones only.
+/// Weights of all sizes for the links and pairs of a case, or low ones only, barred
+/// where the case is.
 pub fn any_table_for(random: &mut Random, case: &Case) -> Case {
     let size = *random.pick(&[2, 1_000_000, WORK_LIMIT]);
     let low = random.chance(1, 2);
@@ -250,7 +328,7 @@ pub fn any_table_for(random: &mut Random, case: &Case) -> Case {
         }
     };
     let weights = case.weights.iter().map(|_| any()).collect();
-    Case { weights, ..case.clone() }
+    with_bars_of(case, weights)
 }
 
 /// Any kind of case with at most these sizes.
@@ -262,7 +340,11 @@ pub fn any_case(random: &mut Random, variables: usize, values: usize, edges: usi
         Shape::Mesh,
         Shape::Random,
     ]);
-    let small = *random.pick(&[1, 2, 3, 9, 50]);
+    let bars = some_bars(random);
+    let small = match bars {
+        Bars::None => *random.pick(&[1, 2, 3, 9, 50]),
+        _ => *random.pick(&[0, 1, 1, 2, 3, 9]),
+    };
     let weights = match random.below(9) {
         8 => Weights::Flat(small),
         0 => Weights::Uniform,
@@ -275,8 +357,9 @@ pub fn any_case(random: &mut Random, variables: usize, values: usize, edges: usi
     } else {
         0
     };
-    let variables = 1 + random.below(variables);
-    let values = 1 + random.below(values);
+    let least = 1 + usize::from(bars != Bars::None && random.chance(7, 8));
+    let variables = (1 + random.below(variables)).max(least);
+    let values = (1 + random.below(values)).max(least);
     let edges = if random.chance(2, 3) {
         edges
     } else {
@@ -288,6 +371,7 @@ pub fn any_case(random: &mut Random, variables: usize, values: usize, edges: usi
             shape,
             weights,
             unusable,
+            bars,
             variables,
             values,
             edges,

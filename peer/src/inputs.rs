@@ -4,7 +4,7 @@ use crate::case;
 use crate::damage::damage;
 use crate::engine;
 use crate::foreign;
-use crate::generate::{any_case, Plan, Shape, Weights};
+use crate::generate::{any_case, Bars, Plan, Shape, Weights};
 use crate::random::Random;
 use crate::types::*;
 
@@ -60,6 +60,7 @@ fn largest_case(random: &mut Random) -> Case {
     ]);
     let shape = *random.pick(&[Shape::Mesh, Shape::Random]);
     let unusable = *random.pick(&[0, 0, 20]);
+    let bars = *random.pick(&[Bars::None, Bars::Share(20), Bars::Near(0), Bars::Pairs(60)]);
     let (variables, values, edges) = (MAX_VARIABLES, MAX_VALUES, MAX_EDGES);
     crate::generate::case(
         random,
@@ -67,6 +68,7 @@ fn largest_case(random: &mut Random) -> Case {
             shape,
             weights,
             unusable,
+            bars,
             variables,
             values,
             edges,
@@ -76,25 +78,32 @@ fn largest_case(random: &mut Random) -> Case {
 
 /// The engine's own log, or a foreign one.
 pub fn some_log(random: &mut Random, case: &Case) -> Vec<u8> {
-    match random.below(4) {
+    let small = case.weights.len() <= 250;
+    match random.below(5) {
         0 => engine::run_case(case, Rounds::All, random.below(60) as u64).log,
-        1 => foreign::log(random, case, false),
+        1 if small => engine::run_case(case, Rounds::All, PROGRAM_ROUNDS).log,
+        2 => foreign::log(random, case, false),
         _ => foreign::log(random, case, true),
+    }
+}
+
+pub fn press_input(random: &mut Random, case: &Case) -> Input {
+    let mut bytes = case::write(case);
+    if random.chance(1, 2) {
+        bytes = damage(random, &bytes);
+    }
+    Input {
+        program: Program::Press,
+        bytes,
     }
 }
 
 /// An input made from the case for one of the two programs.
 pub fn input_for(random: &mut Random, case: &Case) -> Input {
-    let mut bytes = case::write(case);
     if random.chance(1, 4) {
-        if random.chance(1, 2) {
-            bytes = damage(random, &bytes);
-        }
-        return Input {
-            program: Program::Press,
-            bytes,
-        };
+        return press_input(random, case);
     }
+    let mut bytes = case::write(case);
     let mut log = some_log(random, case);
     if random.chance(1, 3) {
         log = damage(random, &log);

@@ -1,6 +1,7 @@
-//! The peer: a second reading of document 01 and of change 1 of document 02 in plain
+//! The peer: a second reading of document 01 and of changes 1 and 2 of document 02 in plain
 //! Rust, to hold programs, vectors and speed against. See ../README.md.
 
+mod barred_samples;
 mod bench;
 mod calls;
 mod case;
@@ -39,21 +40,25 @@ use types::*;
 
 const USAGE: &str = "usage: peer COMMAND [OPTIONS]
   press [--pairs] [--limit ROUNDS] [--plain]  case file in, log out (by the plain engine)
-  replay [--plain]            case file and log in, accepted or refused out
+  replay [--plain]            case file and log in, accepted, void or refused out
   slow-press [--pairs] [--limit ROUNDS], slow-replay  the same by the slow reading
   run-table [--pairs] [--limit ROUNDS] [--plain | --slow]  working table as a case file
-                              in, log and settled, limit or refused 11 out
+                              in, log and settled, limit, void or refused 11 out
   view ROUND                  log in, the round's lines out
   score FIRST SECOND          case file in, first or second out (plans like 0,1,0)
   total PLAN                  case file in, the plan's starting total out
   ceiling                     case file in, its ceiling out
   generate KIND [--seed S] [--links N] [--values D] [--pairs M] [--unusable PERCENT]
+           [--barred PERCENT]
   foreign [--seed S] [--careful]    case file in, case file and a foreign log out
   damage [--seed S]           any input in, damaged input out
   untrimmed [--rounds N]      case file in, a log of untrimmed presses by 1 out
   check [--seconds N | --cases N] [--seed S] [--keep DIR] [--counts]
   compare [--seconds N] [--seed S] [--press PROGRAM] [--replay PROGRAM] [--engine PROGRAM]
-          [--keep DIR] [--counts]
+          [--barred-engine] [--keep DIR] [--counts]
+  every [--links N] [--values D] [--pairs M] [--weights W] [--part P] [--seed S] [--keep DIR]
+                              every table of a small size with weights up to W in size, or
+                              one of P of them: its runs with their facts, and every void line
   bench [--seconds N]         figures of speed";
 
 fn main() -> ExitCode {
@@ -96,6 +101,7 @@ fn run(command: &str, options: &mut Options) -> Result<ExitCode, String> {
         }
         "check" => compare::check(options),
         "compare" => compare::compare(options),
+        "every" => compare::every(options),
         "bench" => bench::bench(options),
         _ => Err(format!("no command {command}")),
     }
@@ -233,11 +239,16 @@ fn generate_case(options: &mut Options) -> Result<ExitCode, String> {
     let (shape, weights, share) = generate::kind(&name)
         .ok_or_else(|| format!("no kind {name}; there are {}", generate::KINDS.join(", ")))?;
     let unusable = options.number("unusable", share)?;
+    let bars = match options.number("barred", 0)? {
+        0 => generate::Bars::None,
+        percent => generate::Bars::Share(percent),
+    };
     options.finish()?;
     let plan = generate::Plan {
         shape,
         weights,
         unusable,
+        bars,
         variables,
         values,
         edges,

@@ -6,11 +6,12 @@ pub struct Options {
     flags: Vec<String>,
 }
 
-const FLAGS: [&str; 5] = ["counts", "careful", "plain", "slow", "pairs"];
+const FLAGS: [&str; 6] = ["counts", "careful", "plain", "slow", "pairs", "barred-engine"];
 
-/// `generate` takes a number of pairs; elsewhere `--pairs` stands alone.
+/// `generate` and `every` take a number of pairs; elsewhere `--pairs` stands alone.
 fn is_flag(command: &str, name: &str) -> bool {
-    FLAGS.contains(&name) && (command, name) != ("generate", "pairs")
+    let number = name == "pairs" && ["generate", "every"].contains(&command);
+    FLAGS.contains(&name) && !number
 }
 
 impl Options {

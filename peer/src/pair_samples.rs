@@ -3,37 +3,37 @@
 
 use crate::samples::{case_of, lines};
 use crate::types::*;
-use crate::{engine, plain, programs, slow};
+use crate::{barred_samples, engine, plain, programs, slow};
 
 const R: i32 = 500_000_000;
 const TOP: i64 = R as i64;
 const ENOUGH: u64 = PROGRAM_ROUNDS;
 
-struct Table {
-    values: usize,
-    edges: &'static [(usize, usize)],
-    weights: &'static [i32],
+pub struct Table {
+    pub values: usize,
+    pub edges: &'static [(usize, usize)],
+    pub weights: &'static [i32],
 }
 
 /// A run of the table: what it is, rounds and limit, how it ends, ceiling, log, weights.
-struct Row {
-    name: &'static str,
-    table: &'static Table,
-    run: (Rounds, u64),
-    end: (Stop, i64),
-    log: &'static [[i64; 5]],
-    weights: &'static [i32],
+pub struct Row {
+    pub name: &'static str,
+    pub table: &'static Table,
+    pub run: (Rounds, u64),
+    pub end: (Stop, i64),
+    pub log: &'static [[i64; 5]],
+    pub weights: &'static [i32],
 }
 
-const fn bound(amount: i64) -> [i64; 5] {
+pub const fn bound(amount: i64) -> [i64; 5] {
     [4, 0, 0, 0, amount]
 }
 
-const fn raise(scope: i64) -> [i64; 5] {
+pub const fn raise(scope: i64) -> [i64; 5] {
     [3, scope, 0, 0, 0]
 }
 
-const fn shift(pair: i64, end: i64, value: i64, amount: i64) -> [i64; 5] {
+pub const fn shift(pair: i64, end: i64, value: i64, amount: i64) -> [i64; 5] {
     [1, pair, end, value, amount]
 }
 
@@ -338,7 +338,7 @@ const ROWS: &[Row] = &[
 ];
 
 impl Row {
-    fn expected(&self) -> Run {
+    pub fn expected(&self) -> Run {
         Run {
             stop: self.end.0,
             rounds: self.log.iter().filter(|line| line[0] == 4).count() as u64,
@@ -348,14 +348,16 @@ impl Row {
         }
     }
 
-    fn case(&self) -> Case {
+    pub fn case(&self) -> Case {
         case_of(self.table.values, self.table.edges, self.table.weights)
     }
 }
 
-/// Every row of the three engines; the number of runs compared.
+/// Every row, with barred places and without, of the three engines; the number of runs
+/// compared.
 pub fn check() -> Result<usize, String> {
-    for row in ROWS {
+    let rows = || ROWS.iter().chain(barred_samples::rows());
+    for row in rows() {
         let (case, (kind, limit)) = (row.case(), row.run);
         for engine in [engine::run_case, plain::run_case, slow::engine::run] {
             let run = engine(&case, kind, limit);
@@ -365,7 +367,7 @@ pub fn check() -> Result<usize, String> {
         }
     }
     printed_refusal()?;
-    Ok(3 * ROWS.len() + 2)
+    Ok(3 * rows().count() + 2)
 }
 
 /// What `press` would print of a run that is refused after a round.
@@ -386,9 +388,11 @@ refused 11 19
     Ok(())
 }
 
-/// Every row: name, table, rounds and limit, the run.
-pub fn runs() -> Vec<(&'static str, Case, (Rounds, u64), Run)> {
-    let rows = ROWS.iter();
+/// Every row, those with barred places only if asked for: name, table, rounds and limit,
+/// the run.
+pub fn runs(barred: bool) -> Vec<(&'static str, Case, (Rounds, u64), Run)> {
+    let more = if barred { barred_samples::rows() } else { &[] };
+    let rows = ROWS.iter().chain(more);
     rows.map(|row| (row.name, row.case(), row.run, row.expected())).collect()
 }
 

@@ -124,31 +124,56 @@ fn trim(case: &Case, active: &Active, variable: usize, raised: &mut [bool]) {
     }
 }
 
+pub fn barred(weight: i64) -> bool {
+    weight == i64::from(BARRED)
+}
+
+/// A weight with another added to it, but where either is barred.
+fn with(weight: i64, other: i64) -> i64 {
+    if barred(weight) || barred(other) {
+        weight
+    } else {
+        weight + other
+    }
+}
+
 /// The weights of pair e after the shifts of end 0 and after those of both ends.
 fn shifted(case: &Case, weights: &[i64], e: usize) -> [Vec<i64>; 2] {
     let d = case.values;
     let (i, j) = case.edges[e];
     let pair = weights[part(case, case.variables + e)].iter().enumerate();
-    let half: Vec<i64> = pair.map(|(at, w)| w + weights[i * d + at / d]).collect();
-    let whole = half.iter().enumerate().map(|(at, w)| w + weights[j * d + at % d]).collect();
+    let half: Vec<i64> = pair.map(|(at, &w)| with(w, weights[i * d + at / d])).collect();
+    let both = half.iter().enumerate();
+    let whole = both.map(|(at, &w)| with(w, weights[j * d + at % d])).collect();
     [half, whole]
+}
+
+/// Some (k, l) is unbarred in the pair and in both links.
+fn has_choice(case: &Case, weights: &[i64], e: usize) -> bool {
+    let d = case.values;
+    let (i, j) = case.edges[e];
+    let mut pair = weights[part(case, case.variables + e)].iter().enumerate();
+    pair.any(|(at, &w)| ![w, weights[i * d + at / d], weights[j * d + at % d]].map(barred).contains(&true))
 }
 
 /// The lowest pair to shift into, and its weights after it.
 fn choose_pair(case: &Case, active: &Active, weights: &[i64]) -> Option<(usize, Vec<i64>)> {
-    let good = |pair: &Vec<i64>| pair.iter().all(|w| w.abs() <= WORK_LIMIT);
+    let good = |pair: &Vec<i64>| pair.iter().all(|&w| barred(w) || w.abs() <= WORK_LIMIT);
     case.edges.iter().enumerate().find_map(|(e, &(i, j))| {
         let greatest = [i, j, case.variables + e].map(|x| active.greatest[x]);
         let [half, whole] = shifted(case, weights, e);
-        let due = greatest.iter().sum::<i64>() > *whole.iter().max().unwrap();
-        (due && good(&half) && good(&whole)).then_some((e, whole))
+        let lower = greatest.iter().sum::<i64>() > *whole.iter().max().unwrap();
+        let found = lower && has_choice(case, weights, e) && good(&half) && good(&whole);
+        found.then_some((e, whole))
     })
 }
 
 fn shift_all(case: &Case, weights: &mut [i64], e: usize, pair: &[i64], log: &mut Vec<u8>) {
     let (i, j) = case.edges[e];
+    let moves = |w: i64| w != 0 && !barred(w);
     for (end, link) in [(0, i), (1, j)] {
-        for (k, w) in weights[part(case, link)].iter_mut().enumerate().filter(|(_, w)| **w != 0) {
+        let values = weights[part(case, link)].iter_mut().enumerate();
+        for (k, w) in values.filter(|(_, w)| moves(**w)) {
             line::write(log, 1, e as i64, end, k as i64, -*w);
             *w = 0;
         }
@@ -156,28 +181,50 @@ fn shift_all(case: &Case, weights: &mut [i64], e: usize, pair: &[i64], log: &mut
     weights[part(case, case.variables + e)].copy_from_slice(pair);
 }
 
-fn press(
-    case: &Case,
-    active: &Active,
-    weights: &mut [i64],
-    (variable, mut raised): (usize, Vec<bool>),
-    log: &mut Vec<u8>,
-) -> Result<(), u8> {
+/// A press found: its link, the link and the kept scopes, the amount. Without an amount
+/// it is a void line.
+struct Press {
+    variable: usize,
+    touched: Vec<usize>,
+    amount: Option<i64>,
+}
+
+fn find_press(case: &Case, active: &Active, weights: &[i64]) -> Option<Press> {
+    let (variable, mut raised) = choose(case, active)?;
     trim(case, active, variable, &mut raised);
     let touched: Vec<usize> = (0..raised.len()).filter(|&x| raised[x] || x == variable).collect();
     let amount = touched
         .iter()
         .flat_map(|&x| weights[part(case, x)].iter().map(move |w| (x, w)))
+        .filter(|&(_, &w)| !barred(w))
         .map(|(x, w)| active.greatest[x] - w)
         .filter(|&gap| gap > 0)
-        .min()
-        .unwrap();
+        .min();
+    Some(Press { variable, touched, amount })
+}
+
+fn write_press(log: &mut Vec<u8>, press: &Press) {
+    let (kind, amount) = press.amount.map_or((5, 0), |amount| (2, amount));
+    let raised = press.touched.iter().filter(|&&x| x != press.variable);
+    line::write(log, kind, press.variable as i64, raised.clone().count() as i64, 0, amount);
+    for &x in raised {
+        line::write(log, 3, x as i64, 0, 0, 0);
+    }
+}
+
+fn make_press(
+    case: &Case,
+    active: &Active,
+    weights: &mut [i64],
+    press: &Press,
+    amount: i64,
+) -> Result<(), u8> {
     let mut next = weights.to_vec();
-    for &x in &touched {
-        for w in &mut next[part(case, x)] {
-            if x == variable && *w == active.greatest[x] {
+    for &x in &press.touched {
+        for w in next[part(case, x)].iter_mut().filter(|w| !barred(**w)) {
+            if x == press.variable && *w == active.greatest[x] {
                 *w -= amount;
-            } else if x != variable && *w != active.greatest[x] {
+            } else if x != press.variable && *w != active.greatest[x] {
                 *w += amount;
             }
             if w.abs() > WORK_LIMIT {
@@ -186,34 +233,36 @@ fn press(
         }
     }
     weights.copy_from_slice(&next);
-    line::write(log, 2, variable as i64, touched.len() as i64 - 1, 0, amount);
-    for &x in touched.iter().filter(|&&x| x != variable) {
-        line::write(log, 3, x as i64, 0, 0, 0);
-    }
     Ok(())
 }
 
-/// One round: its lines and the table after it; nothing if settled. Without `make` it
-/// is looked for only.
+/// One round: its lines and the table after it, or why there is none.
 fn round(
     case: &Case,
     kind: Rounds,
     weights: &mut [i64],
     log: &mut Vec<u8>,
-    make: bool,
-) -> Option<Result<(), u8>> {
+    at_limit: bool,
+) -> Result<(), Stop> {
     let active = read(case, weights);
+    let left = if at_limit { Err(Stop::Limit) } else { Ok(()) };
     if let Some((e, pair)) = choose_pair(case, &active, weights) {
-        if make {
-            shift_all(case, weights, e, &pair, log);
-        }
-        return Some(Ok(()));
+        left?;
+        shift_all(case, weights, e, &pair, log);
+        return Ok(());
     }
     if kind == Rounds::Pairs {
-        return None;
+        return Err(Stop::Settled);
     }
-    let chosen = choose(case, &active)?;
-    Some(if make { press(case, &active, weights, chosen, log) } else { Ok(()) })
+    let press = find_press(case, &active, weights).ok_or(Stop::Settled)?;
+    let Some(amount) = press.amount else {
+        write_press(log, &press);
+        return Err(Stop::Void);
+    };
+    left?;
+    make_press(case, &active, weights, &press, amount).map_err(Stop::Refused)?;
+    write_press(log, &press);
+    Ok(())
 }
 
 /// A run from the weights that the case holds.
@@ -222,12 +271,10 @@ pub fn run_case(case: &Case, kind: Rounds, limit: u64) -> Run {
     let mut log = Vec::new();
     let mut rounds = 0;
     let stop = loop {
-        match round(case, kind, &mut weights, &mut log, rounds < limit) {
-            None => break Stop::Settled,
-            Some(_) if rounds == limit => break Stop::Limit,
-            Some(Err(number)) => break Stop::Refused(number),
-            Some(Ok(())) => rounds += 1,
+        if let Err(stop) = round(case, kind, &mut weights, &mut log, rounds == limit) {
+            break stop;
         }
+        rounds += 1;
         line::write(&mut log, 4, 0, 0, 0, upper_bound(case, &weights));
     };
     let upper_bound = upper_bound(case, &weights);

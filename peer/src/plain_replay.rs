@@ -3,13 +3,14 @@
 
 use crate::case;
 use crate::line;
-use crate::plain::{all_refuted, part, read, scopes, upper_bound};
+use crate::plain::{all_refuted, barred, part, read, scopes, upper_bound, Active};
 use crate::replay::below;
 use crate::types::*;
 
+/// A press or, without an amount, a void line.
 struct Held {
     variable: usize,
-    amount: i64,
+    amount: Option<i64>,
     left: usize,
     last: Option<usize>,
     raised: Vec<bool>,
@@ -22,16 +23,19 @@ struct Replay<'a> {
     round_start: i64,
     open_moves: bool,
     held: Option<Held>,
+    void: bool,
 }
 
 impl Replay<'_> {
     fn take(&mut self, bytes: &[u8]) -> Result<(), u8> {
         let line = line::parse(bytes).ok_or(1)?;
         match (line.kind, self.held.take()) {
+            _ if self.void => Err(2),
             (3, Some(held)) => self.raise(line, held),
             (1, None) => self.shift(line),
             (2, None) => self.press(line),
             (4, None) => self.bound(line),
+            (5, None) => self.void(line),
             _ => Err(2),
         }
     }
@@ -41,9 +45,13 @@ impl Replay<'_> {
         let mut parts = vec![];
         for &scope in touched {
             let old = self.weights[part(self.case, scope)].iter().enumerate();
-            let new: Vec<i64> = old.map(|(at, &weight)| to(scope, at, weight)).collect();
-            if new.iter().any(|weight| weight.abs() > WORK_LIMIT) {
-                return Err(11);
+            let mut new = vec![];
+            for (at, &weight) in old {
+                let next = if barred(weight) { weight } else { to(scope, at, weight) };
+                if !barred(weight) && next.abs() > WORK_LIMIT {
+                    return Err(11);
+                }
+                new.push(next);
             }
             parts.push(new);
         }
@@ -75,12 +83,26 @@ impl Replay<'_> {
         if line.c != 0 {
             return Err(2);
         }
-        let variable = below(line.a, self.case.variables)?;
-        let left = below(line.b, scopes(self.case))?;
-        if left == 0 || !(1..=MOVE_LIMIT).contains(&line.amount) {
+        if !(1..=MOVE_LIMIT).contains(&line.amount) {
             return Err(5);
         }
-        let (raised, amount) = (vec![false; scopes(self.case)], line.amount);
+        self.hold(line, Some(line.amount))
+    }
+
+    fn void(&mut self, line: Line) -> Result<(), u8> {
+        if (line.c | line.amount) != 0 {
+            return Err(2);
+        }
+        self.hold(line, None)
+    }
+
+    fn hold(&mut self, line: Line, amount: Option<i64>) -> Result<(), u8> {
+        let variable = below(line.a, self.case.variables)?;
+        let left = below(line.b, scopes(self.case))?;
+        if left == 0 {
+            return Err(5);
+        }
+        let raised = vec![false; scopes(self.case)];
         self.held = Some(Held { variable, amount, left, last: None, raised });
         Ok(())
     }
@@ -106,13 +128,28 @@ impl Replay<'_> {
         }
         held.raised[held.variable] = true;
         let touched: Vec<usize> = (0..held.raised.len()).filter(|&x| held.raised[x]).collect();
+        let Some(amount) = held.amount else {
+            return self.end_void(&active, &touched);
+        };
         self.change(&touched, |scope, _, weight| {
             match (scope == held.variable, weight == active.greatest[scope]) {
-                (true, true) => weight - held.amount,
-                (false, false) => weight + held.amount,
+                (true, true) => weight - amount,
+                (false, false) => weight + amount,
                 _ => weight,
             }
         })
+    }
+
+    /// All that is inactive in the link and in the raised scopes must be barred.
+    fn end_void(&mut self, active: &Active, touched: &[usize]) -> Result<(), u8> {
+        for &scope in touched {
+            let weights = &self.weights[part(self.case, scope)];
+            if weights.iter().any(|&w| w != active.greatest[scope] && !barred(w)) {
+                return Err(16);
+            }
+        }
+        self.void = true;
+        Ok(())
     }
 
     fn bound(&mut self, line: Line) -> Result<(), u8> {
@@ -131,20 +168,23 @@ impl Replay<'_> {
     }
 }
 
-/// Rounds and upper bound of an accepted case and log, or the refusal.
-pub fn answer(input: &[u8]) -> Result<(u64, i64), Refusal> {
+/// What an accepted case and log say, or the refusal.
+pub fn answer(input: &[u8]) -> Result<Verdict, Refusal> {
     let (case, used) = case::read_front(input)?;
     let weights: Vec<i64> = case.weights.iter().map(|&w| i64::from(w)).collect();
     let round_start = upper_bound(&case, &weights);
-    let (rounds, open_moves, held) = (0, false, None);
-    let mut replay = Replay { case: &case, weights, rounds, round_start, open_moves, held };
+    let (rounds, open_moves, held, void) = (0, false, None, false);
+    let mut replay = Replay { case: &case, weights, rounds, round_start, open_moves, held, void };
     let lines = input[used * LINE_BYTES..].chunks_exact(LINE_BYTES);
     let (end, whole) = (used + lines.len(), lines.remainder().is_empty());
     for (line, bytes) in (used..).zip(lines) {
         replay.take(bytes).map_err(|number| Refusal { number, line })?;
     }
-    if !whole || replay.held.is_some() || replay.open_moves {
+    if !whole || replay.held.is_some() || replay.open_moves && !replay.void {
         return Err(Refusal { number: 14, line: end });
     }
-    Ok((replay.rounds, upper_bound(&case, &replay.weights)))
+    if replay.void {
+        return Ok(Verdict::Void);
+    }
+    Ok(Verdict::Accepted(replay.rounds, upper_bound(&case, &replay.weights)))
 }

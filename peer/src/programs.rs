@@ -43,22 +43,29 @@ pub fn run_table(input: &[u8], engine: Engine, kind: Rounds, limit: u64) -> Vec<
     let stop = match run.stop {
         Stop::Settled => "settled".into(),
         Stop::Limit => "limit".into(),
+        Stop::Void => "void".into(),
         Stop::Refused(number) => format!("refused {number}"),
     };
     let last = format!("{stop} {} {}\n", run.rounds, run.upper_bound);
     [run.log, last.into_bytes()].concat()
 }
 
-/// Rounds and upper bound of an accepted case and log, or the refusal.
-pub fn replay_answer(input: &[u8]) -> Result<(u64, i64), Refusal> {
+/// What an accepted case and log say, or the refusal.
+pub fn replay_answer(input: &[u8]) -> Result<Verdict, Refusal> {
     let (case, used) = case::read_front(input)?;
     let replay = replay_file(&case, &input[used * LINE_BYTES..], used)?;
-    Ok((replay.rounds, replay.state.upper_bound))
+    Ok(match replay.void {
+        true => Verdict::Void,
+        false => Verdict::Accepted(replay.rounds, replay.state.upper_bound),
+    })
 }
 
-fn judgement(answer: Result<(u64, i64), Refusal>) -> Vec<u8> {
+fn judgement(answer: Result<Verdict, Refusal>) -> Vec<u8> {
     match answer {
-        Ok((rounds, bound)) => format!("accepted {rounds} {bound}\n").into_bytes(),
+        Ok(Verdict::Accepted(rounds, bound)) => {
+            format!("accepted {rounds} {bound}\n").into_bytes()
+        }
+        Ok(Verdict::Void) => b"void\n".to_vec(),
         Err(refusal) => refusal_text(refusal),
     }
 }

@@ -36,7 +36,8 @@ fn supported_jointly(rows: u64, domains: u64) -> u64 {
 }
 
 /// Whether no choice of values is active in the edge and in both its variables: then
-/// the three greatest weights add up to more than any total of the three.
+/// the three greatest weights add up to more than any total of the three, barred
+/// choices left out.
 pub fn no_active_choice(state: &State, edge: usize) -> bool {
     let [lower, higher] = state.ends[edge].map(|variable| state.active[variable as usize]);
     lower & supported(state.rows[edge][0], higher) == 0

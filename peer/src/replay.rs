@@ -1,4 +1,5 @@
-//! The replay of log lines, fast. Answers are those of document 01's plain replay.
+//! The replay of log lines, fast. Answers are those of document 01's plain replay, with
+//! document 02's void lines.
 
 use crate::line;
 use crate::refute::all_active_refuted;
@@ -6,12 +7,19 @@ use crate::scopes::Scopes;
 use crate::state::State;
 use crate::types::*;
 
-/// A press whose raise lines are not all there yet; `next` is the lowest scope that
-/// is above the raised ones.
+/// What is done at the last raise line.
+#[derive(Clone, Copy)]
+enum Target {
+    Press(i32),
+    Void,
+}
+
+/// A press or void line whose raise lines are not all there yet; `next` is the lowest
+/// scope that is above the raised ones.
 #[derive(Clone, Copy)]
 struct Held {
     variable: usize,
-    amount: i32,
+    target: Target,
     left: usize,
     next: usize,
     raised: Scopes,
@@ -22,6 +30,8 @@ pub struct Replay {
     pub rounds: u64,
     /// The number that stands, once a line was refused.
     pub standing: Option<u8>,
+    /// A void line is whole: nothing is due any more.
+    pub void: bool,
     round_start: i64,
     open_moves: bool,
     held: Option<Held>,
@@ -35,6 +45,7 @@ impl Replay {
             state,
             rounds: 0,
             standing: None,
+            void: false,
             round_start,
             open_moves: false,
             held: None,
@@ -52,7 +63,7 @@ impl Replay {
 
     /// The answer at the end of the list.
     pub fn end(&self) -> Option<u8> {
-        let unfinished = self.held.is_some() || self.open_moves;
+        let unfinished = self.held.is_some() || self.open_moves && !self.void;
         self.standing.or(unfinished.then_some(14))
     }
 
@@ -60,10 +71,12 @@ impl Replay {
     fn take(&mut self, bytes: &[u8]) -> Result<(), u8> {
         let line = line::parse(bytes).ok_or(1)?;
         match (line.kind, self.held.is_some()) {
+            _ if self.void => Err(2),
             (3, true) => self.raise(line),
             (1, false) => self.shift(line),
             (2, false) => self.press(line),
             (4, false) => self.bound(line),
+            (5, false) => self.void(line),
             _ => Err(2),
         }
     }
@@ -84,15 +97,28 @@ impl Replay {
         if line.c != 0 {
             return Err(2);
         }
-        let variable = below(line.a, self.state.variables)?;
-        let left = below(line.b, self.state.scopes())?;
-        if left == 0 || !(1..=MOVE_LIMIT).contains(&line.amount) {
+        if !(1..=MOVE_LIMIT).contains(&line.amount) {
             return Err(5);
         }
-        let amount = line.amount as i32;
+        self.hold(line, Target::Press(line.amount as i32))
+    }
+
+    fn void(&mut self, line: Line) -> Result<(), u8> {
+        if (line.c | line.amount) != 0 {
+            return Err(2);
+        }
+        self.hold(line, Target::Void)
+    }
+
+    fn hold(&mut self, line: Line, target: Target) -> Result<(), u8> {
+        let variable = below(line.a, self.state.variables)?;
+        let left = below(line.b, self.state.scopes())?;
+        if left == 0 {
+            return Err(5);
+        }
         self.held = Some(Held {
             variable,
-            amount,
+            target,
             left,
             next: 0,
             raised: Scopes::default(),
@@ -119,16 +145,22 @@ impl Replay {
             return Ok(());
         }
         let held = *held;
-        self.finish_press(&held)
+        self.finish(&held)
     }
 
-    fn finish_press(&mut self, held: &Held) -> Result<(), u8> {
+    fn finish(&mut self, held: &Held) -> Result<(), u8> {
         if !all_active_refuted(&self.state, &held.raised, held.variable) {
             return Err(10);
         }
-        self.state.press(held.variable, &held.raised, held.amount)?;
+        match held.target {
+            Target::Press(amount) => {
+                self.state.press(held.variable, &held.raised, amount)?;
+                self.open_moves = true;
+            }
+            Target::Void if !self.state.bars_rest(held.variable, &held.raised) => return Err(16),
+            Target::Void => self.void = true,
+        }
         self.held = None;
-        self.open_moves = true;
         Ok(())
     }
 

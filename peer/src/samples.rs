@@ -3,8 +3,9 @@
 
 use crate::refusals::by_hand;
 use crate::types::*;
-use crate::{case, engine, pair_samples, programs, slow};
+use crate::{barred_samples, case, engine, pair_samples, plain, programs, slow};
 
+#[derive(Clone)]
 pub struct Sample {
     pub name: &'static str,
     pub input: Vec<u8>,
@@ -101,7 +102,7 @@ pub fn replayed(name: &'static str, case: &Case, log: &[u8], output: &str) -> Sa
     }
 }
 
-fn pressed(name: &'static str, case: &Case, output: &[u8]) -> Sample {
+pub fn pressed(name: &'static str, case: &Case, output: &[u8]) -> Sample {
     let output = String::from_utf8_lossy(output).into_owned();
     Sample {
         name,
@@ -221,18 +222,21 @@ fn p13_samples() -> Vec<Sample> {
 }
 
 fn ask(sample: &Sample) -> Result<(), String> {
+    let plain = |input| programs::press_by(input, plain::run_case, Rounds::All, PROGRAM_ROUNDS);
     let answers = if sample.press {
         [
             programs::press(&sample.input),
+            plain(&sample.input),
             slow::programs::press(&sample.input),
         ]
     } else {
         [
             programs::replay(&sample.input),
+            programs::plain_replay(&sample.input),
             slow::programs::replay(&sample.input),
         ]
     };
-    for (answer, reading) in answers.iter().zip(["fast", "slow"]) {
+    for (answer, reading) in answers.iter().zip(["fast", "plain", "slow"]) {
         if answer != sample.output.as_bytes() {
             let answer = String::from_utf8_lossy(answer);
             return Err(format!(
@@ -279,15 +283,16 @@ fn all() -> Vec<Sample> {
         samples.push(pressed(name, &case, &log));
     }
     samples.extend(by_hand());
+    samples.extend(barred_samples::by_hand());
     samples
 }
 
-/// Every sample of both readings; the number of answers compared.
+/// Every sample of all readings; the number of answers compared.
 pub fn check() -> Result<usize, String> {
-    let mut count = ask_runs()? + pair_samples::check()?;
+    let mut count = ask_runs()? + pair_samples::check()? + barred_samples::check()?;
     for sample in all() {
         ask(&sample)?;
-        count += 2;
+        count += 3;
     }
     let read = case::read_front(&case::write(&p4()));
     if read != Ok((p4(), 10)) {

@@ -1,15 +1,17 @@
 //! Starting totals of assignments, and which of two is the better.
 
-use crate::types::{Better, Case};
+use crate::types::{Better, Case, BARRED};
 
-/// The assignment's starting total; number 4 for its length, 5 for a value.
+/// The assignment's starting total; number 4 for its length, 5 for a value or a barred
+/// combination used.
 pub fn objective(case: &Case, assignment: &[u64]) -> Result<i64, u8> {
     check_length(case, assignment)?;
     check_values(case, assignment)?;
-    Ok(sum(case, assignment))
+    sum(case, assignment).ok_or(5)
 }
 
-/// The one with the greater starting total, the first on a tie.
+/// The one with the greater starting total, the first on a tie. All that use a barred
+/// combination are level, below the others.
 pub fn score(case: &Case, first: &[u64], second: &[u64]) -> Result<Better, u8> {
     check_length(case, first)?;
     check_length(case, second)?;
@@ -38,16 +40,21 @@ fn check_values(case: &Case, assignment: &[u64]) -> Result<(), u8> {
     }
 }
 
-fn sum(case: &Case, assignment: &[u64]) -> i64 {
+/// Nothing if the assignment uses a barred combination.
+fn sum(case: &Case, assignment: &[u64]) -> Option<i64> {
     let values = case.values;
     let mut total = 0i64;
     for (variable, &value) in assignment.iter().enumerate() {
-        total += i64::from(case.weights[variable * values + value as usize]);
+        total += unbarred(case.weights[variable * values + value as usize])?;
     }
     let pairs = &case.weights[case.variables * values..];
     for (edge, &(lower, higher)) in case.edges.iter().enumerate() {
         let (first, second) = (assignment[lower] as usize, assignment[higher] as usize);
-        total += i64::from(pairs[(edge * values + first) * values + second]);
+        total += unbarred(pairs[(edge * values + first) * values + second])?;
     }
-    total
+    Some(total)
+}
+
+fn unbarred(weight: i32) -> Option<i64> {
+    (weight != BARRED).then_some(weight.into())
 }

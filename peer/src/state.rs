@@ -15,7 +15,8 @@ pub struct Near {
 /// The working weights are kept in a way that a press by less than every gap costs
 /// nothing for each tuple: an active tuple's weight is its scope's `greatest`, an
 /// inactive one's is the stored weight plus the scope's `lift`. Stored weights equal
-/// to `mark` belong to active tuples.
+/// to `mark` belong to active tuples. A barred tuple is stored as `BARRED`, which no
+/// other one's stored weight is, and nothing is ever added to it.
 #[derive(Clone)]
 pub struct State {
     pub variables: usize,
@@ -30,12 +31,14 @@ pub struct State {
     mark: [i32; MAX_SCOPES],
     lift: [i32; MAX_SCOPES],
     greatest: [i32; MAX_SCOPES],
-    /// The greatest inactive weight, `NONE` if all tuples are active.
+    /// The greatest inactive weight, `NONE` if all unbarred tuples are active.
     runner_up: [i32; MAX_SCOPES],
     /// Active values of each variable.
     pub active: [u8; MAX_VARIABLES],
     /// Byte k of `rows[e][end]`: the other end's values that are active with k.
     pub rows: [[u64; 2]; MAX_EDGES],
+    /// Edges in which some choice of values is unbarred in all three scopes.
+    pub choice: [bool; MAX_EDGES],
     pub upper_bound: i64,
 }
 
@@ -62,9 +65,13 @@ impl State {
             runner_up: [NONE; MAX_SCOPES],
             active: [0; MAX_VARIABLES],
             rows: [[0; 2]; MAX_EDGES],
+            choice: [false; MAX_EDGES],
             upper_bound: 0,
         };
         state.join(case);
+        for edge in 0..state.edges {
+            state.choice[edge] = state.has_choice(edge);
+        }
         for scope in 0..state.scopes() {
             state.refresh(scope);
         }
@@ -91,6 +98,14 @@ impl State {
             }
         }
         self.first_near[self.variables] = next as u16;
+    }
+
+    fn has_choice(&self, edge: usize) -> bool {
+        let [lower, higher] = self.ends[edge].map(|end| self.places(end as usize).start);
+        let tuples = self.places(self.variables + edge).enumerate();
+        let places = |(at, place)| [place, lower + at / self.values, higher + at % self.values];
+        let unbarred = |places: [usize; 3]| places.iter().all(|&at| self.stored[at] != BARRED);
+        tuples.map(places).any(unbarred)
     }
 
     pub fn scopes(&self) -> usize {
@@ -124,7 +139,7 @@ impl State {
     /// The scope's working weights in table order.
     pub fn working(&self, scope: usize) -> impl Iterator<Item = i32> + '_ {
         let (top, mark, lift) = (self.greatest[scope], self.mark[scope], self.lift[scope]);
-        let now = move |&weight: &i32| if weight == mark { top } else { weight + lift };
+        let now = move |&weight: &i32| lifted(weight, mark, top, lift);
         self.stored[self.places(scope)].iter().map(now)
     }
 
@@ -142,7 +157,7 @@ impl State {
     fn store(&mut self, scope: usize, top: i32) {
         let (places, mark, lift) = (self.places(scope), self.mark[scope], self.lift[scope]);
         for weight in &mut self.stored[places] {
-            *weight = if *weight == mark { top } else { *weight + lift };
+            *weight = lifted(*weight, mark, top, lift);
         }
         self.mark[scope] = top;
         self.lift[scope] = 0;
@@ -152,7 +167,11 @@ impl State {
     fn refresh(&mut self, scope: usize) {
         let weights = &self.stored[self.places(scope)];
         let greatest = weights.iter().fold(NONE, |most, &weight| most.max(weight));
-        let inactive = |weight: i32| if weight == greatest { NONE } else { weight };
+        let inactive = |weight: i32| match weight {
+            BARRED => NONE,
+            _ if weight == greatest => NONE,
+            _ => weight,
+        };
         self.runner_up[scope] = weights.iter().fold(NONE, |most, &w| most.max(inactive(w)));
         if scope < self.variables {
             self.active[scope] = equal_mask(weights, greatest);
@@ -183,11 +202,21 @@ impl State {
         self.rows[scope - self.variables][0] != self.full_rows
     }
 
-    /// Greatest weight minus greatest inactive weight; no limit if all are active.
+    /// Greatest weight minus greatest inactive weight; no limit if all unbarred ones are
+    /// active.
     #[inline]
     pub fn gap(&self, scope: usize) -> Option<i32> {
         let runner_up = self.runner_up[scope];
         (runner_up != NONE).then(|| self.greatest[scope] - runner_up)
+    }
+
+    /// Whether all inactive combinations of the variable and of the raised scopes are
+    /// barred: none of them sets a gap.
+    pub fn bars_rest(&self, variable: usize, raised: &Scopes) -> bool {
+        let mut barred = self.gap(variable).is_none();
+        raised.each_variable(|other| barred &= self.gap(other).is_none());
+        raised.each_edge(|edge| barred &= self.gap(self.variables + edge).is_none());
+        barred
     }
 
     /// Shift, or number 11. Ranges of the arguments are the caller's.
@@ -203,38 +232,50 @@ impl State {
             (value, self.values)
         };
         let first = self.places(scope).start + first;
-        let mut good = in_range(self.stored[place] + amount);
+        let mut good = stays(self.stored[place], amount);
         for other in 0..self.values {
-            good &= in_range(self.stored[first + other * step] - amount);
+            good &= stays(self.stored[first + other * step], -amount);
         }
         if !good {
             return Err(11);
         }
-        self.stored[place] += amount;
+        self.stored[place] = moved(self.stored[place], amount);
         for other in 0..self.values {
-            self.stored[first + other * step] -= amount;
+            let weight = &mut self.stored[first + other * step];
+            *weight = moved(*weight, -amount);
         }
         self.refresh(variable);
         self.refresh(scope);
         Ok(())
     }
 
-    /// What the edge's weights become when both variables' weights are shifted into it;
-    /// nothing if a weight is out of range then or after the shifts of end 0.
+    /// What the edge's weights become when both variables' unbarred weights are shifted
+    /// into it; nothing if a weight is out of range then or after the shifts of end 0.
     pub fn gathered(&self, edge: usize) -> Option<Vec<i32>> {
         let [lower, higher] = self.ends[edge].map(usize::from);
         let lower: Vec<i32> = self.working(lower).collect();
         let higher: Vec<i32> = self.working(higher).collect();
+        let share = |weight: i32| if weight == BARRED { 0 } else { weight };
         let sums = |(at, weight): (usize, i32)| {
-            let half = weight + lower[at / self.values];
-            let whole = half + higher[at % self.values];
+            if weight == BARRED {
+                return Some(BARRED);
+            }
+            let half = weight + share(lower[at / self.values]);
+            let whole = half + share(higher[at % self.values]);
             (in_range(half) && in_range(whole)).then_some(whole)
         };
         let tuples = self.working(self.variables + edge).enumerate();
         tuples.map(sums).collect()
     }
 
-    /// Gives the edge what `gathered` found and its variables zeros.
+    /// Whether the ceiling is lower with what `gathered` found.
+    pub fn lowers(&self, edge: usize, weights: &[i32]) -> bool {
+        let [lower, higher] = self.ends[edge].map(|end| i64::from(self.greatest[end as usize]));
+        let before = lower + higher + i64::from(self.greatest[self.variables + edge]);
+        weights.iter().all(|&weight| i64::from(weight) < before)
+    }
+
+    /// Gives the edge what `gathered` found and its variables zeros, but where barred.
     pub fn gather(&mut self, edge: usize, weights: &[i32]) {
         let scope = self.variables + edge;
         let places = self.places(scope);
@@ -242,7 +283,9 @@ impl State {
         self.refresh(scope);
         for variable in self.ends[edge].map(usize::from) {
             let places = self.places(variable);
-            self.stored[places].fill(0);
+            for weight in &mut self.stored[places] {
+                *weight = if *weight == BARRED { BARRED } else { 0 };
+            }
             self.refresh(variable);
         }
     }
@@ -286,6 +329,34 @@ impl State {
         self.store(scope, lower);
         self.refresh(scope);
     }
+}
+
+/// The weight now of a stored one.
+#[inline]
+fn lifted(weight: i32, mark: i32, top: i32, lift: i32) -> i32 {
+    let other = if weight == BARRED { weight } else { weight.wrapping_add(lift) };
+    if weight == mark {
+        top
+    } else {
+        other
+    }
+}
+
+/// A weight after a move; a barred one stays.
+#[inline]
+fn moved(weight: i32, amount: i32) -> i32 {
+    if weight == BARRED {
+        weight
+    } else {
+        weight + amount
+    }
+}
+
+/// Whether a weight stays within its range under a move; nothing is asked of a barred
+/// one.
+#[inline]
+fn stays(weight: i32, amount: i32) -> bool {
+    weight == BARRED || in_range(weight + amount)
 }
 
 #[inline]

@@ -11,6 +11,8 @@ pub const WORK_LIMIT: i64 = 500_000_000;
 pub const MOVE_LIMIT: i64 = 1_000_000_000;
 pub const ROUND_LIMIT: u64 = 999_999_999_999_999_999;
 pub const PROGRAM_ROUNDS: u64 = 100_000;
+/// What a barred combination holds in a table.
+pub const BARRED: i32 = -2_000_000_000;
 
 /// One case: `edges[e]` joins a lower and a higher variable; `weights` is the table in
 /// document 01's order, of starting weights or, where a run is lent one, of working
@@ -44,6 +46,7 @@ pub struct Refusal {
 pub enum Stop {
     Settled,
     Limit,
+    Void,
     Refused(u8),
 }
 
@@ -62,6 +65,14 @@ pub struct Run {
     pub upper_bound: i64,
     pub log: Vec<u8>,
     pub weights: Vec<i32>,
+}
+
+/// What the replay of an accepted case and log says.
+#[derive(Clone, Copy, PartialEq, Eq, Debug)]
+pub enum Verdict {
+    /// Rounds and upper bound.
+    Accepted(u64, i64),
+    Void,
 }
 
 #[derive(Clone, Copy, PartialEq, Eq, Debug)]

@@ -10,8 +10,11 @@ from running.stand_ins import COMPLAINS, DIES, judges, says
 from .trial import cut, plain
 
 
+NO_PLAN = b"no lawful plan exists: every plan uses something that is barred\n"
+
+
 def status(verdict):
-    return 0 if verdict.startswith(b"accepted") else 1
+    return 1 if verdict.startswith(b"refused") else 0
 
 
 def stored(trial):
@@ -26,8 +29,11 @@ def stored(trial):
             files = trial.both(case, log)
             ended = trial.ask("check", *files)
             trial.ends(f"check {name}", ended, status(wanted), wanted)
-            said = wanted.startswith(b"accepted") or b"ceiling explain" in ended.err
-            trial.test(f"check {name} says who knows why", said, f"{ended.err}")
+            if wanted.startswith(b"refused"):
+                trial.test(f"check {name} says who knows why", b"ceiling explain" in ended.err, f"{ended.err}")
+            else:
+                said = NO_PLAN if wanted == b"void\n" else b""
+                trial.test(f"check {name} says what void means", ended.err == said, f"{ended.err}")
             explained(trial, name, files, case, wanted)
 
 
@@ -45,7 +51,8 @@ def explained(trial, name, files, case, wanted):
         trial.test(f"explain {name}, where the rules are", plain(words).endswith(f"\n{rules}\n"), plain(words)[-200:])
         trial.test(f"explain {name}, the rule", re.search(rf"\b(rule|number) {number}\b", plain(words), re.I), plain(words)[:200])
     else:
-        trial.test(f"explain {name}, in words", wanted.split()[2].decode() in plain(words), plain(words)[:200])
+        meaning = NO_PLAN.decode().strip() if wanted == b"void\n" else wanted.split()[2].decode()
+        trial.test(f"explain {name}, in words", meaning.lower() in plain(words).lower(), plain(words)[:200])
     return plain(words)
 
 
@@ -66,6 +73,10 @@ def place(trial, name, words, files, before, at):
     trial.test(f"explain {name}, the mark", mark and len(mark[1]) + 1 == column, f"{words[:400]}")
 
 
+# Valid cases that the engine does not take.
+NOT_TAKEN = ("8-barred-value", "8-barred-pair-weight")
+
+
 def pressed(trial):
     """`press` prints the log, or the refusal on standard error; under its name a log is there whole or not at all."""
     for at, (name, data, printed) in enumerate(trial.samples("press")):
@@ -77,7 +88,8 @@ def pressed(trial):
             ended = trial.ask("press", case, *(["-o", to] if kept else []))
             if refused:
                 rows = ended.err.splitlines(keepends=True)
-                good = len(rows) == 2 and rows[0] == printed and b"ceiling explain" in rows[1]
+                hint = b"does not take barred channels" if name in NOT_TAKEN else b"ceiling explain"
+                good = len(rows) == 2 and rows[0] == printed and hint in rows[1]
                 trial.ends(title, ended, 1, b"")
                 trial.test(title + ", the refusal", good, f"{ended.err}")
                 trial.test(title + ", no file", not kept or os.listdir(os.path.dirname(to)) == [])
@@ -107,7 +119,8 @@ def damaged(trial):
     for seed in range(64):
         kind = ("small", "chain", "ring", "tree", "mesh", "unusable", "uniform", "extreme")[seed % 8]
         size = ["--links", str(1 + seed % 5), "--values", str(1 + seed % 4), "--pairs", str(seed % 7)]
-        case = trial.peer("generate", kind, "--seed", str(seed), *size)
+        barred = ["--barred", str((0, 30, 60)[seed % 3])]
+        case = trial.peer("generate", kind, "--seed", str(seed), *size, *barred)
         whole = trial.peer("foreign", "--seed", str(seed), data=case)
         both = (trial.peer("damage", "--seed", str(seed), data=whole), trial.peer("damage", "--seed", str(seed + 1000), data=case))
         for title, data in zip(("foreign", "damaged", "damaged case"), (whole, *both)):
@@ -124,7 +137,7 @@ def other_words(trial):
     """A `replay` that says something else: what it says is passed on. One that gives no judgement: none is given."""
     files = trial.both(P4, P4_PRESS)
     fine = says("accepted 0 4\n")
-    for said in ("accepted 3 -77", "accepted 1 99", "accepted 0 4", "refused 13 2", "refused 12 13", "refused 10 999999", "refused 99 1"):
+    for said in ("accepted 3 -77", "accepted 1 99", "accepted 0 4", "void", "refused 13 2", "refused 12 13", "refused 10 999999", "refused 99 1"):
         text = said + "\n"
         programs = trial.stand_ins.folder(replay=judges(len(P4), fine, f"printf '{text}'\n"))
         wanted = text.encode()
@@ -142,7 +155,8 @@ def other_words(trial):
     for name, script in (
         ("nothing", "\n"), ("half a line", "printf 'accepted 1 2'\n"), ("something else", "echo hello\n"), ("two lines", verdict * 2),
         ("half and dies", "printf 'accepted 1'\n" + DIES), ("a verdict and dies", verdict + DIES), ("a verdict and a complaint", verdict + COMPLAINS),
-        ("letters for numbers", "echo accepted one 2\n"), ("a number short", "echo refused 3\n"),
+        ("letters for numbers", "echo accepted one 2\n"), ("a number short", "echo refused 3\n"), ("more than void", "echo void 1\n"),
+        ("void without its line feed", "printf void\n"), ("a space after void", "echo 'void '\n"),
     ):
         for command, place, programs in (
             ("check", "", trial.stand_ins.folder(replay=judges(len(P4), fine, script))),
@@ -159,6 +173,7 @@ def bounds(trial):
         ("accepted 0 5", "settled at once: no plan's total is above 5"),
         ("accepted 99999 5", "settled after 99999 rounds: no plan's total is above 5"),
         ("accepted 100000 5", "the limit of 100000 rounds was reached, perhaps not settled: no plan's total is above 5"),
+        ("void", NO_PLAN.decode().strip()),
     ):
         programs = trial.stand_ins.folder(replay=says(verdict + "\n"))
         ended = trial.ask("press", case, programs=programs)

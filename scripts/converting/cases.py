@@ -3,7 +3,7 @@
 import itertools
 from collections import namedtuple
 
-from picturing.case import MOST_CHANNELS, MOST_LINKS, MOST_PAIRS, STARTING, read_case, write_case
+from picturing.case import BARRED, MOST_CHANNELS, MOST_LINKS, MOST_PAIRS, STARTING, read_case, write_case
 
 LARGEST = (MOST_LINKS, MOST_CHANNELS, MOST_PAIRS)
 # Weights by kind; the middle kind is the widest whose costs always fit the weights without being lifted.
@@ -25,8 +25,8 @@ class Case(namedtuple("Case", "values links pairs")):
     def lowered(self):
         """Every scope lowered until its greatest weight is 0, or its least as low as it may be; and the sum of what they were lowered by."""
         known = self.links + [weights for _, _, weights in self.pairs]
-        by = [min(max(weights), min(weights) + STARTING) for weights in known]
-        new = [[weight - less for weight in weights] for weights, less in zip(known, by)]
+        by = [min(max(weights), min(weight for weight in weights if weight != BARRED) + STARTING) for weights in known]
+        new = [[weight if weight == BARRED else weight - less for weight in weights] for weights, less in zip(known, by)]
         pairs = [(i, j, weights) for (i, j, _), weights in zip(self.pairs, new[len(self.links) :])]
         return Case(self.values, new[: len(self.links)], pairs), sum(by)
 
@@ -34,11 +34,22 @@ class Case(namedtuple("Case", "values links pairs")):
         return sum(map(max, self.links + [weights for _, _, weights in self.pairs]))
 
     def total(self, plan):
-        links = sum(weights[k] for weights, k in zip(self.links, plan))
-        return links + sum(weights[plan[i] * self.values + plan[j]] for i, j, weights in self.pairs)
+        """The total of a plan, None where it is unlawful."""
+        used = [weights[k] for weights, k in zip(self.links, plan)] + [weights[plan[i] * self.values + plan[j]] for i, j, weights in self.pairs]
+        return None if BARRED in used else sum(used)
+
+    def barring(self, random, share):
+        """The same with so many of a hundred places barred, one place of each scope left."""
+        links = [barred(random, weights, share) for weights in self.links]
+        return Case(self.values, links, [(i, j, barred(random, weights, share)) for i, j, weights in self.pairs])
 
     def plans(self):
         return itertools.product(range(self.values), repeat=len(self.links))
+
+
+def barred(random, weights, share):
+    left = random.randrange(len(weights))
+    return [BARRED if at != left and random.randrange(100) < share else weight for at, weight in enumerate(weights)]
 
 
 def case_of(text):

@@ -1,9 +1,10 @@
 """Tests of toulbar2's wcsp format."""
 
+import itertools
 import re
 import tracemalloc
 
-from picturing.case import MOST_CHANNELS, MOST_LINKS, MOST_PAIRS, STARTING
+from picturing.case import BARRED, MOST_CHANNELS, MOST_LINKS, MOST_PAIRS, STARTING
 from planning import wcsp
 from planning.unfit import Unfit
 
@@ -12,8 +13,8 @@ from .asking import converts, refuses, unfit_at_most
 from .cases import Case, case_of, damaged, made, sizes, small_size, WEIGHTS
 
 
-def read(text):
-    return wcsp.read("FILE", text.encode() if isinstance(text, str) else text)
+def read(text, barred=False):
+    return wcsp.read("FILE", text.encode() if isinstance(text, str) else text, barred)
 
 
 def constant(said):
@@ -32,16 +33,31 @@ def there_and_back(count, random):
             lowered, by = case.lowered()
             count.test(name, back == lowered.text() and said == f"total = {case.ceiling() - by} - cost")
             count.test(f"{name}, to-wcsp", wcsp.write("some.case", back)[0] == text)
+            count.test(f"{name}, nothing to be barred", read(text, True) == (back, said))
+            barred_there_and_back(count, f"{name}, barred", case.barring(random, 30))
+
+
+def barred_there_and_back(count, name, case):
+    """What is barred is forbidden, and barred again; the rest is lowered as above."""
+    text, said = wcsp.write("some.case", case.text())
+    count.test(f"{name}: C", constant(said) == case.ceiling())
+    back, said = read(text, True)
+    lowered, by = case.lowered()
+    count.test(name, back == lowered.text() and constant(said) == case.ceiling() - by)
+    count.test(f"{name}, to-wcsp", wcsp.write("some.case", back)[0] == text)
 
 
 def every_plan(count, random):
-    """The cost of every plan is C less its total, and below the upper bound."""
-    for number in range(60):
-        case = made(random, small_size(random, 5), random.choice(list(WEIGHTS)))
+    """The cost of every plan is C less its total, and below the upper bound; that of an unlawful one is not."""
+    for number in range(80):
+        case = made(random, small_size(random, 5), random.choice(list(WEIGHTS))).barring(random, 30 * (number % 2))
         text, said = wcsp.write("x", case.text())
         known, all_of_it = listing.problem(text), constant(said)
-        right = all(listing.cost(known, plan) == all_of_it - case.total(plan) for plan in case.plans())
-        count.test(f"cost = C - total {number}", right and known.top > all_of_it - min(map(case.total, case.plans())))
+        totals = {plan: case.total(plan) for plan in case.plans()}
+        right = all(listing.cost(known, plan) == (None if total is None else all_of_it - total) for plan, total in totals.items())
+        lawful = [total for total in totals.values() if total is not None]
+        count.test(f"cost = C - total {number}", right and (not lawful or known.top > all_of_it - min(lawful)))
+        count.test(f"what is barred is told {number}", ("barred" in said) == (BARRED in itertools.chain(*case.links, *(pair[2] for pair in case.pairs))))
 
 
 def names(count):
@@ -79,6 +95,17 @@ def keeps(count, name, text):
         count.test(f"{name}: the border", all(total < least for total in others) and all(case.total(plan) >= least for plan in lawful))
 
 
+def bars(count, name, text):
+    """With --barred plans without a forbidden combination keep their cost, and all others, and no more, are unlawful."""
+    known = listing.problem(text.encode() if isinstance(text, str) else text)
+    made_of, said = read(text, True)
+    case, constant_cost = case_of(made_of), constant(said)
+    costs = {plan: listing.cost(known, plan) for plan in listing.plans(known)}
+    right = all(case.total(plan) == (None if costs.get(plan) is None else constant_cost - costs[plan]) for plan in case.plans())
+    count.test(f"{name}: barred", right)
+    count.test(f"{name}: what is said of the barred", ("unlawful" in said) == (BARRED in itertools.chain(*case.links, *(pair[2] for pair in case.pairs))))
+
+
 BY_HAND = {
     "a forbidden value": "p 2 3 2 50\n3 3\n1 0 0 1\n2 50\n2 0 1 1 2\n0 0 0\n1 1 9\n",
     "a forbidden default": "p 1 3 1 5\n3\n1 0 5 1\n1 4\n",
@@ -106,14 +133,17 @@ BY_HAND = {
 def by_hand(count, random):
     for name, text in BY_HAND.items():
         keeps(count, name, text)
+        bars(count, name, text)
     for _ in range(150):
         text = random_problem(random)
         name = f"a problem made at random {text!r}"
         known = listing.problem(text.encode())
         if any(listing.cost(known, plan) is not None for plan in listing.plans(known)):
             keeps(count, name, text)
+            bars(count, name, text)
         else:
             unfit_at_most(count, name, lambda: read(text)[0])
+            unfit_at_most(count, f"{name}, barred", lambda: read(text, True)[0])
 
 
 def random_problem(random):
@@ -182,14 +212,17 @@ def barred_borders(count):
     pair = "p 2 2 2 2000000\n2 2\n1 0 0 1\n1 {}\n2 0 1 0 1\n1 1 2000000\n"
     for name, text, place in (("value", forbidden, "variable 0"), ("missing value", missing, "variable 0"), ("pair", pair, "variables 0 and 1")):
         keeps(count, f"a forbidden {name} at the border", text.format(STARTING - 1))
-        refuses(count, f"a forbidden {name} too near", lambda: read(text.format(STARTING)), "FILE", place, str(-STARTING))
+        refuses(count, f"a forbidden {name} too near", lambda: read(text.format(STARTING)), "FILE", place, str(-STARTING), "--barred")
+        bars(count, f"a forbidden {name} that is too near as a weight", text.format(STARTING))
     beside = forbidden.replace("1 0 0 1", "1 0 10 1")
     keeps(count, "a forbidden value beside a cost", beside.format(STARTING - 11))
     refuses(count, "a forbidden value beside a cost, too near", lambda: read(beside.format(STARTING - 10)), "FILE", "variable 0", str(-STARTING))
     alone = "p 2 2 1 50\n2 2\n2 0 1 60 {}\n"
     keeps(count, "one combination left", alone.format("1 0 1 3"))
-    refuses(count, "no combination left", lambda: read(alone.format("1 0 1 50")), "variables 0 and 1", "upper bound 50", "no plan is allowed")
-    refuses(count, "no value left", lambda: read("p 1 2 1 50\n2\n1 0 50 0"), "variable 0", "no plan is allowed")
+    for barred in (False, True):
+        none = lambda: read(alone.format("1 0 1 50"), barred)
+        refuses(count, "no combination left", none, "variables 0 and 1", "upper bound 50", "no plan is allowed")
+        refuses(count, "no value left", lambda: read("p 1 2 1 50\n2\n1 0 50 0", barred), "variable 0", "no plan is allowed")
     refuses(count, "a constant at the upper bound", lambda: read("p 1 2 1 50\n2\n0 50 0"), "constant", "no plan is allowed")
     keeps(count, "a constant below the upper bound", "p 1 2 1 50\n2\n0 49 0")
     refuses(count, "an upper bound of 0", lambda: read("p 1 2 0 0\n2\n"), "upper bound 0")
@@ -247,6 +280,7 @@ def damages(count, random):
         text = random.choice(texts + [wcsp.write("x", made(random, small_size(random, 4), "small").text())[0]])
         broken = damaged(random, text)
         unfit_at_most(count, f"a damaged wcsp file {broken!r}", lambda: read(broken)[0])
+        unfit_at_most(count, f"a damaged wcsp file {broken!r}, barred", lambda: read(broken, True)[0])
     for _ in range(100):
         noise = random.randbytes(random.randrange(200))
         unfit_at_most(count, f"noise {noise}", lambda: read(noise)[0])

@@ -1,8 +1,9 @@
 """Tests of the spreadsheets."""
 
+import itertools
 import os
 
-from picturing.case import MOST_CHANNELS, MOST_LINKS, MOST_PAIRS, STARTING
+from picturing.case import BARRED, MOST_CHANNELS, MOST_LINKS, MOST_PAIRS, STARTING
 from picturing.columns import LINE, line
 from planning import spreadsheets
 from planning.cells import letters
@@ -24,20 +25,23 @@ def read(links, pairs):
 def there_and_back(count, random):
     for size in sizes(random):
         for kind in WEIGHTS:
-            text = made(random, size, kind).text()
-            count.test(f"to-csv, from-csv, {size} {kind}", read(*spreadsheets.write(text)) == text)
+            case = made(random, size, kind)
+            for share in (0, 20, 100):
+                text = case.barring(random, share).text()
+                count.test(f"to-csv, from-csv, {size} {kind}, {share} in a hundred barred", read(*spreadsheets.write(text)) == text)
 
 
 def sample(count, folder):
-    """The valley's two spreadsheets give its case."""
-    try:
-        texts = []
-        for name in ("valley-links.csv", "valley-pairs.csv", "valley.case"):
-            with open(os.path.join(folder, name), "rb") as file:
-                texts.append(file.read())
-        count.test("the valley", read(*texts[:2]) == texts[2], "its spreadsheets give another case")
-    except OSError as error:
-        count.test("the valley", False, str(error))
+    """The valley's two spreadsheets give its case, and with a channel barred that case."""
+    for which in ("valley", "valley-barred"):
+        try:
+            texts = []
+            for name in (f"{which}-links.csv", "valley-pairs.csv", f"{which}.case"):
+                with open(os.path.join(folder, name), "rb") as file:
+                    texts.append(file.read())
+            count.test(f"the {which}", read(*texts[:2]) == texts[2], "its spreadsheets give another case")
+        except OSError as error:
+            count.test(f"the {which}", False, str(error))
 
 
 class Dress:
@@ -46,9 +50,10 @@ class Dress:
     def __init__(self, separator=",", end="\n", mark="", quotes=False, encoding="utf-8", empty=False, turned=False, spaces=False):
         self.separator, self.end, self.mark, self.quotes = separator, end, mark, quotes
         self.encoding, self.empty, self.turned, self.spaces = encoding, empty, turned, spaces
+        self.words = itertools.cycle(("barred", "Barred", "BARRED"))
 
     def cell(self, value):
-        text = str(value)
+        text = next(self.words) if value == BARRED else str(value)
         if self.quotes or any(sign in text for sign in '",;\t\n'):
             text = '"' + text.replace('"', '""') + '"'
         return f" {text}" + ("" if text.endswith('"') else "  ") if self.spaces else text
@@ -83,8 +88,8 @@ CHANNEL_NAMES = ["5,8 GHz", "6;2", "grün", "4"]
 
 def dressed(count, random):
     """The same case, however its spreadsheets are written."""
-    for _ in range(4):
-        case = made(random, small_size(random, len(LINK_NAMES)), "small")
+    for share in (0, 0, 0, 0, 30, 60):
+        case = made(random, small_size(random, len(LINK_NAMES)), "small").barring(random, share)
         for name, dress in DRESSES.items():
             rows = [["Link", *CHANNEL_NAMES[: case.values]]]
             rows += [[LINK_NAMES[i], *weights] for i, weights in enumerate(case.links)]
@@ -144,6 +149,11 @@ def cells(count):
     for name, one, other in same:
         same_case(count, name, (one, pairs), (other, pairs))
     count.test("a pair of weight 0", line(12, 0, 0, 1) in read(LINKS, HEADER + "x,y,a,a,0\n"))
+    count.test("a barred channel", line(14, 1, 0) in read(LINKS.replace("y,3", "y,barred"), HEADER))
+    turned = read(LINKS, HEADER + "y,x,b,a,BARRED\n")
+    count.test("a barred combination, its links turned round", line(15, 0, 0, 1) in turned and line(13, 0, 1, 0) in turned)
+    channel = read("link,barred,b\nbarred,1,2\ny,0,0\n", HEADER + "y,barred,barred,b,barred\n")
+    count.test("a link and a channel of that name", channel == read("link,a,b\nx,1,2\ny,0,0\n", HEADER + "x,y,b,a,barred\n"))
     count.test("Latin-1 beside UTF-8", len(read("link,grün\nHöhe,1\nTal,2\n".encode("latin-1"), HEADER + "Tal,Höhe,grün,grün,1\n")) == 5 * LINE)
     same_case(count, "an empty cell at the header's end", (LINKS, PAIRS.replace("weight\n", "weight,\n")), (LINKS, PAIRS))
     same_case(count, "Windows' own signs", ("link,a\nA\u2026,1\nA,2\n".encode("cp1252"), HEADER), ("link,a\nA,1\nB,2\n", HEADER))
@@ -209,6 +219,11 @@ REFUSED = [
     ("links", "y,3,4", "y,-,4", ["LINKS: row 3, column B", "no whole number"]),
     ("links", "y,3,4", "y," + "9" * 5000 + ",4", ["LINKS: row 3, column B", "no weight"]),
     ("links", "y,3,4", 'y,"3\n\x1b",4', ["LINKS: row 3, column B", "'3??' is no whole number"]),
+    ("links", "y,3,4", "y,bar,4", ["LINKS: row 3, column B", "'bar' is no whole number", "nor the word barred"]),
+    ("links", "y,3,4", f"y,{BARRED},4", ["LINKS: row 3, column B", f"{BARRED} is no weight"]),
+    ("links", "y,3,4", "y,barred,Barred", ["LINKS: row 3", "all channels of link 'y' are barred"]),
+    ("pairs", PAIRS, HEADER + "".join(f"{row},barred\n" for row in ("x,y,a,a", "y,z,a,a", "y,x,a,b", "x,y,b,b", "x,y,a,b")),
+     ["PAIRS: row 6", "all combinations of the two links are barred"]),
     ("pairs", PAIRS, "", ["PAIRS", "no header"]),
     ("pairs", HEADER, "", ["PAIRS: row 1", "header is due"]),
     ("pairs", HEADER, "x-,y,a,a,100\n", ["PAIRS: row 1", "header is due"]),

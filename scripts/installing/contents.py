@@ -16,6 +16,7 @@ TREES = [
     ("scripts/planning/*", "scripts", "lib/ceiling"),
     ("scripts/picturing/*", "scripts", "lib/ceiling"),
     ("library/examples/example.*", "library", "share/ceiling"),
+    ("library/examples/replay.c", "library", "share/ceiling"),
     ("library/rust/Cargo.*", "library", "share/ceiling"),
     ("library/rust/build.rs", "library", "share/ceiling"),
     ("library/rust/*/*.rs", "library", "share/ceiling"),

@@ -1,9 +1,12 @@
-"""The case sheet: links, channels, pairs and starting weights."""
+"""The case sheet: links, channels, pairs, starting weights and what is barred."""
 
 from .columns import LINE, Lines, line
 
 MOST_LINKS, MOST_CHANNELS, MOST_PAIRS = 48, 8, 96
 STARTING = 1_000_000
+# What a barred place holds in a table, and the kinds of lines that bar a place instead of giving its weight.
+BARRED = -2_000_000_000
+BARRING = {11: 14, 13: 15}
 
 
 def line_count(n, d, m):
@@ -34,6 +37,15 @@ class Case:
         first = n * d + (scope - n) * d * d
         return first, first + d * d
 
+    def barred(self, scope):
+        """How many combinations of a scope are barred."""
+        return self.weights[slice(*self.span(scope))].count(BARRED)
+
+    @property
+    def bars(self):
+        """Whether anything is barred."""
+        return BARRED in self.weights
+
 
 def read_case(data):
     lines = Lines("case", data)
@@ -41,17 +53,17 @@ def read_case(data):
     at = 1
     for link in range(case.n):
         for value in range(case.d):
-            place(lines, at, (11, link, value, 0))
-            weight(lines, at, case)
+            read_weight(lines, at, case, [11, link, value, 0])
             at += 1
+        not_wholly_barred(lines, at - 1, case, link)
     for pair in range(case.m):
         read_pair(lines, at, case, pair)
         at += 1
         for k in range(case.d):
             for l in range(case.d):
-                place(lines, at, (13, pair, k, l))
-                weight(lines, at, case)
+                read_weight(lines, at, case, [13, pair, k, l])
                 at += 1
+        not_wholly_barred(lines, at - 1, case, case.n + pair)
     if len(data) > at * LINE:
         lines.read(at)
         lines.refuse(at, "the case is complete before this line")
@@ -67,17 +79,25 @@ def read_head(lines):
     return Case(lines.data, n, d, m)
 
 
-def place(lines, at, due):
+def read_weight(lines, at, case, due):
+    """The weight of the place that is due, or that it is barred."""
     names = {11: "link {1}, channel {2}", 13: "pair {1}, channels {2} and {3}"}
-    if lines.read(at)[:4] != list(due):
-        lines.refuse(at, "here the weight of " + names[due[0]].format(*due) + " is due")
-
-
-def weight(lines, at, case):
-    amount = lines.read(at)[4]
+    *place, amount = lines.read(at)
+    if place[0] not in (due[0], BARRING[due[0]]) or place[1:] != due[1:]:
+        lines.refuse(at, "here the weight of " + names[due[0]].format(*due) + " is due, or that it is barred")
+    barred = place[0] != due[0]
+    if barred and amount != 0:
+        lines.refuse(at, "what is barred has no weight: the amount is 0")
     if abs(amount) > STARTING:
         lines.refuse(at, f"a starting weight lies between {-STARTING:,} and {STARTING:,}")
-    case.weights.append(amount)
+    case.weights.append(BARRED if barred else amount)
+
+
+def not_wholly_barred(lines, at, case, scope):
+    first, end = case.span(scope)
+    if case.barred(scope) == end - first:
+        what = f"channels of link {scope}" if scope < case.n else f"combinations of pair {scope - case.n}"
+        lines.refuse(at, f"all {what} are barred, one at least must not be")
 
 
 def read_pair(lines, at, case, pair):
@@ -96,8 +116,12 @@ def read_pair(lines, at, case, pair):
 def write_case(values, links, pairs):
     """The text of a case: each link's weights, and each pair (lower link, higher link, weights)."""
     text = [line(10, len(links), values, len(pairs))]
-    text += [line(11, i, k, 0, weights[k]) for i, weights in enumerate(links) for k in range(values)]
+    text += [weight_line(11, i, k, 0, weights[k]) for i, weights in enumerate(links) for k in range(values)]
     for e, (first, second, weights) in enumerate(pairs):
         text.append(line(12, e, first, second))
-        text += [line(13, e, k, l, weights[k * values + l]) for k in range(values) for l in range(values)]
+        text += [weight_line(13, e, k, l, weights[k * values + l]) for k in range(values) for l in range(values)]
     return b"".join(text)
+
+
+def weight_line(kind, a, b, c, weight):
+    return line(BARRING[kind], a, b, c) if weight == BARRED else line(kind, a, b, c, weight)

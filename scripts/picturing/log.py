@@ -1,10 +1,16 @@
-"""The log's moves, made on the weights without asking whether a press is allowed."""
+"""The log's moves, made on the weights without asking whether active channels are refuted (number 10)."""
 
+from collections import namedtuple
+
+from .case import BARRED
 from .columns import LINE, Lines, NotInColumns, Refused
 from .pair_rounds import Begun
 
 WORKING = 500_000_000
 MOVE = 1_000_000_000
+
+# A void line: where it stands in the log, its link and the scopes that it raises.
+Void = namedtuple("Void", "line link raised")
 
 
 class Log:
@@ -13,27 +19,32 @@ class Log:
         self.data = data
         self.case = case
         self.table = list(case.weights)
-        self.greatest = [max(self.table[slice(*case.span(s))]) for s in range(case.scopes)]
+        self.greatest = [max(self.weights(scope)) for scope in range(case.scopes)]
         self.ceilings = [sum(self.greatest)]
         self.ends = []
         self.begun = Begun()
         # Which rounds are pair rounds.
         self.pair_rounds = []
+        # The void line with which the log ends.
+        self.void = None
         self.stopped = None
 
     @property
     def rounds(self):
         return len(self.ends)
 
+    def weights(self, scope):
+        return self.table[slice(*self.case.span(scope))]
+
 
 def read_log(case, data):
-    """Every whole round up to the first line that breaks a rule the picture can see."""
+    """Every whole round up to the first line that breaks a rule the picture can see, and the void line after them."""
     log = Log(case, data)
     at = 0
     try:
         while at * LINE < len(data):
             at = read_move(log, at)
-        if at > (log.ends[-1] if log.ends else 0):
+        if at > (log.ends[-1] if log.ends else 0) and log.void is None:
             log.lines.refuse(at, "the log stops inside a round")
     except NotInColumns:
         raise
@@ -43,8 +54,10 @@ def read_log(case, data):
 
 
 def read_move(log, at):
-    """Makes the move or the bound at a line; the line after it."""
+    """Makes the move, the bound or the void line at a line; the line after it."""
     kind, a, b, c, amount = log.lines.read(at)
+    if log.void:
+        log.lines.refuse(at, "nothing is due any more after a void line")
     if kind == 1:
         shift(log, at, a, b, c, amount)
         return at + 1
@@ -53,7 +66,18 @@ def read_move(log, at):
     if kind == 4 and a == b == c == 0:
         bound(log, at, amount)
         return at + 1
-    log.lines.refuse(at, "here a shift, a press or a bound line is due")
+    if kind == 5 and c == amount == 0:
+        return void(log, at, a, b)
+    log.lines.refuse(at, "here a shift, a press, a bound line or a void line is due")
+
+
+def added(weight, amount):
+    """A weight after a change; what is barred stays barred."""
+    return weight if weight == BARRED else weight + amount
+
+
+def leaves_range(weights):
+    return max(weights) > WORKING or min(weights) < -WORKING and any(BARRED != weight < -WORKING for weight in weights)
 
 
 def shift(log, at, pair, end, value, amount):
@@ -66,15 +90,15 @@ def shift(log, at, pair, end, value, amount):
     inside = slice(first + value * d, first + value * d + d)
     if end == 1:
         inside = slice(first + value, last, d)
-    lowered = [weight - amount for weight in log.table[inside]]
-    raised = log.table[link * d + value] + amount
-    if max(map(abs, lowered + [raised])) > WORKING:
+    lowered = [added(weight, -amount) for weight in log.table[inside]]
+    raised = added(log.table[link * d + value], amount)
+    if leaves_range([*lowered, raised]):
         log.lines.refuse(at, "the move takes a weight out of its range")
     log.begun.shift(case, log.table, pair, end, value, amount)
     log.table[inside] = lowered
     log.table[link * d + value] = raised
     for scope in (link, case.n + pair):
-        log.greatest[scope] = max(log.table[slice(*case.span(scope))])
+        log.greatest[scope] = max(log.weights(scope))
 
 
 def press(log, at, link, count, amount):
@@ -82,18 +106,9 @@ def press(log, at, link, count, amount):
     if not (0 <= link < case.n and 1 <= count < case.scopes and 1 <= amount <= MOVE):
         log.lines.refuse(at, "the press's link, count or amount is out of range")
     changed = {link: pressed(log, link, amount)}
-    previous = -1
-    for line in range(at + 1, at + 1 + count):
-        kind, scope, b, c, unused = log.lines.read(line)
-        if (kind, b, c, unused) != (3, 0, 0, 0):
-            log.lines.refuse(line, "here a raise line of the press is due")
-        if not 0 <= scope < case.scopes:
-            log.lines.refuse(line, "the case does not have this scope")
-        if scope <= previous or scope == link:
-            log.lines.refuse(line, "raised scopes go upwards, without the pressed link's own")
+    for scope in raise_lines(log, at, link, count):
         changed[scope] = raised(log, scope, amount)
-        previous = scope
-    if max(max(map(abs, weights)) for weights in changed.values()) > WORKING:
+    if any(map(leaves_range, changed.values())):
         log.lines.refuse(at + count, "the move takes a weight out of its range")
     for scope, weights in changed.items():
         log.table[slice(*case.span(scope))] = weights
@@ -102,16 +117,46 @@ def press(log, at, link, count, amount):
     return at + 1 + count
 
 
+def void(log, at, link, count):
+    case = log.case
+    if not (0 <= link < case.n and 1 <= count < case.scopes):
+        log.lines.refuse(at, "the void line's link or count is out of range")
+    scopes = raise_lines(log, at, link, count)
+    if any(unbarred(log, scope) for scope in [link, *scopes]):
+        log.lines.refuse(at + count, "not everything is barred that has to be for a void line")
+    log.void = Void(at, link, scopes)
+    return at + 1 + count
+
+
+def raise_lines(log, at, link, count):
+    """The scopes that the lines after a press or a void line raise."""
+    scopes = []
+    for line in range(at + 1, at + 1 + count):
+        kind, scope, b, c, unused = log.lines.read(line)
+        if (kind, b, c, unused) != (3, 0, 0, 0):
+            log.lines.refuse(line, "here a raise line is due")
+        if not 0 <= scope < log.case.scopes:
+            log.lines.refuse(line, "the case does not have this scope")
+        if scopes and scope <= scopes[-1] or scope == link:
+            log.lines.refuse(line, "raised scopes go upwards, without the link's own")
+        scopes.append(scope)
+    return scopes
+
+
 def pressed(log, link, amount):
     top = log.greatest[link]
-    weights = log.table[slice(*log.case.span(link))]
-    return [weight - amount if weight == top else weight for weight in weights]
+    return [weight - amount if weight == top else weight for weight in log.weights(link)]
 
 
 def raised(log, scope, amount):
-    top = log.greatest[scope]
-    weights = log.table[slice(*log.case.span(scope))]
-    return [weight if weight == top else weight + amount for weight in weights]
+    stay = log.greatest[scope], BARRED
+    return [weight if weight in stay else weight + amount for weight in log.weights(scope)]
+
+
+def unbarred(log, scope):
+    """The places of a scope that are neither active nor barred: of a void line's link and of the scopes that it raises there are none."""
+    first = log.case.span(scope)[0]
+    return [first + at for at, weight in enumerate(log.weights(scope)) if weight not in (log.greatest[scope], BARRED)]
 
 
 def bound(log, at, amount):

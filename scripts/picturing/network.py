@@ -7,7 +7,8 @@ SWEEPS = 120
 LONGEST = 250
 
 
-def network(case):
+def network(case, marks):
+    """The drawing; `marks` gives scopes that are drawn in a style of their own."""
     at = positions(case.n, case.pairs)
     radius = 17 if case.n <= 12 else 14 if case.n <= 24 else 11
     at = fit(at, WIDTH, HEIGHT, radius + 6)
@@ -16,13 +17,13 @@ def network(case):
         f'aria-label="Network of {case.n} links and {case.m} pairs">'
     ]
     for pair, (low, high) in enumerate(case.pairs):
-        parts.append(edge(pair, low, high, at, case))
+        parts.append(edge(pair, low, high, at, case, marks))
     if case.m <= 40:
         parts += [edge_name(pair, at[low], at[high]) for pair, (low, high) in enumerate(case.pairs)]
     for link in range(case.n):
         x, y = at[link]
         parts.append(
-            f'<g class="link" id="s{link}"><title>link {link}</title>'
+            f'<g class="{style("link", link, marks)}" id="s{link}"><title>link {link}{bars(case, link, "channels")}</title>'
             f'<circle cx="{x:.1f}" cy="{y:.1f}" r="{radius}"/>'
             f'<text x="{x:.1f}" y="{y + radius * 0.34:.1f}" '
             f'font-size="{radius}">{link}</text></g>'
@@ -30,11 +31,22 @@ def network(case):
     return "\n".join(parts + ["</svg>"])
 
 
-def edge(pair, low, high, at, case):
+def style(name, scope, marks):
+    return f"{name} {marks[scope]}" if scope in marks else name
+
+
+def bars(case, scope, what):
+    """How much of a scope is barred, in words."""
+    first, end = case.span(scope)
+    return f", {case.barred(scope)} of {end - first} {what} barred" if case.barred(scope) else ""
+
+
+def edge(pair, low, high, at, case, marks):
     (x1, y1), (x2, y2) = at[low], at[high]
+    scope = case.n + pair
     return (
-        f'<line class="pair" id="s{case.n + pair}" x1="{x1:.1f}" y1="{y1:.1f}" x2="{x2:.1f}" '
-        f'y2="{y2:.1f}"><title>pair {pair} (scope {case.n + pair}): links {low} and {high}'
+        f'<line class="{style("pair", scope, marks)}" id="s{scope}" x1="{x1:.1f}" y1="{y1:.1f}" x2="{x2:.1f}" '
+        f'y2="{y2:.1f}"><title>pair {pair} (scope {scope}): links {low} and {high}{bars(case, scope, "combinations")}'
         "</title></line>"
     )
 

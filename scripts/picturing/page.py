@@ -4,9 +4,11 @@ import os
 from html import escape
 
 from .axes import number
+from .case import BARRED
 from .columns import LINE, SHAPE, NotInColumns
 from .curve import curve
 from .network import network
+from .void import BAR, section as void_section
 
 # Bytes of log that the page carries; later rounds are in the curve only.
 CARRIED = 12_000_000
@@ -36,8 +38,9 @@ def judged(judgement):
     """The line of `replay`, where it was asked."""
     if judgement is None:
         return ""
-    style = "good" if judgement.startswith("accepted") else "stop"
-    return f'<p class="{style}"><strong>The judgement of <code>replay</code>: <code>{escape(judgement)}</code></strong></p>\n'
+    style = "stop" if judgement.startswith("refused") else "good"
+    words = " No lawful plan exists: every plan uses something that is barred." if judgement == "void" else ""
+    return f'<p class="{style}"><strong>The judgement of <code>replay</code>: <code>{escape(judgement)}</code></strong>{words}</p>\n'
 
 
 def refusal(names, refused, judgement=None):
@@ -87,7 +90,8 @@ def picture(names, case, log, judgement=None):
         stop(log),
         drawings(case, log),
         rounds(case, log),
-        reading(),
+        void_section(log),
+        reading(case),
         data(case, log),
     ]
     return frame(f"Ceiling of {names[0]}", "\n".join(body))
@@ -95,22 +99,25 @@ def picture(names, case, log, judgement=None):
 
 def head(names, case, log, judgement):
     first, last = log.ceilings[0], log.ceilings[-1]
+    barred = case.weights.count(BARRED)
     facts = [
         ("links", number(case.n)),
         ("channels for each link", number(case.d)),
         ("pairs", number(case.m)),
+        *([("barred channels and combinations", number(barred))] if barred else []),
         ("log lines" if log.stopped is None else "log lines read", number(log.lines.count)),
         ("rounds" if log.stopped is None else "rounds drawn", number(log.rounds)),
         *([("pair rounds among them", number(len(log.pair_rounds)))] if log.pair_rounds else []),
         ("ceiling at the start", number(first)),
-        ("ceiling at the end" if log.stopped is None else "ceiling after them", number(last)),
+        ("ceiling at the end" if log.stopped is None and log.void is None else "ceiling after them", number(last)),
         ("fall", number(first - last)),
+        *([("the log\u2019s end", "void")] if log.void and log.stopped is None else []),
     ]
     cells = "".join(f"<div><dd>{value}</dd><dt>{name}</dt></div>" for name, value in facts)
     return (
         f"<h1>The ceiling of {escape(names[0])}, round by round</h1>\n"
         f"<p>The case sheet {escape(names[0])} beside the log {escape(names[1])}: the network, how "
-        "far each round lowers the ceiling that no plan\u2019s total can pass, and for every line "
+        f"far each round lowers the ceiling that no {'lawful ' if barred else ''}plan\u2019s total can pass, and for every line "
         f"of a round the rows of the sheet that it touches.</p>\n<dl>{cells}</dl>\n"
         f"{judged(judgement)}{warning(names, judgement)}"
     )
@@ -122,7 +129,7 @@ def warning(names, judgement):
         judge = f"is judged by <code>replay</code>: <code>cat {escape(names[0])} {escape(names[1])} | replay</code>"
     return (
         '<p class="warning"><strong>This page is a picture and no proof.</strong> It adds the '
-        "weights up by itself, but it does not ask whether a press was allowed. Whether the log "
+        "weights up by itself, but it does not ask whether a press or a void line was allowed. Whether the log "
         f"may be trusted {judge}</p>"
     )
 
@@ -144,6 +151,10 @@ COLOURS = (
     '<span class="key shifted"></span>shifted pair '
     '<span class="key emptied"></span>link emptied by a pair round, in the round chosen below</p>\n'
 )
+VOID_COLOURS = (
+    '<p class="legend"><span class="key pressed"></span>link of the void line '
+    '<span class="key raised"></span>link or pair that it raises</p>\n'
+)
 AXIS = (
     '<p class="legend">The upright axis covers the fall only. '
     "Click on the curve to choose a round.</p>\n"
@@ -152,10 +163,13 @@ AXIS = (
 
 def drawings(case, log):
     some = log.rounds > 0
+    void = None if some else log.void
+    legend = COLOURS if some else VOID_COLOURS if void else ""
+    marks = {void.link: "pressed", **dict.fromkeys(void.raised, "raised")} if void else {}
     return (
         '<div class="drawings">\n<figure>\n<figcaption>The network: '
         f"{counted(case.n, 'link')}, {counted(case.m, 'pair')}</figcaption>\n"
-        f"{network(case)}\n{COLOURS if some else ''}</figure>\n"
+        f"{network(case, marks)}\n{legend}</figure>\n"
         "<figure>\n<figcaption>The ceiling after each round</figcaption>\n"
         f"{curve(log.ceilings)}\n{AXIS if some else ''}</figure>\n</div>"
     )
@@ -192,7 +206,13 @@ def carried_rounds(log):
     return sum(1 for end in log.ends if end * LINE <= CARRIED)
 
 
-def reading():
+BARS = (
+    f"<li>{BAR} stands for a channel or combination that the case bars (kinds 14 and 15). It has no weight, is never active, and no "
+    "move changes it. A plan is lawful if it uses none; what is said of plans is said of the lawful ones.</li>\n"
+)
+
+
+def reading(case):
     return (
         "<h2>How to read it</h2>\n<ul>\n"
         "<li>Links, channels, pairs and rounds count from 0. Lines are counted from 0 through the "
@@ -205,7 +225,7 @@ def reading():
         "an amount between a link\u2019s channel and a pair; totals stay.</li>\n"
         "<li>A pair round shifts the whole weights of a pair\u2019s two links into the pair: both links weigh 0 after it, and "
         "no plan\u2019s total changes. The ceiling falls because the three greatest weights, of the two links and of the pair, "
-        "do not go together.</li>\n"
+        f"do not go together.</li>\n{BARS if case.bars else ''}"
         "<li>A row shows the line of the case sheet, with the weight that the case started with, "
         "then the weight before and after the move.</li>\n</ul>"
     )

@@ -1,12 +1,14 @@
 """Pair rounds: the whole weights of a pair's two links shifted into the pair, as our engine does it."""
 
+from .case import BARRED
+
 
 def whole_shifts(case, table, pair):
-    """A pair round's shifts, as end, channel and amount: end 0 first, channels upwards, weights of 0 left out."""
+    """A pair round's shifts, as end, channel and amount: end 0 first, channels upwards, weights of 0 and barred channels left out."""
     found = []
     for end, link in enumerate(case.pairs[pair]):
         weights = table[slice(*case.span(link))]
-        found += [(end, channel, -weight) for channel, weight in enumerate(weights) if weight]
+        found += [(end, channel, -weight) for channel, weight in enumerate(weights) if weight not in (0, BARRED)]
     return found
 
 

@@ -3,6 +3,8 @@
 // start of the log; the lines were read before the page was written.
 
 const LINE = 27;
+// What a barred place holds in the table: it is below every weight, so that the greatest one of a scope is never barred.
+const BARRED = -2000000000;
 const STARTS = [0, 2, 6, 10, 14];
 const ENDS = [2, 6, 10, 14, 26];
 const byId = (id) => document.getElementById(id);
@@ -85,10 +87,15 @@ function greatest(table, scope) {
   return top;
 }
 
+// What is barred stays barred.
+function add(table, place, amount) {
+  if (table[place] !== BARRED) table[place] += amount;
+}
+
 function make(table, move) {
   if (move.kind === 1) {
-    for (const place of shiftPlaces(move)) table[place] -= move.amount;
-    table[pairEnds[move.pair][move.end] * d + move.value] += move.amount;
+    for (const place of shiftPlaces(move)) add(table, place, -move.amount);
+    add(table, pairEnds[move.pair][move.end] * d + move.value, move.amount);
     return;
   }
   const own = greatest(table, move.link);
@@ -99,7 +106,7 @@ function make(table, move) {
     const top = greatest(table, scope);
     const [from, to] = span(scope);
     for (let place = from; place < to; place++) {
-      if (table[place] !== top) table[place] += move.amount;
+      if (table[place] !== top) add(table, place, move.amount);
     }
   }
 }
@@ -115,7 +122,10 @@ function shiftPlaces(move) {
 
 function startTable() {
   const table = new Int32Array(places);
-  for (let place = 0; place < places; place++) table[place] = column(sheet, sheetLine(place), 4);
+  for (let place = 0; place < places; place++) {
+    const line = sheetLine(place);
+    table[place] = column(sheet, line, 0) > 13 ? BARRED : column(sheet, line, 4);
+  }
   return table;
 }
 
@@ -137,6 +147,10 @@ const digits = new Intl.NumberFormat("en-US");
 
 function number(value) {
   return digits.format(value).replace("-", "\u2212");
+}
+
+function weight(value) {
+  return value === BARRED ? '<span class="bar">barred</span>' : number(value);
 }
 
 function counted(count, one) {
@@ -164,8 +178,8 @@ function weightRow(place, before, after, why) {
   const kind = change < 0 ? "down" : change > 0 ? "up" : "same";
   return (
     `<tr class="${kind}"><td class="no">${sheetLine(place)}</td>` +
-    `<td class="text">${row(sheet, sheetLine(place))}</td><td class="weight">${number(before)}</td>` +
-    `<td class="weight">${number(after)}</td><td class="why">${why}</td></tr>`
+    `<td class="text">${row(sheet, sheetLine(place))}</td><td class="weight">${weight(before)}</td>` +
+    `<td class="weight">${weight(after)}</td><td class="why">${why}</td></tr>`
   );
 }
 
@@ -191,6 +205,7 @@ function pressedRows(scope, own, before, after) {
   const top = greatest(before, scope);
   return scopeRows(scope, before, after, (place) => {
     const change = after[place] - before[place];
+    if (before[place] === BARRED) return own ? "" : "closed";
     if (change === 0) return before[place] === top ? "active" : "";
     return (own ? "active " : "closed ") + signed(change);
   });
@@ -250,7 +265,9 @@ function pressBlocks(move, before, after, unfold) {
   const blocks = [block([move.line], moveWords(move) + ".", rows)];
   move.raised.forEach((scope, k) => {
     const [up, of] = touched(scope, before, after);
-    const head = `Raise ${scopeName(scope)}: ${up} of ${counted(of, "weight")} closed, raised by ${number(move.amount)}`;
+    const bars = before.slice(...span(scope)).filter((one) => one === BARRED).length;
+    const stay = bars ? `; ${number(bars)} barred` : "";
+    const head = `Raise ${scopeName(scope)}: ${up} of ${counted(of, "weight")} closed, raised by ${number(move.amount)}${stay}`;
     const rows = pressedRows(scope, false, before, after);
     blocks.push(block([move.line + 1 + k], "", folded(head, rows, unfold)));
   });
@@ -259,7 +276,8 @@ function pressBlocks(move, before, after, unfold) {
 
 function shiftBlock(move, before, after) {
   const link = pairEnds[move.pair][move.end];
-  const shiftRow = (place) => weightRow(place, before[place], after[place], signed(after[place] - before[place]));
+  const word = (place) => (before[place] === BARRED ? "" : signed(after[place] - before[place]));
+  const shiftRow = (place) => weightRow(place, before[place], after[place], word(place));
   const rows = [shiftRow(link * d + move.value), pairRow(n + move.pair), ...shiftPlaces(move).map(shiftRow)];
   const title = `Shift between channel ${move.value} of link ${link} and ${scopeName(n + move.pair)}`;
   return block([move.line], moveWords(move) + ".", folded(title, rowTable(rows), true));

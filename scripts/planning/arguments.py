@@ -92,7 +92,9 @@ def add_command(commands, name):
 
 def add_argument(parser, words):
     option, _, file = words.rpartition(" ")
-    if option == "-o":
+    if words.startswith("--") and not option:
+        parser.add_argument(words, action="store_true")
+    elif option == "-o":
         parser.add_argument("-o", dest="output", metavar=file, help="where the result goes, instead of standard output")
     elif option:
         parser.add_argument(option, metavar=file)

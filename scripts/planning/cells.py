@@ -38,11 +38,13 @@ class Row:
             if self.cells[column]:
                 self.refuse(f"'{shown(self.cells[column])}' stands beyond the last column of the header", column)
 
-    def number_in(self, column, most):
-        """A whole number from -most to most."""
+    def number_in(self, column, most, word):
+        """A whole number from -most to most; None where the word stands instead, in large or small letters."""
         text = self.cells[column]
+        if text.casefold() == word:
+            return None
         if not NUMBER.fullmatch(text):
-            self.refuse(f"'{shown(text)}' is no whole number (digits only, a minus sign before them if below 0)", column)
+            self.refuse(f"'{shown(text)}' is no whole number (digits only, a minus sign before them if below 0), nor the word {word}", column)
         digits = text.lstrip("-").lstrip("0")
         if len(digits) > len(str(most)) or int(digits or "0") > most:
             self.refuse(f"{shown(text)} is no weight: weights lie between -{most} and {most}", column)

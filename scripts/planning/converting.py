@@ -22,7 +22,7 @@ def to_csv(options):
 
 def from_wcsp(options):
     file = Source(options.file)
-    case, words = wcsp.read(file.label, file.whole())
+    case, words = wcsp.read(file.label, file.whole(), options.barred)
     return write_case(options.output, case, words)
 
 

@@ -20,7 +20,7 @@ def run(options):
     result = outputs.output(options.output)
     names = [os.path.basename(source.label) for source in (case, log)]
     verdict = judge_case(case)
-    if verdict.accepted:
+    if not verdict.refused:
         verdict = judge(case.chunks(), log.chunks())
         text = draw(names, case, log, verdict)
     else:
@@ -30,19 +30,20 @@ def run(options):
     result.write(text.encode("utf-8", "replace"))
     outputs.put_in_place(result)
     say(line(verdict))
-    return 0 if verdict.accepted else 1
+    return 1 if verdict.refused else 0
 
 
 def draw(names, case, log, verdict):
     """The page of a case and a log; of a refused log the lines before the refused one."""
     sheet = read_case(case.front())
-    at = None if verdict.accepted else verdict.second - len(case.front()) // LINE
+    at = verdict.second - len(case.front()) // LINE if verdict.refused else None
     moves = read_again(sheet, log, at)
-    if verdict.accepted:
-        if (moves.stopped, moves.rounds, moves.ceilings[-1]) != (None, verdict.first, verdict.second):
-            raise changed(log)
-    else:
+    if verdict.refused:
         moves.stopped = turned_back("log", Place(log, at, verdict.second, None, 0), verdict)
+    elif moves.stopped or bool(moves.void) != verdict.void:
+        raise changed(log)
+    elif verdict.accepted and (moves.rounds, moves.ceilings[-1]) != (verdict.first, verdict.second):
+        raise changed(log)
     log.same()
     return page.picture(names, sheet, moves, line(verdict))
 

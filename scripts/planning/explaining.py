@@ -4,6 +4,7 @@ from picturing.case import read_case
 from picturing.columns import LINE, Lines, Refused
 
 from . import pair_rounds, standard
+from .barring import bars_words, capital, none_above, not_yet, void_words
 from .in_case import Sheet
 from .judging import judge, judge_case, line
 from .places import Place
@@ -23,38 +24,43 @@ def run(options):
     verdict = judge_case(case) if log else judge(case.chunks())
     if log and verdict.accepted:
         start, verdict = verdict, judge(case.chunks(), log.chunks())
-        words = accepted_log(start, verdict, case.front(), log, 0) if verdict.accepted else refused(log_place(case, log, verdict), verdict)
+        words = refused(log_place(case, log, verdict), verdict) if verdict.refused else good_log(start, verdict, case.front(), log, 0)
     else:
-        words = accepted_case(case, verdict) if verdict.accepted else refused(case_place(case, verdict), verdict)
+        words = refused(case_place(case, verdict), verdict) if verdict.refused else good_case(case, verdict)
     words = list(words)
-    for source in () if verdict.accepted else filter(None, (case, log)):
+    for source in filter(None, (case, log)) if verdict.refused else ():
         source.same()
     standard.write(verdict.printed)
     standard.write(standard.rows(words))
-    return 0 if verdict.accepted else 1
+    return 1 if verdict.refused else 0
 
 
-def accepted_log(start, verdict, case, source, first):
-    """Of a case and its log, which begins at a byte of the source."""
+def good_log(start, verdict, case, source, first):
+    """Of a case and its log, accepted or void, which begins at a byte of the source."""
+    if verdict.void:
+        yield from void_words(case, source, first)
+        return
     rounds, ceiling = verdict.first, verdict.second
     if rounds == 0:
         yield f"The log has no rounds: the ceiling stays {ceiling}, what it is at the start."
     else:
         yield f"The log is accepted: {'1 round lowers' if rounds == 1 else f'{rounds} rounds lower'} the ceiling from {start.second} to {ceiling}."
         yield from pair_rounds.told(case, source, first, verdict)
-    yield f"No plan's total is above {ceiling}."
+    yield f"{capital(none_above(case, ceiling))}."
 
 
-def accepted_case(case, verdict):
-    sheet = Sheet(case.front())
+def good_case(case, verdict):
+    front = case.front()
+    sheet = Sheet(front)
     size = ", ".join([*sizes(sheet), counted(sheet.count, "line")])
-    if verdict.first == 0:
+    if verdict.accepted and verdict.first == 0:
         yield f"The case is valid: {size}."
-        yield f"Its ceiling at the start is {verdict.second}: no plan's total is above it. `ceiling press` lowers it."
+        yield from bars_words(front)
+        yield f"Its ceiling at the start is {verdict.second}: {none_above(front, 'it')}. {not_yet(front) or '`ceiling press` lowers it.'}"
         return
     yield f"The file holds a case ({size}) and after it a log. Other commands take the case alone."
-    alone = case.front()[: sheet.count * LINE]
-    yield from accepted_log(judge([alone]), verdict, alone, case, len(alone))
+    alone = front[: sheet.count * LINE]
+    yield from good_log(judge([alone]), verdict, alone, case, len(alone))
 
 
 def log_place(case, log, verdict):
@@ -119,7 +125,7 @@ def with_feed(place):
     source = Longer(place.source, place.start + len(place.raw), b"\n")
     first = [place.case] if place.case and not place.before else []
     verdict = judge(first, source.blocks(0, None))
-    if verdict.accepted:
+    if not verdict.refused:
         yield f"With it replay says `{line(verdict)}`."
         return
     at = verdict.second - place.counted + place.line

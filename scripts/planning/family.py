@@ -1,4 +1,4 @@
-"""The largest supported family of a channel: why a press is not allowed (number 10)."""
+"""The largest supported family of a channel: why a press or a void line is not taken (number 10)."""
 
 
 def is_open(log, raised, scope):
@@ -78,15 +78,6 @@ def family_words(log, raised, link, value, family):
         yield f"    pair {pair} (scope {case.n + pair}), links {low} and {high}: {', '.join(examples(log, raised, pair, family))}"
     if pairs:
         yield ""
-    yield remedy(log, link)
-
-
-def remedy(log, link):
-    """Whether the link can be pressed at all."""
-    others = set(range(log.case.scopes)) - {link}
-    if not_refuted(log, others, link):
-        return f"Link {link} cannot be pressed here, whichever scopes are raised."
-    return f"With all other scopes raised, link {link} could be pressed here: scopes are missing from the press."
 
 
 def examples(log, raised, pair, family):

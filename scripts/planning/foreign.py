@@ -4,7 +4,7 @@ import re
 
 from .reason import reason
 
-JUDGEMENTS = (b"accepted ", b"refused ")
+JUDGEMENTS = (b"accepted ", b"refused ", b"void\n")
 # Of spreadsheet programs: files in zip form, and older ones.
 WORKBOOKS = (b"PK\x03\x04", b"\xd0\xcf\x11\xe0")
 # The first row of a CSV file: its first cell is a word or empty.

@@ -1,6 +1,6 @@
 """Why a line of a case was refused."""
 
-from picturing.case import MOST_CHANNELS, MOST_LINKS, MOST_PAIRS, STARTING, line_count
+from picturing.case import BARRING, MOST_CHANNELS, MOST_LINKS, MOST_PAIRS, STARTING, line_count
 from picturing.columns import COLUMNS, Lines, Refused
 
 from .reason import reason
@@ -27,7 +27,7 @@ class Sheet:
         return line_count(self.n, self.d, pair)
 
     def due(self, line):
-        """Kind, a, b and c that are due; None where any link may stand."""
+        """Kind, a, b and c that are due; None where any link may stand. In place of a weight its barring is due as well."""
         if line < self.pair_line(0):
             return [11, (line - 1) // self.d, (line - 1) % self.d, 0]
         pair, rest = divmod(line - self.pair_line(0), 1 + self.d * self.d)
@@ -43,7 +43,7 @@ class Sheet:
             numbers = self.lines.read(line)
         except Refused:
             return False
-        return all(due in (None, number) for due, number in zip(self.due(place), numbers))
+        return all(due in (None, number) for due, number in zip(self.due(place), [weighing(numbers[0]), *numbers[1:]]))
 
     def head_words(self):
         links, channels, pairs = sizes(self)
@@ -54,17 +54,24 @@ class Sheet:
         kind, a, b, c = self.due(line)
         here = f"Line {line + 1}: here"
         if kind == 11:
-            return f"{here} the weight of link {a}, channel {b} is due: kind 11, a {a}, b {b}"
+            return f"{here} the weight of link {a}, channel {b} is due: kind 11, a {a}, b {b} (kind 14 where it is barred)"
         if kind == 12:
             return f"{here} the line of pair {a} is due: kind 12, a {a}, b its lower link, c its higher link"
-        return f"{here} the weight of pair {a}, channels {b} and {c} is due: kind 13, a {a}, b {b}, c {c}"
+        return f"{here} the weight of pair {a}, channels {b} and {c} is due: kind 13, a {a}, b {b}, c {c} (kind 15 where it is barred)"
+
+
+def weighing(kind):
+    """The kind of a line that gives a weight, for one that bars in its place."""
+    return {barring: weight for weight, barring in BARRING.items()}.get(kind, kind)
 
 
 def unused(numbers):
     """A column that its kind does not use and that is not 0."""
     for column in UNUSED.get(numbers[0], ()):
         if numbers[column] != 0:
-            return reason(edge(column), f"Column {NAMES[column]} holds {numbers[column]}; {kind_named(numbers[0])} does not use it, so 0 is due.")
+            more = ["What is barred has no weight."] if column == 4 and weighing(numbers[0]) != numbers[0] else []
+            words = f"Column {NAMES[column]} holds {numbers[column]}; {kind_named(numbers[0])} does not use it, so 0 is due."
+            return reason(edge(column), words, *more)
     return None
 
 
@@ -73,7 +80,7 @@ def in_head(number, front):
     numbers = Lines("case", front).read(0)
     kind, n, d, m, _ = numbers
     if number == 2 and kind != 10:
-        more = ["A log begins like this: are case and log given in the wrong order?"] if kind in (1, 2, 4) else []
+        more = ["A log begins like this: are case and log given in the wrong order?"] if kind in (1, 2, 4, 5) else []
         return reason(edge(0), f"A case begins with its head, kind 10; here stands {kind_named(kind)}.", *more)
     if number == 2:
         return unused(numbers)
@@ -92,7 +99,7 @@ def in_case(number, front, line):
     sheet = Sheet(front)
     numbers, due = sheet.lines.read(line), sheet.due(line)
     if number == 2:
-        return other_kind(sheet, line, numbers, due) if numbers[0] != due[0] or line >= sheet.count else unused(numbers)
+        return other_kind(sheet, line, numbers, due) if weighing(numbers[0]) != due[0] or line >= sheet.count else unused(numbers)
     if number == 5:
         return misplaced(sheet, line, numbers, due)
     if number == 6 and numbers[2] >= numbers[3]:
@@ -100,8 +107,20 @@ def in_case(number, front, line):
     if number == 7:
         return paired(sheet, numbers)
     if number == 8 and abs(numbers[4]) > STARTING:
-        return reason(edge(4), f"The weight is {numbers[4]}: between {-STARTING} and {STARTING} it would be right.")
+        words = f"The weight is {numbers[4]}: between {-STARTING} and {STARTING} it would be right."
+        return reason(edge(4), words, *([f"A line of kind {BARRING[due[0]]} bars, no weight does."] if numbers[4] < 0 else []))
+    if number == 15:
+        return wholly_barred(due)
     return None
+
+
+def wholly_barred(due):
+    """The last line of a scope of which nothing is left."""
+    if due[0] == 11:
+        words = f"Link {due[1]} has no channel left: all {due[2] + 1} are barred, the last one in this line."
+    else:
+        words = f"Pair {due[1]} has no combination left: all {(due[2] + 1) * (due[3] + 1)} are barred, the last one in this line."
+    return reason(edge(0), words, "So no plan could be lawful. One of them at least has to have a weight.")
 
 
 def other_kind(sheet, line, numbers, due):
@@ -110,7 +129,7 @@ def other_kind(sheet, line, numbers, due):
         head = f"{sheet.head_words()} and ends with line {sheet.count}; after it stands {kind_named(numbers[0])}."
         return reason(edge(0), head, "Either the head (line 1) counts too few, or this line is too many.")
     words = [f"{sheet.due_words(line)}.", f"The line is {kind_named(numbers[0])}.", *neighbour(sheet, line)]
-    return reason(edge(0), *words, *([f"{sheet.head_words()}."] if {numbers[0], due[0]} == {11, 12} else []))
+    return reason(edge(0), *words, *([f"{sheet.head_words()}."] if {weighing(numbers[0]), due[0]} == {11, 12} else []))
 
 
 def misplaced(sheet, line, numbers, due):

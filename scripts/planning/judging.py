@@ -8,12 +8,25 @@ from .failed import Failed
 from .programs import Program, converse
 from .unfit import Unfit
 
-LINE = re.compile(rb"(?:(accepted) ([0-9]{1,20}) (-?[0-9]{1,20})|refused ([0-9]{1,20}) ([0-9]{1,20}))\n")
+LINE = re.compile(rb"(?:(accepted) ([0-9]{1,20}) (-?[0-9]{1,20})|(refused) ([0-9]{1,20}) ([0-9]{1,20})|(void))\n")
 # More than `replay` ever prints.
 MOST = 1000
 
-# The line as it was printed, and what it says: rounds and ceiling, or number and line.
-Verdict = namedtuple("Verdict", "printed accepted first second")
+
+class Verdict(namedtuple("Verdict", "printed word first second")):
+    """The line as it was printed, and what it says: rounds and ceiling where accepted, number and line where refused, nothing where void."""
+
+    @property
+    def accepted(self):
+        return self.word == b"accepted"
+
+    @property
+    def refused(self):
+        return self.word == b"refused"
+
+    @property
+    def void(self):
+        return self.word == b"void"
 
 
 class TurnedBack(Exception):
@@ -42,8 +55,8 @@ def verdict(printed):
     match = LINE.fullmatch(printed)
     if not match:
         raise Failed("replay gave no judgement")
-    accepted, *numbers = match.groups()
-    return Verdict(printed, bool(accepted), *(int(number) for number in numbers if number))
+    word, *numbers = [group for group in match.groups() if group]
+    return Verdict(printed, word, *map(int, numbers or [0, 0]))
 
 
 def judge(*inputs):
@@ -56,7 +69,7 @@ def judge(*inputs):
 def judge_case(case):
     """The verdict on the case alone; it is turned down where it holds a log as well."""
     verdict = judge(case.chunks())
-    if verdict.accepted and verdict.first > 0:
+    if verdict.void or verdict.accepted and verdict.first > 0:
         raise Unfit(f"{case.label}: the file holds a log as well as a case (`{line(verdict)}`); give the case alone")
     return verdict
 
@@ -79,6 +92,6 @@ def why(*names):
 def valid_case(case):
     """The bytes of a case that `replay` accepts; of another one the refusal, as words."""
     verdict = judge_case(case)
-    if not verdict.accepted:
+    if verdict.refused:
         raise TurnedBack(line(verdict), why(case.name))
     return case.front()

@@ -1,14 +1,27 @@
-"""The moves of a log up to the line that was refused."""
+"""The moves of a log: all of one that was accepted, or those up to the line that was refused."""
 
 from collections import deque, namedtuple
 
-from picturing.log import Log, read_move
+from picturing.case import read_case
+from picturing.columns import COLUMNS, LINE
+from picturing.log import Log, read_log, read_move
+
+from .progress import working
 
 BLOCK = 1 << 20
+# Lines of a log after which a word is shown meanwhile, and those of a log that is not read again.
+LONG, MOST = 20_000, 500_000
 
-# The weights before a line of the log, and the round so far; where a press is held: its line, link, amount, count of raise lines, and the scopes raised.
-Standing = namedtuple("Standing", "log line press")
-Press = namedtuple("Press", "line link amount count raised")
+# The weights before a line of the log, and the round so far; the press or void line held, if one is.
+Standing = namedtuple("Standing", "log line held")
+
+
+class Held(namedtuple("Held", "kind line link amount count raised")):
+    """A press or a void line that waits for raise lines: its kind, line, link, amount (0 of a void line), count, and the scopes raised so far."""
+
+    @property
+    def is_press(self):
+        return self.kind == 2
 
 
 class Stretch:
@@ -36,8 +49,17 @@ def stand_before(case, data, line):
     at = 0
     while at < line:
         kind, link, count, _, amount = log.lines.read(at)
-        if kind == 2 and at + count >= line:
+        if kind in (2, 5) and at + count >= line:
             raised = [log.lines.read(raise_line)[1] for raise_line in range(at + 1, line)]
-            return Standing(log, line, Press(at, link, amount, count, raised))
+            return Standing(log, line, Held(kind, at, link, amount, count, raised))
         at = read_move(log, at)
     return Standing(log, line, None)
+
+
+def read_again(case, source, first, kind, words):
+    """The log of a case that begins at a byte of the source, if it has lines of this kind and is not too long."""
+    data = b"".join(source.blocks(first, first + MOST * LINE + 1))
+    if len(data) > MOST * LINE or kind not in data[COLUMNS[0][1] - 1 :: LINE]:
+        return None
+    with working(words, len(data) > LONG * LINE):
+        return read_log(read_case(case), data)

@@ -1,15 +1,12 @@
 """Pair rounds in words: those of an accepted log, and one that is not complete where a log is refused."""
 
-from picturing.case import read_case
-from picturing.columns import COLUMNS, LINE, line as written
-from picturing.log import read_log
+from picturing.case import BARRED
+from picturing.columns import line as written
 
 from .failed import Failed
-from .progress import working
+from .moves import read_again
 from .rules import counted
 
-# Lines of a log after which a word is shown meanwhile, and those of a log that is not read again.
-LONG, MOST = 20_000, 500_000
 SHIFT = b"1"
 
 WHAT = (
@@ -21,7 +18,7 @@ WHAT = (
 def told(case, source, first, verdict):
     """What is said of an accepted log's pair rounds, if anything; the log begins at a byte of the source."""
     try:
-        log = read_again(case, source, first)
+        log = read_again(case, source, first, SHIFT, "looking for pair rounds ..")
     except Failed:
         raise
     except Exception:
@@ -33,15 +30,6 @@ def told(case, source, first, verdict):
     count, fall = len(log.pair_rounds), sum(log.ceilings[at] - log.ceilings[at + 1] for at in log.pair_rounds)
     which = "is a pair round, which lowers" if count == 1 else "are pair rounds, which lower"
     return [f"{count} of them {which} it by {fall}.", *WHAT]
-
-
-def read_again(case, source, first):
-    """The moves of a log that has shifts and is not too long."""
-    data = b"".join(source.blocks(first, first + MOST * LINE + 1))
-    if len(data) > MOST * LINE or SHIFT not in data[COLUMNS[0][1] - 1 :: LINE]:
-        return None
-    with working("looking for pair rounds ..", len(data) > LONG * LINE):
-        return read_log(read_case(case), data)
 
 
 def incomplete(log):
@@ -60,9 +48,10 @@ def incomplete(log):
 
 
 def after_pair_round(log, pair):
-    """The ceiling when all weights of a pair's links are in the pair."""
+    """The ceiling when all weights of a pair's links are in the pair: what is barred has none, and is not looked at in the pair."""
     case, d = log.case, log.case.d
     scopes = (*case.pairs[pair], case.n + pair)
     low, high, both = [log.table[slice(*case.span(scope))] for scope in scopes]
-    best = max(low[k] + high[l] + both[k * d + l] for k in range(d) for l in range(d))
+    low, high = [[0 if weight == BARRED else weight for weight in weights] for weights in (low, high)]
+    best = max(low[k] + high[l] + both[k * d + l] for k in range(d) for l in range(d) if both[k * d + l] != BARRED)
     return sum(log.greatest) - sum(log.greatest[scope] for scope in scopes) + best

@@ -1,6 +1,7 @@
 """`ceiling press`: the log of a case, with the judgement of `replay` on it."""
 
 from . import outputs
+from .barring import NO_PLAN, NOT_YET, none_above, not_taken
 from .judging import MOST, Judge, TurnedBack, line, why
 from .programs import Program, converse
 from .progress import Progress
@@ -11,6 +12,7 @@ from .standard import is_terminal, say
 # The most rounds that `press` makes.
 MOST_ROUNDS = 100_000
 REFUSED = b"refused"
+HINT = f"the case is valid, but {NOT_YET}; `ceiling check` judges logs of other engines"
 
 
 def run(options):
@@ -23,20 +25,21 @@ def run(options):
     finally:
         progress.clear()
     if press.refusal:
-        raise TurnedBack(press.refusal.partition(b"\n")[0].decode("utf-8", "replace"), why(case.name))
+        refusal = press.refusal.partition(b"\n")[0]
+        raise TurnedBack(refusal.decode("utf-8", "replace"), HINT if not_taken(case.front(), refusal) else why(case.name))
     verdict = press.judged.verdict()
-    if not verdict.accepted:
+    if verdict.refused:
         raise TurnedBack("ceiling: replay turned back the log that press made", line(verdict))
     outputs.put_in_place(result)
-    say(line(verdict), summary(verdict.first, verdict.second))
+    say(line(verdict), NO_PLAN if verdict.void else f"{summary(verdict.first)}: {none_above(case.front(), verdict.second)}")
     return 0
 
 
-def summary(rounds, ceiling):
+def summary(rounds):
     how = f"settled after {counted(rounds, 'round')}" if rounds else "settled at once"
     if rounds >= MOST_ROUNDS:
         how = f"the limit of {rounds} rounds was reached, perhaps not settled"
-    return f"{how}: no plan's total is above {ceiling}"
+    return how
 
 
 class Press:

@@ -27,12 +27,12 @@ RULES = {
     7: ("two pairs join the same links", "Two links are joined by one pair at most."),
     8: ("a weight is out of its range", f"A starting weight lies between {-STARTING:,} and {STARTING:,}."),
     9: (
-        "raised scopes do not ascend, or the pressed link itself is raised",
-        "The raise lines of a press name scopes upwards, never the pressed link's own.",
+        "raised scopes do not ascend, or the link itself is raised",
+        "The raise lines of a press or a void line name scopes upwards, never the link's own.",
     ),
     10: (
-        "an active channel of the pressed link is not refuted",
-        "A press is allowed if each active channel of its link is refuted: fixed alone, it leaves some link without a channel that fits.",
+        "an active channel of the link is not refuted",
+        "A press or a void line is taken if each active channel of its link is refuted: fixed alone, it leaves some link without a channel that fits.",
     ),
     11: ("a move would take a working weight out of its range", f"Working weights lie between {-WORKING:,} and {WORKING:,}."),
     12: ("the bound line's ceiling is not the ceiling", "The ceiling is the sum of every scope's greatest weight after the moves so far."),
@@ -40,7 +40,18 @@ RULES = {
         "the ceiling is not lower than at the round's start",
         "Each round, from the line after a bound line to the next one, has to lower the ceiling.",
     ),
-    14: ("the file ends inside a line, a press, a round or a case", "A case has all its lines, and a log ends with a bound line."),
+    14: (
+        "the file ends inside a line, a press, a void line, a round or a case",
+        "A case has all its lines, and a log ends with a bound line or a whole void line.",
+    ),
+    15: (
+        "all channels of a link or all combinations of a pair are barred",
+        "Each link has a channel, and each pair a combination, that is not barred: otherwise no plan would be lawful.",
+    ),
+    16: (
+        "something that has to be barred for a void line is not",
+        "A void line is taken if all channels of its link but the active ones are barred, and everything that is closed in the raised scopes.",
+    ),
 }
 
 KINDS = {
@@ -48,15 +59,18 @@ KINDS = {
     2: "press",
     3: "raise",
     4: "bound",
+    5: "void",
     10: "head of a case",
     11: "link weight",
     12: "pair",
     13: "pair weight",
+    14: "barred link channel",
+    15: "barred pair combination",
 }
 # The kinds of a case after its head.
-AFTER_HEAD = (11, 12, 13)
+AFTER_HEAD = (11, 12, 13, 14, 15)
 # The columns that a kind does not use.
-UNUSED = {1: (), 2: (3,), 3: (2, 3, 4), 4: (1, 2, 3), 10: (4,), 11: (3,), 12: (4,), 13: ()}
+UNUSED = {1: (), 2: (3,), 3: (2, 3, 4), 4: (1, 2, 3), 5: (3, 4), 10: (4,), 11: (3,), 12: (4,), 13: (), 14: (3, 4), 15: (4,)}
 
 
 def where(number):

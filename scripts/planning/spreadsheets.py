@@ -1,6 +1,6 @@
 """A case as two spreadsheets: the links with their weights on each channel, and the pairs with the weights of two channels."""
 
-from picturing.case import MOST_CHANNELS, MOST_LINKS, MOST_PAIRS, STARTING, read_case, write_case
+from picturing.case import BARRED, MOST_CHANNELS, MOST_LINKS, MOST_PAIRS, STARTING, read_case, write_case
 
 from .cells import table
 from .unfit import Unfit, shown
@@ -8,6 +8,8 @@ from .unfit import Unfit, shown
 # Just these words, in large or small letters: a row of weights that is taken for the header would be lost in silence.
 LINKS_HEADER = "link"
 PAIRS_HEADER = "first link,second link,first channel,second channel,weight"
+# What stands in a cell instead of a weight.
+BARRED_WORD = "barred"
 
 
 def read(links_name, links_data, pairs_name, pairs_data):
@@ -36,6 +38,8 @@ def read_links(file, data):
         row.as_wide_as(header)
         name = unused(row, 0, links, "link", MOST_LINKS)
         links[name] = [weight(row, column) for column in range(1, len(header.cells))]
+        if set(links[name]) == {BARRED}:
+            row.refuse(f"all channels of link '{shown(name)}' are barred, one at least must not be")
     if not links:
         raise Unfit(f"{file}: has no link after its header row")
     return channels, links
@@ -72,14 +76,18 @@ def read_pairs(file, data, links, channels):
         before = seen.setdefault((first, second, k, l), row.number)
         if before != row.number:
             row.refuse(f"these links and channels have their weight in row {before}")
-        pairs.setdefault((first, second), {})[k, l] = weight(row, 4)
+        weights = pairs.setdefault((first, second), {})
+        weights[k, l] = weight(row, 4)
+        if len(weights) == len(channels) ** 2 and set(weights.values()) == {BARRED}:
+            row.refuse("with this row all combinations of the two links are barred, one at least must not be")
     return pairs
 
 
 def weight(row, column):
     if not row.cells[column]:
-        row.refuse("here a weight is due, 0 where nothing is gained or lost", column)
-    return row.number_in(column, STARTING)
+        row.refuse(f"here a weight is due, 0 where nothing is gained or lost, or the word {BARRED_WORD}", column)
+    number = row.number_in(column, STARTING, BARRED_WORD)
+    return BARRED if number is None else number
 
 
 def known(row, column, numbers, what):
@@ -96,10 +104,14 @@ def write(data):
     case = read_case(data)
     links = [",".join([LINKS_HEADER, *map(str, range(case.d))])]
     for link in range(case.n):
-        links.append(",".join(map(str, [link, *case.weights[slice(*case.span(link))]])))
+        links.append(",".join(map(cell, [link, *case.weights[slice(*case.span(link))]])))
     pairs = [PAIRS_HEADER]
     for number, (low, high) in enumerate(case.pairs):
         weights = case.weights[slice(*case.span(case.n + number))]
         rows = [(low, high, *divmod(place, case.d), weight) for place, weight in enumerate(weights) if weight]
-        pairs += [",".join(map(str, row)) for row in rows or [(low, high, 0, 0, 0)]]
+        pairs += [",".join(map(cell, row)) for row in rows or [(low, high, 0, 0, 0)]]
     return tuple(("\n".join(lines) + "\n").encode("ascii") for lines in (links, pairs))
+
+
+def cell(number):
+    return BARRED_WORD if number == BARRED else str(number)

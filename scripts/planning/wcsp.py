@@ -1,16 +1,17 @@
-"""toulbar2's wcsp format: costs, of which the least sum is wanted, against weights, of which the greatest is."""
+"""toulbar2's wcsp format: costs, of which the least sum is wanted, against weights, of which the greatest is. A cost at or above the file's upper
+bound forbids its combination, as a value that a variable does not have is forbidden: this is just what a barred combination is."""
 
 import itertools
 import math
 import os
 import re
 
-from picturing.case import MOST_CHANNELS, MOST_LINKS, MOST_PAIRS, STARTING, read_case, write_case
+from picturing.case import BARRED, MOST_CHANNELS, MOST_LINKS, MOST_PAIRS, STARTING, read_case, write_case
 
 from .unfit import Unfit, shown
 
-# A channel that may not be used has the least starting weight.
-BARRED = -STARTING
+# What a forbidden combination weighs where it is not barred: the least starting weight.
+LEAST = -STARTING
 WORD = re.compile(rb"\S+")
 NUMBER = re.compile(rb"[+-]?[0-9]{1,19}")
 
@@ -84,8 +85,8 @@ class Network:
         return {combination: self.defaults[scope] + more for combination, more in self.scopes[scope].items()}
 
 
-def read(name, data):
-    """The case of a wcsp file, and how totals and costs belong together."""
+def read(name, data, barred=False):
+    """The case of a wcsp file, and how totals and costs belong together; what is forbidden is barred, or has the least weight."""
     words = Words(name, data)
     words.word("the problem's name")
     n = words.within("the number of variables", 1, MOST_LINKS)
@@ -97,7 +98,7 @@ def read(name, data):
         read_function(words, network)
     if words.more() is not None:
         words.refuse(f"the file goes on after its last function; its head says {functions}")
-    return converted(name, network, top)
+    return converted(name, network, top, barred)
 
 
 def domain(words, largest):
@@ -157,7 +158,7 @@ def reused(words, network, scope, default, number):
     return costs
 
 
-def converted(name, network, top):
+def converted(name, network, top, barred):
     values = max(network.sizes)
     constant, weights = 0, {}
     for scope in network.scopes:
@@ -165,17 +166,26 @@ def converted(name, network, top):
         lifted = lift(name, scope, allowed, top)
         constant += lifted
         weights[scope] = {combination: lifted - cost for combination, cost in allowed.items()}
-    least = lawful_least(name, network, weights, values)
+    said = forbidden_words(name, network, weights, values, barred)
     tables = {
-        scope: [known.get(combination, BARRED) for combination in itertools.product(range(values), repeat=len(scope))]
+        scope: [known.get(combination, BARRED if barred else LEAST) for combination in itertools.product(range(values), repeat=len(scope))]
         for scope, known in weights.items()
     }
     links = [tables[(i,)] for i in range(len(network.sizes))]
     case = write_case(values, links, [(*pair, tables[pair]) for pair in network.pairs()])
-    said = f"total = {constant} - cost"
-    if least is not None:
-        said += f"\nevery plan that uses a forbidden combination has a total below {least}, every other plan {least} or more"
-    return case, said
+    return case, "\n".join([f"total = {constant} - cost", *said])
+
+
+def forbidden_words(name, network, weights, values, barred):
+    """What is said of plans that use something forbidden, if there are such. Refused where they cannot be told from others."""
+    scopes = [scope for scope in weights if scope]
+    forbidding = [scope for scope in scopes if len(weights[scope]) < full(network, scope, values)]
+    if not forbidding:
+        return []
+    if barred:
+        return ["what is forbidden is barred: a plan that uses it is unlawful, and has no total"]
+    least = lawful_least(name, weights, scopes, forbidding)
+    return [f"every plan that uses a forbidden combination has a total below {least}, every other plan {least} or more"]
 
 
 def lift(name, scope, allowed, top):
@@ -200,20 +210,16 @@ def full(network, scope, values):
     return values if len(scope) == 1 else len(network.scopes[scope])
 
 
-def lawful_least(name, network, weights, values):
-    """Where something is forbidden: a total that no plan without it is below, and all plans with it are. Refused if there is none."""
-    scopes = [scope for scope in weights if scope]
+def lawful_least(name, weights, scopes, forbidding):
+    """A total that no plan without anything forbidden is below, and all other plans are. Refused if there is none."""
     highest = {scope: max(weights[scope].values()) for scope in scopes}
-    forbidding = [scope for scope in scopes if len(weights[scope]) < full(network, scope, values)]
-    if not forbidding:
-        return None
     least = sum(min(weights[scope].values()) for scope in scopes)
     for scope in forbidding:
-        best = sum(highest.values()) - highest[scope] + BARRED
+        best = sum(highest.values()) - highest[scope] + LEAST
         if best >= least:
             raise Unfit(
-                f"{name}: a forbidden or missing combination of {variables(scope)} would weigh {BARRED}, and a plan that uses it could have "
-                f"a total of {best}; plans that use none may have no more than {least}"
+                f"{name}: a forbidden or missing combination of {variables(scope)} would weigh {LEAST}, and a plan that uses it could have "
+                f"a total of {best}; plans that use none may have no more than {least} (with --barred it has no weight)"
             )
     return least
 
@@ -224,21 +230,23 @@ def write(name, data):
 
 
 def written(name, case):
-    """The same of a case that was read, or of its working weights in place of the starting ones."""
+    """The same of a case that was read, or of its working weights in place of the starting ones. The upper bound is above the cost of every plan
+    that uses nothing barred; what is barred costs as much, which forbids it."""
     weights = [case.weights[slice(*case.span(scope))] for scope in range(case.scopes)]
     ceiling = sum(map(max, weights))
-    top = ceiling - sum(map(min, weights)) + 1
+    top = ceiling - sum(min(weight for weight in known if weight != BARRED) for known in weights) + 1
     text = [f"{problem_name(name)} {case.n} {case.d} {case.scopes} {top}", " ".join([str(case.d)] * case.n)]
     places = [(i,) for i in range(case.n)] + case.pairs
     for place, known in zip(places, weights):
-        text += function_text(place, known, case.d)
-    return ("\n".join(text) + "\n").encode("ascii"), f"total = {ceiling} - cost"
+        text += function_text(place, known, case.d, top)
+    said = f"total = {ceiling} - cost" + (f"\nwhat is barred costs {top}, the upper bound: it is forbidden" if case.bars else "")
+    return ("\n".join(text) + "\n").encode("ascii"), said
 
 
-def function_text(place, weights, values):
+def function_text(place, weights, values, top):
     greatest = max(weights)
-    combinations = itertools.product(range(values), repeat=len(place))
-    tuples = [(*combination, greatest - weight) for combination, weight in zip(combinations, weights) if weight != greatest]
+    combinations = zip(itertools.product(range(values), repeat=len(place)), weights)
+    tuples = [(*combination, top if weight == BARRED else greatest - weight) for combination, weight in combinations if weight != greatest]
     return [" ".join(map(str, row)) for row in [(len(place), *place, 0, len(tuples))] + tuples]
 
 

@@ -20,7 +20,7 @@ use Rattle.definitions.specs.declared.Written.{Written}
 use Rattle.definitions.specs.Rules.{Rules}
 use Rattle.definitions.specs.Refusals.{Test, _when_, firstOf}
 use Rattle.definitions.specs.Answers.{outcomeOf, unlessRefused}
-use Rattle.definitions.specs.Case.{scopeCount, isVariable, objective, upperBound, active}
+use Rattle.definitions.specs.Case.{scopeCount, isVariable, objective, upperBound, active, usesBarred}
 use Rattle.definitions.specs.Valid.{startingWeight, workingWeight, wrongAssignment, valueOut, handedOver}
 use Rattle.definitions.specs.Consistency.{refuted}
 use Rattle.definitions.specs.Moves.{Move, shift, activePress, shiftAmount, pressAmount, moved, activeRefuted, leavesRange}
@@ -98,9 +98,10 @@ isRising (x ∷ y ∷ ys) = ltb x y && isRising (y ∷ ys)
 module _ (r : Rules) where
   -- ---- totals: the range is that of working weights
 
+  -- an unlawful assignment has no objective: number 5 (document 02, change 2)
   unfoldable pub objectiveAnswer : Case → List ℤ → List ℕ → Figure
   objectiveAnswer c w p =
-      figureOf (firstOf (handedOver r (workingWeight r) c w (wrongAssignment c p) (valueOut c p))) (objective c w p)
+      figureOf (firstOf (handedOver r (workingWeight r) c w (wrongAssignment c p) (valueOut c p || usesBarred c w p))) (objective c w p)
 
   unfoldable pub upperBoundAnswer : Case → List ℤ → Figure
   upperBoundAnswer c w = figureOf (firstOf (handedOver r (workingWeight r) c w false false)) (upperBound c w)
@@ -130,7 +131,7 @@ module _ (r : Rules) where
   shiftCall c w e end v a =
       moveCall c w (shift e end v a)
       (handedOver r (workingWeight r) c w false (shiftOut c e end v a)
-      ++ (LeavesRange when (leavesRange r c (moved c (shift e end v a) w)) ∷ []))
+      ++ (LeavesRange when (leavesRange r c w (moved c (shift e end v a) w)) ∷ []))
 
   -- raised is a list of scopes, 1 to s − 1 of them (else 5), rising and without the own scope (else 9)
   abbrev pub pressOut : Case → ℕ → List ℕ → ℤ → Bool
@@ -144,7 +145,7 @@ module _ (r : Rules) where
       (handedOver r (workingWeight r) c w false (pressOut c i raised a)
       ++ (RaiseNotAscending when (not (isRising raised) || isIn raised i)
       ∷ NotRefuted when (not (activeRefuted c w i raised))
-      ∷ LeavesRange when (leavesRange r c (moved c (activePress c w i raised a) w)) ∷ []))
+      ∷ LeavesRange when (leavesRange r c w (moved c (activePress c w i raised a) w)) ∷ []))
 
   -- ---- lines
 

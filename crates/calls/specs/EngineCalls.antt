@@ -1,7 +1,7 @@
 -- The engine's calls on all input: one round, and the run that iterates it, on a lent table and a lent output. Assumes nothing.
 use mathlib.Core.Bool.{Bool, false}
 use mathlib.Core.Option.{Option, none, some}
-use mathlib.Core.List.{List, [], _++_}
+use mathlib.Core.List.{List, [], _∷_, _++_}
 use Prim.Native.Nat.{ℕ, zero, suc}
 use lib.IntN.{ℤ, pos}
 use lib.Dec.{ltb, eqb}
@@ -9,15 +9,16 @@ use lib.ListN.{length, take}
 use Rattle.integers.specs.Words.{if_then_else_, joined}
 use Rattle.definitions.specs.declared.Case.{Case}
 use Rattle.definitions.specs.declared.Refusal.{Refusal}
+use Rattle.definitions.specs.declared.Refusal.the-variants.{WeightOutOfRange}
 use Rattle.definitions.specs.declared.Round.{Round}
 use Rattle.definitions.specs.declared.RunAnswer.{RunAnswer}
 use Rattle.definitions.specs.declared.Run.{Run}
 use Rattle.definitions.specs.Rules.{Rules}
-use Rattle.definitions.specs.Refusals.{number, firstOf}
+use Rattle.definitions.specs.Refusals.{number, _when_, firstOf}
 use Rattle.definitions.specs.Case.{upperBound}
 use Rattle.definitions.specs.Valid.{workingWeight, handedOver}
 use Rattle.definitions.specs.Lines.{overwritten}
-use Rattle.definitions.specs.Engine.{Next, Made, settled, refused, made, makeNext, roundBytes}
+use Rattle.definitions.specs.Engine.{Next, Made, settled, refused, made, makeNext, roundBytes, someBarred}
 
 pub record RoundCall : Type 0 where
   pub answer : Round
@@ -31,7 +32,7 @@ pub record RunCall : Type 0 where
   pub out : List ℕ
   pub log : List ℕ
 
--- by numbers 3 to 8 a run is refused before its first round, and has no bound; by 11 it stands as after its last round
+-- by numbers 3 to 8 and 15 a run is refused before its first round, and has no bound; by 11 it stands as after its last round
 abbrev pub isLeaving : Refusal → Bool
 isLeaving x = eqb (number x) 11
 
@@ -53,8 +54,10 @@ roundMade c w out (made v lines) = record {
 }
 
 module _ (r : Rules) (next : Rules → Case → List ℤ → Next) (c : Case) where
+  -- 3 to 8 and 15; and then, until the engine takes barred tuples, 8 where there is one
   abbrev pub engineRefusal : List ℤ → List ℕ → Option Refusal
-  engineRefusal w out = firstOf (handedOver r (workingWeight r) c w (ltb (length out) (roundBytes r c)) false)
+  engineRefusal w out =
+      firstOf (handedOver r (workingWeight r) c w (ltb (length out) (roundBytes r c)) false ++ (WeightOutOfRange when (someBarred c w) ∷ []))
 
   unfoldable pub roundCall : List ℤ → List ℕ → RoundCall
   roundCall w out = elim (engineRefusal w out) [

@@ -3,3 +3,4 @@ pub mod Calls
 pub mod EngineCalls
 pub mod CallSamples
 pub mod CallBorders
+pub mod BarredCallBorders

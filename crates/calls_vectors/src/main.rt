@@ -21,7 +21,7 @@
 // 19  sum_of_best
 //
 // Where a count is meant, a negative number stands for 2^64 - 1; the amounts 999999999999 and -99999999999 stand for 2^63 - 1 and -2^63.
-// The answers in `stdout` were worked out from document 01.
+// The answers in `stdout` were worked out from document 01, those of barred tuples from document 02.
 use arcs::Closed;
 use arcs::Partner;
 use arcs::Tried;

@@ -1,5 +1,6 @@
 -- What is due in a case file: the line of each due, its rank in the file, and what taking a line changes. Assumes nothing.
 use mathlib.Core.Path.{_≡_, refl, sym, ap, ap₂, subst, _∙_}
+use mathlib.Core.Bool.{Bool, true, false, _||_}
 use mathlib.Core.Logic.{_≢_, ⊎-elim}
 use mathlib.Core.Option.{some}
 use mathlib.Core.List.{List, [], _∷_, _++_, map, Memᴰ·map, Memᴰ·append-left, Memᴰ·append-right, List·Memᴰ·head, List·Memᴰ·tail, List·Memᴰ·not-nil}
@@ -7,28 +8,30 @@ use Prim.Native.Nat.{ℕ, zero, suc, _+_, _*_, _-_, _≤_, _<_}
 use native.Mathlib.Nat.{mul-le-mul-right}
 use native.Mathlib.Omega.{arith}
 use lib.IntN.{ℤ, pos, natAbs}
-use lib.Dec.{ltb, ltb→lt, nltb→le}
+use lib.Dec.{T, eqb, ltb, ltb→lt, nltb→le}
 use lib.ListN.{length, getD, set, length-set, List·getD-eq-default}
 use lib.Seq.{getD-set-same, getD-set-other, ext-getD}
-use Rattle.integers.specs.Words.{from, below, joined}
+use Rattle.integers.specs.Words.{if_then_else_, from, below, joined}
 use Rattle.integers.specs.Tests.{either}
+use Rattle.integers.specs.Linear.{T-eq}
 use Rattle.integers.specs.Lists.{_∈_, below-in, joined-in, map-append, map-joined, map-map, map-same}
 use Rattle.definitions.specs.declared.Rulebook.{Rulebook}
 use Rattle.definitions.specs.declared.Case.{Case}
 use Rattle.definitions.specs.declared.Line.{Line}
 use Rattle.definitions.specs.Rules.{edgePlaces}
-use Rattle.definitions.specs.Case.{values, lowerEnd, upperEnd, place, weight}
+use Rattle.definitions.specs.Case.{values, lowerEnd, upperEnd, place, weight, barredWeight, isBarred}
 use Rattle.definitions.specs.Lines.{line}
-use Rattle.definitions.specs.CaseFiles.{headLine, caseLines, CaseDue, variable-weight, edge-ends, edge-weight, dues, Reading, took}
+use Rattle.definitions.specs.CaseFiles.{headLine, weightLine, caseLines, CaseDue, variable-weight, edge-ends, edge-weight, dues, Reading, took}
+use Rattle.definitions.specs.CaseFiles.{weightIn}
 use Rattle.definitions.proofs.CaseLaws.{place-own}
 use Rattle.theory.proofs.Places.{IsTuple, variable-tuple, edge-tuple, each-variable, each-edge, place-apart, by-tuple, same-table}
 
 -- ---- the line that is due
 
 abbrev pub lineOf : Case → List ℤ → CaseDue → Line
-lineOf c w (variable-weight i k) = line 11 (pos i) (pos k) (pos 0) (weight c w i k 0)
+lineOf c w (variable-weight i k) = weightLine 11 14 (pos i) (pos k) (pos 0) (weight c w i k 0)
 lineOf c w (edge-ends e) = line 12 (pos e) (pos (lowerEnd c e)) (pos (upperEnd c e)) (pos 0)
-lineOf c w (edge-weight e k l) = line 13 (pos e) (pos k) (pos l) (weight c w (c .n + e) k l)
+lineOf c w (edge-weight e k l) = weightLine 13 15 (pos e) (pos k) (pos l) (weight c w (c .n + e) k l)
 
 -- f at every due, as the lists of the file stand
 map-dues : (f : CaseDue → Line) (c : Case) → map f (dues c)
@@ -39,7 +42,7 @@ map-dues f c = simp (map-append, map-joined, map-map)
 pub case-lines : (c : Case) (w : List ℤ) → caseLines c w ≡ headLine c ∷ map (lineOf c w) (dues c)
 case-lines c w = ap (λ (ls : List Line). headLine c ∷ ls) (
     ap₂ (λ (p q : List (List Line)). joined p ++ joined q)
-    (map-same (c .n) (λ i h. each-variable c (λ k l. line 11 (pos i) (pos k) (pos 0) (weight c w i k l)) i h))
+    (map-same (c .n) (λ i h. each-variable c (λ k l. weightLine 11 14 (pos i) (pos k) (pos 0) (weight c w i k l)) i h))
     (map-same (c .m) (λ e h. ap (λ (ls : List Line). lineOf c w (edge-ends e) ∷ ls) (each-edge c (λ k l. lineOf c w (edge-weight e k l)) e)))
     ∙ sym (map-dues (lineOf c w) c))
 
@@ -140,9 +143,24 @@ rank-below n d m (edge-weight e k l) (u, v, h) = omega (arith, mul-le-mul-right 
 
 -- the line with what is stored of t in place
 abbrev pub lineFor : CaseDue → Line → Line
-lineFor (variable-weight i k) t = line 11 (pos i) (pos k) (pos 0) (t .amount)
+lineFor (variable-weight i k) t = weightLine 11 14 (pos i) (pos k) (pos 0) (weightIn t)
 lineFor (edge-ends e) t = line 12 (pos e) (pos (natAbs (t .b))) (pos (natAbs (t .c))) (pos 0)
-lineFor (edge-weight e k l) t = line 13 (pos e) (pos k) (pos l) (t .amount)
+lineFor (edge-weight e k l) t = weightLine 13 15 (pos e) (pos k) (pos l) (weightIn t)
+
+-- the weight that is written is the weight that is stored
+pub weight-back : (kind barring : ℕ) → (eqb kind 14 || eqb kind 15) ≡ false → (eqb barring 14 || eqb barring 15) ≡ true → (a b c z : ℤ)
+    → weightIn (weightLine kind barring a b c z) ≡ z
+weight-back kind barring plain barred a b c z = go (isBarred z) (T-eq z barredWeight .0)
+  where
+    go : (t : Bool) → (T t → z ≡ barredWeight) → weightIn (if t then line barring a b c (pos 0) else line kind a b c z) ≡ z
+    go true h = rw barred (sym (h tt))
+    go false h = rw plain
+
+pub line-for : (c : Case) (w : List ℤ) (due : CaseDue) → lineFor due (lineOf c w due) ≡ lineOf c w due
+line-for c w (variable-weight i k) = ap (weightLine 11 14 (pos i) (pos k) (pos 0)) (weight-back 11 14 refl refl (pos i) (pos k) (pos 0) (weight c w i k 0))
+line-for c w (edge-ends e) = refl
+line-for c w (edge-weight e k l) =
+    ap (weightLine 13 15 (pos e) (pos k) (pos l)) (weight-back 13 15 refl refl (pos e) (pos k) (pos l) (weight c w (c .n + e) k l))
 
 -- the ends of m edges, and what follows them
 pub same-ends : (m : ℕ) (p q : List ℕ) → length p ≡ length q → ((e : ℕ) → e < m → getD p e 0 ≡ getD q e 0) → ((e : ℕ) → m ≤ e → getD p e 0 ≡ getD q e 0) → p ≡ q
@@ -168,9 +186,9 @@ module _ (book : Rulebook) (n d m : ℕ) where
   stored s x k l z = record { lower = s .lower; upper = s .upper; table = set (s .table) (place (caseAt s) x k l) z }
 
   abbrev pub next : State → CaseDue → Line → State
-  next s (variable-weight i k) t = stored s i k 0 (t .amount)
+  next s (variable-weight i k) t = stored s i k 0 (weightIn t)
   next s (edge-ends e) t = record { lower = set (s .lower) e (natAbs (t .b)); upper = set (s .upper) e (natAbs (t .c)); table = s .table }
-  next s (edge-weight e k l) t = stored s (n + e) k l (t .amount)
+  next s (edge-weight e k l) t = stored s (n + e) k l (weightIn t)
 
   pub took-next : (s : State) (due : CaseDue) (t : Line) → took (reading s) due (some t) ≡ reading (next s due t)
   took-next s (variable-weight i k) t = refl
@@ -195,8 +213,8 @@ module _ (book : Rulebook) (n d m : ℕ) where
   }
 
   pub next-sized : {s : State} → Sized s → (due : CaseDue) → IsDue n d m due → (t : Line) → Sized (next s due t)
-  next-sized h (variable-weight i k) u t = stored-sized h i k 0 (t .amount)
-  next-sized h (edge-weight e k l) u t = stored-sized h (n + e) k l (t .amount)
+  next-sized h (variable-weight i k) u t = stored-sized h i k 0 (weightIn t)
+  next-sized h (edge-weight e k l) u t = stored-sized h (n + e) k l (weightIn t)
   next-sized {s} h (edge-ends e) u t = record {
     long = h .long;
     lower-long = length-set (s .lower) e (natAbs (t .b)) ∙ h .lower-long;
@@ -219,9 +237,9 @@ module _ (book : Rulebook) (n d m : ℕ) where
 
     pub next-there : m ≤ edgePlaces → Sized s → (due : CaseDue) → IsDue n d m due → (t : Line) → lineAt (next s due t) due ≡ lineFor due t
     next-there few h (variable-weight i k) (u, v) t =
-        ap (line 11 (pos i) (pos k) (pos 0)) (stored-there (h .long) (variable-tuple (caseAt s) i k u v) (t .amount))
+        ap (weightLine 11 14 (pos i) (pos k) (pos 0)) (stored-there (h .long) (variable-tuple (caseAt s) i k u v) (weightIn t))
     next-there few h (edge-weight e k l) (u, v, q) t =
-        ap (line 13 (pos e) (pos k) (pos l)) (stored-there (h .long) (edge-tuple (caseAt s) e k l u v q) (t .amount))
+        ap (weightLine 13 15 (pos e) (pos k) (pos l)) (stored-there (h .long) (edge-tuple (caseAt s) e k l u v q) (weightIn t))
     next-there few h (edge-ends e) u t = ap₂ (λ (i j : ℕ). line 12 (pos e) (pos i) (pos j) (pos 0))
         (getD-set-same (s .lower) e (natAbs (t .b)) 0 (omega (arith, h .lower-long)))
         (getD-set-same (s .upper) e (natAbs (t .c)) 0 (omega (arith, h .upper-long)))
@@ -229,23 +247,23 @@ module _ (book : Rulebook) (n d m : ℕ) where
     pub next-other : (due : CaseDue) → IsDue n d m due → (t : Line) (other : CaseDue) → IsDue n d m other → rank n d m other ≢ rank n d m due
         → lineAt (next s due t) other ≡ lineAt s other
     next-other (variable-weight i k) (u, v) t (variable-weight j a) (p, q) o =
-        ap (line 11 (pos j) (pos a) (pos 0)) (stored-other (variable-tuple (caseAt s) i k u v) (variable-tuple (caseAt s) j a p q) (λ x y z. o (cc))
-        (t .amount))
+        ap (weightLine 11 14 (pos j) (pos a) (pos 0)) (stored-other (variable-tuple (caseAt s) i k u v) (variable-tuple (caseAt s) j a p q) (λ x y z. o (cc))
+        (weightIn t))
     next-other (variable-weight i k) (u, v) t (edge-ends f) p o = refl
     next-other (variable-weight i k) (u, v) t (edge-weight f a b) (p, q, r) o =
-        ap (line 13 (pos f) (pos a) (pos b)) (stored-other (variable-tuple (caseAt s) i k u v) (edge-tuple (caseAt s) f a b p q r) (λ x y z. omega arith)
-        (t .amount))
+        ap (weightLine 13 15 (pos f) (pos a) (pos b)) (stored-other (variable-tuple (caseAt s) i k u v) (edge-tuple (caseAt s) f a b p q r)
+        (λ x y z. omega arith) (weightIn t))
     next-other (edge-ends e) u t (variable-weight j a) p o = refl
     next-other (edge-ends e) u t (edge-ends f) p o = ap₂ (λ (i j : ℕ). line 12 (pos f) (pos i) (pos j) (pos 0))
         (getD-set-other (s .lower) e f (natAbs (t .b)) 0 (λ q. o (cc))) (getD-set-other (s .upper) e f (natAbs (t .c)) 0 (λ q. o (cc)))
     next-other (edge-ends e) u t (edge-weight f a b) p o = refl
     next-other (edge-weight e k l) (u, v, h) t (variable-weight j a) (p, q) o =
-        ap (line 11 (pos j) (pos a) (pos 0)) (stored-other (edge-tuple (caseAt s) e k l u v h) (variable-tuple (caseAt s) j a p q) (λ x y z. omega arith)
-        (t .amount))
+        ap (weightLine 11 14 (pos j) (pos a) (pos 0)) (stored-other (edge-tuple (caseAt s) e k l u v h) (variable-tuple (caseAt s) j a p q)
+        (λ x y z. omega arith) (weightIn t))
     next-other (edge-weight e k l) (u, v, h) t (edge-ends f) p o = refl
     next-other (edge-weight e k l) (u, v, h) t (edge-weight f a b) (p, q, r) o =
-        ap (line 13 (pos f) (pos a) (pos b)) (stored-other (edge-tuple (caseAt s) e k l u v h) (edge-tuple (caseAt s) f a b p q r)
-        (λ x y z. let g : e ≡ f = omega arith in o (cc)) (t .amount))
+        ap (weightLine 13 15 (pos f) (pos a) (pos b)) (stored-other (edge-tuple (caseAt s) e k l u v h) (edge-tuple (caseAt s) f a b p q r)
+        (λ x y z. let g : e ≡ f = omega arith in o (cc)) (weightIn t))
 
   -- ---- two states with the same lines at the dues of ranks below a
   abbrev pub Agree : ℕ → State → State → Type 0
@@ -258,6 +276,19 @@ module _ (book : Rulebook) (n d m : ℕ) where
   pub same-upper : (s f : State) (e : ℕ) → lineAt s (edge-ends e) ≡ lineAt f (edge-ends e) → upperEnd (caseAt s) e ≡ upperEnd (caseAt f) e
   same-upper s f e q = ap (λ (l : Line). natAbs (l .c)) q
 
+  -- a weight, by its line
+  pub same-variable : (s f : State) (i k : ℕ) → lineAt s (variable-weight i k) ≡ lineAt f (variable-weight i k)
+      → weight (caseAt s) (s .table) i k 0 ≡ weight (caseAt f) (f .table) i k 0
+  same-variable s f i k q =
+      sym (weight-back 11 14 refl refl (pos i) (pos k) (pos 0) (weight (caseAt s) (s .table) i k 0)) ∙ ap weightIn q
+      ∙ weight-back 11 14 refl refl (pos i) (pos k) (pos 0) (weight (caseAt f) (f .table) i k 0)
+
+  pub same-edge : (s f : State) (e k l : ℕ) → lineAt s (edge-weight e k l) ≡ lineAt f (edge-weight e k l)
+      → weight (caseAt s) (s .table) (n + e) k l ≡ weight (caseAt f) (f .table) (n + e) k l
+  same-edge s f e k l q =
+      sym (weight-back 13 15 refl refl (pos e) (pos k) (pos l) (weight (caseAt s) (s .table) (n + e) k l)) ∙ ap weightIn q
+      ∙ weight-back 13 15 refl refl (pos e) (pos k) (pos l) (weight (caseAt f) (f .table) (n + e) k l)
+
   -- lines at all dues are the whole state
   pub same-state : {s f : State} → Sized s → Sized f → Agree (n * d + m * suc (d * d)) s f → s ≡ f
   same-state {s} {f} h g agree =
@@ -267,8 +298,7 @@ module _ (book : Rulebook) (n d m : ℕ) where
       (λ e u. h .upper-past e u ∙ sym (g .upper-past e u)) in
       let table = same-table (caseAt s) (s .table) (f .table) (h .long ∙ sym (g .long))
       (λ x k l. by-tuple (caseAt s) (λ x k l. weight (caseAt s) (s .table) x k l ≡ weight (caseAt f) (f .table) x k l)
-      (λ i k u v. ap (λ (l : Line). l .amount) (lines (variable-weight i k) (u, v)))
-      (λ e k l u v p. ap (λ (l : Line). l .amount) (lines (edge-weight e k l) (u, v, p))))
+      (λ i k u v. same-variable s f i k (lines (variable-weight i k) (u, v))) (λ e k l u v p. same-edge s f e k l (lines (edge-weight e k l) (u, v, p))))
       (λ p u. List·getD-eq-default (s .table) (pos 0) {n = p} (omega (arith, h .long))
       ∙ sym (List·getD-eq-default (f .table) (pos 0) {n = p} (omega (arith, g .long)))) in
       let z : _≡_ {A = State} (record { lower = s .lower; upper = s .upper; table = s .table })

@@ -12,7 +12,7 @@ use lib.Dec.{T, T-not, not-T, eqb, eqb→eq}
 use lib.ListN.{length, take, drop, length-append}
 use lib.Seq.{take-at, drop-at, take-add}
 use borrow.Author.Tests.{le-ltb, eq-eqb, ne-eqb, eqb-true}
-use Rattle.integers.specs.Words.{joined, if_then_else_, any, isIn}
+use Rattle.integers.specs.Words.{joined, if_then_else_, all, any, isIn}
 use Rattle.integers.specs.Tests.{either, and-left, and-right, not-eqb-iff}
 use Rattle.integers.specs.Lists.{_∈_, any-in}
 use Rattle.integers.specs.Options.{none-some}
@@ -23,14 +23,16 @@ use Rattle.definitions.specs.declared.Refusal.{Refusal}
 use Rattle.definitions.specs.declared.Refusal.the-variants.{WrongLength, CutShort}
 use Rattle.definitions.specs.Rules.{Rules, rulesIn, edgePlaces, Kind}
 use Rattle.definitions.specs.Refusals.{firstOf}
-use Rattle.definitions.specs.Case.{lentLength}
+use Rattle.definitions.specs.Case.{lentLength, weight, isBarred, whollyBarred}
 use Rattle.definitions.specs.Lines.{isKind, notDue, unusedZero, lineLength, lineText, lineTooWide}
 use Rattle.definitions.specs.CaseFiles.{CaseDue, variable-weight, edge-ends, edge-weight, dues, dueTests, Reading, took}
 use Rattle.definitions.specs.CaseFiles.{headTests, headed, CaseCall, caseRefused, caseTaken, isCut, firstLine, afterFirst}
 use Rattle.definitions.specs.CaseFiles.{readDues, readCase, endTests, restRefusal, nothingAfter, readCaseAlone}
 use Rattle.definitions.proofs.LineLaws.{line-read, line-written, line-length}
-use Rattle.case_theory.proofs.CaseDues.{IsDue, rank, stop, step, rank-apart, lineFor, caseAt, reading, lineAt, next, took-next}
-use Rattle.case_theory.proofs.CaseDues.{next-sized, next-there, next-other, Agree, same-lower, same-upper, same-state, Run, State, Sized}
+use Rattle.theory.proofs.Places.{IsTuple, each-cong}
+use Rattle.case_theory.proofs.CaseDues.{IsDue, rank, stop, step, rank-apart, lineFor, line-for, caseAt, reading, lineAt, next, took-next}
+use Rattle.case_theory.proofs.CaseDues.{next-sized, next-there, next-other, Agree, same-lower, same-upper, same-variable, same-edge}
+use Rattle.case_theory.proofs.CaseDues.{same-state, Run, State, Sized}
 use Rattle.case_theory.proofs.CaseTests.{passes, Good, passed, good-passes, CaseKinds}
 
 -- ---- one line at the front
@@ -81,7 +83,7 @@ module _ (r : Rules) where
 module _ (book : Rulebook) where
   module _ (g : Reading) (at : ℕ) (due : CaseDue) (ds : List CaseDue) (t : List ℕ) where
     tried : Option Line → Option Refusal
-    tried o = firstOf (dueTests (rulesIn book) (g .case) due o)
+    tried o = firstOf (dueTests (rulesIn book) g due o)
 
     -- by whether the text is cut short, the line, and the refusal
     turn : Bool → Option Line → Option Refusal → CaseCall
@@ -100,14 +102,14 @@ module _ (book : Rulebook) where
     turns = refl
 
     take-due : {l : Line} → isCut (rulesIn book) t ≡ false → firstLine (rulesIn book) t ≡ some l
-        → firstOf (dueTests (rulesIn book) (g .case) due (some l)) ≡ none
+        → firstOf (dueTests (rulesIn book) g due (some l)) ≡ none
         → readDues book g at (due ∷ ds) t ≡ readDues book (took g due (some l)) (at + 1) ds (afterFirst (rulesIn book) t)
     unfolding turn tried
     take-due {l} p q o = turns ∙ ap₂ (λ (b : Bool) (f : Option Line). turn b f (tried f)) p q ∙ ap (turn false (some l)) o
 
     due-taken : {lines : ℕ} → readDues book g at (due ∷ ds) t .read .answer ≡ FileAnswer.Read lines
         → (isCut (rulesIn book) t ≡ false) × (l : Line) × (firstLine (rulesIn book) t ≡ some l)
-        × (firstOf (dueTests (rulesIn book) (g .case) due (some l)) ≡ none)
+        × (firstOf (dueTests (rulesIn book) g due (some l)) ≡ none)
     unfolding turn tried
     due-taken {lines} h = go (isCut (rulesIn book) t) refl (firstLine (rulesIn book) t) refl (tried (firstLine (rulesIn book) t)) refl
         (sym (ap (λ (x : CaseCall). x .read .answer) turns) ∙ h)
@@ -267,15 +269,30 @@ pub record Taken (book : Rulebook) (n d m : ℕ) (a at : ℕ) (s : State) (ds : 
   pub sized : Sized book n d m final
   pub result : readDues book (reading book n d m s) at ds t ≡ caseTaken (reading book n d m final) (at + length ds)
   pub agree : Agree book n d m a s final
-  pub good : (due : CaseDue) → due ∈ ds → Good (rulesIn book) (caseAt book n d m final) due (lineAt book n d m final due)
+  pub good : (due : CaseDue) → due ∈ ds → Good (rulesIn book) (reading book n d m final) due (lineAt book n d m final due)
   pub text : textAt book n d m final ds ≡ take (length ds * lineLength (rulesIn book .amountWidth)) t
 
 module _ {book : Rulebook} (kinds : CaseKinds (rulesIn book)) (n d m : ℕ) (few : m ≤ edgePlaces) where
-  -- the tests ask only what stands before
-  good-same : (s f : State) (due : CaseDue) → IsDue n d m due → Agree book n d m (rank n d m due) s f → (t : Line)
-      → Good (rulesIn book) (caseAt book n d m s) due t → Good (rulesIn book) (caseAt book n d m f) due t
-  good-same s f (variable-weight i k) h agree t g = g
-  good-same s f (edge-weight e k l) h agree t g = g
+  -- the tests ask only what stands up to the line
+  scope-same : (s f : State) (x : ℕ) → x < n + m → ((k l : ℕ) → IsTuple (caseAt book n d m s) x k l
+      → weight (caseAt book n d m s) (s .table) x k l ≡ weight (caseAt book n d m f) (f .table) x k l)
+      → T (not (whollyBarred (caseAt book n d m s) (s .table) x)) → T (not (whollyBarred (caseAt book n d m f) (f .table) x))
+  scope-same s f x h same = subst (λ (bs : List Bool). T (not (all (λ b. b) bs))) (each-cong (caseAt book n d m s) x h (λ k l t. ap isBarred (same k l t)))
+
+  good-same : (s f : State) (due : CaseDue) → IsDue n d m due → Agree book n d m (suc (rank n d m due)) s f → (t : Line)
+      → Good (rulesIn book) (reading book n d m s) due t → Good (rulesIn book) (reading book n d m f) due t
+  good-same s f (variable-weight i k) (u, v) agree t (g, o) = (
+    g,
+    λ q. scope-same s f i (omega arith) (λ a b h.
+        subst (λ (b : ℕ). weight (caseAt book n d m s) (s .table) i a b ≡ weight (caseAt book n d m f) (f .table) i a b) (sym (h .alone u))
+        (same-variable book n d m s f i a (agree (variable-weight i a) (u, h .one) (omega (arith, h .one))))) (o q),
+  )
+  good-same s f (edge-weight e k l) (u, v, x) agree t (g, o) = (
+    g,
+    λ q. scope-same s f (n + e) (omega arith) (λ a b h.
+        same-edge book n d m s f e a b (agree (edge-weight e a b) (u, h .one, h .two)
+        (omega (arith, h .one, h .two, mul-le-mul-right {m = a} {n = k} d (omega (arith, h .one)))))) (o q),
+  )
   good-same s f (edge-ends e) h agree t (u, v, o) =
       (u, v, λ x l p q. o x l (same-lower book n d m s f x (same x l) ∙ p) (same-upper book n d m s f x (same x l) ∙ q))
     where
@@ -295,7 +312,7 @@ module _ {book : Rulebook} (kinds : CaseKinds (rulesIn book)) (n d m : ℕ) (few
 
   -- written and read
   module _ {f : State} (size : Sized book n d m f) (good : (due : CaseDue) → IsDue n d m due
-      → Good (rulesIn book) (caseAt book n d m f) due (lineAt book n d m f due))
+      → Good (rulesIn book) (reading book n d m f) due (lineAt book n d m f due))
       (fits : (due : CaseDue) → IsDue n d m due → lineTooWide (rulesIn book .amountWidth) (lineAt book n d m f due) ≡ false) where
     pub dues-written : {a : ℕ} {ds : List CaseDue} → Run n d m a ds (n * d + m * suc (d * d)) → {s : State} → Sized book n d m s → Agree book n d m a s f
         → (at : ℕ) (rest : List ℕ)
@@ -304,11 +321,10 @@ module _ {book : Rulebook} (kinds : CaseKinds (rulesIn book)) (n d m : ℕ) (few
         (same-state book n d m h size (λ due u l. agree due u (omega arith)))) (omega arith)
     dues-written (step {due = due} {ds = ds} u e run) {s} h agree at rest =
         let l : Line = lineAt book n d m f due in
-        let before : Agree book n d m (rank n d m due) s f = λ other v q. agree other v (omega arith) in
-        let p = good-passes kinds (caseAt book n d m s) (caseAt book n d m f) (f .table) due
-        (good-same f s due u (λ other v q. sym (before other v q)) l (good due u)) in
-        let shape = passed kinds (caseAt book n d m s) due l p .0 in
-        let after = next-agrees s f h due u l (sym shape) before in
+        let after = next-agrees s f h due u l (line-for (caseAt book n d m f) (f .table) due) (λ other v q. agree other v (omega arith)) in
+        let p = good-passes kinds (reading book n d m s) (caseAt book n d m f) (f .table) due
+        (subst (λ (g : Reading). Good (rulesIn book) g due l) (sym (took-next book n d m s due l))
+        (good-same f (next book n d m s due l) due u (λ other v q. sym (after other v q)) l (good due u))) in
         ap (readDues book (reading book n d m s) at (due ∷ ds)) (append-assoc (lineText (rulesIn book .amountWidth) l) (textAt book n d m f ds) rest)
         ∙ take-due book (reading book n d m s) at due ds (lineText (rulesIn book .amountWidth) l ++ (textAt book n d m f ds ++ rest))
         (front-whole (rulesIn book) l (fits due u) (textAt book n d m f ds ++ rest))
@@ -331,21 +347,20 @@ module _ {book : Rulebook} (kinds : CaseKinds (rulesIn book)) (n d m : ℕ) (few
   }
   dues-read (step {due = due} {ds = ds} u e run) {s} h at t p =
       let (whole, l, first, q) = due-taken book (reading book n d m s) at due ds t p in
-      let (shape, good) = passed kinds (caseAt book n d m s) due l q in
+      let (shape, good) = passed kinds (reading book n d m s) due l q in
       let next-read = take-due book (reading book n d m s) at due ds t whole first q
       ∙ ap (λ (g : Reading). readDues book g (at + 1) ds (afterFirst (rulesIn book) t)) (took-next book n d m s due l) in
       let o = dues-read run (next-sized book n d m h due u l) (at + 1) (afterFirst (rulesIn book) t)
       (sym (ap (λ (x : CaseCall). x .read .answer) next-read) ∙ p) in
       let is : lineAt book n d m (o .final) due ≡ l = sym (o .agree due u (omega arith)) ∙ next-there book n d m s few h due u l ∙ sym shape in
-      let before : Agree book n d m (rank n d m due) s (o .final) = λ other v i. sym (next-other book n d m s due u l other v (λ z. omega arith))
-      ∙ o .agree other v (omega arith) in
       record {
         final = o .final;
         sized = o .sized;
         result = next-read ∙ o .result ∙ ap (caseTaken (reading book n d m (o .final))) (omega arith);
-        agree = λ other v i. before other v (omega arith);
-        good = in-cons (λ x. Good (rulesIn book) (caseAt book n d m (o .final)) x (lineAt book n d m (o .final) x))
-            (rw is (good-same s (o .final) due u before l good)) (o .good);
+        agree = λ other v i. sym (next-other book n d m s due u l other v (λ z. omega arith)) ∙ o .agree other v (omega arith);
+        good = in-cons (λ x. Good (rulesIn book) (reading book n d m (o .final)) x (lineAt book n d m (o .final) x))
+            (rw is (good-same (next book n d m s due l) (o .final) due u (λ other v i. o .agree other v (omega arith)) l
+            (subst (λ (g : Reading). Good (rulesIn book) g due l) (took-next book n d m s due l) good))) (o .good);
         text = ap (λ (x : Line). lineText (rulesIn book .amountWidth) x ++ textAt book n d m (o .final) ds) is
             ∙ line-front (rulesIn book) t first (length ds) (textAt book n d m (o .final) ds) (o .text);
       }

@@ -1,47 +1,59 @@
 -- Which lines pass the tests of a case file, and that a case is valid just where the lines of all its dues do. Assumes nothing.
-use mathlib.Core.Path.{_≡_, refl, sym}
-use mathlib.Core.Bool.{false, not, _&&_, and-true, and-false, or-false}
-use mathlib.Core.Logic.{_↔_}
+use mathlib.Core.Path.{_≡_, refl, sym, ap, subst, _∙_}
+use mathlib.Core.Bool.{Bool, true, false, not, _&&_, _||_, and-true, and-false, or-false}
+use mathlib.Core.Logic.{_↔_, ⊎-elim}
 use mathlib.Core.Option.{Option, none, some}
 use mathlib.Core.List.{List, [], _∷_}
 use Prim.Native.Nat.{ℕ, _+_, _-_, _≤_, _<_, _^_}
 use native.Mathlib.Omega.{arith}
 use lib.IntN.{ℤ, pos, negsuc, natAbs}
-use lib.Dec.{T, ltb→lt, leb→le}
+use lib.Dec.{T, T-not, eqb, eqb-refl, ltb→lt, leb→le}
 use lib.Signed.{leZ, ltZ}
 use lib.ListN.{length}
-use Rattle.integers.specs.Words.{all, isSome, eqZ}
-use Rattle.integers.specs.Tests.{tests}
-use Rattle.integers.specs.Linear.{T-eq}
+use lib.Seq.{getD-set-other}
+use Rattle.integers.specs.Words.{if_then_else_, all, isSome, eqZ}
+use Rattle.integers.specs.Tests.{tests, if-false, if-cases, and-intro, or-left, or-right, or-cases, not-not-iff}
+use Rattle.integers.specs.Linear.{flat, zs, _▸_, T-eq}
 use Rattle.integers.specs.Options.{none-some}
 use Rattle.definitions.specs.declared.Case.{Case}
 use Rattle.definitions.specs.declared.Line.{Line}
 use Rattle.definitions.specs.Rules.{Rules, Coherent}
 use Rattle.definitions.proofs.RulesLaws.{rules-fit}
 use Rattle.definitions.specs.Refusals.{Test, firstOf}
-use Rattle.definitions.specs.Case.{lowerEnd, upperEnd, weight, lentLength}
-use Rattle.definitions.specs.Valid.{startingWeight}
+use Rattle.definitions.specs.Case.{lowerEnd, upperEnd, weight, lentLength, isBarred, whollyBarred}
+use Rattle.definitions.specs.Valid.{inStarting, startingWeight}
 use Rattle.definitions.specs.Lines.{line, isKind, notDue, lineTooWide}
 use Rattle.definitions.specs.CaseFiles.{headLine, CaseDue, variable-weight, edge-ends, edge-weight, dueTests, headTests}
+use Rattle.definitions.specs.CaseFiles.{Reading, took, weightLine, bars, weightIn}
 use Rattle.theory.proofs.Words.{none-below}
 use Rattle.theory.proofs.Validity.{none-applies, not-and-iff, Valid}
-use Rattle.theory.proofs.Places.{variable-tuple, edge-tuple, by-tuple}
+use Rattle.theory.proofs.Places.{variable-tuple, edge-tuple, by-scope, by-tuple}
+use Rattle.theory.proofs.Barred.{in-range-free}
 use Rattle.theory.proofs.Rounds.{within-most, line-fits}
 use Rattle.case_theory.proofs.CaseDues.{lineOf, IsDue, lineFor}
 
--- ---- what the lines of case files need of the rules: a line is due if it is of its kind, with 0 in the columns that the kind does not use
+-- ---- what the lines of case files need of the rules: a line is due if it is of its kind, with 0 in the columns that the kind does not use, and
+-- the number of a barred tuple is no starting weight
 pub record CaseKinds (r : Rules) : Type 0 where
   pub head-due : (l : Line) → notDue r (10 ∷ []) l ≡ not (isKind 10 l && eqZ (l .amount) (pos 0))
-  pub variable-due : (l : Line) → notDue r (11 ∷ []) l ≡ not (isKind 11 l && eqZ (l .c) (pos 0))
+  pub variable-due : (l : Line) → notDue r (11 ∷ 14 ∷ []) l
+      ≡ not (eqZ (l .c) (pos 0) && (isKind 11 l || (isKind 14 l && eqZ (l .amount) (pos 0))))
   pub ends-due : (l : Line) → notDue r (12 ∷ []) l ≡ not (isKind 12 l && eqZ (l .amount) (pos 0))
-  pub edge-due : (l : Line) → notDue r (13 ∷ []) l ≡ not (isKind 13 l)
+  pub edge-due : (l : Line) → notDue r (13 ∷ 15 ∷ []) l ≡ not (isKind 13 l || (isKind 15 l && eqZ (l .amount) (pos 0)))
+  pub starting-free : (z : ℤ) → T (inStarting r z) → T (not (isBarred z))
+
+in-both : (x y c z : Bool) → ((x && c) || (y && (c && z))) ≡ (c && (x || (y && z)))
+in-both x y true z = simp and-true
+in-both x y false z = simp and-false
 
 pub case-kinds : {r : Rules} → Coherent r → CaseKinds r
 case-kinds {r} coherent = record {
   head-due = λ l. rw (coherent .known-kinds) (simp (and-false, and-true, or-false));
-  variable-due = λ l. rw (coherent .known-kinds) (simp (and-false, and-true, or-false));
+  variable-due = λ l. rw (coherent .known-kinds) (simp (and-false, and-true, or-false)
+      (ap not (in-both (isKind 11 l) (isKind 14 l) (eqZ (l .c) (pos 0)) (eqZ (l .amount) (pos 0)))));
   ends-due = λ l. rw (coherent .known-kinds) (simp (and-false, and-true, or-false));
   edge-due = λ l. rw (coherent .known-kinds) (simp (and-false, and-true, or-false));
+  starting-free = λ z t. in-range-free coherent z (rules-fit coherent .starting ▸ t ▸ simp flat (omega zs));
 }
 
 -- ---- which lines pass the tests of a due
@@ -52,11 +64,22 @@ is-none (some a) = (λ e. absurd (none-some (sym e)), λ t. absurd t)
 pub passes : (ts : List Test) → firstOf ts ≡ none ↔ T (all (λ t. not (t .applies)) ts)
 passes ts = (λ e. none-applies ts .0 (is-none (firstOf ts) .0 e), λ t. is-none (firstOf ts) .1 (none-applies ts .1 t))
 
-abbrev pub Good : Rules → Case → CaseDue → Line → Type 0
-Good r c (variable-weight i k) t = T (startingWeight r (t .amount))
-Good r c (edge-ends e) t = (natAbs (t .b) < natAbs (t .c)) × (natAbs (t .c) < c .n)
-    × ((f : ℕ) → f < e → lowerEnd c f ≡ natAbs (t .b) → upperEnd c f ≡ natAbs (t .c) → ⊥)
-Good r c (edge-weight e k l) t = T (startingWeight r (t .amount))
+-- of what is read, this line included
+abbrev pub Good : Rules → Reading → CaseDue → Line → Type 0
+Good r g (variable-weight i k) t = T (bars t || inStarting r (t .amount)) × (k + 1 ≡ g .case .d → T (not (whollyBarred (g .case) (g .table) i)))
+Good r g (edge-ends e) t = (natAbs (t .b) < natAbs (t .c)) × (natAbs (t .c) < g .case .n)
+    × ((f : ℕ) → f < e → lowerEnd (g .case) f ≡ natAbs (t .b) → upperEnd (g .case) f ≡ natAbs (t .c) → ⊥)
+Good r g (edge-weight e k l) t = T (bars t || inStarting r (t .amount))
+    × ((k + 1 ≡ g .case .d) × (l + 1 ≡ g .case .d) → T (not (whollyBarred (g .case) (g .table) (g .case .n + e))))
+
+-- tests of two parts
+not-both : (a b : Bool) → T (not (not a && not b)) ↔ T (a || b)
+not-both true b = (λ t. t, λ t. t)
+not-both false b = not-not-iff b
+
+not-if : (a b : Bool) → T (not (a && b)) ↔ (T a → T (not b))
+not-if true b = (λ t s. t, λ f. f tt)
+not-if false b = (λ t s. absurd s, λ f. tt)
 
 -- numbers from 0 on
 nat-of : (z : ℤ) → T (leZ (pos 0) z) → z ≡ pos (natAbs z)
@@ -74,26 +97,87 @@ line-is t {k} {a} {b} {c} {z} p q r s u =
     let e : _≡_ {A = Line} (record { kind = t .kind; a = t .a; b = t .b; c = t .c; amount = t .amount })
     (record { kind = k; a = a; b = b; c = c; amount = z }) = cc in e
 
-module _ {r : Rules} (kinds : CaseKinds r) (c : Case) where
-  pub passed : (due : CaseDue) (t : Line) → firstOf (dueTests r c due (some t)) ≡ none → (t ≡ lineFor due t) × Good r c due t
+-- ---- the two kinds of a weight's line, of which one bars
+weight-columns : (kind barring : ℕ) (a b c z : ℤ) → let l = weightLine kind barring a b c z in
+    (l .a ≡ a) × (l .b ≡ b) × (l .c ≡ c) × T (isKind kind l || (isKind barring l && eqZ (l .amount) (pos 0)))
+weight-columns kind barring a b c z = go (isBarred z)
+  where
+    go : (t : Bool) → let l = if t then line barring a b c (pos 0) else line kind a b c z in
+        (l .a ≡ a) × (l .b ≡ b) × (l .c ≡ c) × T (isKind kind l || (isKind barring l && eqZ (l .amount) (pos 0)))
+    go true = (refl, refl, refl, or-right (eqb barring kind) _ (and-intro (eqb barring barring) true (eqb-refl barring) tt))
+    go false = (refl, refl, refl, or-left (eqb kind kind) _ (eqb-refl kind))
+
+module _ (kind barring : ℕ) (plain : (eqb kind 14 || eqb kind 15) ≡ false) (barred : (eqb barring 14 || eqb barring 15) ≡ true) where
+  weight-range : (r : Rules) (a b c z : ℤ) → let l = weightLine kind barring a b c z in (bars l || inStarting r (l .amount)) ≡ startingWeight r z
+  weight-range r a b c z = go (isBarred z)
+    where
+      go : (t : Bool) → let l = if t then line barring a b c (pos 0) else line kind a b c z in (bars l || inStarting r (l .amount)) ≡ (t || inStarting r z)
+      go true = rw barred
+      go false = rw plain
+
+  -- the shape of a line that passes
+  weight-shape : {r : Rules} → CaseKinds r → (t : Line) {a b c : ℤ} → t .a ≡ a → t .b ≡ b → t .c ≡ c → T (bars t || inStarting r (t .amount))
+      → T (isKind kind t || (isKind barring t && eqZ (t .amount) (pos 0))) → t ≡ weightLine kind barring a b c (weightIn t)
+  weight-shape {r} kinds t {a} {b} {c} p q s range due = ⊎-elim
+      (λ u.
+      let k : t .kind ≡ pos kind = T-eq (t .kind) (pos kind) .0 u in
+      let o : bars t ≡ false = ap (λ (k : ℤ). eqZ k (pos 14) || eqZ k (pos 15)) k ∙ plain in
+      line-is t k p q s refl ∙ rw o (sym (if-false _ _ (isBarred (t .amount)) (kinds .starting-free (t .amount) (rw o at range)))))
+      (λ u.
+      let (v, z) = simp (tests, T-eq) at u in
+      let o : bars t ≡ true = ap (λ (k : ℤ). eqZ k (pos 14) || eqZ k (pos 15)) v ∙ barred in
+      line-is t v p q s z ∙ rw o)
+      (or-cases (isKind kind t) (isKind barring t && eqZ (t .amount) (pos 0)) due)
+
+module _ {r : Rules} (kinds : CaseKinds r) (g : Reading) where
+  pub passed : (due : CaseDue) (t : Line) → firstOf (dueTests r g due (some t)) ≡ none → (t ≡ lineFor due t) × Good r (took g due (some t)) due t
   passed (variable-weight i k) t e =
-      let ((p, z), ((a, b), (g, u))) = simp (kinds .variable-due, tests, T-eq) at (passes (dueTests r c (variable-weight i k) (some t)) .0 e) in
-      (line-is t p a b z refl, simp tests g)
+      let ((z, p), ((a, b), (h, (o, u)))) =
+      simp (kinds .variable-due, tests, not-both, not-if, T-eq) at (passes (dueTests r g (variable-weight i k) (some t)) .0 e) in
+      (weight-shape 11 14 refl refl kinds t a b z h p, (h, o))
   passed (edge-ends x) t e =
       let ((p, z), (((a, (b, bn)), (v, vn)), (l, (o, u)))) =
-      simp (kinds .ends-due, tests, T-eq, not-and-iff, none-below) at (passes (dueTests r c (edge-ends x) (some t)) .0 e) in
-      (line-is t p a (nat-of (t .b) b) (nat-of (t .c) v) z, (nat-less (t .b) (t .c) b l, nat-less (t .c) (pos (c .n)) v vn, o))
+      simp (kinds .ends-due, tests, T-eq, not-and-iff, none-below) at (passes (dueTests r g (edge-ends x) (some t)) .0 e) in (
+        line-is t p a (nat-of (t .b) b) (nat-of (t .c) v) z,
+        (
+          nat-less (t .b) (t .c) b l,
+          nat-less (t .c) (pos (g .case .n)) v vn,
+          λ f h q s.
+              o f h (sym (getD-set-other (g .case .lower) x f (natAbs (t .b)) 0 (λ n. omega arith)) ∙ q)
+              (sym (getD-set-other (g .case .upper) x f (natAbs (t .c)) 0 (λ n. omega arith)) ∙ s),
+        ),
+      )
   passed (edge-weight y k l) t e =
-      let (p, (((a, b), v), (g, u))) = simp (kinds .edge-due, tests, T-eq) at (passes (dueTests r c (edge-weight y k l) (some t)) .0 e) in
-      (line-is t p a b v refl, simp tests g)
+      let (p, (((a, b), v), (h, (o, u)))) =
+      simp (kinds .edge-due, tests, not-both, not-if, T-eq) at (passes (dueTests r g (edge-weight y k l) (some t)) .0 e) in
+      (weight-shape 13 15 refl refl kinds t a b v h p, (h, o))
 
-  pub good-passes : (k : Case) (w : List ℤ) (due : CaseDue) → Good r c due (lineOf k w due) → firstOf (dueTests r c due (some (lineOf k w due))) ≡ none
-  good-passes k w (variable-weight i a) g = passes (dueTests r c (variable-weight i a) (some (lineOf k w (variable-weight i a)))) .1
-      (simp (kinds .variable-due, tests) ((refl, refl), ((refl, refl), (simp tests at g, tt))))
-  good-passes k w (edge-ends e) (u, v, o) = passes (dueTests r c (edge-ends e) (some (lineOf k w (edge-ends e)))) .1
-      (simp (kinds .ends-due, tests, not-and-iff, none-below) ((refl, refl), (((refl, (omega arith, omega arith)), (omega arith, v)), (u, (o, tt)))))
-  good-passes k w (edge-weight e a b) g = passes (dueTests r c (edge-weight e a b) (some (lineOf k w (edge-weight e a b)))) .1
-      (simp (kinds .edge-due, tests) (refl, (((refl, refl), refl), (simp tests at g, tt))))
+  pub good-passes : (k : Case) (w : List ℤ) (due : CaseDue) → Good r (took g due (some (lineOf k w due))) due (lineOf k w due)
+      → firstOf (dueTests r g due (some (lineOf k w due))) ≡ none
+  good-passes k w (variable-weight i a) (h, o) =
+      let (p, q, s, d) = weight-columns 11 14 (pos i) (pos a) (pos 0) (weight k w i a 0) in
+      passes (dueTests r g (variable-weight i a) (some (lineOf k w (variable-weight i a)))) .1
+      (simp (kinds .variable-due, tests, not-both, not-if, T-eq) ((s, d), ((p, q), (h, (o, tt)))))
+  good-passes k w (edge-ends e) (u, v, o) = passes (dueTests r g (edge-ends e) (some (lineOf k w (edge-ends e)))) .1
+      (simp (kinds .ends-due, tests, not-and-iff, none-below) (
+        (refl, refl),
+        (
+          ((refl, (omega arith, omega arith)), (omega arith, v)),
+          (
+            u,
+            (
+              λ f h q s.
+                  o f h (getD-set-other (g .case .lower) e f (lowerEnd k e) 0 (λ n. omega arith) ∙ q)
+                  (getD-set-other (g .case .upper) e f (upperEnd k e) 0 (λ n. omega arith) ∙ s),
+              tt,
+            ),
+          ),
+        ),
+      ))
+  good-passes k w (edge-weight e a b) (h, o) =
+      let (p, q, s, d) = weight-columns 13 15 (pos e) (pos a) (pos b) (weight k w (k .n + e) a b) in
+      passes (dueTests r g (edge-weight e a b) (some (lineOf k w (edge-weight e a b)))) .1
+      (simp (kinds .edge-due, tests, not-both, not-if, T-eq) (d, (((p, q), s), (h, (o, tt)))))
 
 -- ---- a valid case is within the limits, and its lines pass
 
@@ -114,13 +198,19 @@ module _ {r : Rules} {c : Case} {w : List ℤ} where
     edges-most = v .edges-most;
   }
 
-  pub valid-good : Valid r c w → (due : CaseDue) → IsDue (c .n) (c .d) (c .m) due → Good r c due (lineOf c w due)
-  valid-good v (variable-weight i k) (h, g) = v .in-range i k 0 (variable-tuple c i k h g)
+  pub valid-good : Valid r c w → (due : CaseDue) → IsDue (c .n) (c .d) (c .m) due → Good r (record { case = c; table = w }) due (lineOf c w due)
+  valid-good v (variable-weight i k) (h, g) = (
+    subst T (sym (weight-range 11 14 refl refl r (pos i) (pos k) (pos 0) (weight c w i k 0))) (v .in-range i k 0 (variable-tuple c i k h g)),
+    λ e. v .some-free i (omega arith),
+  )
   valid-good v (edge-ends e) h = (v .shape .ascending e h, v .shape .below-n e h, λ f u p q. v .apart e f h u (sym p) (sym q))
-  valid-good v (edge-weight e k l) (h, g, u) = v .in-range (c .n + e) k l (edge-tuple c e k l h g u)
+  valid-good v (edge-weight e k l) (h, g, u) = (
+    subst T (sym (weight-range 13 15 refl refl r (pos e) (pos k) (pos l) (weight c w (c .n + e) k l))) (v .in-range (c .n + e) k l (edge-tuple c e k l h g u)),
+    λ q. v .some-free (c .n + e) (omega arith),
+  )
 
   pub good-valid : Limited r (c .n) (c .d) (c .m) → length w ≡ lentLength c
-      → ((due : CaseDue) → IsDue (c .n) (c .d) (c .m) due → Good r c due (lineOf c w due)) → Valid r c w
+      → ((due : CaseDue) → IsDue (c .n) (c .d) (c .m) due → Good r (record { case = c; table = w }) due (lineOf c w due)) → Valid r c w
   good-valid h long good = record {
     variables-most = h .variables-most;
     values-most = h .values-most;
@@ -135,24 +225,39 @@ module _ {r : Rules} {c : Case} {w : List ℤ} where
     };
     apart = λ e f u v p q. good (edge-ends e) u .2 f v (sym p) (sym q);
     in-range = λ x k l. by-tuple c (λ x k l. T (startingWeight r (weight c w x k l)))
-        (λ i k u v. good (variable-weight i k) (u, v)) (λ e k l u v q. good (edge-weight e k l) (u, v, q));
+        (λ i k u v. subst T (weight-range 11 14 refl refl r (pos i) (pos k) (pos 0) (weight c w i k 0)) (good (variable-weight i k) (u, v) .0))
+        (λ e k l u v q. subst T (weight-range 13 15 refl refl r (pos e) (pos k) (pos l) (weight c w (c .n + e) k l)) (good (edge-weight e k l) (u, v, q) .0));
+    some-free = by-scope c (λ x. T (not (whollyBarred c w x)))
+        (λ i u. good (variable-weight i (c .d - 1)) (u, omega (arith, h .some-value)) .1 (omega (arith, h .some-value)))
+        (λ e u. let l : c .d - 1 < c .d = omega (arith, h .some-value) in let o : c .d - 1 + 1 ≡ c .d = omega (arith, h .some-value) in
+        good (edge-weight e (c .d - 1) (c .d - 1)) (u, l, l) .1 (o, o));
   }
 
-  -- every line rules-fit its columns
+  -- every line fits its columns
   module _ (coherent : Coherent r) (v : Valid r c w) where
-    weight-fits : (z : ℤ) → T (startingWeight r z) → natAbs z < 10 ^ (r .amountWidth - 1)
-    weight-fits z t = omega (arith, weight-most z t, rules-fit coherent .starting, coherent .difference, coherent .moving-fits)
+    weight-fits : (kind barring a b c : ℕ) (z : ℤ) → kind < 10 ^ 2 → barring < 10 ^ 2 → a < 10 ^ 4 → b < 10 ^ 4 → c < 10 ^ 4 → T (startingWeight r z)
+        → lineTooWide (r .amountWidth) (weightLine kind barring (pos a) (pos b) (pos c) z) ≡ false
+    weight-fits kind barring a b c z hk hr ha hb hc t = if-cases (λ l. lineTooWide (r .amountWidth) l ≡ false) (isBarred z) _ _
+        (λ o. line-fits coherent barring a b c (pos 0) hr ha hb hc (omega (arith, coherent .moving-fits)))
+        (λ o. line-fits coherent kind a b c z hk ha hb hc
+        (omega (
+          arith,
+          small (⊎-elim (λ s. absurd (T-not (isBarred z) o s)) (λ s. s) (or-cases (isBarred z) (inStarting r z) t)),
+          rules-fit coherent .starting,
+          coherent .difference,
+          coherent .moving-fits,
+        )))
       where
-        weight-most : (z : ℤ) → T (startingWeight r z) → natAbs z ≤ r .starting
-        weight-most z = simp tests (λ p. within-most (r .starting) z (record { le = p .0 }) (record { le = p .1 }))
+        small : T (inStarting r z) → natAbs z ≤ r .starting
+        small = simp tests (λ p. within-most (r .starting) z (record { le = p .0 }) (record { le = p .1 }))
 
     pub due-fits : (due : CaseDue) → IsDue (c .n) (c .d) (c .m) due → lineTooWide (r .amountWidth) (lineOf c w due) ≡ false
-    due-fits (variable-weight i k) h = let z : ℤ = weight c w i k 0 in
-        line-fits coherent 11 i k 0 z (omega arith) (omega arith) (omega arith) (omega arith) (weight-fits z (valid-good v (variable-weight i k) h))
+    due-fits (variable-weight i k) (h, g) = weight-fits 11 14 i k 0 (weight c w i k 0) (omega arith) (omega arith) (omega arith) (omega arith) (omega arith)
+        (v .in-range i k 0 (variable-tuple c i k h g))
     due-fits (edge-ends e) h = let (u, o, p) = valid-good v (edge-ends e) h in
         line-fits coherent 12 e (lowerEnd c e) (upperEnd c e) (pos 0) (omega arith) (omega arith) (omega arith) (omega arith) (omega arith)
-    due-fits (edge-weight e k l) h = let z : ℤ = weight c w (c .n + e) k l in
-        line-fits coherent 13 e k l z (omega arith) (omega arith) (omega arith) (omega arith) (weight-fits z (valid-good v (edge-weight e k l) h))
+    due-fits (edge-weight e k l) (h, g, u) = weight-fits 13 15 e k l (weight c w (c .n + e) k l) (omega arith) (omega arith) (omega arith) (omega arith)
+        (omega arith) (v .in-range (c .n + e) k l (edge-tuple c e k l h g u))
 
     pub head-fits : lineTooWide (r .amountWidth) (headLine c) ≡ false
     head-fits = line-fits coherent 10 (c .n) (c .d) (c .m) (pos 0) (omega arith) (omega arith) (omega arith) (omega arith) (omega arith)

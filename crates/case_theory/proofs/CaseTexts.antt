@@ -24,8 +24,8 @@ use Rattle.definitions.specs.Rules.{Rules, rulesIn, rulesOf, edgePlaces, Cohere
 use Rattle.definitions.specs.Case.{lowerEnd, upperEnd, weight, eachTuple, lentLength}
 use Rattle.definitions.specs.Valid.{valid}
 use Rattle.definitions.specs.Lines.{line, lineLength, lineText, lineTooWide}
-use Rattle.definitions.specs.CaseFiles.{headLine, variableLines, caseLines, CaseDue, variable-weight, edge-ends, edge-weight, dues, Reading, caseText}
-use Rattle.definitions.specs.CaseFiles.{headed, CaseCall, caseTaken, firstLine, afterFirst, readDues, readCase, nothingAfter, readCaseAlone}
+use Rattle.definitions.specs.CaseFiles.{headLine, weightLine, variableLines, caseLines, CaseDue, variable-weight, edge-ends, edge-weight, dues}
+use Rattle.definitions.specs.CaseFiles.{Reading, caseText, headed, CaseCall, caseTaken, firstLine, afterFirst, readDues, readCase, nothingAfter, readCaseAlone}
 use Rattle.calls.specs.Calls.{fileBytes}
 use Rattle.definitions.proofs.LineLaws.{line-length}
 use Rattle.theory.proofs.Validity.{Valid, valid-facts, facts-valid}
@@ -77,13 +77,13 @@ module _ (c : Case) (w : List ℤ) (few : c .m ≤ edgePlaces) where
   tidied-lines : caseLines (tidied c) w ≡ caseLines c w
   tidied-lines = ap (λ (ls : List (List Line)). headLine c ∷ joined (map (variableLines c w) (below (c .n))) ++ joined ls)
       (map-same (c .m) (λ e h. ap₂ (λ (i j : ℕ). line 12 (pos e) (pos i) (pos j) (pos 0)
-      ∷ eachTuple c (c .n + e) (λ k l. line 13 (pos e) (pos k) (pos l) (weight c w (c .n + e) k l)))
+      ∷ eachTuple c (c .n + e) (λ k l. weightLine 13 15 (pos e) (pos k) (pos l) (weight c w (c .n + e) k l)))
       (tidied-lower c few e h) (tidied-upper c few e h)))
 
   tidied-valid : {r : Rules} → Valid r c w → Valid r (tidied c) w
   tidied-valid {r} v = good-valid (valid-limits v) (v .long) good
     where
-      good : (due : CaseDue) → IsDue (c .n) (c .d) (c .m) due → Good r (tidied c) due (lineOf (tidied c) w due)
+      good : (due : CaseDue) → IsDue (c .n) (c .d) (c .m) due → Good r (record { case = tidied c; table = w }) due (lineOf (tidied c) w due)
       good (variable-weight i k) h = valid-good v (variable-weight i k) h
       good (edge-weight e k l) h = valid-good v (edge-weight e k l) h
       good (edge-ends e) h =

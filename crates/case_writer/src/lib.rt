@@ -16,7 +16,7 @@ ghost use lib.IntN.{pos};
 ghost use lib.ListN.{length, take, drop};
 ghost use Rattle.definitions.specs.Rules.{rulesIn, rulesOf};
 ghost use Rattle.definitions.specs.Lines.{line, lineText, lineTooWide, overwritten};
-ghost use Rattle.definitions.specs.CaseFiles.{caseText};
+ghost use Rattle.definitions.specs.CaseFiles.{weightLine, caseText};
 ghost use Rattle.calls.specs.Calls.{writeCaseCall};
 ghost use Rattle.theory.proofs.Validity.{Valid};
 ghost use Rattle.case_theory.proofs.CaseDues.{lineOf};
@@ -33,6 +33,17 @@ fn make_line(kind: usize, a: usize, b: usize, c: usize, amount: i64) -> Line
         c: c as i64,
         amount,
     }
+}
+
+// A weight's line, of kind `barring` if the tuple is barred.
+fn weight_line(kind: usize, barring: usize, a: usize, b: usize, c: usize, weight: i64) -> Line
+    requires { ⌜ (kind < 65536) × (barring < 65536) × (a < 65536) × (b < 65536) × (c < 65536) ⌝ }
+    ensures { λ r. ⌜ r ≡ weightLine kind barring (pos a) (pos b) (pos c) weight ⌝ }
+{
+    if rules::is_barred(weight) {
+        return make_line(barring, a, b, c, 0);
+    }
+    make_line(kind, a, b, c, weight)
 }
 
 fn head_line(sizes: Sizes) -> Line
@@ -58,7 +69,7 @@ fn line_after<'a>(
     let place = case_lines::place_of(sizes, due);
     match due {
         Awaited::VariableWeight { variable, value } => {
-            make_line(11, variable, value, 0, table[place])
+            weight_line(11, 14, variable, value, 0, table[place])
         }
         Awaited::EdgeEnds(e) => make_line(
             12,
@@ -67,7 +78,7 @@ fn line_after<'a>(
             integers::wide_size(upper[e]),
             0,
         ),
-        Awaited::EdgeWeight { edge, k, l } => make_line(13, edge, k, l, table[place]),
+        Awaited::EdgeWeight { edge, k, l } => weight_line(13, 15, edge, k, l, table[place]),
     }
 }
 

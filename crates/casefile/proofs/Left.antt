@@ -22,7 +22,7 @@ use Rattle.definitions.specs.Refusals.{firstOf}
 use Rattle.definitions.specs.CaseFiles.{CaseDue, variable-weight, edge-ends, edge-weight, dueTests, took, Reading, CaseCall, caseRefused, caseTaken, isCut}
 use Rattle.definitions.specs.CaseFiles.{firstLine, readDues}
 use Rattle.case_lines.specs.declared.Sizes.{Sizes}
-use Rattle.case_lines.specs.Dues.{dueAt, linesDue, placesOf, caseWith}
+use Rattle.case_lines.specs.Dues.{dueAt, linesDue, placesOf}
 use Rattle.casefile.specs.Steps.{readingOf, dueRefusal, SteppedAt, leftFrom}
 use Rattle.tables.proofs.Order.{outcome-done, outcome-refused}
 use Rattle.casefile.proofs.Taken.{kept, table-changed, ends-whole}
@@ -33,10 +33,10 @@ onRefusal b none next at w = next
 onRefusal b (some x) next at w = caseRefused b x at w
 
 pub read-cons : (b : Rulebook) (g : Reading) (at : ℕ) (due : CaseDue) (ds : List CaseDue) (t : List ℕ)
-    → readDues b g at (due ∷ ds) t ≡ onRefusal b (dueRefusal b (g .case) due t)
+    → readDues b g at (due ∷ ds) t ≡ onRefusal b (dueRefusal b g due t)
     (readDues b (took g due (firstLine (rulesIn b) t)) (at + 1) ds (drop (bytesOfLine b) t)) at (g .table)
 unfolding dueRefusal
-read-cons b g at due ds t = go (isCut (rulesIn b) t) (firstOf (dueTests (rulesIn b) (g .case) due (firstLine (rulesIn b) t)))
+read-cons b g at due ds t = go (isCut (rulesIn b) t) (firstOf (dueTests (rulesIn b) g due (firstLine (rulesIn b) t)))
     (readDues b (took g due (firstLine (rulesIn b) t)) (at + 1) ds (drop (bytesOfLine b) t))
   where
     go : (short : Bool) (o : Option Refusal) (next : CaseCall) → (elim short [
@@ -63,7 +63,7 @@ module _ (s : Sizes) (g : Reading) (q : ℕ) (t : List ℕ) where
   next = leftFrom s (took g (dueAt s q) (firstLine (rulesIn (s .rulebook)) (drop (bytesOfLine (s .rulebook) * (q + 1)) t))) (q + 1) t
 
   left-step : q < linesDue s → leftFrom s g q t ≡ onRefusal (s .rulebook)
-      (dueRefusal (s .rulebook) (g .case) (dueAt s q) (drop (bytesOfLine (s .rulebook) * (q + 1)) t)) next (q + 1) (g .table)
+      (dueRefusal (s .rulebook) g (dueAt s q) (drop (bytesOfLine (s .rulebook) * (q + 1)) t)) next (q + 1) (g .table)
   unfolding leftFrom
   left-step h =
       let e : bytesOfLine (s .rulebook) * (q + 1 + 1) ≡ bytesOfLine (s .rulebook) * (q + 1) + bytesOfLine (s .rulebook) = omega arith in
@@ -75,11 +75,11 @@ module _ (s : Sizes) (g : Reading) (q : ℕ) (t : List ℕ) where
       ∙ rw (e, ← (drop-drop (bytesOfLine (s .rulebook)) (bytesOfLine (s .rulebook) * (q + 1)) t))
 
   -- the line was taken, and g is what it left
-  pub left-taken : {u : Reading} → q < linesDue s → dueRefusal (s .rulebook) (g .case) (dueAt s q) (drop (bytesOfLine (s .rulebook) * (q + 1)) t) ≡ none
+  pub left-taken : {u : Reading} → q < linesDue s → dueRefusal (s .rulebook) g (dueAt s q) (drop (bytesOfLine (s .rulebook) * (q + 1)) t) ≡ none
       → u ≡ took g (dueAt s q) (firstLine (rulesIn (s .rulebook)) (drop (bytesOfLine (s .rulebook) * (q + 1)) t)) → leftFrom s g q t ≡ leftFrom s u (q + 1) t
   left-taken h e f = left-step h ∙ ap (λ o. onRefusal (s .rulebook) o next (q + 1) (g .table)) e ∙ ap (λ g. leftFrom s g (q + 1) t) (sym f)
 
-  pub left-refused : {x : Refusal} → q < linesDue s → dueRefusal (s .rulebook) (g .case) (dueAt s q) (drop (bytesOfLine (s .rulebook) * (q + 1)) t) ≡ some x
+  pub left-refused : {x : Refusal} → q < linesDue s → dueRefusal (s .rulebook) g (dueAt s q) (drop (bytesOfLine (s .rulebook) * (q + 1)) t) ≡ some x
       → leftFrom s g q t ≡ caseRefused (s .rulebook) x (q + 1) (g .table)
   left-refused h e = left-step h ∙ ap (λ o. onRefusal (s .rulebook) o next (q + 1) (g .table)) e
 
@@ -99,7 +99,7 @@ took-length g (edge-weight e k j) (some l) = simp length-set
 module _ (s : Sizes) (lower upper : List ℕ) (w : List ℤ) (q : ℕ) (t : List ℕ) {r : Outcome} {g : Reading} (h : q < linesDue s)
     (step : SteppedAt s lower upper w (drop (bytesOfLine (s .rulebook) * (q + 1)) t) (dueAt s q) r g) where
   abbrev refusal : Option Refusal
-  refusal = dueRefusal (s .rulebook) (caseWith s lower upper) (dueAt s q) (drop (bytesOfLine (s .rulebook) * (q + 1)) t)
+  refusal = dueRefusal (s .rulebook) (readingOf s lower upper w) (dueAt s q) (drop (bytesOfLine (s .rulebook) * (q + 1)) t)
 
   pub line-taken : r ≡ Outcome.Done → length w ≡ placesOf s → bytesOfLine (s .rulebook) * (q + 1) ≤ length t
       → (bytesOfLine (s .rulebook) * (q + 1 + 1) ≤ length t) × (length (g .table) ≡ placesOf s)
@@ -111,7 +111,7 @@ module _ (s : Sizes) (lower upper : List ℕ) (w : List ℤ) (q : ℕ) (t : List
       (firstLine (rulesIn (s .rulebook)) (drop (bytesOfLine (s .rulebook) * (q + 1)) t))) (readingOf s lower upper w) d) in (
         omega (
           arith,
-          ends-whole (s .rulebook) (caseWith s lower upper) (dueAt s q) (drop (bytesOfLine (s .rulebook) * (q + 1)) t) d,
+          ends-whole (s .rulebook) (readingOf s lower upper w) (dueAt s q) (drop (bytesOfLine (s .rulebook) * (q + 1)) t) d,
           length-drop
               (bytesOfLine (s .rulebook) * (q + 1)) t,
         ),
@@ -133,14 +133,14 @@ module _ (s : Sizes) (lower upper : List ℕ) (w : List ℤ) (q : ℕ) (t : List
 pub dues-whole : (b : Rulebook) (ds : List CaseDue) (g : Reading) (at : ℕ) (t : List ℕ) {lines : ℕ}
     → readDues b g at ds t .read .answer ≡ FileAnswer.Read lines → lines * bytesOfLine b ≤ at * bytesOfLine b + length t
 dues-whole b [] g at t {lines} e = let n : at ≡ lines = cc in omega (arith, ap (λ n. n * bytesOfLine b) n)
-dues-whole b (due ∷ ds) g at t {lines} e = go (dueRefusal b (g .case) due t) refl (sym (ap (λ c. c .read .answer) (read-cons b g at due ds t)) ∙ e)
+dues-whole b (due ∷ ds) g at t {lines} e = go (dueRefusal b g due t) refl (sym (ap (λ c. c .read .answer) (read-cons b g at due ds t)) ∙ e)
     (dues-whole b ds (took g due (firstLine (rulesIn b) t)) (at + 1) (drop (bytesOfLine b) t))
   where
     next : CaseCall
     next = readDues b (took g due (firstLine (rulesIn b) t)) (at + 1) ds (drop (bytesOfLine b) t)
 
-    go : (o : Option Refusal) → dueRefusal b (g .case) due t ≡ o → onRefusal b o next at (g .table) .read .answer ≡ FileAnswer.Read lines
+    go : (o : Option Refusal) → dueRefusal b g due t ≡ o → onRefusal b o next at (g .table) .read .answer ≡ FileAnswer.Read lines
         → (next .read .answer ≡ FileAnswer.Read lines → lines * bytesOfLine b ≤ (at + 1) * bytesOfLine b + length (drop (bytesOfLine b) t))
         → lines * bytesOfLine b ≤ at * bytesOfLine b + length t
-    go none d e r = omega (arith, r e, ends-whole b (g .case) due t d, length-drop (bytesOfLine b) t)
+    go none d e r = omega (arith, r e, ends-whole b g due t d, length-drop (bytesOfLine b) t)
     go (some x) d e r = let z : _≡_ {A = ℕ} 0 1 = cc in omega arith

@@ -1,35 +1,37 @@
 -- What is answered, and what is left, by whether a refusal applies. Assumes nothing.
 use mathlib.Core.Path.{_≡_, refl, sym, ap, ap₂, subst, _∙_}
-use mathlib.Core.Bool.{Bool, true, false, not, _&&_, and-true}
+use mathlib.Core.Bool.{Bool, true, false, not, _&&_, and-true, and-false}
 use mathlib.Core.Logic.{⊎-elim}
 use mathlib.Core.Option.{Option, none, some}
-use mathlib.Core.List.{List, [], _∷_, _++_}
+use mathlib.Core.List.{List, [], _∷_}
 use Prim.Native.Nat.{ℕ, _+_, _*_, _≤_, _<_}
 use native.Mathlib.Omega.{arith}
 use lib.IntN.{ℤ, pos, negsuc, natAbs}
-use lib.Dec.{T, nltb→le}
+use lib.Dec.{T, eqb, nltb→le}
 use borrow.Author.Tests.{le-ltb}
 use lib.Signed.{ltZ}
 use lib.ListN.{length, set}
 use Rattle.definitions.specs.declared.Rulebook.{Rulebook}
-use Rattle.definitions.specs.declared.Case.{Case}
 use Rattle.definitions.specs.declared.Line.{Line}
-use Rattle.definitions.specs.declared.Refusal.the-variants.{NotInColumns, NotDue, OutOfRange, WeightOutOfRange, CutShort}
-use Rattle.definitions.specs.Rules.{rulesIn}
+use Rattle.definitions.specs.declared.Refusal.the-variants.{NotInColumns, NotDue, OutOfRange, WeightOutOfRange, CutShort, ScopeBarred}
+use Rattle.definitions.specs.Rules.{rulesIn, coherent}
 use Rattle.definitions.specs.Refusals.{_when_, firstOf}
-use Rattle.definitions.specs.Valid.{startingWeight}
-use Rattle.definitions.specs.CaseFiles.{CaseDue, variable-weight, edge-ends, edge-weight, names, Reading, took, dueTests, isCut, firstLine}
+use Rattle.definitions.specs.Case.{barredWeight, isBarred}
+use Rattle.definitions.specs.Valid.{inStarting}
+use Rattle.definitions.specs.CaseFiles.{CaseDue, variable-weight, edge-ends, edge-weight, names, bars, weightIn, Reading, took, dueTests, isCut, firstLine}
 use Rattle.integers.specs.Words.{if_then_else_, eqZ}
-use Rattle.integers.specs.Tests.{tests, and-iff, not-or-iff, either, is-true, true-is, and-left, and-right}
+use Rattle.integers.specs.Tests.{tests, and-iff, not-or-iff, either, is-true, is-false, and-left, and-right}
 use Rattle.theory.proofs.Validity.{none-applies}
 use Rattle.theory.proofs.Places.{place-variable, place-edge}
+use Rattle.case_theory.proofs.CaseTests.{case-kinds}
 use Rattle.case_lines.specs.declared.Sizes.{Sizes}
-use Rattle.case_lines.specs.Dues.{bytesOfLine}
+use Rattle.case_lines.specs.Dues.{bytesOfLine, caseWith, placesOf}
 use Rattle.casefile.specs.Reads.{isOfKind}
-use Rattle.case_lines.specs.Dues.{caseWith}
-use Rattle.casefile.specs.Steps.{isDone, weightTests, endsTests, repeatTest, readingOf, lineRefusal, dueRefusal, Stepped, SteppedAt}
+use Rattle.casefile.specs.Steps.{isDone, plainTests, barTests, othersBarred, endsTests, repeatTest, endsRefusal, readingOf, lineRefusal, dueRefusal}
+use Rattle.casefile.specs.Steps.{Stepped, SteppedAt}
 use Rattle.casefile.proofs.Heads.{Front, cut, bad, good}
-use Rattle.casefile.proofs.Tests.{due-11, due-12, due-13}
+use Rattle.casefile.proofs.Tests.{due-11, due-12, due-13, due-14, due-15, not-ends}
+use Rattle.casefile.proofs.Barring.{variable-stored, edge-stored}
 use Rattle.definitions.specs.declared.Refusal.{Refusal}
 use Rattle.definitions.specs.declared.Outcome.{Outcome}
 use Rattle.definitions.specs.declared.LineRead.{LineRead}
@@ -56,31 +58,87 @@ module _ {A : Type 0} (a b : A) where
 
 -- ---- the tests of each line
 
-module _ (b : Rulebook) (c : Case) where
-  variable-tests : (i k : ℕ) (l : Line) → lineRefusal b c (variable-weight i k) (some l) ≡ firstOf (weightTests b (isOfKind (pos 11) false true l) i k 0 l)
-  unfolding lineRefusal
-  variable-tests i k l = rw (due-11 b l) (go (isOfKind (pos 11) false true l) refl)
-    where
-      go : (due : Bool) → isOfKind (pos 11) false true l ≡ due → firstOf
-          (NotDue when (not due) ∷ OutOfRange when (not (names i (l .a) && names k (l .b))) ∷ WeightOutOfRange when
-          (not (startingWeight (rulesIn b) (l .amount))) ∷ [])
-          ≡ firstOf (NotDue when (not due) ∷ OutOfRange when (not (names i (l .a) && names k (l .b) && names 0 (l .c))) ∷ WeightOutOfRange when
-          (not (startingWeight (rulesIn b) (l .amount))) ∷ [])
-      go true e =
-          let t = and-left (eqZ (l .kind) (pos 11) && eqZ (l .c) (pos 0)) true (true-is (isOfKind (pos 11) false true l) e) in
-          let z : eqZ (l .c) (pos 0) ≡ true = is-true (eqZ (l .c) (pos 0)) (and-right (eqZ (l .kind) (pos 11)) (eqZ (l .c) (pos 0)) t) in
-          rw (z, and-true)
-      go false e = refl
+-- of a weight's line; g by whether its amount is a starting weight, b by whether it bars
+plain-same : (due g : Bool) {b out other x : Bool} → b ≡ false → (T due → out ≡ other) → (T g → x ≡ false)
+    → firstOf (NotDue when (not due) ∷ OutOfRange when out ∷ WeightOutOfRange when (not b && not g) ∷ ScopeBarred when x ∷ [])
+    ≡ firstOf (NotDue when (not due) ∷ OutOfRange when other ∷ WeightOutOfRange when (not g) ∷ [])
+plain-same false g e f h = refl
+plain-same true true e f h = rw (e, f tt, h tt)
+plain-same true false e f h = rw (e, f tt)
 
-  edge-tests : (e k j : ℕ) (l : Line) → lineRefusal b c (edge-weight e k j) (some l) ≡ firstOf (weightTests b (isOfKind (pos 13) true true l) e k j l)
-  unfolding lineRefusal
-  edge-tests e k j l = rw (due-13 b l)
+bar-same : (due g : Bool) {b out other x y : Bool} → b ≡ true → (T due → out ≡ other) → x ≡ y
+    → firstOf (NotDue when (not due) ∷ OutOfRange when out ∷ WeightOutOfRange when (not b && not g) ∷ ScopeBarred when x ∷ [])
+    ≡ firstOf (NotDue when (not due) ∷ OutOfRange when other ∷ ScopeBarred when y ∷ [])
+bar-same false g e f h = refl
+bar-same true g e f h = rw (e, f tt, h)
+
+module _ (l : Line) where
+  -- the third place of a variable's line
+  third : (kind : ℤ) (amount : Bool) (i k : ℕ) → T (isOfKind kind false amount l)
+      → not (names i (l .a) && names k (l .b)) ≡ not (names i (l .a) && names k (l .b) && names 0 (l .c))
+  third kind amount i k t =
+      let z = and-right (eqZ (l .kind) kind) (eqZ (l .c) (pos 0)) (and-left (eqZ (l .kind) kind && eqZ (l .c) (pos 0)) _ t) in
+      rw (is-true (eqZ (l .c) (pos 0)) z, and-true)
+
+  -- a line that bars leaves the others, one that does not leaves its scope with a tuple that is not barred
+  closes : bars l ≡ true → {x : Bool} (y : Bool) → x ≡ (y && isBarred (weightIn l)) → x ≡ y
+  closes e y h = h ∙ rw e (and-true y)
+
+  never-closes : (b : Rulebook) → bars l ≡ false → {x : Bool} (y : Bool) → x ≡ (y && isBarred (weightIn l)) → T (inStarting (rulesIn b) (l .amount)) → x ≡ false
+  never-closes b e y h t = h ∙ rw e (ap (λ p. y && p) (is-false (isBarred (l .amount)) (case-kinds (coherent b) .starting-free (l .amount) t)) ∙ and-false y)
+
+-- the other tuples of a scope, by the values of its last one
+module _ (s : Sizes) (w : List ℤ) where
+  abbrev variableOthers : ℕ → ℕ → Bool
+  variableOthers i k = othersBarred (eqb (k + 1) (s .d)) k (i * s .d + k) w
+
+  abbrev edgeOthers : ℕ → ℕ → ℕ → Bool
+  edgeOthers e k j = othersBarred (eqb (k + 1) (s .d) && eqb (j + 1) (s .d)) (k * s .d + j) (s .n * s .d + (e * (s .d * s .d) + (k * s .d + j))) w
+
+module _ (s : Sizes) (lower upper : List ℕ) (w : List ℤ) (l : Line) where
+  abbrev starting : Bool
+  starting = inStarting (rulesIn (s .rulebook)) (l .amount)
+
+  abbrev refused : CaseDue → Option Refusal
+  refused due = lineRefusal (s .rulebook) (readingOf s lower upper w) due (some l)
 
   -- an edge's tests are those of its line alone, and then whether it is repeated
-  pub ends-tests : (e : ℕ) (l : Line) → lineRefusal b c (edge-ends e) (some l) ≡ firstOf
-      (endsTests (c .n) e l ++ repeatTest (c .lower) (c .upper) e (natAbs (l .b)) (natAbs (l .c)))
+  ends-tests : (e : ℕ) → refused (edge-ends e) ≡ endsRefusal (s .n) lower upper e l
+  unfolding lineRefusal endsRefusal
+  ends-tests e = rw (due-12 (s .rulebook) l)
+
+  ends-barred : bars l ≡ true → (e : ℕ) → refused (edge-ends e) ≡ some NotDue
   unfolding lineRefusal
-  ends-tests e l = rw (due-12 b l)
+  ends-barred o e = rw (not-ends (s .rulebook) l o)
+
+  module _ (long : length w ≡ placesOf s) where
+    variable-tests : bars l ≡ false → (i k : ℕ) → i < s .n
+        → refused (variable-weight i k) ≡ firstOf (plainTests (s .rulebook) (isOfKind (pos 11) false true l) i k 0 l)
+    unfolding lineRefusal
+    variable-tests e i k h = rw (due-11 (s .rulebook) l e) (plain-same (isOfKind (pos 11) false true l) starting e
+        (third l (pos 11) true i k)
+        (never-closes l (s .rulebook) e (variableOthers s w i k) (variable-stored (caseWith s lower upper) w long i k h (weightIn l))))
+
+    variable-bars : bars l ≡ true → (i k : ℕ) → i < s .n → refused (variable-weight i k)
+        ≡ firstOf (barTests (isOfKind (pos 14) false false l) (variableOthers s w i k) i k 0 l)
+    unfolding lineRefusal
+    variable-bars e i k h = rw (due-14 (s .rulebook) l e) (bar-same (isOfKind (pos 14) false false l) starting e
+        (third l (pos 14) false i k)
+        (closes l e (variableOthers s w i k) (variable-stored (caseWith s lower upper) w long i k h (weightIn l))))
+
+    edge-tests : bars l ≡ false → (e k j : ℕ) → e < s .m
+        → refused (edge-weight e k j) ≡ firstOf (plainTests (s .rulebook) (isOfKind (pos 13) true true l) e k j l)
+    unfolding lineRefusal
+    edge-tests o e k j h = rw (due-13 (s .rulebook) l o) (plain-same (isOfKind (pos 13) true true l) starting
+        {out = not (names e (l .a) && names k (l .b) && names j (l .c))} o (λ t. refl)
+        (never-closes l (s .rulebook) o (edgeOthers s w e k j) (edge-stored (caseWith s lower upper) w long e k j h (weightIn l))))
+
+    edge-bars : bars l ≡ true → (e k j : ℕ) → e < s .m → refused (edge-weight e k j)
+        ≡ firstOf (barTests (isOfKind (pos 15) true false l) (edgeOthers s w e k j) e k j l)
+    unfolding lineRefusal
+    edge-bars o e k j h = rw (due-15 (s .rulebook) l o) (bar-same (isOfKind (pos 15) true false l) starting
+        {out = not (names e (l .a) && names k (l .b) && names j (l .c))} o (λ t. refl)
+        (closes l o (edgeOthers s w e k j) (edge-stored (caseWith s lower upper) w long e k j h (weightIn l))))
 
 -- ---- one line of what is due
 
@@ -96,42 +154,59 @@ ends-unless s none a b lower upper w = refl
 ends-unless s (some x) a b lower upper w = refl
 
 module _ (s : Sizes) (lower upper : List ℕ) (w : List ℤ) (l : Line) {r : Outcome} where
-  by-refusal : (o : Option Refusal) (due : CaseDue) {g : Reading} → lineRefusal (s .rulebook) (caseWith s lower upper) due (some l) ≡ o → r ≡ outcomeOf o
+  by-refusal : (o : Option Refusal) (due : CaseDue) {g : Reading} → lineRefusal (s .rulebook) (readingOf s lower upper w) due (some l) ≡ o → r ≡ outcomeOf o
       → g ≡ unlessRefused o (took (readingOf s lower upper w) due (some l)) (readingOf s lower upper w) → Stepped s lower upper w l due r g
   by-refusal o due e p q = record { answer = rw e p; left = rw e q }
 
   module _ {v : List ℤ} (o : Option Refusal) (p : r ≡ outcomeOf o) where
-    by-table : (due : CaseDue) {a : List ℤ} → lineRefusal (s .rulebook) (caseWith s lower upper) due (some l) ≡ o → v ≡ unlessRefused o a w
+    by-table : (due : CaseDue) {a : List ℤ} → lineRefusal (s .rulebook) (readingOf s lower upper w) due (some l) ≡ o → v ≡ unlessRefused o a w
         → readingOf s lower upper a ≡ took (readingOf s lower upper w) due (some l) → Stepped s lower upper w l due r (readingOf s lower upper v)
     by-table due {a} e q t =
         by-refusal o due e p (ap (readingOf s lower upper) q ∙ table-unless s lower upper o a w ∙ ap (λ g. unlessRefused o g (readingOf s lower upper w)) t)
 
-  pub variable-step : (i k : ℕ) {v : List ℤ} → i < s .n → (r ≡ outcomeOf (firstOf (weightTests (s .rulebook) (isOfKind (pos 11) false true l) i k 0 l)))
-      × (v ≡ unlessRefused (firstOf (weightTests (s .rulebook) (isOfKind (pos 11) false true l) i k 0 l)) (set w (i * s .d + k) (l .amount)) w)
-      → Stepped s lower upper w l (variable-weight i k) r (readingOf s lower upper v)
-  variable-step i k h (p, q) =
-      by-table (firstOf (weightTests (s .rulebook) (isOfKind (pos 11) false true l) i k 0 l)) p (variable-weight i k)
-      (variable-tests (s .rulebook) (caseWith s lower upper) i k l) q
-      (ap (λ a. readingOf s lower upper (set w a (l .amount))) (sym (place-variable (caseWith s lower upper) i k 0 h)))
+  -- what is stored of the line, and where
+  variable-store : (i k : ℕ) {v : List ℤ} {z : ℤ} {o : Option Refusal} → i < s .n → weightIn l ≡ z → refused s lower upper w l (variable-weight i k) ≡ o
+      → (r ≡ outcomeOf o) × (v ≡ unlessRefused o (set w (i * s .d + k) z) w) → Stepped s lower upper w l (variable-weight i k) r (readingOf s lower upper v)
+  variable-store i k {o = o} h e t (p, q) = by-table o p (variable-weight i k) t q
+      (ap₂ (λ a z. readingOf s lower upper (set w a z)) (sym (place-variable (caseWith s lower upper) i k 0 h)) (sym e))
 
-  pub edge-step : (e k j : ℕ) {v : List ℤ} → (r ≡ outcomeOf (firstOf (weightTests (s .rulebook) (isOfKind (pos 13) true true l) e k j l)))
-      × (v ≡ unlessRefused (firstOf (weightTests (s .rulebook) (isOfKind (pos 13) true true l) e k j l))
-      (set w (s .n * s .d + (e * (s .d * s .d) + (k * s .d + j))) (l .amount)) w)
+  edge-store : (e k j : ℕ) {v : List ℤ} {z : ℤ} {o : Option Refusal} → weightIn l ≡ z → refused s lower upper w l (edge-weight e k j) ≡ o
+      → (r ≡ outcomeOf o) × (v ≡ unlessRefused o (set w (s .n * s .d + (e * (s .d * s .d) + (k * s .d + j))) z) w)
       → Stepped s lower upper w l (edge-weight e k j) r (readingOf s lower upper v)
-  edge-step e k j (p, q) =
-      by-table (firstOf (weightTests (s .rulebook) (isOfKind (pos 13) true true l) e k j l)) p (edge-weight e k j)
-      (edge-tests (s .rulebook) (caseWith s lower upper) e k j l) q
-      (ap (λ a. readingOf s lower upper (set w a (l .amount))) (sym (place-edge (caseWith s lower upper) e k j)))
+  edge-store e k j {o = o} g t (p, q) = by-table o p (edge-weight e k j) t q
+      (ap₂ (λ a z. readingOf s lower upper (set w a z)) (sym (place-edge (caseWith s lower upper) e k j)) (sym g))
 
-  pub ends-step : (e : ℕ) {a b : List ℕ} → (r ≡ outcomeOf (lineRefusal (s .rulebook) (caseWith s lower upper) (edge-ends e) (some l)))
-      × (a ≡ unlessRefused (lineRefusal (s .rulebook) (caseWith s lower upper) (edge-ends e) (some l)) (set lower e (natAbs (l .b))) lower)
-      × (b ≡ unlessRefused (lineRefusal (s .rulebook) (caseWith s lower upper) (edge-ends e) (some l)) (set upper e (natAbs (l .c))) upper)
+  module _ (long : length w ≡ placesOf s) (e : bars l ≡ false) where
+    pub variable-step : (i k : ℕ) {v : List ℤ} → i < s .n → let o = firstOf (plainTests (s .rulebook) (isOfKind (pos 11) false true l) i k 0 l) in
+        (r ≡ outcomeOf o) × (v ≡ unlessRefused o (set w (i * s .d + k) (l .amount)) w)
+        → Stepped s lower upper w l (variable-weight i k) r (readingOf s lower upper v)
+    variable-step i k h = variable-store i k h (rw e) (variable-tests s lower upper w l long e i k h)
+
+    pub edge-step : (y k j : ℕ) {v : List ℤ} → y < s .m → let o = firstOf (plainTests (s .rulebook) (isOfKind (pos 13) true true l) y k j l) in
+        (r ≡ outcomeOf o) × (v ≡ unlessRefused o (set w (s .n * s .d + (y * (s .d * s .d) + (k * s .d + j))) (l .amount)) w)
+        → Stepped s lower upper w l (edge-weight y k j) r (readingOf s lower upper v)
+    edge-step y k j h = edge-store y k j (rw e) (edge-tests s lower upper w l long e y k j h)
+
+  module _ (long : length w ≡ placesOf s) (e : bars l ≡ true) where
+    pub variable-bar-step : (i k : ℕ) {v : List ℤ} → i < s .n → let o = firstOf (barTests (isOfKind (pos 14) false false l) (variableOthers s w i k) i k 0 l) in
+        (r ≡ outcomeOf o) × (v ≡ unlessRefused o (set w (i * s .d + k) barredWeight) w)
+        → Stepped s lower upper w l (variable-weight i k) r (readingOf s lower upper v)
+    variable-bar-step i k h = variable-store i k h (rw e) (variable-bars s lower upper w l long e i k h)
+
+    pub edge-bar-step : (y k j : ℕ) {v : List ℤ} → y < s .m → let at = s .n * s .d + (y * (s .d * s .d) + (k * s .d + j)) in
+        let o = firstOf (barTests (isOfKind (pos 15) true false l) (edgeOthers s w y k j) y k j l) in
+        (r ≡ outcomeOf o) × (v ≡ unlessRefused o (set w at barredWeight) w) → Stepped s lower upper w l (edge-weight y k j) r (readingOf s lower upper v)
+    edge-bar-step y k j h = edge-store y k j (rw e) (edge-bars s lower upper w l long e y k j h)
+
+  pub ends-bar-step : bars l ≡ true → (e : ℕ) → r ≡ Outcome.Refused NotDue → Stepped s lower upper w l (edge-ends e) r (readingOf s lower upper w)
+  ends-bar-step o e p = by-refusal (some NotDue) (edge-ends e) (ends-barred s lower upper w l o e) p refl
+
+  pub ends-step : (e : ℕ) {a b : List ℕ} → let o = endsRefusal (s .n) lower upper e l in
+      (r ≡ outcomeOf o) × (a ≡ unlessRefused o (set lower e (natAbs (l .b))) lower) × (b ≡ unlessRefused o (set upper e (natAbs (l .c))) upper)
       → Stepped s lower upper w l (edge-ends e) r (readingOf s a b w)
-  ends-step e (p, q, t) = record {
-    answer = p;
-    left = ap₂ (λ a b. readingOf s a b w) q t ∙ ends-unless s (lineRefusal (s .rulebook) (caseWith s lower upper) (edge-ends e) (some l))
-        (set lower e (natAbs (l .b))) (set upper e (natAbs (l .c))) lower upper w;
-  }
+  ends-step e (p, q, t) = by-refusal (endsRefusal (s .n) lower upper e l) (edge-ends e) (ends-tests s lower upper w l e) p
+      (ap₂ (λ a b. readingOf s a b w) q t ∙ ends-unless s (endsRefusal (s .n) lower upper e l)
+      (set lower e (natAbs (l .b))) (set upper e (natAbs (l .c))) lower upper w)
 
 -- what is due, by an equal name
 pub same-due : {s : Sizes} {lower upper : List ℕ} {w : List ℤ} {l : Line} {r : Outcome} {g : Reading} {due other : CaseDue} → due ≡ other
@@ -154,30 +229,28 @@ module _ (n e : ℕ) (l : Line) (h : firstOf (endsTests n e l) ≡ none) where
       let p = simp (and-iff, not-or-iff) at (none-applies (endsTests n e l) .0 (rw h tt)) in
       (outside-known n (l .b) (p .1 .0 .0 .1), outside-known n (l .c) (p .1 .0 .1))
 
-module _ (b : Rulebook) (c : Case) (e : ℕ) (l : Line) where
-  abbrev tests-first : Option Refusal
-  tests-first = firstOf (endsTests (c .n) e l)
+module _ (n : ℕ) (lower upper : List ℕ) (e : ℕ) (l : Line) where
+  abbrev refusal : Option Refusal
+  refusal = endsRefusal n lower upper e l
 
-  pub edge-refused : {x : Refusal} (lower upper : List ℕ) → Outcome.Refused x ≡ outcomeOf tests-first
-      → (Outcome.Refused x ≡ outcomeOf (lineRefusal b c (edge-ends e) (some l)))
-      × (c .lower ≡ unlessRefused (lineRefusal b c (edge-ends e) (some l)) lower (c .lower))
-      × (c .upper ≡ unlessRefused (lineRefusal b c (edge-ends e) (some l)) upper (c .upper))
-  edge-refused {x} lower upper h =
-      let r : lineRefusal b c (edge-ends e) (some l) ≡ some x =
-      ends-tests b c e l ∙ first-stops (repeatTest (c .lower) (c .upper) e (natAbs (l .b)) (natAbs (l .c))) (endsTests (c .n) e l) (outcome-refused h) in
+  pub edge-refused : {x : Refusal} (a b : List ℕ) → Outcome.Refused x ≡ outcomeOf (firstOf (endsTests n e l))
+      → (Outcome.Refused x ≡ outcomeOf refusal) × (lower ≡ unlessRefused refusal a lower) × (upper ≡ unlessRefused refusal b upper)
+  unfolding endsRefusal
+  edge-refused {x} a b h =
+      let r : refusal ≡ some x = first-stops (repeatTest lower upper e (natAbs (l .b)) (natAbs (l .c))) (endsTests n e l) (outcome-refused h) in
       rw r (refl, refl, refl)
 
-  pub ends-left : Outcome.Done ≡ outcomeOf tests-first → lineRefusal b c (edge-ends e) (some l) ≡ firstOf
-      (repeatTest (c .lower) (c .upper) e (natAbs (l .b)) (natAbs (l .c)))
-  ends-left h = ends-tests b c e l ∙ first-next (repeatTest (c .lower) (c .upper) e (natAbs (l .b)) (natAbs (l .c))) (endsTests (c .n) e l) (outcome-done h)
+  pub ends-left : Outcome.Done ≡ outcomeOf (firstOf (endsTests n e l)) → refusal ≡ firstOf (repeatTest lower upper e (natAbs (l .b)) (natAbs (l .c)))
+  unfolding endsRefusal
+  ends-left h = first-next (repeatTest lower upper e (natAbs (l .b)) (natAbs (l .c))) (endsTests n e l) (outcome-done h)
 
 -- ---- the line at the front of the bytes
 
-module _ (b : Rulebook) (c : Case) (due : CaseDue) where
+module _ (b : Rulebook) (g : Reading) (due : CaseDue) where
   refusalBy : Bool → Option Line → Option Refusal
-  refusalBy short o = if short then some CutShort else firstOf (dueTests (rulesIn b) c due o)
+  refusalBy short o = if short then some CutShort else firstOf (dueTests (rulesIn b) g due o)
 
-  refusal-is : (t : List ℕ) → dueRefusal b c due t ≡ refusalBy (isCut (rulesIn b) t) (firstLine (rulesIn b) t)
+  refusal-is : (t : List ℕ) → dueRefusal b g due t ≡ refusalBy (isCut (rulesIn b) t) (firstLine (rulesIn b) t)
   unfolding refusalBy dueRefusal
   refusal-is t = refl
 
@@ -185,40 +258,40 @@ module _ (b : Rulebook) (c : Case) (due : CaseDue) where
   unfolding refusalBy
   none-read = refl
 
-  some-read : (l : Line) → refusalBy false (some l) ≡ lineRefusal b c due (some l)
+  some-read : (l : Line) → refusalBy false (some l) ≡ lineRefusal b g due (some l)
   unfolding refusalBy lineRefusal
   some-read l = refl
 
-  pub line-refused-at : (t : List ℕ) {f : LineRead} {x : Refusal} → Front b t f → f ≡ LineRead.Refused x → dueRefusal b c due t ≡ some x
+  pub line-refused-at : (t : List ℕ) {f : LineRead} {x : Refusal} → Front b t f → f ≡ LineRead.Refused x → dueRefusal b g due t ≡ some x
   unfolding refusalBy
   line-refused-at t (cut e) p = refusal-is t ∙ ap (λ short. refusalBy short (firstLine (rulesIn b) t)) e ∙ cc
   line-refused-at t (bad e f) p = refusal-is t ∙ ap₂ refusalBy e f ∙ none-read ∙ cc
   line-refused-at t (good e f) p = cc
 
-  pub front-read : (t : List ℕ) {f : LineRead} {l : Line} → Front b t f → f ≡ LineRead.Read l → (dueRefusal b c due t ≡ lineRefusal b c due (some l))
+  pub front-read : (t : List ℕ) {f : LineRead} {l : Line} → Front b t f → f ≡ LineRead.Read l → (dueRefusal b g due t ≡ lineRefusal b g due (some l))
       × (firstLine (rulesIn b) t ≡ some l)
   front-read t (cut e) p = ((cc), (cc))
   front-read t (bad e f) p = ((cc), (cc))
   front-read t {l} (good {l = k} e f) p =
       let q : k ≡ l = cc in
-      (refusal-is t ∙ ap₂ refusalBy e f ∙ some-read k ∙ ap (λ l. lineRefusal b c due (some l)) q, f ∙ ap some q)
+      (refusal-is t ∙ ap₂ refusalBy e f ∙ some-read k ∙ ap (λ l. lineRefusal b g due (some l)) q, f ∙ ap some q)
 
 module _ (s : Sizes) (lower upper : List ℕ) (w : List ℤ) (t : List ℕ) (due : CaseDue) {f : LineRead} (h : Front (s .rulebook) t f) where
   pub at-refused : {x : Refusal} → f ≡ LineRead.Refused x → SteppedAt s lower upper w t due (Outcome.Refused x) (readingOf s lower upper w)
   at-refused {x} p =
-      let e : dueRefusal (s .rulebook) (caseWith s lower upper) due t ≡ some x = line-refused-at (s .rulebook) (caseWith s lower upper) due t h p in
+      let e : dueRefusal (s .rulebook) (readingOf s lower upper w) due t ≡ some x = line-refused-at (s .rulebook) (readingOf s lower upper w) due t h p in
       record { answer = rw e; left = rw e }
 
   pub at-read : {l : Line} {r : Outcome} {g : Reading} → f ≡ LineRead.Read l → Stepped s lower upper w l due r g → SteppedAt s lower upper w t due r g
   at-read p q =
-      let (e, d) = front-read (s .rulebook) (caseWith s lower upper) due t h p in
+      let (e, d) = front-read (s .rulebook) (readingOf s lower upper w) due t h p in
       record { answer = rw e (q .answer); left = rw (e, d) (q .left) }
 
 -- a line that is not refused is whole
-pub ends-whole : (b : Rulebook) (c : Case) (due : CaseDue) (t : List ℕ) → dueRefusal b c due t ≡ none → bytesOfLine b ≤ length t
+pub ends-whole : (b : Rulebook) (g : Reading) (due : CaseDue) (t : List ℕ) → dueRefusal b g due t ≡ none → bytesOfLine b ≤ length t
 unfolding refusalBy
-ends-whole b c due t h =
+ends-whole b g due t h =
     ⊎-elim
-    (λ u. let z : some CutShort ≡ none = sym (refusal-is b c due t
-    ∙ ap (λ short. refusalBy b c due short (firstLine (rulesIn b) t)) (is-true (isCut (rulesIn b) t) u)) ∙ h in let y : _≡_ {A = ℕ} 0 1 = cc in omega arith)
+    (λ u. let z : some CutShort ≡ none = sym (refusal-is b g due t
+    ∙ ap (λ short. refusalBy b g due short (firstLine (rulesIn b) t)) (is-true (isCut (rulesIn b) t) u)) ∙ h in let y : _≡_ {A = ℕ} 0 1 = cc in omega arith)
     (λ u. nltb→le (length t) (bytesOfLine b) u) (either (isCut (rulesIn b) t))

@@ -1,6 +1,7 @@
 -- Tests of signed numbers in the code, and the kinds of lines. Assumes nothing.
 use mathlib.Core.Path.{_≡_, refl, sym, ap, _∙_}
-use mathlib.Core.Bool.{true, false, not, and-true, and-false}
+use mathlib.Core.Bool.{Bool, true, false, not, _&&_, _||_, and-true, and-false, or-false}
+use mathlib.Core.Logic.{⊎-elim}
 use mathlib.Core.List.{[], _∷_}
 use Prim.Native.Nat.{ℕ, _^_, _≤_, _<_}
 use native.Mathlib.Omega.{arith}
@@ -11,12 +12,13 @@ use mir.Syntax.{w64}
 use mir.Val.{SFits, hbits, toZ, ofZ}
 use borrow.Author.Tests.{le-ltb}
 use Rattle.integers.specs.Words.{eqZ, withinZ}
-use Rattle.integers.specs.Tests.{tests, eqb-iff, same-test, and-left}
+use Rattle.integers.specs.Tests.{tests, eqb-iff, same-test, is-false, true-is, false-is, and-left, or-cases, not-or-iff}
 use Rattle.integers.specs.Linear.{zs, T-eq, read-back}
 use Rattle.definitions.specs.declared.Rulebook.{Rulebook}
 use Rattle.definitions.specs.declared.Line.{Line}
 use Rattle.definitions.specs.Rules.{rulesIn, coherent}
-use Rattle.definitions.specs.Lines.{notDue}
+use Rattle.definitions.specs.Lines.{isKind, notDue}
+use Rattle.definitions.specs.CaseFiles.{bars}
 use Rattle.case_theory.proofs.CaseTests.{CaseKinds, case-kinds}
 use Rattle.casefile.specs.Reads.{isOfKind}
 
@@ -44,7 +46,19 @@ pub within-nat : (low high : ℕ) (z : ℤ) → T (withinZ (pos low) (pos high) 
 within-nat low high (pos n) t = (let (p, q) = simp tests at t in (le-ltb n 0 (omega arith), p, q))
 within-nat low high (negsuc n) t = absurd (and-left (leZ (pos low) (negsuc n)) (leZ (negsuc n) (pos high)) t)
 
--- a line of one kind that is due
+-- ---- a line of a kind that is due
+
+-- of two kinds, by the one that the line is not of
+other-plain : (x y c m : Bool) → y ≡ false → not (c && (x || (y && m))) ≡ not (x && c && true)
+other-plain x true c m e = absurd (true-is false (sym e))
+other-plain x false true m e = simp (or-false, and-true)
+other-plain x false false m e = simp and-false
+
+other-bar : (x y c m : Bool) → x ≡ false → not (c && (x || (y && m))) ≡ not (y && c && m)
+other-bar true y c m e = absurd (true-is false (sym e))
+other-bar false y true m e = simp and-true
+other-bar false y false m e = simp and-false
+
 module _ (b : Rulebook) (l : Line) where
   abbrev kinds : CaseKinds (rulesIn b)
   kinds = case-kinds (coherent b)
@@ -52,14 +66,34 @@ module _ (b : Rulebook) (l : Line) where
   pub due-10 : notDue (rulesIn b) (10 ∷ []) l ≡ not (isOfKind (pos 10) true false l)
   due-10 = kinds .head-due l ∙ simp and-true
 
-  pub due-11 : notDue (rulesIn b) (11 ∷ []) l ≡ not (isOfKind (pos 11) false true l)
-  due-11 = kinds .variable-due l ∙ simp and-true
-
   pub due-12 : notDue (rulesIn b) (12 ∷ []) l ≡ not (isOfKind (pos 12) true false l)
   due-12 = kinds .ends-due l ∙ simp and-true
 
-  pub due-13 : notDue (rulesIn b) (13 ∷ []) l ≡ not (isOfKind (pos 13) true true l)
-  due-13 = kinds .edge-due l ∙ simp and-true
-
   pub due-none : notDue (rulesIn b) [] l ≡ true
   due-none = rw (coherent b .known-kinds) (simp (and-false, and-true))
+
+  -- a line that does not bar
+  module _ (e : bars l ≡ false) where
+    plain : T (not (isKind 14 l)) × T (not (isKind 15 l))
+    plain = not-or-iff (isKind 14 l) (isKind 15 l) .0 (false-is (bars l) e)
+
+    pub due-11 : notDue (rulesIn b) (11 ∷ 14 ∷ []) l ≡ not (isOfKind (pos 11) false true l)
+    due-11 = kinds .variable-due l ∙ other-plain (isKind 11 l) (isKind 14 l) (eqZ (l .c) (pos 0)) (eqZ (l .amount) (pos 0)) (is-false (isKind 14 l) (plain .0))
+
+    pub due-13 : notDue (rulesIn b) (13 ∷ 15 ∷ []) l ≡ not (isOfKind (pos 13) true true l)
+    due-13 = kinds .edge-due l ∙ other-plain (isKind 13 l) (isKind 15 l) true (eqZ (l .amount) (pos 0)) (is-false (isKind 15 l) (plain .1))
+
+  -- one that bars is of no other kind
+  module _ (e : bars l ≡ true) where
+    of-other : (k : ℕ) → eqb 14 k ≡ false → eqb 15 k ≡ false → isKind k l ≡ false
+    of-other k p q = ⊎-elim (λ t. ap (λ z. eqZ z (pos k)) (T-eq (l .kind) (pos 14) .0 t) ∙ p) (λ t. ap (λ z. eqZ z (pos k)) (T-eq (l .kind) (pos 15) .0 t) ∙ q)
+        (or-cases (isKind 14 l) (isKind 15 l) (true-is (bars l) e))
+
+    pub due-14 : notDue (rulesIn b) (11 ∷ 14 ∷ []) l ≡ not (isOfKind (pos 14) false false l)
+    due-14 = kinds .variable-due l ∙ other-bar (isKind 11 l) (isKind 14 l) (eqZ (l .c) (pos 0)) (eqZ (l .amount) (pos 0)) (of-other 11 refl refl)
+
+    pub due-15 : notDue (rulesIn b) (13 ∷ 15 ∷ []) l ≡ not (isOfKind (pos 15) true false l)
+    due-15 = kinds .edge-due l ∙ other-bar (isKind 13 l) (isKind 15 l) true (eqZ (l .amount) (pos 0)) (of-other 13 refl refl)
+
+    pub not-ends : notDue (rulesIn b) (12 ∷ []) l ≡ true
+    not-ends = due-12 ∙ rw (of-other 12 refl refl)

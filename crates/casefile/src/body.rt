@@ -12,8 +12,11 @@ use definitions::Outcome;
 use definitions::Refusal;
 use definitions::Rulebook;
 ghost use mathlib.Core.Path.{_≡_};
-ghost use Prim.Native.Nat.{_+_, _*_, _≤_, _<_};
+ghost use mathlib.Core.Bool.{true, false};
+ghost use mathlib.Core.List.{List};
+ghost use Prim.Native.Nat.{ℕ, _+_, _*_, _≤_, _<_};
 ghost use lib.ListN.{length, drop};
+ghost use Rattle.definitions.specs.CaseFiles.{bars};
 ghost use Rattle.case_lines.specs.Dues.{bytesOfLine, SizesLimited, dueAwaited, InCase, linesDue, placesOf};
 ghost use Rattle.casefile.specs.Steps.{readingOf, Stepped, SteppedAt, leftFrom, callWith};
 ghost use Rattle.casefile.specs.Reads.{lineFrom};
@@ -31,8 +34,43 @@ pub(crate) fn line_at(rulebook: Rulebook, bytes: &[u8], from: usize) -> LineRead
     lines::read_line_in(&bytes[from..to], rules::amount_width(rulebook))
 }
 
-// Takes a line, where `due` is due.
-fn take(
+// Takes a line that bars, where `due` is due.
+fn take_bar(line: Line, sizes: Sizes, due: Awaited, table: &mut [i64]) -> Outcome
+    requires { ⌜ SizesLimited sizes × InCase sizes due ⌝ }
+    requires { ⌜ length (now table) ≡ placesOf sizes ⌝ }
+    requires { ⌜ bars line ≡ true ⌝ }
+    ensures { λ r. ⌜ ((lower upper : List ℕ) → Stepped sizes lower upper (now (table .entry)) line (dueAwaited due) r
+        (readingOf sizes lower upper (now (table .exit)))) ⌝ }
+{
+    let d = sizes.d;
+    let place = case_lines::place_of(sizes, due);
+    match due {
+        Awaited::VariableWeight { variable, value } => weights::bar(
+            line,
+            columns::is_of_kind(line, 14, false, false),
+            weights::others_barred(value + 1 == d, value, place, table),
+            variable,
+            value,
+            0,
+            place,
+            table,
+        ),
+        Awaited::EdgeEnds(_) => Outcome::Refused(Refusal::NotDue),
+        Awaited::EdgeWeight { edge, k, l } => weights::bar(
+            line,
+            columns::is_of_kind(line, 15, true, false),
+            weights::others_barred((k + 1 == d) & (l + 1 == d), k * d + l, place, table),
+            edge,
+            k,
+            l,
+            place,
+            table,
+        ),
+    }
+}
+
+// Takes a line that does not bar.
+fn take_plain(
     line: Line,
     sizes: Sizes,
     due: Awaited,
@@ -40,9 +78,9 @@ fn take(
     upper: &mut [u8; EDGE_PLACES],
     table: &mut [i64],
 ) -> Outcome
-    requires { ⌜ SizesLimited sizes ⌝ }
-    requires { ⌜ InCase sizes due ⌝ }
+    requires { ⌜ SizesLimited sizes × InCase sizes due ⌝ }
     requires { ⌜ length (now table) ≡ placesOf sizes ⌝ }
+    requires { ⌜ bars line ≡ false ⌝ }
     ensures { λ r. ⌜ Stepped sizes (now (lower .entry)) (now (upper .entry)) (now (table .entry)) line (dueAwaited due) r
         (readingOf sizes (now (lower .exit)) (now (upper .exit)) (now (table .exit))) ⌝ }
 {
@@ -71,6 +109,25 @@ fn take(
             table,
         ),
     }
+}
+
+fn take(
+    line: Line,
+    sizes: Sizes,
+    due: Awaited,
+    lower: &mut [u8; EDGE_PLACES],
+    upper: &mut [u8; EDGE_PLACES],
+    table: &mut [i64],
+) -> Outcome
+    requires { ⌜ SizesLimited sizes × InCase sizes due ⌝ }
+    requires { ⌜ length (now table) ≡ placesOf sizes ⌝ }
+    ensures { λ r. ⌜ Stepped sizes (now (lower .entry)) (now (upper .entry)) (now (table .entry)) line (dueAwaited due) r
+        (readingOf sizes (now (lower .exit)) (now (upper .exit)) (now (table .exit))) ⌝ }
+{
+    if weights::bars(line) {
+        return take_bar(line, sizes, due, table);
+    }
+    take_plain(line, sizes, due, lower, upper, table)
 }
 
 fn take_at(

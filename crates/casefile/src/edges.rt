@@ -7,7 +7,6 @@ use definitions::Outcome;
 use definitions::Refusal;
 ghost use mathlib.Core.Path.{_≡_};
 ghost use mathlib.Core.Bool.{false, not, _&&_, _||_};
-ghost use mathlib.Core.Option.{some};
 ghost use Prim.Native.Nat.{_<_};
 ghost use lib.IntN.{pos, natAbs};
 ghost use lib.Dec.{eqb};
@@ -17,9 +16,9 @@ ghost use Rattle.definitions.specs.Rules.{edgePlaces};
 ghost use Rattle.definitions.specs.Refusals.{firstOf};
 ghost use Rattle.definitions.specs.Lines.{outside};
 ghost use Rattle.definitions.specs.Answers.{outcomeOf, unlessRefused};
-ghost use Rattle.definitions.specs.CaseFiles.{edge-ends, names as namesPlace};
-ghost use Rattle.case_lines.specs.Dues.{SizesLimited, caseWith};
-ghost use Rattle.casefile.specs.Steps.{endsTests, joinedBefore, repeatTest, lineRefusal};
+ghost use Rattle.definitions.specs.CaseFiles.{names as namesPlace};
+ghost use Rattle.case_lines.specs.Dues.{SizesLimited};
+ghost use Rattle.casefile.specs.Steps.{endsTests, joinedBefore, repeatTest, endsRefusal};
 
 fn ends_out(line: Line, n: usize, e: usize) -> bool
     requires { ⌜ (n < 65536) × (e < 65536) ⌝ }
@@ -121,11 +120,11 @@ pub(crate) fn take_ends(
 ) -> Outcome
     requires { ⌜ SizesLimited sizes ⌝ }
     requires { ⌜ e < edgePlaces ⌝ }
-    ensures { λ r. ⌜ (r ≡ outcomeOf (lineRefusal (sizes .rulebook) (caseWith sizes (now (lower .entry)) (now (upper .entry))) (edge-ends e) (some line)))
-        × (now (lower .exit) ≡ unlessRefused (lineRefusal (sizes .rulebook) (caseWith sizes (now (lower .entry)) (now (upper .entry))) (edge-ends e)
-        (some line)) (set (now (lower .entry)) e (natAbs (line .b))) (now (lower .entry)))
-        × (now (upper .exit) ≡ unlessRefused (lineRefusal (sizes .rulebook) (caseWith sizes (now (lower .entry)) (now (upper .entry))) (edge-ends e)
-        (some line)) (set (now (upper .entry)) e (natAbs (line .c))) (now (upper .entry))) ⌝ }
+    ensures { λ r. ⌜ (r ≡ outcomeOf (endsRefusal (sizes .n) (now (lower .entry)) (now (upper .entry)) e line))
+        × (now (lower .exit) ≡ unlessRefused (endsRefusal (sizes .n) (now (lower .entry)) (now (upper .entry)) e line)
+        (set (now (lower .entry)) e (natAbs (line .b))) (now (lower .entry)))
+        × (now (upper .exit) ≡ unlessRefused (endsRefusal (sizes .n) (now (lower .entry)) (now (upper .entry)) e line)
+        (set (now (upper .entry)) e (natAbs (line .c))) (now (upper .entry))) ⌝ }
 {
     let checked = check_ends(line, sizes.n, e);
     match checked {

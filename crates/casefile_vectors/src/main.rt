@@ -4,7 +4,7 @@
 // was read alone is written again.
 // Kind 1: a case of a links, one value and b pairs is written to c dots, with weights 1, 2, 3, 4 and one more; the bytes are a line with
 // the ends of pair 0, the ends of pair 1 and that weight.
-// After them the largest case goes there and back. The file `stdout` was worked out from document 01; on files whose table has the
+// After them the largest case goes there and back. The file `stdout` was worked out from documents 01 and 02; on files whose table has the
 // right length the peer gives the same number and line.
 use definitions::Case;
 use definitions::CaseRead;

@@ -7,12 +7,12 @@ use mathlib.Core.Option.{Option, none, some}
 use mathlib.Core.List.{List, [], _∷_, map}
 use Prim.Native.Nat.{ℕ, _≤_, _<_}
 use native.Mathlib.Omega.{arith}
-use lib.IntN.{ℤ, pos, _+ℤ_, +ℤ-idr}
+use lib.IntN.{ℤ, pos}
 use lib.Dec.{T, eqb, ltb, eqb→eq, nltb→le}
-use lib.ListN.{length, set, length-set}
+use lib.ListN.{length, getD, set, length-set}
 use lib.Seq.{getD-set-same, getD-set-other}
 use borrow.Author.Tests.{eq-eqb}
-use Rattle.integers.specs.Words.{if_then_else_, _⇒_, below}
+use Rattle.integers.specs.Words.{if_then_else_, _⇒_, below, all}
 use Rattle.integers.specs.Tests.{either, imp-intro, imp-elim, same-test, if-true, if-false, or-left, or-right, not-or-iff, not-not-iff, not-eqb-iff, false-is}
 use Rattle.integers.specs.Lists.{all-in, all-at, all-of}
 use Rattle.definitions.specs.declared.Case.{Case}
@@ -23,24 +23,27 @@ use Rattle.definitions.specs.Rules.{Rules, rulesOf}
 use Rattle.definitions.specs.Refusals.{_when_, firstOf}
 use Rattle.definitions.specs.Answers.{outcomeOf, unlessRefused}
 use Rattle.definitions.specs.Case.{scopeCount, eachTuple, ownLength, lentLength, weight, greatest}
-use Rattle.definitions.specs.Valid.{workingWeight, allWeights, withinLimits}
-use Rattle.definitions.specs.Moves.{Difference, plus, leavesRange}
-use Rattle.theory.proofs.Places.{IsTuple, tuple-in, in-tuples, all-weights, weight-plus, plus-length, plus-cong}
+use Rattle.definitions.specs.Valid.{workingWeight, withinLimits}
+use Rattle.definitions.specs.Moves.{Difference, spared, plus, keepsRange, leavesRange}
+use Rattle.theory.proofs.Places.{IsTuple, tuple-in, in-tuples, weight-plus, plus-cong}
+use Rattle.theory.proofs.Barred.{stays-in-range}
 use Rattle.theory.proofs.Validity.{Handed}
 use Rattle.tables.specs.Scopes.{bestAt, BestOf, writtenOver}
 use Rattle.tables.proofs.Answered.{limits-true}
 use Rattle.tables.proofs.Best.{over-length, over-at, over-is}
-use Rattle.changes.specs.Kept.{Change, staysWorking, bestAfter, KeptCall, keptCall, keptTests, Gives, KeptIs}
+use Rattle.changes.specs.Spaced.{sparing, staysWith}
+use Rattle.changes.specs.Kept.{Change, tableAfter, staysWorking, bestAfter, KeptCall, keptCall, keptTests, Gives, KeptIs}
+use Rattle.changes.proofs.SpacedLaws.{stays-is, sparing-none, with-none}
 use Rattle.changes.proofs.ScopeLaws.{same-greatest}
 
 module _ (r : Rules) (c : Case) (w : List ℤ) (m : Change) where
   abbrev inRange : ℕ → ℕ → ℕ → Bool
-  inRange x k l = workingWeight r (weight c w x k l +ℤ m .adds x k l)
+  inRange x k l = staysWith r (weight c w x k l) (m .adds x k l)
 
   abbrev tested : ℕ → ℕ → ℕ → Bool
   tested x k l = m .touches x k l ⇒ inRange x k l
 
-  pub stays-iff : T (staysWorking r c w m) ↔ ((x k l : ℕ) → IsTuple c x k l → T (m .touches x k l) → T (workingWeight r (weight c w x k l +ℤ m .adds x k l)))
+  pub stays-iff : T (staysWorking r c w m) ↔ ((x k l : ℕ) → IsTuple c x k l → T (m .touches x k l) → T (staysWith r (weight c w x k l) (m .adds x k l)))
   stays-iff = (
     λ s x k l t u. imp-elim (m .touches x k l) (inRange x k l)
         (all-in (λ b. b) (eachTuple c x (tested x)) .0 (all-at (λ x. _) (scopeCount c) s x (t .scope)) _ (tuple-in c (tested x) t)) u,
@@ -50,30 +53,35 @@ module _ (r : Rules) (c : Case) (w : List ℤ) (m : Change) where
   )
 
   -- nothing is added elsewhere, and the weights are working weights
-  module _ (long : ownLength c ≤ length w) (working : (x k l : ℕ) → IsTuple c x k l → T (workingWeight r (weight c w x k l)))
+  module _ (working : (x k l : ℕ) → IsTuple c x k l → T (workingWeight r (weight c w x k l)))
       (still : (x k l : ℕ) → IsTuple c x k l → T (not (m .touches x k l)) → m .adds x k l ≡ pos 0) where
-    pub stays-all : staysWorking r c w m ≡ allWeights (workingWeight r) c (plus c (m .adds) w)
-    stays-all =
-        let every = all-weights c (workingWeight r) (plus c (m .adds) w) (omega (arith, plus-length c (m .adds) w long)) in
-        same-test (staysWorking r c w m) (allWeights (workingWeight r) c (plus c (m .adds) w))
-        (λ s. every .1 (λ x k l t. subst (λ (z : ℤ). T (workingWeight r z)) (sym (weight-plus c (m .adds) w t)) (⊎-elim
-        (λ u. stays-iff .0 s x k l t u)
-        (λ u. subst (λ (z : ℤ). T (workingWeight r z)) (sym (ap (λ (z : ℤ). weight c w x k l +ℤ z) (still x k l t u) ∙ +ℤ-idr (weight c w x k l)))
-        (working x k l t))
-        (either (m .touches x k l)))))
-        (λ s. stays-iff .1 (λ x k l t u. subst (λ (z : ℤ). T (workingWeight r z)) (weight-plus c (m .adds) w t) (every .0 s x k l t)))
+    pub leaves-is : not (staysWorking r c w m) ≡ leavesRange r c w (tableAfter c w m)
+    leaves-is = ap not (same-test (staysWorking r c w m) all-keep
+        (λ s. not-not-iff all-keep .0 (stays-in-range c r w (tableAfter c w m) .1 (λ x k l t. keeps x k l (weight-plus c (spared c w (m .adds)) w t) (⊎-elim
+        (λ u. subst T (sym (stays-is r (weight c w x k l) (m .adds x k l))) (stays-iff .0 s x k l t u))
+        (λ u. keeps x k l (with-none (weight c w x k l) (m .adds x k l) (still x k l t u)) (working x k l t))
+        (either (m .touches x k l))))))
+        (λ s. stays-iff .1 (λ x k l t u. subst T (stays-is r (weight c w x k l) (m .adds x k l))
+        (keeps x k l (sym (weight-plus c (spared c w (m .adds)) w t)) (stays-in-range c r w (tableAfter c w m) .0 (not-not-iff all-keep .1 s) x k l t)))))
+      where
+        all-keep : Bool
+        all-keep = all (λ p. keepsRange r (getD w p (pos 0)) (getD (tableAfter c w m) p (pos 0))) (below (ownLength c))
+
+        keeps : (x k l : ℕ) {z y : ℤ} → z ≡ y → T (keepsRange r (weight c w x k l) y) → T (keepsRange r (weight c w x k l) z)
+        keeps x k l e = subst (λ (z : ℤ). T (keepsRange r (weight c w x k l) z)) (sym e)
 
 -- the numbers kept are the greatest weights after the move
 module _ (c : Case) (w best : List ℤ) (m : Change) (b : BestOf c w best)
     (still : (x k l : ℕ) → IsTuple c x k l → T (not (m .inScope x)) → m .adds x k l ≡ pos 0) where
-  pub best-kept : BestOf c (plus c (m .adds) w) (bestAfter c w best m)
+  pub best-kept : BestOf c (tableAfter c w m) (bestAfter c w best m)
   best-kept =
-      let f : ℕ → ℤ = λ x. if m .inScope x then greatest c (plus c (m .adds) w) x else bestAt best x in
+      let f : ℕ → ℤ = λ x. if m .inScope x then greatest c (tableAfter c w m) x else bestAt best x in
       record {
         enough = omega (arith, b .enough, over-length f (scopeCount c) best (b .enough));
         holds = λ x h. over-at f (scopeCount c) best (b .enough) x h ∙ ⊎-elim
             (λ t. if-true _ _ (m .inScope x) t)
-            (λ t. if-false _ _ (m .inScope x) t ∙ b .holds x h ∙ sym (same-greatest c (m .adds) w x h (λ k l u. still x k l u t)))
+            (λ t. if-false _ _ (m .inScope x) t ∙ b .holds x h ∙ sym (same-greatest c (spared c w (m .adds)) w x h
+            (λ k l u. ap (sparing (weight c w x k l)) (still x k l u t) ∙ sparing-none (weight c w x k l))))
             (either (m .inScope x));
       }
 
@@ -127,7 +135,7 @@ module _ (c : Case) (w best : List ℤ) (m : Change) (wrong out : Bool) where
       pub call-next : out ≡ false → {o : Outcome} {t b : List ℤ} → KeptIs c w best m (staysWorking (rulesOf c) c w m) o t b → Gives call o t b
       call-next f (p, q, s) = let g = in-order f in (
         p ∙ ap outcomeOf (sym g),
-        q ∙ ap (λ x. unlessRefused x (plus c (m .adds) w) w) (sym g),
+        q ∙ ap (λ x. unlessRefused x (tableAfter c w m) w) (sym g),
         s ∙ ap (λ x. unlessRefused x (bestAfter c w best m) best) (sym g),
       )
 
@@ -154,25 +162,25 @@ module _ (c : Case) (w best : List ℤ) (m : Change) (b : Bool) where
   kept-left e = (rw e, rw e, rw e)
 
   pub kept-refused : {x : Refusal} {t : List ℤ} → Outcome.Refused x ≡ (if b then Outcome.Done else Outcome.Refused LeavesRange)
-      → t ≡ (if b then plus c (m .adds) w else w)
+      → t ≡ (if b then tableAfter c w m else w)
       → KeptIs c w best m b (Outcome.Refused x) t best
   kept-refused {x} {t} = go b
     where
-      go : (b : Bool) → Outcome.Refused x ≡ (if b then Outcome.Done else Outcome.Refused LeavesRange) → t ≡ (if b then plus c (m .adds) w else w)
+      go : (b : Bool) → Outcome.Refused x ≡ (if b then Outcome.Done else Outcome.Refused LeavesRange) → t ≡ (if b then tableAfter c w m else w)
           → KeptIs c w best m b (Outcome.Refused x) t best
       go true e d = absurd (let z : _≡_ {A = ℕ} 0 1 = cc in omega arith)
       go false e d = (e, d, refl)
 
-  pub kept-done : {t u : List ℤ} → Outcome.Done ≡ (if b then Outcome.Done else Outcome.Refused LeavesRange) → t ≡ (if b then plus c (m .adds) w else w)
-      → (t ≡ plus c (m .adds) w → u ≡ bestAfter c w best m) → KeptIs c w best m b Outcome.Done t u
+  pub kept-done : {t u : List ℤ} → Outcome.Done ≡ (if b then Outcome.Done else Outcome.Refused LeavesRange) → t ≡ (if b then tableAfter c w m else w)
+      → (t ≡ tableAfter c w m → u ≡ bestAfter c w best m) → KeptIs c w best m b Outcome.Done t u
   kept-done {t} {u} = go b
     where
-      go : (b : Bool) → Outcome.Done ≡ (if b then Outcome.Done else Outcome.Refused LeavesRange) → t ≡ (if b then plus c (m .adds) w else w)
-          → (t ≡ plus c (m .adds) w → u ≡ bestAfter c w best m) → KeptIs c w best m b Outcome.Done t u
+      go : (b : Bool) → Outcome.Done ≡ (if b then Outcome.Done else Outcome.Refused LeavesRange) → t ≡ (if b then tableAfter c w m else w)
+          → (t ≡ tableAfter c w m → u ≡ bestAfter c w best m) → KeptIs c w best m b Outcome.Done t u
       go true e d f = (refl, d, f d)
       go false e d f = absurd (let z : _≡_ {A = ℕ} 0 1 = cc in omega arith)
 
-  pub kept-made : b ≡ true → {t u : List ℤ} → t ≡ plus c (m .adds) w → u ≡ bestAfter c w best m → KeptIs c w best m b Outcome.Done t u
+  pub kept-made : b ≡ true → {t u : List ℤ} → t ≡ tableAfter c w m → u ≡ bestAfter c w best m → KeptIs c w best m b Outcome.Done t u
   kept-made e p q = (rw e, rw e p, rw e q)
 
 -- ---- the call on a case and a table that were checked, where `best` holds the greatest weights
@@ -180,25 +188,27 @@ module _ {c : Case} {w best : List ℤ} (h : Handed (rulesOf c) (workingWeight (
     (still : (x k l : ℕ) → IsTuple c x k l → T (not (m .touches x k l)) → m .adds x k l ≡ pos 0)
     (off : (x k l : ℕ) → IsTuple c x k l → T (not (m .inScope x)) → m .adds x k l ≡ pos 0)
     (δ : Difference) (same : (x k l : ℕ) → IsTuple c x k l → m .adds x k l ≡ δ x k l) (wrong out : Bool) (right : wrong ≡ false) (inside : out ≡ false) where
-  abbrev leaves : Option Refusal
-  leaves = firstOf (LeavesRange when (leavesRange (rulesOf c) c (plus c δ w)) ∷ [])
+  after : tableAfter c w m ≡ plus c (spared c w δ) w
+  after = plus-cong c (spared c w (m .adds)) w (spared c w δ) (λ x k l t. ap (sparing (weight c w x k l)) (same x k l t))
 
-  pub left-to-ask : firstOf (keptTests (rulesOf c) c w m wrong out) ≡ firstOf (LeavesRange when (leavesRange (rulesOf c) c (plus c δ w)) ∷ [])
+  abbrev leaves : Option Refusal
+  leaves = firstOf (LeavesRange when (leavesRange (rulesOf c) c w (plus c (spared c w δ) w)) ∷ [])
+
+  pub left-to-ask : firstOf (keptTests (rulesOf c) c w m wrong out) ≡ leaves
   left-to-ask =
       in-order c w best m wrong out (limits-true h) (rw (eq-eqb (length w) (lentLength c) (h .long), right)) inside
-      ∙ ap (λ (b : Bool). firstOf (LeavesRange when (not b) ∷ []))
-      (stays-all (rulesOf c) c w m (omega (arith, h .long)) (h .in-range) still
-      ∙ ap (allWeights (workingWeight (rulesOf c)) c) (plus-cong c (m .adds) w δ same))
+      ∙ ap (λ (b : Bool). firstOf (LeavesRange when b ∷ []))
+      (leaves-is (rulesOf c) c w m (h .in-range) still ∙ ap (leavesRange (rulesOf c) c w) after)
 
-  pub call-answer : call c w best m wrong out .answer ≡ outcomeOf (firstOf (LeavesRange when (leavesRange (rulesOf c) c (plus c δ w)) ∷ []))
+  pub call-answer : call c w best m wrong out .answer ≡ outcomeOf leaves
   call-answer = ap outcomeOf left-to-ask
 
-  pub call-table : call c w best m wrong out .table ≡ unlessRefused (firstOf (LeavesRange when (leavesRange (rulesOf c) c (plus c δ w)) ∷ [])) (plus c δ w) w
-  call-table = ap₂ (λ (o : Option Refusal) (t : List ℤ). unlessRefused o t w) left-to-ask (plus-cong c (m .adds) w δ same)
+  pub call-table : call c w best m wrong out .table ≡ unlessRefused leaves (plus c (spared c w δ) w) w
+  call-table = ap₂ (λ (o : Option Refusal) (t : List ℤ). unlessRefused o t w) left-to-ask after
 
   pub call-best : BestOf c (call c w best m wrong out .table) (call c w best m wrong out .best)
   call-best = go (firstOf (keptTests (rulesOf c) c w m wrong out))
     where
-      go : (o : Option Refusal) → BestOf c (unlessRefused o (plus c (m .adds) w) w) (unlessRefused o (bestAfter c w best m) best)
+      go : (o : Option Refusal) → BestOf c (unlessRefused o (tableAfter c w m) w) (unlessRefused o (bestAfter c w best m) best)
       go none = best-kept c w best m b off
       go (some x) = b

@@ -24,18 +24,19 @@ use Rattle.definitions.specs.Refusals.{_when_, firstOf}
 use Rattle.definitions.specs.Answers.{outcomeOf, unlessRefused}
 use Rattle.definitions.specs.Case.{scopeCount, ownLength, lentLength, weight, greatest}
 use Rattle.definitions.specs.Valid.{workingWeight}
-use Rattle.definitions.specs.Moves.{Difference, plus, onlyWhere, pressBy, pressAmount, leavesRange}
+use Rattle.definitions.specs.Moves.{Difference, spared, plus, onlyWhere, pressBy, pressAmount, leavesRange}
 use Rattle.calls.specs.Calls.{isRaised}
 use Rattle.theory.proofs.Places.{IsTuple, each-cong, weight-plus, plus-length, plus-cong, plus-plus, plus-zero}
 use Rattle.theory.proofs.Validity.{Handed}
 use Rattle.tables.specs.Scopes.{scopePart, bestAt, BestOf}
 use Rattle.tables.proofs.Answered.{limits-known}
 use Rattle.tables.proofs.Best.{over-is}
-use Rattle.changes.specs.Spaced.{amountWithin}
+use Rattle.changes.specs.Spaced.{amountWithin, sparing, staysWith}
 use Rattle.marks.specs.Marks.{mark as isMarked}
 use Rattle.marks.proofs.Laws.{mark-zero}
 use Rattle.changes.specs.Scopes.{Amount, Amounts, placeIn, scopeBy, valuesIn, restOf, isTouched, scopeGets, scopeLets, loweringLets}
-use Rattle.changes.specs.Kept.{isBest, MarksOf, Change, loweringChange, staysWorking, KeptMade, loweringOut, lowerAndRaiseCall}
+use Rattle.changes.specs.Kept.{isBest, MarksOf, Change, loweringChange, tableAfter, staysWorking, KeptMade, loweringOut, lowerAndRaiseCall}
+use Rattle.changes.proofs.SpacedLaws.{sparing-none}
 use Rattle.changes.proofs.ScopeLaws.{none-lowered, place-in-variable, part-stays-iff, same-weight, same-part}
 use Rattle.changes.proofs.KeptLaws.{stays-iff, call-answer, call-table, call-best}
 
@@ -83,8 +84,8 @@ module _ (c : Case) (w : List ℤ) (long : length w ≡ ownLength c) (i values x
           none-lowered (valuesIn i values x) a best (restOf mark a) (rw f) p z
           ∙ if-cases (λ (n : ℤ). n ≡ pos 0) (eqZ z best) (pos 0) (restOf mark a) (λ u. refl) (λ u. only-false (not (eqb mark 0)) a g)
 
-      nothing : (p : ℕ) (z : ℤ) (b : Bool) → eqb x i ≡ false → not (eqb mark 0) ≡ false → onlyWhere b (scopeGets i values a x mark best p z) ≡ pos 0
-      nothing p z true f g = none p z f g
+      nothing : (p : ℕ) (z : ℤ) (b : Bool) → eqb x i ≡ false → not (eqb mark 0) ≡ false → onlyWhere b (sparing z (scopeGets i values a x mark best p z)) ≡ pos 0
+      nothing p z true f g = ap (sparing z) (none p z f g) ∙ sparing-none z
       nothing p z false f g = refl
 
 module _ (c : Case) (w best : List ℤ) (raised : List ℕ) (i values : ℕ) (a : ℤ) (variable : i < c .n) where
@@ -92,13 +93,13 @@ module _ (c : Case) (w best : List ℤ) (raised : List ℕ) (i values : ℕ) (a 
   m = loweringChange c w best raised i (isMarked values) a
 
   abbrev δ : Difference
-  δ = m .adds
+  δ = spared c w (m .adds)
 
   abbrev gets : ℕ → Amount
   gets x = scopeGets i values a x (getD raised x 0) (bestAt best x)
 
   -- what is added at a tuple
-  pub added-at : (x k l : ℕ) → IsTuple c x k l → δ x k l ≡ gets x (placeIn c x k l) (weight c w x k l)
+  pub added-at : (x k l : ℕ) → IsTuple c x k l → m .adds x k l ≡ gets x (placeIn c x k l) (weight c w x k l)
   added-at x k l t =
       ap₂ _+ℤ_ (ap (λ (b : Bool). onlyWhere b (negℤ a)) (⊎-elim own other (either (eqb x i)))) (rest-split (isRaised raised x) (isBest c w best x k l) a)
     where
@@ -115,7 +116,7 @@ module _ (c : Case) (w best : List ℤ) (raised : List ℕ) (i values : ℕ) (a 
           ∙ sym (ap (λ (v : ℕ). isMarked v (placeIn c x k l)) (if-false values 0 (eqb x i) s) ∙ mark-zero (placeIn c x k l))
 
   -- nothing is added elsewhere
-  pub lowering-still : (x k l : ℕ) → T (not (eqb x i || isRaised raised x)) → δ x k l ≡ pos 0
+  pub lowering-still : (x k l : ℕ) → T (not (eqb x i || isRaised raised x)) → m .adds x k l ≡ pos 0
   lowering-still x k l t = let (s, u) = not-or-iff (eqb x i) (isRaised raised x) .0 t in rw (is-false (eqb x i) s, is-false (isRaised raised x) u)
 
   abbrev lets : ℕ → Bool
@@ -125,11 +126,11 @@ module _ (c : Case) (w best : List ℤ) (raised : List ℕ) (i values : ℕ) (a 
   lets-is long = same-test (loweringLets (rulesOf c) c w best raised i values a) (staysWorking (rulesOf c) c w m)
       (λ s. stays-iff (rulesOf c) c w m .1 (λ x k l t u.
       let p = imp-elim (isTouched i x (getD raised x 0)) _ (all-at lets (scopeCount c) s x (t .scope)) u in
-      subst (λ (z : ℤ). T (workingWeight (rulesOf c) (weight c w x k l +ℤ z))) (sym (added-at x k l t))
+      subst (λ (z : ℤ). T (staysWith (rulesOf c) (weight c w x k l) z)) (sym (added-at x k l t))
       (part-stays-iff c w long x (t .scope) (gets x) (rulesOf c) .0 p k l t)))
       (λ s. all-of lets (scopeCount c) (λ x h. imp-intro (isTouched i x (getD raised x 0)) _ (λ u.
       part-stays-iff c w long x h (gets x) (rulesOf c) .1 (λ k l t.
-      subst (λ (z : ℤ). T (workingWeight (rulesOf c) (weight c w x k l +ℤ z))) (added-at x k l t) (stays-iff (rulesOf c) c w m .0 s x k l t u)))))
+      subst (λ (z : ℤ). T (staysWith (rulesOf c) (weight c w x k l) z)) (added-at x k l t) (stays-iff (rulesOf c) c w m .0 s x k l t u)))))
 
   -- ---- one scope after the other
   pub lowering-none : length w ≡ ownLength c → plus c (upTo 0 δ) w ≡ w
@@ -156,7 +157,7 @@ module _ (c : Case) (w best : List ℤ) (raised : List ℕ) (i values : ℕ) (a 
         at : (k l : ℕ) → IsTuple c x k l → upTo x δ x k l +ℤ turn x k l ≡ upTo (x + 1) δ x k l
         at k l t =
             rw (le-ltb x x (omega arith), eq-eqb x x refl, lt-ltb x (x + 1) (omega arith), same-weight c (upTo x δ) w x h nothing-yet k l t)
-            (+ℤ-idl _ ∙ sym (added-at x k l t))
+            (+ℤ-idl _ ∙ ap (sparing (weight c w x k l)) (sym (added-at x k l t)))
 
         go : (y k l : ℕ) → IsTuple c y k l → T (eqb y x) ⊎ T (not (eqb y x)) → upTo x δ y k l +ℤ turn y k l ≡ upTo (x + 1) δ y k l
         go y k l t (inl s) = let e : y ≡ x = eqb→eq y x s in subst (λ (y : ℕ). IsTuple c y k l → upTo x δ y k l +ℤ turn y k l ≡ upTo (x + 1) δ y k l) (sym e)
@@ -177,16 +178,16 @@ module _ (c : Case) (w best : List ℤ) (raised : List ℕ) (i values : ℕ) (a 
 
 -- the table and `best` when the scopes below x are done
 pub record Lowered (c : Case) (w best : List ℤ) (raised : List ℕ) (i values : ℕ) (a : ℤ) (x : ℕ) (table kept : List ℤ) : Type 0 where
-  pub table-is : table ≡ plus c (upTo x (loweringChange c w best raised i (isMarked values) a .adds)) w
+  pub table-is : table ≡ plus c (upTo x (spared c w (loweringChange c w best raised i (isMarked values) a .adds))) w
   pub same-long : length kept ≡ length best
   pub done : (y : ℕ) → y < x → bestAt kept y
-      ≡ (if (eqb y i || isRaised raised y) then greatest c (plus c (loweringChange c w best raised i (isMarked values) a .adds) w) y else bestAt best y)
+      ≡ (if (eqb y i || isRaised raised y) then greatest c (tableAfter c w (loweringChange c w best raised i (isMarked values) a)) y else bestAt best y)
   pub due : (y : ℕ) → x ≤ y → bestAt kept y ≡ bestAt best y
 
 module _ (c : Case) (w best : List ℤ) (raised : List ℕ) (i values : ℕ) (a : ℤ) (variable : i < c .n) (long : length w ≡ lentLength c)
     (room : scopeCount c ≤ length best) where
   abbrev added : Difference
-  added = loweringChange c w best raised i (isMarked values) a .adds
+  added = spared c w (loweringChange c w best raised i (isMarked values) a .adds)
 
   -- the number kept for scope y in the end
   abbrev keeps : ℕ → ℤ
@@ -253,10 +254,10 @@ module _ {c : Case} {w best : List ℤ} (h : Handed (rulesOf c) (workingWeight (
 
   module _ (room : scopeCount c ≤ length raised) (variable : i < c .n) (amount : T (pressAmount (rulesOf c) a)) where
     abbrev pressed : List ℤ
-    pressed = plus c (pressBy c w i lowered (isRaised raised) a) w
+    pressed = plus c (spared c w (pressBy c w i lowered (isRaised raised) a)) w
 
     abbrev leaves : Option Refusal
-    leaves = firstOf (LeavesRange when (leavesRange (rulesOf c) c pressed) ∷ [])
+    leaves = firstOf (LeavesRange when (leavesRange (rulesOf c) c w pressed) ∷ [])
 
     pub lower-and-raise-is-press :
         (lowerAndRaiseCall (rulesOf c) c w best raised i values a .answer ≡ outcomeOf leaves)

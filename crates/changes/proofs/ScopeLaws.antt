@@ -8,19 +8,21 @@ use native.Mathlib.Nat.{mul-le-mul-right, div-add-mod', div-lt-iff-lt-mul, mod-l
 use native.Mathlib.Omega.{arith}
 use lib.IntN.{ℤ, pos, negℤ, _+ℤ_, _-ℤ_, +ℤ-idl, +ℤ-idr, +ℤ-comm}
 use lib.Dec.{T, eqb, ltb, eqb→eq, ltb→lt, nltb→le}
+use lib.Signed.{leZ}
 use lib.ListN.{length, getD, take, drop, length-append, length-drop, List·getD-append}
 use lib.Seq.{ext-getD, getD-append-add, getD-drop, getD-take, length-take-le}
 use borrow.Author.Tests.{eq-eqb}
 use mir.Syntax.{w64}
 use mir.Val.{SFits}
-use Rattle.integers.specs.Words.{greatestOf}
-use Rattle.integers.specs.Tests.{either, is-false, if-true, if-false, not-eqb-iff}
+use Rattle.integers.specs.Words.{minus, greatestOf, eqZ, withinZ}
+use Rattle.integers.specs.Tests.{either, is-false, if-true, if-false, if-cases, and-iff, or-right, not-eqb-iff}
 use Rattle.integers.specs.Lists.{all-at, all-of, all-same, map-same}
-use Rattle.integers.specs.Tables.{length-tab, getD-tab}
+use Rattle.integers.specs.Linear.{zs, flat, _▸_, add}
+use Rattle.integers.specs.Tables.{length-tab, getD-tab, all-getD}
 use Rattle.definitions.specs.declared.Case.{Case}
 use Rattle.definitions.specs.Rules.{Rules, Coherent}
-use Rattle.definitions.specs.Case.{scopeCount, isVariable, place, ownLength, weight, greatest}
-use Rattle.definitions.specs.Valid.{workingWeight}
+use Rattle.definitions.specs.Case.{scopeCount, isVariable, place, ownLength, weight, greatest, isBarred}
+use Rattle.definitions.specs.Valid.{inWorking}
 use Rattle.definitions.specs.Moves.{Difference, plus, onlyWhere}
 use Rattle.theory.proofs.Places.{IsTuple, by-scope, by-tuple, variable-tuple, edge-tuple, variable-is, edge-is, place-variable, place-edge}
 use Rattle.theory.proofs.Places.{place-apart, each-cong, weight-plus, plus-length, plus-is}
@@ -28,9 +30,9 @@ use Rattle.tables.specs.Scopes.{sizeOf, scopePart}
 use Rattle.tables.proofs.Parts.{part-own, scope-part}
 use Rattle.marks.specs.Marks.{mark}
 use Rattle.marks.proofs.Laws.{mark-zero}
-use Rattle.changes.specs.Spaced.{weightAt, amountWithin}
-use Rattle.changes.specs.Scopes.{Amount, raisedBy, loweredBy, Amounts, PartFits, weightAfter, partStays, partAfter, placeIn, scopeBy}
-use Rattle.changes.proofs.SpacedLaws.{working-fits}
+use Rattle.changes.specs.Spaced.{amountWithin, weightAt, weightWith, staysWith}
+use Rattle.changes.specs.Scopes.{Amount, raisedBy, loweredBy, Amounts, PartFits, weightAfter, partStays, hasRoom, partAfter, placeIn, scopeBy}
+use Rattle.changes.proofs.SpacedLaws.{with-fits}
 
 -- the list of a part's weights, each with what it gets
 pub after-is : (by : Amount) (part u : List ℤ) → length u ≡ length part → ((p : ℕ) → p < length part → weightAt u p ≡ weightAfter by part p)
@@ -39,9 +41,26 @@ after-is by part u long at =
     ext-getD (pos 0) u (partAfter by part) (long ∙ sym (length-tab (weightAfter by part) 0 (length part)))
     (λ k h. at k (omega arith) ∙ sym (getD-tab (weightAfter by part) (length part) k (pos 0) (omega arith)))
 
--- weights that stay working fit a machine word
+-- weights that keep their range fit a machine word
 pub part-fits : {r : Rules} → Coherent r → (by : Amount) (part : List ℤ) → T (partStays r by part) → PartFits by part
-part-fits {r} limits by part t k h = working-fits limits _ (all-at (λ p. workingWeight r (weightAfter by part p)) (length part) t k h)
+part-fits {r} limits by part t k h =
+    with-fits limits (weightAt part k) (by k (weightAt part k))
+    (all-at (λ p. staysWith r (weightAt part p) (by p (weightAt part p))) (length part) t k h)
+
+-- where there is room the weights keep their range, whichever get `rest`
+pub room-stays : (r : Rules) (best rest : ℤ) (part : List ℤ) → T (hasRoom r rest part) → T (partStays r (raisedBy best rest) part)
+room-stays r best rest part t =
+    let (n, w) = and-iff (leZ (pos 0) rest) _ .0 t in
+    all-of (λ p. staysWith r (weightAt part p) (raisedBy best rest p (weightAt part p))) (length part) (λ p h.
+    let z = weightAt part p in
+    let u = all-getD (withinZ (minus (r .working)) (pos (r .working) -ℤ rest)) part (pos 0) .0 w p h in
+    or-right (isBarred z) _ (if-cases (λ (y : ℤ). T (inWorking r (z +ℤ y))) (eqZ z best) (pos 0) rest
+    (λ e. n ▸ u ▸ simp flat (omega zs)) (λ e. n ▸ u ▸ simp flat (omega zs))))
+
+-- `rest` is among the amounts
+pub rest-within : (r : Rules) (best rest : ℤ) → Amounts r (raisedBy best rest) → T (amountWithin r rest)
+rest-within r best rest f = subst (λ (z : ℤ). T (amountWithin r z)) (if-false (pos 0) rest (eqZ (best +ℤ pos 1) best) (simp flat (omega (zs, add best (pos 1)))))
+    (f 0 (best +ℤ pos 1))
 
 -- at a value that is marked, and at one that is not
 module _ (values p : ℕ) (a best rest z : ℤ) where
@@ -59,10 +78,10 @@ module _ (values : ℕ) (a best rest : ℤ) (e : values ≡ 0) where
 
   module _ (part : List ℤ) where
     none-at : (p : ℕ) → weightAfter (loweredBy values a best rest) part p ≡ weightAfter (raisedBy best rest) part p
-    none-at p = ap (λ (z : ℤ). weightAt part p +ℤ z) (none-lowered p (weightAt part p))
+    none-at p = ap (weightWith (weightAt part p)) (none-lowered p (weightAt part p))
 
     pub none-stays : (r : Rules) → partStays r (loweredBy values a best rest) part ≡ partStays r (raisedBy best rest) part
-    none-stays r = all-same (length part) (λ p h. ap (workingWeight r) (none-at p))
+    none-stays r = all-same (length part) (λ p h. ap (staysWith r (weightAt part p)) (none-lowered p (weightAt part p)))
 
     pub none-after : partAfter (loweredBy values a best rest) part ≡ partAfter (raisedBy best rest) part
     none-after = map-same (length part) (λ p h. none-at p)
@@ -182,10 +201,10 @@ module _ (c : Case) where
     module _ (by : Amount) where
       -- what a tuple's weight is then
       abbrev next : ℕ → ℕ → ℤ
-      next k l = weight c w x k l +ℤ by (placeIn c x k l) (weight c w x k l)
+      next k l = weightWith (weight c w x k l) (by (placeIn c x k l) (weight c w x k l))
 
       next-is : (k l : ℕ) → IsTuple c x k l → weightAfter by (scopePart c w x) (placeIn c x k l) ≡ next k l
-      next-is k l t = ap (λ (z : ℤ). z +ℤ by (placeIn c x k l) z) (part-weight k l t)
+      next-is k l t = ap (λ (z : ℤ). weightWith z (by (placeIn c x k l) z)) (part-weight k l t)
 
       abbrev pub table-after : List ℤ
       table-after = take (place c x 0 0) w ++ (partAfter by (scopePart c w x) ++ drop (sizeOf c x) (drop (place c x 0 0) w))
@@ -221,14 +240,14 @@ module _ (c : Case) where
           (λ i v e. omega (arith, part-own c x h)))
 
       pub part-stays-iff : (r : Rules) → T (partStays r by (scopePart c w x))
-          ↔ ((k l : ℕ) → IsTuple c x k l → T (workingWeight r (weight c w x k l +ℤ by (placeIn c x k l) (weight c w x k l))))
+          ↔ ((k l : ℕ) → IsTuple c x k l → T (staysWith r (weight c w x k l) (by (placeIn c x k l) (weight c w x k l))))
       part-stays-iff r =
-          let test : ℕ → Bool = λ p. workingWeight r (weightAfter by (scopePart c w x) p) in (
-            λ s k l t. subst (λ (z : ℤ). T (workingWeight r z)) (next-is k l t)
+          let test : ℕ → Bool = λ p. staysWith r (weightAt (scopePart c w x) p) (by p (weightAt (scopePart c w x) p)) in (
+            λ s k l t. subst (λ (z : ℤ). T (staysWith r z (by (placeIn c x k l) z))) (part-weight k l t)
                 (all-at test (length (scopePart c w x)) s (placeIn c x k l) (omega (arith, part-long, tuple-inside x k l t))),
             λ f. all-of test (length (scopePart c w x)) (λ p u.
                 let (k, l, t, g, d) = inside-tuple x h p (omega (arith, part-long)) in
-                subst (λ (p : ℕ). T (test p)) d (subst (λ (z : ℤ). T (workingWeight r z)) (sym (next-is k l t)) (f k l t))),
+                subst (λ (p : ℕ). T (test p)) d (subst (λ (z : ℤ). T (staysWith r z (by (placeIn c x k l) z))) (sym (part-weight k l t)) (f k l t))),
           )
 
   -- ---- a scope in which nothing is added

@@ -3,6 +3,7 @@
 use mathlib.Core.Path.{_≡_, refl, sym, ap, ap₂, subst, _∙_}
 use mathlib.Core.Bool.{Bool, true, false, not, _&&_, _||_}
 use mathlib.Core.Logic.{_⊎_, inl, inr}
+use mathlib.Core.Option.{Option}
 use mathlib.Core.List.{List, [], _∷_}
 use Prim.Native.Nat.{ℕ, _+_, _*_, _≤_, _<_}
 use native.Mathlib.Omega.{arith}
@@ -15,22 +16,23 @@ use Rattle.integers.specs.Words.{if_then_else_, minus}
 use Rattle.integers.specs.Tests.{either, is-true, is-false, false-is, and-intro, and-left, and-right, or-left, or-right, not-or-iff, same-test, eqb-iff, tests}
 use Rattle.integers.specs.Lists.{all-at, all-of}
 use Rattle.definitions.specs.declared.Case.{Case}
+use Rattle.definitions.specs.declared.Refusal.{Refusal}
 use Rattle.definitions.specs.declared.Refusal.the-variants.{LeavesRange}
 use Rattle.definitions.specs.Rules.{Rules, rulesOf}
 use Rattle.definitions.specs.Refusals.{_when_, firstOf}
 use Rattle.definitions.specs.Answers.{outcomeOf, unlessRefused}
 use Rattle.definitions.specs.Case.{scopeCount, lowerEnd, upperEnd, place, ownLength, lentLength, weight, greatest}
 use Rattle.definitions.specs.Valid.{workingWeight}
-use Rattle.definitions.specs.Moves.{plus, onlyWhere, endVariable, endValue, shiftBy, leavesRange}
+use Rattle.definitions.specs.Moves.{spared, shift, moved, onlyWhere, endVariable, endValue, shiftBy, leavesRange}
 use Rattle.calls.specs.Calls.{shiftOut}
 use Rattle.definitions.proofs.CaseLaws.{place-own}
 use Rattle.theory.proofs.Places.{IsTuple, by-tuple, variable-tuple, edge-tuple, place-variable, place-edge, place-apart, tuple-at, plus-is}
 use Rattle.theory.proofs.Shape.{Shape}
 use Rattle.theory.proofs.Validity.{Handed}
 use Rattle.tables.specs.Scopes.{BestOf}
-use Rattle.changes.specs.Spaced.{amountWithin, weightAt, Inside, spacedStay, spacedAdd, transferStays, transferred}
-use Rattle.changes.specs.Kept.{Change, transferChange, staysWorking, bestAfter, transferCall}
-use Rattle.changes.proofs.SpacedLaws.{spaced-long, spaced-miss, spaced-hit, one-place}
+use Rattle.changes.specs.Spaced.{amountWithin, weightWith, staysWith, weightAt, Inside, spacedStay, spacedAdd, transferStays, transferred}
+use Rattle.changes.specs.Kept.{Change, transferChange, tableAfter, staysWorking, bestAfter, transferCall}
+use Rattle.changes.proofs.SpacedLaws.{with-none, spaced-long, spaced-miss, spaced-hit, one-place}
 use Rattle.changes.proofs.KeptLaws.{stays-iff, two-kept, call-answer, call-table, call-best}
 
 -- where the tuple's place stands among those touched, and what is added there
@@ -53,9 +55,9 @@ module _ (r : Rules) (c : Case) (w : List ℤ) (m : Change) (own start step : �
   first : List ℤ
   first = spacedAdd w own 1 1 a
 
-  at-first : weightAt first own ≡ weightAt w own +ℤ a
+  at-first : weightAt first own ≡ weightWith (weightAt w own) a
   unfolding first
-  at-first = subst (λ (p : ℕ). weightAt (spacedAdd w own 1 1 a) p ≡ weightAt w p +ℤ a) (one-place own 0 (omega arith))
+  at-first = subst (λ (p : ℕ). weightAt (spacedAdd w own 1 1 a) p ≡ weightWith (weightAt w p) a) (one-place own 0 (omega arith))
       (spaced-hit w own 1 a (omega arith) 1 0 (omega arith) (omega arith))
 
   off-first : {p : ℕ} → (p ≡ own → ⊥) → weightAt first p ≡ weightAt w p
@@ -65,31 +67,34 @@ module _ (r : Rules) (c : Case) (w : List ℤ) (m : Change) (own start step : �
   transferred-long : length (transferred w own start step (c .d) a) ≡ length w
   transferred-long = spaced-long (spacedAdd w own 1 1 a) start step (negℤ a) (c .d) ∙ spaced-long w own 1 a 1
 
-  weight-transferred : (x k l : ℕ) → IsTuple c x k l → weight c (transferred w own start step (c .d) a) x k l ≡ weight c w x k l +ℤ m .adds x k l
+  weight-transferred : (x k l : ℕ) → IsTuple c x k l → weight c (transferred w own start step (c .d) a) x k l ≡ weightWith (weight c w x k l) (m .adds x k l)
   unfolding first
   weight-transferred x k l t = go (touched x k l t)
     where
-      go : Touched c m own start step a x k l → weight c (transferred w own start step (c .d) a) x k l ≡ weight c w x k l +ℤ m .adds x k l
+      go : Touched c m own start step a x k l → weight c (transferred w own start step (c .d) a) x k l ≡ weightWith (weight c w x k l) (m .adds x k l)
       go (at-own z e d) =
           ap (weightAt (transferred w own start step (c .d) a)) e
           ∙ spaced-miss first start step (negℤ a) (c .d) own (λ j h q. apart j h (sym q)) ∙ at-first
-          ∙ sym (ap₂ _+ℤ_ (ap (weightAt w) e) d)
+          ∙ sym (ap₂ weightWith (ap (weightAt w) e) d)
       go (at-used z j h e d) =
           ap (weightAt (transferred w own start step (c .d) a)) e
           ∙ spaced-hit first start step (negℤ a) some (c .d) j h (omega (arith, used-in j h, spaced-long w own 1 a 1))
-          ∙ ap (λ (z : ℤ). z +ℤ negℤ a) (off-first (apart j h))
-          ∙ sym (ap₂ _+ℤ_ (ap (weightAt w) e) d)
+          ∙ ap (λ (z : ℤ). weightWith z (negℤ a)) (off-first (apart j h))
+          ∙ sym (ap₂ weightWith (ap (weightAt w) e) d)
       go (elsewhere z f g d) =
           spaced-miss first start step (negℤ a) (c .d) (place c x k l) g ∙ off-first f
-          ∙ sym (ap (λ (z : ℤ). weight c w x k l +ℤ z) d ∙ +ℤ-idr (weight c w x k l))
+          ∙ sym (with-none (weight c w x k l) (m .adds x k l) d)
 
-  pub transferred-is : plus c (m .adds) w ≡ transferred w own start step (c .d) a
-  transferred-is = plus-is c (m .adds) w (omega arith) (transferred w own start step (c .d) a) transferred-long weight-transferred
+  pub transferred-is : tableAfter c w m ≡ transferred w own start step (c .d) a
+  transferred-is = plus-is c (spared c w (m .adds)) w (omega arith) (transferred w own start step (c .d) a) transferred-long weight-transferred
       (λ p h. spaced-miss (spacedAdd w own 1 1 a) start step (negℤ a) (c .d) p (λ j u e. omega (arith, used-in j u))
       ∙ spaced-miss w own 1 a 1 p (not-first (λ e. omega arith)))
 
-  abbrev inRange : ℤ → Type 0
-  inRange z = T (workingWeight r z)
+  abbrev inRange : ℤ → ℤ → Type 0
+  inRange z by = T (staysWith r z by)
+
+  both : {y z a b : ℤ} → y ≡ z → a ≡ b → inRange y a → inRange z b
+  both e d t = subst T (ap₂ (staysWith r) e d) t
 
   -- what is added at a place
   added-own : (x k l : ℕ) → IsTuple c x k l → place c x k l ≡ own → T (m .touches x k l) × (m .adds x k l ≡ a)
@@ -108,31 +113,31 @@ module _ (r : Rules) (c : Case) (w : List ℤ) (m : Change) (own start step : �
       go (at-used u i v p d) = (u, d)
       go (elsewhere u f g d) = absurd (g j h e)
 
-  stays : T (transferStays r w own start step (c .d) a) → (x k l : ℕ) → IsTuple c x k l → T (m .touches x k l) → inRange (weight c w x k l +ℤ m .adds x k l)
+  stays : T (transferStays r w own start step (c .d) a) → (x k l : ℕ) → IsTuple c x k l → T (m .touches x k l) → inRange (weight c w x k l) (m .adds x k l)
   stays s x k l t y = go (touched x k l t)
     where
-      u : inRange (weightAt w (own + 0 * 1) +ℤ a)
-      u = all-at (λ j. workingWeight r (weightAt w (own + j * 1) +ℤ a)) 1 (and-left (spacedStay r w own 1 1 a) _ s) 0 (omega arith)
+      u : inRange (weightAt w (own + 0 * 1)) a
+      u = all-at (λ j. staysWith r (weightAt w (own + j * 1)) a) 1 (and-left (spacedStay r w own 1 1 a) _ s) 0 (omega arith)
 
-      v : (j : ℕ) → j < c .d → inRange (weightAt w (start + j * step) +ℤ negℤ a)
-      v = all-at (λ j. workingWeight r (weightAt w (start + j * step) +ℤ negℤ a)) (c .d) (and-right (spacedStay r w own 1 1 a) _ s)
+      v : (j : ℕ) → j < c .d → inRange (weightAt w (start + j * step)) (negℤ a)
+      v = all-at (λ j. staysWith r (weightAt w (start + j * step)) (negℤ a)) (c .d) (and-right (spacedStay r w own 1 1 a) _ s)
 
-      go : Touched c m own start step a x k l → inRange (weight c w x k l +ℤ m .adds x k l)
-      go (at-own z e d) = subst inRange (sym (ap₂ _+ℤ_ (ap (weightAt w) (e ∙ sym (one-place own 0 (omega arith)))) d)) u
-      go (at-used z j h e d) = subst inRange (sym (ap₂ _+ℤ_ (ap (weightAt w) e) d)) (v j h)
+      go : Touched c m own start step a x k l → inRange (weight c w x k l) (m .adds x k l)
+      go (at-own z e d) = both (sym (ap (weightAt w) (e ∙ sym (one-place own 0 (omega arith))))) (sym d) u
+      go (at-used z j h e d) = both (sym (ap (weightAt w) e)) (sym d) (v j h)
       go (elsewhere z f g d) = absurd (T-not (m .touches x k l) z y)
 
-  back : ((x k l : ℕ) → IsTuple c x k l → T (m .touches x k l) → inRange (weight c w x k l +ℤ m .adds x k l)) → T (transferStays r w own start step (c .d) a)
+  back : ((x k l : ℕ) → IsTuple c x k l → T (m .touches x k l) → inRange (weight c w x k l) (m .adds x k l)) → T (transferStays r w own start step (c .d) a)
   back f = and-intro (spacedStay r w own 1 1 a) _
-      (all-of (λ j. workingWeight r (weightAt w (own + j * 1) +ℤ a)) 1 (λ i h.
+      (all-of (λ j. staysWith r (weightAt w (own + j * 1)) a) 1 (λ i h.
       let z : own + i * 1 ≡ own = omega arith in
       let (x, k, l, t, e) = tuple-at c own own-place-in in
       let q = added-own x k l t e in
-      subst inRange (ap₂ _+ℤ_ (ap (weightAt w) (e ∙ sym z)) (q .1)) (f x k l t (q .0))))
-      (all-of (λ j. workingWeight r (weightAt w (start + j * step) +ℤ negℤ a)) (c .d) (λ j h.
+      both (ap (weightAt w) (e ∙ sym z)) (q .1) (f x k l t (q .0))))
+      (all-of (λ j. staysWith r (weightAt w (start + j * step)) (negℤ a)) (c .d) (λ j h.
       let (x, k, l, t, e) = tuple-at c (start + j * step) (used-in j h) in
       let q = added-used x k l j t h e in
-      subst inRange (ap₂ _+ℤ_ (ap (weightAt w) e) (q .1)) (f x k l t (q .0))))
+      both (ap (weightAt w) e) (q .1) (f x k l t (q .0))))
 
   pub transfer-stays : transferStays r w own start step (c .d) a ≡ staysWorking r c w m
   transfer-stays = same-test (transferStays r w own start step (c .d) a) (staysWorking r c w m) (λ s. stays-iff r c w m .1 (stays s))
@@ -279,7 +284,7 @@ module _ (c : Case) (w : List ℤ) (long : length w ≡ lentLength c) (e end v o
       (own-apart c e end v own start step a edge value p) long (own-place-in c e end v own start step a edge value p)
       (used-in c e end v own start step a edge value p)
 
-  pub transfer-made : transferred w own start step (c .d) a ≡ plus c (shiftBy c e end v a) w
+  pub transfer-made : transferred w own start step (c .d) a ≡ tableAfter c w (transferChange c e end v a)
   transfer-made = sym (transferred-is (rulesOf c) c w (transferChange c e end v a) own start step a (transfer-touched c e end v own start step a edge value p)
       (p .spread)
       (own-apart c e end v own start step a edge value p) long (own-place-in c e end v own start step a edge value p)
@@ -302,12 +307,13 @@ module _ (c : Case) (e end v : ℕ) (a : ℤ) where
 
   -- the greatest weights of the two scopes
   pub transfer-best : (w best : List ℤ) → scopeCount c ≤ length best → e < c .m → endVariable c e end < c .n → {t : List ℤ}
-      → t ≡ plus c (shiftBy c e end v a) w
+      → t ≡ tableAfter c w (transferChange c e end v a)
       → set (set best (endVariable c e end) (greatest c t (endVariable c e end))) (c .n + e) (greatest c t (c .n + e)) ≡ bestAfter c w best
       (transferChange c e end v a)
   transfer-best w best room edge variable {t} is =
       ap (λ (t : List ℤ). set (set best (endVariable c e end) (greatest c t (endVariable c e end))) (c .n + e) (greatest c t (c .n + e))) is
-      ∙ two-kept (greatest c (plus c (shiftBy c e end v a) w)) best (endVariable c e end) (c .n + e) (scopeCount c) room (omega arith) (omega arith)
+      ∙ two-kept (greatest c (tableAfter c w (transferChange c e end v a))) best (endVariable c e end) (c .n + e) (scopeCount c) room
+      (omega arith) (omega arith)
 
 -- the ends of a checked case are variables
 pub end-inside : {c : Case} → Shape c → (e end : ℕ) → e < c .m → endVariable c e end < c .n
@@ -332,11 +338,12 @@ module _ {c : Case} {w best : List ℤ} (h : Handed (rulesOf c) (workingWeight (
       let q = transfer-in c e end v a (false-is (shiftOut (rulesOf c) c e end v a) inside) in
       rw (inside, lt-ltb (endVariable c e end) (c .n) (end-inside (h .shape) e end (q .0 .0)))
 
+  abbrev leaves : Option Refusal
+  leaves = firstOf (LeavesRange when (leavesRange (rulesOf c) c w (moved c (shift e end v a) w)) ∷ [])
+
   pub transfer-is-shift :
-      (transferCall (rulesOf c) c w best e end v a .answer ≡ outcomeOf
-      (firstOf (LeavesRange when (leavesRange (rulesOf c) c (plus c (shiftBy c e end v a) w)) ∷ [])))
-      × (transferCall (rulesOf c) c w best e end v a .table
-      ≡ unlessRefused (firstOf (LeavesRange when (leavesRange (rulesOf c) c (plus c (shiftBy c e end v a) w)) ∷ [])) (plus c (shiftBy c e end v a) w) w)
+      (transferCall (rulesOf c) c w best e end v a .answer ≡ outcomeOf leaves)
+      × (transferCall (rulesOf c) c w best e end v a .table ≡ unlessRefused leaves (moved c (shift e end v a) w) w)
       × BestOf c (transferCall (rulesOf c) c w best e end v a .table) (transferCall (rulesOf c) c w best e end v a .best)
   unfolding transferCall
   transfer-is-shift =

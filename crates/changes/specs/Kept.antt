@@ -16,13 +16,14 @@ use Rattle.definitions.specs.Rules.{Rules}
 use Rattle.definitions.specs.Refusals.{Test, _when_, firstOf}
 use Rattle.definitions.specs.Answers.{outcomeOf, unlessRefused}
 use Rattle.definitions.specs.Case.{scopeCount, scopes, eachTuple, weight, greatest}
-use Rattle.definitions.specs.Valid.{workingWeight, limitTest, lengthTest}
-use Rattle.definitions.specs.Moves.{Difference, plus, onlyWhere, endVariable, endValue, shiftBy, pressAmount}
+use Rattle.definitions.specs.Valid.{limitTest, lengthTest}
+use Rattle.definitions.specs.Moves.{Difference, spared, plus, onlyWhere, endVariable, endValue, shiftBy, pressAmount}
 use Rattle.calls.specs.Calls.{shiftOut, isRaised}
 use Rattle.tables.specs.Scopes.{bestAt, writtenOver}
 use Rattle.marks.specs.Marks.{mark, byteOf}
+use Rattle.changes.specs.Spaced.{staysWith}
 
--- the scopes and the tuples that are touched, and what is added at each tuple
+-- the scopes and the tuples that are touched, and what is added at each tuple that is not barred
 pub record Change : Type 0 where
   pub inScope : ℕ → Bool
   pub touches : ℕ → ℕ → ℕ → Bool
@@ -58,15 +59,19 @@ loweringChange c w best raised i lowered a = record {
       +ℤ onlyWhere (isRaised raised x && not (isBest c w best x k l)) a;
 }
 
--- every tuple that is touched has a working weight then
+-- the table after it
+abbrev pub tableAfter : Case → List ℤ → Change → List ℤ
+tableAfter c w m = plus c (spared c w (m .adds)) w
+
+-- every tuple that is touched keeps its range
 abbrev pub staysWorking : Rules → Case → List ℤ → Change → Bool
 staysWorking r c w m =
-    all (λ x. all (λ b. b) (eachTuple c x (λ k l. m .touches x k l ⇒ workingWeight r (weight c w x k l +ℤ m .adds x k l)))) (scopes c)
+    all (λ x. all (λ b. b) (eachTuple c x (λ k l. m .touches x k l ⇒ staysWith r (weight c w x k l) (m .adds x k l)))) (scopes c)
 
 -- the scopes touched get their greatest weight, the other numbers stay
 abbrev pub bestAfter : Case → List ℤ → List ℤ → Change → List ℤ
 bestAfter c w best m =
-    writtenOver (map (λ x. if m .inScope x then greatest c (plus c (m .adds) w) x else bestAt best x) (scopes c)) best
+    writtenOver (map (λ x. if m .inScope x then greatest c (tableAfter c w m) x else bestAt best x) (scopes c)) best
 
 -- a call that changes a lent table and `best`
 pub record KeptCall : Type 0 where
@@ -77,7 +82,7 @@ pub record KeptCall : Type 0 where
 abbrev pub keptCall : Case → List ℤ → List ℤ → Change → Option Refusal → KeptCall
 keptCall c w best m refusal = record {
   answer = outcomeOf refusal;
-  table = unlessRefused refusal (plus c (m .adds) w) w;
+  table = unlessRefused refusal (tableAfter c w m) w;
   best = unlessRefused refusal (bestAfter c w best m) best;
 }
 
@@ -94,7 +99,7 @@ KeptBy r c w best m answer table after = KeptIs c w best m (staysWorking r c w m
 
 -- the change is made
 abbrev pub KeptMade : Case → List ℤ → List ℤ → Change → List ℤ → List ℤ → Type 0
-KeptMade c w best m table after = (table ≡ plus c (m .adds) w) × (after ≡ bestAfter c w best m)
+KeptMade c w best m table after = (table ≡ tableAfter c w m) × (after ≡ bestAfter c w best m)
 
 module _ (r : Rules) where
   -- numbers 3, 4, 5 and 11

@@ -1,23 +1,23 @@
 -- A scope's weights changed, each by its place in the scope and by whether it is the number kept for the scope; what is asked and added in a
 -- scope where values of a variable are lowered and scopes are raised. Assumes nothing.
 use mathlib.Core.Path.{_≡_}
-use mathlib.Core.Bool.{Bool, not, _||_}
+use mathlib.Core.Bool.{Bool, not, _&&_, _||_}
 use mathlib.Core.List.{List, map}
 use Prim.Native.Nat.{ℕ, _+_, _*_, _<_}
-use lib.IntN.{ℤ, pos, negℤ, _+ℤ_}
+use lib.IntN.{ℤ, pos, negℤ, _+ℤ_, _-ℤ_}
 use lib.Dec.{T, eqb}
+use lib.Signed.{leZ}
 use lib.ListN.{length, getD}
 use mir.Syntax.{w64}
 use mir.Val.{SFits}
-use Rattle.integers.specs.Words.{if_then_else_, _⇒_, below, all, eqZ}
+use Rattle.integers.specs.Words.{if_then_else_, _⇒_, below, all, minus, eqZ, withinZ}
 use Rattle.definitions.specs.declared.Case.{Case}
 use Rattle.definitions.specs.Rules.{Rules}
 use Rattle.definitions.specs.Case.{scopeCount, scopes, isVariable, lentLength, weight}
-use Rattle.definitions.specs.Valid.{workingWeight}
 use Rattle.definitions.specs.Moves.{Difference, onlyWhere}
 use Rattle.tables.specs.Scopes.{Limited, scopePart, bestAt}
 use Rattle.marks.specs.Marks.{mark}
-use Rattle.changes.specs.Spaced.{weightAt, amountWithin}
+use Rattle.changes.specs.Spaced.{amountWithin, weightAt, sparing, weightWith, staysWith}
 
 -- what the weight z at place p of a scope gets
 abbrev pub Amount : Type 0
@@ -40,11 +40,15 @@ AmountsFit by = (p : ℕ) (z : ℤ) → SFits w64 (by p z)
 
 -- the weight at a place, with what it gets
 abbrev pub weightAfter : Amount → List ℤ → ℕ → ℤ
-weightAfter by part p = weightAt part p +ℤ by p (weightAt part p)
+weightAfter by part p = weightWith (weightAt part p) (by p (weightAt part p))
 
--- they are working weights, they fit a machine word; all of them
+-- they keep their range, they fit a machine word; all of them
 abbrev pub partStays : Rules → Amount → List ℤ → Bool
-partStays r by part = all (λ p. workingWeight r (weightAfter by part p)) (below (length part))
+partStays r by part = all (λ p. staysWith r (weightAt part p) (by p (weightAt part p))) (below (length part))
+
+-- they are in their range with and without `rest`
+abbrev pub hasRoom : Rules → ℤ → List ℤ → Bool
+hasRoom r rest part = leZ (pos 0) rest && all (withinZ (minus (r .working)) (pos (r .working) -ℤ rest)) part
 
 abbrev pub PartFits : Amount → List ℤ → Type 0
 PartFits by part = (p : ℕ) → p < length part → SFits w64 (weightAfter by part p)
@@ -64,7 +68,7 @@ placeIn c x k l = if isVariable c x then k else k * c .d + l
 
 -- what the tuples of scope x get
 abbrev pub scopeBy : Case → List ℤ → ℕ → Amount → Difference
-scopeBy c w x by y k l = onlyWhere (eqb y x) (by (placeIn c x k l) (weight c w x k l))
+scopeBy c w x by y k l = onlyWhere (eqb y x) (sparing (weight c w x k l) (by (placeIn c x k l) (weight c w x k l)))
 
 -- ---- values of variable i lowered by a and raised scopes raised by a, in scope x whose byte is `mark`
 

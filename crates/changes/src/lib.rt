@@ -1,6 +1,8 @@
-// Weights changed on a table that was checked before, with a number for each scope, its greatest weight, kept in step. Inner functions, for
-// other crates: each asks only what is said at it, and none asks 6 to 10. Document 01's moves are `moves::shift` and `moves::press`.
+// Weights changed on a table that was checked before, with a number for each scope, its greatest weight, kept in step. Barred tuples stay as they
+// are. Inner functions, for other crates: each asks only what is said at it, and none asks 6 to 10. Document 01's moves are `moves::shift` and
+// `moves::press`.
 use definitions::Case;
+use definitions::EDGE_PLACES;
 use definitions::Outcome;
 use definitions::Refusal;
 use definitions::Rulebook;
@@ -9,22 +11,22 @@ ghost use mathlib.Core.Bool.{not, _||_};
 ghost use Prim.Native.Nat.{ℕ, _+_, _*_, _≤_, _<_};
 ghost use lib.Dec.{T, ltb, eqb};
 ghost use lib.ListN.{length, set};
-ghost use lib.IntN.{pos, _+ℤ_, _-ℤ_};
+ghost use lib.IntN.{pos};
 ghost use mir.Syntax.{w64};
 ghost use mir.Val.{SFits};
-ghost use Rattle.integers.specs.Words.{if_then_else_, eqZ, withinZ};
-ghost use Rattle.definitions.specs.Rules.{rulesIn, rulesOf, edgePlaces};
+ghost use Rattle.integers.specs.Words.{if_then_else_, all, eqZ, withinZ};
+ghost use Rattle.definitions.specs.Rules.{rulesIn, rulesOf};
 ghost use Rattle.definitions.specs.declared.Refusal.the-variants.{LeavesRange};
-ghost use Rattle.definitions.specs.Valid.{workingWeight};
-ghost use Rattle.definitions.specs.Moves.{shiftAmount, pressAmount, plus, endVariable, shiftBy};
+ghost use Rattle.definitions.specs.Moves.{shiftAmount, pressAmount, plus, endVariable};
 ghost use Rattle.calls.specs.Calls.{shiftOut};
 ghost use Rattle.definitions.specs.Case.{scopeCount, place, lentLength, greatest};
 ghost use Rattle.tables.specs.Scopes.{Limited, sizeOf, scopePart, bestAt};
 ghost use Rattle.marks.specs.Marks.{mark};
-ghost use Rattle.changes.specs.Spaced.{amountWithin, Inside, SumsFit, spacedStay, spacedAdd, transferStays, transferred};
-ghost use Rattle.changes.specs.Scopes.{raisedBy, loweredBy, Amounts, AmountsFit, PartFits, partStays, partAfter};
+ghost use Rattle.changes.specs.Spaced.{amountWithin, weightWith, staysWith};
+ghost use Rattle.changes.specs.Spaced.{Inside, SumsFit, spacedStay, spacedAdd, transferStays, transferred};
+ghost use Rattle.changes.specs.Scopes.{raisedBy, loweredBy, Amounts, AmountsFit, PartFits, partStays, hasRoom, partAfter};
 ghost use Rattle.changes.specs.Scopes.{InScope, scopeBy, valuesIn, restOf, isTouched, scopeGets, scopeLets, loweringLets};
-ghost use Rattle.changes.specs.Kept.{transferChange, loweringChange, staysWorking, KeptMade, KeptBy, Gives};
+ghost use Rattle.changes.specs.Kept.{transferChange, loweringChange, tableAfter, staysWorking, KeptMade, KeptBy, Gives};
 ghost use Rattle.changes.specs.Kept.{valuesWith, loweringOut, bestValues, transferCall, lowerAndRaiseCall};
 
 fn is_within(z: i64, low: i64, high: i64) -> bool
@@ -33,19 +35,33 @@ fn is_within(z: i64, low: i64, high: i64) -> bool
     low <= z && z <= high
 }
 
-// `by` added to the weight makes a working weight; nothing is added here, so that any weight can be asked.
+// The weight keeps its range with `by` added; nothing is added here, so that any weight can be asked.
 fn stays_with(rulebook: Rulebook, weight: i64, by: i64) -> bool
     requires { ⌜ T (amountWithin (rulesIn rulebook) by) ⌝ }
-    ensures { λ r. ⌜ r ≡ workingWeight (rulesIn rulebook) (weight +ℤ by) ⌝ }
+    ensures { λ r. ⌜ r ≡ staysWith (rulesIn rulebook) weight by ⌝ }
 {
     let low = rules::least_working(rulebook) - by;
     let high = rules::most_working(rulebook) - by;
-    is_within(weight, low, high)
+    if is_within(weight, low, high) {
+        return true;
+    }
+    rules::is_barred(weight)
+}
+
+// The weight with `by` added; a barred tuple's stays.
+fn weight_with(weight: i64, by: i64) -> i64
+    requires { ⌜ SFits w64 (weightWith weight by) ⌝ }
+    ensures { λ r. ⌜ r ≡ weightWith weight by ⌝ }
+{
+    if rules::is_barred(weight) {
+        return weight;
+    }
+    weight + by
 }
 
 // ---- weights that stand `step` apart
 
-// All are working weights with `by` added.
+// All keep their range with `by` added.
 fn spaced_stay(
     rulebook: Rulebook,
     table: &[i64],
@@ -76,7 +92,8 @@ fn spaced_add(table: &mut [i64], start: usize, step: usize, count: usize, by: i6
     let mut j: usize = 0;
     while j < count {
         let p = start + j * step;
-        table[p] = table[p] + by;
+        let weight = weight_with(table[p], by);
+        table[p] = weight;
         j += 1;
     }
 }
@@ -114,16 +131,6 @@ fn transfer_by(
     Outcome::Done
 }
 
-fn end_variable(case: Case, edge: usize, end: usize) -> usize
-    requires { ⌜ edge < edgePlaces ⌝ }
-    ensures { λ r. ⌜ r ≡ endVariable case edge end ⌝ }
-{
-    if end == 0 {
-        return integers::wide_size(case.lower[edge]);
-    }
-    integers::wide_size(case.upper[edge])
-}
-
 // The value's d tuples are one row at end 0, and one column at end 1.
 fn transfer_checked(
     case: Case,
@@ -139,7 +146,7 @@ fn transfer_checked(
     ensures { λ r. ⌜ r ≡ (if staysWorking (rulesOf case) case (now (table .entry)) (transferChange case edge end value amount)
         then Outcome.Done else Outcome.Refused LeavesRange) ⌝ }
     ensures { λ r. ⌜ now (table .exit) ≡ (if staysWorking (rulesOf case) case (now (table .entry)) (transferChange case edge end value amount)
-        then plus case (shiftBy case edge end value amount) (now (table .entry)) else now (table .entry)) ⌝ }
+        then tableAfter case (now (table .entry)) (transferChange case edge end value amount) else now (table .entry)) ⌝ }
 {
     let rulebook = case.rulebook;
     let d = case.d;
@@ -223,6 +230,32 @@ fn own_added(weight: i64, best: i64, rest: i64, values: u8, value: usize, amount
     by
 }
 
+fn all_within(part: &[i64], low: i64, high: i64) -> bool
+    ensures { λ r. ⌜ r ≡ all (withinZ low high) (now (part .entry)) ⌝ }
+{
+    let mut i: usize = 0;
+    while i < part.len() {
+        if !is_within(part[i], low, high) {
+            return false;
+        }
+        i += 1;
+    }
+    true
+}
+
+// The weights are in their range with and without `rest`: seldom false, and quicker to ask than which of them get it.
+fn has_room(rulebook: Rulebook, part: &[i64], rest: i64) -> bool
+    requires { ⌜ T (amountWithin (rulesIn rulebook) rest) ⌝ }
+    ensures { λ r. ⌜ r ≡ hasRoom (rulesIn rulebook) rest (now (part .entry)) ⌝ }
+{
+    if 0 <= rest {
+        let low = rules::least_working(rulebook);
+        let high = rules::most_working(rulebook) - rest;
+        return all_within(part, low, high);
+    }
+    false
+}
+
 fn raised_stays(rulebook: Rulebook, part: &[i64], best: i64, rest: i64) -> bool
     requires { ⌜ Amounts (rulesIn rulebook) (raisedBy best rest) ⌝ }
     ensures { λ r. ⌜ r ≡ partStays (rulesIn rulebook) (raisedBy best rest) (now (part .entry)) ⌝ }
@@ -272,17 +305,20 @@ fn part_stays(
     requires { ⌜ Amounts (rulesIn rulebook) (loweredBy values amount best rest) ⌝ }
     ensures { λ r. ⌜ r ≡ partStays (rulesIn rulebook) (loweredBy values amount best rest) (now (part .entry)) ⌝ }
 {
-    if values == 0 {
-        return raised_stays(rulebook, part, best, rest);
+    if values != 0 {
+        return own_stays(rulebook, part, best, rest, values, amount);
     }
-    own_stays(rulebook, part, best, rest, values, amount)
+    if has_room(rulebook, part, rest) {
+        return true;
+    }
+    raised_stays(rulebook, part, best, rest)
 }
 
 fn raised_weight(weight: i64, best: i64, rest: i64) -> i64
-    requires { ⌜ SFits w64 (weight +ℤ (if eqZ weight best then pos 0 else rest)) ⌝ }
-    ensures { λ r. ⌜ r ≡ weight +ℤ (if eqZ weight best then pos 0 else rest) ⌝ }
+    requires { ⌜ SFits w64 (weightWith weight (if eqZ weight best then pos 0 else rest)) ⌝ }
+    ensures { λ r. ⌜ r ≡ weightWith weight (if eqZ weight best then pos 0 else rest) ⌝ }
 {
-    weight + added(weight, best, rest)
+    weight_with(weight, added(weight, best, rest))
 }
 
 fn raise_part(part: &mut [i64], best: i64, rest: i64)
@@ -299,10 +335,10 @@ fn raise_part(part: &mut [i64], best: i64, rest: i64)
 
 fn own_weight(weight: i64, best: i64, rest: i64, values: u8, value: usize, amount: i64) -> i64
     requires { ⌜ SFits w64 (loweredBy values amount best rest value weight) ⌝ }
-    requires { ⌜ SFits w64 (weight +ℤ loweredBy values amount best rest value weight) ⌝ }
-    ensures { λ r. ⌜ r ≡ weight +ℤ loweredBy values amount best rest value weight ⌝ }
+    requires { ⌜ SFits w64 (weightWith weight (loweredBy values amount best rest value weight)) ⌝ }
+    ensures { λ r. ⌜ r ≡ weightWith weight (loweredBy values amount best rest value weight) ⌝ }
 {
-    weight + own_added(weight, best, rest, values, value, amount)
+    weight_with(weight, own_added(weight, best, rest, values, value, amount))
 }
 
 fn lower_part(part: &mut [i64], best: i64, rest: i64, values: u8, amount: i64)
@@ -351,7 +387,7 @@ fn size_of(case: Case, x: usize) -> usize
     case.d * case.d
 }
 
-// The scope has working weights with what each gets.
+// The scope's weights keep their range with what each gets.
 fn scope_stays(
     case: Case,
     table: &[i64],
@@ -602,6 +638,19 @@ fn lowering_kept(
 }
 
 // ---- the calls
+
+// The variable at that end of the edge; 0 where the case has no place for the edge.
+pub fn end_variable(case: Case, edge: usize, end: usize) -> usize
+    ensures { λ r. ⌜ r ≡ endVariable case edge end ⌝ }
+{
+    if EDGE_PLACES <= edge {
+        return 0;
+    }
+    if end == 0 {
+        return integers::wide_size(case.lower[edge]);
+    }
+    integers::wide_size(case.upper[edge])
+}
 
 // The edge, the end, the value or the amount is outside its range.
 pub fn transfer_out(case: Case, edge: usize, end: usize, value: usize, amount: i64) -> bool

@@ -1,6 +1,6 @@
 -- The numbers of a fresh record and of the end, and a record that is whole. Assumes nothing.
 use mathlib.Core.Path.{_≡_, sym, ap, _∙_}
-use mathlib.Core.Bool.{Bool, true, false, _||_}
+use mathlib.Core.Bool.{Bool, true, false}
 use mathlib.Core.Option.{Option, none, some}
 use mathlib.Core.List.{List, [], _∷_}
 use lib.IntN.{ℤ, pos}
@@ -13,7 +13,7 @@ use Rattle.definitions.specs.Refusals.{Test, _when_, firstOf}
 use Rattle.definitions.specs.Answers.{outcomeOf}
 use Rattle.definitions.specs.Case.{upperBound}
 use Rattle.definitions.specs.Valid.{startingWeight, workingWeight, limitTest, edgeTests, handedOver}
-use Rattle.theory.proofs.Validity.{Handed, handed, working-weights}
+use Rattle.theory.proofs.Validity.{Handed, handed, working-handed}
 use Rattle.theory.proofs.Replays.{none-iff}
 use Rattle.tables.specs.Scopes.{greatestSum}
 use Rattle.tables.proofs.Order.{outcome-done, outcome-refused, first-next, first-stops}
@@ -21,7 +21,7 @@ use Rattle.tables.proofs.Answered.{greatest-sum-known}
 use Rattle.checker.specs.declared.Standing.{Standing}
 use Rattle.checker.specs.declared.Replay.{Replay}
 use Rattle.checker.specs.declared.Progress.{Progress}
-use Rattle.checker.specs.Checker.{isHeld, freshOf, recordOut, freshReplay, endingTests}
+use Rattle.checker.specs.Checker.{isShort, freshOf, recordOut, freshReplay, endingTests}
 use Rattle.checker.specs.Taken.{goodReplay, freshFrom}
 
 -- ---- a fresh record
@@ -38,15 +38,7 @@ module _ (c : Case) (w : List ℤ) where
     pub fresh-handed : Handed (rulesOf c) (workingWeight (rulesOf c)) c w
     fresh-handed =
         let h = handed (rulesOf c) (startingWeight (rulesOf c)) c w false false .0 (none-iff asked .1 (outcome-done e)) .0 in
-        record {
-          variables-most = h .variables-most;
-          values-most = h .values-most;
-          edges-most = h .edges-most;
-          long = h .long;
-          shape = h .shape;
-          apart = h .apart;
-          in-range = working-weights (coherent (c .rulebook)) h;
-        }
+        working-handed (coherent (c .rulebook)) h
 
     pub fresh-good : freshFrom (greatestSum (rulesOf c) c w) ≡ freshReplay (rulesOf c) c w
     unfolding freshReplay
@@ -62,7 +54,7 @@ module _ (c : Case) (p : Replay) {out : Bool} {r : Outcome} (o : out ≡ recordO
   front = limitTest (rulesOf c) c ∷ edgeTests c (recordOut (rulesOf c) c p)
 
   abbrev cut : List Test
-  cut = CutShort when (isHeld (p .due) || p .moved) ∷ []
+  cut = CutShort when (isShort (p .due) (p .moved)) ∷ []
 
   answered : r ≡ outcomeOf (firstOf front)
   answered = e ∙ ap (λ (b : Bool). outcomeOf (firstOf (limitTest (rulesOf c) c ∷ edgeTests c b))) o
@@ -74,10 +66,10 @@ module _ (c : Case) (p : Replay) {out : Bool} {r : Outcome} (o : out ≡ recordO
     next : outcomeOf (firstOf cut) ≡ outcomeOf (firstOf (endingTests (rulesOf c) c p))
     next = ap outcomeOf (sym (first-next cut front (outcome-done (sym d ∙ answered))))
 
-    pub end-cut : (isHeld (p .due) || p .moved) ≡ true → Outcome.Refused CutShort ≡ outcomeOf (firstOf (endingTests (rulesOf c) c p))
+    pub end-cut : (isShort (p .due) (p .moved)) ≡ true → Outcome.Refused CutShort ≡ outcomeOf (firstOf (endingTests (rulesOf c) c p))
     end-cut b = ap (λ (k : Bool). outcomeOf (firstOf (CutShort when k ∷ []))) (sym b) ∙ next
 
-    pub end-done : (isHeld (p .due) || p .moved) ≡ false → Outcome.Done ≡ outcomeOf (firstOf (endingTests (rulesOf c) c p))
+    pub end-done : (isShort (p .due) (p .moved)) ≡ false → Outcome.Done ≡ outcomeOf (firstOf (endingTests (rulesOf c) c p))
     end-done b = ap (λ (k : Bool). outcomeOf (firstOf (CutShort when k ∷ []))) (sym b) ∙ next
 
 -- ---- the parts of a record that stands good make it whole

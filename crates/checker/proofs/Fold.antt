@@ -18,7 +18,7 @@ use Rattle.definitions.specs.declared.Case.{Case}
 use Rattle.definitions.specs.declared.Line.{Line}
 use Rattle.definitions.specs.declared.Outcome.{Outcome}
 use Rattle.definitions.specs.declared.Refusal.{Refusal}
-use Rattle.definitions.specs.Rules.{Rules, rulesOf}
+use Rattle.definitions.specs.Rules.{Rules, coherent, rulesOf}
 use Rattle.definitions.specs.Refusals.{firstOf}
 use Rattle.definitions.specs.Valid.{workingWeight}
 use Rattle.definitions.specs.Lines.{readLine, lineLength, linesIn, wholeLines}
@@ -196,7 +196,7 @@ module _ (c : Case) (w : List ℤ) (p : Replay) (t : List ℕ) (h : bytesPerLine
       × Handed (rulesOf c) (workingWeight (rulesOf c)) c v × T (not (recordOut (rulesOf c) c (goodReplay (k .progress) raised)))
   turn-done n e =
       let l = subst (Left (rulesOf c) c) (sym s)
-      (step-leaves (rulesOf c) c w p (take (bytesPerLine c) t) (ap (λ (x : StepCall). x .stepped .answer) (sym s) ∙ e)) in
+      (step-leaves (coherent (c .rulebook)) c w p (take (bytesPerLine c) t) (ap (λ (x : StepCall). x .stepped .answer) (sym s) ∙ e)) in
       let g = ap standingAfter e in (
         ap (moreBy n)
             (fold-done c w p t h (stepOf k raised v) (sym s) e

@@ -1,4 +1,4 @@
--- Numbers 2 to 8 of a line, and what is left of a step where none of them applies. Assumes nothing.
+-- Numbers 2 to 8 and 15 of a line, and what is left of a step where none of them applies. Assumes nothing.
 use mathlib.Core.Path.{_≡_, refl, sym, ap, _∙_}
 use mathlib.Core.Logic.{_≢_}
 use mathlib.Core.Bool.{Bool, true, false, not, _||_}
@@ -16,10 +16,11 @@ use Rattle.integers.specs.Options.{some-inj, none-some}
 use Rattle.definitions.specs.declared.Case.{Case}
 use Rattle.definitions.specs.declared.Line.{Line}
 use Rattle.definitions.specs.declared.Refusal.{Refusal}
-use Rattle.definitions.specs.declared.Refusal.the-variants.{NotDue, OutsideLimits, WrongLength, OutOfRange, EndsNotAscending, EdgeRepeated, WeightOutOfRange}
+use Rattle.definitions.specs.declared.Refusal.the-variants.{NotDue, OutsideLimits, WrongLength, OutOfRange, EndsNotAscending, EdgeRepeated}
+use Rattle.definitions.specs.declared.Refusal.the-variants.{WeightOutOfRange, ScopeBarred}
 use Rattle.definitions.specs.Rules.{Rules, rulesOf}
 use Rattle.definitions.specs.Refusals.{number, numberOf, _when_, firstOf}
-use Rattle.definitions.specs.Case.{lowerEnd, upperEnd, lentLength}
+use Rattle.definitions.specs.Case.{scopes, lowerEnd, upperEnd, lentLength, whollyBarred}
 use Rattle.definitions.specs.Valid.{workingWeight, allWeights, withinLimits, someEdge, endOutside, sameEnds, handedOver}
 use Rattle.definitions.specs.Lines.{notDue}
 use Rattle.theory.proofs.Validity.{Handed, handed}
@@ -58,43 +59,44 @@ good-known c w p = go (p .standing) refl
         (none-iff (firstOf (handedOver (rulesOf c) (workingWeight (rulesOf c)) c w false (recordOut (rulesOf c) c p))) .1 e) in
         (h, d, o)
 
--- numbers 3 to 8 by what each asks, and where 5 is asked of more
-abbrev eight : Bool → Bool → Bool → Bool → Bool → Bool → Bool → Option Refusal
-eight limits long out ends order again weights =
+-- numbers 3 to 8 and 15 by what each asks, and where 5 is asked of more
+abbrev numbers : Bool → Bool → Bool → Bool → Bool → Bool → Bool → Bool → Option Refusal
+numbers limits long out ends order again weights scopes =
     firstOf (
     OutsideLimits when limits ∷ WrongLength when long ∷ OutOfRange when (out || ends) ∷ EndsNotAscending when order
-    ∷ EdgeRepeated when again ∷ WeightOutOfRange when weights ∷ []
+    ∷ EdgeRepeated when again ∷ WeightOutOfRange when weights ∷ ScopeBarred when scopes ∷ []
     )
 
 module _ {x : Refusal} where
   never-some : (n : ℕ) (o : Option Refusal) → numberOf o ≡ n → o ≡ some x → number x ≢ n → ⊥
   never-some n o d e h = h (sym (ap numberOf e) ∙ d)
 
-  eight-long : (a b o l e k s w : Bool) → eight a b o e k s w ≡ some x → x ≡ WrongLength → eight a b (o || l) e k s w ≡ some x
-  eight-long true b o l e k s w d n = d
-  eight-long false true o l e k s w d n = d
-  eight-long false false true l e k s w d n = absurd (never-some 5 (some OutOfRange) refl d (λ m. let f = ap number n in omega arith))
-  eight-long false false false l true k s w d n = absurd (never-some 5 (some OutOfRange) refl d (λ m. let f = ap number n in omega arith))
-  eight-long false false false l false true s w d n = absurd (never-some 6 (some EndsNotAscending) refl d (λ m. let f = ap number n in omega arith))
-  eight-long false false false l false false true w d n = absurd (never-some 7 (some EdgeRepeated) refl d (λ m. let f = ap number n in omega arith))
-  eight-long false false false l false false false true d n = absurd (never-some 8 (some WeightOutOfRange) refl d (λ m. let f = ap number n in omega arith))
-  eight-long false false false l false false false false d n = absurd (none-some d)
+  numbers-long : (a b o l e k s w z : Bool) → numbers a b o e k s w z ≡ some x → x ≡ WrongLength → numbers a b (o || l) e k s w z ≡ some x
+  numbers-long true b o l e k s w z d n = d
+  numbers-long false true o l e k s w z d n = d
+  numbers-long false false true l e k s w z d n = absurd (never-some 5 (some OutOfRange) refl d (λ m. let f = ap number n in omega arith))
+  numbers-long false false false l true k s w z d n = absurd (never-some 5 (some OutOfRange) refl d (λ m. let f = ap number n in omega arith))
+  numbers-long false false false l false true s w z d n = absurd (never-some 6 (some EndsNotAscending) refl d (λ m. let f = ap number n in omega arith))
+  numbers-long false false false l false false true w z d n = absurd (never-some 7 (some EdgeRepeated) refl d (λ m. let f = ap number n in omega arith))
+  numbers-long false false false l false false false true z d n = absurd (never-some 8 (some WeightOutOfRange) refl d (λ m. let f = ap number n in omega arith))
+  numbers-long false false false l false false false false true d n = absurd (never-some 15 (some ScopeBarred) refl d (λ m. let f = ap number n in omega arith))
+  numbers-long false false false l false false false false false d n = absurd (none-some d)
 
-  eight-out : (a b o e k s w : Bool) → eight a b o e k s w ≡ some x → a ≡ false → x ≢ WrongLength → eight a b (o || true) e k s w ≡ some OutOfRange
-  eight-out true b o e k s w d f n = cc
-  eight-out false true o e k s w d f n = absurd (n (sym (some-inj d)))
-  eight-out false false true e k s w d f n = refl
-  eight-out false false false e k s w d f n = refl
+  numbers-out : (a b o e k s w z : Bool) → numbers a b o e k s w z ≡ some x → a ≡ false → x ≢ WrongLength → numbers a b (o || true) e k s w z ≡ some OutOfRange
+  numbers-out true b o e k s w z d f n = cc
+  numbers-out false true o e k s w z d f n = absurd (n (sym (some-inj d)))
+  numbers-out false false true e k s w z d f n = refl
+  numbers-out false false false e k s w z d f n = refl
 
-  eight-in : (a b o e k s w : Bool) → eight a b o e k s w ≡ some x → eight a b (o || false) e k s w ≡ some x
-  eight-in a b true e k s w d = d
-  eight-in a b false e k s w d = d
+  numbers-in : (a b o e k s w z : Bool) → numbers a b o e k s w z ≡ some x → numbers a b (o || false) e k s w z ≡ some x
+  numbers-in a b true e k s w z d = d
+  numbers-in a b false e k s w z d = d
 
 module _ (c : Case) (w : List ℤ) (p : Replay) (t : Line) where
   abbrev asked : Asked
   asked = ofDue (rulesOf c) c w p (p .due) t
 
-  -- numbers 3 to 8, and what each asks
+  -- numbers 3 to 8 and 15, and what each asks
   abbrev asked-of : Bool → Option Refusal
   asked-of out = firstOf (handedOver (rulesOf c) (workingWeight (rulesOf c)) c w false out)
 
@@ -115,6 +117,9 @@ module _ (c : Case) (w : List ℤ) (p : Replay) (t : Line) where
 
   abbrev weights : Bool
   weights = not (allWeights (workingWeight (rulesOf c)) c w)
+
+  abbrev shut : Bool
+  shut = any (whollyBarred c w) (scopes c)
 
   abbrev front : Option Refusal
   front = firstOf (frontTests c w p t)
@@ -139,17 +144,17 @@ module _ (c : Case) (w : List ℤ) (p : Replay) (t : Line) where
     -- where number x applies to what was handed over
     module _ {x : Refusal} (e : asked-of (recordOut (rulesOf c) c p) ≡ some x) where
       pub lent-length : x ≡ WrongLength → front ≡ some x
-      lent-length n = due-front ∙ eight-long unlimited unequal (recordOut (rulesOf c) c p) (asked .out) ends order again weights e n
+      lent-length n = due-front ∙ numbers-long unlimited unequal (recordOut (rulesOf c) c p) (asked .out) ends order again weights shut e n
 
       pub lent-out : withinLimits (rulesOf c) (c .n) (c .d) (c .m) ≡ true → x ≢ WrongLength → asked .out ≡ true → front ≡ some OutOfRange
       lent-out l n o =
           due-front ∙ ap (λ (b : Bool). asked-of (recordOut (rulesOf c) c p || b)) o
-          ∙ eight-out unlimited unequal (recordOut (rulesOf c) c p) ends order again weights e (ap not l) n
+          ∙ numbers-out unlimited unequal (recordOut (rulesOf c) c p) ends order again weights shut e (ap not l) n
 
       pub lent-first : asked .out ≡ false → front ≡ some x
       lent-first o =
           due-front ∙ ap (λ (b : Bool). asked-of (recordOut (rulesOf c) c p || b)) o
-          ∙ eight-in unlimited unequal (recordOut (rulesOf c) c p) ends order again weights e
+          ∙ numbers-in unlimited unequal (recordOut (rulesOf c) c p) ends order again weights shut e
 
   -- a record that is in range, on what was checked before
   module _ (h : Handed (rulesOf c) (workingWeight (rulesOf c)) c w) (r : T (not (recordOut (rulesOf c) c p)))

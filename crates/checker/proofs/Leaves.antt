@@ -1,6 +1,6 @@
 -- What a line that is done leaves: a checked case and table, and a record in range. It holds of every record, case and table. Assumes nothing.
-use mathlib.Core.Path.{_≡_, refl, _∙_}
-use mathlib.Core.Bool.{Bool, true, false, not, _||_}
+use mathlib.Core.Path.{_≡_, refl, ap, _∙_}
+use mathlib.Core.Bool.{Bool, true, false, not, _&&_, _||_}
 use mathlib.Core.Logic.{⊎-elim}
 use mathlib.Core.Option.{Option, none, some}
 use mathlib.Core.List.{List, [], _∷_, _++_}
@@ -11,48 +11,35 @@ use lib.Dec.{T, eqb, ltb, lt→ltb, ltb→lt}
 use lib.ListN.{drop, set, length-drop, length-replicate, getD-replicate}
 use lib.Seq.{getD-drop, drop-set-lt}
 use Rattle.integers.specs.Words.{if_then_else_, all, withinZ}
-use Rattle.integers.specs.Tests.{tests, either, is-true, is-false, and-iff, not-or-iff, not-not-iff, not-eqb-iff, if-false}
+use Rattle.integers.specs.Tests.{tests, either, is-true, is-false, false-is, not-or-iff, not-not-iff, not-eqb-iff, if-false}
 use Rattle.integers.specs.Tables.{all-getD}
 use Rattle.definitions.specs.declared.Case.{Case}
 use Rattle.definitions.specs.declared.Line.{Line}
 use Rattle.definitions.specs.declared.Outcome.{Outcome}
 use Rattle.definitions.specs.declared.Refusal.{Refusal}
-use Rattle.definitions.specs.declared.Refusal.the-variants.{NotDue, LeavesRange}
-use Rattle.definitions.specs.Rules.{Rules, scopePlaces}
+use Rattle.definitions.specs.declared.Refusal.the-variants.{NotDue, RaiseNotAscending, NotRefuted, LeavesRange}
+use Rattle.definitions.specs.Rules.{Rules, Coherent, scopePlaces}
 use Rattle.definitions.specs.Refusals.{Test, _when_, firstOf}
 use Rattle.definitions.specs.Case.{scopeCount}
-use Rattle.definitions.specs.Valid.{workingWeight, allWeights, handedOver}
-use Rattle.definitions.specs.Moves.{Difference, plus, shiftBy, pressBy, activeValues, leavesRange, pressAmount}
-use Rattle.definitions.specs.Lines.{readLine, notDue, isKind}
+use Rattle.definitions.specs.Valid.{workingWeight, handedOver}
+use Rattle.definitions.specs.Consistency.{allRefuted}
+use Rattle.definitions.specs.Moves.{shiftBy, pressBy, activeValues, leavesRange}
+use Rattle.definitions.specs.Replay.{beginOut}
+use Rattle.definitions.specs.Lines.{readLine, notDue, isKind, outside}
 use Rattle.calls.specs.Calls.{isRaised}
-use Rattle.theory.proofs.Places.{all-weights, plus-length}
-use Rattle.theory.proofs.Validity.{Handed}
+use Rattle.theory.proofs.Validity.{Handed, handed-spared}
 use Rattle.theory.proofs.Replays.{inside}
-use Rattle.case_theory.proofs.CaseTests.{passes}
 use Rattle.checker.specs.declared.LastRaised.{LastRaised}
+use Rattle.checker.specs.declared.Target.{Target}
 use Rattle.checker.specs.declared.Due.{Due}
 use Rattle.checker.specs.declared.Standing.{Standing}
 use Rattle.checker.specs.declared.Replay.{Replay}
-use Rattle.checker.specs.Checker.{StepCall, Asked, noneRaised, dueKinds, dueOut, recordOut, ofShift, ofPress}
-use Rattle.checker.specs.Checker.{ofBound, ofRaise, ofDue, stepBy, stepTests, stepLine, stepStanding, stepReplay}
+use Rattle.checker.specs.Checker.{StepCall, Asked, noneRaised, notAboveLast, dueKinds, targetOut, dueOut, recordOut, afterTarget, ofShift, ofBegin}
+use Rattle.checker.specs.Taken.{stepTaken}
+use Rattle.checker.specs.Checker.{targetTable, lastTests, ofBound, ofRaise, ofDue, stepBy, stepTests, stepLine, stepStanding, stepReplay}
 use Rattle.checker.proofs.Numbers.{count-in-range}
 use Rattle.checker.proofs.Front.{neither, lent-known}
-
--- a table that is changed and does not leave the range
-pub handed-plus : {r : Rules} {c : Case} {w : List ℤ} (δ : Difference) → Handed r (workingWeight r) c w → T (not (leavesRange r c (plus c δ w)))
-    → Handed r (workingWeight r) c (plus c δ w)
-handed-plus {r} {c} {w} δ k t =
-    let e = plus-length c δ w (let e = k .long in omega arith) in
-    record {
-      variables-most = k .variables-most;
-      values-most = k .values-most;
-      edges-most = k .edges-most;
-      long = e ∙ k .long;
-      shape = k .shape;
-      apart = k .apart;
-      in-range = all-weights c (workingWeight r) (plus c δ w) (let f = k .long in omega arith) .0
-          (not-not-iff (allWeights (workingWeight r) c (plus c δ w)) .0 t);
-    }
+use Rattle.checker.proofs.LineKinds.{twice-not, nothing-due}
 
 never : {x : Refusal} → Outcome.Refused x ≡ Outcome.Done → ⊥
 never {x} e = let z : _≡_ {A = ℕ} 0 1 = cc in omega arith
@@ -71,7 +58,8 @@ pub record Left (r : Rules) (c : Case) (call : StepCall) : Type 0 where
   pub record-in : T (not (recordOut r c (call .stepped .replay)))
   pub good : call .stepped .replay .standing ≡ Standing.Good
 
-module _ {r : Rules} (c : Case) (w : List ℤ) (p : Replay) (h : Handed r (workingWeight r) c w) (known : T (not (recordOut r c p))) where
+module _ {r : Rules} (coherent : Coherent r) (c : Case) (w : List ℤ) (p : Replay) (h : Handed r (workingWeight r) c w)
+    (known : T (not (recordOut r c p))) where
   few : T (not (ltb (r .rounds) (p .rounds)))
   few = not-or-iff (ltb (r .rounds) (p .rounds)) (dueOut r c (p .raised) (p .due)) .0 known .0
 
@@ -88,31 +76,22 @@ module _ {r : Rules} (c : Case) (w : List ℤ) (p : Replay) (h : Handed r (worki
 
   after-shift : (t : Line) → After (ofShift r c w p t)
   after-shift t o e = record {
-    handed-over = handed-plus (shiftBy c (natAbs (t .a)) (natAbs (t .b)) (natAbs (t .c)) (t .amount)) h
-        (neither (leavesRange r c (ofShift r c w p t .table)) LeavesRange none e .0);
+    handed-over = handed-spared coherent (shiftBy c (natAbs (t .a)) (natAbs (t .b)) (natAbs (t .c)) (t .amount)) h
+        (neither (leavesRange r c w (ofShift r c w p t .table)) LeavesRange none e .0);
     record-in = not-or-iff (ltb (r .rounds) (p .rounds)) false .1 (few, tt);
     good = refl;
   }
 
-  after-press : (t : Line) → After (ofPress r c w p t)
-  after-press t o e =
-      let ((a, b), m) = simp not-or-iff at o in
+  after-begin : (target : Target) (t : Line) → After (ofBegin r c w p target t)
+  after-begin target t o e =
+      let (q, m) = not-or-iff (beginOut c t) (targetOut r target) .0 o in
+      let (a, b) = not-or-iff (outside (c .n) (t .a)) (not (withinZ (pos 1) (pos (scopeCount c - 1)) (t .b))) .0 q in
       let (from-0, least, most) = count-in-range (scopeCount c - 1) (t .b) (not-not-iff (withinZ (pos 1) (pos (scopeCount c - 1)) (t .b)) .0 b) in
       record {
         handed-over = h;
         record-in = simp (not-or-iff, not-not-iff) (
           few,
-          (
-            (
-              (
-                (lt→ltb (natAbs (t .a)) (c .n) (inside (c .n) (t .a) a), not-not-iff (pressAmount r (t .amount)) .0 m),
-                simp tests
-                    (least, most),
-              ),
-              tt,
-            ),
-            none-past,
-          ),
+          ((((lt→ltb (natAbs (t .a)) (c .n) (inside (c .n) (t .a) a), m), simp tests (least, most)), tt), none-past),
         );
         good = refl;
       }
@@ -125,23 +104,31 @@ module _ {r : Rules} (c : Case) (w : List ℤ) (p : Replay) (h : Handed r (worki
     good = refl;
   }
 
-  module _ (i : ℕ) (a : ℤ) (left : ℕ) (lastOne : LastRaised) (d : p .due ≡ Due.Raise i a left lastOne) where
-    -- what the press begun is known to be
-    pub held : (i < c .n) × T (pressAmount r a) × (1 ≤ left) × (left ≤ scopeCount c - 1) × T (all (λ b. eqb b 0) (drop (scopeCount c) (p .raised)))
+  module _ (i : ℕ) (target : Target) (left : ℕ) (lastOne : LastRaised) (d : p .due ≡ Due.Raise i target left lastOne) where
+    -- what the press or the void line begun is known to be
+    pub held : (i < c .n) × T (not (targetOut r target)) × (1 ≤ left) × (left ≤ scopeCount c - 1)
+        × T (all (λ b. eqb b 0) (drop (scopeCount c) (p .raised)))
     held =
         let u = not-or-iff (ltb (r .rounds) (p .rounds)) (dueOut r c (p .raised) (p .due)) .0 known .1 in
         let ((((x, m), l), o), z) = simp (not-or-iff, not-not-iff) at (rw d at u) in
         let (least, most) = simp tests at l in
         (ltb→lt i (c .n) x, m, least, most, z)
 
-    after-raise : (t : Line) → After (ofRaise r c w p i a left lastOne t)
+    -- with its last raise line
+    after-target : (raised : List ℕ) (target : Target) → firstOf (lastTests r c w i raised target) ≡ none
+        → Left r c (stepTaken (afterTarget p target) (targetTable r c w i raised target))
+    after-target raised (Target.Press a) e = record {
+      handed-over = handed-spared coherent (pressBy c w i (activeValues c w i) (isRaised raised) a) h
+          (neither (leavesRange r c w (targetTable r c w i raised (Target.Press a))) LeavesRange none e .0);
+      record-in = not-or-iff (ltb (r .rounds) (p .rounds)) false .1 (few, tt);
+      good = refl;
+    }
+    after-target raised Target.Void e =
+        record { handed-over = h; record-in = not-or-iff (ltb (r .rounds) (p .rounds)) false .1 (few, tt); good = refl }
+
+    after-raise : (t : Line) → After (ofRaise r c w p i target left lastOne t)
     after-raise t o e = ⊎-elim
-        (λ l. rw (is-true (eqb left 1) l) (record {
-          handed-over = handed-plus (pressBy c w i (activeValues c w i) (isRaised (set (p .raised) (natAbs (t .a)) 1)) a) h
-              (rw (is-true (eqb left 1) l) at ((simp and-iff at (passes (ofRaise r c w p i a left lastOne t .later) .0 e)) .1 .1 .0));
-          record-in = not-or-iff (ltb (r .rounds) (p .rounds)) false .1 (few, tt);
-          good = refl;
-        }))
+        (λ l. rw (is-true (eqb left 1) l) (after-target (set (p .raised) (natAbs (t .a)) 1) target (rw (is-true (eqb left 1) l) at (later e))))
         (λ l. rw (is-false (eqb left 1) l) (
         let (x, m, least, most, z) = held in
         let below = inside (scopeCount c) (t .a) o in
@@ -161,18 +148,27 @@ module _ {r : Rules} (c : Case) (w : List ℤ) (p : Replay) (h : Handed r (worki
           good = refl;
         }))
         (either (eqb left 1))
+      where
+        -- numbers 9 and 10 do not apply
+        later : firstOf (ofRaise r c w p i target left lastOne t .later) ≡ none
+            → firstOf (if eqb left 1 then lastTests r c w i (set (p .raised) (natAbs (t .a)) 1) target else []) ≡ none
+        later e = neither (eqb left 1 && not (allRefuted c w (isRaised (set (p .raised) (natAbs (t .a)) 1)) i (activeValues c w i))) NotRefuted _
+            (neither (notAboveLast lastOne (natAbs (t .a)) || eqb (natAbs (t .a)) i) RaiseNotAscending _ e .1) .1
 
-  after-kind : (due : Due) → p .due ≡ due → (t : Line) → After (ofDue r c w p due t)
-  after-kind (Due.Raise i a left lastOne) d t = after-raise i a left lastOne d t
-  after-kind Due.MoveOrBound d t = go (isKind 1 t) (isKind 2 t)
+  after-kind : (due : Due) → p .due ≡ due → (t : Line) → notDue r (dueKinds due) t ≡ false → After (ofDue r c w p due t)
+  after-kind (Due.Raise i target left lastOne) d t n = after-raise i target left lastOne d t
+  after-kind Due.MoveOrBound d t n = go (isKind 1 t) (isKind 2 t) (isKind 4 t)
     where
-      go : (x y : Bool) → After (if x then ofShift r c w p t else if y then ofPress r c w p t else ofBound r c w p t)
-      go true y = after-shift t
-      go false true = after-press t
-      go false false = after-bound t
+      go : (x y z : Bool) → After (if x then ofShift r c w p t else if y then ofBegin r c w p (Target.Press (t .amount)) t
+          else if z then ofBound r c w p t else ofBegin r c w p Target.Void t)
+      go true y z = after-shift t
+      go false true z = after-begin (Target.Press (t .amount)) t
+      go false false true = after-bound t
+      go false false false = after-begin Target.Void t
+  after-kind Due.Nothing d t n = let z : true ≡ false = ap not (nothing-due coherent t) ∙ twice-not (notDue r [] t) ∙ n in absurd (false-is true z)
 
 -- a line of any bytes that is done
-module _ (r : Rules) (c : Case) (w : List ℤ) (p : Replay) where
+module _ {r : Rules} (coherent : Coherent r) (c : Case) (w : List ℤ) (p : Replay) where
   line-leaves : (t : Option Line) → stepLine r c w p t .stepped .answer ≡ Outcome.Done → Left r c (stepLine r c w p t)
   line-leaves none e = absurd (never e)
   line-leaves (some t) e = go (firstOf (stepTests r c w p t asked)) refl e
@@ -189,7 +185,7 @@ module _ (r : Rules) (c : Case) (w : List ℤ) (p : Replay) where
           let (u, g) = neither (notDue r (dueKinds (p .due)) t) NotDue
           (firstOf (handedOver r (workingWeight r) c w false (recordOut r c p || asked .out))) f in
           let (h, k, o) = lent-known r c w p (asked .out) g in
-          after-kind c w p h k (p .due) refl t o l
+          after-kind coherent c w p h k (p .due) refl t (is-false (notDue r (dueKinds (p .due)) t) u) o l
 
   pub step-leaves : (t : List ℕ) → stepReplay r c w p t .stepped .answer ≡ Outcome.Done → Left r c (stepReplay r c w p t)
   unfolding stepReplay

@@ -26,9 +26,11 @@ use Rattle.definitions.specs.Case.{scopeCount, upperBound}
 use Rattle.definitions.specs.Lines.{readLine}
 use Rattle.calls.specs.Calls.{shiftOut, readLineAnswer}
 use Rattle.definitions.specs.Moves.{shiftAmount}
+use Rattle.definitions.specs.Replay.{beginOut}
 use Rattle.theory.proofs.Replays.{inside}
 use Rattle.tables.proofs.Order.{outcome-done, outcome-refused}
 use Rattle.checker.specs.declared.LastRaised.{LastRaised}
+use Rattle.checker.specs.declared.Target.{Target}
 use Rattle.checker.specs.declared.Due.{Due}
 use Rattle.checker.specs.declared.Standing.{Standing}
 use Rattle.checker.specs.declared.Replay.{Replay}
@@ -39,9 +41,8 @@ use Rattle.checker.specs.Checker.{
   noneRaised,
   notAboveLast,
   inPress,
-  afterPress,
   ofShift,
-  ofPress,
+  ofBegin,
   ofBound,
   ofRaise,
   stepRefused,
@@ -135,23 +136,21 @@ module _ (b : Bool) where
       told true e = cc
       told false e = refl
 
--- ---- the line that begins a press
+-- ---- the line that begins a press or a void line
 
-pub press-counts : (c : Case) (w : List ℤ) (p : Replay) (t : Line) → T (not (ofPress (rulesOf c) c w p t .out)) → (ltZ (t .a) (pos 0) ≡ false)
-    × (ltZ (t .b) (pos 0) ≡ false)
-press-counts c w p t o =
-    let ((a, b), m) = simp not-or-iff at o in
+pub begin-counts : (c : Case) (t : Line) → T (not (beginOut c t)) → (ltZ (t .a) (pos 0) ≡ false) × (ltZ (t .b) (pos 0) ≡ false)
+begin-counts c t o =
+    let (a, b) = simp not-or-iff at o in
     (inside-from-zero (c .n) (t .a) a, count-in-range (scopeCount c - 1) (t .b) (not-not-iff (withinZ (pos 1) (pos (scopeCount c - 1)) (t .b)) .0 b) .0)
 
-pub press-begun : (c : Case) (w : List ℤ) (q : Progress) (raised : List ℕ) (t : Line) {i n : ℕ} {a : ℤ} {none : List ℕ} → i ≡ natAbs (t .a)
-    → a ≡ t .amount → n ≡ natAbs (t .b) → none ≡ noneRaised
-    → goodReplay (record { rounds = q .rounds; start = q .start; moved = q .moved; due = Due.Raise i a n LastRaised.Nothing }) none
-    ≡ ofPress (rulesOf c) c w (goodReplay q raised) t .next
-press-begun c w q raised t {n} {a} {none} d e f g =
-    ap (λ (i : ℕ). inPress (goodReplay q raised) none (Due.Raise i a n LastRaised.Nothing)) d
-    ∙ ap (λ (a : ℤ). inPress (goodReplay q raised) none (Due.Raise (natAbs (t .a)) a n LastRaised.Nothing)) e
-    ∙ ap (λ (n : ℕ). inPress (goodReplay q raised) none (Due.Raise (natAbs (t .a)) (t .amount) n LastRaised.Nothing)) f
-    ∙ ap (λ (l : List ℕ). inPress (goodReplay q raised) l (Due.Raise (natAbs (t .a)) (t .amount) (natAbs (t .b)) LastRaised.Nothing)) g
+pub begin-record : (c : Case) (w : List ℤ) (q : Progress) (raised : List ℕ) (target : Target) (t : Line) {i n : ℕ} {none : List ℕ} → i ≡ natAbs (t .a)
+    → n ≡ natAbs (t .b) → none ≡ noneRaised
+    → goodReplay (record { rounds = q .rounds; start = q .start; moved = q .moved; due = Due.Raise i target n LastRaised.Nothing }) none
+    ≡ ofBegin (rulesOf c) c w (goodReplay q raised) target t .next
+begin-record c w q raised target t {n} {none} d f g =
+    ap (λ (i : ℕ). inPress (goodReplay q raised) none (Due.Raise i target n LastRaised.Nothing)) d
+    ∙ ap (λ (n : ℕ). inPress (goodReplay q raised) none (Due.Raise (natAbs (t .a)) target n LastRaised.Nothing)) f
+    ∙ ap (λ (l : List ℕ). inPress (goodReplay q raised) l (Due.Raise (natAbs (t .a)) target (natAbs (t .b)) LastRaised.Nothing)) g
 
 -- ---- a raise line
 
@@ -159,47 +158,43 @@ same-step : (w : List ℤ) (p : Replay) (a b : Asked) (o : Option Refusal) → a
 same-step w p a b none d e = rw (d, e)
 same-step w p a b (some x) d e = refl
 
-module _ (c : Case) (w : List ℤ) (p : Replay) (i : ℕ) (a : ℤ) (left : ℕ) (lastOne : LastRaised) (t : Line) where
-  pub raise-below : notAboveLast lastOne (natAbs (t .a)) ≡ true → firstOf (ofRaise (rulesOf c) c w p i a left lastOne t .later) ≡ some RaiseNotAscending
+module _ (c : Case) (w : List ℤ) (p : Replay) (i : ℕ) (target : Target) (left : ℕ) (lastOne : LastRaised) (t : Line) where
+  pub raise-below : notAboveLast lastOne (natAbs (t .a)) ≡ true → firstOf (ofRaise (rulesOf c) c w p i target left lastOne t .later) ≡ some RaiseNotAscending
   raise-below e = rw e
 
   module _ (above : notAboveLast lastOne (natAbs (t .a)) ≡ false) where
-    pub raise-own : eqb (natAbs (t .a)) i ≡ true → firstOf (ofRaise (rulesOf c) c w p i a left lastOne t .later) ≡ some RaiseNotAscending
+    pub raise-own : eqb (natAbs (t .a)) i ≡ true → firstOf (ofRaise (rulesOf c) c w p i target left lastOne t .later) ≡ some RaiseNotAscending
     raise-own e = rw (above, e)
 
     module _ (other : eqb (natAbs (t .a)) i ≡ false) where
-      pub raise-last : eqb left 1 ≡ true → lastStep c w p i a (natAbs (t .a)) ≡ stepNext w p (ofRaise (rulesOf c) c w p i a left lastOne t)
+      pub raise-last : eqb left 1 ≡ true → lastStep c w p i target (natAbs (t .a)) ≡ stepNext w p (ofRaise (rulesOf c) c w p i target left lastOne t)
       raise-last e =
-          let k = lastAsked c w p i a (natAbs (t .a)) in
-          let m = ofRaise (rulesOf c) c w p i a left lastOne t in
+          let k = lastAsked c w p i target (natAbs (t .a)) in
+          let m = ofRaise (rulesOf c) c w p i target left lastOne t in
           let o : firstOf (k .later) ≡ firstOf (m .later) = rw (above, other, e) in
           let u : k .table ≡ m .table = rw e in
           let n : k .next ≡ m .next = rw e in
           ap (stepBy w p k) o ∙ same-step w p k m (firstOf (m .later)) u n
 
-      pub raise-more : eqb left 1 ≡ false → firstOf (ofRaise (rulesOf c) c w p i a left lastOne t .later) ≡ none
+      pub raise-more : eqb left 1 ≡ false → firstOf (ofRaise (rulesOf c) c w p i target left lastOne t .later) ≡ none
       raise-more e = rw (above, other, e)
 
 -- a scope raised, and lines left
-module _ (c : Case) (w : List ℤ) (q : Progress) (raised : List ℕ) (i : ℕ) (a : ℤ) (left : ℕ) (lastOne : LastRaised) (t : Line) (e : eqb left 1 ≡ false) where
-  pub raise-table : w ≡ ofRaise (rulesOf c) c w (goodReplay q raised) i a left lastOne t .table
+module _ (c : Case) (w : List ℤ) (q : Progress) (raised : List ℕ) (i : ℕ) (target : Target) (left : ℕ) (lastOne : LastRaised) (t : Line)
+    (e : eqb left 1 ≡ false) where
+  pub raise-table : w ≡ ofRaise (rulesOf c) c w (goodReplay q raised) i target left lastOne t .table
   raise-table = rw e
 
-  pub raise-record : {x : ℕ} {b : ℤ} → x ≡ natAbs (t .a) → b ≡ a
-      → goodReplay (record { rounds = q .rounds; start = q .start; moved = q .moved; due = Due.Raise i b (left - 1) (LastRaised.Scope x) }) (set raised x 1)
-      ≡ ofRaise (rulesOf c) c w (goodReplay q raised) i a left lastOne t .next
-  raise-record {x} {b} d f =
-      ap (λ (x : ℕ). inPress (goodReplay q raised) (set raised x 1) (Due.Raise i b (left - 1) (LastRaised.Scope x))) d
-      ∙ ap (λ (b : ℤ). inPress (goodReplay q raised) (set raised (natAbs (t .a)) 1) (Due.Raise i b (left - 1) (LastRaised.Scope (natAbs (t .a))))) f
-      ∙ rw e
+  pub raise-record : {x : ℕ} → x ≡ natAbs (t .a)
+      → goodReplay (record { rounds = q .rounds; start = q .start; moved = q .moved; due = Due.Raise i target (left - 1) (LastRaised.Scope x) })
+      (set raised x 1)
+      ≡ ofRaise (rulesOf c) c w (goodReplay q raised) i target left lastOne t .next
+  raise-record {x} d =
+      ap (λ (x : ℕ). inPress (goodReplay q raised) (set raised x 1) (Due.Raise i target (left - 1) (LastRaised.Scope x))) d ∙ rw e
 
--- the record after a press: no scope is marked
+-- after the last raise line no scope is marked
 pub cleared : (raised : List ℕ) (x : ℕ) (l : List ℕ) → length raised ≡ scopePlaces → l ≡ replicate (length (set raised x 1)) 0 → l ≡ noneRaised
 cleared raised x l h e = e ∙ ap (λ (n : ℕ). replicate n 0) (length-set raised x 1 ∙ h)
-
-pub press-over : (q : Progress) (raised l : List ℕ) → l ≡ noneRaised
-    → goodReplay (record { rounds = q .rounds; start = q .start; moved = true; due = Due.MoveOrBound }) l ≡ afterPress (goodReplay q raised)
-press-over q raised l e = ap (goodReplay (record { rounds = q .rounds; start = q .start; moved = true; due = Due.MoveOrBound })) e
 
 -- a byte put back
 pub put-back : (l : List ℕ) (x v : ℕ) → set (set l x v) x (getD l x 0) ≡ l

@@ -8,7 +8,7 @@ use lib.IntN.{ℤ, pos, natAbs}
 use lib.Dec.{leb, ltb, eqb}
 use lib.Signed.{ltZ}
 use lib.ListN.{drop, set, replicate}
-use Rattle.integers.specs.Words.{if_then_else_, all, within, withinZ, eqZ}
+use Rattle.integers.specs.Words.{if_then_else_, all, within, eqZ}
 use Rattle.definitions.specs.declared.Case.{Case}
 use Rattle.definitions.specs.declared.Line.{Line}
 use Rattle.definitions.specs.declared.Refusal.{Refusal}
@@ -21,9 +21,12 @@ use Rattle.definitions.specs.declared.Refusal.the-variants.{
   OtherBound,
   BoundNotLower,
   CutShort,
+  NotAllBarred,
 }
 use Rattle.definitions.specs.declared.Outcome.{Outcome}
+use Rattle.definitions.specs.declared.Judgement.{Judgement}
 use Rattle.checker.specs.declared.LastRaised.{LastRaised}
+use Rattle.checker.specs.declared.Target.{Target}
 use Rattle.checker.specs.declared.Due.{Due}
 use Rattle.checker.specs.declared.Standing.{Standing}
 use Rattle.checker.specs.declared.Replay.{Replay}
@@ -35,7 +38,8 @@ use Rattle.definitions.specs.Answers.{Says, outcomeOf}
 use Rattle.definitions.specs.Case.{scopeCount, upperBound}
 use Rattle.definitions.specs.Valid.{startingWeight, workingWeight, limitTest, edgeTests, handedOver}
 use Rattle.definitions.specs.Consistency.{allRefuted}
-use Rattle.definitions.specs.Moves.{plus, shiftBy, pressBy, shiftAmount, pressAmount, activeValues, leavesRange}
+use Rattle.definitions.specs.Moves.{plus, shiftBy, pressBy, spared, shiftAmount, pressAmount, activeValues, leavesRange}
+use Rattle.definitions.specs.Replay.{beginOut, allBarred}
 use Rattle.definitions.specs.Lines.{readLine, notDue, isKind, outside, wholeLines, linesIn}
 use Rattle.calls.specs.Calls.{isRaised}
 
@@ -84,12 +88,25 @@ notAboveLast LastRaised.Nothing x = false
 notAboveLast (LastRaised.Scope y) x = leb x y
 
 abbrev pub dueKinds : Due → List ℕ
-dueKinds Due.MoveOrBound = 1 ∷ 2 ∷ 4 ∷ []
-dueKinds (Due.Raise i a left lastOne) = 3 ∷ []
+dueKinds Due.MoveOrBound = 1 ∷ 2 ∷ 4 ∷ 5 ∷ []
+dueKinds (Due.Raise i target left lastOne) = 3 ∷ []
+dueKinds Due.Nothing = []
 
-abbrev pub isHeld : Due → Bool
-isHeld Due.MoveOrBound = false
-isHeld (Due.Raise i a left lastOne) = true
+-- at the end: a press or a void line is held, or a move has no bound line after it; a whole void line asks none
+abbrev pub isShort : Due → Bool → Bool
+isShort Due.MoveOrBound moved = moved
+isShort (Due.Raise i target left lastOne) moved = true
+isShort Due.Nothing moved = false
+
+-- a void line is whole
+abbrev pub isVoid : Due → Bool
+isVoid Due.Nothing = true
+isVoid Due.MoveOrBound = false
+isVoid (Due.Raise i target left lastOne) = false
+
+-- the judgement of a log with no number, by the record and the table after it
+abbrev pub goodIn : Case → Replay → List ℤ → Judgement
+goodIn c p w = if isVoid (p .due) then Judgement.Void else Judgement.Accepted (p .rounds) (upperBound c w)
 
 abbrev pub freshOf : Option Refusal → ℤ → Replay
 freshOf none bound = record {
@@ -109,7 +126,7 @@ freshOf (some x) bound = record {
   standing = Standing.Refused x;
 }
 
--- ---- the next record: after a shift, inside a press, after a bound line, refused
+-- ---- the next record: after a shift, inside a press or a void line, after its last raise line, after a bound line, refused
 
 abbrev pub refusedReplay : Replay → Refusal → Replay
 refusedReplay p x = record {
@@ -152,6 +169,21 @@ afterPress p = record {
   standing = Standing.Good;
 }
 
+-- nothing is due any more, nothing raised
+abbrev pub afterVoidLine : Replay → Replay
+afterVoidLine p = record {
+  rounds = p .rounds;
+  start = p .start;
+  moved = p .moved;
+  raised = noneRaised;
+  due = Due.Nothing;
+  standing = Standing.Good;
+}
+
+abbrev pub afterTarget : Replay → Target → Replay
+afterTarget p (Target.Press a) = afterPress p
+afterTarget p Target.Void = afterVoidLine p
+
 abbrev pub afterBoundLine : Replay → ℤ → Replay
 afterBoundLine p bound = record {
   rounds = p .rounds + 1;
@@ -190,12 +222,17 @@ noLine w p none = record { block = record { replay = p; lines = 0; answer = Outc
 noLine w p (some x) = record { block = record { replay = refusedReplay p x; lines = 0; answer = Outcome.Refused x }; table = w }
 
 module _ (r : Rules) where
-  -- number 5 of what is due: inside a press its variable, amount, lines left, last scope, and every scope raised
+  -- number 5 of what is due: inside a press or a void line its variable, amount, lines left, last scope, and every scope raised
+  abbrev pub targetOut : Target → Bool
+  targetOut (Target.Press a) = not (pressAmount r a)
+  targetOut Target.Void = false
+
   abbrev pub dueOut : Case → List ℕ → Due → Bool
   dueOut c raised Due.MoveOrBound = false
-  dueOut c raised (Due.Raise i a left lastOne) =
-      not (ltb i (c .n)) || not (pressAmount r a) || not (within 1 (scopeCount c - 1) left) || lastOut c lastOne
+  dueOut c raised (Due.Raise i target left lastOne) =
+      not (ltb i (c .n)) || targetOut target || not (within 1 (scopeCount c - 1) left) || lastOut c lastOne
       || not (all (λ b. eqb b 0) (drop (scopeCount c) raised))
+  dueOut c raised Due.Nothing = false
 
   abbrev pub recordOut : Case → Replay → Bool
   recordOut c p = ltb (r .rounds) (p .rounds) || dueOut c (p .raised) (p .due)
@@ -209,20 +246,21 @@ module _ (r : Rules) where
 
   abbrev pub ofShift : Case → List ℤ → Replay → Line → Asked
   ofShift c w p t =
-      let v = plus c (shiftBy c (natAbs (t .a)) (natAbs (t .b)) (natAbs (t .c)) (t .amount)) w in
+      let v = plus c (spared c w (shiftBy c (natAbs (t .a)) (natAbs (t .b)) (natAbs (t .c)) (t .amount))) w in
       record {
         out = outside (c .m) (t .a) || outside 2 (t .b) || outside (c .d) (t .c) || not (shiftAmount r (t .amount));
-        later = LeavesRange when (leavesRange r c v) ∷ [];
+        later = LeavesRange when (leavesRange r c w v) ∷ [];
         table = v;
         next = afterShift p;
       }
 
-  abbrev pub ofPress : Case → List ℤ → Replay → Line → Asked
-  ofPress c w p t = record {
-    out = outside (c .n) (t .a) || not (withinZ (pos 1) (pos (scopeCount c - 1)) (t .b)) || not (pressAmount r (t .amount));
+  -- a press or a void line is begun
+  abbrev pub ofBegin : Case → List ℤ → Replay → Target → Line → Asked
+  ofBegin c w p target t = record {
+    out = beginOut c t || targetOut target;
     later = [];
     table = w;
-    next = inPress p noneRaised (Due.Raise (natAbs (t .a)) (t .amount) (natAbs (t .b)) LastRaised.Nothing);
+    next = inPress p noneRaised (Due.Raise (natAbs (t .a)) target (natAbs (t .b)) LastRaised.Nothing);
   }
 
   abbrev pub ofBound : Case → List ℤ → Replay → Line → Asked
@@ -236,30 +274,43 @@ module _ (r : Rules) where
     next = afterBoundLine p (t .amount);
   }
 
-  -- a raise line of a press of variable i by a, with `left` lines left
-  abbrev pub ofRaise : Case → List ℤ → Replay → ℕ → ℤ → ℕ → LastRaised → Line → Asked
-  ofRaise c w p i a left lastOne t =
+  -- the last raise line: the table after a press, and 11 of it; 16 of a void line
+  abbrev pub targetTable : Case → List ℤ → ℕ → List ℕ → Target → List ℤ
+  targetTable c w i raised (Target.Press a) = plus c (spared c w (pressBy c w i (activeValues c w i) (isRaised raised) a)) w
+  targetTable c w i raised Target.Void = w
+
+  abbrev pub lastTests : Case → List ℤ → ℕ → List ℕ → Target → List Test
+  lastTests c w i raised (Target.Press a) = LeavesRange when (leavesRange r c w (targetTable c w i raised (Target.Press a))) ∷ []
+  lastTests c w i raised Target.Void = NotAllBarred when (not (allBarred c w i (activeValues c w i) (isRaised raised))) ∷ []
+
+  -- a raise line of a press or a void line of variable i, with `left` lines left
+  abbrev pub ofRaise : Case → List ℤ → Replay → ℕ → Target → ℕ → LastRaised → Line → Asked
+  ofRaise c w p i target left lastOne t =
       let x = natAbs (t .a) in
       let raised = set (p .raised) x 1 in
       let isLast = eqb left 1 in
-      let v = plus c (pressBy c w i (activeValues c w i) (isRaised raised) a) w in
       record {
         out = outside (scopeCount c) (t .a);
         later =
             RaiseNotAscending when (notAboveLast lastOne x || eqb x i)
             ∷ NotRefuted when (isLast && not (allRefuted c w (isRaised raised) i (activeValues c w i)))
-            ∷ LeavesRange when (isLast && leavesRange r c v)
-            ∷ [];
-        table = if isLast then v else w;
-        next = if isLast then afterPress p else inPress p raised (Due.Raise i a (left - 1) (LastRaised.Scope x));
+            ∷ (if isLast then lastTests c w i raised target else []);
+        table = if isLast then targetTable c w i raised target else w;
+        next = if isLast then afterTarget p target else inPress p raised (Due.Raise i target (left - 1) (LastRaised.Scope x));
       }
 
+  -- with nothing due number 2 applies to every line, so that the rest is never asked
+  abbrev pub ofNothing : List ℤ → Replay → Asked
+  ofNothing w p = record { out = false; later = []; table = w; next = p }
+
   abbrev pub ofDue : Case → List ℤ → Replay → Due → Line → Asked
-  ofDue c w p (Due.Raise i a left lastOne) t = ofRaise c w p i a left lastOne t
+  ofDue c w p (Due.Raise i target left lastOne) t = ofRaise c w p i target left lastOne t
   ofDue c w p Due.MoveOrBound t =
       if isKind 1 t then ofShift c w p t
-      else if isKind 2 t then ofPress c w p t
-      else ofBound c w p t
+      else if isKind 2 t then ofBegin c w p (Target.Press (t .amount)) t
+      else if isKind 4 t then ofBound c w p t
+      else ofBegin c w p Target.Void t
+  ofDue c w p Due.Nothing t = ofNothing w p
 
   -- ---- step: the answer is the next record's standing; a refused step changes the standing alone
 
@@ -282,10 +333,11 @@ module _ (r : Rules) where
   unfoldable pub stepReplay : Case → List ℤ → Replay → List ℕ → StepCall
   stepReplay c w p bytes = stepStanding c w p bytes (p .standing)
 
-  -- ---- end: the number that stands, else 3, 5, 6, 7, else 14 if a press is held or a move has no bound line after it
+  -- ---- end: the number that stands, else 3, 5, 6, 7, else 14 if a press or a void line is held or a move has no bound line after it; after a
+  -- whole void line there is no 14
 
   abbrev pub endingTests : Case → Replay → List Test
-  endingTests c p = limitTest r c ∷ edgeTests c (recordOut c p) ++ (CutShort when (isHeld (p .due) || p .moved) ∷ [])
+  endingTests c p = limitTest r c ∷ edgeTests c (recordOut c p) ++ (CutShort when (isShort (p .due) (p .moved)) ∷ [])
 
   abbrev pub endStanding : Case → Replay → Standing → Outcome
   endStanding c p (Standing.Refused x) = Outcome.Refused x
@@ -322,7 +374,7 @@ module _ (r : Rules) where
         table = afterLines b lines .table;
       }
 
-  -- ---- a block: the fold over its whole lines; with none, the number that stands, else 3 to 8 of what was handed over
+  -- ---- a block: the fold over its whole lines; with none, the number that stands, else 3 to 8 and 15 of what was handed over
 
   abbrev pub lentStanding : Case → List ℤ → Replay → Standing → Option Refusal
   lentStanding c w p (Standing.Refused x) = some x

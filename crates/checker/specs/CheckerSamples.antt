@@ -18,6 +18,7 @@ use Rattle.definitions.specs.Programs.{bytesOf}
 use Rattle.definitions.specs.Samples.{Input, given, Question, bound-of, run-of, replay-of, all-active, press-on, replay-on, Result}
 use Rattle.definitions.specs.Samples.{replayed, samples, ourSamples, answer, triangle, clash, texts, log1, log6, zeros}
 use Rattle.checker.specs.declared.LastRaised.{LastRaised}
+use Rattle.checker.specs.declared.Target.{Target}
 use Rattle.checker.specs.declared.Due.{Due}
 use Rattle.checker.specs.declared.Standing.{Standing}
 use Rattle.checker.specs.declared.Replay.{Replay}
@@ -86,7 +87,7 @@ inside i a left last marks = record {
   start = pos 4;
   moved = true;
   raised = marksOf marks;
-  due = Due.Raise i a left last;
+  due = Due.Raise i (Target.Press a) left last;
   standing = Standing.Good;
 }
 
@@ -132,7 +133,7 @@ pub refused-keeps : onClash (inside 0 (pos 1) 2 (LastRaised.Scope 2) (0 ∷ 0 �
       start = pos 4;
       moved = true;
       raised = marksOf (0 ∷ 0 ∷ 1 ∷ []);
-      due = Due.Raise 0 (pos 1) 2 (LastRaised.Scope 2);
+      due = Due.Raise 0 (Target.Press (pos 1)) 2 (LastRaised.Scope 2);
       standing = Standing.Refused RaiseNotAscending;
     }
 unfolding stepReplay
@@ -240,7 +241,7 @@ pub no-line-keeps : blockReplay (rulesIn Desk) (clash .case) (zeros 7) (inside 0
           start = pos 4;
           moved = true;
           raised = marksOf (0 ∷ 0 ∷ 1 ∷ []);
-          due = Due.Raise 0 (pos 1) 2 (LastRaised.Scope 2);
+          due = Due.Raise 0 (Target.Press (pos 1)) 2 (LastRaised.Scope 2);
           standing = Standing.Refused WrongLength;
         };
         lines = 0;

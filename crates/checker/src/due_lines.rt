@@ -10,7 +10,7 @@ ghost use Rattle.definitions.specs.Lines.{notDue};
 ghost use Rattle.checker.specs.Checker.{dueKinds};
 
 fn move_due(line: Line) -> bool
-    ensures { λ r. ⌜ ((b : Rulebook) → r ≡ not (notDue (rulesIn b) (1 ∷ 2 ∷ 4 ∷ []) line)) ⌝ }
+    ensures { λ r. ⌜ ((b : Rulebook) → r ≡ not (notDue (rulesIn b) (1 ∷ 2 ∷ 4 ∷ 5 ∷ []) line)) ⌝ }
 {
     if line.kind == 1 {
         return true;
@@ -20,6 +20,9 @@ fn move_due(line: Line) -> bool
     }
     if line.kind == 4 {
         return (line.a == 0) & (line.b == 0) & (line.c == 0);
+    }
+    if line.kind == 5 {
+        return (line.c == 0) & (line.amount == 0);
     }
     false
 }
@@ -37,9 +40,10 @@ pub(crate) fn is_due(due: Due, line: Line) -> bool
         Due::MoveOrBound => move_due(line),
         Due::Raise {
             variable: _,
-            amount: _,
+            target: _,
             left: _,
             last: _,
         } => raise_due(line),
+        Due::Nothing => false,
     }
 }

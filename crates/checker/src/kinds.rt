@@ -1,9 +1,10 @@
-// What each kind of line does, where none of its numbers up to 8 applies.
+// What each kind of line does, where none of its numbers up to 15 applies.
 use crate::Due;
 use crate::LastRaised;
 use crate::Progress;
 use crate::Replay;
 use crate::Taken;
+use crate::Target;
 use crate::columns::index;
 use crate::presses::raise_line;
 use crate::records::after_bound;
@@ -31,7 +32,7 @@ ghost use Rattle.definitions.specs.Case.{upperBound};
 ghost use Rattle.definitions.specs.Valid.{workingWeight};
 ghost use Rattle.theory.proofs.Validity.{Handed};
 ghost use Rattle.tables.specs.Scopes.{BestOf};
-ghost use Rattle.checker.specs.Checker.{recordOut, ofShift, ofPress, ofBound, ofDue};
+ghost use Rattle.checker.specs.Checker.{recordOut, ofShift, ofBegin, ofBound, ofDue};
 ghost use Rattle.checker.specs.Taken.{goodReplay, stepOf, stepNext};
 
 fn shift_made(case: Case, table: &mut [i64], best: &mut [i64], line: Line) -> Outcome
@@ -75,24 +76,23 @@ fn shift_line(
     }
 }
 
-// A press is begun.
-fn press_line(raised: &mut [u8], progress: Progress, line: Line) -> Taken
+// A press or a void line is begun.
+fn begin_line(raised: &mut [u8], progress: Progress, target: Target, line: Line) -> Taken
     requires { ⌜ length (now raised) ≡ scopePlaces ⌝ }
     requires { ⌜ (ltZ (line .a) (pos 0) ≡ false) × (ltZ (line .b) (pos 0) ≡ false) ⌝ }
     ensures { λ r. ⌜
         ((c : Case) (w : List ℤ)
         → stepOf r (now (raised .exit)) w
-        ≡ stepNext w (goodReplay progress (now (raised .entry))) (ofPress (rulesOf c) c w (goodReplay progress (now (raised .entry))) line)) ⌝ }
+        ≡ stepNext w (goodReplay progress (now (raised .entry))) (ofBegin (rulesOf c) c w (goodReplay progress (now (raised .entry))) target line)) ⌝ }
 {
     clear(raised);
     let variable = index(line.a);
     let left = index(line.b);
-    let amount = line.amount;
     with_due(
         progress,
         Due::Raise {
             variable,
-            amount,
+            target,
             left,
             last: LastRaised::Nothing,
         },
@@ -148,9 +148,12 @@ fn move_line(
         return shift_line(case, table, best, progress, line);
     }
     if line.kind == 2 {
-        return press_line(raised, progress, line);
+        return begin_line(raised, progress, Target::Press(line.amount), line);
     }
-    bound_line(case, best, progress, line)
+    if line.kind == 4 {
+        return bound_line(case, best, progress, line);
+    }
+    begin_line(raised, progress, Target::Void, line)
 }
 
 // A line that is due and in range.
@@ -177,7 +180,7 @@ pub(crate) fn take_line(
         Due::MoveOrBound => move_line(case, table, best, raised, progress, line),
         Due::Raise {
             variable,
-            amount,
+            target,
             left,
             last,
         } => raise_line(
@@ -187,10 +190,11 @@ pub(crate) fn take_line(
             raised,
             progress,
             variable,
-            amount,
+            target,
             left,
             last,
             line,
         ),
+        Due::Nothing => with_due(progress, Due::Nothing),
     }
 }

@@ -27,23 +27,31 @@ ghost use Rattle.definitions.specs.Rules.{rulesOf};
 ghost use Rattle.definitions.specs.Refusals.{firstOf};
 ghost use Rattle.definitions.specs.Answers.{outcomeOf};
 ghost use Rattle.checker.specs.Taken.{freshFrom};
-ghost use Rattle.checker.specs.Checker.{freshReplay, stepReplay, endReplay, blockReplay, isHeld, endingTests};
+ghost use Rattle.checker.specs.Checker.{freshReplay, stepReplay, endReplay, blockReplay, isShort, endingTests};
 
-// The last scope that a press has raised.
+// The last scope that a press or a void line has raised.
 pub enum LastRaised {
     Nothing,
     Scope(usize),
 }
 
-// What the replay's record says is due: a move or bound line, or a raise line of a press begun.
+// What the last raise line completes: a press by an amount, or a void line.
+pub enum Target {
+    Press(i64),
+    Void,
+}
+
+// What the replay's record says is due: a move, a bound line or a void line; a raise line of a press or a void line begun; after a whole void
+// line nothing.
 pub enum Due {
     MoveOrBound,
     Raise {
         variable: usize,
-        amount: i64,
+        target: Target,
         left: usize,
         last: LastRaised,
     },
+    Nothing,
 }
 
 // Whether a number has been given to a line yet.
@@ -52,7 +60,7 @@ pub enum Standing {
     Refused(Refusal),
 }
 
-// The replay's record. `raised` has a byte for each scope, 0 where the press begun has not raised it.
+// The replay's record. `raised` has a byte for each scope, 0 where the press or void line begun has not raised it.
 pub struct Replay {
     pub rounds: u64,
     pub start: i64,
@@ -89,7 +97,7 @@ struct Taken {
     answer: Outcome,
 }
 
-// What is left of a press after some of its raise lines: lines, the lowest scope above the raised ones, and where the next line begins.
+// What is left of a press or a void line after some of its raise lines: lines, the lowest scope above the raised ones, and where the next line begins.
 struct Raises {
     left: usize,
     next: usize,
@@ -103,17 +111,18 @@ struct Place {
     done: usize,
 }
 
-fn is_held(due: Due) -> bool
-    ensures { λ r. ⌜ r ≡ isHeld due ⌝ }
+fn is_short(due: Due, moved: bool) -> bool
+    ensures { λ r. ⌜ r ≡ isShort due moved ⌝ }
 {
     match due {
-        Due::MoveOrBound => false,
+        Due::MoveOrBound => moved,
         Due::Raise {
             variable: _,
-            amount: _,
+            target: _,
             left: _,
             last: _,
         } => true,
+        Due::Nothing => false,
     }
 }
 
@@ -130,10 +139,7 @@ fn end_good(replay: Replay, case: Case) -> Outcome
     match checked {
         Outcome::Refused(refusal) => Outcome::Refused(refusal),
         Outcome::Done => {
-            if is_held(due) {
-                return Outcome::Refused(Refusal::CutShort);
-            }
-            if replay.moved {
+            if is_short(due, replay.moved) {
                 return Outcome::Refused(Refusal::CutShort);
             }
             Outcome::Done

@@ -1,8 +1,9 @@
-// A raise line, and the press with its last one.
+// A raise line, and the press or the void line with its last one.
 use crate::Due;
 use crate::LastRaised;
 use crate::Progress;
 use crate::Taken;
+use crate::Target;
 use crate::columns::index;
 use crate::records::after_move;
 use crate::records::clear;
@@ -15,7 +16,9 @@ use definitions::Refusal;
 use definitions::Verdict;
 ghost use mathlib.Core.Path.{_≡_};
 ghost use mathlib.Core.Bool.{not};
-ghost use Prim.Native.Nat.{_≤_, _<_};
+ghost use mathlib.Core.List.{List};
+ghost use Prim.Native.Nat.{ℕ, _≤_, _<_};
+ghost use lib.IntN.{ℤ};
 ghost use lib.Dec.{T};
 ghost use lib.ListN.{length};
 ghost use Rattle.definitions.specs.Rules.{rulesOf, scopePlaces};
@@ -30,8 +33,8 @@ ghost use Rattle.calls.specs.Calls.{isRaised};
 ghost use Rattle.theory.proofs.Validity.{Handed};
 ghost use Rattle.tables.specs.Scopes.{BestOf};
 ghost use Rattle.changes.specs.Kept.{MarksOf};
-ghost use Rattle.checker.specs.Checker.{notAboveLast, ofRaise};
-ghost use Rattle.checker.specs.Taken.{goodReplay, stepOf, stepNext, pressed, rangeTests, wholeTests, lastStep};
+ghost use Rattle.checker.specs.Checker.{noneRaised, notAboveLast, targetOut, afterTarget, targetTable, lastTests, ofRaise};
+ghost use Rattle.checker.specs.Taken.{goodReplay, stepOf, stepTaken, stepNext, TargetTaken, wholeTests, lastStep};
 
 fn not_above(last: LastRaised, x: usize) -> bool
     ensures { λ r. ⌜ r ≡ notAboveLast last x ⌝ }
@@ -77,41 +80,84 @@ fn press_made(
     requires { ⌜ BestOf case (now table) (now best) ⌝ }
     requires { ⌜ (length (now raised) ≡ scopePlaces) × (variable < case .n) × T (pressAmount (rulesOf case) amount) ⌝ }
     requires { ⌜ MarksOf case (activeValues case (now table) variable) values ⌝ }
-    ensures { λ r. ⌜ (r ≡ outcomeOf (firstOf (rangeTests case (pressed case (now (table .entry)) variable (now (raised .entry)) amount))))
-        × (now (table .exit)
-        ≡ unlessRefused (firstOf (rangeTests case (pressed case (now (table .entry)) variable (now (raised .entry)) amount)))
-        (pressed case (now (table .entry)) variable (now (raised .entry)) amount) (now (table .entry))) ⌝ }
+    ensures { λ r. ⌜ TargetTaken case (now (table .entry)) variable (now (raised .entry)) (Target.Press amount) r (now (table .exit)) ⌝ }
     ensures { λ r. ⌜ BestOf case (now (table .exit)) (now (best .exit)) ⌝ }
 {
     changes::lower_and_raise(case, table, best, raised, variable, values, amount)
 }
 
-// The press with its raised scopes, unless number 10 or 11 applies.
-fn press_whole(
+// A void line with its raised scopes, unless number 16 applies.
+fn void_made(case: Case, table: &[i64], best: &[i64], raised: &[u8], variable: usize) -> Outcome
+    requires { ⌜ Handed (rulesOf case) (workingWeight (rulesOf case)) case (now table) ⌝ }
+    requires { ⌜ BestOf case (now table) (now best) ⌝ }
+    requires { ⌜ (length (now raised) ≡ scopePlaces) × (variable < case .n) ⌝ }
+    ensures { λ r. ⌜ r ≡ outcomeOf (firstOf (lastTests (rulesOf case) case (now (table .entry)) variable (now (raised .entry)) Target.Void)) ⌝ }
+{
+    if bars::rest_barred(case, table, best, raised, variable) {
+        return Outcome::Done;
+    }
+    Outcome::Refused(Refusal::NotAllBarred)
+}
+
+fn target_made(
     case: Case,
     table: &mut [i64],
     best: &mut [i64],
     raised: &[u8],
     variable: usize,
-    amount: i64,
+    values: u8,
+    target: Target,
 ) -> Outcome
     requires { ⌜ Handed (rulesOf case) (workingWeight (rulesOf case)) case (now table) ⌝ }
     requires { ⌜ BestOf case (now table) (now best) ⌝ }
-    requires { ⌜ (length (now raised) ≡ scopePlaces) × (variable < case .n) × T (pressAmount (rulesOf case) amount) ⌝ }
-    ensures { λ r. ⌜ (r ≡ outcomeOf (firstOf (wholeTests case (now (table .entry)) variable (now (raised .entry)) amount)))
+    requires { ⌜ (length (now raised) ≡ scopePlaces) × (variable < case .n) × T (not (targetOut (rulesOf case) target)) ⌝ }
+    requires { ⌜ MarksOf case (activeValues case (now table) variable) values ⌝ }
+    ensures { λ r. ⌜ TargetTaken case (now (table .entry)) variable (now (raised .entry)) target r (now (table .exit)) ⌝ }
+    ensures { λ r. ⌜ BestOf case (now (table .exit)) (now (best .exit)) ⌝ }
+{
+    match target {
+        Target::Press(amount) => press_made(case, table, best, raised, variable, values, amount),
+        Target::Void => void_made(case, table, best, raised, variable),
+    }
+}
+
+// The press or the void line with its raised scopes, unless number 10, 16 or 11 applies.
+fn target_whole(
+    case: Case,
+    table: &mut [i64],
+    best: &mut [i64],
+    raised: &[u8],
+    variable: usize,
+    target: Target,
+) -> Outcome
+    requires { ⌜ Handed (rulesOf case) (workingWeight (rulesOf case)) case (now table) ⌝ }
+    requires { ⌜ BestOf case (now table) (now best) ⌝ }
+    requires { ⌜ (length (now raised) ≡ scopePlaces) × (variable < case .n) × T (not (targetOut (rulesOf case) target)) ⌝ }
+    ensures { λ r. ⌜ (r ≡ outcomeOf (firstOf (wholeTests case (now (table .entry)) variable (now (raised .entry)) target)))
         × (now (table .exit)
-        ≡ unlessRefused (firstOf (wholeTests case (now (table .entry)) variable (now (raised .entry)) amount))
-        (pressed case (now (table .entry)) variable (now (raised .entry)) amount) (now (table .entry))) ⌝ }
+        ≡ unlessRefused (firstOf (wholeTests case (now (table .entry)) variable (now (raised .entry)) target))
+        (targetTable (rulesOf case) case (now (table .entry)) variable (now (raised .entry)) target) (now (table .entry))) ⌝ }
     ensures { λ r. ⌜ BestOf case (now (table .exit)) (now (best .exit)) ⌝ }
 {
     let values = changes::best_values(case, table, best, variable);
     if !all_refuted(case, table, best, raised, variable, values) {
         return Outcome::Refused(Refusal::NotRefuted);
     }
-    press_made(case, table, best, raised, variable, values, amount)
+    target_made(case, table, best, raised, variable, values, target)
 }
 
-// The press's last raise line, of scope x.
+fn after_target(progress: Progress, target: Target) -> Taken
+    ensures { λ r. ⌜
+        ((raised : List ℕ) (w : List ℤ)
+        → stepOf r noneRaised w ≡ stepTaken (afterTarget (goodReplay progress raised) target) w) ⌝ }
+{
+    match target {
+        Target::Press(_) => after_move(progress),
+        Target::Void => with_due(progress, Due::Nothing),
+    }
+}
+
+// The last raise line, of scope x.
 fn last_raise(
     case: Case,
     table: &mut [i64],
@@ -119,19 +165,19 @@ fn last_raise(
     raised: &mut [u8],
     progress: Progress,
     variable: usize,
-    amount: i64,
+    target: Target,
     x: usize,
 ) -> Taken
     requires { ⌜ Handed (rulesOf case) (workingWeight (rulesOf case)) case (now table) ⌝ }
     requires { ⌜ BestOf case (now table) (now best) ⌝ }
-    requires { ⌜ (length (now raised) ≡ scopePlaces) × (variable < case .n) × T (pressAmount (rulesOf case) amount) × (x < scopePlaces) ⌝ }
+    requires { ⌜ (length (now raised) ≡ scopePlaces) × (variable < case .n) × T (not (targetOut (rulesOf case) target)) × (x < scopePlaces) ⌝ }
     ensures { λ r. ⌜ stepOf r (now (raised .exit)) (now (table .exit))
-        ≡ lastStep case (now (table .entry)) (goodReplay progress (now (raised .entry))) variable amount x ⌝ }
+        ≡ lastStep case (now (table .entry)) (goodReplay progress (now (raised .entry))) variable target x ⌝ }
     ensures { λ r. ⌜ BestOf case (now (table .exit)) (now (best .exit)) ⌝ }
 {
     let before = raised[x];
     raised[x] = 1;
-    let made = press_whole(case, table, best, raised, variable, amount);
+    let made = target_whole(case, table, best, raised, variable, target);
     match made {
         Outcome::Refused(refusal) => {
             raised[x] = before;
@@ -139,7 +185,7 @@ fn last_raise(
         }
         Outcome::Done => {
             clear(raised);
-            after_move(progress)
+            after_target(progress, target)
         }
     }
 }
@@ -151,18 +197,18 @@ pub(crate) fn raise_line(
     raised: &mut [u8],
     progress: Progress,
     variable: usize,
-    amount: i64,
+    target: Target,
     left: usize,
     last: LastRaised,
     line: Line,
 ) -> Taken
     requires { ⌜ Handed (rulesOf case) (workingWeight (rulesOf case)) case (now table) ⌝ }
     requires { ⌜ BestOf case (now table) (now best) ⌝ }
-    requires { ⌜ (length (now raised) ≡ scopePlaces) × (variable < case .n) × T (pressAmount (rulesOf case) amount) × (1 ≤ left) ⌝ }
+    requires { ⌜ (length (now raised) ≡ scopePlaces) × (variable < case .n) × T (not (targetOut (rulesOf case) target)) × (1 ≤ left) ⌝ }
     requires { ⌜ T (not (outside (scopeCount case) (line .a))) ⌝ }
     ensures { λ r. ⌜ stepOf r (now (raised .exit)) (now (table .exit))
         ≡ stepNext (now (table .entry)) (goodReplay progress (now (raised .entry)))
-        (ofRaise (rulesOf case) case (now (table .entry)) (goodReplay progress (now (raised .entry))) variable amount left last line) ⌝ }
+        (ofRaise (rulesOf case) case (now (table .entry)) (goodReplay progress (now (raised .entry))) variable target left last line) ⌝ }
     ensures { λ r. ⌜ BestOf case (now (table .exit)) (now (best .exit)) ⌝ }
 {
     let x = index(line.a);
@@ -173,14 +219,14 @@ pub(crate) fn raise_line(
         return refused(progress, Refusal::RaiseNotAscending);
     }
     if left == 1 {
-        return last_raise(case, table, best, raised, progress, variable, amount, x);
+        return last_raise(case, table, best, raised, progress, variable, target, x);
     }
     raised[x] = 1;
     with_due(
         progress,
         Due::Raise {
             variable,
-            amount,
+            target,
             left: left - 1,
             last: LastRaised::Scope(x),
         },

@@ -1,9 +1,10 @@
-// Raise lines of a press that are taken together, its last excepted.
+// Raise lines of a press or a void line that are taken together, its last excepted.
 use crate::Due;
 use crate::LastRaised;
 use crate::Place;
 use crate::Progress;
 use crate::Raises;
+use crate::Target;
 use crate::records::with_due;
 use definitions::Case;
 use definitions::Rulebook;
@@ -13,7 +14,6 @@ ghost use mathlib.Core.Path.{_≡_};
 ghost use mathlib.Core.Bool.{not, false};
 ghost use mathlib.Core.Option.{some};
 ghost use Prim.Native.Nat.{ℕ, _+_, _-_, _≤_, _<_};
-ghost use lib.IntN.{ℤ};
 ghost use lib.Dec.{T};
 ghost use lib.ListN.{length, drop};
 ghost use Rattle.definitions.specs.Rules.{rulesIn, rulesOf, scopePlaces};
@@ -52,9 +52,9 @@ fn raise_lines(
     requires { ⌜ (length (now raised) ≡ scopePlaces) × (scopes ≤ scopePlaces) × (from ≤ length (now bytes)) ⌝ }
     ensures { λ r. ⌜ (r .left ≤ left) × (left + from ≤ r .left + r .from) × (r .from ≤ length (now (bytes .entry))) ⌝ }
     ensures { λ r. ⌜
-        ((q : Progress) (a : ℤ) (n : ℕ)
-        → Onward (lineLength (rulesIn rulebook .amountWidth)) scopes n (raisingProgress q variable a left next) (now (raised .entry))
-        (drop from (now (bytes .entry))) (n + (left - r .left)) (raisingProgress q variable a (r .left) (r .next)) (now (raised .exit))
+        ((q : Progress) (target : Target) (n : ℕ)
+        → Onward (lineLength (rulesIn rulebook .amountWidth)) scopes n (raisingProgress q variable target left next) (now (raised .entry))
+        (drop from (now (bytes .entry))) (n + (left - r .left)) (raisingProgress q variable target (r .left) (r .next)) (now (raised .exit))
         (drop (r .from) (now (bytes .entry)))) ⌝ }
 {
     let line = rules::line_length(rulebook);
@@ -110,13 +110,13 @@ fn last_of(next: usize) -> LastRaised
     LastRaised::Scope(next - 1)
 }
 
-// The raise lines of a press begun, its last excepted.
-fn press_on(
+// The raise lines of a press or a void line begun, its last excepted.
+fn held_on(
     case: Case,
     raised: &mut [u8],
     progress: Progress,
     variable: usize,
-    amount: i64,
+    target: Target,
     left: usize,
     last: LastRaised,
     bytes: &[u8],
@@ -125,9 +125,9 @@ fn press_on(
 ) -> Place
     requires { ⌜ Limited case ⌝ }
     requires { ⌜ (length (now raised) ≡ scopePlaces) × (done ≤ from) × (from ≤ length (now bytes))
-        × T (not (recordOut (rulesOf case) case (goodReplay (heldProgress progress variable amount left last) (now raised)))) ⌝ }
+        × T (not (recordOut (rulesOf case) case (goodReplay (heldProgress progress variable target left last) (now raised)))) ⌝ }
     ensures { λ r. ⌜ (r .done ≤ r .from) × (from ≤ r .from) × (r .from ≤ length (now (bytes .entry))) ⌝ }
-    ensures { λ r. ⌜ Onward (bytesPerLine case) (scopeCount case) done (heldProgress progress variable amount left last) (now (raised .entry))
+    ensures { λ r. ⌜ Onward (bytesPerLine case) (scopeCount case) done (heldProgress progress variable target left last) (now (raised .entry))
         (drop from (now (bytes .entry))) (r .done) (r .progress) (now (raised .exit)) (drop (r .from) (now (bytes .entry))) ⌝ }
 {
     let rulebook = case.rulebook;
@@ -138,7 +138,7 @@ fn press_on(
         progress,
         Due::Raise {
             variable,
-            amount,
+            target,
             left: rest.left,
             last: last_of(rest.next),
         },
@@ -173,17 +173,22 @@ pub(crate) fn raise_on(
             from,
             done,
         },
+        Due::Nothing => Place {
+            progress,
+            from,
+            done,
+        },
         Due::Raise {
             variable,
-            amount,
+            target,
             left,
             last,
-        } => press_on(
+        } => held_on(
             case,
             raised,
             progress,
             variable,
-            amount,
+            target,
             left,
             last,
             bytes,

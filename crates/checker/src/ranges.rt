@@ -2,6 +2,7 @@
 use crate::Due;
 use crate::LastRaised;
 use crate::Replay;
+use crate::Target;
 use crate::columns::is_outside;
 use crate::columns::is_within;
 use crate::columns::most_rounds;
@@ -17,7 +18,8 @@ ghost use Rattle.integers.specs.Words.{all, within};
 ghost use Rattle.definitions.specs.Rules.{rulesOf};
 ghost use Rattle.definitions.specs.Moves.{shiftAmount, pressAmount};
 ghost use Rattle.tables.specs.Scopes.{Limited};
-ghost use Rattle.checker.specs.Checker.{lastOut, dueOut, ofShift, ofPress, ofDue};
+ghost use Rattle.definitions.specs.Replay.{beginOut};
+ghost use Rattle.checker.specs.Checker.{lastOut, targetOut, dueOut, ofShift, ofDue};
 
 fn last_out(case: Case, last: LastRaised) -> bool
     requires { ⌜ Limited case ⌝ }
@@ -56,20 +58,29 @@ fn is_press_amount(case: Case, amount: i64) -> bool
     is_within(amount, 1, rules::most_moving(rulebook))
 }
 
-fn press_out(
+fn target_out(case: Case, target: Target) -> bool
+    ensures { λ r. ⌜ r ≡ targetOut (rulesOf case) target ⌝ }
+{
+    match target {
+        Target::Press(amount) => !is_press_amount(case, amount),
+        Target::Void => false,
+    }
+}
+
+fn held_out(
     case: Case,
     raised: &[u8],
     variable: usize,
-    amount: i64,
+    target: Target,
     left: usize,
     last: LastRaised,
 ) -> bool
     requires { ⌜ Limited case ⌝ }
-    ensures { λ r. ⌜ r ≡ dueOut (rulesOf case) case (now (raised .entry)) (Due.Raise variable amount left last) ⌝ }
+    ensures { λ r. ⌜ r ≡ dueOut (rulesOf case) case (now (raised .entry)) (Due.Raise variable target left last) ⌝ }
 {
     let scopes = case.n + case.m;
     !(variable < case.n)
-        | !is_press_amount(case, amount)
+        | target_out(case, target)
         | !in_range(left, 1, scopes - 1)
         | last_out(case, last)
         | !none_from(raised, scopes)
@@ -86,10 +97,11 @@ pub(crate) fn record_out(case: Case, raised: &[u8], rounds: u64, due: Due) -> bo
         Due::MoveOrBound => false,
         Due::Raise {
             variable,
-            amount,
+            target,
             left,
             last,
-        } => press_out(case, raised, variable, amount, left, last),
+        } => held_out(case, raised, variable, target, left, last),
+        Due::Nothing => false,
     }
 }
 
@@ -118,12 +130,10 @@ fn shift_out(case: Case, line: Line) -> bool
 
 fn begin_out(case: Case, line: Line) -> bool
     requires { ⌜ Limited case ⌝ }
-    ensures { λ r. ⌜ ((w : List ℤ) (p : Replay) → r ≡ ofPress (rulesOf case) case w p line .out) ⌝ }
+    ensures { λ r. ⌜ r ≡ beginOut case line ⌝ }
 {
     let most = case.n + case.m - 1;
-    is_outside(line.a, case.n)
-        | !is_within(line.b, 1, most as i64)
-        | !is_press_amount(case, line.amount)
+    is_outside(line.a, case.n) | !is_within(line.b, 1, most as i64)
 }
 
 fn move_out(case: Case, rounds: u64, line: Line) -> bool
@@ -134,9 +144,12 @@ fn move_out(case: Case, rounds: u64, line: Line) -> bool
         return shift_out(case, line);
     }
     if line.kind == 2 {
-        return begin_out(case, line);
+        return begin_out(case, line) | !is_press_amount(case, line.amount);
     }
-    most_rounds(case) <= rounds
+    if line.kind == 4 {
+        return most_rounds(case) <= rounds;
+    }
+    begin_out(case, line)
 }
 
 pub(crate) fn line_out(case: Case, rounds: u64, due: Due, line: Line) -> bool
@@ -147,9 +160,10 @@ pub(crate) fn line_out(case: Case, rounds: u64, due: Due, line: Line) -> bool
         Due::MoveOrBound => move_out(case, rounds, line),
         Due::Raise {
             variable: _,
-            amount: _,
+            target: _,
             left: _,
             last: _,
         } => is_outside(line.a, case.n + case.m),
+        Due::Nothing => false,
     }
 }

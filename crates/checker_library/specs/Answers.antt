@@ -1,8 +1,10 @@
 -- Answers in the library's records: the number that an answer says, and its values; 0 where there is no such value. Assumes nothing.
+use mathlib.Core.Bool.{Bool, not, _&&_}
 use Prim.Native.Nat.{ℕ}
 use lib.Dec.{eqb}
 use Rattle.integers.specs.Words.{if_then_else_}
 use Rattle.definitions.specs.Answers.{Says, valueAt, countAt, lineNamed}
+use Rattle.encoding.specs.RecordBytes.{flag}
 use Rattle.checker_library.specs.declared.CeilingSize.{CeilingSize}
 use Rattle.checker_library.specs.declared.CeilingLines.{CeilingLines}
 use Rattle.checker_library.specs.declared.CeilingTotal.{CeilingTotal}
@@ -20,9 +22,11 @@ linesOf s = record { number = s .number; lines = countAt s 0 }
 abbrev pub totalOf : Says → CeilingTotal
 totalOf s = record { number = s .number; total = valueAt s 0 }
 
--- so many rounds, where no number applies
-abbrev pub roundsOf : ℕ → Says → CeilingRounds
-roundsOf rounds s = record { number = s .number; rounds = (if eqb (s .number) 0 then rounds else 0) }
+-- where no number applies: so many rounds, or after a whole void line that the log is void
+abbrev pub roundsOf : ℕ → Bool → Says → CeilingRounds
+roundsOf rounds over s =
+    let good = eqb (s .number) 0 in
+    record { number = s .number; rounds = (if good && not over then rounds else 0); void = flag (good && over) }
 
 -- the stretch's first byte and the byte after its last, or the refusal's line
 abbrev pub spanOf : Says → CeilingSpan

@@ -18,7 +18,7 @@ use Rattle.definitions.specs.Valid.{workingWeight, limitTest, edgeTests, handed
 use Rattle.definitions.specs.CaseFiles.{readCaseAlone}
 use Rattle.checker.specs.declared.Replay.{Replay}
 use Rattle.checker.specs.declared.Block.{Block}
-use Rattle.checker.specs.Checker.{freshReplay, blockReplay, endReplay}
+use Rattle.checker.specs.Checker.{isVoid, freshReplay, blockReplay, endReplay}
 use Rattle.encoding.specs.CaseBytes.{bytesOfCase, caseIn}
 use Rattle.encoding.specs.RecordBytes.{recordBytes, isRecord, recordIn}
 use Rattle.checker_library.specs.declared.CeilingLines.{CeilingLines}
@@ -88,5 +88,6 @@ endWith part (Outcome.Refused x) = Outcome.Refused x
 
 unfoldable pub endCall : List ℕ → List ℕ → ℕ → CeilingRounds
 endCall case bytes part =
-    if isRecord bytes then roundsOf (recordIn bytes .rounds) (outcomeSays (endWith part (endReplay (rulesOf (caseIn case)) (caseIn case) (recordIn bytes))))
-    else record { number = notRecordAtEnd (caseIn case); rounds = 0 }
+    let end = endReplay (rulesOf (caseIn case)) (caseIn case) (recordIn bytes) in
+    if isRecord bytes then roundsOf (recordIn bytes .rounds) (isVoid (recordIn bytes .due)) (outcomeSays (endWith part end))
+    else record { number = notRecordAtEnd (caseIn case); rounds = 0; void = 0 }

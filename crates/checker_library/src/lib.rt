@@ -1,5 +1,6 @@
 // The checker's functions for programs in other languages: a case file read, totals, the replay of a log, the view of a round, scoring. A case
 // and the replay's record cross as bytes (crate encoding). What each function answers is defined in specs/.
+use checker::Due;
 use checker::Replay;
 use checker::Standing;
 use definitions::Case;
@@ -22,7 +23,7 @@ ghost use Rattle.definitions.specs.CaseFiles.{caseSize};
 ghost use Rattle.calls.specs.Calls.{upperBoundAnswer, objectiveAnswer};
 ghost use Rattle.definitions.specs.Views.{roundSpan};
 ghost use Rattle.definitions.specs.Scoring.{betterOf};
-ghost use Rattle.checker.specs.Checker.{standingSays, blockReplay};
+ghost use Rattle.checker.specs.Checker.{standingSays, isVoid, blockReplay};
 ghost use Rattle.encoding.specs.CaseBytes.{caseIn};
 ghost use Rattle.encoding.specs.RecordBytes.{recordBytes};
 ghost use Rattle.encoding.specs.Version.{versionNumber};
@@ -52,10 +53,12 @@ pub struct CeilingTotal {
     pub total: i64,
 }
 
+// void is 1 where the log is void: no lawful plan exists. It has no rounds to tell then.
 #[repr(C)]
 pub struct CeilingRounds {
     pub number: u64,
     pub rounds: u64,
+    pub void: u64,
 }
 
 // A stretch of a log, or the refusal's line.
@@ -145,15 +148,29 @@ fn standing_number(standing: Standing) -> u64
     }
 }
 
-fn rounds_of(rounds: u64, outcome: Outcome) -> CeilingRounds
-    ensures { λ r. ⌜ r ≡ roundsOf rounds (outcomeSays outcome) ⌝ }
+fn rounds_of(rounds: u64, over: bool, outcome: Outcome) -> CeilingRounds
+    ensures { λ r. ⌜ r ≡ roundsOf rounds over (outcomeSays outcome) ⌝ }
 {
     match outcome {
-        Outcome::Done => CeilingRounds { number: 0, rounds },
         Outcome::Refused(refusal) => CeilingRounds {
             number: number_of(refusal),
             rounds: 0,
+            void: 0,
         },
+        Outcome::Done => {
+            if over {
+                return CeilingRounds {
+                    number: 0,
+                    rounds: 0,
+                    void: 1,
+                };
+            }
+            CeilingRounds {
+                number: 0,
+                rounds,
+                void: 0,
+            }
+        }
     }
 }
 
@@ -245,6 +262,22 @@ fn not_record_at_end(case: Case) -> u64
     ensures { λ r. ⌜ r ≡ notRecordAtEnd case ⌝ }
 {
     outcome_number(tables::check_edges(case, true))
+}
+
+// Whether a void line is whole.
+fn is_over(due: Due) -> bool
+    ensures { λ r. ⌜ r ≡ isVoid due ⌝ }
+{
+    match due {
+        Due::MoveOrBound => false,
+        Due::Raise {
+            variable: _,
+            target: _,
+            left: _,
+            last: _,
+        } => false,
+        Due::Nothing => true,
+    }
 }
 
 fn end_with(part: usize, end: Outcome) -> Outcome
@@ -369,7 +402,7 @@ pub extern "C" fn ceiling_replay_lines(
     }
 }
 
-// The end of the log, of whose part line so many bytes are left: its rounds, where it is accepted.
+// The end of the log, of whose part line so many bytes are left: its rounds, where it is accepted, or that it is void.
 #[no_mangle]
 pub extern "C" fn ceiling_replay_end(
     case: &CaseArray,
@@ -380,12 +413,14 @@ pub extern "C" fn ceiling_replay_end(
 {
     if encoding::is_record(state) {
         let replay = encoding::record_of(state);
+        let due = replay.due;
         let end = replay.end(encoding::case_of(case));
-        rounds_of(replay.rounds, end_with(part, end))
+        rounds_of(replay.rounds, is_over(due), end_with(part, end))
     } else {
         CeilingRounds {
             number: not_record_at_end(encoding::case_of(case)),
             rounds: 0,
+            void: 0,
         }
     }
 }

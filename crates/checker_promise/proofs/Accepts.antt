@@ -1,10 +1,11 @@
 -- The checker's promise holds for every valid case and every list of byte strings, whoever wrote them. Assumes nothing.
 use mathlib.Core.Path.{_≡_, refl, sym, ap, subst, _∙_}
-use mathlib.Core.Bool.{false}
+use mathlib.Core.Bool.{Bool, true, false}
 use mathlib.Core.Logic.{_↔_}
 use mathlib.Core.Option.{Option, none, some}
 use mathlib.Core.List.{List, map}
 use Prim.Native.Nat.{ℕ}
+use native.Mathlib.Omega.{arith}
 use lib.IntN.{ℤ}
 use lib.Dec.{T}
 use Rattle.integers.specs.Linear.{flat, zs, _▸_}
@@ -19,12 +20,13 @@ use Rattle.definitions.specs.Answers.{outcomeOf, outcomeSays, figureSays}
 use Rattle.definitions.specs.Case.{upperBound}
 use Rattle.definitions.specs.Valid.{workingWeight, handedOver, valid}
 use Rattle.calls.specs.Calls.{figureOf, upperBoundAnswer}
-use Rattle.definitions.specs.Replay.{fresh, after, answers, atEnd, keepsRules}
-use Rattle.checker.specs.Checker.{Between, endReplay, afterLines, lineAnswers}
+use Rattle.definitions.specs.Replay.{Held, fresh, after, answers, atEnd, keepsRules}
+use Rattle.checker.specs.declared.Due.{Due}
+use Rattle.checker.specs.Checker.{Between, isVoid, endReplay, afterLines, lineAnswers}
 use Rattle.theory.proofs.Validity.{Handed, handed}
-use Rattle.theory.proofs.Replays.{none-iff, handed-after, case-after, total-kept, bound-sound, rounds-few, accepted-iff, keeps-iff}
+use Rattle.theory.proofs.Replays.{none-iff, handed-after, case-after, total-kept, bound-sound, rounds-few, void-sound, accepted-iff, keeps-iff}
 use Rattle.checker_promise.specs.Lists.{begun, Accepted, numberSays, ReplayTrusted}
-use Rattle.checker_promise.proofs.Agrees.{Agrees}
+use Rattle.checker_promise.proofs.Agrees.{dueOf, Agrees}
 use Rattle.checker_promise.proofs.Folds.{agrees-fresh, fold-agrees, answers-agree, end-agrees}
 
 -- the library's upper bound of a table that every call takes
@@ -40,6 +42,16 @@ outcome-says (some x) = refl
 done-none : (o : Option Refusal) → outcomeOf o ≡ Outcome.Done → o ≡ none
 done-none none e = refl
 done-none (some x) e = cc
+
+nothing-void : (v : Bool) (h : Option Held) → dueOf v h ≡ Due.Nothing ↔ T v
+nothing-void true h = (λ e. tt, λ t. refl)
+nothing-void false none = (λ e. let z : _≡_ {A = ℕ} 0 1 = cc in absurd (omega arith), λ t. absurd t)
+nothing-void false (some h) = (λ e. let z : _≡_ {A = ℕ} 0 1 = cc in absurd (omega arith), λ t. absurd t)
+
+over-due : (v : Bool) (h : Option Held) → isVoid (dueOf v h) ≡ v
+over-due true h = refl
+over-due false none = refl
+over-due false (some h) = refl
 
 module _ {r : Rules} (coherent : Coherent r) (c : Case) (w : List ℤ) (t : T (valid r c w)) where
   module _ (ts : List (List ℕ)) where
@@ -59,6 +71,13 @@ module _ {r : Rules} (coherent : Coherent r) (c : Case) (w : List ℤ) (t : T (v
 
     pub rounds-are : afterLines r (begun r c w) ts .replay .rounds ≡ after r (fresh c w) ts .rounds
     rounds-are = ap (λ (b : Between). b .replay .rounds) (there .same)
+
+    pub void-told : isVoid (afterLines r (begun r c w) ts .replay .due) ≡ after r (fresh c w) ts .void
+    void-told = ap (λ (b : Between). isVoid (b .replay .due)) (there .same) ∙ over-due (after r (fresh c w) ts .void) (after r (fresh c w) ts .held)
+
+    void-is : afterLines r (begun r c w) ts .replay .due ≡ Due.Nothing ↔ T (after r (fresh c w) ts .void)
+    void-is = subst (λ (d : Due). d ≡ Due.Nothing ↔ T (after r (fresh c w) ts .void)) (sym (ap (λ (b : Between). b .replay .due) (there .same)))
+        (nothing-void (after r (fresh c w) ts .void) (after r (fresh c w) ts .held))
 
     accepts : Accepted r c w ts ↔ T (keepsRules r c w ts)
     accepts = (
@@ -83,12 +102,14 @@ module _ {r : Rules} (coherent : Coherent r) (c : Case) (w : List ℤ) (t : T (v
     weights = weights-are ts;
     bound =
         ap (λ (v : List ℤ). figureSays (upperBoundAnswer r c v)) (weights-are ts)
-        ∙ ap figureSays (bound-answered c (after r (fresh c w) ts .weights) (handed-after r c w t ts coherent));
+        ∙ ap figureSays (bound-answered c (after r (fresh c w) ts .weights) (handed-after coherent c w t ts));
     rounds = rounds-are ts;
     accepted = accepts ts;
-    total-least = λ p a. rw (weights-are ts) (total-kept r c w t ts p a);
-    bound-least = λ p a. rw (weights-are ts) (bound-sound r c w t ts p a);
-    rounds-most = λ p a. rw (rounds-are ts) (rounds-few r c w t ts p a ▸ simp flat (omega zs));
+    total-least = λ p a. rw (weights-are ts) (total-kept coherent c w t ts p a);
+    bound-least = λ p a. rw (weights-are ts) (bound-sound coherent c w t ts p a);
+    void-due = void-is ts;
+    none-lawful = λ e. void-sound coherent c w t ts (void-is ts .0 e);
+    rounds-most = λ p a. rw (rounds-are ts) (rounds-few coherent c w t ts p a ▸ simp flat (omega zs));
   }
 
 -- by the rules of the case

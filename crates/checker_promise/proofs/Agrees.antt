@@ -1,36 +1,37 @@
--- The plain replay's state beside what stands between the lines of the library's replay: the same but for the bytes that mark a press's raised
--- scopes. Nothing that a line does with a set of raised scopes tells the bytes from the list. Assumes nothing.
+-- The plain replay's state beside what stands between the lines of the library's replay: the same but for the bytes that mark the scopes that a
+-- press or a void line has raised. Nothing that a line does with a set of raised scopes tells the bytes from the list. Assumes nothing.
 use mathlib.Core.Path.{_≡_, refl, sym, ap, _∙_}
-use mathlib.Core.Bool.{Bool, not, _&&_, or-true, or-false}
+use mathlib.Core.Bool.{Bool, true, false, not, _&&_, or-true, or-false}
 use mathlib.Core.Logic.{⊎-elim}
 use mathlib.Core.Option.{Option, none, some}
 use mathlib.Core.List.{List, [], _∷_, _++_}
 use Prim.Native.Nat.{ℕ, _+_, _-_, _≤_, _<_}
 use native.Mathlib.Omega.{arith}
-use lib.IntN.{ℤ, negℤ, _+ℤ_}
+use lib.IntN.{ℤ, pos, negℤ, _+ℤ_}
 use lib.Dec.{T, eqb, eqb→eq}
 use lib.ListN.{length, drop, set, length-drop, length-set, length-replicate, getD-replicate}
 use lib.Seq.{getD-drop, getD-set-same, getD-set-other, drop-set-lt}
-use Rattle.integers.specs.Words.{all, last, isIn, _⇒_}
+use Rattle.integers.specs.Words.{if_then_else_, all, last, isIn, _⇒_}
 use Rattle.integers.specs.Tests.{tests, either, is-true, is-false, not-eqb-iff}
 use Rattle.integers.specs.Options.{last-append}
 use Rattle.integers.specs.Lists.{all-same, isIn-append}
 use Rattle.integers.specs.Tables.{all-getD}
 use Rattle.definitions.specs.declared.Case.{Case}
 use Rattle.checker.specs.declared.LastRaised.{LastRaised}
+use Rattle.checker.specs.declared.Target.{Target as Aim}
 use Rattle.checker.specs.declared.Due.{Due}
 use Rattle.checker.specs.declared.Replay.{Replay}
 use Rattle.definitions.specs.Rules.{Rules, scopesAtMost, scopePlaces}
 use Rattle.definitions.specs.Answers.{outcomeOf}
-use Rattle.definitions.specs.Case.{scopeCount, active}
+use Rattle.definitions.specs.Case.{scopes, scopeCount, values, eachTuple, weight, active, barred}
 use Rattle.definitions.specs.Valid.{workingWeight}
 use Rattle.definitions.specs.Consistency.{allRefuted}
-use Rattle.definitions.specs.Moves.{plus, onlyWhere, pressBy, activeValues}
-use Rattle.definitions.specs.Replay.{Held, State, notAbove}
+use Rattle.definitions.specs.Moves.{plus, spared, onlyWhere, pressBy, activeValues}
+use Rattle.definitions.specs.Replay.{Target, pressing, voiding, Held, State, notAbove, allBarred}
 use Rattle.checker.specs.Checker.{Between, StepCall, standingOf, lastOut, notAboveLast, noneRaised}
 use Rattle.definitions.proofs.Refutation.{refuted-same}
 use Rattle.calls.specs.Calls.{isRaised}
-use Rattle.theory.proofs.Places.{plus-cong}
+use Rattle.theory.proofs.Places.{each-cong, plus-cong}
 use Rattle.theory.proofs.Validity.{Handed}
 use Rattle.theory.proofs.Replays.{Sound}
 
@@ -40,9 +41,14 @@ abbrev pub lastOf : Option ℕ → LastRaised
 lastOf none = LastRaised.Nothing
 lastOf (some x) = LastRaised.Scope x
 
-abbrev pub dueOf : Option Held → Due
-dueOf none = Due.MoveOrBound
-dueOf (some h) = Due.Raise (h .variable) (h .amount) (h .left) (lastOf (last (h .raised)))
+abbrev pub targetOf : Target → Aim
+targetOf (pressing a) = Aim.Press a
+targetOf voiding = Aim.Void
+
+abbrev pub dueOf : Bool → Option Held → Due
+dueOf true held = Due.Nothing
+dueOf false none = Due.MoveOrBound
+dueOf false (some h) = Due.Raise (h .variable) (targetOf (h .target)) (h .left) (lastOf (last (h .raised)))
 
 abbrev pub recordOf : State → List ℕ → Replay
 recordOf s bytes = record {
@@ -50,7 +56,7 @@ recordOf s bytes = record {
   start = s .start;
   moved = s .moving;
   raised = bytes;
-  due = dueOf (s .held);
+  due = dueOf (s .void) (s .held);
   standing = standingOf (s .refusal);
 }
 
@@ -61,7 +67,7 @@ betweenOf s bytes = record { case = s .case; table = s .weights; replay = record
 abbrev pub callOf : State → List ℕ → StepCall
 callOf s bytes = record { stepped = record { replay = recordOf s bytes; answer = outcomeOf (s .refusal) }; table = s .weights }
 
--- ---- the bytes of a press held, and what its record is asked
+-- ---- the bytes of a press or a void line held, and what its record is asked
 
 pub record Marked (r : Rules) (c : Case) (h : Held) (bytes : List ℕ) : Type 0 where
   pub long : length bytes ≡ scopePlaces
@@ -84,12 +90,12 @@ pub record Agrees (r : Rules) (s : State) (b : Between) : Type 0 where
   pub handed : Handed r (workingWeight r) (s .case) (s .weights)
   pub placed : scopesAtMost r ≤ scopePlaces
 
--- ---- a press begun, and a scope raised
+-- ---- a press or a void line begun, and a scope raised
 
 module _ (r : Rules) (c : Case) (fits : scopeCount c ≤ scopePlaces) where
-  pub marked-begun : (i : ℕ) (a : ℤ) (left : ℕ) → 1 ≤ left → left ≤ scopeCount c - 1
-      → Marked r c (record { variable = i; amount = a; raised = []; left = left }) (noneRaised)
-  marked-begun i a left some-left most = record {
+  pub marked-begun : (i : ℕ) (target : Target) (left : ℕ) → 1 ≤ left → left ≤ scopeCount c - 1
+      → Marked r c (record { variable = i; target = target; raised = []; left = left }) (noneRaised)
+  marked-begun i target left some-left most = record {
     long = length-replicate {A = ℕ} scopePlaces 0;
     marks = λ x h. ap (λ (b : ℕ). not (eqb b 0)) (getD-replicate scopePlaces x 0 0 (omega arith));
     past = all-getD (λ b. eqb b 0) (drop (scopeCount c) (noneRaised)) 0 .1 (λ i h.
@@ -111,7 +117,7 @@ module _ (r : Rules) (c : Case) (fits : scopeCount c ≤ scopePlaces) where
         (sym (or-false (isIn (h .raised) y))))
         (either (eqb x y))
 
-    pub marked-raised : 1 < h .left → Marked r c (record { variable = h .variable; amount = h .amount; raised = h .raised ++ (x ∷ []); left = h .left - 1 })
+    pub marked-raised : 1 < h .left → Marked r c (record { variable = h .variable; target = h .target; raised = h .raised ++ (x ∷ []); left = h .left - 1 })
         (set bytes x 1)
     marked-raised more = record {
       long = length-set bytes x 1 ∙ k .long;
@@ -128,9 +134,15 @@ module _ (c : Case) (w : List ℤ) {R Q : ℕ → Bool} (same : (x : ℕ) → x 
   pub refuted-alike : allRefuted c w R i (activeValues c w i) ≡ allRefuted c w Q i (activeValues c w i)
   refuted-alike = all-same (c .d) (λ k h. ap (λ (b : Bool). activeValues c w i k ⇒ b) (refuted-same c w w R Q i k (λ p g. refl) same))
 
-  pub press-alike : (a : ℤ) → plus c (pressBy c w i (activeValues c w i) R a) w ≡ plus c (pressBy c w i (activeValues c w i) Q a) w
-  press-alike a = plus-cong c (pressBy c w i (activeValues c w i) R a) w (pressBy c w i (activeValues c w i) Q a) (λ x k l t.
-      ap (λ (b : Bool). onlyWhere (eqb x i && activeValues c w i k) (negℤ a) +ℤ onlyWhere (b && not (active c w x k l)) a) (same x (t .scope)))
+  pub press-alike : (a : ℤ)
+      → plus c (spared c w (pressBy c w i (activeValues c w i) R a)) w ≡ plus c (spared c w (pressBy c w i (activeValues c w i) Q a)) w
+  press-alike a = plus-cong c (spared c w (pressBy c w i (activeValues c w i) R a)) w (spared c w (pressBy c w i (activeValues c w i) Q a)) (λ x k l t.
+      ap (λ (b : Bool). if barred c w x k l then pos 0 else (onlyWhere (eqb x i && activeValues c w i k) (negℤ a) +ℤ onlyWhere (b && not (active c w x k l)) a))
+      (same x (t .scope)))
+
+  pub bars-alike : allBarred c w i (activeValues c w i) R ≡ allBarred c w i (activeValues c w i) Q
+  bars-alike = ap (λ (b : Bool). all (λ k. not (activeValues c w i k) ⇒ barred c w i k 0) (values c) && b) (all-same (scopeCount c) (λ x h.
+      ap (all (λ b. b)) (each-cong c x h (λ k l t. ap (λ (b : Bool). (b && not (active c w x k l)) ⇒ barred c w x k l) (same x h)))))
 
 pub above-alike : (o : Option ℕ) (x : ℕ) → notAboveLast (lastOf o) x ≡ notAbove o x
 above-alike none x = refl

@@ -23,7 +23,7 @@ use Rattle.definitions.specs.declared.Refusal.{Refusal}
 use Rattle.definitions.specs.declared.Outcome.{Outcome}
 use Rattle.checker.specs.declared.Standing.{Standing}
 use Rattle.checker.specs.declared.Replay.{Replay}
-use Rattle.definitions.specs.Rules.{Rules}
+use Rattle.definitions.specs.Rules.{Rules, Coherent}
 use Rattle.definitions.specs.Refusals.{firstOf}
 use Rattle.definitions.specs.Valid.{workingWeight, handedOver}
 use Rattle.definitions.specs.Lines.{lineLength, cutLines, wholeLines, linesIn, hasPart}
@@ -195,39 +195,40 @@ module _ (r : Rules) where
     known-refused : {x : Refusal} → p .standing ≡ Standing.Refused x → Known c w p
     known-refused e = rw e
 
+module _ {r : Rules} (coherent : Coherent r) where
   -- a line leaves what is known; where it is done, no number applies
   module _ (b : Between) (t : List ℕ) where
     step-lent : stepReplay r (b .case) (b .table) (b .replay) t .stepped .answer ≡ Outcome.Done
-        → Lent (b .case) (stepBetween r b t .table) (stepBetween r b t .replay)
+        → Lent r (b .case) (stepBetween r b t .table) (stepBetween r b t .replay)
     step-lent e =
-        let l = step-leaves r (b .case) (b .table) (b .replay) t e in
-        lent-handed (b .case) (stepBetween r b t .table) (stepBetween r b t .replay) (l .good) (l .handed-over) (l .record-in)
+        let l = step-leaves coherent (b .case) (b .table) (b .replay) t e in
+        lent-handed r (b .case) (stepBetween r b t .table) (stepBetween r b t .replay) (l .good) (l .handed-over) (l .record-in)
 
-    step-known : Known (b .case) (stepBetween r b t .table) (stepBetween r b t .replay)
+    step-known : Known r (b .case) (stepBetween r b t .table) (stepBetween r b t .replay)
     step-known = go (stepReplay r (b .case) (b .table) (b .replay) t .stepped .answer) refl
       where
         go : (o : Outcome) → stepReplay r (b .case) (b .table) (b .replay) t .stepped .answer ≡ o
-            → Known (b .case) (stepBetween r b t .table) (stepBetween r b t .replay)
-        go Outcome.Done e = known-lent (b .case) (stepBetween r b t .table) (stepBetween r b t .replay) (step-lent e)
+            → Known r (b .case) (stepBetween r b t .table) (stepBetween r b t .replay)
+        go Outcome.Done e = known-lent r (b .case) (stepBetween r b t .table) (stepBetween r b t .replay) (step-lent e)
         go (Outcome.Refused x) e =
-            known-refused (b .case) (stepBetween r b t .table) (stepBetween r b t .replay) (refused-stands r (b .case) (b .table) (b .replay) t e)
+            known-refused r (b .case) (stepBetween r b t .table) (stepBetween r b t .replay) (refused-stands r (b .case) (b .table) (b .replay) t e)
 
-  lines-known : (b : Between) (ts : List (List ℕ)) → Known (b .case) (b .table) (b .replay)
-      → Known (b .case) (afterLines r b ts .table) (afterLines r b ts .replay)
+  lines-known : (b : Between) (ts : List (List ℕ)) → Known r (b .case) (b .table) (b .replay)
+      → Known r (b .case) (afterLines r b ts .table) (afterLines r b ts .replay)
   lines-known b [] k = k
   lines-known b (t ∷ ts) k = lines-known (stepBetween r b t) ts (step-known b t)
 
-  lines-lent : (b : Between) (ts : List (List ℕ)) → Lent (b .case) (b .table) (b .replay) → firstRefused (lineAnswers r b ts) ≡ Outcome.Done
-      → Lent (b .case) (afterLines r b ts .table) (afterLines r b ts .replay)
+  lines-lent : (b : Between) (ts : List (List ℕ)) → Lent r (b .case) (b .table) (b .replay) → firstRefused (lineAnswers r b ts) ≡ Outcome.Done
+      → Lent r (b .case) (afterLines r b ts .table) (afterLines r b ts .replay)
   lines-lent b [] l e = l
   lines-lent b (t ∷ ts) l e = go (stepReplay r (b .case) (b .table) (b .replay) t .stepped .answer) refl e (λ k f. lines-lent (stepBetween r b t) ts k f)
     where
       Left : Type 0
-      Left = Lent (b .case) (afterLines r (stepBetween r b t) ts .table) (afterLines r (stepBetween r b t) ts .replay)
+      Left = Lent r (b .case) (afterLines r (stepBetween r b t) ts .table) (afterLines r (stepBetween r b t) ts .replay)
 
       go : (o : Outcome) → stepReplay r (b .case) (b .table) (b .replay) t .stepped .answer ≡ o
           → firstRefused (o ∷ lineAnswers r (stepBetween r b t) ts) ≡ Outcome.Done
-          → (Lent (b .case) (stepBetween r b t .table) (stepBetween r b t .replay) → firstRefused (lineAnswers r (stepBetween r b t) ts) ≡ Outcome.Done
+          → (Lent r (b .case) (stepBetween r b t .table) (stepBetween r b t .replay) → firstRefused (lineAnswers r (stepBetween r b t) ts) ≡ Outcome.Done
           → Left) → Left
       go Outcome.Done d e on = on (step-lent b t d) e
       go (Outcome.Refused x) d e on = absurd (never e)
@@ -238,26 +239,26 @@ module _ (r : Rules) where
 
     -- by how many whole lines it has
     abbrev blockAt : ℕ → BlockCall
-    blockAt n = if eqb n 0 then noLine w p (lentStanding r c w p (p .standing)) else foldOf between (cutLines (lineLength (r .amountWidth)) n bytes)
+    blockAt n = if eqb n 0 then noLine w p (lentStanding r c w p (p .standing)) else foldOf r between (cutLines (lineLength (r .amountWidth)) n bytes)
 
-    some-line : (n : ℕ) → blockAt (suc n) ≡ foldOf between (cutLines (lineLength (r .amountWidth)) (suc n) bytes)
+    some-line : (n : ℕ) → blockAt (suc n) ≡ foldOf r between (cutLines (lineLength (r .amountWidth)) (suc n) bytes)
     some-line n = rw (ne-eqb (suc n) 0 (λ e. omega arith))
 
     -- where no number applies to what is lent, a block is the fold, and where it is done, no number applies to what it leaves
-    pub block-lent : Lent c w p → blockReplay r c w p bytes ≡ foldReplay r c w p bytes
+    pub block-lent : Lent r c w p → blockReplay r c w p bytes ≡ foldReplay r c w p bytes
     unfolding foldReplay blockReplay
     block-lent e = go (wholeLines (r .amountWidth) bytes)
       where
-        go : (n : ℕ) → blockAt n ≡ foldOf between (cutLines (lineLength (r .amountWidth)) n bytes)
+        go : (n : ℕ) → blockAt n ≡ foldOf r between (cutLines (lineLength (r .amountWidth)) n bytes)
         go zero = ap (noLine w p) e
         go (suc n) = some-line n
 
-    pub lent-after : Lent c w p → foldReplay r c w p bytes .block .answer ≡ Outcome.Done
-        → Lent c (foldReplay r c w p bytes .table) (foldReplay r c w p bytes .block .replay)
+    pub lent-after : Lent r c w p → foldReplay r c w p bytes .block .answer ≡ Outcome.Done
+        → Lent r c (foldReplay r c w p bytes .table) (foldReplay r c w p bytes .block .replay)
     unfolding foldReplay
     lent-after l e = lines-lent between (linesIn (r .amountWidth) bytes) l e
 
-    known-after : Known c w p → Known c (foldReplay r c w p bytes .table) (foldReplay r c w p bytes .block .replay)
+    known-after : Known r c w p → Known r c (foldReplay r c w p bytes .table) (foldReplay r c w p bytes .block .replay)
     unfolding foldReplay
     known-after k = lines-known between (linesIn (r .amountWidth) bytes) k
 
@@ -276,11 +277,11 @@ module _ (r : Rules) where
           go (suc n) =
               let t = take (lineLength (r .amountWidth)) bytes in
               let ts = cutLines (lineLength (r .amountWidth)) n (drop (lineLength (r .amountWidth)) bytes) in
-              some-line n ∙ rw (all-stay r between e (t ∷ ts), step-stands between e t .0)
+              some-line n ∙ rw (all-stay r between e (t ∷ ts), step-stands r between e t .0)
 
       fold-stands : foldReplay r c w p bytes ≡ record { block = record { replay = p; lines = 0; answer = foldReplay r c w p bytes .block .answer }; table = w }
       unfolding foldReplay
-      fold-stands = let ts = linesIn (r .amountWidth) bytes in rw (all-stay r between e ts, none-taken between e [] ts)
+      fold-stands = let ts = linesIn (r .amountWidth) bytes in rw (all-stay r between e ts, none-taken r between e [] ts)
 
   -- ---- blocks joined
 
@@ -292,53 +293,54 @@ module _ (r : Rules) where
     second = foldReplay r c (first .table) (first .block .replay) ys
 
     -- the second block after the first fold
-    second-is : Lent c w p → thenBlock first second ≡ thenBlock first (blockReplay r c (first .table) (first .block .replay) ys)
+    second-is : Lent r c w p → thenBlock r first second ≡ thenBlock r first (blockReplay r c (first .table) (first .block .replay) ys)
     second-is l = go (first .block .replay .standing) refl (first .block .answer) refl
       where
-        known : Known c (first .table) (first .block .replay)
-        known = known-after c w p xs (known-lent c w p l)
+        known : Known r c (first .table) (first .block .replay)
+        known = known-after c w p xs (known-lent r c w p l)
 
         thenAt : Outcome → BlockCall
         thenAt o = record { block = record { replay = first .block .replay; lines = first .block .lines + 0; answer = o }; table = first .table }
 
         go : (s : Standing) → first .block .replay .standing ≡ s → (o : Outcome) → first .block .answer ≡ o
-            → thenBlock first second ≡ thenBlock first (blockReplay r c (first .table) (first .block .replay) ys)
-        go Standing.Good d o a = ap (thenBlock first) (sym (block-lent c (first .table) (first .block .replay) ys
-            (lent-known c (first .table) (first .block .replay) d known)))
-        go (Standing.Refused y) d Outcome.Done a = absurd (good-refused (sym (lent-good c (first .table) (first .block .replay) (lent-after c w p xs l a)) ∙ d))
+            → thenBlock r first second ≡ thenBlock r first (blockReplay r c (first .table) (first .block .replay) ys)
+        go Standing.Good d o a = ap (thenBlock r first) (sym (block-lent c (first .table) (first .block .replay) ys
+            (lent-known r c (first .table) (first .block .replay) d known)))
+        go (Standing.Refused y) d Outcome.Done a =
+            absurd (good-refused (sym (lent-good r c (first .table) (first .block .replay) (lent-after c w p xs l a)) ∙ d))
         go (Standing.Refused y) d (Outcome.Refused z) a =
-            ap (thenBlock first) (fold-stands c (first .table) (first .block .replay) ys d)
+            ap (thenBlock r first) (fold-stands c (first .table) (first .block .replay) ys d)
             ∙ ap (λ (o : Outcome). thenAt (orElse o (second .block .answer))) a ∙ ap (λ (o : Outcome). thenAt (orElse o (Outcome.Refused y))) (sym a)
-            ∙ ap (thenBlock first) (sym (block-stands c (first .table) (first .block .replay) ys d))
+            ∙ ap (thenBlock r first) (sym (block-stands c (first .table) (first .block .replay) ys d))
 
-    pub blocks-join : Known c w p
-        → blockReplay r c w p (xs ++ ys) ≡ thenBlock (blockReplay r c w p xs)
+    pub blocks-join : Known r c w p
+        → blockReplay r c w p (xs ++ ys) ≡ thenBlock r (blockReplay r c w p xs)
         (blockReplay r c (blockReplay r c w p xs .table) (blockReplay r c w p xs .block .replay) ys)
     blocks-join k = go (p .standing) refl
       where
         go : (s : Standing) → p .standing ≡ s
-            → blockReplay r c w p (xs ++ ys) ≡ thenBlock (blockReplay r c w p xs)
+            → blockReplay r c w p (xs ++ ys) ≡ thenBlock r (blockReplay r c w p xs)
             (blockReplay r c (blockReplay r c w p xs .table) (blockReplay r c w p xs .block .replay) ys)
         go (Standing.Refused x) e = rw (block-stands c w p (xs ++ ys) e, block-stands c w p xs e) (rw (block-stands c w p ys e))
         go Standing.Good e =
-            let l = lent-known c w p e k in
-            rw (block-lent c w p (xs ++ ys) l, block-lent c w p xs l) (folds-join c w p xs ys whole ∙ second-is l)
+            let l = lent-known r c w p e k in
+            rw (block-lent c w p (xs ++ ys) l, block-lent c w p xs l) (folds-join r c w p xs ys whole ∙ second-is l)
 
-    pub block-known : Known c w p → Known c (blockReplay r c w p xs .table) (blockReplay r c w p xs .block .replay)
+    pub block-known : Known r c w p → Known r c (blockReplay r c w p xs .table) (blockReplay r c w p xs .block .replay)
     block-known k = go (p .standing) refl
       where
-        go : (s : Standing) → p .standing ≡ s → Known c (blockReplay r c w p xs .table) (blockReplay r c w p xs .block .replay)
+        go : (s : Standing) → p .standing ≡ s → Known r c (blockReplay r c w p xs .table) (blockReplay r c w p xs .block .replay)
         go (Standing.Refused x) e = rw (block-stands c w p xs e) k
-        go Standing.Good e = rw (block-lent c w p xs (lent-known c w p e k)) (known-after c w p xs k)
+        go Standing.Good e = rw (block-lent c w p xs (lent-known r c w p e k)) (known-after c w p xs k)
 
   -- a log cut into blocks of whole lines, the last of which may end in a part line, is one block
   pub blocks-fold : (c : Case) (w : List ℤ) (p : Replay) (xs : List (List ℕ)) (y : List ℕ) → ((x : List ℕ) → x ∈ xs → hasPart (r .amountWidth) x ≡ false)
-      → Known c w p
-      → blocksReplay c w p xs y ≡ blockReplay r c w p (joined xs ++ y)
+      → Known r c w p
+      → blocksReplay r c w p xs y ≡ blockReplay r c w p (joined xs ++ y)
   blocks-fold c w p [] y whole k = refl
   blocks-fold c w p (x ∷ xs) y whole k =
       let call = blockReplay r c w p x in
       let all-whole = whole x (List·Memᴰ·head refl) in
-      ap (thenBlock call) (blocks-fold c (call .table) (call .block .replay) xs y (λ k m. whole k (List·Memᴰ·tail m)) (block-known c w p x y all-whole k))
+      ap (thenBlock r call) (blocks-fold c (call .table) (call .block .replay) xs y (λ k m. whole k (List·Memᴰ·tail m)) (block-known c w p x y all-whole k))
       ∙ sym (blocks-join c w p x (joined xs ++ y) all-whole k)
       ∙ ap (blockReplay r c w p) (sym (append-assoc x (joined xs) y))

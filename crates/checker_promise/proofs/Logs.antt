@@ -22,13 +22,13 @@ use Rattle.definitions.specs.Refusals.{firstOf}
 use Rattle.definitions.specs.Valid.{startingWeight, handedOver, valid}
 use Rattle.definitions.specs.Lines.{linesIn, hasPart}
 use Rattle.definitions.specs.Replay.{State, fresh, after, answers, atEnd}
-use Rattle.checker.specs.Checker.{BlockCall, freshOf, freshReplay, takenLines, firstRefused, endReplay, foldReplay}
+use Rattle.checker.specs.Checker.{BlockCall, isVoid, goodIn, freshOf, freshReplay, takenLines, firstRefused, endReplay, foldReplay}
 use Rattle.definitions.specs.declared.Judgement.{Judgement}
-use Rattle.definitions.specs.Programs.{firstNumber, judgeLog}
+use Rattle.definitions.specs.Programs.{firstNumber, goodJudgement, judgeLog}
 use Rattle.integers.specs.Tests.{tests}
 use Rattle.theory.proofs.Replays.{none-iff, handed-after}
 use Rattle.checker_promise.proofs.Blocks.{Lent, lent-handed}
-use Rattle.checker_promise.proofs.Accepts.{answers-are, end-is, weights-are, rounds-are}
+use Rattle.checker_promise.proofs.Accepts.{answers-are, end-is, weights-are, rounds-are, void-told}
 
 -- the judgement of a log whose lines, but for those taken, begin at `at`: the first refusal, else the end's, else 14 where a part line is left
 abbrev pub logJudged : ℕ → Outcome → Outcome → Bool → Judgement → Judgement
@@ -61,7 +61,7 @@ module _ {r : Rules} (coherent : Coherent r) (c : Case) (w : List ℤ) (t : T (v
   pub fresh-lent : Lent r c w (freshReplay r c w)
   unfolding freshReplay
   fresh-lent = rw (none-iff (firstOf (handedOver r (startingWeight r) c w false false)) .0 t)
-      (lent-handed r c w (freshOf none (upperBound c w)) refl (handed-after r c w t [] coherent) (simp tests (omega arith)))
+      (lent-handed r c w (freshOf none (upperBound c w)) refl (handed-after coherent c w t []) (simp tests (omega arith)))
 
   pub log-table : logFold r c w log .table ≡ logState r c w log .weights
   unfolding foldReplay
@@ -70,6 +70,10 @@ module _ {r : Rules} (coherent : Coherent r) (c : Case) (w : List ℤ) (t : T (v
   pub log-rounds : logFold r c w log .block .replay .rounds ≡ logState r c w log .rounds
   unfolding foldReplay
   log-rounds = rounds-are coherent c w t lines
+
+  pub log-over : isVoid (logFold r c w log .block .replay .due) ≡ logState r c w log .void
+  unfolding foldReplay
+  log-over = void-told coherent c w t lines
 
   pub log-end : endReplay r c (logFold r c w log .block .replay) ≡ outcomeOf (atEnd (logState r c w log))
   unfolding foldReplay
@@ -86,16 +90,25 @@ module _ (c : Case) (w : List ℤ) (t : T (valid (rulesOf c) c w)) (log : List �
   pub log-judged : (at : ℕ) → judgeLog c w at log
       ≡ logJudged (at + logFold r c w log .block .lines) (logFold r c w log .block .answer) (endReplay r c (logFold r c w log .block .replay))
       (hasPart (r .amountWidth) log)
-      (Judgement.Accepted (logFold r c w log .block .replay .rounds) (upperBound c (logFold r c w log .table)))
+      (goodIn c (logFold r c w log .block .replay) (logFold r c w log .table))
   unfolding foldReplay
   log-judged at =
       number-judged at (answers r (fresh c w) (linesIn (r .amountWidth) log)) (atEnd (logState r c w log)) (hasPart (r .amountWidth) log)
-      (Judgement.Accepted (logState r c w log .rounds) (upperBound c (logState r c w log .weights)))
-      ∙ sym (ap₂ (λ (os : List Outcome) (end : Outcome). judged os end (logFold r c w log .block .replay .rounds) (logFold r c w log .table))
+      (goodJudgement c (logState r c w log))
+      ∙ sym (ap₂ (λ (os : List Outcome) (end : Outcome). judged os end (isVoid (fold .block .replay .due)) (fold .block .replay .rounds) (fold .table))
       (answers-are whole c w t (linesIn (r .amountWidth) log)) (log-end whole c w t log)
-      ∙ ap₂ (judged (map outcomeOf (answers r (fresh c w) (linesIn (r .amountWidth) log))) (outcomeOf (atEnd (logState r c w log))))
-      (log-rounds whole c w t log) (log-table whole c w t log))
+      ∙ ap (λ (over : Bool). judged all end over (fold .block .replay .rounds) (fold .table)) (log-over whole c w t log)
+      ∙ ap₂ (judged all end (logState r c w log .void)) (log-rounds whole c w t log) (log-table whole c w t log))
     where
-      judged : List Outcome → Outcome → ℕ → List ℤ → Judgement
-      judged os end rounds table = logJudged (at + takenLines os) (firstRefused os) end (hasPart (r .amountWidth) log)
-          (Judgement.Accepted rounds (upperBound c table))
+      fold : BlockCall
+      fold = logFold r c w log
+
+      all : List Outcome
+      all = map outcomeOf (answers r (fresh c w) (linesIn (r .amountWidth) log))
+
+      end : Outcome
+      end = outcomeOf (atEnd (logState r c w log))
+
+      judged : List Outcome → Outcome → Bool → ℕ → List ℤ → Judgement
+      judged os end over rounds table = logJudged (at + takenLines os) (firstRefused os) end (hasPart (r .amountWidth) log)
+          (if over then Judgement.Void else Judgement.Accepted rounds (upperBound c table))

@@ -16,9 +16,10 @@ use Rattle.definitions.specs.declared.Refusal.{Refusal}
 use Rattle.definitions.specs.Rules.{Rules}
 use Rattle.definitions.specs.Refusals.{numberOf}
 use Rattle.definitions.specs.Answers.{Says, outcomeSays, figureSays}
-use Rattle.definitions.specs.Case.{isAssignment, objective, upperBound}
+use Rattle.definitions.specs.Case.{objective, upperBound, isLawful}
 use Rattle.definitions.specs.Replay.{fresh, after, answers, atEnd, keepsRules}
 use Rattle.calls.specs.Calls.{upperBoundAnswer}
+use Rattle.checker.specs.declared.Due.{Due}
 use Rattle.checker.specs.Checker.{Between, freshReplay, endReplay, afterLines, lineAnswers}
 
 -- the case and its starting weights with a fresh record
@@ -47,12 +48,16 @@ pub record LinesTrusted (r : Rules) (c : Case) (w : List ℤ) (ts : List (List �
   pub rounds : b .replay .rounds ≡ after r (fresh c w) ts .rounds
   -- "and the list is accepted exactly when it keeps the line rules." (L3)
   pub accepted : Accepted r c w ts ↔ T (keepsRules r c w ts)
-  -- "Accepted or not, after it each plan's working total is at least its starting total," (L4)
-  pub total-least : (p : List ℕ) → T (isAssignment c p) → objective c w p ≤ℤ objective c (b .table) p
+  -- "Accepted or not, after it each plan's working total is at least its starting total," (L4); "what demand 3 says of plans is promised for
+  -- lawful plans" (document 02, change 2)
+  pub total-least : (p : List ℕ) → T (isLawful c w p) → objective c w p ≤ℤ objective c (b .table) p
   -- "the ceiling is at least every plan's starting total," (L5)
-  pub bound-least : (p : List ℕ) → T (isAssignment c p) → objective c w p ≤ℤ upperBound c (b .table)
+  pub bound-least : (p : List ℕ) → T (isLawful c w p) → objective c w p ≤ℤ upperBound c (b .table)
   -- "and the rounds number no more than the starting ceiling minus any plan's starting total." (L6)
-  pub rounds-most : (p : List ℕ) → T (isAssignment c p) → pos (b .replay .rounds) ≤ℤ (upperBound c w -ℤ objective c w p)
+  pub rounds-most : (p : List ℕ) → T (isLawful c w p) → pos (b .replay .rounds) ≤ℤ (upperBound c w -ℤ objective c w p)
+  -- once a void line "is whole ... nothing is due any more"; "it means that no lawful plan exists" (document 02, change 2; K2h, K2j)
+  pub void-due : b .replay .due ≡ Due.Nothing ↔ T (after r (fresh c w) ts .void)
+  pub none-lawful : b .replay .due ≡ Due.Nothing → (p : List ℕ) → T (isLawful c w p) → ⊥
 
 -- lines are handed over one after another, the first with the starting weights and a fresh record, each later one with the table and the
 -- record that the last one left

@@ -1,14 +1,17 @@
 // Logs replayed line by line and as one block. Standard input holds vectors: a line that names what is tried, a line in columns whose amount is
-// the number of bytes that follow, and these bytes, a case file and then a log. The first line in columns also gives the table's places (a).
+// the number of bytes that follow, and these bytes, a case file and then a log. The first line in columns also gives the table's places (a), and
+// whether its first two are barred once the case is read (c).
 // Each is printed with the number of every line, the number at the end, the rounds, the weights, and what the log is as one block.
-// Where b is 2, two lines before the log tell the record that is handed over in place of a fresh one: the press begun, if its kind is 3
-// (variable, lines left, last scope or -1, amount); the number that stands, a scope that is marked or -1, whether a move has no bound line
-// after it, and the rounds (c: 0, 1 for the greatest count, 2 for one more). Then the number at its end and the record after it are printed too.
-// The file `stdout` was worked out from document 01; the peer gives each log the same answer.
+// Where b is 2, two lines before the log tell the record that is handed over in place of a fresh one: the press begun, if its kind is 3, or the
+// void line begun, if its kind is 5 (variable, lines left, last scope or -1, amount), or, if its kind is 6, that a void line is whole; the number
+// that stands, a scope that is marked or -1, whether a move has no bound line after it, and the rounds (c: 0, 1 for the greatest count, 2 for one
+// more). Then the number at its end and the record after it are printed too.
+// The file `stdout` was worked out from documents 01 and 02; the peer gives each log the same answer.
 use checker::Due;
 use checker::LastRaised;
 use checker::Replay;
 use checker::Standing;
+use checker::Target;
 use definitions::Case;
 use definitions::FileAnswer;
 use definitions::Line;
@@ -71,14 +74,24 @@ fn last_of(scope: i64) -> LastRaised {
     LastRaised::Scope(count(scope))
 }
 
+fn raise_of(line: Line, target: Target) -> Due {
+    Due::Raise {
+        variable: count(line.a),
+        target,
+        left: count(line.b),
+        last: last_of(line.c),
+    }
+}
+
 fn due_of(line: Line) -> Due {
     if line.kind == 3 {
-        return Due::Raise {
-            variable: count(line.a),
-            amount: line.amount,
-            left: count(line.b),
-            last: last_of(line.c),
-        };
+        return raise_of(line, Target::Press(line.amount));
+    }
+    if line.kind == 5 {
+        return raise_of(line, Target::Void);
+    }
+    if line.kind == 6 {
+        return Due::Nothing;
     }
     Due::MoveOrBound
 }
@@ -120,20 +133,30 @@ fn print_last(last: LastRaised) {
     }
 }
 
+fn print_target(target: Target) {
+    match target {
+        Target::Press(amount) => {
+            drivers::print_number(amount);
+        }
+        Target::Void => print(b" void"),
+    }
+}
+
 fn print_due(due: Due) {
     match due {
         Due::MoveOrBound => print(b" 0"),
         Due::Raise {
             variable,
-            amount,
+            target,
             left,
             last,
         } => {
             drivers::print_count(variable as u64);
-            drivers::print_number(amount);
+            print_target(target);
             drivers::print_count(left as u64);
             print_last(last);
         }
+        Due::Nothing => print(b" nothing"),
     }
 }
 
@@ -280,8 +303,19 @@ fn lines_of(answer: FileAnswer) -> usize {
     }
 }
 
-fn line_by_line(bytes: &[u8], table: &mut [i64], told: usize) {
+// Bars the first two places.
+fn bar(table: &mut [i64], barred: bool) {
+    if barred {
+        if 2 <= table.len() {
+            table[0] = -2_000_000_000;
+            table[1] = -2_000_000_000;
+        }
+    }
+}
+
+fn line_by_line(bytes: &[u8], table: &mut [i64], told: usize, barred: bool) {
     let read = casefile::read_case(bytes, table);
+    bar(table, barred);
     let answer = read.answer;
     let rest = log_after(bytes, lines_of(answer));
     single(
@@ -292,8 +326,9 @@ fn line_by_line(bytes: &[u8], table: &mut [i64], told: usize) {
     );
 }
 
-fn as_a_block(bytes: &[u8], table: &mut [i64], told: usize) {
+fn as_a_block(bytes: &[u8], table: &mut [i64], told: usize, barred: bool) {
     let read = casefile::read_case(bytes, table);
+    bar(table, barred);
     let answer = read.answer;
     let rest = log_after(bytes, lines_of(answer));
     whole(
@@ -304,12 +339,12 @@ fn as_a_block(bytes: &[u8], table: &mut [i64], told: usize) {
     );
 }
 
-fn replay(bytes: &[u8], places: usize, told: usize) {
+fn replay(bytes: &[u8], places: usize, told: usize, barred: bool) {
     if places <= 20 {
         let mut one = [0i64; 20];
-        line_by_line(bytes, &mut one[0..places], told);
+        line_by_line(bytes, &mut one[0..places], told, barred);
         let mut other = [0i64; 20];
-        as_a_block(bytes, &mut other[0..places], told);
+        as_a_block(bytes, &mut other[0..places], told, barred);
     }
 }
 
@@ -325,7 +360,12 @@ fn vector(input: &[u8]) -> usize {
         return 0;
     }
     let to = 54 + size;
-    replay(&input[54..to], count(control.a), count(control.b));
+    replay(
+        &input[54..to],
+        count(control.a),
+        count(control.b),
+        control.c != 0,
+    );
     to
 }
 
@@ -344,7 +384,7 @@ fn vectors(input: &[u8]) {
 }
 
 fn main() {
-    let mut input = [0u8; 60000];
+    let mut input = [0u8; 80000];
     let n = io::read_full(0, &mut input);
     vectors(&input[..n]);
 }

@@ -23,6 +23,8 @@ use Rattle.definitions.specs.declared.Refusal.the-variants.{
   OtherBound,
   BoundNotLower,
   CutShort,
+  ScopeBarred,
+  NotAllBarred,
 }
 use Rattle.definitions.specs.declared.Outcome.{Outcome}
 use Rattle.definitions.specs.declared.Figure.{Figure}
@@ -42,11 +44,11 @@ use Rattle.definitions.specs.Answers.{roundSays, runSays, choiceSays, ju
 
 -- ---- numbers
 
--- a number says which refusal it is, and is 1 to 14
+-- a number says which refusal it is, and is 1 to 16
 pub record Numbered (x : Refusal) : Type 0 where
   pub back : refusalOf (number x) ≡ some x
   pub least : eqb (number x) 0 ≡ false
-  pub most : leb (number x) 14 ≡ true
+  pub most : leb (number x) 16 ≡ true
 
 pub numbered : (x : Refusal) → Numbered x
 numbered NotInColumns = record { back = refl; least = refl; most = refl }
@@ -63,6 +65,8 @@ numbered LeavesRange = record { back = refl; least = refl; most = refl }
 numbered OtherBound = record { back = refl; least = refl; most = refl }
 numbered BoundNotLower = record { back = refl; least = refl; most = refl }
 numbered CutShort = record { back = refl; least = refl; most = refl }
+numbered ScopeBarred = record { back = refl; least = refl; most = refl }
+numbered NotAllBarred = record { back = refl; least = refl; most = refl }
 
 module _ {A : Type 0} where
   -- a where no number is said, else what f gives of its refusal
@@ -201,11 +205,17 @@ choice-back (Choice.Refused x) = refused-back x _ Choice.Refused
 pub choice-same : (a b : Choice) → choiceSays a ≡ choiceSays b → a ≡ b
 choice-same = same-said choiceSays choiceFrom choice-back
 
+-- void has no values
+abbrev judgementWith : List ℤ → ℤ → Judgement
+judgementWith [] bound = Judgement.Void
+judgementWith (z ∷ zs) bound = Judgement.Accepted (natAbs z) bound
+
 abbrev judgementFrom : Says → Judgement
-judgementFrom s = from s (Judgement.Accepted (countAt s 0) (valueAt s 1)) (λ x. Judgement.Refused x (countAt s 0))
+judgementFrom s = from s (judgementWith (s .values) (valueAt s 1)) (λ x. Judgement.Refused x (countAt s 0))
 
 judgement-back : (a : Judgement) → judgementFrom (judgementSays a) ≡ a
 judgement-back (Judgement.Accepted rounds bound) = refl
+judgement-back Judgement.Void = refl
 judgement-back (Judgement.Refused x at) = refused-back x (Judgement.Accepted at (pos 0)) (λ y. Judgement.Refused y at)
 
 pub judgement-same : (a b : Judgement) → judgementSays a ≡ judgementSays b → a ≡ b

@@ -22,6 +22,8 @@ use Rattle.definitions.specs.declared.Refusal.the-variants.{
   OtherBound,
   BoundNotLower,
   CutShort,
+  ScopeBarred,
+  NotAllBarred,
 }
 use Rattle.definitions.specs.declared.Outcome.{Outcome}
 use Rattle.definitions.specs.declared.Figure.{Figure}
@@ -107,9 +109,10 @@ choiceSays Choice.First = gives (pos 0 ∷ [])
 choiceSays Choice.Second = gives (pos 1 ∷ [])
 choiceSays (Choice.Refused x) = saysNo x
 
--- the rounds and the upper bound
+-- the rounds and the upper bound; void has no values
 abbrev pub judgementSays : Judgement → Says
 judgementSays (Judgement.Accepted rounds bound) = gives (pos rounds ∷ bound ∷ [])
+judgementSays Judgement.Void = gives []
 judgementSays (Judgement.Refused x at) = saysNoAt x at
 
 -- ---- what is said, part by part
@@ -142,6 +145,8 @@ refusals =
     ∷ OtherBound
     ∷ BoundNotLower
     ∷ CutShort
+    ∷ ScopeBarred
+    ∷ NotAllBarred
     ∷ []
 
 abbrev pub refusalAmong : ℕ → List Refusal → Option Refusal

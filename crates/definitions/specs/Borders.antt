@@ -102,7 +102,7 @@ pub lines :
     in
     let w : List ℤ = clash .weights in
     let late : ℕ → State =
-    λ n. record { case = clash .case; starting = w; weights = w; rounds = n; start = pos 9; held = none; moving = false; refusal = none }
+    λ n. record { case = clash .case; starting = w; weights = w; rounds = n; start = pos 9; held = none; moving = false; void = false; refusal = none }
     in
     Hold
     ( -- 1 and 2: kinds due and unused columns

@@ -1,12 +1,14 @@
--- Document 01, "Links, scopes and totals": scopes, the table, totals and ceilings. Assumes nothing.
-use mathlib.Core.Bool.{Bool, _&&_}
+-- Document 01, "Links, scopes and totals": scopes, the table, totals and ceilings; document 02, change 2: barred tuples and lawful
+-- assignments. Assumes nothing.
+use mathlib.Core.Bool.{Bool, not, _&&_}
 use mathlib.Core.List.{List, map}
 use Prim.Native.Nat.{ℕ, _+_, _*_, _-_}
 use lib.IntN.{ℤ, pos}
 use lib.Dec.{ltb, eqb}
 use lib.ListN.{length, getD}
-use Rattle.integers.specs.Words.{if_then_else_, below, all, joined, sum, greatestOf, eqZ}
+use Rattle.integers.specs.Words.{if_then_else_, below, all, any, joined, sum, minus, greatestOf, eqZ}
 use Rattle.definitions.specs.declared.Case.{Case}
+use Rattle.definitions.specs.Rules.{barring}
 
 -- the values (channels) of a variable
 abbrev pub values : Case → List ℕ
@@ -87,3 +89,26 @@ upperBound c w = sum (map (greatest c w) (scopes c))
 -- equation 8: a tuple is active if it has its scope's greatest weight
 abbrev pub active : Case → List ℤ → ℕ → ℕ → ℕ → Bool
 active c w x k l = eqZ (weight c w x k l) (greatest c w x)
+
+-- ---- document 02, change 2
+
+-- A barred tuple (a combination that a licence bars outright) holds this number in tables. It is below every weight, so that in a scope with a
+-- tuple that is not barred no barred one is active (theory, Barred.active-free), and greatest weight and upper bound are as above.
+abbrev pub barredWeight : ℤ
+barredWeight = minus barring
+
+abbrev pub isBarred : ℤ → Bool
+isBarred z = eqZ z barredWeight
+
+abbrev pub barred : Case → List ℤ → ℕ → ℕ → ℕ → Bool
+barred c w x k l = isBarred (weight c w x k l)
+
+abbrev pub whollyBarred : Case → List ℤ → ℕ → Bool
+whollyBarred c w x = all (λ b. b) (eachTuple c x (barred c w x))
+
+-- an assignment is lawful if it uses no barred tuple
+abbrev pub usesBarred : Case → List ℤ → List ℕ → Bool
+usesBarred c w p = any (λ x. atUsed c p x (barred c w x)) (scopes c)
+
+abbrev pub isLawful : Case → List ℤ → List ℕ → Bool
+isLawful c w p = isAssignment c p && not (usesBarred c w p)

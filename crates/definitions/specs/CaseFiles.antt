@@ -1,4 +1,4 @@
--- Document 01, "Lines": case files, written and read into a lent table. Assumes nothing.
+-- Document 01, "Lines": case files, written and read into a lent table, with barred tuples (document 02, change 2). Assumes nothing.
 use mathlib.Core.Bool.{Bool, true, false, not, _&&_, _||_}
 use mathlib.Core.Option.{Option, none, some}
 use mathlib.Core.List.{List, [], _∷_, _++_, map}
@@ -25,25 +25,30 @@ use Rattle.definitions.specs.declared.Refusal.the-variants.{
   EdgeRepeated,
   WeightOutOfRange,
   CutShort,
+  ScopeBarred,
 }
 use Rattle.definitions.specs.Rules.{Rules, rulesIn, edgePlaces}
 use Rattle.definitions.specs.Refusals.{Test, _when_, firstOf}
-use Rattle.definitions.specs.Case.{values, lowerEnd, upperEnd, eachTuple, weight, place, lentLength}
-use Rattle.definitions.specs.Valid.{startingWeight}
-use Rattle.definitions.specs.Lines.{line, lineText, lineLength, readLine, notDue, outside}
+use Rattle.definitions.specs.Case.{values, lowerEnd, upperEnd, eachTuple, weight, place, lentLength, barredWeight, isBarred, whollyBarred}
+use Rattle.definitions.specs.Valid.{inStarting}
+use Rattle.definitions.specs.Lines.{line, lineText, lineLength, readLine, notDue, isKind, outside}
 
--- ---- written: the head, all kind 11 lines, then each edge's kind 12 line and its kind 13 lines, all in table order
+-- ---- written: the head, all kind 11 lines, then each edge's kind 12 line and its kind 13 lines, all in table order; of a barred tuple kind 14 in
+-- place of 11 and 15 in place of 13, amount 0
 
 abbrev pub headLine : Case → Line
 headLine c = line 10 (pos (c .n)) (pos (c .d)) (pos (c .m)) (pos 0)
 
+abbrev pub weightLine : ℕ → ℕ → ℤ → ℤ → ℤ → ℤ → Line
+weightLine kind barredKind a b c z = if isBarred z then line barredKind a b c (pos 0) else line kind a b c z
+
 abbrev pub variableLines : Case → List ℤ → ℕ → List Line
-variableLines c w i = eachTuple c i (λ k l. line 11 (pos i) (pos k) (pos 0) (weight c w i k l))
+variableLines c w i = eachTuple c i (λ k l. weightLine 11 14 (pos i) (pos k) (pos 0) (weight c w i k l))
 
 abbrev pub edgeLines : Case → List ℤ → ℕ → List Line
 edgeLines c w e =
     line 12 (pos e) (pos (lowerEnd c e)) (pos (upperEnd c e)) (pos 0)
-    ∷ eachTuple c (c .n + e) (λ k l. line 13 (pos e) (pos k) (pos l) (weight c w (c .n + e) k l))
+    ∷ eachTuple c (c .n + e) (λ k l. weightLine 13 15 (pos e) (pos k) (pos l) (weight c w (c .n + e) k l))
 
 abbrev pub caseLines : Case → List ℤ → List Line
 caseLines c w =
@@ -81,26 +86,6 @@ headTests r (some t) =
 abbrev pub alreadyJoined : Case → ℕ → ℕ → ℕ → Bool
 alreadyJoined c e i j = any (λ f. eqb (lowerEnd c f) i && eqb (upperEnd c f) j) (below e)
 
--- c holds the edges read so far
-abbrev pub dueTests : Rules → Case → CaseDue → Option Line → List Test
-dueTests r c due none = NotInColumns when true ∷ []
-dueTests r c (variable-weight i k) (some t) =
-    NotDue when (notDue r (11 ∷ []) t)
-    ∷ OutOfRange when (not (names i (t .a) && names k (t .b)))
-    ∷ WeightOutOfRange when (not (startingWeight r (t .amount)))
-    ∷ []
-dueTests r c (edge-ends e) (some t) =
-    NotDue when (notDue r (12 ∷ []) t)
-    ∷ OutOfRange when (not (names e (t .a)) || outside (c .n) (t .b) || outside (c .n) (t .c))
-    ∷ EndsNotAscending when (not (ltZ (t .b) (t .c)))
-    ∷ EdgeRepeated when (alreadyJoined c e (natAbs (t .b)) (natAbs (t .c)))
-    ∷ []
-dueTests r c (edge-weight e k l) (some t) =
-    NotDue when (notDue r (13 ∷ []) t)
-    ∷ OutOfRange when (not (names e (t .a) && names k (t .b) && names l (t .c)))
-    ∷ WeightOutOfRange when (not (startingWeight r (t .amount)))
-    ∷ []
-
 -- the case so far and the lent table
 pub record Reading : Type 0 where
   pub case : Case
@@ -120,11 +105,43 @@ withWeight g x k l z = record { case = g .case; table = set (g .table) (place (g
 abbrev pub withEnds : Case → ℕ → ℕ → ℕ → Case
 withEnds c e i j = record { n = c .n; d = c .d; m = c .m; lower = set (c .lower) e i; upper = set (c .upper) e j; rulebook = c .rulebook }
 
+-- kinds 14 and 15 bar the tuple
+abbrev pub bars : Line → Bool
+bars t = isKind 14 t || isKind 15 t
+
+abbrev pub weightIn : Line → ℤ
+weightIn t = if bars t then barredWeight else t .amount
+
 abbrev pub took : Reading → CaseDue → Option Line → Reading
 took g due none = g
-took g (variable-weight i k) (some t) = withWeight g i k 0 (t .amount)
+took g (variable-weight i k) (some t) = withWeight g i k 0 (weightIn t)
 took g (edge-ends e) (some t) = record { case = withEnds (g .case) e (natAbs (t .b)) (natAbs (t .c)); table = g .table }
-took g (edge-weight e k l) (some t) = withWeight g (g .case .n + e) k l (t .amount)
+took g (edge-weight e k l) (some t) = withWeight g (g .case .n + e) k l (weightIn t)
+
+-- numbers 8 and 15 of a weight line; a scope is wholly barred at its last line
+abbrev pub weightTests : Rules → Reading → ℕ → Bool → Line → List Test
+weightTests r after x lastOne t =
+    WeightOutOfRange when (not (bars t) && not (inStarting r (t .amount)))
+    ∷ ScopeBarred when (lastOne && whollyBarred (after .case) (after .table) x)
+    ∷ []
+
+-- g holds the edges and weights read so far
+abbrev pub dueTests : Rules → Reading → CaseDue → Option Line → List Test
+dueTests r g due none = NotInColumns when true ∷ []
+dueTests r g (variable-weight i k) (some t) =
+    NotDue when (notDue r (11 ∷ 14 ∷ []) t)
+    ∷ OutOfRange when (not (names i (t .a) && names k (t .b)))
+    ∷ weightTests r (took g (variable-weight i k) (some t)) i (eqb (k + 1) (g .case .d)) t
+dueTests r g (edge-ends e) (some t) =
+    NotDue when (notDue r (12 ∷ []) t)
+    ∷ OutOfRange when (not (names e (t .a)) || outside (g .case .n) (t .b) || outside (g .case .n) (t .c))
+    ∷ EndsNotAscending when (not (ltZ (t .b) (t .c)))
+    ∷ EdgeRepeated when (alreadyJoined (g .case) e (natAbs (t .b)) (natAbs (t .c)))
+    ∷ []
+dueTests r g (edge-weight e k l) (some t) =
+    NotDue when (notDue r (13 ∷ 15 ∷ []) t)
+    ∷ OutOfRange when (not (names e (t .a) && names k (t .b) && names l (t .c)))
+    ∷ weightTests r (took g (edge-weight e k l) (some t)) (g .case .n + e) (eqb (k + 1) (g .case .d) && eqb (l + 1) (g .case .d)) t
 
 -- what the reader answers, and the lent table after it: on a refusal the case is all zero, and the weights are as after the last good line,
 -- places not reached keeping what they held
@@ -171,7 +188,7 @@ module _ (b : Rulebook) where
       elim (isCut (rulesIn b) t) [
         | true ↦ caseRefused CutShort at (g .table)
         | false ↦
-            elim (firstOf (dueTests (rulesIn b) (g .case) due (firstLine (rulesIn b) t))) [
+            elim (firstOf (dueTests (rulesIn b) g due (firstLine (rulesIn b) t))) [
               | none ↦ readDues (took g due (firstLine (rulesIn b) t)) (at + 1) dues (afterFirst (rulesIn b) t)
               | some x ↦ caseRefused x at (g .table)
             ]

@@ -1,22 +1,28 @@
 -- Document 01, "The engine's round", and its run, with pair rounds before presses (document 02, change 1). Assumes nothing.
-use mathlib.Core.Bool.{not}
+use mathlib.Core.Bool.{Bool, not}
 use mathlib.Core.Option.{Option, none, some}
 use mathlib.Core.List.{List, [], _∷_, _++_, map}
 use Prim.Native.Nat.{ℕ, zero, suc, _+_, _*_, _<_}
 use lib.IntN.{ℤ, _-ℤ_}
 use lib.Dec.{T, eqb}
-use Rattle.integers.specs.Words.{if_then_else_, below, isIn, those, first, joined, greatestOf, leastOf}
+use lib.ListN.{take}
+use Rattle.integers.specs.Words.{if_then_else_, below, any, isIn, those, first, joined, greatestOf, leastOf}
 use Rattle.definitions.specs.declared.Case.{Case}
 use Rattle.definitions.specs.declared.Refusal.{Refusal}
 use Rattle.definitions.specs.declared.Refusal.the-variants.{LeavesRange}
 use Rattle.definitions.specs.declared.RunAnswer.{RunAnswer}
 use Rattle.definitions.specs.Rules.{Rules}
-use Rattle.definitions.specs.Case.{scopes, scopeCount, eachTuple, weight, greatest, active}
+use Rattle.definitions.specs.Case.{scopes, scopeCount, eachTuple, ownLength, weight, greatest, active, isBarred}
 use Rattle.definitions.specs.Consistency.{Family, Supported}
 use Rattle.definitions.specs.Moves.{Move, activePress, activeRefuted, afterMoves}
 use Rattle.definitions.specs.PairRounds.{pairRound, lowestPair, PairsSettled}
 use Rattle.definitions.specs.Lines.{lineLength}
 use Rattle.definitions.specs.RoundLines.{roundText}
+
+-- ---- The engine takes no table with a barred tuple (document 02, change 2): number 8
+
+abbrev pub someBarred : Case → List ℤ → Bool
+someBarred c w = any isBarred (take (ownLength c) w)
 
 -- ---- which press
 

@@ -1,4 +1,4 @@
--- Document 01 as definitions, in its order, with document 02's change 1 (PairRounds); Samples has P1 to P12.
+-- Document 01 as definitions, in its order, with document 02's changes 1 (PairRounds) and 2 (barred tuples, void lines); Samples has P1 to P12.
 pub mod Rules
 pub mod Refusals
 pub mod Answers
@@ -19,3 +19,4 @@ pub mod Programs
 pub mod Samples
 pub mod Borders
 pub mod PairBorders
+pub mod BarredBorders

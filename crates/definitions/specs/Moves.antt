@@ -1,16 +1,16 @@
 -- Document 01, "Moves": each is a difference that is added to the table. Assumes nothing.
-use mathlib.Core.Bool.{Bool, not, _&&_}
+use mathlib.Core.Bool.{Bool, not, _&&_, _||_}
 use mathlib.Core.Option.{Option, none, some}
 use mathlib.Core.List.{List, [], _∷_, _++_, map}
 use Prim.Native.Nat.{ℕ, _+_}
 use lib.IntN.{ℤ, pos, negℤ, _+ℤ_}
 use lib.Dec.{eqb}
-use lib.ListN.{drop}
-use Rattle.integers.specs.Words.{if_then_else_, isIn, joined, minus, eqZ, withinZ}
+use lib.ListN.{getD, drop}
+use Rattle.integers.specs.Words.{if_then_else_, below, all, isIn, joined, minus, eqZ, withinZ}
 use Rattle.definitions.specs.declared.Case.{Case}
 use Rattle.definitions.specs.Rules.{Rules}
-use Rattle.definitions.specs.Case.{scopes, eachTuple, ownLength, lowerEnd, upperEnd, weight, active}
-use Rattle.definitions.specs.Valid.{workingWeight, allWeights}
+use Rattle.definitions.specs.Case.{scopes, eachTuple, ownLength, lowerEnd, upperEnd, weight, active, isBarred, barred}
+use Rattle.definitions.specs.Valid.{inWorking}
 use Rattle.definitions.specs.Consistency.{forbidden, allRefuted}
 
 -- a number for each tuple k, l of each scope
@@ -69,9 +69,13 @@ abbrev pub difference : Case → List ℤ → Move → Difference
 difference c w (shift e end v a) = shiftBy c e end v a
 difference c w (press i lowered raised a) = pressBy c w i lowered (isIn raised) a
 
+-- a barred tuple stays barred under all moves (document 02, change 2)
+abbrev pub spared : Case → List ℤ → Difference → Difference
+spared c w δ x k l = if barred c w x k l then pos 0 else δ x k l
+
 -- the table after a move
 abbrev pub moved : Case → Move → List ℤ → List ℤ
-moved c move w = plus c (difference c w move) w
+moved c move w = plus c (spared c w (difference c w move)) w
 
 -- the amount of a shift is not 0, that of a press is at least 1, and both are within the limit of moves
 abbrev pub shiftAmount : Rules → ℤ → Bool
@@ -80,11 +84,14 @@ shiftAmount r a = withinZ (minus (r .moving)) (pos (r .moving)) a && not (eqZ a 
 abbrev pub pressAmount : Rules → ℤ → Bool
 pressAmount r a = withinZ (pos 1) (pos (r .moving)) a
 
--- number 11: a move would take a working weight outside its range
-abbrev pub leavesRange : Rules → Case → List ℤ → Bool
-leavesRange r c w = not (allWeights (workingWeight r) c w)
+-- number 11: a move from w to v would take a working weight outside its range; a barred tuple has none
+abbrev pub keepsRange : Rules → ℤ → ℤ → Bool
+keepsRange r before after = isBarred before || inWorking r after
+
+abbrev pub leavesRange : Rules → Case → List ℤ → List ℤ → Bool
+leavesRange r c w v = not (all (λ p. keepsRange r (getD w p (pos 0)) (getD v p (pos 0))) (below (ownLength c)))
 
 -- the moves one after another; none where one would take a working weight outside its range
 abbrev pub afterMoves : Rules → Case → List Move → List ℤ → Option (List ℤ)
 afterMoves r c [] w = some w
-afterMoves r c (move ∷ moves) w = if leavesRange r c (moved c move w) then none else afterMoves r c moves (moved c move w)
+afterMoves r c (move ∷ moves) w = if leavesRange r c w (moved c move w) then none else afterMoves r c moves (moved c move w)

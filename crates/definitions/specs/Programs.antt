@@ -1,4 +1,4 @@
--- Document 01: what the programs `press` and `replay` print. Assumes nothing.
+-- Document 01: what the programs `press` and `replay` print; document 02, change 2: `replay` on void lines. Assumes nothing.
 use mathlib.Core.Bool.{Bool}
 use mathlib.Core.Option.{Option, none, some}
 use mathlib.Core.List.{List, [], _∷_, _++_}
@@ -15,14 +15,14 @@ use Rattle.definitions.specs.declared.CaseSize.{CaseSize}
 use Rattle.definitions.specs.declared.Judgement.{Judgement}
 use Rattle.definitions.specs.declared.RunAnswer.{RunAnswer}
 use Rattle.definitions.specs.declared.Refusal.{Refusal}
-use Rattle.definitions.specs.declared.Refusal.the-variants.{CutShort}
+use Rattle.definitions.specs.declared.Refusal.the-variants.{WeightOutOfRange, CutShort}
 use Rattle.definitions.specs.Rules.{rulesOf}
 use Rattle.definitions.specs.Refusals.{number}
 use Rattle.definitions.specs.Case.{upperBound}
 use Rattle.definitions.specs.Lines.{numberText, lineLength, linesIn, hasPart}
 use Rattle.definitions.specs.CaseFiles.{CaseCall, caseSize, readCase, readCaseAlone}
-use Rattle.definitions.specs.Replay.{fresh, after, answers, atEnd}
-use Rattle.definitions.specs.Engine.{RunOf, engineNext, run}
+use Rattle.definitions.specs.Replay.{State, fresh, after, answers, atEnd}
+use Rattle.definitions.specs.Engine.{RunOf, someBarred, engineNext, run}
 
 -- `press` makes at most so many rounds
 abbrev pub pressLimit : ℕ
@@ -42,6 +42,7 @@ acceptedText rounds bound = bytesOf "accepted " ++ numberText (pos rounds) ++ by
 
 abbrev pub judgementText : Judgement → List ℕ
 judgementText (Judgement.Accepted rounds bound) = acceptedText rounds bound
+judgementText Judgement.Void = bytesOf "void\n"
 judgementText (Judgement.Refused x at) = refusedText x at
 
 -- the table that a program lends: as long as the head of the case asks
@@ -58,13 +59,17 @@ firstNumber at [] (some x) part good = Judgement.Refused x at
 firstNumber at (none ∷ xs) end part good = firstNumber (at + 1) xs end part good
 firstNumber at (some x ∷ xs) end part good = Judgement.Refused x at
 
+-- a list with no number: void after a whole void line
+abbrev pub goodJudgement : Case → State → Judgement
+goodJudgement c s = if s .void then Judgement.Void else Judgement.Accepted (s .rounds) (upperBound c (s .weights))
+
 -- the log begins at line `at`, and is judged by the rules of its case
 abbrev pub judgeLog : Case → List ℤ → ℕ → List ℕ → Judgement
 judgeLog c w at log =
     let r = rulesOf c in
     let lines = linesIn (r .amountWidth) log in
     let s = after r (fresh c w) lines in
-    firstNumber at (answers r (fresh c w) lines) (atEnd s) (hasPart (r .amountWidth) log) (Judgement.Accepted (s .rounds) (upperBound c (s .weights)))
+    firstNumber at (answers r (fresh c w) lines) (atEnd s) (hasPart (r .amountWidth) log) (goodJudgement c s)
 
 abbrev pub judgeRead : List ℕ → CaseCall → FileAnswer → Judgement
 judgeRead t call (FileAnswer.Refused x at) = Judgement.Refused x at
@@ -85,7 +90,9 @@ pressRun at q = joined (q .log) ++ pressEnd at (q .answer)
 abbrev pub pressRead : CaseCall → FileAnswer → List ℕ
 pressRead call (FileAnswer.Refused x at) = refusedText x at
 pressRead call (FileAnswer.Read lines) =
-    pressRun lines (run (rulesOf (call .read .case)) engineNext (call .read .case) pressLimit (call .table))
+    if someBarred (call .read .case) (call .table)
+    then refusedText WeightOutOfRange lines
+    else pressRun lines (run (rulesOf (call .read .case)) engineNext (call .read .case) pressLimit (call .table))
 
 -- ---- the programs' input is read under a rulebook
 

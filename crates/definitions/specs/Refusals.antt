@@ -20,9 +20,11 @@ use Rattle.definitions.specs.declared.Refusal.the-variants.{
   OtherBound,
   BoundNotLower,
   CutShort,
+  ScopeBarred,
+  NotAllBarred,
 }
 
--- document 01's number
+-- its number: 1 to 14 are document 01's, 15 and 16 document 02's (change 2). They are asked in the order 1 to 8, 15, 9, 10, 16, 11 to 14
 abbrev pub number : Refusal → ℕ
 number NotInColumns = 1
 number NotDue = 2
@@ -38,6 +40,8 @@ number LeavesRange = 11
 number OtherBound = 12
 number BoundNotLower = 13
 number CutShort = 14
+number ScopeBarred = 15
+number NotAllBarred = 16
 
 -- 0 where no number applies
 abbrev pub numberOf : Option Refusal → ℕ

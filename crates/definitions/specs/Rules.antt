@@ -35,7 +35,7 @@ pub record Rules : Type 0 where
   pub amountWidth : ℕ
   pub kinds : List Kind
 
--- the kinds of document 01
+-- the kinds of document 01, and those of document 02's change 2
 abbrev pub lineKinds : List Kind
 lineKinds =
     -- shift: edge, end, value, amount
@@ -46,6 +46,8 @@ lineKinds =
     ∷ uses 3 true false false false
     -- bound: the upper bound
     ∷ uses 4 false false false true
+    -- void: variable, count of raise lines
+    ∷ uses 5 true true false false
     -- head of a case: n, D, m
     ∷ uses 10 true true true false
     -- variable's weight: variable, value, weight
@@ -54,7 +56,15 @@ lineKinds =
     ∷ uses 12 true true true false
     -- edge's weight: edge, value k, value l, weight
     ∷ uses 13 true true true true
+    -- variable's barred value: variable, value
+    ∷ uses 14 true true false false
+    -- edge's barred tuple: edge, value k, value l
+    ∷ uses 15 true true true false
     ∷ []
+
+-- the number that a barred tuple holds in lent tables is minus this, under all rules (document 02, change 2)
+abbrev pub barring : ℕ
+barring = 2_000_000_000
 
 abbrev pub standard : Rules
 standard = record {
@@ -102,6 +112,8 @@ pub record Coherent (r : Rules) : Type 0 where
   pub room : (2 * scopesAtMost r + 1) * r .starting ≤ r .working
   -- the difference of two working weights is the amount of a move
   pub difference : 2 * r .working ≤ r .moving
+  -- a barred tuple's number is below every weight
+  pub barred-below : r .working < barring
   -- amounts of moves and upper bounds fit the amount column with a minus, and a number of that column fits 64 bits
   pub amount-some : 0 < r .amountWidth
   pub moving-fits : r .moving < 10 ^ (r .amountWidth - 1)
@@ -110,7 +122,7 @@ pub record Coherent (r : Rules) : Type 0 where
   -- a count of rounds fits 64 bits, and is never used up from starting weights
   pub rounds-fit : r .rounds < 2 ^ 63
   pub rounds-enough : 2 * (scopesAtMost r * r .starting) ≤ r .rounds
-  -- the kinds are those of document 01
+  -- the kinds are these
   pub known-kinds : r .kinds ≡ lineKinds
 
 pub standard-coherent : Coherent standard
@@ -123,6 +135,7 @@ standard-coherent = record {
   scopes-placed = lit≤ tt;
   room = lit≤ tt;
   difference = lit≤ tt;
+  barred-below = lit< tt;
   amount-some = lit< tt;
   moving-fits = lit< tt;
   bound-fits = lit< tt;

@@ -1,4 +1,4 @@
--- Document 01: the limits and ranges of a case and its table, numbers 3 to 8, and which cases are valid. Assumes nothing.
+-- Document 01: the limits and ranges of a case and its table, numbers 3 to 8 and 15, and which cases are valid. Assumes nothing.
 use mathlib.Core.Bool.{Bool, false, not, _&&_, _||_}
 use mathlib.Core.List.{List, [], _∷_, _++_}
 use Prim.Native.Nat.{ℕ}
@@ -7,16 +7,32 @@ use lib.Dec.{ltb, eqb}
 use lib.ListN.{length, take}
 use Rattle.integers.specs.Words.{below, all, any, within, withinZ, minus, isSome}
 use Rattle.definitions.specs.declared.Case.{Case}
-use Rattle.definitions.specs.declared.Refusal.the-variants.{OutsideLimits, WrongLength, OutOfRange, EndsNotAscending, EdgeRepeated, WeightOutOfRange}
+use Rattle.definitions.specs.declared.Refusal.the-variants.{
+  OutsideLimits,
+  WrongLength,
+  OutOfRange,
+  EndsNotAscending,
+  EdgeRepeated,
+  WeightOutOfRange,
+  ScopeBarred,
+}
 use Rattle.definitions.specs.Rules.{Rules}
 use Rattle.definitions.specs.Refusals.{Test, _when_, firstOf}
-use Rattle.definitions.specs.Case.{lowerEnd, upperEnd, ownLength, lentLength}
+use Rattle.definitions.specs.Case.{scopes, lowerEnd, upperEnd, ownLength, lentLength, isBarred, whollyBarred}
 
+-- the ranges of weights
+abbrev pub inStarting : Rules → ℤ → Bool
+inStarting r z = withinZ (minus (r .starting)) (pos (r .starting)) z
+
+abbrev pub inWorking : Rules → ℤ → Bool
+inWorking r z = withinZ (minus (r .working)) (pos (r .working)) z
+
+-- what a table may hold at a tuple: a weight in its range, or that the tuple is barred
 abbrev pub startingWeight : Rules → ℤ → Bool
-startingWeight r z = withinZ (minus (r .starting)) (pos (r .starting)) z
+startingWeight r z = isBarred z || inStarting r z
 
 abbrev pub workingWeight : Rules → ℤ → Bool
-workingWeight r z = withinZ (minus (r .working)) (pos (r .working)) z
+workingWeight r z = isBarred z || inWorking r z
 
 -- all weights of the case are in a range
 abbrev pub allWeights : (ℤ → Bool) → Case → List ℤ → Bool
@@ -60,8 +76,12 @@ edgeTests c out =
 abbrev pub weightTest : (ℤ → Bool) → Case → List ℤ → Test
 weightTest range c w = WeightOutOfRange when (not (allWeights range c w))
 
+-- number 15, after 8
+abbrev pub scopeTest : Case → List ℤ → Test
+scopeTest c w = ScopeBarred when (any (whollyBarred c w) (scopes c))
+
 abbrev pub handedOver : Rules → (ℤ → Bool) → Case → List ℤ → Bool → Bool → List Test
-handedOver r range c w wrong out = limitTest r c ∷ lengthTest c w wrong ∷ edgeTests c out ++ (weightTest range c w ∷ [])
+handedOver r range c w wrong out = limitTest r c ∷ lengthTest c w wrong ∷ edgeTests c out ++ (weightTest range c w ∷ scopeTest c w ∷ [])
 
 -- a case and its starting weights are valid if no number applies
 abbrev pub valid : Rules → Case → List ℤ → Bool

@@ -30,7 +30,7 @@ pub struct Case {
     pub rulebook: Rulebook,
 }
 
-// Why something is turned back, in document 01's order: its numbers 1 to 14.
+// Why something is turned back: the numbers 1 to 14 of document 01, and 15 and 16 of document 02, change 2.
 pub enum Refusal {
     NotInColumns,
     NotDue,
@@ -46,6 +46,8 @@ pub enum Refusal {
     OtherBound,
     BoundNotLower,
     CutShort,
+    ScopeBarred,
+    NotAllBarred,
 }
 
 // The answer of a call that does something.
@@ -104,9 +106,11 @@ pub struct CaseRead {
     pub case: Case,
 }
 
-// The judgement of a case and a log: the rounds and the last upper bound, or the refusal and its line in the whole input.
+// The judgement of a case and a log: the rounds and the last upper bound, or void (no lawful plan exists), or the refusal and its line in the
+// whole input.
 pub enum Judgement {
     Accepted { rounds: u64, bound: i64 },
+    Void,
     Refused { refusal: Refusal, line: usize },
 }
 

@@ -4,7 +4,7 @@
 -- at `engineNext` of the engine's round and run, `runCall` at `pairsNext` of its run of pair rounds only. engine's proofs/Demand3 proves it for
 -- every valid case. Assumes nothing.
 use mathlib.Core.Path.{_≡_}
-use mathlib.Core.Bool.{false}
+use mathlib.Core.Bool.{false, not}
 use mathlib.Core.Option.{none}
 use mathlib.Core.Logic.{_↔_, _⊎_}
 use mathlib.Core.List.{List, []}
@@ -22,10 +22,10 @@ use Rattle.definitions.specs.declared.RunAnswer.{RunAnswer}
 use Rattle.definitions.specs.Rules.{Rules, rulesOf}
 use Rattle.definitions.specs.Valid.{valid}
 use Rattle.definitions.specs.Answers.{runSays}
-use Rattle.definitions.specs.Case.{isAssignment, objective, upperBound}
+use Rattle.definitions.specs.Case.{objective, upperBound, isLawful}
 use Rattle.definitions.specs.Lines.{linesIn, hasPart}
 use Rattle.definitions.specs.PairRounds.{PairsSettled}
-use Rattle.definitions.specs.Engine.{Settled, Next, engineNext, pairsNext, roundBytes, RunOf, run}
+use Rattle.definitions.specs.Engine.{Settled, Next, engineNext, pairsNext, roundBytes, someBarred, RunOf, run}
 use Rattle.calls.specs.EngineCalls.{RunCall, answerAtLimit, engineRefusal, roundCall, stopRun, runCall}
 use Rattle.checker.specs.Checker.{afterLines}
 use Rattle.checker_promise.specs.Lists.{begun, Accepted, ReplayTrusted}
@@ -63,11 +63,11 @@ pub record RunTrusted (r : Rules) (next : Follows) (Rest : List ℤ → Type 0) 
   pub log-rounds : afterLines r (begun r c w) log .replay .rounds ≡ u .run .rounds
   pub log-bound : upperBound c (afterLines r (begun r c w) log .table) ≡ u .run .bound
   pub log-weights : afterLines r (begun r c w) log .table ≡ u .table
-  -- and so its upper bound is at least every assignment's starting objective
-  pub bound-least : (p : List ℕ) → T (isAssignment c p) → objective c w p ≤ℤ u .run .bound
+  -- and so its upper bound is at least every lawful assignment's starting objective
+  pub bound-least : (p : List ℕ) → T (isLawful c w p) → objective c w p ≤ℤ u .run .bound
   -- "where the limit is at least that difference for the best plan (no other has a greater starting total), the run ends settled." (L9), said
   -- of any plan, and so of the best
-  pub settles : (p : List ℕ) → T (isAssignment c p) → (upperBound c w -ℤ objective c w p) ≤ℤ pos limit → u .run .answer ≡ RunAnswer.Settled
+  pub settles : (p : List ℕ) → T (isLawful c w p) → (upperBound c w -ℤ objective c w p) ≤ℤ pos limit → u .run .answer ≡ RunAnswer.Settled
 
 -- "A run makes its rounds one after another on the tables it is lent, each writing its lines from the output's first byte; the run's log is
 -- all these lines joined in order. It hands back its number of rounds and its ceiling. Where a round is refused, the earlier rounds stand."
@@ -106,20 +106,21 @@ pub record RunEnds (Rest : List ℤ → Type 0) (c : Case) (limit : ℕ) (u : Ru
 -- table v that is handed over and not refused before the first round. It is never refused after it either
 pub record PairsKept (c : Case) (v : List ℤ) (u : RunCall) : Type 0 where
   pub unrefused : (u .run .answer ≡ RunAnswer.Settled) ⊎ (u .run .answer ≡ RunAnswer.Limit)
-  pub totals : (p : List ℕ) → T (isAssignment c p) → objective c (u .table) p ≡ objective c v p
+  pub totals : (p : List ℕ) → T (isLawful c v p) → objective c (u .table) p ≡ objective c v p
 
 -- demand 3 whole (L11)
 pub record Demand3 (r : Rules) (c : Case) (w : List ℤ) : Type 0 where
   pub any-lines : ReplayTrusted r c w
-  -- "In demand 3 a run is lent what number 4 asks" (document 01)
-  pub any-run : (limit : ℕ) (out : List ℕ) → roundBytes r c ≤ length out
+  -- "In demand 3 a run is lent what number 4 asks" (document 01). Until the engine takes barred tuples (document 02, change 2), and answers number 8
+  -- where there is one, this is of cases without them
+  pub any-run : T (not (someBarred c w)) → (limit : ℕ) (out : List ℕ) → roundBytes r c ≤ length out
       → RunTrusted r engineNext (Settled r c) c w limit out (run r engineNext c limit w) (runCall r engineNext c limit w out)
       (linesIn (r .amountWidth) (runCall r engineNext c limit w out .log))
   pub any-table : RunIterates r engineNext c
   pub any-end : (limit : ℕ) (v : List ℤ) (out : List ℕ) → engineRefusal r engineNext c v out ≡ none
       → RunEnds (Settled r c) c limit (runCall r engineNext c limit v out)
   -- the same of pair rounds only (document 02, change 1); one such round is the run with limit 1
-  pub any-pairs-run : (limit : ℕ) (out : List ℕ) → roundBytes r c ≤ length out
+  pub any-pairs-run : T (not (someBarred c w)) → (limit : ℕ) (out : List ℕ) → roundBytes r c ≤ length out
       → RunTrusted r pairsNext (PairsSettled r c) c w limit out (run r pairsNext c limit w) (runCall r pairsNext c limit w out)
       (linesIn (r .amountWidth) (runCall r pairsNext c limit w out .log))
   pub any-pairs-table : RunIterates r pairsNext c

@@ -21,7 +21,7 @@ fn print_first(text: &[u8], n: usize) {
 
 // ---- the calls
 
-// Document 01's number.
+// The number of document 01 or 02.
 pub fn number_of(refusal: Refusal) -> u64
     ensures { λ r. ⌜ r ≡ number refusal ⌝ }
 {

@@ -9,7 +9,7 @@ use lib.ListN.{length, drop-of-length-le}
 use Rattle.texts.specs.Texts.{placedAt}
 use Rattle.texts.proofs.Placed.{placed-first, Printed, printed-next}
 use Rattle.checker.specs.declared.Standing.{Standing}
-use Rattle.encoding.specs.declared.Press.{Press}
+use Rattle.encoding.specs.declared.Begun.{Begun}
 use Rattle.encoding.specs.Numbers.{numberBytes}
 use Rattle.encoding.specs.RecordBytes.{recordNumbers, recordTags}
 use Rattle.encoding.proofs.Values.{word-length}
@@ -30,10 +30,10 @@ module _ {text out l : List ℕ} {n : ℕ} (p : Printed text out l n) where
 
 -- ---- the record's parts
 
-pub numbers-length : (rounds : ℕ) (start : ℤ) (q : Press) → length (recordNumbers rounds start q) ≡ 48
+pub numbers-length : (rounds : ℕ) (start : ℤ) (q : Begun) → length (recordNumbers rounds start q) ≡ 48
 unfolding recordNumbers numberBytes
 numbers-length rounds start q = refl
 
-pub tags-length : (moved : Bool) (q : Press) (standing : Standing) → length (recordTags moved q standing) ≡ 4
+pub tags-length : (moved : Bool) (q : Begun) (standing : Standing) → length (recordTags moved q standing) ≡ 4
 unfolding recordTags
 tags-length moved q standing = refl

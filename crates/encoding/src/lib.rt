@@ -4,6 +4,7 @@ use checker::Due;
 use checker::LastRaised;
 use checker::Replay;
 use checker::Standing;
+use checker::Target;
 use definitions::Case;
 use definitions::EDGE_PLACES;
 use definitions::Refusal;
@@ -19,7 +20,8 @@ ghost use Rattle.checker.specs.Checker.{standingSays};
 ghost use Rattle.encoding.specs.Numbers.{valueOfBytes, numberBytes, numberAt, wordOf, signedOf};
 ghost use Rattle.encoding.specs.CaseBytes.{bytesOfCase, caseIn};
 ghost use Rattle.encoding.specs.Version.{versionNumber};
-ghost use Rattle.encoding.specs.RecordBytes.{lastRecorded, raisedOf, pressRecorded, dueRecorded, standingAt, pressAt, recordNumbers, recordTags};
+ghost use Rattle.encoding.specs.RecordBytes.{lastRecorded, raisedOf, targetKind, targetAmount, noneBegun, begunRecorded};
+ghost use Rattle.encoding.specs.RecordBytes.{raiseRecorded, dueRecorded, standingAt, begunAt, recordNumbers, recordTags};
 ghost use Rattle.encoding.specs.RecordBytes.{recordBytes, isRecord, recordIn};
 
 // The bytes of a case, and those of the replay's record.
@@ -35,15 +37,15 @@ const GREATEST: u64 = 18_446_744_073_709_551_615;
 
 const BELOW: u64 = 9_223_372_036_854_775_808;
 
-// The last scope that a press has raised, if any, as numbers.
+// The last scope that a press or a void line has raised, if any, as numbers.
 struct Last {
     known: u8,
     scope: usize,
 }
 
-// What is due, as numbers: whether a press is begun, and what it holds.
-struct Press {
-    begun: u8,
+// What is due, as numbers: its kind, and what a press or a void line begun holds.
+struct Begun {
+    kind: u8,
     variable: usize,
     amount: i64,
     left: usize,
@@ -187,32 +189,57 @@ fn last_recorded(last: LastRaised) -> Last
     }
 }
 
-fn press_of(due: Due) -> Press
-    ensures { λ r. ⌜ r ≡ pressRecorded due ⌝ }
+fn kind_of(target: Target) -> u8
+    ensures { λ r. ⌜ r ≡ targetKind target ⌝ }
+{
+    match target {
+        Target::Press(_) => 1,
+        Target::Void => 2,
+    }
+}
+
+fn amount_of(target: Target) -> i64
+    ensures { λ r. ⌜ r ≡ targetAmount target ⌝ }
+{
+    match target {
+        Target::Press(amount) => amount,
+        Target::Void => 0,
+    }
+}
+
+fn none_begun(kind: u8) -> Begun
+    ensures { λ r. ⌜ r ≡ noneBegun kind ⌝ }
+{
+    Begun {
+        kind,
+        variable: 0,
+        amount: 0,
+        left: 0,
+        last: Last { known: 0, scope: 0 },
+    }
+}
+
+fn begun_of(due: Due) -> Begun
+    ensures { λ r. ⌜ r ≡ begunRecorded due ⌝ }
 {
     match due {
-        Due::MoveOrBound => Press {
-            begun: 0,
-            variable: 0,
-            amount: 0,
-            left: 0,
-            last: Last { known: 0, scope: 0 },
-        },
+        Due::MoveOrBound => none_begun(0),
         Due::Raise {
             variable,
-            amount,
+            target,
             left,
             last,
         } => {
             let scope = last_recorded(last);
-            Press {
-                begun: 1,
+            Begun {
+                kind: kind_of(target),
                 variable,
-                amount,
+                amount: amount_of(target),
                 left,
                 last: scope,
             }
         }
+        Due::Nothing => none_begun(3),
     }
 }
 
@@ -226,19 +253,27 @@ fn raised_of(last: Last) -> LastRaised
     }
 }
 
-fn due_of(press: Press) -> Due
-    ensures { λ r. ⌜ r ≡ dueRecorded press ⌝ }
+fn raise_of(begun: Begun, target: Target) -> Due
+    ensures { λ r. ⌜ r ≡ raiseRecorded begun target ⌝ }
 {
-    if press.begun == 1 {
-        let last = press.last;
-        Due::Raise {
-            variable: press.variable,
-            amount: press.amount,
-            left: press.left,
-            last: raised_of(last),
-        }
-    } else {
-        Due::MoveOrBound
+    let last = begun.last;
+    Due::Raise {
+        variable: begun.variable,
+        target,
+        left: begun.left,
+        last: raised_of(last),
+    }
+}
+
+fn due_of(begun: Begun) -> Due
+    ensures { λ r. ⌜ r ≡ dueRecorded begun ⌝ }
+{
+    let kind = begun.kind;
+    match kind {
+        1 => raise_of(begun, Target::Press(begun.amount)),
+        2 => raise_of(begun, Target::Void),
+        3 => Due::Nothing,
+        _ => Due::MoveOrBound,
     }
 }
 
@@ -260,6 +295,8 @@ fn standing_of(b: u8) -> Standing
         12 => Standing::Refused(Refusal::OtherBound),
         13 => Standing::Refused(Refusal::BoundNotLower),
         14 => Standing::Refused(Refusal::CutShort),
+        15 => Standing::Refused(Refusal::ScopeBarred),
+        16 => Standing::Refused(Refusal::NotAllBarred),
         _ => Standing::Good,
     }
 }
@@ -274,51 +311,51 @@ fn standing_number(standing: Standing) -> u8
 }
 
 // The record's numbers, from the first byte on.
-fn put_words(out: &mut [u8], rounds: u64, start: i64, press: Press)
+fn put_words(out: &mut [u8], rounds: u64, start: i64, begun: Begun)
     requires { ⌜ 48 ≤ length (now out) ⌝ }
-    ensures { λ _. ⌜ now (out .exit) ≡ overwritten (recordNumbers rounds start press) (now (out .entry)) ⌝ }
+    ensures { λ _. ⌜ now (out .exit) ≡ overwritten (recordNumbers rounds start begun) (now (out .entry)) ⌝ }
 {
-    let last = press.last;
+    let last = begun.last;
     put_word(out, 0, rounds);
     put_word(out, 8, bits_of(start));
-    put_word(out, 16, press.variable as u64);
-    put_word(out, 24, bits_of(press.amount));
-    put_word(out, 32, press.left as u64);
+    put_word(out, 16, begun.variable as u64);
+    put_word(out, 24, bits_of(begun.amount));
+    put_word(out, 32, begun.left as u64);
     put_word(out, 40, last.scope as u64);
 }
 
-fn tags_of(moved: bool, press: Press, standing: Standing) -> [u8; 4]
-    ensures { λ r. ⌜ r ≡ recordTags moved press standing ⌝ }
+fn tags_of(moved: bool, begun: Begun, standing: Standing) -> [u8; 4]
+    ensures { λ r. ⌜ r ≡ recordTags moved begun standing ⌝ }
 {
-    let last = press.last;
+    let last = begun.last;
     [
         moved as u8,
-        press.begun,
+        begun.kind,
         last.known,
         standing_number(standing),
     ]
 }
 
 // The bytes after its numbers.
-fn put_tags(out: &mut [u8], moved: bool, press: Press, standing: Standing)
+fn put_tags(out: &mut [u8], moved: bool, begun: Begun, standing: Standing)
     requires { ⌜ 52 ≤ length (now out) ⌝ }
-    ensures { λ _. ⌜ now (out .exit) ≡ placedAt 48 (recordTags moved press standing) (now (out .entry)) ⌝ }
+    ensures { λ _. ⌜ now (out .exit) ≡ placedAt 48 (recordTags moved begun standing) (now (out .entry)) ⌝ }
 {
-    let tags = tags_of(moved, press, standing);
+    let tags = tags_of(moved, begun, standing);
     put_bytes(out, 48, &tags);
 }
 
-// The press that the record's bytes hold.
-fn press_at(bytes: &[u8]) -> Press
+// What the record's bytes say of what is due.
+fn begun_at(bytes: &[u8]) -> Begun
     requires { ⌜ 52 ≤ length (now bytes) ⌝ }
-    ensures { λ r. ⌜ r ≡ pressAt (now (bytes .entry)) ⌝ }
+    ensures { λ r. ⌜ r ≡ begunAt (now (bytes .entry)) ⌝ }
 {
     let variable = number_at(bytes, 16);
     let amount = signed_of(number_at(bytes, 24));
     let left = number_at(bytes, 32);
     let scope = number_at(bytes, 40);
-    Press {
-        begun: bytes[49],
+    Begun {
+        kind: bytes[49],
         variable: variable as usize,
         amount,
         left: left as usize,
@@ -365,15 +402,15 @@ pub fn write_case_bytes(case: Case, out: &mut CaseArray)
 pub fn is_record(bytes: &RecordArray) -> bool
     ensures { λ r. ⌜ r ≡ isRecord (now (bytes .entry)) ⌝ }
 {
-    (bytes[48] <= 1) & (bytes[49] <= 1) & (bytes[50] <= 1) & (bytes[51] <= 14)
+    (bytes[48] <= 1) & (bytes[49] <= 3) & (bytes[50] <= 1) & (bytes[51] <= 16)
 }
 
 // The record that they say.
 pub fn record_of(bytes: &RecordArray) -> Replay
     ensures { λ r. ⌜ r ≡ recordIn (now (bytes .entry)) ⌝ }
 {
-    let press = press_at(bytes);
-    let due = due_of(press);
+    let begun = begun_at(bytes);
+    let due = due_of(begun);
     let rounds = number_at(bytes, 0);
     let start = signed_of(number_at(bytes, 8));
     let raised = marks_at(bytes, 52);
@@ -394,9 +431,9 @@ pub fn write_record(replay: Replay, out: &mut RecordArray)
 {
     let due = replay.due;
     let standing = replay.standing;
-    let press = press_of(due);
-    put_words(out, replay.rounds, replay.start, press);
-    put_tags(out, replay.moved, press, standing);
+    let begun = begun_of(due);
+    put_words(out, replay.rounds, replay.start, begun);
+    put_tags(out, replay.moved, begun, standing);
     put_marks(out, 52, &replay.raised);
 }
 
@@ -405,5 +442,5 @@ pub fn write_record(replay: Replay, out: &mut RecordArray)
 pub fn version() -> u64
     ensures { λ r. ⌜ r ≡ versionNumber ⌝ }
 {
-    10100
+    10200
 }

@@ -1,9 +1,10 @@
 -- Demand 3 holds for every valid case: the replay's half from checker_promise, the run's from engine_theory, over what comes next: the engine's
 -- round, or pair rounds only. Assumes nothing.
 use mathlib.Core.Path.{_≡_, refl, sym, ap, subst, _∙_}
+use mathlib.Core.Bool.{not}
 use mathlib.Core.Logic.{_↔_, _⊎_, inl, inr}
 use mathlib.Core.Option.{Option, none, some}
-use mathlib.Core.List.{List, []}
+use mathlib.Core.List.{List}
 use Prim.Native.Nat.{ℕ, _≤_}
 use native.Mathlib.Omega.{arith}
 use lib.IntN.{ℤ, pos}
@@ -18,21 +19,23 @@ use Rattle.definitions.specs.Answers.{runSays}
 use Rattle.definitions.specs.declared.Case.{Case}
 use Rattle.definitions.specs.Rules.{Rules, Coherent, coherent}
 use Rattle.definitions.specs.Case.{upperBound}
-use Rattle.definitions.specs.Valid.{workingWeight, valid}
+use Rattle.definitions.specs.Valid.{inWorking, workingWeight, valid}
 use Rattle.definitions.specs.Lines.{linesIn, hasPart}
 use Rattle.definitions.specs.Replay.{State, fresh, after}
 use Rattle.definitions.specs.PairRounds.{PairsSettled}
-use Rattle.definitions.specs.Engine.{Settled, nothing, Made, settled, refused, made, makeNext, engineNext, pairsNext, roundBytes, run}
+use Rattle.definitions.specs.Engine.{Settled, nothing, Made, settled, refused, made, makeNext, engineNext, pairsNext, roundBytes, someBarred, run}
 use Rattle.calls.specs.EngineCalls.{RoundCall, RunCall, roundMade, engineRefusal, roundCall, runCall}
 use Rattle.definitions.proofs.LineLaws.{no-part}
 use Rattle.theory.proofs.Shape.{Shape}
-use Rattle.theory.proofs.Validity.{Handed}
-use Rattle.theory.proofs.Replays.{keeps-iff, handed-after}
+use Rattle.theory.proofs.Barred.{Free, free-iff, lawful-iff}
+use Rattle.theory.proofs.Validity.{Handed, valid-facts, working-handed}
+use Rattle.theory.proofs.Replays.{keeps-iff}
 use Rattle.theory.proofs.Rounds.{MoveKinds, move-kinds}
+use Rattle.pair_theory.proofs.Inside.{engine-takes}
 use Rattle.reach_theory.proofs.Counts.{left-most}
 use Rattle.checker_promise.specs.Lists.{ReplayTrusted}
 use Rattle.checker_promise.proofs.Accepts.{replay-trusted}
-use Rattle.engine_theory.proofs.Runs.{Ends, settles, limits, refuses, Lawful, Free, run-settled, run-limit, run-log-taken, run-log-ends}
+use Rattle.engine_theory.proofs.Runs.{Ends, settles, limits, refuses, Lawful, NeverLeaves, run-settled, run-limit, run-log-taken, run-log-ends}
 use Rattle.engine_theory.proofs.Runs.{run-never-refused, run-settles, run-tallied, run-ends, ends-within}
 use Rattle.engine_theory.proofs.Engine.{engine-lawful, pairs-lawful, engine-settled, pairs-settled, engine-free, pairs-free, pairs-keep}
 use Rattle.engine_theory.proofs.Engine.{Lessening, run-few, run-unlimited, engine-lessens, pairs-lessen}
@@ -91,32 +94,32 @@ module _ {r : Rules} {next : Follows} {Rest : List ℤ → Type 0} {c : Case} (c
 
   ends : (limit : ℕ) (w : List ℤ) (out : List ℕ) → engineRefusal r next c w out ≡ none → RunEnds Rest c limit (runCall r next c limit w out)
   ends limit w out taken =
-      let (h, long) = taken-iff r next c w out .0 taken in
+      let (h, long) = taken-iff r next c w out coherent .0 taken in
       let same = same-run coherent (known .lawful) limit w out taken in
       let most = left-most c w in
       record {
         rests = rw (same .answer, same .table) (run-settled r next c (known .rest (h .shape)) limit w);
         limits = rw (same .answer, same .rounds, same .table) (run-limit r next c (known .rest (h .shape)) limit w);
-        rounds-most = omega (arith, same .rounds, run-few (known .lawful) (known .lessening) limit w h);
+        rounds-most = omega (arith, same .rounds, run-few coherent (known .lawful) (known .lessening) limit w h);
         reaches = λ enough. rw (same .answer) (ends-not-limit (run-ends r next c limit w)
-            (run-unlimited (known .lawful) (known .lessening) limit w h (omega arith)));
+            (run-unlimited coherent (known .lawful) (known .lessening) limit w h (omega arith)));
       }
 
-  module _ (kinds : MoveKinds r) (w : List ℤ) (t : T (valid r c w)) {Reach : List ℤ → Type 0} (free : Free r next c w Reach) where
+  module _ (kinds : MoveKinds r) (w : List ℤ) (t : T (valid r c w)) (free : Free c w) {Reach : List ℤ → Type 0} (stays : NeverLeaves r next c w Reach) where
     run-trusted : (limit : ℕ) (out : List ℕ) → roundBytes r c ≤ length out
         → RunTrusted r next Rest c w limit out (run r next c limit w) (runCall r next c limit w out)
         (linesIn (r .amountWidth) (runCall r next c limit w out .log))
     run-trusted limit out long =
         let lawful = known .lawful in
         let trusted : ReplayTrusted r c w = replay-trusted coherent c w t in
-        let h : Handed r (workingWeight r) c w = handed-after r c w t [] coherent in
-        let taken = taken-iff r next c w out .1 (h, long) in
+        let h : Handed r (inWorking r) c w = engine-takes (working-handed coherent (valid-facts r c w t)) free in
+        let taken = taken-iff r next c w out coherent .1 (h, long) in
         let same = same-run coherent lawful limit w out taken in
         let lines = call-lines coherent lawful limit w out taken in
         let u : RunCall = runCall r next c limit w out in
         let log : List (List ℕ) = linesIn (r .amountWidth) (u .log) in
         -- the plain replay of the log's lines
-        let replayed = ap (after r (fresh c w)) lines ∙ run-log-taken coherent kinds lawful w t limit in
+        let replayed = ap (after r (fresh c w)) lines ∙ run-log-taken coherent kinds lawful w t free limit in
         let rounds : after r (fresh c w) log .rounds ≡ u .run .rounds = ap (λ (s : State). s .rounds) replayed ∙ sym (same .rounds) in
         let weights : after r (fresh c w) log .weights ≡ u .table = ap (λ (s : State). s .weights) replayed ∙ sym (same .table) in
         let bound : u .run .bound ≡ upperBound c (u .table) = same .bound ∙ ap (upperBound c) (sym (same .table)) in
@@ -131,48 +134,51 @@ module _ {r : Rules} {next : Follows} {Rest : List ℤ → Type 0} {c : Case} (c
           answer = ap runSays (same .answer);
           settled = ends limit w out taken .rests;
           limited = ends limit w out taken .limits;
-          unrefused = rw (same .answer) (run-never-refused free limit);
+          unrefused = rw (same .answer) (run-never-refused stays limit);
           within = rw (same .rounds) (ends-within r next c (run-ends r next c limit w));
           log-whole =
               ap (hasPart (r .amountWidth)) (same .log) ∙ no-part (r .amountWidth) (run r next c limit w .log)
               (run-tallied coherent lawful limit w h .kept .whole);
-          log-accepted = trusted log .accepted .1 (keeps-iff r c w log .1 (rw lines (run-log-ends coherent kinds lawful w t limit)));
+          log-accepted = trusted log .accepted .1 (keeps-iff r c w log .1 (rw lines (run-log-ends coherent kinds lawful w t free limit)));
           log-rounds = trusted log .rounds ∙ rounds;
           log-bound = ap (upperBound c) (trusted log .weights ∙ weights) ∙ sym bound;
           log-weights = trusted log .weights ∙ weights;
           bound-least = λ p a. rw (bound, ← weights, ← trusted log .weights) (trusted log .bound-least p a);
-          settles = λ p a l. same .answer ∙ run-settles coherent kinds lawful w t free limit p a (l ▸ simp flat (omega zs));
+          settles = λ p a l. same .answer ∙ run-settles coherent kinds lawful w t free stays limit p a (l ▸ simp flat (omega zs));
         }
 
 -- ---- the engine's rounds, and those of pairs only
 
 module _ {r : Rules} (coherent : Coherent r) (c : Case) where
   engine-known : Known r engineNext (Settled r c) c
-  engine-known = record { lawful = engine-lawful coherent c; rest = engine-settled r c; lessening = engine-lessens c }
+  engine-known = record { lawful = engine-lawful coherent c; rest = engine-settled r c; lessening = engine-lessens coherent c }
 
   pairs-known : Known r pairsNext (PairsSettled r c) c
-  pairs-known = record { lawful = pairs-lawful coherent c; rest = pairs-settled r c; lessening = pairs-lessen c }
+  pairs-known = record { lawful = pairs-lawful coherent c; rest = pairs-settled r c; lessening = pairs-lessen coherent c }
 
   pairs-kept : (limit : ℕ) (v : List ℤ) (out : List ℕ) → engineRefusal r pairsNext c v out ≡ none → PairsKept c v (runCall r pairsNext c limit v out)
   pairs-kept limit v out taken =
-      let (h, long) = taken-iff r pairsNext c v out .0 taken in
+      let (h, long) = taken-iff r pairsNext c v out coherent .0 taken in
       let same = same-run coherent (pairs-lawful coherent c) limit v out taken in
       record {
         unrefused = rw (same .answer) (run-never-refused (pairs-free coherent h) limit);
-        totals = λ p a. rw (same .table) (pairs-keep coherent limit v h p a);
+        totals = λ p a. rw (same .table) (pairs-keep coherent limit v h p (lawful-iff c v p .0 a .0));
       }
 
   pub demand3 : MoveKinds r → (w : List ℤ) → T (valid r c w) → Demand3 r c w
-  demand3 kinds w t = record {
-    any-lines = replay-trusted coherent c w t;
-    any-run = run-trusted coherent engine-known kinds w t (engine-free coherent t);
-    any-table = iterates coherent engine-known;
-    any-end = ends coherent engine-known;
-    any-pairs-run = run-trusted coherent pairs-known kinds w t (pairs-free coherent (handed-after r c w t [] coherent));
-    any-pairs-table = iterates coherent pairs-known;
-    any-pairs-end = ends coherent pairs-known;
-    pairs-kept = pairs-kept;
-  }
+  demand3 kinds w t =
+      let k : Handed r (workingWeight r) c w = working-handed coherent (valid-facts r c w t) in
+      let free : T (not (someBarred c w)) → Free c w = free-iff c w (omega (arith, k .long)) .0 in
+      record {
+        any-lines = replay-trusted coherent c w t;
+        any-run = λ n. run-trusted coherent engine-known kinds w t (free n) (engine-free coherent t (free n));
+        any-table = iterates coherent engine-known;
+        any-end = ends coherent engine-known;
+        any-pairs-run = λ n. run-trusted coherent pairs-known kinds w t (free n) (pairs-free coherent (engine-takes k (free n)));
+        any-pairs-table = iterates coherent pairs-known;
+        any-pairs-end = ends coherent pairs-known;
+        pairs-kept = pairs-kept;
+      }
 
 -- for every valid case, by the rules it is under
 pub rules-demand3 : Guarantee

@@ -11,14 +11,14 @@ use Rattle.definitions.specs.declared.Case.{Case}
 use Rattle.definitions.specs.declared.Round.{Round}
 use Rattle.definitions.specs.declared.RunAnswer.{RunAnswer}
 use Rattle.definitions.specs.Rules.{coherent, rulesOf}
-use Rattle.definitions.specs.Valid.{workingWeight}
+use Rattle.definitions.specs.Valid.{inWorking}
 use Rattle.definitions.specs.PairRounds.{pairRound, lowestPair}
 use Rattle.definitions.specs.Engine.{Next, nothing, round, chosen, pairNext, pressesNext, engineNext, makeNext, madeOf, atLimit, roundBytes}
 use Rattle.calls.specs.EngineCalls.{RoundCall, roundMade, roundCall}
 use Rattle.theory.proofs.Shape.{Shape}
 use Rattle.theory.proofs.Validity.{Handed}
-use Rattle.theory.proofs.Rounds.{all-handed}
 use Rattle.press_theory.proofs.Gaps.{amount, next-press}
+use Rattle.pair_theory.proofs.Inside.{all-inside}
 use Rattle.pair_theory.proofs.Gains.{lowest-some}
 use Rattle.pair_theory.proofs.Rounded.{pairRounded}
 use Rattle.reach_theory.proofs.Next.{engine-next-nothing}
@@ -65,7 +65,7 @@ module _ (c : Case) (w : List ℤ) where
 
 -- ---- the round of a pair
 
-module _ {c : Case} {w : List ℤ} {e : ℕ} (out : List ℕ) (h : Handed (rulesOf c) (workingWeight (rulesOf c)) c w)
+module _ {c : Case} {w : List ℤ} {e : ℕ} (out : List ℕ) (h : Handed (rulesOf c) (inWorking (rulesOf c)) c w)
     (long : roundBytes (rulesOf c) c ≤ length out) (which : lowestPair (rulesOf c) c w ≡ some e) where
   call-is : pairCall (rulesOf c) c w out e ≡ roundMade c w out (pairMade (rulesOf c) c w e)
   call-is = pair-call-taken out h (lowest-some (rulesOf c) c w which .0) long
@@ -73,7 +73,7 @@ module _ {c : Case} {w : List ℤ} {e : ℕ} (out : List ℕ) (h : Handed (rules
   pub pair-call : (pairs : Bool) → pairCall (rulesOf c) c w out e ≡ roundCall (rulesOf c) (nextIn pairs) c w out
   pair-call pairs =
       call-is
-      ∙ sym (call-taken (rulesOf c) (nextIn pairs) c w out (taken-iff (rulesOf c) (nextIn pairs) c w out .1 (h, long))
+      ∙ sym (call-taken (rulesOf c) (nextIn pairs) c w out (taken-iff (rulesOf c) (nextIn pairs) c w out (coherent (c .rulebook)) .1 (h, long))
       ∙ ap (λ (n : Next). roundMade c w out (makeNext (rulesOf c) c w n)) (next-pair c w which pairs))
 
   module _ {r : Round} {after : List ℤ} {written : List ℕ} (a : r ≡ pairCall (rulesOf c) c w out e .answer)
@@ -85,9 +85,9 @@ module _ {c : Case} {w : List ℤ} {e : ℕ} (out : List ℕ) (h : Handed (rules
       output = o ∙ ap (λ (u : RoundCall). u .out) d;
     }
 
-  pub pair-handed : {after : List ℤ} → after ≡ pairCall (rulesOf c) c w out e .table → Handed (rulesOf c) (workingWeight (rulesOf c)) c after
+  pub pair-handed : {after : List ℤ} → after ≡ pairCall (rulesOf c) c w out e .table → Handed (rulesOf c) (inWorking (rulesOf c)) c after
   pair-handed {after} t =
       let d : after ≡ pairRounded c w e =
       t ∙ ap (λ (u : RoundCall). u .table) (call-is
-      ∙ ap (λ (v : Option (List ℤ)). roundMade c w out (madeOf (rulesOf c) c (pairRound c w e) v)) (pair-leads h which)) in
-      rw d (all-handed (engine-allowed h (coherent (c .rulebook)) (of-pair which)) h)
+      ∙ ap (λ (v : Option (List ℤ)). roundMade c w out (madeOf (rulesOf c) c (pairRound c w e) v)) (pair-leads (coherent (c .rulebook)) h which)) in
+      rw d (all-inside (coherent (c .rulebook)) (engine-allowed (coherent (c .rulebook)) h (of-pair which)) h)

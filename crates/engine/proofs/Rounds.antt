@@ -24,7 +24,7 @@ use Rattle.definitions.specs.Rules.{coherent, rulesOf}
 use Rattle.definitions.specs.Refusals.{_when_, firstOf}
 use Rattle.definitions.specs.Answers.{outcomeOf, unlessRefused}
 use Rattle.definitions.specs.Case.{scopes, scopeCount, active, upperBound}
-use Rattle.definitions.specs.Valid.{workingWeight}
+use Rattle.definitions.specs.Valid.{inWorking, workingWeight}
 use Rattle.definitions.specs.Moves.{activePress, onlyWhere, pressBy, activeValues, pressAmount, leavesRange}
 use Rattle.definitions.specs.Lines.{lineLength, lineText, lineTooWide, overwritten}
 use Rattle.definitions.specs.PairRounds.{lowestPair}
@@ -34,10 +34,12 @@ use Rattle.calls.specs.Calls.{WriteCall, isRaised}
 use Rattle.calls.specs.EngineCalls.{RoundCall, roundMade, roundCall}
 use Rattle.theory.proofs.Validity.{Handed}
 use Rattle.theory.proofs.Places.{plus-cong}
+use Rattle.theory.proofs.Barred.{free-spared}
 use Rattle.theory.proofs.Rounds.{AllAllowed, all-handed, round-fits}
 use Rattle.press_theory.proofs.Trim.{chosen-some, kept-fewer}
 use Rattle.press_theory.proofs.Gaps.{amount-some, amount-most, next-press}
-use Rattle.press_theory.proofs.Fall.{enginePressed}
+use Rattle.press_theory.proofs.Fall.{enginePressed, after-press}
+use Rattle.pair_theory.proofs.Inside.{every-takes, none-barred}
 use Rattle.engine_theory.proofs.Runs.{differ}
 use Rattle.engine_theory.proofs.Engine.{presses, engine-allowed}
 use Rattle.engine_theory.proofs.Calls.{taken-iff, call-taken}
@@ -70,8 +72,8 @@ pressed-by {c} {w} {best} h b raised i a room variable amount values v e f g =
     let marks = subst (λ (s : ℕ). MarksOf c (activeValues c w i) s) (sym v) (best-values-active h b i variable) in
     let (p, q, k) = lower-and-raise-is-press h b raised i values (activeValues c w i) marks a room variable amount in
     record {
-      answer = e ∙ p ∙ answers (leavesRange (rulesOf c) c (pressedBy c i raised a w));
-      table = f ∙ q ∙ tables (leavesRange (rulesOf c) c (pressedBy c i raised a w));
+      answer = e ∙ p ∙ answers (leavesRange (rulesOf c) c w (pressedBy c i raised a w));
+      table = f ∙ q ∙ tables (leavesRange (rulesOf c) c w (pressedBy c i raised a w));
       greatest-kept = rw (f, g) k;
     }
   where
@@ -93,7 +95,7 @@ none-wide : (width : ℕ) (ls : List Line) → ((l : Line) → l ∈ ls → line
 none-wide width [] h = refl
 none-wide width (l ∷ ls) h = rw (h l (List·Memᴰ·head refl)) (none-wide width ls (λ k m. h k (List·Memᴰ·tail m)))
 
-module _ {c : Case} {w : List ℤ} {i : ℕ} {a : ℤ} (h : Handed (rulesOf c) (workingWeight (rulesOf c)) c w) (which : chosen c w ≡ some i)
+module _ {c : Case} {w : List ℤ} {i : ℕ} {a : ℤ} (h : Handed (rulesOf c) (inWorking (rulesOf c)) c w) (which : chosen c w ≡ some i)
     (least : leastGap c w i ≡ some a) where
   pub amount-within : T (pressAmount (rulesOf c) a)
   amount-within =
@@ -108,7 +110,8 @@ module _ {c : Case} {w : List ℤ} {i : ℕ} {a : ℤ} (h : Handed (rulesOf c) (
 
     pressed-is : pressedBy c i raised a w ≡ enginePressed c w i a
     pressed-is =
-        plus-cong c (pressBy c w i (activeValues c w i) (isRaised raised) a) w (pressBy c w i (activeValues c w i) (isIn (keptScopes c w i)) a) (λ x k l t.
+        free-spared c w (none-barred (coherent (c .rulebook)) h) (pressBy c w i (activeValues c w i) (isRaised raised) a)
+        ∙ plus-cong c (pressBy c w i (activeValues c w i) (isRaised raised) a) w (pressBy c w i (activeValues c w i) (isIn (keptScopes c w i)) a) (λ x k l t.
         ap (λ (b : Bool). onlyWhere (eqb x i && activeValues c w i k) (negℤ a) +ℤ onlyWhere (b && not (active c w x k l)) a) (kept-in x (t .scope)))
 
     count-room : {n : ℕ} → roundBytes (rulesOf c) c ≤ n → lineLength (rulesOf c .amountWidth) * (length (raisedBelow raised (scopeCount c)) + 2) ≤ n
@@ -118,13 +121,15 @@ module _ {c : Case} {w : List ℤ} {i : ℕ} {a : ℤ} (h : Handed (rulesOf c) (
         omega (arith, mul-le-mul-left {m = length (raisedBelow raised (scopeCount c)) + 2} {n = scopeCount c + 1} (lineLength (rulesOf c .amountWidth)) room)
 
     module _ (out : List ℕ) (long : roundBytes (rulesOf c) c ≤ length out) where
-      call-is : (b : Bool) → leavesRange (rulesOf c) c (enginePressed c w i a) ≡ b
+      call-is : (b : Bool) → leavesRange (rulesOf c) c w (enginePressed c w i a) ≡ b
           → roundCall (rulesOf c) engineNext c w out ≡ roundMade c w out
           (madeOf (rulesOf c) c (activePress c w i (keptScopes c w i) a ∷ []) (if b then none else some (enginePressed c w i a)))
       call-is b e =
-          call-taken (rulesOf c) engineNext c w out (taken-iff (rulesOf c) engineNext c w out .1 (h, long))
+          call-taken (rulesOf c) engineNext c w out (taken-iff (rulesOf c) engineNext c w out (coherent (c .rulebook)) .1 (h, long))
           ∙ ap (λ (n : Next). roundMade c w out (makeNext (rulesOf c) c w n))
           (ap (λ (o : Option ℕ). pairNext c w o (pressesNext (rulesOf c) c w)) no-pair ∙ next-press (rulesOf c) c w which least)
+          ∙ ap (λ (o : Option (List ℤ)). roundMade c w out (madeOf (rulesOf c) c (activePress c w i (keptScopes c w i) a ∷ []) o))
+          (after-press c w (none-barred (coherent (c .rulebook)) h) i a (rulesOf c))
           ∙ ap (λ (q : Bool). roundMade c w out
           (madeOf (rulesOf c) c (activePress c w i (keptScopes c w i) a ∷ []) (if q then none else some (enginePressed c w i a)))) e
 
@@ -132,8 +137,8 @@ module _ {c : Case} {w : List ℤ} {i : ℕ} {a : ℤ} (h : Handed (rulesOf c) (
       pub made-refused : {x : Refusal} {after best : List ℤ} → Pressed c i raised a w after best (Outcome.Refused x)
           → MadeRound false c w out after out (Round.Refused x) × BestOf c after best
       made-refused {x} p =
-          let (e, f) = refused-way (leavesRange (rulesOf c) c (pressedBy c i raised a w)) (p .answer) in
-          let d = call-is true (ap (leavesRange (rulesOf c) c) (sym pressed-is) ∙ e) in (
+          let (e, f) = refused-way (leavesRange (rulesOf c) c w (pressedBy c i raised a w)) (p .answer) in
+          let d = call-is true (ap (leavesRange (rulesOf c) c w) (sym pressed-is) ∙ e) in (
             record {
               answer = ap Round.Refused f ∙ sym (ap (λ (u : RoundCall). u .answer) d);
               table = p .table ∙ ap (λ (b : Bool). if b then w else pressedBy c i raised a w) e ∙ sym (ap (λ (u : RoundCall). u .table) d);
@@ -143,19 +148,19 @@ module _ {c : Case} {w : List ℤ} {i : ℕ} {a : ℤ} (h : Handed (rulesOf c) (
           )
 
       module _ {after best : List ℤ} (p : Pressed c i raised a w after best Outcome.Done) where
-        stays : leavesRange (rulesOf c) c (enginePressed c w i a) ≡ false
-        stays = ap (leavesRange (rulesOf c) c) (sym pressed-is) ∙ done-way (leavesRange (rulesOf c) c (pressedBy c i raised a w)) (p .answer)
+        stays : leavesRange (rulesOf c) c w (enginePressed c w i a) ≡ false
+        stays = ap (leavesRange (rulesOf c) c w) (sym pressed-is) ∙ done-way (leavesRange (rulesOf c) c w (pressedBy c i raised a w)) (p .answer)
 
         after-is : after ≡ enginePressed c w i a
         after-is =
             p .table ∙ ap (λ (b : Bool). if b then w else pressedBy c i raised a w)
-            (done-way (leavesRange (rulesOf c) c (pressedBy c i raised a w)) (p .answer)) ∙ pressed-is
+            (done-way (leavesRange (rulesOf c) c w (pressedBy c i raised a w)) (p .answer)) ∙ pressed-is
 
         allows : AllAllowed (rulesOf c) c w (activePress c w i (keptScopes c w i) a ∷ []) (enginePressed c w i a)
-        allows = engine-allowed h (coherent (c .rulebook)) (presses no-pair which least (false-is (leavesRange (rulesOf c) c (enginePressed c w i a)) stays))
+        allows = engine-allowed (coherent (c .rulebook)) h (presses no-pair which least (false-is (leavesRange (rulesOf c) c w (enginePressed c w i a)) stays))
 
         pub done-handed : Handed (rulesOf c) (workingWeight (rulesOf c)) c after
-        done-handed = rw after-is (all-handed allows h)
+        done-handed = rw after-is (all-handed (coherent (c .rulebook)) allows (every-takes h))
 
         abbrev linesMade : List Line
         linesMade = linesOfPress i (raisedBelow raised (scopeCount c)) a (upperBound c after)
@@ -167,7 +172,7 @@ module _ {c : Case} {w : List ℤ} {i : ℕ} {a : ℤ} (h : Handed (rulesOf c) (
 
         lines-fit : any (lineTooWide (rulesOf c .amountWidth)) linesMade ≡ false
         lines-fit = none-wide (rulesOf c .amountWidth) linesMade
-            (λ l m. round-fits (coherent (c .rulebook)) h allows (subst (λ (q : List Line). l ∈ q) lines-made m))
+            (λ l m. round-fits (coherent (c .rulebook)) (every-takes h) allows (subst (λ (q : List Line). l ∈ q) lines-made m))
 
         text-made : joined (map (lineText (rulesOf c .amountWidth)) linesMade)
             ≡ joined (roundText (rulesOf c) c (activePress c w i (keptScopes c w i) a ∷ []) (enginePressed c w i a))
@@ -184,7 +189,7 @@ module _ {c : Case} {w : List ℤ} {i : ℕ} {a : ℤ} (h : Handed (rulesOf c) (
               answer = Written.Bytes (length (joined (map (lineText (rulesOf c .amountWidth)) linesMade)));
               out = overwritten (joined (map (lineText (rulesOf c .amountWidth)) linesMade)) out;
             } =
-            press-written c out raised i a (upperBound c after) (limits-true h) room (count-room long) (chosen-some c w which .0) lines-fit in
+            press-written c out raised i a (upperBound c after) (limits-true (every-takes h)) room (count-room long) (chosen-some c w which .0) lines-fit in
             record {
               answer =
                   n ∙ ap (λ (z : ℤ). roundWritten (writeAllCall (rulesOf c) c out raised i a z .answer) z) e

@@ -1,16 +1,12 @@
 -- A run, round by round, with pair rounds only or not. Assumes nothing.
-use mathlib.Core.Path.{_≡_, refl, sym, ap, ap₂, subst, _∙_}
-use mathlib.Core.Bool.{Bool, true, false, not}
-use mathlib.Core.Option.{some}
-use mathlib.Core.List.{List, [], _∷_, _++_}
+use mathlib.Core.Path.{_≡_, refl, sym, ap, ap₂, _∙_}
+use mathlib.Core.Bool.{Bool, true, false}
+use mathlib.Core.List.{List, [], _++_}
 use Prim.Native.Nat.{ℕ, suc, _+_, _-_, _≤_, _<_}
 use native.Mathlib.Omega.{arith}
 use lib.IntN.{ℤ, pos}
-use lib.Dec.{T, ltb}
 use lib.ListN.{length, take}
-use Rattle.integers.specs.Words.{if_then_else_, all}
-use Rattle.integers.specs.Tests.{and-left, and-right, if-false}
-use Rattle.integers.specs.Options.{none-some, some-inj}
+use Rattle.integers.specs.Tests.{if-false}
 use Rattle.definitions.specs.declared.Case.{Case}
 use Rattle.definitions.specs.declared.Outcome.{Outcome}
 use Rattle.definitions.specs.declared.Refusal.{Refusal}
@@ -19,16 +15,15 @@ use Rattle.definitions.specs.declared.Round.{Round}
 use Rattle.definitions.specs.declared.RunAnswer.{RunAnswer}
 use Rattle.definitions.specs.declared.Run.{Run}
 use Rattle.definitions.specs.Rules.{coherent, rulesOf}
-use Rattle.definitions.specs.Refusals.{Test, firstOf}
 use Rattle.definitions.specs.Answers.{outcomeOf}
 use Rattle.definitions.specs.Case.{upperBound}
-use Rattle.definitions.specs.Valid.{workingWeight, handedOver}
+use Rattle.definitions.specs.Valid.{inWorking}
 use Rattle.definitions.specs.Engine.{Next, nothing, round, atLimit, roundBytes}
 use Rattle.calls.specs.EngineCalls.{RoundCall, RunCall, isLeaving, answerAtLimit, roundCall, boundAt, stopRun, goOn, runCallFrom, runCall}
 use Rattle.theory.proofs.Validity.{Handed}
 use Rattle.engine_theory.proofs.Runs.{Lawful, differ, handed-on}
 use Rattle.engine_theory.proofs.Engine.{engine-lawful, pairs-lawful}
-use Rattle.engine_theory.proofs.Calls.{taken-iff, round-refused, run-refused, unmade-keeps}
+use Rattle.engine_theory.proofs.Calls.{taken-iff, round-refused, run-refused, not-eleven, unmade-keeps}
 use Rattle.engine_theory.proofs.Round.{RoundIs, settles, makes, leaves, round-is, round-leaves}
 use Rattle.tables.proofs.Order.{outcome-done, outcome-refused}
 use Rattle.round_lines.specs.Asked.{roundRefusal}
@@ -39,20 +34,10 @@ runWith answer rounds bound = record { answer = answer; rounds = rounds; bound =
 
 -- ---- what was asked before the first round
 
--- no number that is asked before a round is 11
-not-leaving : (ts : List Test) → T (all (λ t. not (isLeaving (t .refusal))) ts) → {x : Refusal} → firstOf ts ≡ some x → T (not (isLeaving x))
-not-leaving [] h e = absurd (none-some e)
-not-leaving (t ∷ ts) h {x} e = go (t .applies) (and-left (not (isLeaving (t .refusal))) _ h) (not-leaving ts (and-right (not (isLeaving (t .refusal))) _ h)) e
-  where
-    go : (b : Bool) → T (not (isLeaving (t .refusal))) → (firstOf ts ≡ some x → T (not (isLeaving x)))
-        → (if b then some (t .refusal) else firstOf ts) ≡ some x → T (not (isLeaving x))
-    go true h rest e = subst (λ (y : Refusal). T (not (isLeaving y))) (some-inj e) h
-    go false h rest e = rest e
-
 module _ (pairs : Bool) (c : Case) (w : List ℤ) (out : List ℕ) where
   pub asked-done : Outcome.Done ≡ outcomeOf (roundRefusal (rulesOf c) c w (length out) false)
-      → Handed (rulesOf c) (workingWeight (rulesOf c)) c w × (roundBytes (rulesOf c) c ≤ length out)
-  asked-done e = taken-iff (rulesOf c) (nextIn pairs) c w out .0 (outcome-done e)
+      → Handed (rulesOf c) (inWorking (rulesOf c)) c w × (roundBytes (rulesOf c) c ≤ length out)
+  asked-done e = taken-iff (rulesOf c) (nextIn pairs) c w out (coherent (c .rulebook)) .0 (outcome-done e)
 
   pub asked-refused : {x : Refusal} → Outcome.Refused x ≡ outcomeOf (roundRefusal (rulesOf c) c w (length out) false)
       → MadeRound pairs c w out w out (Round.Refused x)
@@ -66,14 +51,11 @@ module _ (pairs : Bool) (c : Case) (w : List ℤ) (out : List ℕ) where
       → RunIs pairs c limit w out w out (runWith (RunAnswer.Refused x) 0 (pos 0))
   run-is-refused {x} limit e =
       let d = run-refused (rulesOf c) (nextIn pairs) c w out limit (outcome-refused e) in
-      let n = not-eleven (outcome-refused e) in record {
+      let n = not-eleven (rulesOf c) (nextIn pairs) c w out (outcome-refused e) in record {
         run = ap (runWith (RunAnswer.Refused x) 0) (sym (if-false (upperBound c w) (pos 0) (isLeaving x) n)) ∙ sym (ap (λ (u : RunCall). u .run) d);
         table = sym (ap (λ (u : RunCall). u .table) d);
         output = sym (ap (λ (u : RunCall). u .out) d);
       }
-    where
-      not-eleven : {x : Refusal} → roundRefusal (rulesOf c) c w (length out) false ≡ some x → T (not (isLeaving x))
-      not-eleven = not-leaving (handedOver (rulesOf c) (workingWeight (rulesOf c)) c w (ltb (length out) (roundBytes (rulesOf c) c)) false) tt
 
 -- ---- a round on a table that was checked
 
@@ -81,10 +63,11 @@ lawful-in : (pairs : Bool) (c : Case) → Lawful (rulesOf c) (nextIn pairs) c
 lawful-in true c = pairs-lawful (coherent (c .rulebook)) c
 lawful-in false c = engine-lawful (coherent (c .rulebook)) c
 
-module _ {pairs : Bool} {c : Case} {w : List ℤ} {out : List ℕ} (h : Handed (rulesOf c) (workingWeight (rulesOf c)) c w)
+module _ {pairs : Bool} {c : Case} {w : List ℤ} {out : List ℕ} (h : Handed (rulesOf c) (inWorking (rulesOf c)) c w)
     (long : roundBytes (rulesOf c) c ≤ length out) where
   pub nothing-made : nextIn pairs (rulesOf c) c w ≡ nothing → MadeRound pairs c w out w out Round.Settled
-  nothing-made e = let (a, t, o) = go (round-is (rulesOf c) (nextIn pairs) c w out h long) in record { answer = a; table = t; output = o }
+  nothing-made e = let (a, t, o) = go (round-is (rulesOf c) (nextIn pairs) c w out (coherent (c .rulebook)) h long) in
+      record { answer = a; table = t; output = o }
     where
       go : {u : RoundCall} → RoundIs (rulesOf c) (nextIn pairs) c w out u → (Round.Settled ≡ u .answer) × (w ≡ u .table) × (out ≡ u .out)
       go (settles f) = (refl, refl, refl)
@@ -102,29 +85,29 @@ module _ {pairs : Bool} {c : Case} {w : List ℤ} {out : List ℕ} (h : Handed (
     refused-keeps p =
         let a = p .answer in
         let (t, o) = unmade-keeps (rulesOf c) (nextIn pairs) c w out (λ bytes bound d. differ (cc)) in
-        (p .table ∙ t, p .output ∙ o, round-leaves (rulesOf c) (nextIn pairs) c w out h long (sym a))
+        (p .table ∙ t, p .output ∙ o, round-leaves (rulesOf c) (nextIn pairs) c w out (coherent (c .rulebook)) h long (sym a))
 
-    pub still-settled : MadeRound pairs c w out after written Round.Settled → Handed (rulesOf c) (workingWeight (rulesOf c)) c after
+    pub still-settled : MadeRound pairs c w out after written Round.Settled → Handed (rulesOf c) (inWorking (rulesOf c)) c after
     still-settled p = rw (settled-keeps p .0) h
 
-    pub still-refused : {x : Refusal} → MadeRound pairs c w out after written (Round.Refused x) → Handed (rulesOf c) (workingWeight (rulesOf c)) c after
+    pub still-refused : {x : Refusal} → MadeRound pairs c w out after written (Round.Refused x) → Handed (rulesOf c) (inWorking (rulesOf c)) c after
     still-refused p = rw (refused-keeps p .0) h
 
     pub still-made : {bytes : ℕ} {bound : ℤ} → MadeRound pairs c w out after written (Round.Made bytes bound)
-        → Handed (rulesOf c) (workingWeight (rulesOf c)) c after
-    still-made {bytes} {bound} p = rw (p .table) (go (round-is (rulesOf c) (nextIn pairs) c w out h long) (sym (p .answer)))
+        → Handed (rulesOf c) (inWorking (rulesOf c)) c after
+    still-made {bytes} {bound} p = rw (p .table) (go (round-is (rulesOf c) (nextIn pairs) c w out (coherent (c .rulebook)) h long) (sym (p .answer)))
       where
         go : {u : RoundCall} → RoundIs (rulesOf c) (nextIn pairs) c w out u → u .answer ≡ Round.Made bytes bound
-            → Handed (rulesOf c) (workingWeight (rulesOf c)) c (u .table)
+            → Handed (rulesOf c) (inWorking (rulesOf c)) c (u .table)
         go (settles f) e = differ (cc)
         go (leaves f g) e = differ (cc)
         go (makes m) e = handed-on (coherent (c .rulebook)) (lawful-in pairs c) m
 
 -- at its limit a run answers by what comes next
-limit-answer : (pairs : Bool) {c : Case} {w : List ℤ} (out : List ℕ) → Handed (rulesOf c) (workingWeight (rulesOf c)) c w
+limit-answer : (pairs : Bool) {c : Case} {w : List ℤ} (out : List ℕ) → Handed (rulesOf c) (inWorking (rulesOf c)) c w
     → roundBytes (rulesOf c) c ≤ length out
     → answerAtLimit (roundCall (rulesOf c) (nextIn pairs) c w out .answer) ≡ atLimit (nextIn pairs (rulesOf c) c w)
-limit-answer pairs {c} {w} out h long = go (round-is (rulesOf c) (nextIn pairs) c w out h long)
+limit-answer pairs {c} {w} out h long = go (round-is (rulesOf c) (nextIn pairs) c w out (coherent (c .rulebook)) h long)
   where
     go : {u : RoundCall} → RoundIs (rulesOf c) (nextIn pairs) c w out u → answerAtLimit (u .answer) ≡ atLimit (nextIn pairs (rulesOf c) c w)
     go (settles f) = sym (ap atLimit f)
@@ -156,7 +139,7 @@ module _ (pairs : Bool) (c : Case) (limit : ℕ) (first : List ℤ) (lent : List
     output = ap (λ (u : RunCall). u .out) e;
   }
 
-  module _ (done : ℕ) (w : List ℤ) (out : List ℕ) (h : Handed (rulesOf c) (workingWeight (rulesOf c)) c w) (long : roundBytes (rulesOf c) c ≤ length out)
+  module _ (done : ℕ) (w : List ℤ) (out : List ℕ) (h : Handed (rulesOf c) (inWorking (rulesOf c)) c w) (long : roundBytes (rulesOf c) c ≤ length out)
       (going : Going done w out) where
     module _ (more : done < limit) where
       -- what this round's answer leads to

@@ -15,8 +15,8 @@ use Rattle.definitions.specs.declared.Written.{Written}
 use Rattle.definitions.specs.declared.Refusal.the-variants.{LeavesRange}
 use Rattle.definitions.specs.Rules.{Rules, rulesOf}
 use Rattle.definitions.specs.Case.{scopeCount, upperBound}
-use Rattle.definitions.specs.Valid.{workingWeight}
-use Rattle.definitions.specs.Moves.{plus, pressBy, activeValues, leavesRange}
+use Rattle.definitions.specs.Valid.{inWorking}
+use Rattle.definitions.specs.Moves.{plus, pressBy, spared, activeValues, leavesRange}
 use Rattle.definitions.specs.PairRounds.{lowestPair}
 use Rattle.definitions.specs.Engine.{Next, chosen, keptScopes, leastGap, engineNext, pairsNext}
 use Rattle.calls.specs.Calls.{isRaised}
@@ -32,16 +32,16 @@ nextIn false = engineNext
 
 -- the table after a press of the raised scopes
 abbrev pub pressedBy : Case → ℕ → List ℕ → ℤ → List ℤ → List ℤ
-pressedBy c i raised a w = plus c (pressBy c w i (activeValues c w i) (isRaised raised) a) w
+pressedBy c i raised a w = plus c (spared c w (pressBy c w i (activeValues c w i) (isRaised raised) a)) w
 
 pub record Pressed (c : Case) (i : ℕ) (raised : List ℕ) (a : ℤ) (w after best : List ℤ) (r : Outcome) : Type 0 where
-  pub answer : r ≡ (if leavesRange (rulesOf c) c (pressedBy c i raised a w) then Outcome.Refused LeavesRange else Outcome.Done)
-  pub table : after ≡ (if leavesRange (rulesOf c) c (pressedBy c i raised a w) then w else pressedBy c i raised a w)
+  pub answer : r ≡ (if leavesRange (rulesOf c) c w (pressedBy c i raised a w) then Outcome.Refused LeavesRange else Outcome.Done)
+  pub table : after ≡ (if leavesRange (rulesOf c) c w (pressedBy c i raised a w) then w else pressedBy c i raised a w)
   pub greatest-kept : BestOf c after best
 
 -- the engine's press of the kept scopes was made, by the least gap
 pub record PressMade (c : Case) (i : ℕ) (raised : List ℕ) (a : ℤ) (w after best : List ℤ) : Type 0 where
-  pub handed : Handed (rulesOf c) (workingWeight (rulesOf c)) c w
+  pub handed : Handed (rulesOf c) (inWorking (rulesOf c)) c w
   pub no-pair : lowestPair (rulesOf c) c w ≡ none
   pub which : chosen c w ≡ some i
   pub kept : raisedBelow raised (scopeCount c) ≡ keptScopes c w i

@@ -28,7 +28,7 @@ ghost use lib.ListN.{length};
 ghost use Rattle.integers.specs.Words.{isSome};
 ghost use Rattle.definitions.specs.Rules.{rulesOf, variablePlaces, edgePlaces};
 ghost use Rattle.definitions.specs.Case.{scopeCount};
-ghost use Rattle.definitions.specs.Valid.{workingWeight};
+ghost use Rattle.definitions.specs.Valid.{inWorking};
 ghost use Rattle.definitions.specs.Moves.{pressAmount};
 ghost use Rattle.definitions.specs.PairRounds.{lowestPair};
 ghost use Rattle.definitions.specs.Engine.{chosen, keptScopes, leastGap, atLimit, roundBytes, engineNext, pairsNext};
@@ -43,7 +43,7 @@ ghost use Rattle.engine.specs.Rounds.{nextIn, Pressed, PressMade, roundW
 // ---- the amount
 
 fn least_gap(case: Case, table: &[i64], best: &[i64], raised: &[u8], variable: usize) -> i64
-    requires { ⌜ Handed (rulesOf case) (workingWeight (rulesOf case)) case (now table) ⌝ }
+    requires { ⌜ Handed (rulesOf case) (inWorking (rulesOf case)) case (now table) ⌝ }
     requires { ⌜ BestOf case (now table) (now best) ⌝ }
     requires { ⌜ scopeCount case ≤ length (now raised) ⌝ }
     requires { ⌜ (chosen case (now table) ≡ some variable) × (raisedBelow (now raised) (scopeCount case) ≡ keptScopes case (now table) variable) ⌝ }
@@ -60,7 +60,7 @@ fn least_gap(case: Case, table: &[i64], best: &[i64], raised: &[u8], variable: u
 
 // Writes the marks of a table, for the searches, and answers the lowest pair whose round comes before a press.
 fn prepare(case: Case, table: &[i64], best: &[i64], acts: &mut [u8], rows: &mut [u8]) -> Paired
-    requires { ⌜ Handed (rulesOf case) (workingWeight (rulesOf case)) case (now table) × BestOf case (now table) (now best) ⌝ }
+    requires { ⌜ Handed (rulesOf case) (inWorking (rulesOf case)) case (now table) × BestOf case (now table) (now best) ⌝ }
     requires { ⌜ (case .n ≤ length (now acts)) × (16 * case .m ≤ length (now rows)) ⌝ }
     ensures { λ r. ⌜ (r ≡ pairedOf (lowestPair (rulesOf case) case (now (table .entry))))
         × Prepared case (now (table .entry)) (now (acts .exit)) (now (rows .exit)) ⌝ }
@@ -77,7 +77,7 @@ fn press(
     variable: usize,
     amount: i64,
 ) -> Outcome
-    requires { ⌜ Handed (rulesOf case) (workingWeight (rulesOf case)) case (now table) ⌝ }
+    requires { ⌜ Handed (rulesOf case) (inWorking (rulesOf case)) case (now table) ⌝ }
     requires { ⌜ BestOf case (now table) (now best) ⌝ }
     requires { ⌜ (scopeCount case ≤ length (now raised)) × (variable < case .n) × T (pressAmount (rulesOf case) amount) ⌝ }
     ensures { λ r. ⌜ Pressed case variable (now (raised .entry)) amount (now (table .entry)) (now (table .exit)) (now (best .exit)) r ⌝ }
@@ -134,7 +134,7 @@ fn press_round(
     raised: &[u8],
     variable: usize,
 ) -> Round
-    requires { ⌜ Handed (rulesOf case) (workingWeight (rulesOf case)) case (now table) ⌝ }
+    requires { ⌜ Handed (rulesOf case) (inWorking (rulesOf case)) case (now table) ⌝ }
     requires { ⌜ BestOf case (now table) (now best) ⌝ }
     requires { ⌜ (scopeCount case ≤ length (now raised)) × (roundBytes (rulesOf case) case ≤ length (now out)) ⌝ }
     requires { ⌜ lowestPair (rulesOf case) case (now table) ≡ none ⌝ }
@@ -176,7 +176,7 @@ fn press_next(
     acts: &[u8],
     rows: &[u8],
 ) -> Round
-    requires { ⌜ Handed (rulesOf case) (workingWeight (rulesOf case)) case (now table) × BestOf case (now table) (now best) ⌝ }
+    requires { ⌜ Handed (rulesOf case) (inWorking (rulesOf case)) case (now table) × BestOf case (now table) (now best) ⌝ }
     requires { ⌜ roundBytes (rulesOf case) case ≤ length (now out) ⌝ }
     requires { ⌜ Prepared case (now table) (now acts) (now rows) × (case .n ≤ length (now acts)) ⌝ }
     requires { ⌜ lowestPair (rulesOf case) case (now table) ≡ none ⌝ }
@@ -193,7 +193,7 @@ fn press_next(
 
 // Each scope's greatest weight.
 fn greatest_of(case: Case, table: &[i64], best: &mut [i64])
-    requires { ⌜ Handed (rulesOf case) (workingWeight (rulesOf case)) case (now table) × (scopeCount case ≤ length (now best)) ⌝ }
+    requires { ⌜ Handed (rulesOf case) (inWorking (rulesOf case)) case (now table) × (scopeCount case ≤ length (now best)) ⌝ }
     ensures { λ _. ⌜ BestOf case (now (table .entry)) (now (best .exit)) ⌝ }
 {
     tables::greatest_weights(case, table, best);
@@ -201,7 +201,7 @@ fn greatest_of(case: Case, table: &[i64], best: &mut [i64])
 
 // The round of the lowest pair.
 fn pair_round(case: Case, table: &mut [i64], out: &mut [u8], best: &mut [i64], edge: usize) -> Round
-    requires { ⌜ Handed (rulesOf case) (workingWeight (rulesOf case)) case (now table) × BestOf case (now table) (now best) ⌝ }
+    requires { ⌜ Handed (rulesOf case) (inWorking (rulesOf case)) case (now table) × BestOf case (now table) (now best) ⌝ }
     requires { ⌜ roundBytes (rulesOf case) case ≤ length (now out) ⌝ }
     requires { ⌜ lowestPair (rulesOf case) case (now table) ≡ some edge ⌝ }
     ensures { λ r. ⌜ ((pairs : Bool) → MadeRound pairs case (now (table .entry)) (now (out .entry)) (now (table .exit)) (now (out .exit)) r)
@@ -221,7 +221,7 @@ fn round_checked(
     best: &mut [i64],
     pairs: bool,
 ) -> Round
-    requires { ⌜ Handed (rulesOf case) (workingWeight (rulesOf case)) case (now table) × BestOf case (now table) (now best) ⌝ }
+    requires { ⌜ Handed (rulesOf case) (inWorking (rulesOf case)) case (now table) × BestOf case (now table) (now best) ⌝ }
     requires { ⌜ roundBytes (rulesOf case) case ≤ length (now out) ⌝ }
     ensures { λ r. ⌜ MadeRound pairs case (now (table .entry)) (now (out .entry)) (now (table .exit)) (now (out .exit)) r
         × BestOf case (now (table .exit)) (now (best .exit)) ⌝ }
@@ -241,7 +241,7 @@ fn round_checked(
 }
 
 fn first_round(case: Case, table: &mut [i64], out: &mut [u8]) -> Round
-    requires { ⌜ Handed (rulesOf case) (workingWeight (rulesOf case)) case (now table) ⌝ }
+    requires { ⌜ Handed (rulesOf case) (inWorking (rulesOf case)) case (now table) ⌝ }
     requires { ⌜ roundBytes (rulesOf case) case ≤ length (now out) ⌝ }
     ensures { λ r. ⌜ MadeRound false case (now (table .entry)) (now (out .entry)) (now (table .exit)) (now (out .exit)) r ⌝ }
 {
@@ -267,7 +267,7 @@ fn has_press(case: Case, acts: &[u8], rows: &[u8]) -> bool
 
 // What a run answers that may make no more rounds.
 fn at_limit(case: Case, table: &[i64], best: &[i64], pairs: bool) -> RunAnswer
-    requires { ⌜ Handed (rulesOf case) (workingWeight (rulesOf case)) case (now table) × BestOf case (now table) (now best) ⌝ }
+    requires { ⌜ Handed (rulesOf case) (inWorking (rulesOf case)) case (now table) × BestOf case (now table) (now best) ⌝ }
     ensures { λ r. ⌜ r ≡ atLimit (nextIn pairs (rulesOf case) case (now (table .entry))) ⌝ }
 {
     let mut acts = [0u8; VARIABLE_PLACES];
@@ -288,7 +288,7 @@ fn at_limit(case: Case, table: &[i64], best: &[i64], pairs: bool) -> RunAnswer
 }
 
 fn stop_run(case: Case, table: &[i64], best: &[i64], answer: RunAnswer, rounds: u64) -> Run
-    requires { ⌜ Handed (rulesOf case) (workingWeight (rulesOf case)) case (now table) × BestOf case (now table) (now best) ⌝ }
+    requires { ⌜ Handed (rulesOf case) (inWorking (rulesOf case)) case (now table) × BestOf case (now table) (now best) ⌝ }
     ensures { λ r. ⌜ r ≡ stoppedRun case (now (table .entry)) answer rounds ⌝ }
 {
     let sum = tables::sum_of_best(case, best);
@@ -314,7 +314,7 @@ fn run_checked(
     limit: u64,
     pairs: bool,
 ) -> Run
-    requires { ⌜ Handed (rulesOf case) (workingWeight (rulesOf case)) case (now table) × BestOf case (now table) (now best) ⌝ }
+    requires { ⌜ Handed (rulesOf case) (inWorking (rulesOf case)) case (now table) × BestOf case (now table) (now best) ⌝ }
     requires { ⌜ roundBytes (rulesOf case) case ≤ length (now out) ⌝ }
     ensures { λ r. ⌜ RunIs pairs case limit (now (table .entry)) (now (out .entry)) (now (table .exit)) (now (out .exit)) r ⌝ }
 {
@@ -335,7 +335,7 @@ fn run_checked(
 }
 
 fn run_from(case: Case, table: &mut [i64], out: &mut [u8], limit: u64, pairs: bool) -> Run
-    requires { ⌜ Handed (rulesOf case) (workingWeight (rulesOf case)) case (now table) ⌝ }
+    requires { ⌜ Handed (rulesOf case) (inWorking (rulesOf case)) case (now table) ⌝ }
     requires { ⌜ roundBytes (rulesOf case) case ≤ length (now out) ⌝ }
     ensures { λ r. ⌜ RunIs pairs case limit (now (table .entry)) (now (out .entry)) (now (table .exit)) (now (out .exit)) r ⌝ }
 {

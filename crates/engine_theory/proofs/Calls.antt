@@ -1,7 +1,7 @@
 -- The engine's calls on a lent table and output are the plain round and run. A call that is not made keeps table and output. A run to which
--- none of numbers 3 to 8 applies has the plain run's answer, rounds, weights and log, the upper bound of these weights, and the lent output
--- with each round's lines written from its first byte; otherwise it is refused before its first round. For every table, a run is the iteration
--- of the round's call, and the bound lines in its log are as many as its rounds. Assumes nothing.
+-- none of numbers 3 to 8 and 15 applies has the plain run's answer, rounds, weights and log, the upper bound of these weights, and the lent
+-- output with each round's lines written from its first byte; otherwise it is refused before its first round. For every table, a run is the
+-- iteration of the round's call, and the bound lines in its log are as many as its rounds. Assumes nothing.
 use mathlib.Core.Path.{_≡_, refl, sym, ap, ap₂, subst, _∙_}
 use mathlib.Core.Bool.{Bool, true, false, not}
 use mathlib.Core.Logic.{_↔_}
@@ -21,23 +21,24 @@ use Rattle.integers.specs.Lists.{joined-append}
 use Rattle.integers.specs.Tables.{length-joined}
 use Rattle.definitions.specs.declared.Case.{Case}
 use Rattle.definitions.specs.declared.Refusal.{Refusal}
-use Rattle.definitions.specs.declared.Refusal.the-variants.{LeavesRange}
+use Rattle.definitions.specs.declared.Refusal.the-variants.{WeightOutOfRange, LeavesRange}
 use Rattle.definitions.specs.declared.Round.{Round}
 use Rattle.definitions.specs.declared.RunAnswer.{RunAnswer}
 use Rattle.definitions.specs.Rules.{Rules, Coherent}
-use Rattle.definitions.specs.Refusals.{Test, firstOf}
+use Rattle.definitions.specs.Refusals.{Test, _when_, firstOf}
 use Rattle.definitions.specs.Case.{upperBound}
-use Rattle.definitions.specs.Valid.{workingWeight, handedOver}
+use Rattle.definitions.specs.Valid.{inWorking, workingWeight, handedOver}
 use Rattle.definitions.specs.Moves.{Move, afterMoves}
 use Rattle.definitions.specs.Lines.{lineText, lineLength, linesIn, overwritten}
-use Rattle.definitions.specs.Engine.{Next, nothing, round, Made, settled, refused, made, roundBytes}
+use Rattle.definitions.specs.Engine.{Next, nothing, round, Made, settled, refused, made, roundBytes, someBarred}
 use Rattle.definitions.specs.Engine.{madeOf, makeNext, RunOf, stopped, atLimit, onward, runFrom, run}
 use Rattle.calls.specs.EngineCalls.{RoundCall, RunCall, isLeaving, answerAtLimit, roundMade, engineRefusal}
 use Rattle.calls.specs.EngineCalls.{roundCall, boundAt, stopRun, goOn, runCallFrom, runCall}
 use Rattle.definitions.proofs.LineLaws.{lines-joined}
 use Rattle.definitions.specs.RoundLines.{roundLines, roundText}
-use Rattle.theory.proofs.Validity.{Handed, handed}
+use Rattle.theory.proofs.Validity.{Handed}
 use Rattle.theory.proofs.Replays.{none-iff}
+use Rattle.pair_theory.proofs.Inside.{asked-iff}
 use Rattle.engine_theory.specs.Runs.{boundLines, textsOf, roundTexts, writtenInTurn, preceded}
 use Rattle.engine_theory.proofs.Runs.{RoundFrom, Lawful, round-whole, handed-on, run-tallied}
 
@@ -53,9 +54,9 @@ not-leaving (t ∷ ts) h {x} e = go (t .applies) (and-left (not (isLeaving (t .r
 
 module _ (r : Rules) (next : Rules → Case → List ℤ → Next) (c : Case) (w : List ℤ) (out : List ℕ) where
   -- what a call asks before its first round
-  pub taken-iff : engineRefusal r next c w out ≡ none ↔ Handed r (workingWeight r) c w × (roundBytes r c ≤ length out)
-  taken-iff =
-      let h = handed r (workingWeight r) c w (ltb (length out) (roundBytes r c)) false in
+  pub taken-iff : Coherent r → engineRefusal r next c w out ≡ none ↔ Handed r (inWorking r) c w × (roundBytes r c ≤ length out)
+  taken-iff coherent =
+      let h = asked-iff coherent c w (ltb (length out) (roundBytes r c)) false in
       let n = none-iff (engineRefusal r next c w out) in (
         λ e. let (p, q, _) = h .0 (n .1 e) in (p, let l = simp tests at q in omega arith),
         λ (p, q). n .0 (h .1 (p, simp tests (omega arith), tt)),
@@ -68,6 +69,9 @@ module _ (r : Rules) (next : Rules → Case → List ℤ → Next) (c : Case) (w
   pub round-refused : {x : Refusal} → engineRefusal r next c w out ≡ some x → roundCall r next c w out ≡ roundMade c w out (refused x)
   unfolding roundCall
   round-refused e = rw (e, roundCall)
+
+  pub not-eleven : {x : Refusal} → engineRefusal r next c w out ≡ some x → T (not (isLeaving x))
+  not-eleven = not-leaving (handedOver r (workingWeight r) c w (ltb (length out) (roundBytes r c)) false ++ (WeightOutOfRange when (someBarred c w) ∷ [])) tt
 
   -- settled or refused, table and output keep what they held
   pub unmade-keeps : ((bytes : ℕ) (bound : ℤ) → roundCall r next c w out .answer ≡ Round.Made bytes bound → ⊥)
@@ -89,8 +93,7 @@ module _ (r : Rules) (next : Rules → Case → List ℤ → Next) (c : Case) (w
   unfolding runCall
   run-refused zero {x} e =
       ap (λ (u : RoundCall). stopRun r next c (answerAtLimit (u .answer)) 0 w out []) (round-refused e)
-      ∙ ap (λ (a : RunAnswer). stopRun r next c a 0 w out []) (if-false RunAnswer.Limit (RunAnswer.Refused x) (isLeaving x)
-      (not-leaving (handedOver r (workingWeight r) c w (ltb (length out) (roundBytes r c)) false) tt e))
+      ∙ ap (λ (a : RunAnswer). stopRun r next c a 0 w out []) (if-false RunAnswer.Limit (RunAnswer.Refused x) (isLeaving x) (not-eleven e))
   run-refused (suc limit) e = ap (λ (u : RoundCall). goOn r next c (u .answer) u 0 w out [] (λ v bytes log. runCallFrom r next c limit 1 v bytes log))
       (round-refused e)
 
@@ -212,12 +215,12 @@ module _ {r : Rules} {next : Rules → Case → List ℤ → Next} {c : Case} (c
       → SameRun r c (stopped a done w log) [] out (stopRun r next c a done w out (joined log))
   stops a done w out log e = record { answer = refl; rounds = refl; bound = e; table = refl; log = refl; out = refl; out-length = refl; out-rest = refl }
 
-  calls-from : (left done : ℕ) (w : List ℤ) (out : List ℕ) (log : List (List ℕ)) → Handed r (workingWeight r) c w → roundBytes r c ≤ length out
+  calls-from : (left done : ℕ) (w : List ℤ) (out : List ℕ) (log : List (List ℕ)) → Handed r (inWorking r) c w → roundBytes r c ≤ length out
       → SameRun r c (runFrom r next c left done w log) (roundTexts r next c left w) out (runCallFrom r next c left done w out (joined log))
   calls-from zero done w out log h long =
       subst (λ (u : RoundCall). SameRun r c (stopped (atLimit (next r c w)) done w log) [] out
       (stopRun r next c (answerAtLimit (u .answer)) done w out (joined log)))
-      (sym (call-taken r next c w out (taken-iff r next c w out .1 (h, long)))) (go (next r c w))
+      (sym (call-taken r next c w out (taken-iff r next c w out coherent .1 (h, long)))) (go (next r c w))
     where
       go : (n : Next) → SameRun r c (stopped (atLimit n) done w log) [] out
           (stopRun r next c (answerAtLimit (roundMade c w out (makeNext r c w n) .answer)) done w out (joined log))
@@ -231,7 +234,8 @@ module _ {r : Rules} {next : Rules → Case → List ℤ → Next} {c : Case} (c
   calls-from (suc left) done w out log h long =
       subst (λ (u : RoundCall). SameRun r c (runFrom r next c (suc left) done w log) (roundTexts r next c (suc left) w) out
       (goOn r next c (u .answer) u done w out (joined log) rest))
-      (sym (call-taken r next c w out (taken-iff r next c w out .1 (h, long)))) (go (next r c w) refl (λ v out log. calls-from left (suc done) v out log))
+      (sym (call-taken r next c w out (taken-iff r next c w out coherent .1 (h, long))))
+      (go (next r c w) refl (λ v out log. calls-from left (suc done) v out log))
     where
       rest : List ℤ → List ℕ → List ℕ → RunCall
       rest v bytes log = runCallFrom r next c left (suc done) v bytes log
@@ -239,7 +243,7 @@ module _ {r : Rules} {next : Rules → Case → List ℤ → Next} {c : Case} (c
       Same : Made → RunCall → Type 0
       Same m u = SameRun r c (onward m done w log (λ v lines. runFrom r next c left (suc done) v lines)) (textsOf m (λ v. roundTexts r next c left v)) out u
 
-      go : (n : Next) → next r c w ≡ n → ((v : List ℤ) (out : List ℕ) (log : List (List ℕ)) → Handed r (workingWeight r) c v → roundBytes r c ≤ length out
+      go : (n : Next) → next r c w ≡ n → ((v : List ℤ) (out : List ℕ) (log : List (List ℕ)) → Handed r (inWorking r) c v → roundBytes r c ≤ length out
           → SameRun r c (runFrom r next c left (suc done) v log) (roundTexts r next c left v) out (runCallFrom r next c left (suc done) v out (joined log)))
           → Same (makeNext r c w n) (goOn r next c (roundMade c w out (makeNext r c w n) .answer)
           (roundMade c w out (makeNext r c w n)) done w out (joined log) rest)
@@ -269,16 +273,17 @@ module _ {r : Rules} {next : Rules → Case → List ℤ → Next} {c : Case} (c
               })
 
   module _ (limit : ℕ) (w : List ℤ) (out : List ℕ) where
-    -- where none of numbers 3 to 8 applies
+    -- where none of numbers 3 to 8 and 15 applies
     module _ (taken : engineRefusal r next c w out ≡ none) where
       pub same-run : SameRun r c (run r next c limit w) (roundTexts r next c limit w) out (runCall r next c limit w out)
       unfolding runCall
-      same-run = let (h, long) = taken-iff r next c w out .0 taken in calls-from limit 0 w out [] h long
+      same-run = let (h, long) = taken-iff r next c w out coherent .0 taken in calls-from limit 0 w out [] h long
 
       -- the bytes of its log are cut into the plain run's lines
       pub call-lines : linesIn (r .amountWidth) (runCall r next c limit w out .log) ≡ run r next c limit w .log
       call-lines = ap (linesIn (r .amountWidth)) (same-run .log)
-          ∙ lines-joined (r .amountWidth) (run r next c limit w .log) (run-tallied coherent lawful limit w (taken-iff r next c w out .0 taken .0) .kept .whole)
+          ∙ lines-joined (r .amountWidth) (run r next c limit w .log)
+          (run-tallied coherent lawful limit w (taken-iff r next c w out coherent .0 taken .0) .kept .whole)
 
     -- for every table and every output
     pub call-bound-lines : length (boundLines r (linesIn (r .amountWidth) (runCall r next c limit w out .log))) ≡ runCall r next c limit w out .run .rounds
@@ -288,7 +293,7 @@ module _ {r : Rules} {next : Rules → Case → List ℤ → Next} {c : Case} (c
             → length (boundLines r (linesIn (r .amountWidth) (runCall r next c limit w out .log))) ≡ runCall r next c limit w out .run .rounds
         go none e =
             ap (λ (ls : List (List ℕ)). length (boundLines r ls)) (call-lines e)
-            ∙ run-tallied coherent lawful limit w (taken-iff r next c w out .0 e .0) .kept .counted ∙ sym (same-run e .rounds)
+            ∙ run-tallied coherent lawful limit w (taken-iff r next c w out coherent .0 e .0) .kept .counted ∙ sym (same-run e .rounds)
         go (some x) e =
             let q = run-refused r next c w out limit e in
             ap (λ (u : RunCall). length (boundLines r (linesIn (r .amountWidth) (u .log)))) q

@@ -1,6 +1,7 @@
--- The rounds of the engine, and of pair rounds only: each is the lowest pair's round, or the engine's press where there is no such pair. They
--- are lawful; nothing comes next just where the state is settled; from starting weights none leaves the working range, and those of pairs
--- only from no table; these keep every objective; and from any table there are few of them. Assumes nothing.
+-- The rounds of the engine, and of pair rounds only, on tables that the engine takes: each is the lowest pair's round, or the engine's press
+-- where there is no such pair. They are lawful; nothing comes next just where the state is settled; from starting weights, no tuple barred, none
+-- leaves the working range, and those of pairs only from no table; these keep every objective; and from any table there are few of them.
+-- Assumes nothing.
 use mathlib.Core.Path.{_≡_, refl, sym, ap, subst, _∙_}
 use mathlib.Core.Bool.{Bool, not}
 use mathlib.Core.Logic.{_↔_, _⊎_, inl, inr}
@@ -20,39 +21,41 @@ use Rattle.definitions.specs.declared.Case.{Case}
 use Rattle.definitions.specs.declared.RunAnswer.{RunAnswer}
 use Rattle.definitions.specs.Rules.{Rules, Coherent}
 use Rattle.definitions.specs.Case.{isAssignment, objective, upperBound}
-use Rattle.definitions.specs.Valid.{workingWeight, valid}
+use Rattle.definitions.specs.Valid.{inWorking, valid}
 use Rattle.definitions.specs.Moves.{Move, activePress, leavesRange, afterMoves}
 use Rattle.definitions.specs.Lines.{lineLength}
 use Rattle.definitions.specs.RoundLines.{raiseLine, roundLines}
 use Rattle.definitions.specs.PairRounds.{pairRound, lowestPair, PairsSettled}
 use Rattle.definitions.specs.Engine.{Settled, chosen, leastGap, Next, nothing, round, keptScopes, pressesNext, engineNext, pairsNext, roundBytes, run}
 use Rattle.theory.proofs.Shape.{Shape}
+use Rattle.theory.proofs.Barred.{Free}
 use Rattle.theory.proofs.Validity.{Handed, valid-facts}
-use Rattle.theory.proofs.Rounds.{AllAllowed, no-move, one-more, all-handed}
+use Rattle.theory.proofs.Rounds.{AllAllowed, no-move, one-more}
 use Rattle.press_theory.proofs.Trim.{chosen-some, no-press-iff, kept-refuted, kept-rising, kept-scopes, kept-fewer, kept-some}
 use Rattle.press_theory.proofs.Gaps.{amount-some, amount-most}
-use Rattle.press_theory.proofs.Fall.{enginePressed, fall}
+use Rattle.press_theory.proofs.Fall.{enginePressed, pressed-moved, after-press, fall}
 use Rattle.press_theory.proofs.InRange.{Reached, start, next-made}
 use Rattle.pair_theory.specs.Closed.{pairLeaves}
+use Rattle.pair_theory.proofs.Inside.{none-barred, all-inside}
 use Rattle.pair_theory.proofs.Gains.{lowest-some, pairs-settled-iff}
 use Rattle.pair_theory.proofs.Rounded.{pairRounded, pair-fall, pair-keeps}
 use Rattle.pair_theory.proofs.Passing.{after-pair, passed-over-is, pair-allowed, pair-few}
 use Rattle.reach_theory.proofs.Next.{IsPairRound, IsPressRound, engine-next-is, engine-next-nothing, pairs-next-is, pairs-nothing}
 use Rattle.reach_theory.proofs.Phases.{EngineReached, reached-first, reached-next}
 use Rattle.reach_theory.proofs.Counts.{roundsLeft, left-less, pairs-left-less, left-some, pairs-left-some}
-use Rattle.engine_theory.proofs.Runs.{RoundFrom, Lawful, Free, run-has, run-ends, ends-limit}
+use Rattle.engine_theory.proofs.Runs.{RoundFrom, Lawful, NeverLeaves, run-has, run-ends, ends-limit, handed-on}
 
 pub data EngineRound (r : Rules) (c : Case) (w : List ℤ) : List Move → List ℤ → Type 0 where
   pairs : {e : ℕ} → lowestPair r c w ≡ some e → EngineRound r c w (pairRound c w e) (pairRounded c w e)
-  presses : {i : ℕ} {a : ℤ} → lowestPair r c w ≡ none → chosen c w ≡ some i → leastGap c w i ≡ some a → T (not (leavesRange r c (enginePressed c w i a)))
+  presses : {i : ℕ} {a : ℤ} → lowestPair r c w ≡ none → chosen c w ≡ some i → leastGap c w i ≡ some a → T (not (leavesRange r c w (enginePressed c w i a)))
       → EngineRound r c w (activePress c w i (keptScopes c w i) a ∷ []) (enginePressed c w i a)
 
-module _ {r : Rules} {c : Case} {w : List ℤ} (h : Handed r (workingWeight r) c w) where
+module _ {r : Rules} {c : Case} {w : List ℤ} (coherent : Coherent r) (h : Handed r (inWorking r) c w) where
   -- the lowest pair's round is not passed over
   pub pair-leads : {e : ℕ} → lowestPair r c w ≡ some e → afterMoves r c (pairRound c w e) w ≡ some (pairRounded c w e)
   pair-leads {e} f =
       let (l, g, t) = lowest-some r c w f in
-      after-pair h l ∙ if-false none (some (pairRounded c w e)) (pairLeaves r c w e) (subst (λ (b : Bool). T (not b)) (passed-over-is h l) t)
+      after-pair coherent h l ∙ if-false none (some (pairRounded c w e)) (pairLeaves r c w e) (subst (λ (b : Bool). T (not b)) (passed-over-is coherent h l) t)
 
   pair-round : {moves : List Move} {v : List ℤ} → IsPairRound r c w moves → afterMoves r c moves w ≡ some v → EngineRound r c w moves v
   pair-round {moves} (e, f, q) l =
@@ -60,7 +63,8 @@ module _ {r : Rules} {c : Case} {w : List ℤ} (h : Handed r (workingWeight r) c
 
   press-round : {moves : List Move} {v : List ℤ} → IsPressRound r c w moves → afterMoves r c moves w ≡ some v → EngineRound r c w moves v
   press-round {moves} {v} (n, i, a, e, g, q) l =
-      let (t, z) = found-else (leavesRange r c (enginePressed c w i a)) (some (enginePressed c w i a)) (ap (λ m. afterMoves r c m w) (sym q) ∙ l) in
+      let (t, z) = found-else (leavesRange r c w (enginePressed c w i a)) (some (enginePressed c w i a))
+      (sym (after-press c w (none-barred coherent h) i a r) ∙ ap (λ m. afterMoves r c m w) (sym q) ∙ l) in
       rw (q, ← (some-inj z)) (presses n e g t)
 
   pub engine-round : {moves : List Move} {v : List ℤ} → engineNext r c w ≡ round moves → afterMoves r c moves w ≡ some v → EngineRound r c w moves v
@@ -73,11 +77,12 @@ module _ {r : Rules} {c : Case} {w : List ℤ} (h : Handed r (workingWeight r) c
   pub pairs-round : {moves : List Move} {v : List ℤ} → pairsNext r c w ≡ round moves → afterMoves r c moves w ≡ some v → EngineRound r c w moves v
   pairs-round d l = pair-round (pairs-next-is r c w d) l
 
-  pub engine-allowed : Coherent r → {moves : List Move} {v : List ℤ} → EngineRound r c w moves v → AllAllowed r c w moves v
-  engine-allowed coherent (pairs f) = let (l, g, t) = lowest-some r c w f in pair-allowed coherent h l t
-  engine-allowed coherent (presses {i} {a} n e g t) =
+  pub engine-allowed : {moves : List Move} {v : List ℤ} → EngineRound r c w moves v → AllAllowed r c w moves v
+  engine-allowed (pairs f) = let (l, g, t) = lowest-some r c w f in pair-allowed coherent h l t
+  engine-allowed (presses {i} {a} n e g t) =
       let (own, refutes, _) = chosen-some c w e in
-      one-more {move = activePress c w i (keptScopes c w i) a} (record {
+      let same = pressed-moved c w (none-barred coherent h) i a in
+      subst (AllAllowed r c w (activePress c w i (keptScopes c w i) a ∷ [])) same (one-more {move = activePress c w i (keptScopes c w i) a} (record {
         variable = own;
         some-raised = kept-some c w i (h .shape) own refutes;
         rising = kept-rising c w i;
@@ -85,8 +90,8 @@ module _ {r : Rules} {c : Case} {w : List ℤ} (h : Handed r (workingWeight r) c
         amount = coherent .difference ▸ amount-some c w (h .shape) e g ▸ amount-most c w (h .shape) e g r (h .in-range) ▸ simp flat (omega zs);
         lowers = refl;
         refutes = kept-refuted c w i refutes;
-        in-range = t;
-      }) no-move
+        in-range = subst (λ (v : List ℤ). T (not (leavesRange r c w v))) (sym same) t;
+      }) no-move)
 
   engine-lower : {moves : List Move} {v : List ℤ} → EngineRound r c w moves v → upperBound c v <ℤ upperBound c w
   engine-lower (pairs {e} f) = let (l, g, t) = lowest-some r c w f in pair-fall c w e (h .shape) l ▸ g ▸ simp flat (omega zs)
@@ -104,16 +109,16 @@ module _ {r : Rules} (coherent : Coherent r) (c : Case) where
   lawful-of : {next : Rules → Case → List ℤ → Next}
       → ((w v : List ℤ) (moves : List Move) → RoundFrom r next c w moves v → EngineRound r c w moves v) → Lawful r next c
   lawful-of is = record {
-    allowed = λ {w} {v} {moves} m. engine-allowed (m .handed) coherent (is w v moves m);
-    lower = λ {w} {v} {moves} m. engine-lower (m .handed) (is w v moves m);
-    short = λ {w} {v} {moves} m. engine-short (m .handed) (is w v moves m);
+    allowed = λ {w} {v} {moves} m. engine-allowed coherent (m .handed) (is w v moves m);
+    lower = λ {w} {v} {moves} m. engine-lower coherent (m .handed) (is w v moves m);
+    short = λ {w} {v} {moves} m. engine-short coherent (m .handed) (is w v moves m);
   }
 
   pub engine-lawful : Lawful r engineNext c
-  engine-lawful = lawful-of (λ w v moves m. engine-round (m .handed) (m .comes) (m .leads))
+  engine-lawful = lawful-of (λ w v moves m. engine-round coherent (m .handed) (m .comes) (m .leads))
 
   pub pairs-lawful : Lawful r pairsNext c
-  pairs-lawful = lawful-of (λ w v moves m. pairs-round (m .handed) (m .comes) (m .leads))
+  pairs-lawful = lawful-of (λ w v moves m. pairs-round coherent (m .handed) (m .comes) (m .leads))
 
 module _ (r : Rules) (c : Case) (shape : Shape c) (w : List ℤ) where
   pub engine-settled : engineNext r c w ≡ nothing ↔ Settled r c w
@@ -132,50 +137,50 @@ module _ (r : Rules) (c : Case) (shape : Shape c) (w : List ℤ) where
 
 -- ---- never refused
 
-pub engine-free : {r : Rules} {c : Case} {w₀ : List ℤ} → Coherent r → T (valid r c w₀) → Free r engineNext c w₀ (EngineReached r c)
-engine-free {r} {c} {w₀} coherent t = record {
-  first = reached-first coherent (valid-facts r c w₀ t);
+pub engine-free : {r : Rules} {c : Case} {w₀ : List ℤ} → Coherent r → T (valid r c w₀) → Free c w₀ → NeverLeaves r engineNext c w₀ (EngineReached r c)
+engine-free {r} {c} {w₀} coherent t free = record {
+  first = reached-first coherent (valid-facts r c w₀ t) free;
   goes = λ h e. reached-next coherent h e;
 }
 
 -- presses alone, over the tables that presses reach
-pub presses-free : {r : Rules} {c : Case} {w₀ : List ℤ} → Coherent r → T (valid r c w₀) → Free r pressesNext c w₀ (Reached c w₀)
-presses-free {r} {c} {w₀} coherent t = record {
+pub presses-free : {r : Rules} {c : Case} {w₀ : List ℤ} → Coherent r → T (valid r c w₀) → Free c w₀ → NeverLeaves r pressesNext c w₀ (Reached c w₀)
+presses-free {r} {c} {w₀} coherent t free = record {
   first = start;
-  goes = λ h e. let (v, g, q, l) = next-made coherent (valid-facts r c w₀ t) h e in (v, g, q);
+  goes = λ h e. let (v, g, q, l) = next-made coherent (valid-facts r c w₀ t) free h e in (v, g, q);
 }
 
-pub pairs-free : {r : Rules} {c : Case} {w₀ : List ℤ} → Coherent r → Handed r (workingWeight r) c w₀ → Free r pairsNext c w₀ (Handed r (workingWeight r) c)
+pub pairs-free : {r : Rules} {c : Case} {w₀ : List ℤ} → Coherent r → Handed r (inWorking r) c w₀ → NeverLeaves r pairsNext c w₀ (Handed r (inWorking r) c)
 pairs-free {r} {c} coherent h = record {
   first = h;
   goes = λ {w} {moves} k d.
       let (e, f, q) = pairs-next-is r c w d in
-      let l = pair-leads k f in
-      (pairRounded c w e, ap (λ (m : List Move). afterMoves r c m w) q ∙ l, all-handed (engine-allowed k coherent (pairs f)) k);
+      let l = pair-leads coherent k f in
+      (pairRounded c w e, ap (λ (m : List Move). afterMoves r c m w) q ∙ l, all-inside coherent (engine-allowed coherent k (pairs f)) k);
 }
 
 -- ---- pair rounds only keep every objective, from any table
 
 record Kept (r : Rules) (c : Case) (w₀ w : List ℤ) : Type 0 where
-  pub handed : Handed r (workingWeight r) c w
+  pub handed : Handed r (inWorking r) c w
   pub same : (p : List ℕ) → T (isAssignment c p) → objective c w p ≡ objective c w₀ p
 
 module _ {r : Rules} {c : Case} (coherent : Coherent r) where
-  pub pairs-keep : (limit : ℕ) (w₀ : List ℤ) → Handed r (workingWeight r) c w₀ → (p : List ℕ) → T (isAssignment c p)
+  pub pairs-keep : (limit : ℕ) (w₀ : List ℤ) → Handed r (inWorking r) c w₀ → (p : List ℕ) → T (isAssignment c p)
       → objective c (run r pairsNext c limit w₀ .weights) p ≡ objective c w₀ p
   pairs-keep limit w₀ h =
       run-has r pairsNext c (λ done w log. Kept r c w₀ w) (λ done w v log moves k d l.
       let (e, f, q) = pairs-next-is r c w d in
-      let g = some-inj (sym (pair-leads (k .handed) f) ∙ ap (λ (m : List Move). afterMoves r c m w) (sym q) ∙ l) in
+      let g = some-inj (sym (pair-leads coherent (k .handed) f) ∙ ap (λ (m : List Move). afterMoves r c m w) (sym q) ∙ l) in
       subst (Kept r c w₀) g (record {
-        handed = all-handed (engine-allowed (k .handed) coherent (pairs f)) (k .handed);
+        handed = all-inside coherent (engine-allowed coherent (k .handed) (pairs f)) (k .handed);
         same = λ p a. pair-keeps c w e (k .handed .shape) (lowest-some r c w f .0) p a ∙ k .same p a;
       })) limit w₀ (record { handed = h; same = λ p a. refl }) .kept .same
 
 -- ---- few rounds, from any table
 
 record Few (r : Rules) (c : Case) (w₀ : List ℤ) (done : ℕ) (w : List ℤ) : Type 0 where
-  pub handed : Handed r (workingWeight r) c w
+  pub handed : Handed r (inWorking r) c w
   pub few : done + roundsLeft c w ≤ roundsLeft c w₀
 
 -- each round leaves fewer, and where one comes next, some are left
@@ -183,12 +188,12 @@ pub record Lessening (r : Rules) (next : Rules → Case → List ℤ → Next) (
   pub less : {w v : List ℤ} {moves : List Move} → RoundFrom r next c w moves v → roundsLeft c v < roundsLeft c w
   pub some-left : {w : List ℤ} {moves : List Move} → Shape c → next r c w ≡ round moves → 0 < roundsLeft c w
 
-module _ {r : Rules} {next : Rules → Case → List ℤ → Next} {c : Case} (lawful : Lawful r next c) (lessening : Lessening r next c)
-    (limit : ℕ) (w₀ : List ℤ) (h : Handed r (workingWeight r) c w₀) where
+module _ {r : Rules} {next : Rules → Case → List ℤ → Next} {c : Case} (coherent : Coherent r) (lawful : Lawful r next c) (lessening : Lessening r next c)
+    (limit : ℕ) (w₀ : List ℤ) (h : Handed r (inWorking r) c w₀) where
   few-made : Few r c w₀ (run r next c limit w₀ .rounds) (run r next c limit w₀ .weights)
   few-made = run-has r next c (λ done w log. Few r c w₀ done w) (λ done w v log moves k d l.
       let m : RoundFrom r next c w moves v = record { handed = k .handed; comes = d; leads = l } in
-      record { handed = all-handed (lawful .allowed m) (k .handed); few = omega (arith, lessening .less m, k .few) }) limit w₀
+      record { handed = handed-on coherent lawful m; few = omega (arith, lessening .less m, k .few) }) limit w₀
       (record { handed = h; few = omega arith }) .kept
 
   pub run-few : run r next c limit w₀ .rounds ≤ roundsLeft c w₀
@@ -202,8 +207,14 @@ module _ {r : Rules} {next : Rules → Case → List ℤ → Next} {c : Case} (l
       let few = few-made .few in
       absurd (omega arith)
 
-pub engine-lessens : {r : Rules} (c : Case) → Lessening r engineNext c
-engine-lessens {r} c = record { less = λ m. left-less (m .handed) (m .comes) (m .leads); some-left = λ {w} shape d. left-some r c w shape d }
+pub engine-lessens : {r : Rules} → Coherent r → (c : Case) → Lessening r engineNext c
+engine-lessens {r} coherent c = record {
+  less = λ m. left-less coherent (m .handed) (m .comes) (m .leads);
+  some-left = λ {w} shape d. left-some r c w shape d;
+}
 
-pub pairs-lessen : {r : Rules} (c : Case) → Lessening r pairsNext c
-pairs-lessen {r} c = record { less = λ m. pairs-left-less (m .handed) (m .comes) (m .leads); some-left = λ {w} shape d. pairs-left-some r c w shape d }
+pub pairs-lessen : {r : Rules} → Coherent r → (c : Case) → Lessening r pairsNext c
+pairs-lessen {r} coherent c = record {
+  less = λ m. pairs-left-less coherent (m .handed) (m .comes) (m .leads);
+  some-left = λ {w} shape d. pairs-left-some r c w shape d;
+}

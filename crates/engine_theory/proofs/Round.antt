@@ -1,6 +1,6 @@
--- What one call of a round does, by what comes next, on a table and an output to which none of numbers 3 to 8 applies: settled where nothing
--- comes; the round's moves, with its lines from the output's first byte, where they stay in the working range; else it is refused by 11 and
--- keeps table and output. Assumes nothing.
+-- What one call of a round does, by what comes next, on a table and an output to which none of numbers 3 to 8 and 15 applies: settled where
+-- nothing comes; the round's moves, with its lines from the output's first byte, where they stay in the working range; else it is refused by 11
+-- and keeps table and output. Assumes nothing.
 use mathlib.Core.Path.{_≡_, refl, sym, ap, subst}
 use mathlib.Core.Option.{Option, none, some}
 use mathlib.Core.List.{List}
@@ -12,9 +12,9 @@ use Rattle.definitions.specs.declared.Case.{Case}
 use Rattle.definitions.specs.declared.Refusal.{Refusal}
 use Rattle.definitions.specs.declared.Refusal.the-variants.{LeavesRange}
 use Rattle.definitions.specs.declared.Round.{Round}
-use Rattle.definitions.specs.Rules.{Rules}
+use Rattle.definitions.specs.Rules.{Rules, Coherent}
 use Rattle.definitions.specs.Case.{upperBound}
-use Rattle.definitions.specs.Valid.{workingWeight}
+use Rattle.definitions.specs.Valid.{inWorking}
 use Rattle.definitions.specs.Moves.{Move, afterMoves}
 use Rattle.definitions.specs.Lines.{overwritten}
 use Rattle.definitions.specs.Engine.{Next, nothing, round, madeOf, makeNext, roundBytes}
@@ -40,10 +40,10 @@ refusalOf Round.Settled = LeavesRange
 refusalOf (Round.Made bytes bound) = LeavesRange
 refusalOf (Round.Refused x) = x
 
-module _ (r : Rules) (next : Rules → Case → List ℤ → Next) (c : Case) (w : List ℤ) (out : List ℕ) (h : Handed r (workingWeight r) c w)
+module _ (r : Rules) (next : Rules → Case → List ℤ → Next) (c : Case) (w : List ℤ) (out : List ℕ) (coherent : Coherent r) (h : Handed r (inWorking r) c w)
     (long : roundBytes r c ≤ length out) where
   pub round-is : RoundIs r next c w out (roundCall r next c w out)
-  round-is = subst (RoundIs r next c w out) (sym (call-taken r next c w out (taken-iff r next c w out .1 (h, long)))) (go (next r c w) refl)
+  round-is = subst (RoundIs r next c w out) (sym (call-taken r next c w out (taken-iff r next c w out coherent .1 (h, long)))) (go (next r c w) refl)
     where
       leads : (moves : List Move) (o : Option (List ℤ)) → next r c w ≡ round moves → afterMoves r c moves w ≡ o
           → RoundIs r next c w out (roundMade c w out (madeOf r c moves o))

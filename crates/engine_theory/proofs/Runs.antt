@@ -1,7 +1,8 @@
 -- Runs, over any `next` whose rounds are lawful: each is a list of moves that are allowed one after another, lowers the upper bound, and is
--- short enough for an output. From starting weights the plain replay takes a run's log and is left with the run's rounds and weights; the log
--- has a bound line for each round; a run answers settled just where nothing comes next, and limit just after so many rounds with more to come;
--- and where no move leaves the working range, a limit of the upper bound less any objective is enough to settle. Assumes nothing.
+-- short enough for an output. From starting weights, no tuple barred, the plain replay takes a run's log and is left with the run's rounds and
+-- weights; the log has a bound line for each round; a run answers settled just where nothing comes next, and limit just after so many rounds
+-- with more to come; and where no move leaves the working range, a limit of the upper bound less any objective is enough to settle. Assumes
+-- nothing.
 use mathlib.Core.Path.{_≡_, refl, sym, ap, subst, _∙_}
 use mathlib.Core.Bool.{true, false}
 use mathlib.Core.Logic.{_↔_, Iff·trans, _⊎_, inl, inr, ⊎-elim}
@@ -25,8 +26,8 @@ use Rattle.definitions.specs.declared.Line.{Line}
 use Rattle.definitions.specs.declared.Refusal.the-variants.{LeavesRange}
 use Rattle.definitions.specs.declared.RunAnswer.{RunAnswer}
 use Rattle.definitions.specs.Rules.{Rules, Coherent, scopesAtMost}
-use Rattle.definitions.specs.Case.{scopeCount, isAssignment, objective, upperBound}
-use Rattle.definitions.specs.Valid.{workingWeight, valid}
+use Rattle.definitions.specs.Case.{scopeCount, isAssignment, isLawful, objective, upperBound}
+use Rattle.definitions.specs.Valid.{inWorking, valid}
 use Rattle.definitions.specs.Moves.{Move, shift, press, afterMoves}
 use Rattle.definitions.specs.Lines.{lineText, lineLength, lineTooWide, readLine, isKind}
 use Rattle.definitions.specs.Replay.{State, fresh, after, atEnd}
@@ -34,9 +35,11 @@ use Rattle.definitions.specs.Engine.{Next, nothing, round, roundBytes, madeOf, 
 use Rattle.definitions.proofs.LineLaws.{line-read, line-length}
 use Rattle.definitions.specs.RoundLines.{raiseLine, moveLines, boundLine, roundLines, roundText}
 use Rattle.engine_theory.specs.Runs.{isBound, boundLines}
-use Rattle.theory.proofs.Validity.{Handed, valid-facts}
-use Rattle.theory.proofs.Replays.{bound-sound, rounds-few, handed-after}
-use Rattle.theory.proofs.Rounds.{AllAllowed, all-handed, MoveKinds, round-fits, after-append, moves-taken, round-taken}
+use Rattle.theory.proofs.Barred.{Free, free-lawful}
+use Rattle.theory.proofs.Validity.{Handed, valid-facts, working-handed}
+use Rattle.theory.proofs.Replays.{bound-sound, rounds-few}
+use Rattle.theory.proofs.Rounds.{AllAllowed, MoveKinds, round-fits, after-append, moves-taken, round-taken}
+use Rattle.pair_theory.proofs.Inside.{every-takes, engine-takes, all-inside}
 use Rattle.press_theory.proofs.InRange.{bound-spread}
 
 pub differ : {A : Type 0} → _≡_ {A = ℕ} 0 1 → A
@@ -130,9 +133,9 @@ module _ (r : Rules) (next : Rules → Case → List ℤ → Next) (c : Case) wh
 
 -- ---- lawful rounds
 
--- from w, a table that every call takes, these moves come next and lead to v
+-- from w, a table that the engine takes, these moves come next and lead to v
 pub record RoundFrom (r : Rules) (next : Rules → Case → List ℤ → Next) (c : Case) (w : List ℤ) (moves : List Move) (v : List ℤ) : Type 0 where
-  pub handed : Handed r (workingWeight r) c w
+  pub handed : Handed r (inWorking r) c w
   pub comes : next r c w ≡ round moves
   pub leads : afterMoves r c moves w ≡ some v
 
@@ -152,16 +155,16 @@ no-bound [] = refl
 no-bound (shift e end v a ∷ moves) = no-bound moves
 no-bound (press i lowered raised a ∷ moves) = any-append (isKind 4) (map raiseLine raised) (joined (map moveLines moves)) ∙ rw (no-raise raised, no-bound moves)
 
--- after so many rounds: a table that every call takes, and a log of whole lines with a bound line for each
+-- after so many rounds: a table that the engine takes, and a log of whole lines with a bound line for each
 pub record Tallied (r : Rules) (c : Case) (rounds : ℕ) (w : List ℤ) (log : List (List ℕ)) : Type 0 where
-  pub handed : Handed r (workingWeight r) c w
+  pub handed : Handed r (inWorking r) c w
   pub whole : Parts (lineLength (r .amountWidth)) log
   pub counted : length (boundLines r log) ≡ rounds
 
 module _ {r : Rules} {next : Rules → Case → List ℤ → Next} {c : Case} (coherent : Coherent r) (lawful : Lawful r next c) where
   module _ {w v : List ℤ} {moves : List Move} (m : RoundFrom r next c w moves v) where
     round-width : {l : Line} → l ∈ roundLines c moves v → lineTooWide (r .amountWidth) l ≡ false
-    round-width = round-fits coherent (m .handed) (lawful .allowed m)
+    round-width = round-fits coherent (every-takes (m .handed)) (lawful .allowed m)
 
     -- a round's lines are whole, and its last is its one bound line
     pub round-whole : Parts (lineLength (r .amountWidth)) (roundText r c moves v)
@@ -176,8 +179,8 @@ module _ {r : Rules} {next : Rules → Case → List ℤ → Next} {c : Case} (c
         ∙ those-append (isKind 4) (joined (map moveLines moves)) (boundLine (upperBound c v) ∷ [])
         ∙ ap (λ ls. ls ++ (boundLine (upperBound c v) ∷ [])) (those-none (isKind 4) (joined (map moveLines moves)) (false-is _ (no-bound moves))))
 
-    pub handed-on : Handed r (workingWeight r) c v
-    handed-on = all-handed (lawful .allowed m) (m .handed)
+    pub handed-on : Handed r (inWorking r) c v
+    handed-on = all-inside coherent (lawful .allowed m) (m .handed)
 
   tallied-on : (done : ℕ) (w v : List ℤ) (log : List (List ℕ)) (moves : List Move) → Tallied r c done w log → next r c w ≡ round moves
       → afterMoves r c moves w ≡ some v
@@ -192,8 +195,8 @@ module _ {r : Rules} {next : Rules → Case → List ℤ → Next} {c : Case} (c
             ∙ omega (arith, p .counted, length-append (boundLines r log) (lineText (r .amountWidth) (boundLine (upperBound c v)) ∷ []));
       }
 
-  -- for every table that calls take and every limit
-  pub run-tallied : (limit : ℕ) (w : List ℤ) → Handed r (workingWeight r) c w → Ran r next c (Tallied r c) limit (run r next c limit w)
+  -- for every table that the engine takes and every limit
+  pub run-tallied : (limit : ℕ) (w : List ℤ) → Handed r (inWorking r) c w → Ran r next c (Tallied r c) limit (run r next c limit w)
   run-tallied limit w h = run-has r next c (Tallied r c) tallied-on limit w (record { handed = h; whole = λ l m. absurd (List·Memᴰ·not-nil m); counted = refl })
 
 -- ---- the log, replayed from starting weights
@@ -208,11 +211,13 @@ between c w₀ rounds w = record {
   start = upperBound c w;
   held = none;
   moving = false;
+  void = false;
   refusal = none;
 }
 
--- the log leads there, and each of its rounds has lowered the upper bound
+-- the log leads there, to a table that the engine takes, and each of its rounds has lowered the upper bound
 pub record Replayed (r : Rules) (c : Case) (w₀ : List ℤ) (rounds : ℕ) (w : List ℤ) (log : List (List ℕ)) : Type 0 where
+  pub handed : Handed r (inWorking r) c w
   pub leads : after r (fresh c w₀) log ≡ between c w₀ rounds w
   pub fallen : (pos rounds +ℤ upperBound c w) ≤ℤ upperBound c w₀
 
@@ -223,59 +228,62 @@ too-many : (rounds limit : ℕ) (b z : ℤ) → rounds ≡ limit → b ≤ℤ (p
 too-many rounds limit b z e h k = e ▸ h ▸ k ▸ simp flat (omega zs)
 
 -- tables from which no round leaves the working range, the first among them
-pub record Free (r : Rules) (next : Rules → Case → List ℤ → Next) (c : Case) (w₀ : List ℤ) (Reach : List ℤ → Type 0) : Type 0 where
+pub record NeverLeaves (r : Rules) (next : Rules → Case → List ℤ → Next) (c : Case) (w₀ : List ℤ) (Reach : List ℤ → Type 0) : Type 0 where
   pub first : Reach w₀
   pub goes : {w : List ℤ} {moves : List Move} → Reach w → next r c w ≡ round moves → (v : List ℤ) × (afterMoves r c moves w ≡ some v) × Reach v
 
-module _ {r : Rules} {next : Rules → Case → List ℤ → Next} {c : Case} {w₀ : List ℤ} {Reach : List ℤ → Type 0} (free : Free r next c w₀ Reach) where
+module _ {r : Rules} {next : Rules → Case → List ℤ → Next} {c : Case} {w₀ : List ℤ} {Reach : List ℤ → Type 0} (stays : NeverLeaves r next c w₀ Reach) where
   pub run-reaches : (limit : ℕ) → Ran r next c (λ done w log. Reach w) limit (run r next c limit w₀)
   run-reaches limit = run-has r next c (λ done w log. Reach w) (λ done w v log moves p e f.
-      let (u, g, q) = free .goes p e in subst Reach (some-inj (sym g ∙ f)) q) limit w₀ (free .first)
+      let (u, g, q) = stays .goes p e in subst Reach (some-inj (sym g ∙ f)) q) limit w₀ (stays .first)
 
-  ends-free : {w : List ℤ} {rounds limit : ℕ} {answer : RunAnswer} → Ends r next c w rounds limit answer → Reach w → (answer ≡ RunAnswer.Settled)
+  ends-unrefused : {w : List ℤ} {rounds limit : ℕ} {answer : RunAnswer} → Ends r next c w rounds limit answer → Reach w → (answer ≡ RunAnswer.Settled)
       ⊎ (answer ≡ RunAnswer.Limit)
-  ends-free (settles h e) p = inl refl
-  ends-free (limits h e) p = inr refl
-  ends-free (refuses h e f) p = let (v, g, q) = free .goes p e in absurd (none-some (sym f ∙ g))
+  ends-unrefused (settles h e) p = inl refl
+  ends-unrefused (limits h e) p = inr refl
+  ends-unrefused (refuses h e f) p = let (v, g, q) = stays .goes p e in absurd (none-some (sym f ∙ g))
 
   pub run-never-refused : (limit : ℕ) → (run r next c limit w₀ .answer ≡ RunAnswer.Settled) ⊎ (run r next c limit w₀ .answer ≡ RunAnswer.Limit)
-  run-never-refused limit = ends-free (run-ends r next c limit w₀) (run-reaches limit .kept)
+  run-never-refused limit = ends-unrefused (run-ends r next c limit w₀) (run-reaches limit .kept)
 
 module _ {r : Rules} {next : Rules → Case → List ℤ → Next} {c : Case} (coherent : Coherent r) (kinds : MoveKinds r)
-    (lawful : Lawful r next c) (w₀ : List ℤ) (t : T (valid r c w₀)) where
+    (lawful : Lawful r next c) (w₀ : List ℤ) (t : T (valid r c w₀)) (free : Free c w₀) where
   module _ {done : ℕ} {w : List ℤ} {log : List (List ℕ)} (p : Replayed r c w₀ done w log) where
-    replayed-handed : Handed r (workingWeight r) c w
-    replayed-handed = subst (λ (u : State). Handed r (workingWeight r) c (u .weights)) (p .leads) (handed-after r c w₀ t log coherent)
-
     -- moves alone, before their bound line, lower no first objective
     moves-above : {v : List ℤ} {moves : List Move} → AllAllowed r c w moves v → (x : List ℕ) → T (isAssignment c x) → objective c w₀ x ≤ℤ upperBound c v
     moves-above {v} {moves} a x g =
         let lines : List (List ℕ) = map (lineText (r .amountWidth)) (joined (map moveLines moves)) in
         subst (λ (u : State). objective c w₀ x ≤ℤ upperBound c (u .weights))
         (after-append r (fresh c w₀) log lines ∙ ap (λ (u : State). after r u lines) (p .leads)
-        ∙ moves-taken coherent kinds (between c w₀ done w) refl refl replayed-handed a)
-        (bound-sound r c w₀ t (log ++ lines) x g)
+        ∙ moves-taken coherent kinds (between c w₀ done w) refl refl refl (every-takes (p .handed)) a)
+        (bound-sound coherent c w₀ t (log ++ lines) x (free-lawful c w₀ free (valid-facts r c w₀ t .shape) x g))
 
   replayed-on : (done : ℕ) (w v : List ℤ) (log : List (List ℕ)) (moves : List Move) → Replayed r c w₀ done w log → next r c w ≡ round moves
       → afterMoves r c moves w ≡ some v
       → Replayed r c w₀ (suc done) v (log ++ roundText r c moves v)
   replayed-on done w v log moves p e f =
-      let h = replayed-handed p in
+      let h = p .handed in
       let m : RoundFrom r next c w moves v = record { handed = h; comes = e; leads = f } in
       let a = lawful .allowed m in
-      let spread = bound-spread coherent (valid-facts r c w₀ t) (upperBound c v) (moves-above p a) in
+      let spread = bound-spread coherent (valid-facts r c w₀ t) free (upperBound c v) (moves-above p a) in
       let most = mul-le-mul-right {m = scopeCount c} {n = scopesAtMost r} (r .starting) (omega (arith, h .variables-most, h .edges-most)) in
       let (few, fallen) = few-rounds done _ (r .rounds) (upperBound c w₀) (upperBound c w) (upperBound c v) (p .fallen) (lawful .lower m) spread
       (omega arith) in
       record {
+        handed = handed-on coherent lawful m;
         leads =
             after-append r (fresh c w₀) log (roundText r c moves v) ∙ ap (λ (u : State). after r u (roundText r c moves v)) (p .leads)
-            ∙ round-taken coherent kinds (between c w₀ done w) refl refl h a few (lawful .lower m) ∙ ap (λ (n : ℕ). between c w₀ n v) (omega arith);
+            ∙ round-taken coherent kinds (between c w₀ done w) refl refl refl (every-takes h) a few (lawful .lower m)
+            ∙ ap (λ (n : ℕ). between c w₀ n v) (omega arith);
         fallen = fallen;
       }
 
   pub run-replayed : (limit : ℕ) → Ran r next c (Replayed r c w₀) limit (run r next c limit w₀)
-  run-replayed limit = run-has r next c (Replayed r c w₀) replayed-on limit w₀ (record { leads = refl; fallen = simp flat (omega zs) })
+  run-replayed limit = run-has r next c (Replayed r c w₀) replayed-on limit w₀ (record {
+    handed = engine-takes (working-handed coherent (valid-facts r c w₀ t)) free;
+    leads = refl;
+    fallen = simp flat (omega zs);
+  })
 
   module _ (limit : ℕ) where
     -- rounds and weights are the run's, nothing is held, no move lacks its bound line, and no line was refused
@@ -285,15 +293,15 @@ module _ {r : Rules} {next : Rules → Case → List ℤ → Next} {c : Case} (c
     pub run-log-ends : atEnd (after r (fresh c w₀) (run r next c limit w₀ .log)) ≡ none
     run-log-ends = ap atEnd run-log-taken
 
-  module _ {Reach : List ℤ → Type 0} (free : Free r next c w₀ Reach) where
-    pub run-settles : (limit : ℕ) (p : List ℕ) → T (isAssignment c p) → upperBound c w₀ ≤ℤ (pos limit +ℤ objective c w₀ p)
+  module _ {Reach : List ℤ → Type 0} (stays : NeverLeaves r next c w₀ Reach) where
+    pub run-settles : (limit : ℕ) (p : List ℕ) → T (isLawful c w₀ p) → upperBound c w₀ ≤ℤ (pos limit +ℤ objective c w₀ p)
         → run r next c limit w₀ .answer ≡ RunAnswer.Settled
     run-settles limit p a h =
         let q : RunOf = run r next c limit w₀ in
         ⊎-elim (λ e. e) (λ e.
         let (n, moves, d) = ends-limit r next c (run-ends r next c limit w₀) .0 e in
-        let (v, g, _) = free .goes (run-reaches free limit .kept) d in
+        let (v, g, _) = stays .goes (run-reaches stays limit .kept) d in
         let more = replayed-on (q .rounds) (q .weights) v (q .log) moves (run-replayed limit .kept) d g in
         let few = subst (λ (u : State). (pos (u .rounds) +ℤ objective c w₀ p) ≤ℤ upperBound c w₀) (more .leads)
-        (rounds-few r c w₀ t (q .log ++ roundText r c moves v) p a) in
-        absurd (too-many (q .rounds) limit (upperBound c w₀) (objective c w₀ p) n h few)) (run-never-refused free limit)
+        (rounds-few coherent c w₀ t (q .log ++ roundText r c moves v) p a) in
+        absurd (too-many (q .rounds) limit (upperBound c w₀) (objective c w₀ p) n h few)) (run-never-refused stays limit)

@@ -1,26 +1,29 @@
--- A tuple that is not out, and its weight in its scope's part of the table. Assumes nothing.
-use mathlib.Core.Path.{_≡_, ap, _∙_}
+-- A tuple that is not out, a scope's greatest weight by its part of the table, and the tuples that an assignment uses. Assumes nothing.
+use mathlib.Core.Path.{_≡_, sym, ap, subst, _∙_}
 use mathlib.Core.Bool.{Bool, true, false, not}
+use mathlib.Core.Logic.{⊎-elim}
 use mathlib.Core.List.{List}
-use Prim.Native.Nat.{ℕ, suc, _+_, _*_, _≤_, _<_}
-use native.Mathlib.Nat.{mul-le-mul-right}
+use Prim.Native.Nat.{ℕ, _<_}
 use native.Mathlib.Omega.{arith}
-use lib.IntN.{ℤ, pos}
-use lib.Dec.{T, eqb, ltb, eqb→eq, ltb→lt}
-use lib.ListN.{length, getD, drop, length-drop}
-use lib.Seq.{getD-take, getD-drop, length-take-le}
-use borrow.Author.Tests.{lt-ltb, le-ltb}
+use lib.IntN.{ℤ}
+use lib.Dec.{T, T-not, eqb, ltb, eqb→eq, ltb→lt}
 use Rattle.integers.specs.Words.{if_then_else_, greatestOf}
-use Rattle.integers.specs.Tests.{tests}
+use Rattle.integers.specs.Tests.{tests, or-cases}
 use Rattle.definitions.specs.declared.Case.{Case}
 use Rattle.definitions.specs.Rules.{rulesOf}
-use Rattle.definitions.specs.Case.{scopeCount, isVariable, place, weight, greatest}
-use Rattle.definitions.specs.Valid.{workingWeight}
+use Rattle.definitions.specs.Case.{scopeCount, isVariable, weight, greatest, atUsed, isBarred, barred, isLawful}
+use Rattle.definitions.specs.Valid.{inWorking, workingWeight}
 use Rattle.calls.specs.Calls.{tupleOut}
+use Rattle.theory.proofs.Barred.{lawful-iff}
+use Rattle.theory.proofs.Totals.{at-used, at-used-holds}
 use Rattle.theory.proofs.Validity.{Handed}
-use Rattle.tables.specs.Scopes.{sizeOf, scopePart, scopeWeights}
-use Rattle.tables.proofs.Parts.{part-own, part-greatest}
+use Rattle.tables.specs.Scopes.{scopeWeights}
+use Rattle.tables.proofs.Parts.{part-greatest}
 use Rattle.tables.proofs.Answered.{scope-weights-known}
+
+-- the tuple used in a scope is barred just where its weight says so
+pub used-barred : (c : Case) (w : List ℤ) (p : List ℕ) (x : ℕ) → isBarred (atUsed c p x (weight c w x)) ≡ atUsed c p x (barred c w x)
+used-barred c w p x = ap isBarred (at-used c p (weight c w x) x) ∙ sym (at-used c p (barred c w x) x)
 
 module _ {c : Case} {w : List ℤ} (h : Handed (rulesOf c) (workingWeight (rulesOf c)) c w) where
   -- a tuple that is not out
@@ -31,31 +34,14 @@ module _ {c : Case} {w : List ℤ} (h : Handed (rulesOf c) (workingWeight (rules
       go true u = omega (arith, h .shape .some-value, eqb→eq l 0 u)
       go false u = ltb→lt l (c .d) u
 
-  module _ {part : List ℤ} (x : ℕ) (s : x < scopeCount c) (e : part ≡ scopeWeights (rulesOf c) c w x) where
-    part-is : part ≡ scopePart c w x
-    part-is = e ∙ scope-weights-known h x s
+  pub scope-greatest : {part : List ℤ} (x : ℕ) → x < scopeCount c → part ≡ scopeWeights (rulesOf c) c w x → greatestOf part ≡ greatest c w x
+  scope-greatest x s e = ap greatestOf (e ∙ scope-weights-known h x s) ∙ part-greatest c w (omega (arith, h .long)) x s
 
-    part-length : length part ≡ sizeOf c x
-    part-length = ap length part-is ∙ length-take-le (sizeOf c x) (drop (place c x 0 0) w) (simp length-drop (omega (arith, h .long, part-own c x s)))
-
-    -- the number at place i of the part
-    part-at : (i k l : ℕ) → i < sizeOf c x → place c x 0 0 + i ≡ place c x k l → getD part i (pos 0) ≡ weight c w x k l
-    part-at i k l b p =
-        ap (λ (u : List ℤ). getD u i (pos 0)) part-is ∙ getD-take (sizeOf c x) (drop (place c x 0 0) w) i (pos 0) b
-        ∙ getD-drop (place c x 0 0) w i (pos 0) ∙ ap (λ a. getD w a (pos 0)) p
-
-    pub at-variable : (k l : ℕ) → x < c .n → k < c .d → (k < length part) × (getD part k (pos 0) ≡ weight c w x k l)
-    at-variable k l v b =
-        let z = lt-ltb x (c .n) v in
-        let d : sizeOf c x ≡ c .d = rw z in
-        (omega (arith, part-length), part-at k k l (omega arith) (rw z (omega arith)))
-
-    pub at-edge : (k l : ℕ) → c .n ≤ x → k < c .d → l < c .d → (k * c .d + l < length part) × (getD part (k * c .d + l) (pos 0) ≡ weight c w x k l)
-    at-edge k l v b q =
-        let z = le-ltb x (c .n) v in
-        let d : sizeOf c x ≡ c .d * c .d = rw z in
-        let i : k * c .d + l < c .d * c .d = omega (arith, mul-le-mul-right {m = suc k} {n = c .d} (c .d) b) in
-        (omega (arith, part-length), part-at (k * c .d + l) k l (omega arith) (rw z (omega arith)))
-
-    pub scope-greatest : greatestOf part ≡ greatest c w x
-    scope-greatest = ap greatestOf part-is ∙ part-greatest c w (omega (arith, h .long)) x s
+  -- what a lawful assignment uses is in the range
+  pub used-working : (p : List ℕ) → T (isLawful c w p) → (x : ℕ) → x < scopeCount c → T (inWorking (rulesOf c) (atUsed c p x (weight c w x)))
+  used-working p t x s =
+      let (a, free) = lawful-iff c w p .0 t in
+      let z = atUsed c p x (weight c w x) in
+      ⊎-elim (λ b. absurd (T-not (atUsed c p x (barred c w x)) (free x s) (subst T (used-barred c w p x) b))) (λ i. i)
+      (or-cases (isBarred z) (inWorking (rulesOf c) z)
+      (at-used-holds (h .shape) p a (λ (z : ℤ). T (workingWeight (rulesOf c) z)) x s (weight c w x) (h .in-range x)))

@@ -1,29 +1,43 @@
-// Entry points for totals, ceilings and activity (document 01, "Links, scopes and totals"): each refuses by the numbered list.
+// Entry points for totals, ceilings and activity (document 01, "Links, scopes and totals"): each refuses by the numbered list. An unlawful plan
+// has no total (document 02, change 2).
 use definitions::Case;
 use definitions::Figure;
 use definitions::Outcome;
+use definitions::Refusal;
 use definitions::Verdict;
 ghost use mathlib.Core.Path.{_≡_};
 ghost use lib.Dec.{T};
-ghost use Prim.Native.Nat.{_+_, _<_};
+ghost use Prim.Native.Nat.{_+_, _≤_, _<_};
 ghost use Rattle.integers.specs.Words.{if_then_else_};
-ghost use Rattle.definitions.specs.Rules.{rulesOf};
-ghost use Rattle.definitions.specs.Case.{weight, valueOf, atUsed, objective as total, isAssignment, active};
+ghost use Rattle.definitions.specs.Rules.{rulesOf, edgePlaces};
+ghost use Rattle.definitions.specs.Case.{place, weight, valueOf, atUsed, objective as total, active, usesBarred, isLawful};
 ghost use Rattle.definitions.specs.Valid.{workingWeight};
 ghost use Rattle.calls.specs.Calls.{objectiveAnswer, upperBoundAnswer, isActiveAnswer, tupleOut};
 ghost use Rattle.theory.proofs.Validity.{Handed};
+ghost use Rattle.tables.specs.Scopes.{Limited, ofSize};
 
+fn place_of(n: usize, d: usize, x: usize, k: usize, l: usize) -> usize
+    requires { ⌜ (n ≤ 256) × (d ≤ 8) × (x < n + edgePlaces) × (k < 256) × (l < 256) ⌝ }
+    ensures { λ r. ⌜ r ≡ place (ofSize n d) x k l ⌝ }
+{
+    if x < n {
+        x * d + k
+    } else {
+        n * d + (x - n) * (d * d) + (k * d + l)
+    }
+}
+
+// 0 past the table's end.
 fn weight_at(case: Case, table: &[i64], x: usize, k: usize, l: usize) -> i64
-    requires { ⌜ Handed (rulesOf case) (workingWeight (rulesOf case)) case (now table) ⌝ }
-    requires { ⌜ (x < case .n + case .m) × (k < case .d) × (l < case .d) ⌝ }
+    requires { ⌜ Limited case ⌝ }
+    requires { ⌜ (x < case .n + case .m) × (k < 256) × (l < 256) ⌝ }
     ensures { λ r. ⌜ r ≡ weight case (now (table .entry)) x k l ⌝ }
 {
-    let part = tables::scope_weights(case, table, x);
-    if x < case.n {
-        return part[k];
+    let at = place_of(case.n, case.d, x, k, l);
+    if at < table.len() {
+        return table[at];
     }
-    let at = k * case.d + l;
-    part[at]
+    0
 }
 
 // ---- activity
@@ -59,7 +73,7 @@ fn has_greatest(case: Case, table: &[i64], x: usize, k: usize, l: usize) -> Verd
 // ---- the objective
 
 fn value_of(assignment: &[u8], i: usize) -> usize
-    ensures { λ r. ⌜ r ≡ valueOf (now (assignment .entry)) i ⌝ }
+    ensures { λ r. ⌜ (r ≡ valueOf (now (assignment .entry)) i) × (r < 256) ⌝ }
 {
     if i < assignment.len() {
         integers::wide_size(assignment[i])
@@ -69,8 +83,7 @@ fn value_of(assignment: &[u8], i: usize) -> usize
 }
 
 fn used_weight(case: Case, table: &[i64], assignment: &[u8], x: usize) -> i64
-    requires { ⌜ Handed (rulesOf case) (workingWeight (rulesOf case)) case (now table) ⌝ }
-    requires { ⌜ T (isAssignment case (now assignment)) ⌝ }
+    requires { ⌜ Limited case ⌝ }
     requires { ⌜ x < case .n + case .m ⌝ }
     ensures { λ r. ⌜ r ≡ atUsed case (now (assignment .entry)) x (weight case (now (table .entry)) x) ⌝ }
 {
@@ -83,9 +96,25 @@ fn used_weight(case: Case, table: &[i64], assignment: &[u8], x: usize) -> i64
     weight_at(case, table, x, k, l)
 }
 
+// Asked before the ranges of weights, so of any table.
+fn uses_barred(case: Case, table: &[i64], assignment: &[u8]) -> bool
+    requires { ⌜ Limited case ⌝ }
+    ensures { λ r. ⌜ r ≡ usesBarred case (now (table .entry)) (now (assignment .entry)) ⌝ }
+{
+    let scopes = case.n + case.m;
+    let mut x: usize = 0;
+    while x < scopes {
+        if rules::is_barred(used_weight(case, table, assignment, x)) {
+            return true;
+        }
+        x += 1;
+    }
+    false
+}
+
 fn sum_of_used(case: Case, table: &[i64], assignment: &[u8]) -> i64
     requires { ⌜ Handed (rulesOf case) (workingWeight (rulesOf case)) case (now table) ⌝ }
-    requires { ⌜ T (isAssignment case (now assignment)) ⌝ }
+    requires { ⌜ T (isLawful case (now table) (now assignment)) ⌝ }
     ensures { λ r. ⌜ r ≡ total case (now (table .entry)) (now (assignment .entry)) ⌝ }
 {
     let scopes = case.n + case.m;
@@ -103,8 +132,11 @@ fn sum_of_used(case: Case, table: &[i64], assignment: &[u8]) -> i64
 pub fn objective(case: Case, table: &[i64], assignment: &[u8]) -> Figure
     ensures { λ r. ⌜ r ≡ objectiveAnswer (rulesOf case) case (now (table .entry)) (now (assignment .entry)) ⌝ }
 {
+    if !tables::within_limits(case) {
+        return Figure::Refused(Refusal::OutsideLimits);
+    }
     let wrong = assignment.len() != case.n;
-    let out = tables::some_beyond(assignment, case.d);
+    let out = tables::some_beyond(assignment, case.d) | uses_barred(case, table, assignment);
     let checked = tables::check_working(case, table, wrong, out);
     match checked {
         Outcome::Refused(refusal) => Figure::Refused(refusal),

@@ -1,4 +1,5 @@
--- On a table that was checked, with each scope's greatest weight in `best`, the least gap is the amount of the engine's press. Assumes nothing.
+-- On a table that was checked, with all weights in the working range and each scope's greatest weight in `best`, the least gap is the amount of
+-- the engine's press. Assumes nothing.
 use mathlib.Core.Path.{_≡_, refl, sym, ap, subst, _∙_}
 use mathlib.Core.Bool.{Bool, false, not}
 use mathlib.Core.Logic.{_⊎_, inl, inr, ⊎-elim}
@@ -20,7 +21,7 @@ use Rattle.definitions.specs.declared.Figure.{Figure}
 use Rattle.definitions.specs.Rules.{coherent, rulesOf}
 use Rattle.definitions.proofs.RulesLaws.{rules-fit}
 use Rattle.definitions.specs.Case.{scopes, scopeCount, lentLength, eachTuple, weight, greatest, active}
-use Rattle.definitions.specs.Valid.{workingWeight}
+use Rattle.definitions.specs.Valid.{inWorking, workingWeight}
 use Rattle.definitions.specs.Engine.{chosen, keptScopes, leastGap}
 use Rattle.theory.proofs.Places.{IsTuple, tuple-in, in-tuples, inactive-less}
 use Rattle.theory.proofs.Validity.{Handed}
@@ -118,7 +119,8 @@ module _ {c : Case} {w best : List ℤ} (h : Handed (rulesOf c) (workingWeight (
       (λ t. taken (omega arith) p t (scope-least x (omega arith) (gapBelow c w best raised i x))) (λ t. passed (omega arith) p t)
 
   -- ---- the amount
-  module _ (which : chosen c w ≡ some i) (same : those (λ x. not (eqb (getD raised x 0) 0)) (scopes c) ≡ keptScopes c w i) where
+  module _ (inside : (x k l : ℕ) → IsTuple c x k l → T (inWorking (rulesOf c) (weight c w x k l))) (which : chosen c w ≡ some i)
+      (same : those (λ x. not (eqb (getD raised x 0) 0)) (scopes c) ≡ keptScopes c w i) where
     abbrev isRaised : ℕ → Bool
     isRaised x = not (eqb (getD raised x 0) 0)
 
@@ -138,7 +140,7 @@ module _ {c : Case} {w best : List ℤ} (h : Handed (rulesOf c) (workingWeight (
         let (a, e) = amount c w (h .shape) which in
         let (x, k, l, m, u, t, d) = amount-reached c w (h .shape) which e in
         let low : r ≤ℤ a = gap-low (weight c w x k l) r (greatest c w x) a (p .room x k l (u .scope) (in-limiting m) u t) d in
-        let most : a ≤ℤ pos (2 * rulesOf c .working) = amount-most c w (h .shape) which e (rulesOf c) (h .in-range) in
+        let most : a ≤ℤ pos (2 * rulesOf c .working) = amount-most c w (h .shape) which e (rulesOf c) inside in
         e ∙ ap some (≤ℤ-antisym (⊎-elim
         (λ q. absurd (no-limit r a (2 * rulesOf c .working) low most (omega (arith, rules-fit (coherent (c .rulebook)) .working)) q))
         (λ (y, k, l, s, v, n, q). gap-high (weight c w y k l) r (greatest c w y) a (amount-room c w (h .shape) which e (limiting-in (v .scope) s) v n) q)
@@ -161,8 +163,8 @@ module _ {c : Case} {w best : List ℤ} (h : Handed (rulesOf c) (workingWeight (
       ),
     )
       where
-        none-outside : false ≡ any (λ x. not (workingWeight (rulesOf c) (bestAt best x))) (scopes c)
-        none-outside = not-found (λ x. not (workingWeight (rulesOf c) (bestAt best x))) (scopeCount c)
+        none-outside : false ≡ any (λ x. not (inWorking (rulesOf c) (bestAt best x))) (scopes c)
+        none-outside = not-found (λ x. not (inWorking (rulesOf c) (bestAt best x))) (scopeCount c)
             (λ x l.
-            let t = subst (λ (z : ℤ). T (workingWeight (rulesOf c) z)) (sym (b .holds x l)) (greatest-working h x l) in
-            ap not (is-true (workingWeight (rulesOf c) (bestAt best x)) t))
+            let t = subst (λ (z : ℤ). T (inWorking (rulesOf c) z)) (sym (b .holds x l)) (greatest-working h x l) in
+            ap not (is-true (inWorking (rulesOf c) (bestAt best x)) t))

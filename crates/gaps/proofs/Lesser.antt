@@ -20,7 +20,7 @@ use Rattle.integers.specs.Lists.{_∈_}
 use Rattle.definitions.specs.declared.Case.{Case}
 use Rattle.definitions.specs.Rules.{Rules, Coherent}
 use Rattle.definitions.proofs.RulesLaws.{rules-fit}
-use Rattle.definitions.specs.Valid.{workingWeight}
+use Rattle.definitions.specs.Valid.{inWorking}
 use Rattle.tables.specs.Scopes.{scopePart, bestAt}
 use Rattle.gaps.specs.Gaps.{noGap, smallWeight, IsGap, limits, lesserGap, lessGaps, gapBelow}
 
@@ -35,7 +35,7 @@ less-room z q r g = simp flat (omega zs)
 above-zero : (r best z : ℤ) → T (ltZ z best) → r ≡ best -ℤ z → pos 0 ≤ℤ r
 above-zero r best z = simp flat (omega zs)
 
-pub working-small : {r : Rules} → Coherent r → (z : ℤ) → T (workingWeight r z) → T (smallWeight z)
+pub working-small : {r : Rules} → Coherent r → (z : ℤ) → T (inWorking r z) → T (smallWeight z)
 working-small coherent z h = h ▸ rules-fit coherent .working ▸ simp flat (omega zs)
 
 pub floor-fits : (best limit : ℤ) → T (smallWeight best) → IsGap limit → SFits w64 (best -ℤ limit)

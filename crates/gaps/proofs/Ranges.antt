@@ -19,7 +19,7 @@ use Rattle.definitions.specs.declared.Refusal.the-variants.{WeightOutOfRange}
 use Rattle.definitions.specs.Rules.{rulesOf}
 use Rattle.definitions.specs.Refusals.{firstOf}
 use Rattle.definitions.specs.Case.{scopes, scopeCount, lentLength}
-use Rattle.definitions.specs.Valid.{workingWeight, withinLimits}
+use Rattle.definitions.specs.Valid.{inWorking, withinLimits}
 use Rattle.calls.specs.Calls.{figureOf}
 use Rattle.tables.specs.Scopes.{Limited, scopePart, scopeWeights, bestAt, rangeTest, sumInRange, bestSum}
 use Rattle.tables.proofs.Search.{found}
@@ -64,11 +64,11 @@ module _ (c : Case) (best : List ℤ) (l : Limited c) (room : scopeCount c ≤ l
     pub all-working : AllWorking (rulesOf c) c best
     all-working x h = ⊎-elim (λ t. t)
         (λ t.
-        let f : ℕ → Bool = λ y. not (workingWeight (rulesOf c) (bestAt best y)) in
+        let f : ℕ → Bool = λ y. not (inWorking (rulesOf c) (bestAt best y)) in
         let d : true ≡ false = found f (scopeCount c) x h (is-true (f x) t) ∙ not-asked _ WeightOutOfRange none-asked in
         let u : _≡_ {A = ℕ} 0 1 = cc in
         absurd (omega arith))
-        (either (workingWeight (rulesOf c) (bestAt best x)))
+        (either (inWorking (rulesOf c) (bestAt best x)))
 
     pub range-right : (w : List ℤ) (raised : List ℕ) (i : ℕ)
         → Figure.Value (gapBelow c w best raised i (scopeCount c)) ≡ gapInRange (rulesOf c) c w best raised i

@@ -14,7 +14,7 @@ use Rattle.definitions.specs.declared.Refusal.the-variants.{OutOfRange}
 use Rattle.definitions.specs.Rules.{Rules}
 use Rattle.definitions.specs.Refusals.{_when_, firstOf}
 use Rattle.definitions.specs.Case.{scopeCount}
-use Rattle.definitions.specs.Valid.{workingWeight, limitTest, lengthTest}
+use Rattle.definitions.specs.Valid.{inWorking, limitTest, lengthTest}
 use Rattle.calls.specs.Calls.{figureOf}
 use Rattle.tables.specs.Scopes.{scopePart, bestAt, rangeTest}
 
@@ -52,9 +52,9 @@ gapBelow c w best raised i (suc x) =
     if limits raised i x then lessGaps (bestAt best x) (scopePart c w x) (gapBelow c w best raised i x) else gapBelow c w best raised i x
 
 module _ (r : Rules) where
-  -- all numbers in `best` are working weights
+  -- all numbers in `best` are in the range of working weights
   abbrev pub AllWorking : Case → List ℤ → Type 0
-  AllWorking c best = (x : ℕ) → x < scopeCount c → T (workingWeight r (bestAt best x))
+  AllWorking c best = (x : ℕ) → x < scopeCount c → T (inWorking r (bestAt best x))
 
   abbrev pub gapInRange : Case → List ℤ → List ℤ → List ℕ → ℕ → Figure
   gapInRange c w best raised i = figureOf (firstOf (rangeTest r c (bestAt best) ∷ [])) (gapBelow c w best raised i (scopeCount c))

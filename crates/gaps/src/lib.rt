@@ -97,7 +97,7 @@ fn gap_of_scopes(case: Case, table: &[i64], best: &[i64], raised: &[u8], variabl
     least
 }
 
-// The sum of `best` is refused where a number is no working weight.
+// The sum of `best` is refused where a number is outside the range of working weights.
 fn gap_in_range(case: Case, table: &[i64], best: &[i64], raised: &[u8], variable: usize) -> Figure
     requires { ⌜ Limited case × (length (now table) ≡ lentLength case) ⌝ }
     requires { ⌜ (scopeCount case ≤ length (now best)) × (scopeCount case ≤ length (now raised)) ⌝ }

@@ -6,7 +6,7 @@
 -- one on one side, or a test without sums; what stands deeper is named, `omega (zs, add a b)`. `zb` is `zs` for code.
 -- In a clause that calls itself use a lemma over plain variables instead: such a clause is read twice, and a long proof there is slow.
 -- Assumes nothing.
-use mathlib.Core.Path.{_≡_, refl, ap, subst}
+use mathlib.Core.Path.{_≡_, refl, sym, ap, subst, _∙_}
 use mathlib.Core.Bool.{Bool, true, false, not, cond}
 use mathlib.Core.Logic.{_≢_, _↔_}
 use Prim.Native.Nat.{ℕ, zero, suc, _+_, _-_, _≤_, _<_, _^_, max}
@@ -14,11 +14,11 @@ use native.Mathlib.Omega.{arith}
 use lib.IntN.{ℤ, pos, negsuc, negℤ, _+ℤ_, _-ℤ_, subℕ}
 use lib.Dec.{T, T-not, not-T, ltb, ltb→lt, lt→ltb, leb→le, le→leb, nltb→le}
 use lib.Signed.{mag, ltZ, leZ, _≤ℤ_, _<ℤ_}
-use mir.Syntax.{Width}
+use mir.Syntax.{Width, w64}
 use mir.Val.{SFits, hbits, toZ, ofZ}
 use mir.Facts.{toZ-ofZ}
 use Rattle.integers.specs.Words.{eqZ, withinZ}
-use Rattle.integers.specs.Tests.{tests, eqb-iff}
+use Rattle.integers.specs.Tests.{tests, eqb-iff, is-true, is-false}
 
 abbrev pub up : ℤ → ℕ
 up (pos n) = n
@@ -347,3 +347,11 @@ module _ {a b : ℤ} where
 -- ---- examples
 nested : (a b c d e f : ℤ) → ((a +ℤ b) -ℤ (c +ℤ d)) ≤ℤ (e +ℤ f) → b ≡ pos 4 -ℤ c → (a +ℤ pos 4) ≤ℤ ((e +ℤ f +ℤ c +ℤ c) -ℤ negℤ d)
 nested a b c d e f h k = h ▸ simp flat (omega zs)
+
+-- numbers are equal just where their bits are
+module _ (a b : ℤ) (p : mag a < 2 ^ hbits w64) (q : mag b < 2 ^ hbits w64) where
+  pub same-bits : ofZ w64 a ≡ ofZ w64 b → true ≡ eqZ a b
+  same-bits e = sym (is-true (eqZ a b) (T-eq a b .1 (sym (read-back w64 a p) ∙ ap (toZ w64) e ∙ read-back w64 b q)))
+
+  pub other-bits : (ofZ w64 a ≡ ofZ w64 b → ⊥) → false ≡ eqZ a b
+  other-bits f = sym (is-false (eqZ a b) (not-T (eqZ a b) (λ t. f (ap (ofZ w64) (T-eq a b .0 t)))))

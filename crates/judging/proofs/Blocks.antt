@@ -13,7 +13,7 @@ use Rattle.definitions.specs.declared.Case.{Case}
 use Rattle.definitions.specs.declared.FileAnswer.{FileAnswer}
 use Rattle.definitions.specs.declared.Outcome.{Outcome}
 use Rattle.definitions.specs.declared.Refusal.{Refusal}
-use Rattle.definitions.specs.Rules.{Rules, rulesOf}
+use Rattle.definitions.specs.Rules.{Rules, coherent, rulesOf}
 use Rattle.definitions.specs.Lines.{lineLength, cutLines, wholeLines, linesIn, hasPart}
 use Rattle.checker.specs.declared.Replay.{Replay}
 use Rattle.checker.specs.Checker.{Between, BlockCall, takenLines, firstRefused, stepBetween, afterLines, lineAnswers, foldReplay}
@@ -172,6 +172,6 @@ module _ (c : Case) (tail : List ℕ) (short : length tail < lineLength (rulesOf
       let i : foldReplay r c w p x .block .answer ≡ Outcome.Done → Stands (afterBlocks g xs) c (linesCounted at (foldReplay r c w p x .block .lines))
       (second c w p at x rest all-whole) =
       λ d. blocks-stand xs (λ k m. whole k (List·Memᴰ·tail m)) (g .replay) (g .answer) (g .weights)
-      (linesCounted at (foldReplay r c w p x .block .lines)) refl (omega arith) (lent-after r c w p x l d) in
-      rw (append-assoc x (joined xs) tail, block-first (stood p a w) x e, block-lent r c w p x l)
+      (linesCounted at (foldReplay r c w p x .block .lines)) refl (omega arith) (lent-after (coherent (c .rulebook)) c w p x l d) in
+      rw (append-assoc x (joined xs) tail, block-first (stood p a w) x e, block-lent (coherent (c .rulebook)) c w p x l)
       (stand-next c w p at x rest all-whole xs i (foldReplay r c w p x .block .answer) refl)

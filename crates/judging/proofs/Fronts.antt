@@ -59,7 +59,7 @@ module _ (book : Rulebook) where
   -- one line that is due, by whether the bytes are cut short, the line, the refusal, and what is left
   module _ (g : Reading) (at : ℕ) (due : CaseDue) (ds : List CaseDue) where
     tried : Option Line → Option Refusal
-    tried l = firstOf (dueTests r (g .case) due l)
+    tried l = firstOf (dueTests r g due l)
 
     turn : Bool → Option Line → Option Refusal → List ℕ → CaseCall
     turn b l o s =

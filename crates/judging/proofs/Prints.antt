@@ -9,7 +9,7 @@ use lib.IntN.{ℤ}
 use lib.Dec.{T, eqb}
 use lib.ListN.{length, take, drop, length-append, length-drop, length-take}
 use borrow.Author.Tests.{eqb-true}
-use Rattle.integers.specs.Words.{joined}
+use Rattle.integers.specs.Words.{if_then_else_, joined}
 use Rattle.integers.specs.Lists.{_∈_}
 use Rattle.definitions.specs.declared.Rulebook.{Rulebook}
 use Rattle.definitions.specs.declared.Case.{Case}
@@ -25,13 +25,13 @@ use Rattle.definitions.specs.Places.{longestLines}
 use Rattle.definitions.specs.CaseFiles.{CaseCall, readCase, caseSize}
 use Rattle.definitions.specs.declared.Judgement.{Judgement}
 use Rattle.definitions.specs.Programs.{judgementText, tableFor, judgeLog, judgeRead, judge, replayPrints}
-use Rattle.checker.specs.Checker.{BlockCall, freshReplay, endReplay, foldReplay}
+use Rattle.checker.specs.Checker.{BlockCall, isVoid, goodIn, freshReplay, endReplay, foldReplay}
 use Rattle.theory.proofs.Validity.{Handed}
 use Rattle.theory.proofs.Replays.{sound-fresh, sound-after, handed-after}
 use Rattle.case_theory.proofs.CaseReads.{read-rulebook}
 use Rattle.case_theory.proofs.CaseTexts.{IsText, written-read, text-length, lineCount}
 use Rattle.checker_promise.proofs.Logs.{logJudged, fresh-lent, log-judged, log-table, log-rounds}
-use Rattle.texts.specs.Texts.{textRoom, greatestCount, writeRefusedCall, writeAcceptedCall, writeJudgementCall}
+use Rattle.texts.specs.Texts.{textRoom, greatestCount, writeRefusedCall, writeAcceptedCall, writeVoidCall, writeJudgementCall}
 use Rattle.texts.proofs.Answers.{text-done}
 use Rattle.judging.specs.Judging.{JudgingState, answerAt, startJudging, judgementFrom, judgementOf, finishJudging}
 use Rattle.judging.specs.Cuts.{Cut, afterBlocks, replayPrinted}
@@ -90,20 +90,21 @@ lines-within book front w {lines} e =
 -- the count in it
 abbrev countOf : Judgement → ℕ
 countOf (Judgement.Accepted rounds bound) = rounds
+countOf Judgement.Void = 0
 countOf (Judgement.Refused x at) = at
 
 judged-written : (out : List ℕ) (j : Judgement) → textRoom ≤ length out → countOf j ≤ greatestCount
     → writeJudgementCall out j ≡ record { answer = Written.Bytes (length (judgementText j)); out = overwritten (judgementText j) out }
-unfolding writeRefusedCall writeAcceptedCall
+unfolding writeRefusedCall writeAcceptedCall writeVoidCall
 judged-written out (Judgement.Accepted rounds bound) h g = text-done out rounds (judgementText (Judgement.Accepted rounds bound)) h g
+judged-written out Judgement.Void h g = text-done out 0 (judgementText Judgement.Void) h g
 judged-written out (Judgement.Refused x at) h g = text-done out at (judgementText (Judgement.Refused x at)) h g
 
-log-count : (k at : ℕ) (answer end : Outcome) (part : Bool) (rounds : ℕ) (bound : ℤ) → at ≤ k → rounds ≤ k
-    → countOf (logJudged at answer end part (Judgement.Accepted rounds bound)) ≤ k
-log-count k at (Outcome.Refused x) end part rounds bound p q = p
-log-count k at Outcome.Done (Outcome.Refused x) part rounds bound p q = p
-log-count k at Outcome.Done Outcome.Done true rounds bound p q = p
-log-count k at Outcome.Done Outcome.Done false rounds bound p q = q
+log-count : (k at : ℕ) (answer end : Outcome) (part : Bool) (good : Judgement) → at ≤ k → countOf good ≤ k → countOf (logJudged at answer end part good) ≤ k
+log-count k at (Outcome.Refused x) end part good p q = p
+log-count k at Outcome.Done (Outcome.Refused x) part good p q = p
+log-count k at Outcome.Done Outcome.Done true good p q = p
+log-count k at Outcome.Done Outcome.Done false good p q = q
 
 -- every case has few lines
 pub few-lines : {r : Rules} → Coherent r → longestLines r ≤ greatestCount
@@ -126,31 +127,39 @@ module _ (c : Case) (w : List ℤ) (v : T (valid (rulesOf c) c w)) (log : List �
   all = foldReplay rules c w (freshReplay rules c w) log
 
   handed-all : Handed rules (workingWeight rules) c (all .table)
-  handed-all = rw (log-table whole c w v log) (handed-after rules c w v (linesIn (rules .amountWidth) log) whole)
+  handed-all = rw (log-table whole c w v log) (handed-after whole c w v (linesIn (rules .amountWidth) log))
 
   rounds-few : all .block .replay .rounds ≤ greatestCount
   rounds-few =
       rw (log-rounds whole c w v log)
-      (omega (arith, sound-after rules _ (linesIn (rules .amountWidth) log) (sound-fresh rules c w v) .few, whole .rounds-fit))
+      (omega (arith, sound-after rules _ (linesIn (rules .amountWidth) log) (sound-fresh whole c w v) .few, whole .rounds-fit))
+
+  -- the count in the judgement where no number applies
+  good-few : countOf (goodIn c (all .block .replay) (all .table)) ≤ greatestCount
+  good-few = go (isVoid (all .block .replay .due))
+    where
+      go : (over : Bool) → countOf (if over then Judgement.Void else Judgement.Accepted (all .block .replay .rounds) (upperBound c (all .table))) ≤ greatestCount
+      go true = omega arith
+      go false = rounds-few
 
   -- what stands after the blocks is judged as the log is
   stands-judged : {g : JudgingState} {lines : ℕ} (part : Bool) → Stands g c lines all → lines + all .block .lines ≤ greatestCount
       → judgementFrom g part (g .answer)
       ≡ logJudged (lines + all .block .lines) (all .block .answer) (endReplay rules c (all .block .replay)) part
-      (Judgement.Accepted (all .block .replay .rounds) (upperBound c (all .table)))
+      (goodIn c (all .block .replay) (all .table))
   stands-judged {g} {lines} part s h =
       go (all .block .answer) refl (s .answer ∙ ap (λ (n : ℕ). answerAt n (all .block .answer)) (counted-few lines (all .block .lines) h))
     where
       go : (o : Outcome) → all .block .answer ≡ o → g .answer ≡ answerAt (lines + all .block .lines) o
           → judgementFrom g part (g .answer)
           ≡ logJudged (lines + all .block .lines) o (endReplay rules c (all .block .replay)) part
-          (Judgement.Accepted (all .block .replay .rounds) (upperBound c (all .table)))
+          (goodIn c (all .block .replay) (all .table))
       go (Outcome.Refused x) d e = ap (judgementFrom g part) e
       go Outcome.Done d e =
           ap (judgementFrom g part) e
           ∙ rw (s .case-kept d, s .replay d, s .table d)
           (finish-judged c (all .table) (all .block .replay) handed-all (lines + all .block .lines) part
-          (Judgement.Accepted (all .block .replay .rounds) (upperBound c (all .table))) (all .block .replay .standing) refl)
+          (goodIn c (all .block .replay) (all .table)) (all .block .replay .standing) refl)
 
 -- ---- a cut of an input that is read under a rulebook
 module _ (book : Rulebook) (t : List ℕ) (cut : Cut book t) (short : wholeLines (rulesIn book .amountWidth) t ≤ greatestCount) where
@@ -250,11 +259,10 @@ module _ (book : Rulebook) (t : List ℕ) (cut : Cut book t) (short : wholeLines
         let part = part-left width (cut .blocks) blocks-whole (cut .tail) tail-short in (
           stands-judged c w (text .accepted) log (not (eqb (length (cut .tail)) 0)) stand lines-few
               ∙ ap (λ (p : Bool). logJudged (lines + b .block .lines) (b .block .answer) (endReplay (rulesOf c) c (b .block .replay)) p
-              (Judgement.Accepted (b .block .replay .rounds) (upperBound c (b .table)))) (sym part)
+              (goodIn c (b .block .replay) (b .table))) (sym part)
               ∙ sym is,
           rw is (log-count greatestCount (lines + b .block .lines) (b .block .answer) (endReplay (rulesOf c) c (b .block .replay)) (hasPart width log)
-              (b .block .replay .rounds) (upperBound c (b .table))
-              lines-few (rounds-few c w (text .accepted) log)),
+              (goodIn c (b .block .replay) (b .table)) lines-few (good-few c w (text .accepted) log)),
         )
 
   right : (a : FileAnswer) → call .read .answer ≡ a → Right

@@ -11,14 +11,13 @@ use Rattle.definitions.specs.declared.Refusal.the-variants.{CutShort}
 use Rattle.definitions.specs.Rules.{rulesOf}
 use Rattle.definitions.specs.Refusals.{Test, _when_, firstOf}
 use Rattle.definitions.specs.Answers.{outcomeOf}
-use Rattle.definitions.specs.Case.{upperBound}
 use Rattle.definitions.specs.Valid.{workingWeight, handedOver}
 use Rattle.calls.specs.Calls.{WriteCall}
 use Rattle.definitions.specs.CaseFiles.{readCase}
 use Rattle.definitions.specs.declared.Judgement.{Judgement}
 use Rattle.checker.specs.declared.Replay.{Replay}
 use Rattle.checker.specs.declared.Standing.{Standing}
-use Rattle.checker.specs.Checker.{isHeld, recordOut, freshReplay, blockReplay}
+use Rattle.checker.specs.Checker.{isShort, goodIn, recordOut, freshReplay, blockReplay}
 use Rattle.texts.specs.Texts.{greatestCount, writeJudgementCall}
 use Rattle.judging.specs.declared.Judging.{Judging}
 
@@ -74,12 +73,12 @@ blockFrom s bytes (FileAnswer.Read lines) =
 unfoldable pub blockJudging : JudgingState → List ℕ → JudgingState
 blockJudging s bytes = blockFrom s bytes (s .answer)
 
--- where the input ends here: the number that stands, else 3 to 8 of everything handed over, else 14 if a press is held, a move has no bound
--- line after it, or a part line is left
+-- where the input ends here: the number that stands, else 3 to 8 and 15 of everything handed over, else 14 if a press or a void line is held, a
+-- move has no bound line after it and no void line is whole, or a part line is left
 abbrev pub finishTests : Case → List ℤ → Replay → Bool → List Test
 finishTests c w p part =
     handedOver (rulesOf c) (workingWeight (rulesOf c)) c w false (recordOut (rulesOf c) c p)
-    ++ (CutShort when (isHeld (p .due) || p .moved || part) ∷ [])
+    ++ (CutShort when (isShort (p .due) (p .moved) || part) ∷ [])
 
 abbrev pub finishStanding : Case → List ℤ → Replay → Bool → Standing → Outcome
 finishStanding c w p part (Standing.Refused x) = Outcome.Refused x
@@ -91,7 +90,7 @@ judgementFrom s part (FileAnswer.Read lines) =
     endJudged
     lines
     (finishStanding (s .case) (s .weights) (s .replay) part (s .replay .standing))
-    (Judgement.Accepted (s .replay .rounds) (upperBound (s .case) (s .weights)))
+    (goodIn (s .case) (s .replay) (s .weights))
 
 -- the judgement where the input ends here, and its text
 unfoldable pub judgementOf : JudgingState → Bool → Judgement

@@ -1,5 +1,6 @@
 // The program `replay` as a start, a block and a finish (document 01, on `replay`): each block of an input is handed over once, and what stands
 // between blocks is a record by value and the lent table.
+use checker::Due;
 use checker::Replay;
 use checker::Standing;
 use definitions::Case;
@@ -16,11 +17,15 @@ ghost use Prim.Native.Nat.{_≤_};
 ghost use lib.Dec.{T};
 ghost use lib.ListN.{length};
 ghost use Rattle.definitions.specs.declared.Rulebook.the-variants.{Desk};
+ghost use Rattle.definitions.specs.Rules.{rulesOf};
 ghost use Rattle.definitions.specs.Refusals.{firstOf};
 ghost use Rattle.definitions.specs.Answers.{outcomeOf};
+ghost use Rattle.definitions.specs.Valid.{workingWeight};
 ghost use Rattle.definitions.specs.Places.{tablePlaces};
 ghost use Rattle.definitions.specs.CaseFiles.{caseSize};
 ghost use Rattle.definitions.specs.Programs.{tableFor};
+ghost use Rattle.theory.proofs.Validity.{Handed};
+ghost use Rattle.checker.specs.Checker.{isVoid, goodIn};
 ghost use Rattle.judging.specs.Judging.{linesCounted, answerAt, stateOf, startJudging, blockFrom, blockJudging, finishTests, finishStanding};
 ghost use Rattle.judging.specs.Judging.{judgementFrom, judgementOf, finishJudging};
 
@@ -116,6 +121,44 @@ fn finish_standing(case: Case, table: &[i64], replay: Replay, part: bool) -> Out
     }
 }
 
+// Whether a void line is whole.
+fn is_over(due: Due) -> bool
+    ensures { λ r. ⌜ r ≡ isVoid due ⌝ }
+{
+    match due {
+        Due::MoveOrBound => false,
+        Due::Raise {
+            variable: _,
+            target: _,
+            left: _,
+            last: _,
+        } => false,
+        Due::Nothing => true,
+    }
+}
+
+// The judgement where neither a line nor the end has a number.
+fn good_judgement(case: Case, table: &[i64], replay: Replay, passed: usize) -> Judgement
+    requires { ⌜ Handed (rulesOf case) (workingWeight (rulesOf case)) case (now table) ⌝ }
+    ensures { λ r. ⌜ r ≡ goodIn case replay (now (table .entry)) ⌝ }
+{
+    let due = replay.due;
+    if is_over(due) {
+        return Judgement::Void;
+    }
+    let sum = tables::sum_of_greatest(case, table);
+    match sum {
+        Figure::Refused(refusal) => Judgement::Refused {
+            refusal,
+            line: passed,
+        },
+        Figure::Value(bound) => Judgement::Accepted {
+            rounds: replay.rounds,
+            bound,
+        },
+    }
+}
+
 // The judgement where no line has a number.
 fn end_judgement(judging: Judging, table: &[i64], part: bool, passed: usize) -> Judgement
     ensures { λ r. ⌜ r ≡ judgementFrom (stateOf judging (now (table .entry))) part (FileAnswer.Read passed) ⌝ }
@@ -128,19 +171,7 @@ fn end_judgement(judging: Judging, table: &[i64], part: bool, passed: usize) -> 
             refusal,
             line: passed,
         },
-        Outcome::Done => {
-            let sum = tables::sum_of_greatest(case, table);
-            match sum {
-                Figure::Refused(refusal) => Judgement::Refused {
-                    refusal,
-                    line: passed,
-                },
-                Figure::Value(bound) => Judgement::Accepted {
-                    rounds: replay.rounds,
-                    bound,
-                },
-            }
-        }
+        Outcome::Done => good_judgement(case, table, replay, passed),
     }
 }
 

@@ -1,10 +1,10 @@
 // What the programs print, by the calls that they are made of. Standard input holds lines of 27 bytes. One that is not in columns names what is
 // tried and is printed. Of kinds 20 and 21, a is the table's places, c the output's bytes and amount the number of bytes that follow and are the
 // program's input. Kind 20: judged by `judging`, the log in blocks of b lines, and printed. Kind 22: the same, and the judgement printed as numbers:
-// the rounds and the bound, or the number and its line. Kind 21: pressed by `pressing`, each call's text
-// printed, and then the calls of `next` and the rounds that may still follow; where b is not 0, one more call is lent the output's first b bytes,
-// and its answer is printed.
-// The file `stdout` has what the peer's programs print of these inputs; where a table or an output is too short it was worked out from document 01.
+// the rounds and the bound, or void, or the number and its line. Kind 21: pressed by `pressing`, each call's text printed, and then the calls of
+// `next` and the rounds that may still follow; where b is not 0, one more call is lent the output's first b bytes, and its answer is printed.
+// The file `stdout` has what the peer's programs print of these inputs; where a table or an output is too short, and of `press` on a barred case, it
+// was worked out from documents 01 and 02.
 use definitions::FileAnswer;
 use definitions::Judgement;
 use definitions::Line;
@@ -90,6 +90,9 @@ fn print_judgement(judgement: Judgement) {
         Judgement::Accepted { rounds, bound } => {
             drivers::print_count(rounds);
             drivers::print_number(bound);
+        }
+        Judgement::Void => {
+            drivers::print(b" void");
         }
         Judgement::Refused { refusal, line } => {
             drivers::print_refusal(refusal);

@@ -4,10 +4,10 @@ use mathlib.Core.Bool.{Bool, true, false, not, _&&_, _||_}
 use mathlib.Core.List.{List, [], _∷_}
 use Prim.Native.Nat.{ℕ, _-_, _≤_, _<_}
 use native.Mathlib.Omega.{arith}
-use lib.IntN.{ℤ, negℤ, _+ℤ_}
+use lib.IntN.{ℤ, pos, negℤ, _+ℤ_}
 use lib.Dec.{T, T-not, not-T, eqb, ltb, ltb→lt}
 use lib.ListN.{length, getD}
-use Rattle.integers.specs.Words.{all, any, isIn, within}
+use Rattle.integers.specs.Words.{if_then_else_, all, any, isIn, within}
 use Rattle.integers.specs.Tests.{not-not-iff}
 use Rattle.integers.specs.Lists.{all-in, any-in}
 use Rattle.definitions.specs.declared.Case.{Case}
@@ -17,9 +17,9 @@ use Rattle.definitions.specs.declared.Outcome.{Outcome}
 use Rattle.definitions.specs.Rules.{rulesOf}
 use Rattle.definitions.specs.Refusals.{Test, _when_, firstOf}
 use Rattle.definitions.specs.Answers.{outcomeOf, unlessRefused}
-use Rattle.definitions.specs.Case.{scopeCount, active}
+use Rattle.definitions.specs.Case.{scopeCount, active, barred}
 use Rattle.definitions.specs.Valid.{workingWeight, withinLimits, handedOver}
-use Rattle.definitions.specs.Moves.{plus, onlyWhere, pressBy, activeValues, activePress, moved, pressAmount, activeRefuted, leavesRange}
+use Rattle.definitions.specs.Moves.{spared, plus, onlyWhere, pressBy, activeValues, activePress, moved, pressAmount, activeRefuted, leavesRange}
 use Rattle.definitions.specs.Consistency.{allRefuted}
 use Rattle.calls.specs.Calls.{isRising, moveCall, pressOut, pressCall, isRaised}
 use Rattle.theory.proofs.Places.{plus-cong}
@@ -67,7 +67,7 @@ module _ (c : Case) (raised : List ℕ) (i : ℕ) (a : ℤ) where
 module _ (c : Case) (w : List ℤ) (i : ℕ) (raised : List ℕ) (a : ℤ) where
   pub range-left : activeRefuted c w i raised ≡ true
       → firstOf (askedOfRaised (rulesOf c) c w i raised a) ≡ firstOf
-      (LeavesRange when (leavesRange (rulesOf c) c (moved c (activePress c w i raised a) w)) ∷ [])
+      (LeavesRange when (leavesRange (rulesOf c) c w (moved c (activePress c w i raised a) w)) ∷ [])
   range-left u = rw u
 
   pub raised-left : isRising raised ≡ true → isIn raised i ≡ false
@@ -76,9 +76,11 @@ module _ (c : Case) (w : List ℤ) (i : ℕ) (raised : List ℕ) (a : ℤ) where
 
   -- marks for the raised scopes
   pub press-marked : (marks : List ℕ) → ((x : ℕ) → isRaised marks x ≡ isIn raised x)
-      → plus c (pressBy c w i (activeValues c w i) (isRaised marks) a) w ≡ moved c (activePress c w i raised a) w
-  press-marked marks same = plus-cong c (pressBy c w i (activeValues c w i) (isRaised marks) a) w (pressBy c w i (activeValues c w i) (isIn raised) a)
-      (λ x k l t. ap (λ (b : Bool). onlyWhere (eqb x i && activeValues c w i k) (negℤ a) +ℤ onlyWhere (b && not (active c w x k l)) a) (same x))
+      → plus c (spared c w (pressBy c w i (activeValues c w i) (isRaised marks) a)) w ≡ moved c (activePress c w i raised a) w
+  press-marked marks same =
+      plus-cong c (spared c w (pressBy c w i (activeValues c w i) (isRaised marks) a)) w (spared c w (pressBy c w i (activeValues c w i) (isIn raised) a))
+      (λ x k l t. ap (λ (b : Bool). if barred c w x k l then pos 0 else
+      onlyWhere (eqb x i && activeValues c w i k) (negℤ a) +ℤ onlyWhere (b && not (active c w x k l)) a) (same x))
 
 module _ (c : Case) (w : List ℤ) (i : ℕ) (raised : List ℕ) (a : ℤ) where
   abbrev asked : List Test
@@ -161,7 +163,7 @@ module _ {c : Case} {w : List ℤ} (h : Handed (rulesOf c) (workingWeight (rules
           let k = lower-and-raise-is-press h best-made marks i values (activeValues c w i) values-active a marks-long variable amount in
           let g = press-marked c w i raised a marks marks-are in
           let l = range-left c w i raised a u in (
-            p ∙ k .0 ∙ ap (λ (v : List ℤ). outcomeOf (firstOf (LeavesRange when (leavesRange (rulesOf c) c v) ∷ []))) g ∙ ap outcomeOf (sym l),
-            q ∙ k .1 ∙ ap (λ (v : List ℤ). unlessRefused (firstOf (LeavesRange when (leavesRange (rulesOf c) c v) ∷ [])) v w) g
+            p ∙ k .0 ∙ ap (λ (v : List ℤ). outcomeOf (firstOf (LeavesRange when (leavesRange (rulesOf c) c w v) ∷ []))) g ∙ ap outcomeOf (sym l),
+            q ∙ k .1 ∙ ap (λ (v : List ℤ). unlessRefused (firstOf (LeavesRange when (leavesRange (rulesOf c) c w v) ∷ [])) v w) g
                 ∙ ap (λ o. unlessRefused o (moved c (activePress c w i raised a) w) w) (sym l),
           )

@@ -29,7 +29,7 @@ module _ (c : Case) (w : List ℤ) (e end v : ℕ) (a : ℤ) where
   asked = handedOver (rulesOf c) (workingWeight (rulesOf c)) c w false (shiftOut (rulesOf c) c e end v a)
 
   abbrev leaves : List Test
-  leaves = LeavesRange when (leavesRange (rulesOf c) c (moved c (shift e end v a) w)) ∷ []
+  leaves = LeavesRange when (leavesRange (rulesOf c) c w (moved c (shift e end v a) w)) ∷ []
 
   pub shift-refused : {x : Refusal} → Outcome.Refused x ≡ outcomeOf (firstOf asked)
       → (Outcome.Refused x ≡ shiftCall (rulesOf c) c w e end v a .answer) × (w ≡ shiftCall (rulesOf c) c w e end v a .table)

@@ -26,7 +26,7 @@ saysYes (Verdict.Refused x) = false
 -- numbers 10 and 11
 abbrev pub askedOfRaised : Rules → Case → List ℤ → ℕ → List ℕ → ℤ → List Test
 askedOfRaised r c w i raised a =
-    NotRefuted when (not (activeRefuted c w i raised)) ∷ LeavesRange when (leavesRange r c (moved c (activePress c w i raised a) w)) ∷ []
+    NotRefuted when (not (activeRefuted c w i raised)) ∷ LeavesRange when (leavesRange r c w (moved c (activePress c w i raised a) w)) ∷ []
 
 -- numbers 9, 10 and 11
 abbrev pub askedOfPress : Rules → Case → List ℤ → ℕ → List ℕ → ℤ → List Test

@@ -1,4 +1,4 @@
-// Moves (document 01, "Moves"): shifts and presses, asked of everything that is handed over: numbers 3 to 8, and 9, 10 and 11.
+// Moves (document 01, "Moves"): shifts and presses, asked of everything that is handed over: numbers 3 to 8 and 15, and 9, 10 and 11.
 use definitions::Case;
 use definitions::Outcome;
 use definitions::Refusal;

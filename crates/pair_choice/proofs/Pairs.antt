@@ -1,5 +1,5 @@
--- On a table that was checked, the round of a pair leaves the range just where the pair is passed over; and where the marks are the active ones,
--- the pair found is the lowest one. Assumes nothing.
+-- On a table that the engine takes, the round of a pair leaves the range just where the pair is passed over; and where the marks are the active
+-- ones, the pair found is the lowest one. Assumes nothing.
 use mathlib.Core.Path.{_≡_, refl, sym, ap, ap₂, _∙_}
 use mathlib.Core.Bool.{Bool, true, false, not, _&&_}
 use mathlib.Core.List.{List}
@@ -13,13 +13,14 @@ use Rattle.integers.specs.Words.{first}
 use Rattle.integers.specs.Tests.{tests, same-test, if-true}
 use Rattle.integers.specs.Lists.{any-same, any-below, those-same}
 use Rattle.definitions.specs.declared.Case.{Case}
-use Rattle.definitions.specs.Rules.{rulesOf}
+use Rattle.definitions.specs.Rules.{coherent, rulesOf}
 use Rattle.definitions.specs.Case.{lowerEnd, upperEnd, lentLength, weight, active}
-use Rattle.definitions.specs.Valid.{workingWeight}
+use Rattle.definitions.specs.Valid.{inWorking}
 use Rattle.definitions.specs.PairRounds.{gains, passedOver, lowestPair}
 use Rattle.theory.proofs.Places.{edge-tuple}
 use Rattle.theory.proofs.Validity.{Handed}
 use Rattle.pair_theory.specs.Closed.{tupleLeaves, pairLeaves}
+use Rattle.pair_theory.proofs.Inside.{every-takes}
 use Rattle.pair_theory.proofs.Gains.{lower-tuple, upper-tuple, active-choice}
 use Rattle.pair_theory.proofs.Passing.{passed-over-is}
 use Rattle.tables.proofs.Answered.{limits-known, limits-true}
@@ -31,9 +32,9 @@ use Rattle.pair_choice.specs.PairChoice.{tupleStays, roundLeaves, isSize
 use Rattle.pair_choice.specs.PairChoice.{lowestPairAnswer}
 use Rattle.pair_choice.proofs.Ranges.{ends-inside}
 
-module _ {c : Case} {w : List ℤ} (h : Handed (rulesOf c) (workingWeight (rulesOf c)) c w) where
+module _ {c : Case} {w : List ℤ} (h : Handed (rulesOf c) (inWorking (rulesOf c)) c w) where
   sized : isSized (rulesOf c) c (length w) ≡ true
-  sized = rw (limits-true h, eq-eqb (length w) (lentLength c) (h .long))
+  sized = rw (limits-true (every-takes h), eq-eqb (length w) (lentLength c) (h .long))
 
   -- ---- one pair
   module _ (e : ℕ) (edge : e < c .m) where
@@ -43,7 +44,7 @@ module _ {c : Case} {w : List ℤ} (h : Handed (rulesOf c) (workingWeight (rules
     lower-in : lowerEnd c e < c .n
     lower-in = omega (arith, upper-in, h .shape .ascending e edge)
 
-    -- the weights of the table are working weights
+    -- the weights of the table are in the range
     all-three : (a b z : Bool) {d : Bool} → T a → T b → T z → (a && (b && (z && d))) ≡ d
     all-three true true true s t u = refl
     all-three true true false s t u = absurd u
@@ -54,15 +55,15 @@ module _ {c : Case} {w : List ℤ} (h : Handed (rulesOf c) (workingWeight (rules
         → not (tupleStays (rulesOf c) (weight c w (lowerEnd c e) k 0) (weight c w (upperEnd c e) l 0) (weight c w (c .n + e) k l))
         ≡ tupleLeaves (rulesOf c) c w e k l
     tuple-leaves k l p q =
-        ap not (all-three (workingWeight (rulesOf c) (weight c w (lowerEnd c e) k 0)) (workingWeight (rulesOf c) (weight c w (upperEnd c e) l 0))
-        (workingWeight (rulesOf c) (weight c w (c .n + e) k l)) (h .in-range _ _ _ (lower-tuple c (h .shape) e edge p))
+        ap not (all-three (inWorking (rulesOf c) (weight c w (lowerEnd c e) k 0)) (inWorking (rulesOf c) (weight c w (upperEnd c e) l 0))
+        (inWorking (rulesOf c) (weight c w (c .n + e) k l)) (h .in-range _ _ _ (lower-tuple c (h .shape) e edge p))
         (h .in-range _ _ _ (upper-tuple c (h .shape) e edge q)) (h .in-range _ _ _ (edge-tuple c e k l edge p q)))
 
     round-leaves-is : roundLeaves (rulesOf c) c w e ≡ pairLeaves (rulesOf c) c w e
     round-leaves-is = ends-inside (rulesOf c) c w e lower-in upper-in ∙ any-same (c .d) (λ k p. any-same (c .d) (λ l q. tuple-leaves k l p q))
 
     round-passed-over : roundLeaves (rulesOf c) c w e ≡ passedOver (rulesOf c) c w e
-    round-passed-over = round-leaves-is ∙ sym (passed-over-is h edge)
+    round-passed-over = round-leaves-is ∙ sym (passed-over-is (coherent (c .rulebook)) h edge)
 
     pub leaves-passed-over : leavesBy (rulesOf c) c w e ≡ passedOver (rulesOf c) c w e
     unfolding leavesBy
@@ -101,8 +102,8 @@ module _ {c : Case} {w : List ℤ} (h : Handed (rulesOf c) (workingWeight (rules
           active-choice c w (h .shape) e edge .1 (k, l, f, g, i, j, y .1))
           (λ t.
           let (k, l, f, g, i, j, y) = active-choice c w (h .shape) e edge .0 t in
-          let p : k < 8 = omega (arith, limits-known h .values-few) in
-          let q : l < 8 = omega (arith, limits-known h .values-few) in
+          let p : k < 8 = omega (arith, limits-known (every-takes h) .values-few) in
+          let q : l < 8 = omega (arith, limits-known (every-takes h) .values-few) in
           any-below (λ k. mark lower k && hasPartner (row k) upper) 8 .1 (
             k,
             p,

@@ -17,18 +17,18 @@ use Rattle.definitions.specs.declared.Case.{Case}
 use Rattle.definitions.specs.Rules.{Rules, Coherent, rulesOf}
 use Rattle.definitions.proofs.RulesLaws.{rules-fit}
 use Rattle.definitions.specs.Case.{lowerEnd, upperEnd}
-use Rattle.definitions.specs.Valid.{workingWeight, endOutside}
+use Rattle.definitions.specs.Valid.{inWorking, endOutside}
 use Rattle.theory.proofs.Places.{place-variable, place-edge}
 use Rattle.tables.proofs.Order.{limited-by}
 use Rattle.arcs.specs.Active.{Sized}
 use Rattle.pair_choice.specs.PairChoice.{tuplesLeave, roundLeaves, rowsLeave, isSized}
 
 -- ---- sums
-module _ {r : Rules} (limits : Coherent r) (a b : ℤ) (p : T (workingWeight r a)) (q : T (workingWeight r b)) where
+module _ {r : Rules} (limits : Coherent r) (a b : ℤ) (p : T (inWorking r a)) (q : T (inWorking r b)) where
   pub two-fit : SFits w64 (a +ℤ b)
   two-fit = p ▸ q ▸ rules-fit limits .working ▸ simp flat (omega zs)
 
-  pub three-fit : (z : ℤ) → T (workingWeight r z) → SFits w64 ((a +ℤ b) +ℤ z)
+  pub three-fit : (z : ℤ) → T (inWorking r z) → SFits w64 ((a +ℤ b) +ℤ z)
   three-fit z s = p ▸ q ▸ s ▸ rules-fit limits .working ▸ simp flat (omega zs)
 
 -- ---- places

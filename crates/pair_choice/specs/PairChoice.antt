@@ -11,18 +11,18 @@ use Rattle.integers.specs.Words.{if_then_else_, below, any, those, first}
 use Rattle.definitions.specs.declared.Case.{Case}
 use Rattle.definitions.specs.Rules.{Rules}
 use Rattle.definitions.specs.Case.{values, lowerEnd, upperEnd, lentLength, weight}
-use Rattle.definitions.specs.Valid.{workingWeight, withinLimits, endOutside}
+use Rattle.definitions.specs.Valid.{inWorking, withinLimits, endOutside}
 use Rattle.marks.specs.Marks.{mark}
 use Rattle.arcs.specs.Partners.{hasPartner}
 use Rattle.pair_choice.specs.declared.Paired.{Paired}
 
 -- ---- the range
 
--- The weight z of a tuple and the weights of its values at the lower and the upper end are working weights; and so is what z becomes when the
--- lower value's is shifted into it, and then the upper value's.
+-- The weight z of a tuple and the weights of its values at the lower and the upper end are in the range of working weights; and so is what z
+-- becomes when the lower value's is shifted into it, and then the upper value's.
 abbrev pub tupleStays : Rules → ℤ → ℤ → ℤ → Bool
 tupleStays r own other z =
-    workingWeight r own && (workingWeight r other && (workingWeight r z && (workingWeight r (z +ℤ own) && workingWeight r ((own +ℤ other) +ℤ z))))
+    inWorking r own && (inWorking r other && (inWorking r z && (inWorking r (z +ℤ own) && inWorking r ((own +ℤ other) +ℤ z))))
 
 -- for some values it is not so
 abbrev pub tuplesLeave : Rules → Case → List ℤ → ℕ → Bool

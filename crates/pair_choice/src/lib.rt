@@ -8,7 +8,7 @@ ghost use lib.ListN.{length, getD};
 ghost use Rattle.integers.specs.Words.{withinZ, below, those, first};
 ghost use Rattle.definitions.specs.Rules.{rulesIn, rulesOf, edgePlaces};
 ghost use Rattle.definitions.specs.Case.{lowerEnd, upperEnd};
-ghost use Rattle.definitions.specs.Valid.{workingWeight};
+ghost use Rattle.definitions.specs.Valid.{inWorking};
 ghost use Rattle.arcs.specs.Active.{Sized};
 ghost use Rattle.pair_choice.specs.PairChoice.{tupleStays, rowLeaves, rowsLeave, tuplesLeave, roundLeaves, isSized, leavesBy};
 ghost use Rattle.pair_choice.specs.PairChoice.{pairedOf, hasChoice, takesPair, NextGaining, marksShort, lowestPairAnswer};
@@ -28,7 +28,7 @@ fn is_within(z: i64, low: i64, high: i64) -> bool
 }
 
 fn is_working(rulebook: Rulebook, weight: i64) -> bool
-    ensures { λ r. ⌜ r ≡ workingWeight (rulesIn rulebook) weight ⌝ }
+    ensures { λ r. ⌜ r ≡ inWorking (rulesIn rulebook) weight ⌝ }
 {
     is_within(
         weight,
@@ -37,7 +37,7 @@ fn is_working(rulebook: Rulebook, weight: i64) -> bool
     )
 }
 
-// Sums are formed only of working weights, so that they fit.
+// Sums are formed only of weights in the range, so that they fit.
 fn tuple_stays(rulebook: Rulebook, own: i64, other: i64, weight: i64) -> bool
     ensures { λ r. ⌜ r ≡ tupleStays (rulesIn rulebook) own other weight ⌝ }
 {

@@ -8,10 +8,11 @@ use lib.IntN.{ℤ}
 use lib.ListN.{length}
 use Rattle.integers.specs.Words.{from, joined}
 use Rattle.definitions.specs.declared.Case.{Case}
-use Rattle.definitions.specs.Rules.{rulesOf}
+use Rattle.definitions.specs.Rules.{coherent, rulesOf}
 use Rattle.definitions.specs.Moves.{Move}
 use Rattle.definitions.specs.PairRounds.{wholeShift, endShifts, pairRound}
-use Rattle.theory.proofs.Rounds.{AllAllowed, all-handed}
+use Rattle.theory.proofs.Rounds.{AllAllowed}
+use Rattle.pair_theory.proofs.Inside.{all-inside}
 use Rattle.pair_rounds.specs.Shifts.{lineBytes, movesLineCount, Allows, Ready, Shifted}
 use Rattle.pair_rounds.proofs.Moves.{allowed-first, allowed-rest, shiftsBelow, shifts-next, shifts-split, whole-still, upper-still}
 use Rattle.pair_rounds.proofs.Texts.{count-append, shifted-more}
@@ -29,7 +30,11 @@ room-first c xs ys at h =
 module _ {c : Case} {w best : List ℤ} {e : ℕ} (ready : Ready c w best e) {out : List ℕ} {at : ℕ} where
   -- still ready after moves
   still-ready : {moves : List Move} {u after : List ℤ} {next : List ℕ} {to : ℕ} → Shifted c moves w u after at to out next → Ready c u after e
-  still-ready s = record { handed = all-handed (s .allowed) (ready .handed); greatest-held = s .greatest-kept; edge = ready .edge }
+  still-ready s = record {
+    handed = all-inside (coherent (c .rulebook)) (s .allowed) (ready .handed);
+    greatest-held = s .greatest-kept;
+    edge = ready .edge;
+  }
 
   -- ---- one end
   module _ (end : ℕ) (allows : Allows c w (endShifts c w e end)) (room : at + lineBytes c * movesLineCount (endShifts c w e end) ≤ length out)

@@ -18,16 +18,17 @@ use Rattle.integers.specs.Linear.{flat, zs, _▸_, T-eq}
 use Rattle.integers.specs.Lists.{_∈_, joined-append, map-append, from-suc, from-split, in-joined, in-below, map-same}
 use Rattle.definitions.specs.declared.Case.{Case}
 use Rattle.definitions.specs.Rules.{Rules, rulesOf, coherent}
-use Rattle.definitions.specs.Case.{upperEnd, place, weight}
-use Rattle.definitions.specs.Valid.{workingWeight}
+use Rattle.definitions.specs.Case.{upperEnd, place, weight, barred}
+use Rattle.definitions.specs.Valid.{inWorking, workingWeight}
 use Rattle.definitions.specs.Moves.{Move, shift, press, endVariable, endValue, shiftBy, moved, leavesRange, afterMoves}
 use Rattle.definitions.specs.PairRounds.{wholeShift, endShifts}
 use Rattle.definitions.proofs.RulesLaws.{rules-fit}
-use Rattle.theory.proofs.Places.{variable-tuple, place-variable, weight-plus}
+use Rattle.theory.proofs.Places.{variable-tuple, place-variable}
+use Rattle.theory.proofs.Barred.{weight-spared}
 use Rattle.theory.proofs.Shape.{Shape}
 use Rattle.theory.proofs.Validity.{Handed}
-use Rattle.theory.proofs.Replays.{Allowed}
-use Rattle.theory.proofs.Rounds.{AllAllowed, no-move, one-more, stays-in-range}
+use Rattle.theory.proofs.Replays.{Allowed, allowed-stays}
+use Rattle.theory.proofs.Rounds.{AllAllowed, no-move, one-more}
 use Rattle.tables.proofs.Order.{variables-small}
 use Rattle.tables.proofs.Answered.{limits-known}
 use Rattle.changes.proofs.TransferLaws.{end-inside, transfer-still}
@@ -38,7 +39,7 @@ module _ {r : Rules} {c : Case} where
   pub allowed-after : {w v : List ℤ} {moves : List Move} → AllAllowed r c w moves v → afterMoves r c moves w ≡ some v
   allowed-after no-move = refl
   allowed-after {w} (one-more {move} {moves} k m) =
-      if-false none (afterMoves r c moves (moved c move w)) (leavesRange r c (moved c move w)) (stays-in-range r c w move k) ∙ allowed-after m
+      if-false none (afterMoves r c moves (moved c move w)) (leavesRange r c w (moved c move w)) (allowed-stays r c w move k) ∙ allowed-after m
 
   pub allowed-join : {w u v : List ℤ} {xs ys : List Move} → AllAllowed r c w xs u → AllAllowed r c u ys v → AllAllowed r c w (xs ++ ys) v
   allowed-join no-move n = n
@@ -66,8 +67,9 @@ Spares c i k (press j lowered raised a) = ⊥
 module _ (c : Case) (i k : ℕ) (variable : i < c .n) (value : k < c .d) where
   spared-by : (w : List ℤ) (move : Move) → Spares c i k move → weight c (moved c move w) i k 0 ≡ weight c w i k 0
   spared-by w (shift e end v a) f =
-      weight-plus c (shiftBy c e end v a) w (variable-tuple c i k variable value)
-      ∙ ap (λ (z : ℤ). weight c w i k 0 +ℤ z) (transfer-still c e end v a i k 0
+      weight-spared c w (shiftBy c e end v a) (variable-tuple c i k variable value)
+      ∙ if-cases (λ (z : ℤ). z ≡ weight c w i k 0) (barred c w i k 0) (weight c w i k 0) (weight c w i k 0 +ℤ shiftBy c e end v a i k 0) (λ t. refl) (λ t.
+      ap (λ (z : ℤ). weight c w i k 0 +ℤ z) (transfer-still c e end v a i k 0
       (not-or-iff (eqb i (endVariable c e end) && eqb k v) (eqb i (c .n + e) && eqb (endValue end k 0) v) .1 (
         not-T (eqb i (endVariable c e end) && eqb k v)
             (λ t. f (sym (eqb→eq i (endVariable c e end) (and-left (eqb i (endVariable c e end)) (eqb k v) t)))
@@ -75,7 +77,7 @@ module _ (c : Case) (i k : ℕ) (variable : i < c .n) (value : k < c .d) where
         not-T (eqb i (c .n + e) && eqb (endValue end k 0) v)
             (λ t. let q : i ≡ c .n + e = eqb→eq i (c .n + e) (and-left (eqb i (c .n + e)) (eqb (endValue end k 0) v) t) in omega arith),
       )))
-      ∙ +ℤ-idr (weight c w i k 0)
+      ∙ +ℤ-idr (weight c w i k 0))
 
   spared : {r : Rules} {w v : List ℤ} {moves : List Move} → AllAllowed r c w moves v → ((m : Move) → m ∈ moves → Spares c i k m)
       → weight c v i k 0 ≡ weight c w i k 0
@@ -158,7 +160,7 @@ weight-place {c} {e} {v} {x} end h edge value q =
       variables-small c (limits-known h),
     )
 
-pub weight-small : {c : Case} {w : List ℤ} {e v : ℕ} (end : ℕ) → Handed (rulesOf c) (workingWeight (rulesOf c)) c w → e < c .m → v < c .d
+pub weight-small : {c : Case} {w : List ℤ} {e v : ℕ} (end : ℕ) → Handed (rulesOf c) (inWorking (rulesOf c)) c w → e < c .m → v < c .d
     → (minus (10 ^ 17) ≤ℤ weight c w (endVariable c e end) v 0) × (weight c w (endVariable c e end) v 0 ≤ℤ pos (10 ^ 17))
 weight-small {c} {e} {v} end h edge value =
     let t = h .in-range (endVariable c e end) v 0 (variable-tuple c (endVariable c e end) v (end-inside (h .shape) e end edge) value) in

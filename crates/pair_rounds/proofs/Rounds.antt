@@ -20,21 +20,21 @@ use Rattle.definitions.specs.declared.Round.{Round}
 use Rattle.definitions.specs.Rules.{rulesOf, coherent}
 use Rattle.definitions.specs.Answers.{outcomeOf}
 use Rattle.definitions.specs.Case.{scopeCount, upperBound}
-use Rattle.definitions.specs.Valid.{workingWeight}
+use Rattle.definitions.specs.Valid.{inWorking, workingWeight}
 use Rattle.definitions.specs.Moves.{Move, afterMoves}
 use Rattle.definitions.specs.Lines.{overwritten}
 use Rattle.definitions.specs.RoundLines.{moveLines, boundLine, roundText}
 use Rattle.definitions.specs.PairRounds.{pairRound, passedOver}
-use Rattle.definitions.specs.Engine.{Made, madeOf, engineNext, roundBytes}
+use Rattle.definitions.specs.Engine.{Made, madeOf, roundBytes}
 use Rattle.calls.specs.EngineCalls.{RoundCall, roundMade}
-use Rattle.theory.proofs.Validity.{Handed, handed}
+use Rattle.theory.proofs.Validity.{Handed}
 use Rattle.theory.proofs.Replays.{none-iff}
 use Rattle.theory.proofs.Rounds.{all-handed}
+use Rattle.pair_theory.proofs.Inside.{every-takes, asked-iff}
 use Rattle.pair_theory.proofs.Passing.{pair-allowed, pair-few}
 use Rattle.tables.specs.Scopes.{BestOf, greatestCall}
 use Rattle.tables.proofs.Best.{greatest-known}
-use Rattle.tables.proofs.Order.{outcome-refused}
-use Rattle.tables.proofs.Answered.{known}
+use Rattle.tables.proofs.Order.{outcome-done, outcome-refused}
 use Rattle.pair_rounds.specs.PairCall.{pairRefusal, pairMade, pairCall}
 use Rattle.pair_rounds.specs.Shifts.{lineBytes, lineTextOf, movesText, movesLineCount, Allows, Shifted, Held, Bounded, MadePair}
 use Rattle.pair_rounds.proofs.Moves.{allowed-after}
@@ -51,9 +51,10 @@ module _ (c : Case) (w : List ℤ) (out : List ℕ) (e : ℕ) where
   pair-refused f = let d : asked ≡ some _ = outcome-refused f in record { answer = rw (d, pairCall); table = rw (d, pairCall); output = rw (d, pairCall) }
 
   pub pair-asked : Outcome.Done ≡ outcomeOf asked
-      → (Handed (rulesOf c) (workingWeight (rulesOf c)) c w × (e < c .m)) × (roundBytes (rulesOf c) c ≤ length out)
+      → (Handed (rulesOf c) (inWorking (rulesOf c)) c w × (e < c .m)) × (roundBytes (rulesOf c) c ≤ length out)
   pair-asked f =
-      let (h, s, t) = known c w (ltb (length out) (roundBytes (rulesOf c) c)) (not (ltb e (c .m))) f in
+      let (h, s, t) = asked-iff (coherent (c .rulebook)) c w (ltb (length out) (roundBytes (rulesOf c) c)) (not (ltb e (c .m))) .0
+      (none-iff asked .1 (outcome-done f)) in
       ((h, simp tests at t), let l = simp tests at s in omega arith)
 
 -- ---- the greatest weights, written
@@ -71,11 +72,11 @@ round-text c moves v =
     ∙ joined-append (map (lineTextOf c) (joined (map moveLines moves))) (lineTextOf c (boundLine (upperBound c v)) ∷ [])
     ∙ ap (λ (t : List ℕ). movesText c moves ++ t) (append-nil (lineTextOf c (boundLine (upperBound c v))))
 
-module _ {c : Case} {w : List ℤ} {e : ℕ} (out : List ℕ) (h : Handed (rulesOf c) (workingWeight (rulesOf c)) c w) (edge : e < c .m)
+module _ {c : Case} {w : List ℤ} {e : ℕ} (out : List ℕ) (h : Handed (rulesOf c) (inWorking (rulesOf c)) c w) (edge : e < c .m)
     (long : roundBytes (rulesOf c) c ≤ length out) where
   taken : pairRefusal (rulesOf c) c w (length out) e ≡ none
   taken = none-iff (pairRefusal (rulesOf c) c w (length out) e) .0
-      (handed (rulesOf c) (workingWeight (rulesOf c)) c w (ltb (length out) (roundBytes (rulesOf c) c)) (not (ltb e (c .m))) .1
+      (asked-iff (coherent (c .rulebook)) c w (ltb (length out) (roundBytes (rulesOf c) c)) (not (ltb e (c .m))) .1
       (h, simp tests (omega arith), not-not-iff (ltb e (c .m)) .1 (lt→ltb e (c .m) edge)))
 
   -- the call is the round
@@ -128,5 +129,5 @@ module _ {c : Case} {w : List ℤ} {e : ℕ} (out : List ℕ) (h : Handed (rules
         → (at + lineBytes c ≤ length next) × Held c best
     bound-ready {v} s same = (
       omega (arith, s .bytes, room, mul-add (lineBytes c) (movesLineCount (pairRound c w e)) 1),
-      (v, all-handed (s .allowed) h, s .greatest-kept),
+      (v, all-handed (coherent (c .rulebook)) (s .allowed) (every-takes h), s .greatest-kept),
     )

@@ -22,7 +22,7 @@ use Rattle.definitions.specs.declared.Refusal.the-variants.{LeavesRange}
 use Rattle.definitions.specs.Answers.{unlessRefused}
 use Rattle.definitions.specs.Case.{upperBound}
 use Rattle.definitions.specs.Valid.{workingWeight}
-use Rattle.definitions.specs.Moves.{Move, shift, plus, shiftBy, moved, leavesRange}
+use Rattle.definitions.specs.Moves.{Move, shift, moved, leavesRange}
 use Rattle.definitions.specs.Lines.{lineTooWide, overwritten}
 use Rattle.definitions.specs.RoundLines.{moveLines, boundLine}
 use Rattle.definitions.proofs.LineLaws.{line-length}
@@ -124,8 +124,8 @@ module _ {c : Case} where
       shifted-one {after} {greatest} (f, g, i) {at} {r} {out} {next} n put =
           let (p, q, s) = transfer-is-shift h b e end v a inside in
           let d : after ≡ moved c (shift e end v a) w =
-          g ∙ q ∙ ap (λ (l : Bool). unlessRefused (firstOf (LeavesRange when l ∷ [])) (plus c (shiftBy c e end v a) w) w)
-          (is-false (leavesRange (rulesOf c) c (moved c (shift e end v a) w)) (k .in-range)) in
+          g ∙ q ∙ ap (λ (l : Bool). unlessRefused (firstOf (LeavesRange when l ∷ [])) (moved c (shift e end v a) w) w)
+          (is-false (leavesRange (rulesOf c) c w (moved c (shift e end v a) w)) (k .in-range)) in
           record {
             allowed = rw d (one-more k no-move);
             greatest-kept = rw (g, i) s;

@@ -11,11 +11,12 @@ use Rattle.definitions.specs.declared.Refusal.{Refusal}
 use Rattle.definitions.specs.Rules.{Rules}
 use Rattle.definitions.specs.Moves.{afterMoves}
 use Rattle.definitions.specs.PairRounds.{pairRound}
-use Rattle.definitions.specs.Engine.{Made, refused, madeOf, engineNext}
+use Rattle.definitions.specs.Engine.{Made, refused, madeOf}
 use Rattle.calls.specs.EngineCalls.{RoundCall, roundMade}
 use Rattle.round_lines.specs.Asked.{roundRefusal}
 
--- numbers 3 to 8, with an output of so many bytes: 4 also where it is too short for a round, 5 also where there is no such edge
+-- numbers 3 to 8 and 15, with an output of so many bytes: 4 also where it is too short for a round, 5 also where there is no such edge; and 8
+-- where a tuple is barred
 abbrev pub pairRefusal : Rules → Case → List ℤ → ℕ → ℕ → Option Refusal
 pairRefusal r c w bytes e = roundRefusal r c w bytes (not (ltb e (c .m)))
 

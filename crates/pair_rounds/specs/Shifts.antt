@@ -11,7 +11,7 @@ use Rattle.definitions.specs.declared.Line.{Line}
 use Rattle.definitions.specs.declared.Round.{Round}
 use Rattle.definitions.specs.Rules.{rulesOf}
 use Rattle.definitions.specs.Case.{upperBound}
-use Rattle.definitions.specs.Valid.{workingWeight}
+use Rattle.definitions.specs.Valid.{inWorking, workingWeight}
 use Rattle.definitions.specs.Moves.{Move}
 use Rattle.definitions.specs.Lines.{line, lineLength, lineText}
 use Rattle.definitions.specs.RoundLines.{moveLines, boundLine}
@@ -41,9 +41,9 @@ movesLineCount moves = length (joined (map moveLines moves))
 abbrev pub Allows : Case → List ℤ → List Move → Type 0
 Allows c w moves = (v : List ℤ) × AllAllowed (rulesOf c) c w moves v
 
--- a table that was checked, with each scope's greatest weight, and an edge
+-- a table that the engine takes, with each scope's greatest weight, and an edge
 pub record Ready (c : Case) (w best : List ℤ) (e : ℕ) : Type 0 where
-  pub handed : Handed (rulesOf c) (workingWeight (rulesOf c)) c w
+  pub handed : Handed (rulesOf c) (inWorking (rulesOf c)) c w
   pub greatest-held : BestOf c w best
   pub edge : e < c .m
 

@@ -13,9 +13,9 @@ ghost use Prim.Native.Nat.{_+_, _*_, _^_, _≤_, _<_};
 ghost use lib.Dec.{T};
 ghost use lib.IntN.{ℤ, pos};
 ghost use lib.ListN.{length};
-ghost use Rattle.definitions.specs.Rules.{rulesOf, edgePlaces};
+ghost use Rattle.definitions.specs.Rules.{rulesOf};
 ghost use Rattle.definitions.specs.Case.{weight};
-ghost use Rattle.definitions.specs.Valid.{workingWeight};
+ghost use Rattle.definitions.specs.Valid.{inWorking, workingWeight};
 ghost use Rattle.definitions.specs.Moves.{shift, endVariable};
 ghost use Rattle.definitions.specs.Lines.{lineTooWide};
 ghost use Rattle.definitions.specs.RoundLines.{boundLine};
@@ -74,21 +74,11 @@ fn put_line(case: Case, out: &mut [u8], at: usize, line: Line) -> usize
 
 // ---- shifts
 
-fn end_variable(case: Case, edge: usize, end: usize) -> usize
-    requires { ⌜ edge < edgePlaces ⌝ }
-    ensures { λ r. ⌜ r ≡ endVariable case edge end ⌝ }
-{
-    if end == 0 {
-        return integers::wide_size(case.lower[edge]);
-    }
-    integers::wide_size(case.upper[edge])
-}
-
 fn weight_at(case: Case, table: &[i64], edge: usize, end: usize, value: usize) -> i64
     requires { ⌜ Handed (rulesOf case) (workingWeight (rulesOf case)) case (now table) × (edge < case .m) × (value < case .d) ⌝ }
     ensures { λ r. ⌜ r ≡ weight case (now (table .entry)) (endVariable case edge end) value 0 ⌝ }
 {
-    let variable = end_variable(case, edge, end);
+    let variable = changes::end_variable(case, edge, end);
     table[variable * case.d + value]
 }
 
@@ -204,7 +194,7 @@ fn shift_pair(case: Case, table: &mut [i64], out: &mut [u8], best: &mut [i64], e
 }
 
 fn pair_round(case: Case, table: &mut [i64], out: &mut [u8], edge: usize) -> Round
-    requires { ⌜ Handed (rulesOf case) (workingWeight (rulesOf case)) case (now table) × (edge < case .m) ⌝ }
+    requires { ⌜ Handed (rulesOf case) (inWorking (rulesOf case)) case (now table) × (edge < case .m) ⌝ }
     requires { ⌜ roundBytes (rulesOf case) case ≤ length (now out) ⌝ }
     ensures { λ r. ⌜ MadePair case (now (table .entry)) (now (out .entry)) edge (now (table .exit)) (now (out .exit)) r ⌝ }
 {
@@ -218,8 +208,8 @@ fn pair_round(case: Case, table: &mut [i64], out: &mut [u8], edge: usize) -> Rou
 
 // ---- the call
 
-// The round of one pair: its lines from the output's first byte. Asks 3 to 8, 4 of the output and 5 of the edge too, and 11; refused, table and
-// output keep what they held. Whether the pair gains is not asked.
+// The round of one pair: its lines from the output's first byte. Asks 3 to 8 and 15, 4 of the output, 5 of the edge and 8 of barred tuples too,
+// and 11; refused, table and output keep what they held. Whether the pair gains is not asked.
 pub fn make_round(case: Case, table: &mut [i64], out: &mut [u8], edge: usize) -> Round
     ensures { λ r. ⌜ (r ≡ pairCall (rulesOf case) case (now (table .entry)) (now (out .entry)) edge .answer)
         × (now (table .exit) ≡ pairCall (rulesOf case) case (now (table .entry)) (now (out .entry)) edge .table)

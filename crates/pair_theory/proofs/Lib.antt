@@ -1,4 +1,5 @@
--- Pair rounds: which pairs gain, what a pair's round does to the table, and when it is passed over.
+-- Tables that the engine takes; pair rounds: which pairs gain, what a pair's round does to the table, and when it is passed over.
+pub mod Inside
 pub mod Gains
 pub mod Rounded
 pub mod Passing

@@ -1,5 +1,6 @@
--- A pair's round shift by shift: after each shift the table is the first one with some values of both ends shifted whole. So the round is made,
--- with the whole effect, just where no sum of the closed form leaves the working range; then each shift is allowed. Assumes nothing.
+-- A pair's round shift by shift, from a table with all weights in the working range: after each shift the table is the first one with some
+-- values of both ends shifted whole. So the round is made, with the whole effect, just where no sum of the closed form leaves that range; then
+-- each shift is allowed. Assumes nothing.
 use mathlib.Core.Path.{_≡_, refl, sym, ap, ap₂, subst, _∙_}
 use mathlib.Core.Bool.{Bool, true, false, not, _&&_, _||_}
 use mathlib.Core.Option.{Option, none, some}
@@ -20,12 +21,13 @@ use Rattle.integers.specs.Lists.{_∈_, in-joined, map-append, joined-append, i
 use Rattle.definitions.specs.declared.Case.{Case}
 use Rattle.definitions.specs.Rules.{Rules, Coherent}
 use Rattle.definitions.specs.Case.{values, ownLength, lowerEnd, upperEnd, weight}
-use Rattle.definitions.specs.Valid.{workingWeight, allWeights}
+use Rattle.definitions.specs.Valid.{inWorking, allWeights}
 use Rattle.definitions.specs.Moves.{Move, shift, press, plus, onlyWhere, endVariable, endValue, shiftBy, shiftAmount, moved, leavesRange, afterMoves}
 use Rattle.definitions.specs.PairRounds.{threeAt, wholeShift, endShifts, pairRound, passedOver}
 use Rattle.definitions.specs.RoundLines.{moveLines}
 use Rattle.theory.proofs.Places.{IsTuple, edge-tuple, all-weights, weight-plus, plus-cong, plus-plus, plus-zero, plus-length}
 use Rattle.theory.proofs.Words.{none-below}
+use Rattle.theory.proofs.Barred.{Free, in-range-free, free-spared, free-range}
 use Rattle.theory.proofs.Validity.{Handed}
 use Rattle.theory.proofs.Rounds.{AllAllowed, no-move, one-more}
 use Rattle.pair_theory.specs.Closed.{lowerAt, tupleLeaves, pairLeaves}
@@ -41,19 +43,40 @@ last-of : (f : ℕ → Bool) (n : ℕ) → 0 < n → T (not (any (λ k. f (suc k
 last-of f zero h t = absurd (omega arith)
 last-of f (suc n) h t = none-below (λ k. f (suc k)) (suc n) .0 t n (omega arith)
 
+-- ---- tables with all weights in the working range
+abbrev outOfRange : Rules → Case → List ℤ → Bool
+outOfRange r c v = not (allWeights (inWorking r) c v)
+
+module _ (r : Rules) (c : Case) (v : List ℤ) (long : ownLength c ≤ length v) where
+  in-range-iff : T (not (outOfRange r c v)) ↔ ((x k l : ℕ) → IsTuple c x k l → T (inWorking r (weight c v x k l)))
+  in-range-iff = Iff·trans (not-not-iff (allWeights (inWorking r) c v)) (all-weights c (inWorking r) v long)
+
+  -- they have no barred tuple, so that a shift adds its whole difference, and number 11 asks the range of every weight after it
+  module _ (coherent : Coherent r) (inside : T (not (outOfRange r c v))) where
+    in-range-none : Free c v
+    in-range-none x k l t = in-range-free coherent (weight c v x k l) (in-range-iff .0 inside x k l t)
+
+    shift-whole : {u : List ℤ} (e end k : ℕ) (a : ℤ) → plus c (shiftBy c e end k a) v ≡ u → ownLength c ≤ length u → {A : Type 0} (x : A) (f : List ℤ → A)
+        → (if leavesRange r c v (moved c (shift e end k a) v) then x else f (moved c (shift e end k a) v)) ≡ (if outOfRange r c u then x else f u)
+    shift-whole {u} e end k a to l x f =
+        let (there, back) = free-range c v in-range-none r u l in
+        let (off, on) = not-not-iff (allWeights (inWorking r) c u) in
+        ap (λ (u : List ℤ). if leavesRange r c v u then x else f u) (free-spared c v in-range-none (shiftBy c e end k a) ∙ to)
+        ∙ ap (λ (b : Bool). if b then x else f u) (same-denied (leavesRange r c v u) (outOfRange r c u) (λ n. on (there n), λ n. back (off n)))
+
 -- ---- one end's shifts, through tables that the shifts lead through, one for each count of values
 onward : {A : Type 0} (a b : Bool) (x y z : A) → (T (not a) → y ≡ (if b then x else z)) → (if a then x else y) ≡ (if a || b then x else z)
 onward true b x y z f = refl
 onward false b x y z f = f tt
 
-module _ (r : Rules) (c : Case) (w : List ℤ) (e end : ℕ) (at : ℕ → List ℤ)
-    (step : (k : ℕ) → moved c (shift e end k (negℤ (weight c w (endVariable c e end) k 0))) (at k) ≡ at (suc k))
+module _ {r : Rules} (coherent : Coherent r) (c : Case) (w : List ℤ) (e end : ℕ) (at : ℕ → List ℤ) (long : (k : ℕ) → ownLength c ≤ length (at k))
+    (step : (k : ℕ) → plus c (shiftBy c e end k (negℤ (weight c w (endVariable c e end) k 0))) (at k) ≡ at (suc k))
     (stay : (k : ℕ) → weight c w (endVariable c e end) k 0 ≡ pos 0 → at k ≡ at (suc k)) (rest : List Move) where
   abbrev shifts : ℕ → ℕ → List Move
   shifts a n = joined (map (wholeShift c w e end) (from a n)) ++ rest
 
   abbrev leaves : ℕ → Bool
-  leaves k = leavesRange r c (at (suc k))
+  leaves k = outOfRange r c (at (suc k))
 
   abbrev made : ℕ → ℕ → Option (List ℤ)
   made a n = if any leaves (from a n) then none else afterMoves r c rest (at (a + n))
@@ -64,7 +87,7 @@ module _ (r : Rules) (c : Case) (w : List ℤ) (e end : ℕ) (at : ℕ → List 
       onward (leaves a) (any leaves (from (suc a) n)) none (afterMoves r c (shifts (suc a) n) (at (suc a))) (afterMoves r c rest (at (a + suc n)))
       (λ t. f t ∙ ap (λ (m : ℕ). if any leaves (from (suc a) n) then none else afterMoves r c rest (at m)) (omega arith))
 
-  after-end : (a n : ℕ) → T (not (leavesRange r c (at a))) → afterMoves r c (shifts a n) (at a) ≡ made a n
+  after-end : (a n : ℕ) → T (not (outOfRange r c (at a))) → afterMoves r c (shifts a n) (at a) ≡ made a n
   after-end a zero t = rw (add-zero a)
   after-end a (suc n) t =
       let z : ℤ = weight c w (endVariable c e end) a 0 in
@@ -73,10 +96,11 @@ module _ (r : Rules) (c : Case) (w : List ℤ) (e end : ℕ) (at : ℕ → List 
       (λ s.
       let o : at a ≡ at (suc a) = stay a (T-eq z (pos 0) .0 s) in
       ap (afterMoves r c (shifts (suc a) n)) o
-      ∙ sym (if-false none _ (leaves a) (subst (λ (v : List ℤ). T (not (leavesRange r c v))) o t)) ∙ after-one a n (after-end (suc a) n))
-      (λ s. ap (λ (v : List ℤ). if leavesRange r c v then none else afterMoves r c (shifts (suc a) n) v) (step a) ∙ after-one a n (after-end (suc a) n))
+      ∙ sym (if-false none _ (leaves a) (subst (λ (v : List ℤ). T (not (outOfRange r c v))) o t)) ∙ after-one a n (after-end (suc a) n))
+      (λ s. shift-whole r c (at a) (long a) coherent t e end a (negℤ z) (step a) (long (suc a)) none (afterMoves r c (shifts (suc a) n))
+      ∙ after-one a n (after-end (suc a) n))
 
-  after-whole : (n : ℕ) → T (not (leavesRange r c (at 0))) → afterMoves r c (shifts 0 n) (at 0)
+  after-whole : (n : ℕ) → T (not (outOfRange r c (at 0))) → afterMoves r c (shifts 0 n) (at 0)
       ≡ (if any leaves (below n) then none else afterMoves r c rest (at n))
   after-whole n t = after-end 0 n t ∙ ap (λ (m : ℕ). if any leaves (below n) then none else afterMoves r c rest (at m)) (zero-add n)
 
@@ -97,12 +121,12 @@ add-upper : (a b s n : ℤ) → n ≡ b +ℤ s → (a +ℤ b) +ℤ s ≡ a +ℤ 
 add-upper a b s n = simp flat (omega zs)
 
 module _ (c : Case) (w : List ℤ) (e : ℕ) where
-  lower-step : (q k : ℕ) → moved c (shift e 0 k (negℤ (weight c w (lowerEnd c e) k 0))) (partRounded c w e k q) ≡ partRounded c w e (suc k) q
+  lower-step : (q k : ℕ) → plus c (shiftBy c e 0 k (negℤ (weight c w (lowerEnd c e) k 0))) (partRounded c w e k q) ≡ partRounded c w e (suc k) q
   lower-step q v =
       plus-plus c (partBy c w e v q) w (shiftBy c e 0 v (negℤ (weight c w (lowerEnd c e) v 0)))
       ∙ plus-cong c _ w (partBy c w e (suc v) q) (λ x k l t. add-lower (endBy c w e 0 v x k l) (endBy c w e 1 q x k l) _ _ (end-more c w e 0 v x k l))
 
-  upper-step : (p l : ℕ) → moved c (shift e 1 l (negℤ (weight c w (upperEnd c e) l 0))) (partRounded c w e p l) ≡ partRounded c w e p (suc l)
+  upper-step : (p l : ℕ) → plus c (shiftBy c e 1 l (negℤ (weight c w (upperEnd c e) l 0))) (partRounded c w e p l) ≡ partRounded c w e p (suc l)
   upper-step p v =
       plus-plus c (partBy c w e p v) w (shiftBy c e 1 v (negℤ (weight c w (upperEnd c e) v 0)))
       ∙ plus-cong c _ w (partBy c w e p (suc v)) (λ x k l t. add-upper (endBy c w e 0 p x k l) (endBy c w e 1 v x k l) _ _ (end-more c w e 1 v x k l))
@@ -125,24 +149,24 @@ module _ (c : Case) (w : List ℤ) (e : ℕ) where
 
 -- ---- their weights
 module _ (r : Rules) where
-  own-stays : (b : Bool) (z : ℤ) → T (workingWeight r z) → T (workingWeight r (z +ℤ onlyWhere b (negℤ z)))
+  own-stays : (b : Bool) (z : ℤ) → T (inWorking r z) → T (inWorking r (z +ℤ onlyWhere b (negℤ z)))
   own-stays true z t = t ▸ simp flat (omega zs)
   own-stays false z t = t ▸ simp flat (omega zs)
 
-  edge-stays : (s t : Bool) (z a b : ℤ) → (T t → T s) → T (workingWeight r z) → T (workingWeight r (z +ℤ a)) → T (workingWeight r ((a +ℤ b) +ℤ z))
-      → T (workingWeight r (z +ℤ (onlyWhere s a +ℤ onlyWhere t b)))
+  edge-stays : (s t : Bool) (z a b : ℤ) → (T t → T s) → T (inWorking r z) → T (inWorking r (z +ℤ a)) → T (inWorking r ((a +ℤ b) +ℤ z))
+      → T (inWorking r (z +ℤ (onlyWhere s a +ℤ onlyWhere t b)))
   edge-stays true true z a b f u v o = o ▸ simp flat (omega zs)
   edge-stays true false z a b f u v o = v ▸ simp flat (omega zs)
   edge-stays false true z a b f u v o = absurd (f tt)
   edge-stays false false z a b f u v o = u ▸ simp flat (omega zs)
 
-module _ {r : Rules} {c : Case} {w : List ℤ} {e : ℕ} (h : Handed r (workingWeight r) c w) (edge : e < c .m) where
+module _ {r : Rules} {c : Case} {w : List ℤ} {e : ℕ} (coherent : Coherent r) (h : Handed r (inWorking r) c w) (edge : e < c .m) where
   long : ownLength c ≤ length w
   long = omega (arith, h .long)
 
   -- the sums of the closed form
   in-sums : T (not (pairLeaves r c w e))
-      ↔ ((k l : ℕ) → IsTuple c (c .n + e) k l → T (workingWeight r (lowerAt c w e k l)) × T (workingWeight r (threeAt c w e k l)))
+      ↔ ((k l : ℕ) → IsTuple c (c .n + e) k l → T (inWorking r (lowerAt c w e k l)) × T (inWorking r (threeAt c w e k l)))
   in-sums = (
     λ n k l t. both k l .0 (none-below (tupleLeaves r c w e k) (c .d) .0 (none-below some-leaves (c .d) .0 n k (t .one)) l (t .two)),
     λ f. none-below some-leaves (c .d) .1 (λ k u. none-below (tupleLeaves r c w e k) (c .d) .1 (λ l v. both k l .1 (f k l (edge-tuple c e k l edge u v)))),
@@ -151,30 +175,32 @@ module _ {r : Rules} {c : Case} {w : List ℤ} {e : ℕ} (h : Handed r (workingW
       some-leaves : ℕ → Bool
       some-leaves k = any (tupleLeaves r c w e k) (values c)
 
-      both : (k l : ℕ) → T (not (tupleLeaves r c w e k l)) ↔ T (workingWeight r (lowerAt c w e k l)) × T (workingWeight r (threeAt c w e k l))
-      both k l = Iff·trans (not-not-iff (workingWeight r (lowerAt c w e k l) && workingWeight r (threeAt c w e k l)))
-          (and-iff (workingWeight r (lowerAt c w e k l)) (workingWeight r (threeAt c w e k l)))
+      both : (k l : ℕ) → T (not (tupleLeaves r c w e k l)) ↔ T (inWorking r (lowerAt c w e k l)) × T (inWorking r (threeAt c w e k l))
+      both k l = Iff·trans (not-not-iff (inWorking r (lowerAt c w e k l) && inWorking r (threeAt c w e k l)))
+          (and-iff (inWorking r (lowerAt c w e k l)) (inWorking r (threeAt c w e k l)))
 
   module _ (p q : ℕ) where
     abbrev table : List ℤ
     table = partRounded c w e p q
 
-    part-in-range : T (not (leavesRange r c table)) ↔ ((x k l : ℕ) → IsTuple c x k l → T (workingWeight r (weight c table x k l)))
-    part-in-range = Iff·trans (not-not-iff (allWeights (workingWeight r) c table))
-        (all-weights c (workingWeight r) table (omega (arith, long, plus-length c (partBy c w e p q) w long)))
+    part-long : ownLength c ≤ length table
+    part-long = omega (arith, long, plus-length c (partBy c w e p q) w long)
+
+    part-in-range : T (not (outOfRange r c table)) ↔ ((x k l : ℕ) → IsTuple c x k l → T (inWorking r (weight c table x k l)))
+    part-in-range = in-range-iff r c table part-long
 
     edge-is : {k l : ℕ} → IsTuple c (c .n + e) k l → weight c table (c .n + e) k l
         ≡ weight c w (c .n + e) k l +ℤ (onlyWhere (ltb k p) (weight c w (lowerEnd c e) k 0) +ℤ onlyWhere (ltb l q) (weight c w (upperEnd c e) l 0))
     edge-is {k} {l} t = weight-plus c (partBy c w e p q) w t ∙ ap (λ (z : ℤ). weight c w (c .n + e) k l +ℤ z) (part-edge c w e (h .shape) edge p q k l)
 
-    by-part : {x k l : ℕ} (t : IsTuple c x k l) {z : ℤ} → partBy c w e p q x k l ≡ z → T (workingWeight r (weight c w x k l +ℤ z))
-        → T (workingWeight r (weight c table x k l))
-    by-part {x} {k} {l} t o = subst (λ (y : ℤ). T (workingWeight r y)) (sym (weight-plus c (partBy c w e p q) w t
+    by-part : {x k l : ℕ} (t : IsTuple c x k l) {z : ℤ} → partBy c w e p q x k l ≡ z → T (inWorking r (weight c w x k l +ℤ z))
+        → T (inWorking r (weight c table x k l))
+    by-part {x} {k} {l} t o = subst (λ (y : ℤ). T (inWorking r y)) (sym (weight-plus c (partBy c w e p q) w t
         ∙ ap (λ (z : ℤ). weight c w x k l +ℤ z) o))
 
     -- where no sum leaves the range, no table on the way does
-    part-stays : T (not (pairLeaves r c w e)) → ((k l : ℕ) → k < c .d → l < q → k < p) → T (not (leavesRange r c table))
-    part-stays n first = part-in-range .1 (by-pair c e (λ x. (k l : ℕ) → IsTuple c x k l → T (workingWeight r (weight c table x k l)))
+    part-stays : T (not (pairLeaves r c w e)) → ((k l : ℕ) → k < c .d → l < q → k < p) → T (not (outOfRange r c table))
+    part-stays n first = part-in-range .1 (by-pair c e (λ x. (k l : ℕ) → IsTuple c x k l → T (inWorking r (weight c table x k l)))
         (λ k l t.
         let u = lower-tuple c (h .shape) e edge (t .one) in
         rw (t .alone (omega (arith, h .shape .ascending e edge, h .shape .below-n e edge)))
@@ -190,13 +216,13 @@ module _ {r : Rules} {c : Case} {w : List ℤ} {e : ℕ} (h : Handed r (workingW
         (λ x a b g k l t. by-part t (part-else c w e p q x k l a b g) (rw (+ℤ-idr (weight c w x k l)) (h .in-range x k l t))))
 
   -- each sum stands in a table on the way
-  lower-sum : {k l : ℕ} → IsTuple c (c .n + e) k l → T (not (leavesRange r c (partRounded c w e (suc k) 0))) → T (workingWeight r (lowerAt c w e k l))
+  lower-sum : {k l : ℕ} → IsTuple c (c .n + e) k l → T (not (outOfRange r c (partRounded c w e (suc k) 0))) → T (inWorking r (lowerAt c w e k l))
   lower-sum {k} {l} t n =
       part-in-range (suc k) 0 .0 n (c .n + e) k l t ▸ edge-is (suc k) 0 t
       ▸ if-true (weight c w (lowerEnd c e) k 0) (pos 0) (ltb k (suc k)) (simp tests (omega arith))
       ▸ if-false (weight c w (upperEnd c e) l 0) (pos 0) (ltb l 0) (simp tests (omega arith)) ▸ simp flat (omega zs)
 
-  whole-sum : {k l : ℕ} → IsTuple c (c .n + e) k l → T (not (leavesRange r c (partRounded c w e (c .d) (suc l)))) → T (workingWeight r (threeAt c w e k l))
+  whole-sum : {k l : ℕ} → IsTuple c (c .n + e) k l → T (not (outOfRange r c (partRounded c w e (c .d) (suc l)))) → T (inWorking r (threeAt c w e k l))
   whole-sum {k} {l} t n =
       part-in-range (c .d) (suc l) .0 n (c .n + e) k l t ▸ edge-is (c .d) (suc l) t
       ▸ if-true (weight c w (lowerEnd c e) k 0) (pos 0) (ltb k (c .d)) (simp tests (t .one))
@@ -204,10 +230,10 @@ module _ {r : Rules} {c : Case} {w : List ℤ} {e : ℕ} (h : Handed r (workingW
 
   -- ---- the round
   abbrev lowerLeaves : ℕ → Bool
-  lowerLeaves k = leavesRange r c (partRounded c w e (suc k) 0)
+  lowerLeaves k = outOfRange r c (partRounded c w e (suc k) 0)
 
   abbrev upperLeaves : ℕ → Bool
-  upperLeaves l = leavesRange r c (partRounded c w e (c .d) (suc l))
+  upperLeaves l = outOfRange r c (partRounded c w e (c .d) (suc l))
 
   leaves-same : (any lowerLeaves (values c) || any upperLeaves (values c)) ≡ pairLeaves r c w e
   leaves-same = same-denied _ _ (
@@ -220,21 +246,18 @@ module _ {r : Rules} {c : Case} {w : List ℤ} {e : ℕ} (h : Handed r (workingW
     ),
   )
 
-  lower-end : T (not (any lowerLeaves (values c))) → T (not (leavesRange r c (partRounded c w e (c .d) 0)))
-  lower-end t = last-of (λ k. leavesRange r c (partRounded c w e k 0)) (c .d) (h .shape .some-value) t
-
-  start-in-range : T (not (leavesRange r c w))
-  start-in-range = not-not-iff (allWeights (workingWeight r) c w) .1 (all-weights c (workingWeight r) w long .1 (h .in-range))
+  lower-end : T (not (any lowerLeaves (values c))) → T (not (outOfRange r c (partRounded c w e (c .d) 0)))
+  lower-end t = last-of (λ k. outOfRange r c (partRounded c w e k 0)) (c .d) (h .shape .some-value) t
 
   pub after-pair : afterMoves r c (pairRound c w e) w ≡ (if pairLeaves r c w e then none else some (pairRounded c w e))
   after-pair =
       ap (afterMoves r c (pairRound c w e)) (sym (none-yet c w e long))
-      ∙ after-whole r c w e 0 (λ k. partRounded c w e k 0) (lower-step c w e 0) (lower-stay c w e 0) (endShifts c w e 1) (c .d)
-      (rw (none-yet c w e long) start-in-range)
+      ∙ after-whole coherent c w e 0 (λ k. partRounded c w e k 0) (λ k. part-long k 0) (lower-step c w e 0) (lower-stay c w e 0) (endShifts c w e 1) (c .d)
+      (rw (none-yet c w e long) (in-range-iff r c w long .1 (h .in-range)))
       ∙ onward (any lowerLeaves (values c)) (any upperLeaves (values c)) none (afterMoves r c (endShifts c w e 1) (partRounded c w e (c .d) 0))
       (some (pairRounded c w e)) (λ t.
       ap (λ (l : List Move). afterMoves r c l (partRounded c w e (c .d) 0)) (sym (append-nil (endShifts c w e 1)))
-      ∙ after-whole r c w e 1 (partRounded c w e (c .d)) (upper-step c w e (c .d)) (upper-stay c w e (c .d)) [] (c .d) (lower-end t))
+      ∙ after-whole coherent c w e 1 (partRounded c w e (c .d)) (part-long (c .d)) (upper-step c w e (c .d)) (upper-stay c w e (c .d)) [] (c .d) (lower-end t))
       ∙ ap (λ (b : Bool). if b then none else some (pairRounded c w e)) leaves-same
 
   pub passed-over-is : passedOver r c w e ≡ pairLeaves r c w e
@@ -256,13 +279,13 @@ shifts-allowed : (r : Rules) (c : Case) {w u : List ℤ} (moves : List Move) →
 shifts-allowed r c {w} {u} [] f o = subst (AllAllowed r c w []) (some-inj o) no-move
 shifts-allowed r c {w} {u} (shift e end v a ∷ moves) f o =
     let (m, s, k, t) = f (shift e end v a) (List·Memᴰ·head refl) in
-    let (n, q) = found-else (leavesRange r c (moved c (shift e end v a) w)) (afterMoves r c moves (moved c (shift e end v a) w)) o in
+    let (n, q) = found-else (leavesRange r c w (moved c (shift e end v a) w)) (afterMoves r c moves (moved c (shift e end v a) w)) o in
     one-more {move = shift e end v a} (record { edge = m; side = s; value = k; amount = t; in-range = n })
     (shifts-allowed r c moves (λ move k. f move (List·Memᴰ·tail k)) q)
 shifts-allowed r c (press i lowered raised a ∷ moves) f o = absurd (f (press i lowered raised a) (List·Memᴰ·head refl))
 
-module _ {r : Rules} {c : Case} {w : List ℤ} {e : ℕ} (coherent : Coherent r) (h : Handed r (workingWeight r) c w) (edge : e < c .m) where
-  whole-amount : (z : ℤ) → T (workingWeight r z) → T (not (eqZ z (pos 0))) → T (shiftAmount r (negℤ z))
+module _ {r : Rules} {c : Case} {w : List ℤ} {e : ℕ} (coherent : Coherent r) (h : Handed r (inWorking r) c w) (edge : e < c .m) where
+  whole-amount : (z : ℤ) → T (inWorking r z) → T (not (eqZ z (pos 0))) → T (shiftAmount r (negℤ z))
   whole-amount z t n = t ▸ n ▸ coherent .difference ▸ simp flat (omega (zs, neg z))
 
   end-tuple : (end v : ℕ) → v < c .d → IsTuple c (endVariable c e end) v 0
@@ -289,7 +312,7 @@ module _ {r : Rules} {c : Case} {w : List ℤ} {e : ℕ} (coherent : Coherent r)
   pair-allowed n =
       shifts-allowed r c (pairRound c w e) (λ move m. ⊎-elim (end-shifts 0 (omega arith) move) (end-shifts 1 (omega arith) move)
       (List·Memᴰ·append-cases (endShifts c w e 0) m))
-      (after-pair h edge ∙ if-false none (some (pairRounded c w e)) (pairLeaves r c w e) (rw (passed-over-is h edge) at n))
+      (after-pair coherent h edge ∙ if-false none (some (pairRounded c w e)) (pairLeaves r c w e) (rw (passed-over-is coherent h edge) at n))
 
 -- ---- the lines of the round
 module _ (c : Case) (w : List ℤ) (e : ℕ) where

@@ -1,2 +1,2 @@
--- The number in a figure.
-pub mod Values
+-- The total in a figure.
+pub mod Totals

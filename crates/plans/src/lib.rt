@@ -1,36 +1,17 @@
-// Scoring: of two lent assignments (plans), the one with the greater objective under starting weights (document 01, "Lines").
+// Scoring: of two lent assignments (plans), the one with the greater objective under starting weights (document 01, "Lines"). Unlawful ones have
+// none, and are all level, below the lawful (document 02, change 2).
 use definitions::Case;
 use definitions::Choice;
 use definitions::Figure;
 use definitions::Outcome;
 ghost use mathlib.Core.Path.{_≡_};
-ghost use lib.Dec.{T};
+ghost use mathlib.Core.Option.{some};
 ghost use lib.Signed.{ltZ};
 ghost use Rattle.integers.specs.Words.{if_then_else_};
 ghost use Rattle.definitions.specs.Rules.{rulesOf};
 ghost use Rattle.definitions.specs.Answers.{choiceSays};
-ghost use Rattle.definitions.specs.Case.{objective, isAssignment};
-ghost use Rattle.definitions.specs.Scoring.{betterOf, better as betterPart};
-ghost use Rattle.theory.proofs.Validity.{Valid};
-ghost use Rattle.plans.specs.Values.{valueIn};
-
-// The figure's value; 0 where it was refused.
-fn value_in(figure: Figure) -> i64
-    ensures { λ r. ⌜ r ≡ valueIn figure ⌝ }
-{
-    match figure {
-        Figure::Value(value) => value,
-        Figure::Refused(_) => 0,
-    }
-}
-
-fn objective_of(case: Case, table: &[i64], assignment: &[u8]) -> i64
-    requires { ⌜ Valid (rulesOf case) case (now table) ⌝ }
-    requires { ⌜ T (isAssignment case (now assignment)) ⌝ }
-    ensures { λ r. ⌜ r ≡ objective case (now (table .entry)) (now (assignment .entry)) ⌝ }
-{
-    value_in(figures::objective(case, table, assignment))
-}
+ghost use Rattle.definitions.specs.Scoring.{ranksBelow, betterOf, better as betterPart};
+ghost use Rattle.plans.specs.Totals.{totalIn};
 
 fn greater(first: i64, second: i64) -> Choice
     ensures { λ r. ⌜ r ≡ (if ltZ first second then Choice.Second else Choice.First) ⌝ }
@@ -39,6 +20,26 @@ fn greater(first: i64, second: i64) -> Choice
         Choice::Second
     } else {
         Choice::First
+    }
+}
+
+// The second has a total.
+fn against(first: Figure, second: i64) -> Choice
+    ensures { λ r. ⌜ r ≡ (if ranksBelow (totalIn first) (some second) then Choice.Second else Choice.First) ⌝ }
+{
+    match first {
+        Figure::Value(total) => greater(total, second),
+        Figure::Refused(_) => Choice::Second,
+    }
+}
+
+// By totals; a plan whose total is refused ranks below one that has a total.
+fn ranked(first: Figure, second: Figure) -> Choice
+    ensures { λ r. ⌜ r ≡ (if ranksBelow (totalIn first) (totalIn second) then Choice.Second else Choice.First) ⌝ }
+{
+    match second {
+        Figure::Value(total) => against(first, total),
+        Figure::Refused(_) => Choice::First,
     }
 }
 
@@ -53,9 +54,9 @@ pub fn better_of(case: Case, table: &[i64], first: &[u8], second: &[u8]) -> Choi
     let checked = tables::check_starting(case, table, wrong, out);
     match checked {
         Outcome::Refused(refusal) => Choice::Refused(refusal),
-        Outcome::Done => greater(
-            objective_of(case, table, first),
-            objective_of(case, table, second),
+        Outcome::Done => ranked(
+            figures::objective(case, table, first),
+            figures::objective(case, table, second),
         ),
     }
 }

@@ -2,9 +2,9 @@
 -- upper bound falls by exactly the amount. No weight falls by more, and none passes its scope's new greatest weight. Assumes nothing.
 use mathlib.Core.Path.{_≡_, refl, sym, ap, ap₂, _∙_}
 use mathlib.Core.Bool.{Bool, true, false, not, _&&_, _||_}
-use mathlib.Core.Option.{some}
+use mathlib.Core.Option.{none, some}
 use mathlib.Core.Logic.{⊎-elim}
-use mathlib.Core.List.{List, _∷_, List·Memᴰ·head, List·Memᴰ·tail}
+use mathlib.Core.List.{List, [], _∷_, List·Memᴰ·head, List·Memᴰ·tail}
 use Prim.Native.Nat.{ℕ, _<_}
 use native.Mathlib.Omega.{arith}
 use lib.IntN.{ℤ, pos, negℤ, _+ℤ_, _-ℤ_}
@@ -17,10 +17,12 @@ use Rattle.integers.specs.Lists.{_∈_, isIn-in}
 use Rattle.integers.specs.Sums.{Σ-cong, Σ-sub, Σ-only, only}
 use Rattle.definitions.specs.declared.Case.{Case}
 use Rattle.definitions.specs.Case.{scopeCount, weight, greatest, upperBound, active}
-use Rattle.definitions.specs.Moves.{onlyWhere, activePress, moved, pressBy, activeValues}
+use Rattle.definitions.specs.Rules.{Rules}
+use Rattle.definitions.specs.Moves.{onlyWhere, activePress, moved, plus, pressBy, activeValues, leavesRange, afterMoves}
 use Rattle.definitions.specs.Engine.{chosen, keptScopes, leastGap}
 use Rattle.theory.proofs.Shape.{Shape}
 use Rattle.theory.proofs.Places.{IsTuple, first-tuple, weight-plus, weight-most, greatest-at, greatest-there}
+use Rattle.theory.proofs.Barred.{Free, free-spared}
 use Rattle.press_theory.proofs.Trim.{chosen-some, kept-scopes}
 use Rattle.press_theory.proofs.Gaps.{amount-some, amount-room}
 
@@ -39,9 +41,17 @@ and-same : (s : Bool) {f g : Bool} → (T s → f ≡ g) → (s && f) ≡ (s && 
 and-same true h = h tt
 and-same false h = refl
 
--- the table after it
+-- the table after it, where no tuple is barred
 abbrev pub enginePressed : Case → List ℤ → ℕ → ℤ → List ℤ
-enginePressed c w i a = moved c (activePress c w i (keptScopes c w i) a) w
+enginePressed c w i a = plus c (pressBy c w i (activeValues c w i) (isIn (keptScopes c w i)) a) w
+
+module _ (c : Case) (w : List ℤ) (free : Free c w) (i : ℕ) (a : ℤ) where
+  pub pressed-moved : moved c (activePress c w i (keptScopes c w i) a) w ≡ enginePressed c w i a
+  pressed-moved = free-spared c w free (pressBy c w i (activeValues c w i) (isIn (keptScopes c w i)) a)
+
+  pub after-press : (r : Rules) → afterMoves r c (activePress c w i (keptScopes c w i) a ∷ []) w
+      ≡ (if leavesRange r c w (enginePressed c w i a) then none else some (enginePressed c w i a))
+  after-press r = ap (λ (v : List ℤ). if leavesRange r c w v then none else some v) pressed-moved
 
 module _ (c : Case) (w : List ℤ) {i : ℕ} {a : ℤ} (shape : Shape c) (which : chosen c w ≡ some i) (least : leastGap c w i ≡ some a) where
   limits : (x : ℕ) → T (eqb x i || isIn (keptScopes c w i) x) → x ∈ (i ∷ keptScopes c w i)

@@ -19,7 +19,7 @@ use Rattle.integers.specs.Maxima.{greatest-above, greatest-attained, least-belo
 use Rattle.definitions.specs.declared.Case.{Case}
 use Rattle.definitions.specs.Rules.{Rules}
 use Rattle.definitions.specs.Case.{scopeCount, weight, greatest, active}
-use Rattle.definitions.specs.Valid.{workingWeight}
+use Rattle.definitions.specs.Valid.{inWorking}
 use Rattle.definitions.specs.Moves.{Move, activePress}
 use Rattle.definitions.specs.Engine.{chosen, keptScopes, inactiveWeights, gapAbove, gap, leastGap, nothing, round, pressesNext, pressNext, pressRound}
 use Rattle.theory.proofs.Shape.{Shape}
@@ -106,7 +106,7 @@ module _ (c : Case) (w : List ℤ) {i : ℕ} (shape : Shape c) (which : chosen c
     unfolding gaps
     amount-room m u t = let (y, n, h) = gap-in c w u t in least-below gaps e (gaps-in m n) ▸ h ▸ simp flat (omega zs)
 
-    pub amount-most : (r : Rules) → ((x k l : ℕ) → IsTuple c x k l → T (workingWeight r (weight c w x k l))) → a ≤ℤ pos (2 * r .working)
+    pub amount-most : (r : Rules) → ((x k l : ℕ) → IsTuple c x k l → T (inWorking r (weight c w x k l))) → a ≤ℤ pos (2 * r .working)
     amount-most r within =
         let (x, k, l, m, u, q, d) = amount-reached in
         let (k', l', v, g) = greatest-at c w u in

@@ -6,8 +6,10 @@ use mathlib.Core.List.{List}
 use Prim.Native.Nat.{ℕ, _-_}
 use lib.IntN.{ℤ}
 use lib.Dec.{eqb, ltb}
+use native.Mathlib.Omega.{arith}
 use lib.ListN.{length}
-use Rattle.integers.specs.Words.{if_then_else_}
+use lib.Seq.{take-all}
+use Rattle.integers.specs.Words.{if_then_else_, any}
 use Rattle.definitions.specs.declared.Rulebook.{Rulebook}
 use Rattle.definitions.specs.declared.Case.{Case}
 use Rattle.definitions.specs.declared.CaseRead.{CaseRead}
@@ -20,16 +22,19 @@ use Rattle.definitions.specs.declared.Written.{Written}
 use Rattle.definitions.specs.Rules.{Rules, rulesOf}
 use Rattle.calls.specs.Calls.{writtenOf}
 use Rattle.definitions.specs.CaseFiles.{CaseCall, caseOf, caseSize, readCaseAlone}
+use Rattle.definitions.specs.Case.{ownLength, isBarred}
 use Rattle.definitions.specs.Moves.{Move, afterMoves}
-use Rattle.definitions.specs.Engine.{Next, nothing, round, engineNext, madeOf, makeNext}
+use Rattle.definitions.specs.Engine.{Next, nothing, round, someBarred, engineNext, madeOf, makeNext}
 use Rattle.calls.specs.EngineCalls.{RoundCall, RunCall, isLeaving, answerAtLimit, roundMade, engineRefusal, roundCall, runCall}
 use Rattle.definitions.specs.Programs.{pressLimit}
+use Rattle.theory.proofs.Validity.{valid-facts}
+use Rattle.case_theory.proofs.CaseTexts.{written-read-alone}
 use Rattle.engine_theory.proofs.Calls.{call-taken, run-refused}
 use Rattle.texts.specs.Texts.{textRoom, writeRefusedCall}
 use Rattle.pressing.specs.declared.Pressing.{Pressing}
 use Rattle.pressing.specs.declared.Pressed.{Pressed}
 use Rattle.pressing.specs.Pressing.{PressingCall, withLeft, afterText, pressRefusal, afterRound}
-use Rattle.pressing.specs.Pressing.{headOrShort, afterCase, startPressing, roundNext, nextPressing}
+use Rattle.pressing.specs.Pressing.{headOrShort, freeOnly, afterCase, startPressing, roundNext, nextPressing}
 
 abbrev toPressed : Pressing → Written → Pressed
 toPressed p x = record { pressing = p; written = x }
@@ -117,34 +122,53 @@ module _ (p : Pressing) (w : List ℤ) (out : List ℕ) where
   next-is e = sym (ap (λ (b : Bool). if b then idle else roundNext p w out) e)
 
 -- ---- the start
-module _ (book : Rulebook) (t : List ℕ) (w : List ℤ) (out : List ℕ) where
-  abbrev unread : PressingCall
-  unread = record {
-    pressed = toPressed (record { case = caseOf book 0 0 0; lines = 0; left = 0 }) (Written.Refused (headOrShort (caseSize book t)));
-    table =
-        w;
-    out = out;
-  }
+module _ (book : Rulebook) (t : List ℕ) (w : List ℤ) where
+  abbrev call : CaseCall
+  call = readCaseAlone book t w
 
-  abbrev begun : PressingCall
-  begun = afterCase out (readCaseAlone book t w) (readCaseAlone book t w .read .answer)
+  abbrev asked : FileAnswer
+  asked = freeOnly (someBarred (call .read .case) (call .table)) (call .read .answer)
 
-  pub start-is : {b : Bool} → ltb (length out) textRoom ≡ b → (if b then unread else begun) ≡ startPressing book t w out
-  unfolding startPressing
-  start-is e = sym (ap (λ (b : Bool). if b then unread else begun) e)
+  -- of a case that was read, the whole table is its own
+  asked-whole : freeOnly (any isBarred (call .table)) (call .read .answer) ≡ asked
+  asked-whole = go (call .read .answer) refl
+    where
+      go : (a : FileAnswer) → call .read .answer ≡ a → freeOnly (any isBarred (call .table)) a ≡ freeOnly (someBarred (call .read .case) (call .table)) a
+      go (FileAnswer.Refused x at) e = refl
+      go (FileAnswer.Read lines) e =
+          let c : Case = call .read .case in
+          let h = valid-facts (rulesOf c) c (call .table) (written-read-alone book t w e .accepted) in
+          ap (λ (v : List ℤ). freeOnly (any isBarred v) (FileAnswer.Read lines)) (sym (take-all (ownLength c) (call .table) (omega (arith, h .long))))
 
-module _ (out : List ℕ) (call : CaseCall) {read : CaseRead} {v : List ℤ} (told : (read ≡ call .read) × (v ≡ call .table)) where
-  pub start-refused : {x : Refusal} {at : ℕ} → read .answer ≡ FileAnswer.Refused x at
-      → {y : Written} {bytes : List ℕ} → (y ≡ writeRefusedCall out x at .answer) × (bytes ≡ writeRefusedCall out x at .out)
-      → Leaves (toPressed (record { case = read .case; lines = at; left = 0 }) y) v bytes (afterCase out call (call .read .answer))
-  start-refused {x} {at} e (a, o) =
-      let (p, q) = told in
-      same-pressing (ap (afterCase out call) (sym e ∙ ap (λ (k : CaseRead). k .answer) p))
-      (ap₂ (λ (k : CaseRead) (z : Written). toPressed (record { case = k .case; lines = at; left = 0 }) z) p a, q, o)
+  module _ (out : List ℕ) where
+    abbrev unread : PressingCall
+    unread = record {
+      pressed = toPressed (record { case = caseOf book 0 0 0; lines = 0; left = 0 }) (Written.Refused (headOrShort (caseSize book t)));
+      table =
+          w;
+      out = out;
+    }
 
-  pub start-read : {lines : ℕ} → read .answer ≡ FileAnswer.Read lines
-      → Leaves (toPressed (record { case = read .case; lines = lines; left = pressLimit }) (Written.Bytes 0)) v out (afterCase out call (call .read .answer))
-  start-read {lines} e =
-      let (p, q) = told in
-      same-pressing (ap (afterCase out call) (sym e ∙ ap (λ (k : CaseRead). k .answer) p))
-      (ap (λ (k : CaseRead). toPressed (record { case = k .case; lines = lines; left = pressLimit }) (Written.Bytes 0)) p, q, refl)
+    pub start-is : {b : Bool} → ltb (length out) textRoom ≡ b → (if b then unread else afterCase out call asked) ≡ startPressing book t w out
+    unfolding startPressing
+    start-is e = sym (ap (λ (b : Bool). if b then unread else afterCase out call asked) e)
+
+    module _ {read : CaseRead} {v : List ℤ} (told : (read ≡ call .read) × (v ≡ call .table))
+        {a : FileAnswer} (free : a ≡ freeOnly (any isBarred v) (read .answer)) where
+      asked-is : a ≡ asked
+      asked-is = let (p, q) = told in free ∙ ap₂ (λ (l : List ℤ) (k : CaseRead). freeOnly (any isBarred l) (k .answer)) q p ∙ asked-whole
+
+      pub start-refused : {x : Refusal} {at : ℕ} → a ≡ FileAnswer.Refused x at
+          → {y : Written} {bytes : List ℕ} → (y ≡ writeRefusedCall out x at .answer) × (bytes ≡ writeRefusedCall out x at .out)
+          → Leaves (toPressed (record { case = read .case; lines = at; left = 0 }) y) v bytes (afterCase out call asked)
+      start-refused {x} {at} e (y, o) =
+          let (p, q) = told in
+          same-pressing (ap (afterCase out call) (sym e ∙ asked-is))
+          (ap₂ (λ (k : CaseRead) (z : Written). toPressed (record { case = k .case; lines = at; left = 0 }) z) p y, q, o)
+
+      pub start-read : {lines : ℕ} → a ≡ FileAnswer.Read lines
+          → Leaves (toPressed (record { case = read .case; lines = lines; left = pressLimit }) (Written.Bytes 0)) v out (afterCase out call asked)
+      start-read {lines} e =
+          let (p, q) = told in
+          same-pressing (ap (afterCase out call) (sym e ∙ asked-is))
+          (ap (λ (k : CaseRead). toPressed (record { case = k .case; lines = lines; left = pressLimit }) (Written.Bytes 0)) p, q, refl)

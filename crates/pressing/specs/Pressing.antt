@@ -1,4 +1,5 @@
 -- The program `press` as a start and rounds one after another, on all input. Assumes nothing.
+use mathlib.Core.Bool.{Bool}
 use mathlib.Core.List.{List}
 use Prim.Native.Nat.{ℕ, _-_}
 use lib.IntN.{ℤ}
@@ -9,14 +10,14 @@ use Rattle.definitions.specs.declared.CaseSize.{CaseSize}
 use Rattle.definitions.specs.declared.FileAnswer.{FileAnswer}
 use Rattle.definitions.specs.declared.Rulebook.{Rulebook}
 use Rattle.definitions.specs.declared.Refusal.{Refusal}
-use Rattle.definitions.specs.declared.Refusal.the-variants.{WrongLength}
+use Rattle.definitions.specs.declared.Refusal.the-variants.{WrongLength, WeightOutOfRange}
 use Rattle.definitions.specs.declared.Round.{Round}
 use Rattle.definitions.specs.declared.Written.{Written}
 use Rattle.definitions.specs.Rules.{rulesOf}
 use Rattle.definitions.specs.Refusals.{number}
 use Rattle.calls.specs.Calls.{WriteCall, writtenOf}
 use Rattle.definitions.specs.CaseFiles.{CaseCall, caseOf, caseSize, readCaseAlone}
-use Rattle.definitions.specs.Engine.{engineNext}
+use Rattle.definitions.specs.Engine.{someBarred, engineNext}
 use Rattle.calls.specs.EngineCalls.{RoundCall, isLeaving, engineRefusal, roundCall}
 use Rattle.definitions.specs.Programs.{pressLimit}
 use Rattle.texts.specs.Texts.{textRoom, writeRefusedCall}
@@ -59,6 +60,11 @@ abbrev pub headOrShort : CaseSize → Refusal
 headOrShort (CaseSize.Refused x) = shortOr x
 headOrShort (CaseSize.Size n d m long) = WrongLength
 
+-- `press` takes no barred tuples: a case with some is refused by 8, at the line after its last
+abbrev pub freeOnly : Bool → FileAnswer → FileAnswer
+freeOnly some (FileAnswer.Refused x at) = FileAnswer.Refused x at
+freeOnly some (FileAnswer.Read lines) = if some then FileAnswer.Refused WeightOutOfRange lines else FileAnswer.Read lines
+
 -- a refused case is printed and nothing more is due; after a case that was read, up to 100,000 rounds
 abbrev pub afterCase : List ℕ → CaseCall → FileAnswer → PressingCall
 afterCase out call (FileAnswer.Refused x at) =
@@ -85,7 +91,7 @@ startPressing b t w out =
     }
     else (
     let call : CaseCall = readCaseAlone b t w in
-    afterCase out call (call .read .answer)
+    afterCase out call (freeOnly (someBarred (call .read .case) (call .table)) (call .read .answer))
     )
 
 abbrev pub roundNext : Pressing → List ℤ → List ℕ → PressingCall

@@ -12,6 +12,8 @@ use definitions::Written;
 ghost use mathlib.Core.Path.{_≡_};
 ghost use Prim.Native.Nat.{_<_};
 ghost use lib.ListN.{length};
+ghost use Rattle.integers.specs.Words.{any};
+ghost use Rattle.definitions.specs.Case.{isBarred};
 ghost use Rattle.definitions.specs.declared.Rulebook.the-variants.{Desk};
 ghost use Rattle.definitions.specs.Rules.{rulesOf};
 ghost use Rattle.definitions.specs.CaseFiles.{caseOf, caseSize};
@@ -19,7 +21,7 @@ ghost use Rattle.calls.specs.Calls.{writtenOf};
 ghost use Rattle.definitions.specs.Engine.{engineNext};
 ghost use Rattle.calls.specs.EngineCalls.{isLeaving, engineRefusal};
 ghost use Rattle.definitions.specs.Programs.{tableFor};
-ghost use Rattle.pressing.specs.Pressing.{withLeft, afterText, pressRefusal, shortOr, headOrShort, startPressing, roundNext, nextPressing};
+ghost use Rattle.pressing.specs.Pressing.{withLeft, afterText, pressRefusal, shortOr, headOrShort, freeOnly, startPressing, roundNext, nextPressing};
 
 // An output must have so many bytes for a text.
 const ROOM: usize = 64;
@@ -170,6 +172,24 @@ fn head_or_short(bytes: &[u8]) -> Refusal
     }
 }
 
+// A case with barred tuples is refused by 8, at the line after its last.
+fn free_only(answer: FileAnswer, table: &[i64]) -> FileAnswer
+    ensures { λ r. ⌜ r ≡ freeOnly (any isBarred (now (table .entry))) answer ⌝ }
+{
+    match answer {
+        FileAnswer::Refused { refusal, line } => FileAnswer::Refused { refusal, line },
+        FileAnswer::Read { lines } => {
+            if tables::some_barred(table) {
+                return FileAnswer::Refused {
+                    refusal: Refusal::WeightOutOfRange,
+                    line: lines,
+                };
+            }
+            FileAnswer::Read { lines }
+        }
+    }
+}
+
 // ---- the calls
 
 // The length of the table to lend: what the head of the case asks for.
@@ -207,7 +227,8 @@ pub fn start(bytes: &[u8], table: &mut [i64], out: &mut [u8]) -> Pressed
     }
     let read = casefile::read_case_alone(bytes, table);
     let case = read.case;
-    let answer = read.answer;
+    let found = read.answer;
+    let answer = free_only(found, table);
     match answer {
         FileAnswer::Refused { refusal, line } => {
             let written = texts::write_refused(out, refusal, line);

@@ -1,6 +1,6 @@
--- How many rounds are left: from any table each round leaves fewer. The count is the number of inactive tuples, and 1 + D² for each edge whose
--- variables have not yet all values active. A press keeps what is active and makes one more tuple active. A pair's round makes all values of
--- both variables active, which they were not, and at most the D² tuples of its edge inactive. Assumes nothing.
+-- How many rounds are left: from any table that the engine takes each round leaves fewer. The count is the number of inactive tuples, and
+-- 1 + D² for each edge whose variables have not yet all values active. A press keeps what is active and makes one more tuple active. A pair's
+-- round makes all values of both variables active, which they were not, and at most the D² tuples of its edge inactive. Assumes nothing.
 use mathlib.Core.Path.{_≡_, sym, ap, subst, _∙_}
 use mathlib.Core.Bool.{Bool, true, false, not, _&&_}
 use mathlib.Core.Option.{none, some}
@@ -16,8 +16,8 @@ use Rattle.integers.specs.Options.{some-inj, found-else}
 use Rattle.integers.specs.Lists.{all-at, all-of}
 use Rattle.definitions.specs.declared.Case.{Case}
 use Rattle.definitions.specs.Case.{lowerEnd, upperEnd, active}
-use Rattle.definitions.specs.Rules.{Rules}
-use Rattle.definitions.specs.Valid.{workingWeight}
+use Rattle.definitions.specs.Rules.{Rules, Coherent}
+use Rattle.definitions.specs.Valid.{inWorking}
 use Rattle.definitions.specs.Moves.{Move, leavesRange, afterMoves}
 use Rattle.definitions.specs.PairRounds.{gains}
 use Rattle.definitions.specs.Engine.{chosen, leastGap, round, engineNext, pairsNext}
@@ -25,10 +25,11 @@ use Rattle.theory.proofs.Shape.{Shape}
 use Rattle.theory.proofs.Places.{IsTuple, by-tuple, variable-tuple, edge-tuple, active-weight, some-active}
 use Rattle.theory.proofs.Validity.{Handed}
 use Rattle.pair_theory.specs.Closed.{pairLeaves}
+use Rattle.pair_theory.proofs.Inside.{none-barred}
 use Rattle.pair_theory.proofs.Gains.{active-choice, lowest-some}
 use Rattle.pair_theory.proofs.Rounded.{pairRounded, by-pair, rounded-lower, rounded-upper, rounded-else, greatest-lower, greatest-upper, greatest-else}
 use Rattle.pair_theory.proofs.Passing.{after-pair}
-use Rattle.press_theory.proofs.Fall.{enginePressed}
+use Rattle.press_theory.proofs.Fall.{enginePressed, after-press}
 use Rattle.reach_theory.proofs.Next.{engine-next-is, pairs-are-next}
 use Rattle.reach_theory.proofs.Kept.{active-kept, one-more-active}
 use Rattle.reach_theory.specs.Most.{mostRounds}
@@ -215,16 +216,16 @@ leads : (c : Case) (w : List ℤ) {v : List ℤ} (b : Bool) (u : List ℤ) → (
     → roundsLeft c v < roundsLeft c w
 leads c w b u e = subst (λ (u : List ℤ). roundsLeft c u < roundsLeft c w) (some-inj (found-else b (some u) e .1))
 
-module _ {r : Rules} {c : Case} {w v : List ℤ} {moves : List Move} (handed : Handed r (workingWeight r) c w) where
+module _ {r : Rules} {c : Case} {w v : List ℤ} {moves : List Move} (coherent : Coherent r) (handed : Handed r (inWorking r) c w) where
   pub left-less : engineNext r c w ≡ round moves → afterMoves r c moves w ≡ some v → roundsLeft c v < roundsLeft c w
   left-less d to = ⊎-elim
       (λ (e, o, q).
       let (h, t, n) = lowest-some r c w o in
-      leads c w (pairLeaves r c w e) (pairRounded c w e) (sym (after-pair handed h) ∙ sym (ap (λ l. afterMoves r c l w) q) ∙ to)
+      leads c w (pairLeaves r c w e) (pairRounded c w e) (sym (after-pair coherent handed h) ∙ sym (ap (λ l. afterMoves r c l w) q) ∙ to)
       (pair-less c w e (handed .shape) h t))
       (λ (o, i, a, f, g, q).
-      leads c w (leavesRange r c (enginePressed c w i a)) (enginePressed c w i a) (sym (ap (λ l. afterMoves r c l w) q) ∙ to)
-      (press-less c w (handed .shape) f g))
+      leads c w (leavesRange r c w (enginePressed c w i a)) (enginePressed c w i a)
+      (sym (after-press c w (none-barred coherent handed) i a r) ∙ sym (ap (λ l. afterMoves r c l w) q) ∙ to) (press-less c w (handed .shape) f g))
       (engine-next-is r c w d)
 
   -- in a run of pair rounds only

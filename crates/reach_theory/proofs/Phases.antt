@@ -1,8 +1,8 @@
--- Number 11 never meets the engine from starting weights, and no pair that gains is passed over there. Let U be the starting limit,
--- s the number of scopes and R the sum of the scopes' spreads. Early, before the first press, a variable's weights are within U, and so are an
--- edge's until its own round, which leaves them within 3·U and its variables at 0; so no round meets the range, and a press comes only where no
--- pair gains. Late, from then on, no pair gains any more; R is 2·s·U at most and falls by a press's amount, and the amounts are all that takes
--- the variables' weights below −U. So every weight stays between −(2·s + 1)·U and 3·U. Assumes nothing.
+-- Number 11 never meets the engine from starting weights, no tuple barred, and no pair that gains is passed over there. Let U be the starting
+-- limit, s the number of scopes and R the sum of the scopes' spreads. Early, before the first press, a variable's weights are within U, and so
+-- are an edge's until its own round, which leaves them within 3·U and its variables at 0; so no round meets the range, and a press comes only
+-- where no pair gains. Late, from then on, no pair gains any more; R is 2·s·U at most and falls by a press's amount, and the amounts are all
+-- that takes the variables' weights below −U. So every weight stays between −(2·s + 1)·U and 3·U. Assumes nothing.
 use mathlib.Core.Path.{_≡_, refl, sym, ap, subst, _∙_}
 use mathlib.Core.Bool.{Bool, not}
 use mathlib.Core.Option.{Option, none, some}
@@ -15,29 +15,32 @@ use lib.IntN.{ℤ, pos, _+ℤ_, _-ℤ_}
 use lib.Dec.{T, T-not, not-T, eqb, eqb→eq}
 use lib.Signed.{_≤ℤ_}
 use lib.ListN.{length}
-use Rattle.integers.specs.Words.{any, minus}
-use Rattle.integers.specs.Tests.{either, if-false, not-eqb-iff, not-not-iff}
+use Rattle.integers.specs.Words.{any, isIn, minus}
+use Rattle.integers.specs.Tests.{either, if-false, or-right, not-eqb-iff}
 use Rattle.integers.specs.Options.{some-inj, none-some, found-else}
 use Rattle.integers.specs.Linear.{flat, zs, _▸_}
 use Rattle.integers.specs.Sums.{only-off, Σ-most}
 use Rattle.definitions.specs.declared.Case.{Case}
 use Rattle.definitions.specs.Rules.{Rules, Coherent, scopesAtMost}
-use Rattle.definitions.specs.Case.{values, lowerEnd, upperEnd, scopeCount, weight}
-use Rattle.definitions.specs.Valid.{workingWeight, allWeights}
-use Rattle.definitions.specs.Moves.{Move, difference, activePress, leavesRange, afterMoves}
+use Rattle.definitions.specs.Case.{values, lowerEnd, upperEnd, scopeCount, weight, barred, whollyBarred}
+use Rattle.definitions.specs.Valid.{inWorking}
+use Rattle.definitions.specs.Moves.{Move, pressBy, activeValues, activePress, leavesRange, afterMoves}
 use Rattle.definitions.specs.PairRounds.{threeAt, pairRound, gains, passedOver, lowestPair}
 use Rattle.definitions.specs.Engine.{chosen, keptScopes, leastGap, round, engineNext}
 use Rattle.theory.proofs.Shape.{Shape}
 use Rattle.theory.proofs.Words.{none-below}
-use Rattle.theory.proofs.Places.{IsTuple, by-tuple, variable-tuple, edge-tuple, all-weights, plus-length, greatest-within, some-active}
+use Rattle.theory.proofs.Places.{IsTuple, by-tuple, variable-tuple, edge-tuple, first-tuple, plus-length, greatest-within, some-active}
+use Rattle.theory.proofs.Barred.{Free, in-range-free, each-all, stays-in-range}
 use Rattle.theory.proofs.Validity.{Handed, Valid}
 use Rattle.pair_theory.specs.Closed.{tupleLeaves, pairLeaves}
+use Rattle.pair_theory.proofs.Inside.{none-barred}
 use Rattle.pair_theory.proofs.Gains.{lower-tuple, upper-tuple, gains-iff, lowest-some, pairs-settled-iff}
 use Rattle.pair_theory.proofs.Rounded.{pairBy, pairRounded, by-pair, rounded-lower, rounded-upper, rounded-edge, rounded-else}
 use Rattle.pair_theory.proofs.Passing.{after-pair}
 use Rattle.press_theory.proofs.Trim.{chosen-some}
 use Rattle.press_theory.proofs.Gaps.{amount-some}
-use Rattle.press_theory.proofs.Fall.{enginePressed, only-within, pressed-weight}
+use Rattle.press_theory.proofs.Fall.{enginePressed, after-press, only-within, pressed-weight}
+use Rattle.press_theory.proofs.InRange.{start-weight}
 use Rattle.reach_theory.proofs.Next.{engine-next-is}
 use Rattle.reach_theory.proofs.Kept.{no-gain-kept}
 use Rattle.reach_theory.proofs.Spread.{spread, totalSpread, spread-within, total-some, spread-pressed, spread-rounded}
@@ -74,7 +77,7 @@ pub record Late (r : Rules) (c : Case) (w : List ℤ) : Type 0 where
 
 -- what the engine's rounds reach from starting weights
 pub record EngineReached (r : Rules) (c : Case) (w : List ℤ) : Type 0 where
-  pub handed : Handed r (workingWeight r) c w
+  pub handed : Handed r (inWorking r) c w
   pub narrow : totalSpread c w ≤ℤ pos (widest r c)
   pub phase : Early r c w ⊎ Late r c w
 
@@ -225,6 +228,8 @@ module _ {r : Rules} {c : Case} (coherent : Coherent r) where
       → Early r c v ⊎ Late r c v → EngineReached r c v
   reached-again {w} {v} k same narrow phase =
       let o = room-for k in
+      let inside : (x a b : ℕ) → IsTuple c x a b → T (inWorking r (weight c v x a b)) =
+      λ x a b u. phase-weight r c v (k .shape) phase u ▸ simp flat (omega zs) in
       record {
         handed = record {
           variables-most = k .variables-most;
@@ -233,20 +238,23 @@ module _ {r : Rules} {c : Case} (coherent : Coherent r) where
           long = same ∙ k .long;
           shape = k .shape;
           apart = k .apart;
-          in-range = λ x k' l u. phase-weight r c v (k .shape) phase u ▸ simp flat (omega zs);
+          in-range = inside;
+          some-free = λ x h. not-T (whollyBarred c v x) (λ t.
+              let u = first-tuple c (k .shape .some-value) x h in
+              T-not (barred c v x 0 0) (in-range-free coherent (weight c v x 0 0) (inside x 0 0 u)) (each-all c (barred c v x) x h .0 t 0 0 u));
         };
         narrow = narrow;
         phase = phase;
       }
 
-  pub reached-first : {w : List ℤ} → Valid r c w → EngineReached r c w
-  reached-first {w} valid = reached-again valid refl narrow (inl (record {
+  pub reached-first : {w : List ℤ} → Valid r c w → Free c w → EngineReached r c w
+  reached-first {w} valid free = reached-again valid refl narrow (inl (record {
     variables = λ i k h p. start (variable-tuple c i k h p);
     edges = λ e h. inl (λ k l p q. start (edge-tuple c e k l h p q));
   }))
     where
       start : {x k l : ℕ} → IsTuple c x k l → Within (r .starting) (weight c w x k l)
-      start {x} {k} {l} u = valid .in-range x k l u ▸ simp flat (omega zs)
+      start = start-weight coherent valid free
 
       narrow : totalSpread c w ≤ℤ pos (widest r c)
       narrow =
@@ -266,7 +274,7 @@ module _ {r : Rules} {c : Case} (coherent : Coherent r) where
 
       pair-made : afterMoves r c (pairRound c w e) w ≡ some (pairRounded c w e)
       pair-made =
-          after-pair (reached .handed) h ∙ if-false none (some (pairRounded c w e)) (pairLeaves r c w e)
+          after-pair coherent (reached .handed) h ∙ if-false none (some (pairRounded c w e)) (pairLeaves r c w e)
           (early-stays r c w shape is-early e h t (room-for (reached .handed) .1))
 
       pub reached-passes-none : T (not (passedOver r c w e))
@@ -287,7 +295,7 @@ module _ {r : Rules} {c : Case} (coherent : Coherent r) where
       press-reached : Late r c w → EngineReached r c (enginePressed c w i a)
       press-reached late =
           let l = reached .handed .long in
-          reached-again (reached .handed) (plus-length c (difference c w (activePress c w i (keptScopes c w i) a)) w (omega arith))
+          reached-again (reached .handed) (plus-length c (pressBy c w i (activeValues c w i) (isIn (keptScopes c w i)) a) w (omega arith))
           (spread-pressed c w shape which least ▸ amount-some c w shape which least ▸ reached .narrow ▸ simp flat (omega zs))
           (inr (late-pressed r c w shape which least late))
 
@@ -295,8 +303,8 @@ module _ {r : Rules} {c : Case} (coherent : Coherent r) where
       press-made late =
           let v : List ℤ = enginePressed c w i a in
           let k = press-reached late .handed in
-          if-false none (some v) (leavesRange r c v) (not-not-iff (allWeights (workingWeight r) c v) .1
-          (all-weights c (workingWeight r) v (let l = k .long in omega arith) .1 (k .in-range)))
+          after-press c w (none-barred coherent (reached .handed)) i a r ∙ if-false none (some v) (leavesRange r c w v) (stays-in-range c r w v .1
+          (λ x a' b u. or-right (barred c w x a' b) (inWorking r (weight c v x a' b)) (k .in-range x a' b u)))
 
     -- number 11 never meets the next round
     pub reached-next : {moves : List Move} → engineNext r c w ≡ round moves → (v : List ℤ) × (afterMoves r c moves w ≡ some v) × EngineReached r c v
@@ -319,10 +327,11 @@ module _ (r : Rules) (c : Case) (w : List ℤ) (late : Late r c w) where
       go none e = refl
       go (some x) e = let (h, t, n) = lowest-some r c w e in absurd (T-not (gains c w x) (late .no-gain x h) t)
 
-  pub late-stays : Shape c → {moves : List Move} {v : List ℤ} → engineNext r c w ≡ round moves → afterMoves r c moves w ≡ some v → Late r c v
-  late-stays shape d to = ⊎-elim
+  pub late-stays : Shape c → Free c w → {moves : List Move} {v : List ℤ} → engineNext r c w ≡ round moves → afterMoves r c moves w ≡ some v → Late r c v
+  late-stays shape free d to = ⊎-elim
       (λ (e, o, q). absurd (none-some (sym late-no-pair ∙ o)))
       (λ (o, i, a, f, g, q).
-      let (s, e) = found-else (leavesRange r c (enginePressed c w i a)) (some (enginePressed c w i a)) (sym (ap (λ l. afterMoves r c l w) q) ∙ to) in
+      let (s, e) = found-else (leavesRange r c w (enginePressed c w i a)) (some (enginePressed c w i a))
+      (sym (after-press c w free i a r) ∙ sym (ap (λ l. afterMoves r c l w) q) ∙ to) in
       subst (λ (v : List ℤ). Late r c v) (some-inj e) (late-pressed r c w shape f g late))
       (engine-next-is r c w d)

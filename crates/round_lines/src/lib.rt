@@ -231,14 +231,15 @@ fn too_short(case: Case, length: usize) -> bool
     length < rules::line_length(rulebook) * (case.n + case.m + 2 * case.d + 1)
 }
 
-// Numbers 3 to 8 of a case, its working weights and an output of so many bytes, 4 also where a round may need more; 5 also where `outside` says so.
+// Numbers 3 to 8 and 15 of a case, its working weights and an output of so many bytes, 4 also where a round may need more; 5 also where `outside`
+// says so; and 8 where a tuple is barred.
 pub fn check_round(case: Case, table: &[i64], length: usize, outside: bool) -> Outcome
     ensures { λ r. ⌜ r ≡ outcomeOf (roundRefusal (rulesOf case) case (now (table .entry)) length outside) ⌝ }
 {
     if !tables::within_limits(case) {
         return Outcome::Refused(Refusal::OutsideLimits);
     }
-    tables::check_working(case, table, too_short(case, length), outside)
+    tables::check_unbarred(case, table, too_short(case, length), outside)
 }
 
 // The lines of a round that presses `variable` by `amount`, raises each scope of the case whose byte in `raised` is not 0, and says `bound`:

@@ -4,6 +4,7 @@ ghost use mathlib.Core.Path.{_≡_};
 ghost use lib.IntN.{pos};
 ghost use Rattle.integers.specs.Words.{minus};
 ghost use Rattle.definitions.specs.Rules.{rulesIn};
+ghost use Rattle.definitions.specs.Case.{barredWeight, isBarred};
 ghost use Rattle.definitions.specs.Lines.{lineLength};
 
 // ---- the limits of a case
@@ -88,6 +89,24 @@ pub fn most_rounds(rulebook: Rulebook) -> u64
     match rulebook {
         Rulebook::Desk => 999_999_999_999_999_999,
     }
+}
+
+// ---- barred tuples, under all rules
+
+// What a barred tuple holds in a table.
+pub fn barred() -> i64
+    ensures { λ r. ⌜ r ≡ barredWeight ⌝ }
+{
+    -2_000_000_000
+}
+
+pub fn is_barred(weight: i64) -> bool
+    ensures { λ r. ⌜ r ≡ isBarred weight ⌝ }
+{
+    if weight == -2_000_000_000 {
+        return true;
+    }
+    false
 }
 
 // ---- lines

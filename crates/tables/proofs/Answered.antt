@@ -1,5 +1,5 @@
 -- The answer to a check: what is answered where a number applies, and what is known where none does. Assumes nothing.
-use mathlib.Core.Path.{_≡_, sym, subst}
+use mathlib.Core.Path.{_≡_, sym}
 use mathlib.Core.Bool.{Bool, true, not}
 use mathlib.Core.Option.{Option, none, some}
 use mathlib.Core.List.{List}
@@ -16,13 +16,13 @@ use Rattle.definitions.specs.declared.Refusal.{Refusal}
 use Rattle.definitions.specs.declared.Outcome.{Outcome}
 use Rattle.definitions.specs.declared.Figure.{Figure}
 use Rattle.definitions.specs.declared.Verdict.{Verdict}
-use Rattle.definitions.specs.Rules.{rulesOf}
+use Rattle.definitions.specs.Rules.{rulesOf, coherent}
 use Rattle.definitions.specs.Refusals.{firstOf}
 use Rattle.definitions.specs.Answers.{outcomeOf}
 use Rattle.definitions.specs.Case.{scopeCount, lentLength, greatest, upperBound}
-use Rattle.definitions.specs.Valid.{workingWeight, withinLimits, handedOver}
+use Rattle.definitions.specs.Valid.{inWorking, workingWeight, withinLimits, handedOver}
 use Rattle.calls.specs.Calls.{figureOf, verdictOf}
-use Rattle.theory.proofs.Places.{first-tuple, greatest-at}
+use Rattle.theory.proofs.Barred.{greatest-in-range}
 use Rattle.theory.proofs.Validity.{Handed, handed}
 use Rattle.tables.specs.Scopes.{Limited, scopePart, scopeWeights, greatestSum}
 use Rattle.tables.proofs.Order.{limited-by, outcome-done, outcome-refused}
@@ -62,10 +62,8 @@ module _ {c : Case} {w : List ℤ} (h : Handed (rulesOf c) (workingWeight (rules
   pub limits-true : withinLimits (rulesOf c) (c .n) (c .d) (c .m) ≡ true
   limits-true = let s = h .shape in simp tests (((s .some-variable, h .variables-most), (s .some-value, h .values-most)), (omega arith, h .edges-most))
 
-  pub greatest-working : (x : ℕ) → x < scopeCount c → T (workingWeight (rulesOf c) (greatest c w x))
-  greatest-working x l =
-      let (k, m, t, e) = greatest-at c w (first-tuple c (h .shape .some-value) x l) in
-      subst (λ (z : ℤ). T (workingWeight (rulesOf c) z)) e (h .in-range x k m t)
+  pub greatest-working : (x : ℕ) → x < scopeCount c → T (inWorking (rulesOf c) (greatest c w x))
+  greatest-working x l = greatest-in-range c (coherent (c .rulebook)) w (h .in-range) x l (h .some-free x l)
 
   -- on a table that was checked the sum of the greatest weights is the upper bound
   pub greatest-sum-known : greatestSum (rulesOf c) c w ≡ Figure.Value (upperBound c w)

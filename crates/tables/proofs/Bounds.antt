@@ -1,19 +1,19 @@
 -- Sums over scopes of numbers in the range, which fit, and sums that are refused. Assumes nothing.
-use mathlib.Core.Path.{_≡_, sym, ap, ap₂, _∙_}
-use mathlib.Core.Bool.{Bool, true, false, not}
+use mathlib.Core.Path.{_≡_, ap, ap₂, _∙_}
+use mathlib.Core.Bool.{Bool, false, not}
 use mathlib.Core.List.{[], _∷_}
-use Prim.Native.Nat.{ℕ, _+_, _*_, _^_, _≤_, _<_}
+use Prim.Native.Nat.{ℕ, _+_, _*_, _≤_, _<_}
 use native.Mathlib.Numerals.{add-one}
 use native.Mathlib.Nat.{mul-le-mul-right, zero-add}
 use native.Mathlib.Omega.{arith}
 use lib.IntN.{ℤ, pos, _+ℤ_}
-use lib.Dec.{T, not-T}
-use lib.Signed.{mag, _≤ℤ_}
+use lib.Dec.{T}
+use lib.Signed.{_≤ℤ_}
 use mir.Syntax.{w64}
-use mir.Val.{SFits, hbits, toZ, ofZ}
-use Rattle.integers.specs.Words.{eqZ, minus}
-use Rattle.integers.specs.Tests.{is-true, is-false}
-use Rattle.integers.specs.Linear.{zs, flat, _▸_, T-eq, read-back}
+use mir.Val.{SFits}
+use Rattle.integers.specs.Words.{minus}
+use Rattle.integers.specs.Tests.{is-true}
+use Rattle.integers.specs.Linear.{zs, flat, _▸_}
 use Rattle.integers.specs.Lists.{any-same}
 use Rattle.integers.specs.Sums.{Σ, Σ-cong, Σ-last, Σ-most, Σ-least}
 use Rattle.definitions.specs.declared.Case.{Case}
@@ -23,7 +23,7 @@ use Rattle.definitions.specs.Rules.{Rules, Coherent, rulesOf, scopesAtMost}
 use Rattle.definitions.proofs.RulesLaws.{rules-fit}
 use Rattle.definitions.specs.Refusals.{_when_, firstOf}
 use Rattle.definitions.specs.Case.{scopeCount}
-use Rattle.definitions.specs.Valid.{workingWeight}
+use Rattle.definitions.specs.Valid.{inWorking}
 use Rattle.calls.specs.Calls.{figureOf}
 use Rattle.tables.specs.Scopes.{sumInRange}
 use Rattle.tables.proofs.Search.{found, not-found}
@@ -32,7 +32,7 @@ module _ (f : ℕ → ℤ) where
   pub sum-more : {s t : ℤ} (x : ℕ) → s ≡ Σ f 0 x → t ≡ f x → s +ℤ t ≡ Σ f 0 (x + 1)
   sum-more x d e = ap₂ _+ℤ_ d e ∙ rw (add-one, Σ-last f 0 x, zero-add)
 
-  pub sum-fits : {r : Rules} → Coherent r → (x : ℕ) → x ≤ scopesAtMost r → ((y : ℕ) → y < x → T (workingWeight r (f y))) → SFits w64 (Σ f 0 x)
+  pub sum-fits : {r : Rules} → Coherent r → (x : ℕ) → x ≤ scopesAtMost r → ((y : ℕ) → y < x → T (inWorking r (f y))) → SFits w64 (Σ f 0 x)
   sum-fits {r} coherent x h g =
       let m : Σ f 0 x ≤ℤ pos (x * r .working) = Σ-most f (r .working) 0 x (λ y l u. g y (omega arith) ▸ simp flat (omega zs)) in
       let n : minus (x * r .working) ≤ℤ Σ f 0 x = Σ-least f (r .working) 0 x (λ y l u. g y (omega arith) ▸ simp flat (omega zs)) in
@@ -41,23 +41,15 @@ module _ (f : ℕ → ℤ) where
 
 -- a sum over scopes, by whether all numbers are in the range
 module _ (c : Case) (f : ℕ → ℤ) where
-  pub sum-given : ((x : ℕ) → x < scopeCount c → T (workingWeight (rulesOf c) (f x))) → Figure.Value (Σ f 0 (scopeCount c)) ≡ sumInRange (rulesOf c) c f
+  pub sum-given : ((x : ℕ) → x < scopeCount c → T (inWorking (rulesOf c) (f x))) → Figure.Value (Σ f 0 (scopeCount c)) ≡ sumInRange (rulesOf c) c f
   sum-given h =
-      rw (← not-found (λ x. not (workingWeight (rulesOf c) (f x))) (scopeCount c) (λ x l. ap not (is-true (workingWeight (rulesOf c) (f x)) (h x l))))
+      rw (← not-found (λ x. not (inWorking (rulesOf c) (f x))) (scopeCount c) (λ x l. ap not (is-true (inWorking (rulesOf c) (f x)) (h x l))))
 
-  pub sum-refused : (x : ℕ) → x < scopeCount c → workingWeight (rulesOf c) (f x) ≡ false → Figure.Refused WeightOutOfRange ≡ sumInRange (rulesOf c) c f
-  sum-refused x l e = rw (← found (λ x. not (workingWeight (rulesOf c) (f x))) (scopeCount c) x l (ap not e))
+  pub sum-refused : (x : ℕ) → x < scopeCount c → inWorking (rulesOf c) (f x) ≡ false → Figure.Refused WeightOutOfRange ≡ sumInRange (rulesOf c) c f
+  sum-refused x l e = rw (← found (λ x. not (inWorking (rulesOf c) (f x))) (scopeCount c) x l (ap not e))
 
   pub sum-same : (g : ℕ → ℤ) → ((x : ℕ) → x < scopeCount c → f x ≡ g x) → sumInRange (rulesOf c) c f ≡ sumInRange (rulesOf c) c g
   sum-same g h =
       ap₂ (λ (b : Bool) (z : ℤ). figureOf (firstOf (WeightOutOfRange when b ∷ [])) z)
-      (any-same (scopeCount c) (λ x l. ap (λ (z : ℤ). not (workingWeight (rulesOf c) z)) (h x l)))
+      (any-same (scopeCount c) (λ x l. ap (λ (z : ℤ). not (inWorking (rulesOf c) z)) (h x l)))
       (Σ-cong f g 0 (scopeCount c) (λ x l u. h x (omega arith)))
-
--- numbers are equal just where their bits are
-module _ (a b : ℤ) (p : mag a < 2 ^ hbits w64) (q : mag b < 2 ^ hbits w64) where
-  pub same-bits : ofZ w64 a ≡ ofZ w64 b → true ≡ eqZ a b
-  same-bits e = sym (is-true (eqZ a b) (T-eq a b .1 (sym (read-back w64 a p) ∙ ap (toZ w64) e ∙ read-back w64 b q)))
-
-  pub other-bits : (ofZ w64 a ≡ ofZ w64 b → ⊥) → false ≡ eqZ a b
-  other-bits f = sym (is-false (eqZ a b) (not-T (eqZ a b) (λ t. f (ap (ofZ w64) (T-eq a b .0 t)))))

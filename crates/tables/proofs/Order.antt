@@ -1,6 +1,6 @@
 -- What a check that passed says, and products within the limits. Assumes nothing.
 use mathlib.Core.Path.{_≡_, refl, sym, ap, _∙_}
-use mathlib.Core.Bool.{Bool, true, false, not}
+use mathlib.Core.Bool.{Bool, true, false, _&&_}
 use mathlib.Core.Option.{Option, none, some}
 use mathlib.Core.List.{List, [], _∷_, _++_}
 use Prim.Native.Nat.{ℕ, _*_, _≤_}
@@ -10,7 +10,7 @@ use lib.IntN.{ℤ}
 use lib.ListN.{length}
 use lib.Seq.{take-all}
 use borrow.Author.Tests.{eq-eqb}
-use Rattle.integers.specs.Words.{if_then_else_, all}
+use Rattle.integers.specs.Words.{if_then_else_}
 use Rattle.integers.specs.Tests.{tests}
 use Rattle.definitions.specs.declared.Case.{Case}
 use Rattle.definitions.specs.declared.Refusal.{Refusal}
@@ -21,7 +21,8 @@ use Rattle.definitions.specs.Refusals.{Test, _when_, firstOf}
 use Rattle.definitions.specs.Answers.{outcomeOf}
 use Rattle.definitions.specs.Case.{ownLength, lentLength}
 use Rattle.definitions.specs.Valid.{withinLimits, edgeTests, handedOver}
-use Rattle.tables.specs.Scopes.{Limited}
+use Rattle.definitions.specs.Engine.{someBarred}
+use Rattle.tables.specs.Scopes.{Limited, holdable, tupleTests}
 
 -- with the bounds that coherent rules give
 module _ (c : Case) where
@@ -90,16 +91,22 @@ module _ (us : List Test) where
       go true e r = e
       go false e r = r e
 
+-- a test that does not apply may be left out at the end
+pub last-none : (ts : List Test) (x : Refusal) → firstOf (ts ++ (x when false ∷ [])) ≡ firstOf ts
+last-none [] x = refl
+last-none (t ∷ ts) x = ap (λ (o : Option Refusal). if t .applies then some (t .refusal) else o) (last-none ts x)
+
 -- what is left to ask once the limits and the lengths are right
-module _ (r : Rules) (range : ℤ → Bool) (c : Case) (w : List ℤ) (wrong out : Bool)
+module _ (r : Rules) (low high : ℤ) (free : Bool) (c : Case) (w : List ℤ) (wrong out : Bool)
     (e : withinLimits r (c .n) (c .d) (c .m) ≡ true) (l : length w ≡ lentLength c) (g : wrong ≡ false) where
-  lengths-right : firstOf (handedOver r range c w wrong out) ≡ firstOf (edgeTests c out ++ (WeightOutOfRange when (not (all range w)) ∷ []))
+  abbrev asked : List Test
+  asked = handedOver r (holdable low high) c w wrong out ++ (WeightOutOfRange when (free && someBarred c w) ∷ [])
+
+  lengths-right : firstOf asked ≡ firstOf (edgeTests c out ++ tupleTests c w low high free)
   lengths-right = rw (e, eq-eqb (length w) (lentLength c) l, g, take-all (ownLength c) w (omega arith))
 
-  pub edges-wrong : {x : Refusal} → Outcome.Refused x ≡ outcomeOf (firstOf (edgeTests c out))
-      → Outcome.Refused x ≡ outcomeOf (firstOf (handedOver r range c w wrong out))
-  edges-wrong d = ap outcomeOf (sym (lengths-right ∙ first-stops (WeightOutOfRange when (not (all range w)) ∷ []) (edgeTests c out) (outcome-refused d)))
+  pub edges-wrong : {x : Refusal} → Outcome.Refused x ≡ outcomeOf (firstOf (edgeTests c out)) → Outcome.Refused x ≡ outcomeOf (firstOf asked)
+  edges-wrong d = ap outcomeOf (sym (lengths-right ∙ first-stops (tupleTests c w low high free) (edgeTests c out) (outcome-refused d)))
 
-  pub edges-right : Outcome.Done ≡ outcomeOf (firstOf (edgeTests c out))
-      → outcomeOf (firstOf (WeightOutOfRange when (not (all range w)) ∷ [])) ≡ outcomeOf (firstOf (handedOver r range c w wrong out))
-  edges-right d = ap outcomeOf (sym (lengths-right ∙ first-next (WeightOutOfRange when (not (all range w)) ∷ []) (edgeTests c out) (outcome-done d)))
+  pub edges-right : Outcome.Done ≡ outcomeOf (firstOf (edgeTests c out)) → outcomeOf (firstOf (tupleTests c w low high free)) ≡ outcomeOf (firstOf asked)
+  edges-right d = ap outcomeOf (sym (lengths-right ∙ first-next (tupleTests c w low high free) (edgeTests c out) (outcome-done d)))

@@ -1,5 +1,5 @@
 -- A scope's weights are a contiguous part of the table. Assumes nothing.
-use mathlib.Core.Path.{_≡_, sym, ap, ap₂, _∙_}
+use mathlib.Core.Path.{_≡_, sym, ap, ap₂, subst, _∙_}
 use mathlib.Core.List.{List, _++_, map}
 use Prim.Native.Nat.{ℕ, zero, suc, _+_, _*_, _≤_, _<_}
 use native.Mathlib.Nat.{zero-mul, mul-le-mul-right}
@@ -7,13 +7,15 @@ use native.Mathlib.Omega.{arith}
 use lib.IntN.{ℤ, pos}
 use lib.ListN.{length, getD, take, drop, length-drop}
 use lib.Seq.{getD-take, getD-drop, ext-getD, length-take-le}
-use Rattle.integers.specs.Words.{from, below, joined, greatestOf}
-use Rattle.integers.specs.Tests.{if-true, if-false}
-use Rattle.integers.specs.Lists.{map-same, map-map, map-append, from-shift, from-split}
+use lib.Dec.{T}
+use Rattle.integers.specs.Words.{from, below, all, joined, greatestOf}
+use Rattle.integers.specs.Tests.{same-test, if-true, if-false}
+use Rattle.integers.specs.Lists.{all-in, map-same, map-map, map-append, from-shift, from-split}
 use Rattle.integers.specs.Tables.{length-tab, getD-tab}
 use Rattle.definitions.specs.declared.Case.{Case}
-use Rattle.definitions.specs.Case.{scopeCount, isVariable, eachTuple, place, ownLength, weight, greatest}
-use Rattle.theory.proofs.Places.{by-scope, variable-is, edge-is, place-variable, place-edge, each-variable, each-edge}
+use Rattle.definitions.specs.Case.{scopeCount, isVariable, eachTuple, place, ownLength, weight, greatest, isBarred, barred, whollyBarred}
+use Rattle.theory.proofs.Places.{by-scope, variable-is, edge-is, place-variable, place-edge, each-variable, each-edge, tuple-in, in-tuples}
+use Rattle.theory.proofs.Barred.{each-all}
 use Rattle.tables.specs.Scopes.{sizeOf}
 
 -- rows of d numbers, one after the other
@@ -68,3 +70,10 @@ module _ (c : Case) where
 
     pub part-greatest : (x : ℕ) → x < scopeCount c → greatestOf (take (sizeOf c x) (drop (place c x 0 0) w)) ≡ greatest c w x
     part-greatest x h = ap greatestOf (sym (scope-part x h))
+
+    pub part-barred : (x : ℕ) → x < scopeCount c → all isBarred (take (sizeOf c x) (drop (place c x 0 0) w)) ≡ whollyBarred c w x
+    part-barred x h = same-test _ _
+        (λ t. each-all c (barred c w x) x h .1 (λ k l u. all-in isBarred (eachTuple c x (weight c w x)) .0 (rw (sym (scope-part x h)) at t) (weight c w x k l)
+        (tuple-in c (weight c w x) u)))
+        (λ t. rw (sym (scope-part x h)) (all-in isBarred (eachTuple c x (weight c w x)) .1 (λ z m.
+        let (k, l, u, e) = in-tuples c (weight c w x) x h m in subst (λ (z : ℤ). T (isBarred z)) e (each-all c (barred c w x) x h .0 t k l u))))

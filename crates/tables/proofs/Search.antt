@@ -18,6 +18,15 @@ module _ (a b : Bool) where
   pub and-stops : a ≡ false → a ≡ (a && b)
   and-stops e = rw e
 
+-- the second of two tests joined by || is told
+pub or-second : (a b : Bool) → b ≡ true → true ≡ (a || b)
+or-second true b e = refl
+or-second false b e = sym e
+
+pub or-first : (a b : Bool) → b ≡ false → a ≡ (a || b)
+or-first true b e = refl
+or-first false b e = sym e
+
 pub second-fails : (a b c : Bool) → b ≡ false → true ≡ (not a || not b || not c)
 second-fails true b c e = rw e
 second-fails false b c e = refl

@@ -1,14 +1,14 @@
 -- The limits of a case as facts, the part of a table that belongs to a scope, each scope's greatest weight kept beside the table, and sums
 -- over scopes on all input. Assumes nothing.
 use mathlib.Core.Path.{_≡_}
-use mathlib.Core.Bool.{false, not, _&&_}
+use mathlib.Core.Bool.{Bool, false, not, _&&_, _||_}
 use mathlib.Core.Option.{Option}
 use mathlib.Core.List.{List, [], _∷_, _++_, map}
 use Prim.Native.Nat.{ℕ, _+_, _*_, _≤_, _<_}
 use lib.IntN.{ℤ, pos}
 use lib.Dec.{eqb, ltb}
 use lib.ListN.{length, getD, take, drop}
-use Rattle.integers.specs.Words.{if_then_else_, any, sum}
+use Rattle.integers.specs.Words.{if_then_else_, any, all, sum, withinZ}
 use Rattle.definitions.specs.declared.Rulebook.the-variants.{Desk}
 use Rattle.definitions.specs.declared.Case.{Case}
 use Rattle.definitions.specs.declared.Outcome.{Outcome}
@@ -18,8 +18,8 @@ use Rattle.definitions.specs.declared.Refusal.the-variants.{WrongLength, Weight
 use Rattle.definitions.specs.Rules.{Rules, rulesOf, variablePlaces, edgePlaces, scopePlaces}
 use Rattle.definitions.specs.Refusals.{Test, _when_, firstOf}
 use Rattle.definitions.specs.Answers.{outcomeOf, unlessRefused}
-use Rattle.definitions.specs.Case.{scopeCount, scopes, isVariable, place, lentLength, greatest, upperBound}
-use Rattle.definitions.specs.Valid.{workingWeight, withinLimits, limitTest, lengthTest}
+use Rattle.definitions.specs.Case.{scopeCount, scopes, isVariable, place, lentLength, greatest, upperBound, isBarred}
+use Rattle.definitions.specs.Valid.{inWorking, withinLimits, limitTest, lengthTest, scopeTest}
 use Rattle.calls.specs.Calls.{figureOf}
 
 -- the case is within its rules' limits, and so within plain bounds
@@ -42,6 +42,15 @@ ofSize n d = record { n = n; d = d; m = 0; lower = []; upper = []; rulebook = De
 -- how many tuples scope x has
 abbrev pub sizeOf : Case → ℕ → ℕ
 sizeOf c x = if isVariable c x then c .d else c .d * c .d
+
+-- what a table may hold at a tuple, by the ends of the range of weights
+abbrev pub holdable : ℤ → ℤ → ℤ → Bool
+holdable low high z = isBarred z || withinZ low high z
+
+-- what is asked of the weights of a table of the right length: 8, 15, and 8 of bars where it is to be free of them
+abbrev pub tupleTests : Case → List ℤ → ℤ → ℤ → Bool → List Test
+tupleTests c w low high free =
+    WeightOutOfRange when (not (all (holdable low high) w)) ∷ scopeTest c w ∷ WeightOutOfRange when (free && any isBarred w) ∷ []
 
 -- the weights of scope x
 abbrev pub scopePart : Case → List ℤ → ℕ → List ℤ
@@ -83,11 +92,11 @@ module _ (r : Rules) where
 
   -- ---- sums over scopes
 
-  -- number 8: some scope's number is no working weight
+  -- number 8: some scope's number is outside the range of working weights
   abbrev pub rangeTest : Case → (ℕ → ℤ) → Test
-  rangeTest c f = WeightOutOfRange when (any (λ x. not (workingWeight r (f x))) (scopes c))
+  rangeTest c f = WeightOutOfRange when (any (λ x. not (inWorking r (f x))) (scopes c))
 
-  -- the sum of each scope's number, if all are working weights
+  -- the sum of each scope's number, if all are in that range
   abbrev pub sumInRange : Case → (ℕ → ℤ) → Figure
   sumInRange c f = figureOf (firstOf (rangeTest c f ∷ [])) (sum (map f (scopes c)))
 

@@ -9,17 +9,19 @@ use definitions::SCOPE_PLACES;
 ghost use mathlib.Core.Path.{_≡_};
 ghost use mathlib.Core.Bool.{not, _&&_};
 ghost use lib.Dec.{eqb, ltb};
-ghost use mathlib.Core.List.{[], _∷_, map};
+ghost use mathlib.Core.List.{[], _∷_, _++_, map};
 ghost use Prim.Native.Nat.{_+_, _*_, _≤_, _<_};
+ghost use lib.Signed.{_<ℤ_};
 ghost use lib.ListN.{length};
 ghost use Rattle.integers.specs.Words.{below, any, all, within, withinZ, greatestOf};
 ghost use Rattle.definitions.specs.Rules.{rulesIn, rulesOf, edgePlaces};
 ghost use Rattle.definitions.specs.Refusals.{_when_, firstOf};
 ghost use Rattle.definitions.specs.declared.Refusal.the-variants.{WeightOutOfRange};
 ghost use Rattle.definitions.specs.Answers.{outcomeOf};
-ghost use Rattle.definitions.specs.Case.{place, greatest as greatestWeight, scopeCount, scopes, lentLength};
-ghost use Rattle.definitions.specs.Valid.{startingWeight, workingWeight, withinLimits, someEdge, sameEnds, limitTest, edgeTests, handedOver};
-ghost use Rattle.tables.specs.Scopes.{Limited, ofSize, sizeOf, scopePart, scopeWeights, bestAt};
+ghost use Rattle.definitions.specs.Case.{place, greatest as greatestWeight, scopeCount, scopes, lentLength, barredWeight, isBarred, whollyBarred};
+ghost use Rattle.definitions.specs.Valid.{inWorking, startingWeight, workingWeight, withinLimits, someEdge, sameEnds, limitTest, edgeTests, handedOver};
+ghost use Rattle.definitions.specs.Engine.{someBarred};
+ghost use Rattle.tables.specs.Scopes.{Limited, ofSize, sizeOf, holdable, tupleTests, scopePart, scopeWeights, bestAt};
 ghost use Rattle.tables.specs.Scopes.{writtenOver, greatestCall, sumInRange, greatestSum, bestSum};
 ghost use Rattle.tables.specs.Edges.{faulty, withEdges};
 
@@ -122,13 +124,23 @@ fn is_within(weight: i64, low: i64, high: i64) -> bool
 }
 
 fn is_working(rulebook: Rulebook, weight: i64) -> bool
-    ensures { λ r. ⌜ r ≡ workingWeight (rulesIn rulebook) weight ⌝ }
+    ensures { λ r. ⌜ r ≡ inWorking (rulesIn rulebook) weight ⌝ }
 {
     is_within(
         weight,
         rules::least_working(rulebook),
         rules::most_working(rulebook),
     )
+}
+
+// In the range, or barred.
+fn is_holdable(weight: i64, low: i64, high: i64) -> bool
+    ensures { λ r. ⌜ r ≡ holdable low high weight ⌝ }
+{
+    if is_within(weight, low, high) {
+        return true;
+    }
+    rules::is_barred(weight)
 }
 
 fn all_within(weights: &[i64], low: i64, high: i64) -> bool
@@ -144,14 +156,64 @@ fn all_within(weights: &[i64], low: i64, high: i64) -> bool
     true
 }
 
-fn weight_outcome(table: &[i64], low: i64, high: i64) -> Outcome
-    ensures { λ r. ⌜ r ≡ outcomeOf (firstOf (WeightOutOfRange when (not (all (withinZ low high) (now (table .entry)))) ∷ [])) ⌝ }
+fn all_holdable(weights: &[i64], low: i64, high: i64) -> bool
+    ensures { λ r. ⌜ r ≡ all (holdable low high) (now (weights .entry)) ⌝ }
+{
+    let mut i: usize = 0;
+    while i < weights.len() {
+        if !is_holdable(weights[i], low, high) {
+            return false;
+        }
+        i += 1;
+    }
+    true
+}
+
+fn scope_barred(case: Case, table: &[i64], x: usize) -> bool
+    requires { ⌜ Limited case ⌝ }
+    requires { ⌜ length (now table) ≡ lentLength case ⌝ }
+    requires { ⌜ x < case .n + case .m ⌝ }
+    ensures { λ r. ⌜ r ≡ whollyBarred case (now (table .entry)) x ⌝ }
+{
+    all_barred(scope_part(case, table, x))
+}
+
+fn some_scope_barred(case: Case, table: &[i64]) -> bool
+    requires { ⌜ Limited case ⌝ }
+    requires { ⌜ length (now table) ≡ lentLength case ⌝ }
+    ensures { λ r. ⌜ r ≡ any (whollyBarred case (now (table .entry))) (scopes case) ⌝ }
+{
+    let scopes = scope_count(case);
+    let mut x: usize = 0;
+    while x < scopes {
+        if scope_barred(case, table, x) {
+            return true;
+        }
+        x += 1;
+    }
+    false
+}
+
+// Numbers 8 and 15; and then 8 where `free` asks that no tuple is barred. Where all are in the range nothing applies, and no more is looked at.
+fn weight_outcome(case: Case, table: &[i64], low: i64, high: i64, free: bool) -> Outcome
+    requires { ⌜ Limited case ⌝ }
+    requires { ⌜ length (now table) ≡ lentLength case ⌝ }
+    requires { ⌜ barredWeight <ℤ low ⌝ }
+    ensures { λ r. ⌜ r ≡ outcomeOf (firstOf (tupleTests case (now (table .entry)) low high free)) ⌝ }
 {
     if all_within(table, low, high) {
-        Outcome::Done
-    } else {
-        Outcome::Refused(Refusal::WeightOutOfRange)
+        return Outcome::Done;
     }
+    if !all_holdable(table, low, high) {
+        return Outcome::Refused(Refusal::WeightOutOfRange);
+    }
+    if some_scope_barred(case, table) {
+        return Outcome::Refused(Refusal::ScopeBarred);
+    }
+    if free {
+        return Outcome::Refused(Refusal::WeightOutOfRange);
+    }
+    Outcome::Done
 }
 
 fn table_length(case: Case) -> usize
@@ -184,8 +246,18 @@ fn edge_outcome(case: Case, out: bool) -> Outcome
     Outcome::Done
 }
 
-fn check(case: Case, table: &[i64], wrong: bool, out: bool, low: i64, high: i64) -> Outcome
-    ensures { λ r. ⌜ r ≡ outcomeOf (firstOf (handedOver (rulesOf case) (withinZ low high) case (now (table .entry)) wrong out)) ⌝ }
+fn check(
+    case: Case,
+    table: &[i64],
+    wrong: bool,
+    out: bool,
+    low: i64,
+    high: i64,
+    free: bool,
+) -> Outcome
+    requires { ⌜ barredWeight <ℤ low ⌝ }
+    ensures { λ r. ⌜ r ≡ outcomeOf (firstOf (handedOver (rulesOf case) (holdable low high) case (now (table .entry)) wrong out
+        ++ (WeightOutOfRange when (free && someBarred case (now (table .entry))) ∷ []))) ⌝ }
 {
     if !within_limits(case) {
         return Outcome::Refused(Refusal::OutsideLimits);
@@ -196,7 +268,7 @@ fn check(case: Case, table: &[i64], wrong: bool, out: bool, low: i64, high: i64)
     let edges = edge_outcome(case, out);
     match edges {
         Outcome::Refused(refusal) => Outcome::Refused(refusal),
-        Outcome::Done => weight_outcome(table, low, high),
+        Outcome::Done => weight_outcome(case, table, low, high, free),
     }
 }
 
@@ -324,6 +396,7 @@ pub fn check_starting(case: Case, table: &[i64], wrong: bool, out: bool) -> Outc
         out,
         rules::least_starting(rulebook),
         rules::most_starting(rulebook),
+        false,
     )
 }
 
@@ -338,6 +411,24 @@ pub fn check_working(case: Case, table: &[i64], wrong: bool, out: bool) -> Outco
         out,
         rules::least_working(rulebook),
         rules::most_working(rulebook),
+        false,
+    )
+}
+
+// As `check_working`; and then 8 where a tuple is barred.
+pub fn check_unbarred(case: Case, table: &[i64], wrong: bool, out: bool) -> Outcome
+    ensures { λ r. ⌜ r ≡ outcomeOf (firstOf (handedOver (rulesOf case) (workingWeight (rulesOf case)) case (now (table .entry)) wrong out
+        ++ (WeightOutOfRange when (someBarred case (now (table .entry))) ∷ []))) ⌝ }
+{
+    let rulebook = case.rulebook;
+    check(
+        case,
+        table,
+        wrong,
+        out,
+        rules::least_working(rulebook),
+        rules::most_working(rulebook),
+        true,
     )
 }
 
@@ -400,6 +491,34 @@ pub fn sum_of_best(case: Case, best: &[i64]) -> Figure
         return Figure::Refused(Refusal::WrongLength);
     }
     sum_in_range(case, best)
+}
+
+// Some tuple is barred.
+pub fn some_barred(weights: &[i64]) -> bool
+    ensures { λ r. ⌜ r ≡ any isBarred (now (weights .entry)) ⌝ }
+{
+    let mut i: usize = 0;
+    while i < weights.len() {
+        if rules::is_barred(weights[i]) {
+            return true;
+        }
+        i += 1;
+    }
+    false
+}
+
+// All tuples are barred.
+pub fn all_barred(weights: &[i64]) -> bool
+    ensures { λ r. ⌜ r ≡ all isBarred (now (weights .entry)) ⌝ }
+{
+    let mut i: usize = 0;
+    while i < weights.len() {
+        if !rules::is_barred(weights[i]) {
+            return false;
+        }
+        i += 1;
+    }
+    true
 }
 
 // Some value is d or more.

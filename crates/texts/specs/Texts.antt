@@ -12,7 +12,7 @@ use Rattle.definitions.specs.Refusals.{_when_, firstOf}
 use Rattle.definitions.specs.Answers.{unlessRefused}
 use Rattle.definitions.specs.Lines.{numberText, overwritten}
 use Rattle.calls.specs.Calls.{WriteCall, writtenOf}
-use Rattle.definitions.specs.Programs.{bytesOf, refusedText, acceptedText}
+use Rattle.definitions.specs.Programs.{bytesOf, refusedText, acceptedText, judgementText}
 
 -- the bytes that an output must have: no line that a program prints is longer
 abbrev pub textRoom : ℕ
@@ -38,8 +38,12 @@ writeRefusedCall out x line = writeTextCall out line (refusedText x line)
 unfoldable pub writeAcceptedCall : List ℕ → ℕ → ℤ → WriteCall
 writeAcceptedCall out rounds bound = writeTextCall out rounds (acceptedText rounds bound)
 
+unfoldable pub writeVoidCall : List ℕ → WriteCall
+writeVoidCall out = writeTextCall out 0 (judgementText Judgement.Void)
+
 abbrev pub writeJudgementCall : List ℕ → Judgement → WriteCall
 writeJudgementCall out (Judgement.Accepted rounds bound) = writeAcceptedCall out rounds bound
+writeJudgementCall out Judgement.Void = writeVoidCall out
 writeJudgementCall out (Judgement.Refused x line) = writeRefusedCall out x line
 
 -- a word, two numbers and a line feed

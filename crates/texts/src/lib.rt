@@ -8,7 +8,8 @@ ghost use lib.IntN.{pos};
 ghost use lib.ListN.{length};
 ghost use Rattle.definitions.specs.Refusals.{number};
 ghost use Rattle.definitions.specs.Lines.{numberText, overwritten};
-ghost use Rattle.texts.specs.Texts.{textRoom, printed, placedAt, writeRefusedCall, writeAcceptedCall, writeJudgementCall};
+ghost use Rattle.texts.specs.Texts.{textRoom, printed, placedAt, writeRefusedCall, writeAcceptedCall};
+ghost use Rattle.texts.specs.Texts.{writeVoidCall, writeJudgementCall};
 
 // An output must have so many bytes: no text is longer.
 const ROOM: usize = 64;
@@ -56,7 +57,7 @@ fn print(out: &mut [u8], word: &[u8], a: i64, b: i64) -> usize
 
 // ---- the calls
 
-// Document 01's number.
+// The number of document 01 or 02.
 pub fn number_of(refusal: Refusal) -> u8
     ensures { λ r. ⌜ r ≡ number refusal ⌝ }
 {
@@ -75,6 +76,8 @@ pub fn number_of(refusal: Refusal) -> u8
         Refusal::OtherBound => 12,
         Refusal::BoundNotLower => 13,
         Refusal::CutShort => 14,
+        Refusal::ScopeBarred => 15,
+        Refusal::NotAllBarred => 16,
     }
 }
 
@@ -107,6 +110,16 @@ pub fn write_accepted(out: &mut [u8], rounds: u64, bound: i64) -> Written
     Written::Bytes(print(out, b"accepted ", rounds as i64, bound))
 }
 
+// `void`.
+pub fn write_void(out: &mut [u8]) -> Written
+    ensures { λ r. ⌜ (r ≡ writeVoidCall (now (out .entry)) .answer) × (now (out .exit) ≡ writeVoidCall (now (out .entry)) .out) ⌝ }
+{
+    if out.len() < ROOM {
+        return Written::Refused(Refusal::WrongLength);
+    }
+    Written::Bytes(put(out, 0, b"void\n"))
+}
+
 // The text of a judgement.
 pub fn write_judgement(out: &mut [u8], judgement: Judgement) -> Written
     ensures { λ r. ⌜ (r ≡ writeJudgementCall (now (out .entry)) judgement .answer)
@@ -114,6 +127,7 @@ pub fn write_judgement(out: &mut [u8], judgement: Judgement) -> Written
 {
     match judgement {
         Judgement::Accepted { rounds, bound } => write_accepted(out, rounds, bound),
+        Judgement::Void => write_void(out),
         Judgement::Refused { refusal, line } => write_refused(out, refusal, line),
     }
 }

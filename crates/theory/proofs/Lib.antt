@@ -3,6 +3,7 @@ pub mod Shape
 pub mod Words
 pub mod Places
 pub mod Totals
+pub mod Barred
 pub mod Own
 pub mod Shifts
 pub mod Presses

@@ -1,6 +1,6 @@
 -- Two tables that agree on the case's own places have the same objectives and upper bound, refute the same values, keep the same range of
 -- weights, and are changed in the same way by a move. Assumes nothing.
-use mathlib.Core.Path.{_≡_, refl, sym, ap, ap₂, subst}
+use mathlib.Core.Path.{_≡_, refl, sym, ap, ap₂, subst, _∙_}
 use mathlib.Core.Bool.{Bool, not, _&&_}
 use mathlib.Core.Logic.{_↔_}
 use mathlib.Core.List.{List}
@@ -9,19 +9,20 @@ use native.Mathlib.Omega.{arith}
 use lib.IntN.{ℤ, pos, negℤ, _+ℤ_}
 use lib.Dec.{T, eqb}
 use lib.ListN.{getD, length}
-use Rattle.integers.specs.Words.{isIn, _⇒_}
+use Rattle.integers.specs.Words.{if_then_else_, isIn, _⇒_}
 use Rattle.integers.specs.Tests.{same-test}
 use Rattle.integers.specs.Lists.{in-below, all-same}
 use Rattle.integers.specs.Sums.{sum-cong}
 use Rattle.definitions.specs.declared.Case.{Case}
-use Rattle.definitions.specs.Case.{scopeCount, scopes, ownLength, weight, isAssignment, objective, greatest, upperBound}
+use Rattle.definitions.specs.Case.{scopeCount, scopes, ownLength, weight, isAssignment, objective, greatest, upperBound, isBarred}
 use Rattle.definitions.specs.Valid.{allWeights}
 use Rattle.definitions.specs.Moves.{Move, shift, press, onlyWhere, activeRefuted, difference, moved}
 use Rattle.definitions.proofs.CaseLaws.{weight-same, greatest-same, active-same}
 use Rattle.definitions.proofs.Refutation.{refuted-same}
 use Rattle.theory.proofs.Shape.{Shape}
-use Rattle.theory.proofs.Places.{IsTuple, tuple-at, weight-plus, all-weights}
+use Rattle.theory.proofs.Places.{IsTuple, tuple-at, all-weights}
 use Rattle.theory.proofs.Totals.{objectiveOf-cong}
+use Rattle.theory.proofs.Barred.{weight-spared}
 
 -- the own places are those of the tuples
 pub own-places : (c : Case) (w u : List ℤ)
@@ -56,9 +57,7 @@ module _ (c : Case) (w u : List ℤ) (own : (p : ℕ) → p < ownLength c → ge
       (ap (λ (b : Bool). isIn raised x && not b) (active-same c w u own x (t .scope) k l (t .one) (t .two)))
 
   pub moved-same : (move : Move) (x k l : ℕ) → IsTuple c x k l → weight c (moved c move w) x k l ≡ weight c (moved c move u) x k l
-  moved-same move x k l t = cc (
-    weight-plus c (difference c w move) w t,
-    weight-plus c (difference c u move) u t,
-    own-places c w u .1 own x k l t,
-    difference-same move x k l t,
-  )
+  moved-same move x k l t =
+      weight-spared c w (difference c w move) t
+      ∙ ap₂ (λ (z d : ℤ). if isBarred z then z else z +ℤ d) (own-places c w u .1 own x k l t) (difference-same move x k l t)
+      ∙ sym (weight-spared c u (difference c u move) t)

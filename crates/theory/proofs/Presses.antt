@@ -1,4 +1,4 @@
--- A press lowers no assignment's objective (Theorem 4 with δ = 1): an assignment that uses a lowered value uses a forbidden tuple too, or
+-- A press lowers no lawful assignment's objective (Theorem 4 with δ = 1): an assignment that uses a lowered value uses a forbidden tuple too, or
 -- its values would be a supported family. Assumes nothing.
 use mathlib.Core.Path.{_≡_, sym, ap, _∙_}
 use mathlib.Core.Bool.{Bool, not, _&&_}
@@ -9,19 +9,27 @@ use native.Mathlib.Omega.{arith}
 use lib.IntN.{ℤ, pos, negℤ}
 use lib.Dec.{T, T-not, not-T, eqb, eqb→eq, eqb-refl}
 use lib.Signed.{_≤ℤ_}
-use Rattle.integers.specs.Words.{any, below, isIn, _⇒_}
-use Rattle.integers.specs.Tests.{either, if-true, if-false, if-cases, imp-elim}
+use Rattle.integers.specs.Words.{any, all, below, isIn, _⇒_}
+use Rattle.integers.specs.Tests.{either, if-true, if-false, if-cases, imp-elim, and-left, and-right}
 use Rattle.integers.specs.Linear.{flat, zs, _▸_}
 use Rattle.integers.specs.Lists.{any-at, any-of, all-at}
 use Rattle.definitions.specs.declared.Case.{Case}
-use Rattle.definitions.specs.Case.{scopeCount, valueOf, atUsed, lowerEnd, upperEnd, isAssignment, objective}
+use Rattle.definitions.specs.Case.{values, scopes, scopeCount, eachTuple, valueOf, atUsed, lowerEnd, upperEnd, isAssignment, objective, isLawful, barred}
 use Rattle.definitions.specs.Consistency.{Family, Supported, Refuted, forbidden, allowed, refuted, allRefuted}
-use Rattle.definitions.specs.Moves.{Difference, onlyWhere, pressBy, press, moved}
+use Rattle.definitions.specs.Moves.{Difference, onlyWhere, pressBy, spared, press, moved}
+use Rattle.definitions.specs.Replay.{allBarred}
 use Rattle.definitions.proofs.Refutation.{refuted-sound}
 use Rattle.theory.proofs.Shape.{Shape}
 use Rattle.theory.proofs.Words.{sum-above}
 use Rattle.theory.proofs.Totals.{objectiveOf, objectiveOf-one, used-variable, used-edge, objectiveOf-add}
-use Rattle.theory.proofs.Totals.{objective-plus, value-used, at-used, firstUsed, secondUsed}
+use Rattle.theory.proofs.Totals.{objective-plus, value-used, used-tuple, at-used, firstUsed, secondUsed}
+use Rattle.theory.proofs.Barred.{each-all, lawful-iff, spared-used}
+
+allRefuted-sound : {c : Case} → Shape c → (w : List ℤ) (raised : List ℕ) (i : ℕ) (lowered : ℕ → Bool)
+    → T (allRefuted c w (isIn raised) i lowered) → (k : ℕ) → k < c .d → T (lowered k) → Refuted c w (isIn raised) i k
+allRefuted-sound {c} s w raised i lowered r k g t =
+    refuted-sound c w (isIn raised) i k (λ e u. (omega (arith, s .ascending e u, s .below-n e u), s .below-n e u))
+    (imp-elim (lowered k) (refuted c w (isIn raised) i k) (all-at (λ k. lowered k ⇒ refuted c w (isIn raised) i k) (c .d) r k g) t)
 
 module _ {c : Case} (s : Shape c) (p : List ℕ) (assigned : T (isAssignment c p)) (w : List ℤ) (R : ℕ → Bool) where
   lower-below : (e : ℕ) → e < c .m → lowerEnd c e < c .n
@@ -101,12 +109,45 @@ module _ {c : Case} (s : Shape c) (p : List ℕ) (assigned : T (isAssignment c p
         paid (inr t) = if-false (negℤ a) (pos 0) (lowered (valueOf p i)) t ▸ some-given i ▸ given i (omega arith) ▸ simp flat (omega zs)
 
 -- the press of values that are all refuted, active or not
-pub press-moves : {c : Case} → Shape c → (p : List ℕ) → T (isAssignment c p) → (w : List ℤ) (i : ℕ) → i < c .n
+pub press-moves : {c : Case} → Shape c → (p : List ℕ) (w : List ℤ) → T (isLawful c w p) → (i : ℕ) → i < c .n
     → (lowered : ℕ → Bool) (raised : List ℕ) → T (allRefuted c w (isIn raised) i lowered)
     → (a : ℤ) → pos 0 ≤ℤ a → objective c w p ≤ℤ objective c (moved c (press i lowered raised a) w) p
-press-moves {c} s p assigned w i h lowered raised r a least =
-    objective-plus s p assigned (pressBy c w i lowered (isIn raised) a) w
-    ▸ press-lowers-none s p assigned w (isIn raised) i h lowered (λ k g t.
-    refuted-sound c w (isIn raised) i k (λ e u. (omega (arith, s .ascending e u, s .below-n e u), s .below-n e u))
-    (imp-elim (lowered k) (refuted c w (isIn raised) i k) (all-at (λ k. lowered k ⇒ refuted c w (isIn raised) i k) (c .d) r k g) t)) a least
+press-moves {c} s p w lawful i h lowered raised r a least =
+    let assigned : T (isAssignment c p) = lawful-iff c w p .0 lawful .0 in
+    objective-plus s p assigned (spared c w (pressBy c w i lowered (isIn raised) a)) w
+    ▸ spared-used c w p lawful (pressBy c w i lowered (isIn raised) a)
+    ▸ press-lowers-none s p assigned w (isIn raised) i h lowered (λ k g t. allRefuted-sound s w raised i lowered r k g t) a least
     ▸ simp flat (omega zs)
+
+-- A void line's conditions leave no lawful assignment: its value of the variable would be one of the refuted ones, all others being barred, and
+-- it would use no forbidden tuple, all being barred, so that its values were a supported family.
+pub none-lawful : {c : Case} → Shape c → (p : List ℕ) (w : List ℤ) → T (isLawful c w p) → (i : ℕ) → i < c .n
+    → (lowered : ℕ → Bool) (raised : List ℕ) → T (allRefuted c w (isIn raised) i lowered) → T (allBarred c w i lowered (isIn raised)) → ⊥
+none-lawful {c} s p w lawful i h lowered raised r b =
+    let (x, g, f) = forbidden-used s p assigned w R i (allRefuted-sound s w raised i lowered r (valueOf p i) (value-used s p assigned i h) is-lowered) in
+    T-not (atUsed c p x (barred c w x)) (free x g) (rw (at-used c p (barred c w x) x)
+    (imp-elim (forbidden c w R x (firstUsed c p x) (secondUsed c p x)) (barred c w x (firstUsed c p x) (secondUsed c p x))
+    (each-all c (λ k l. forbidden c w R x k l ⇒ barred c w x k l) x g .0
+    (all-at tuples (scopeCount c) (and-right (all others (values c)) (all tuples (scopes c)) b) x g)
+    (firstUsed c p x) (secondUsed c p x) (used-tuple s p assigned x g)) (rw (at-used c p (forbidden c w R x) x) at f)))
+  where
+    R : ℕ → Bool
+    R = isIn raised
+
+    assigned : T (isAssignment c p)
+    assigned = lawful-iff c w p .0 lawful .0
+
+    free : (x : ℕ) → x < scopeCount c → T (not (atUsed c p x (barred c w x)))
+    free = lawful-iff c w p .0 lawful .1
+
+    others : ℕ → Bool
+    others k = not (lowered k) ⇒ barred c w i k 0
+
+    tuples : ℕ → Bool
+    tuples x = all (λ b. b) (eachTuple c x (λ k l. forbidden c w (isIn raised) x k l ⇒ barred c w x k l))
+
+    is-lowered : T (lowered (valueOf p i))
+    is-lowered = ⊎-elim (λ t. t) (λ t. absurd (T-not (atUsed c p i (barred c w i)) (free i (omega arith)) (rw (used-variable c p (barred c w i) i h)
+        (imp-elim (not (lowered (valueOf p i))) (barred c w i (valueOf p i) 0)
+        (all-at others (c .d) (and-left (all others (values c)) (all tuples (scopes c)) b) (valueOf p i) (value-used s p assigned i h)) t))))
+        (either (lowered (valueOf p i)))

@@ -15,7 +15,7 @@ use lib.Dec.{T, eqb, eqb→eq, ltb, ltb→lt, nltb→le, lt→ltb, lit<}
 use lib.Signed.{_≤ℤ_, _<ℤ_}
 use lib.ListN.{length}
 use Rattle.integers.specs.Words.{if_then_else_, first, last, joined, isSome, minus, withinZ}
-use Rattle.integers.specs.Tests.{and-iff, not-or-iff, not-not-iff, not-leb-iff, not-eqb-iff, and-intro, and-left, and-right, either, if-false}
+use Rattle.integers.specs.Tests.{and-iff, not-or-iff, not-not-iff, not-leb-iff, not-eqb-iff, and-intro, and-left, and-right, either, if-false, if-cases}
 use Rattle.integers.specs.Linear.{flat, zs, _▸_, T-eq}
 use Rattle.integers.specs.Lists.{_∈_, map-append}
 use Rattle.integers.specs.Sums.{Σ-most, Σ-least}
@@ -25,49 +25,32 @@ use Rattle.definitions.specs.declared.Refusal.{Refusal}
 use Rattle.definitions.specs.Rules.{Rules, Coherent, scopesAtMost}
 use Rattle.definitions.specs.Refusals.{firstOf}
 use Rattle.definitions.specs.Case.{scopeCount, greatest, upperBound}
-use Rattle.definitions.specs.Valid.{workingWeight, allWeights}
-use Rattle.definitions.specs.Moves.{Move, shift, press, activePress, shiftAmount, pressAmount, activeValues, activeRefuted, difference, moved, leavesRange}
+use Rattle.definitions.specs.Valid.{inWorking, workingWeight}
+use Rattle.definitions.specs.Moves.{Move, shift, press, activePress, shiftAmount, pressAmount, activeValues, activeRefuted, moved, leavesRange}
 use Rattle.definitions.specs.Lines.{line, lineText, lineTooWide, readLine, notDue, outside}
 use Rattle.calls.specs.Calls.{isRising}
-use Rattle.definitions.specs.Replay.{Held, State, holding, afterBound, kindsDue, notAbove, testsOfKind, lineTests, taken, answered, stepUnrefused, step, after}
+use Rattle.definitions.specs.Replay.{pressing, Held, State, holding, afterBound, kindsDue, notAbove, targetTests, testsOfKind, lineTests}
+use Rattle.definitions.specs.Replay.{taken, answered, stepUnrefused, step, after}
 use Rattle.definitions.proofs.ColumnLaws.{fits-digits, fits}
 use Rattle.definitions.proofs.LineLaws.{each-fits, line-read}
 use Rattle.definitions.specs.RoundLines.{raiseLine, moveLines, boundLine, roundLines, roundText}
-use Rattle.theory.proofs.Places.{first-tuple, greatest-at, all-weights, plus-length}
+use Rattle.theory.proofs.Barred.{greatest-in-range}
 use Rattle.theory.proofs.Validity.{none-applies, Handed}
-use Rattle.theory.proofs.Replays.{AllowedShift, AllowedPress, Allowed, Quiet, Sound, sound-step, stepped, stepped-allowed, case-after, none-iff}
+use Rattle.theory.proofs.Replays.{AllowedShift, AllowedPress, Allowed, handed-moved, Quiet, Sound, sound-step, stepped}
+use Rattle.theory.proofs.Replays.{stepped-allowed, case-after, none-iff}
 
 -- ---- moves that are allowed
-
-pub stays-in-range : (r : Rules) (c : Case) (w : List ℤ) (move : Move) → Allowed r c w move → T (not (leavesRange r c (moved c move w)))
-stays-in-range r c w (shift e end v a) h = h .in-range
-stays-in-range r c w (press i lowered raised a) h = h .in-range
 
 -- one after another they lead from w to v
 pub data AllAllowed (r : Rules) (c : Case) : List ℤ → List Move → List ℤ → Type 0 where
   no-move : {w : List ℤ} → AllAllowed r c w [] w
   one-more : {w v : List ℤ} {move : Move} {moves : List Move} → Allowed r c w move → AllAllowed r c (moved c move w) moves v → AllAllowed r c w (move ∷ moves) v
 
--- a table in the working range stays one
-pub handed-moved : (r : Rules) (c : Case) (w : List ℤ) (move : Move) → Allowed r c w move → Handed r (workingWeight r) c w
-    → Handed r (workingWeight r) c (moved c move w)
-handed-moved r c w move h k =
-    let e = plus-length c (difference c w move) w (let e = k .long in omega arith) in
-    record {
-      variables-most = k .variables-most;
-      values-most = k .values-most;
-      edges-most = k .edges-most;
-      long = e ∙ k .long;
-      shape = k .shape;
-      apart = k .apart;
-      in-range = all-weights c (workingWeight r) (moved c move w) (let f = k .long in omega arith) .0
-          (not-not-iff (allWeights (workingWeight r) c (moved c move w)) .0 (stays-in-range r c w move h));
-    }
-
-pub all-handed : {r : Rules} {c : Case} {w v : List ℤ} {moves : List Move} → AllAllowed r c w moves v → Handed r (workingWeight r) c w
+-- a table that every call takes stays one
+pub all-handed : {r : Rules} → Coherent r → {c : Case} {w v : List ℤ} {moves : List Move} → AllAllowed r c w moves v → Handed r (workingWeight r) c w
     → Handed r (workingWeight r) c v
-all-handed no-move k = k
-all-handed {r} {c} {w} (one-more {move} h m) k = all-handed m (handed-moved r c w move h k)
+all-handed coherent no-move k = k
+all-handed coherent {c} {w} (one-more {move} h m) k = all-handed coherent m (handed-moved coherent c w move h k)
 
 -- whatever the lines, the weights after them are reached by allowed moves
 pub moves-after : {r : Rules} {s : State} → Sound r s → (ts : List (List ℕ))
@@ -122,10 +105,10 @@ above-last r (y ∷ z ∷ ys) x xs t = above-last r (z ∷ ys) x xs (and-right (
 
 -- they are due where moves are written
 pub record MoveKinds (r : Rules) : Type 0 where
-  pub shift-due : (e end v : ℕ) (a : ℤ) → T (not (notDue r (kindsDue none) (line 1 (pos e) (pos end) (pos v) a)))
-  pub press-due : (i k : ℕ) (a : ℤ) → T (not (notDue r (kindsDue none) (line 2 (pos i) (pos k) (pos 0) a)))
-  pub raise-due : (h : Held) (x : ℕ) → T (not (notDue r (kindsDue (some h)) (raiseLine x)))
-  pub bound-due : (z : ℤ) → T (not (notDue r (kindsDue none) (boundLine z)))
+  pub shift-due : (e end v : ℕ) (a : ℤ) → T (not (notDue r (kindsDue false none) (line 1 (pos e) (pos end) (pos v) a)))
+  pub press-due : (i k : ℕ) (a : ℤ) → T (not (notDue r (kindsDue false none) (line 2 (pos i) (pos k) (pos 0) a)))
+  pub raise-due : (h : Held) (x : ℕ) → T (not (notDue r (kindsDue false (some h)) (raiseLine x)))
+  pub bound-due : (z : ℤ) → T (not (notDue r (kindsDue false none) (boundLine z)))
 
 pub move-kinds : {r : Rules} → Coherent r → MoveKinds r
 move-kinds {r} coherent = record {
@@ -164,8 +147,8 @@ module _ {r : Rules} (coherent : Coherent r) where
 
     greatest-working : (x : ℕ) → x < scopeCount c → (minus (r .working) ≤ℤ greatest c w x) × (greatest c w x ≤ℤ pos (r .working))
     greatest-working x g =
-        let (k, l, t, e) = greatest-at c w (first-tuple c (h .shape .some-value) x g) in
-        (h .in-range x k l t ▸ e ▸ simp flat (omega zs), h .in-range x k l t ▸ e ▸ simp flat (omega zs))
+        let q : T (inWorking r (greatest c w x)) = greatest-in-range c coherent w (h .in-range) x g (h .some-free x g) in
+        (q ▸ simp flat (omega zs), q ▸ simp flat (omega zs))
 
     -- an upper bound of working weights fits the amount column
     bound-small : natAbs (upperBound c w) < 10 ^ (r .amountWidth - 1)
@@ -207,7 +190,7 @@ module _ {r : Rules} (coherent : Coherent r) where
   round-fits h no-move m = rw (List·Memᴰ·eq-of-singleton m) (bound-fits h)
   round-fits {c} {w} h (one-more {v} {move} {moves} k a) {l} m =
       go (List·Memᴰ·append-cases (moveLines move) (subst (λ (q : List Line). l ∈ q)
-      (append-assoc (moveLines move) (joined (map moveLines moves)) (boundLine (upperBound c v) ∷ [])) m)) (round-fits (handed-moved r c w move k h) a)
+      (append-assoc (moveLines move) (joined (map moveLines moves)) (boundLine (upperBound c v) ∷ [])) m)) (round-fits (handed-moved coherent c w move k h) a)
     where
       go : l ∈ moveLines move ⊎ l ∈ roundLines c moves v → (l ∈ roundLines c moves v → lineTooWide (r .amountWidth) l ≡ false)
           → lineTooWide (r .amountWidth) l ≡ false
@@ -220,7 +203,7 @@ pub after-append : (r : Rules) (s : State) (xs ys : List (List ℕ)) → after r
 after-append r s [] ys = refl
 after-append r s (x ∷ xs) ys = after-append r (step r s x) xs ys
 
--- the state with other weights, no press held and no number
+-- the state with other weights, nothing held, no void line and no number
 abbrev pub standing : State → List ℤ → Bool → State
 standing s w moving = record {
   case = s .case;
@@ -230,14 +213,16 @@ standing s w moving = record {
   start = s .start;
   held = none;
   moving = moving;
+  void = false;
   refusal = none;
 }
 
-stands : (s : State) → s .refusal ≡ none → s .held ≡ none → s ≡ standing s (s .weights) (s .moving)
-stands s e f = ap₂ (λ (h : Option Held) (x : Option Refusal). again h x) f e
+stands : (s : State) → s .refusal ≡ none → s .held ≡ none → s .void ≡ false → s ≡ standing s (s .weights) (s .moving)
+stands s e f g =
+    ap₂ (λ (h : Option Held) (x : Option Refusal). again h (s .void) x) f e ∙ ap (λ (v : Bool). again none v none) g
   where
-    again : Option Held → Option Refusal → State
-    again h x = record {
+    again : Option Held → Bool → Option Refusal → State
+    again h v x = record {
       case = s .case;
       starting = s .starting;
       weights = s .weights;
@@ -245,6 +230,7 @@ stands s e f = ap₂ (λ (h : Option Held) (x : Option Refusal). again h x) f e
       start = s .start;
       held = h;
       moving = s .moving;
+      void = v;
       refusal = x;
     }
 
@@ -263,14 +249,14 @@ module _ {r : Rules} (coherent : Coherent r) (kinds : MoveKinds r) (s : State) w
   abbrev text : Line → List ℕ
   text l = lineText (r .amountWidth) l
 
-  line-taken : (u : State) (l : Line) → u .refusal ≡ none → lineTooWide (r .amountWidth) l ≡ false → T (not (notDue r (kindsDue (u .held)) l))
+  line-taken : (u : State) (l : Line) → u .refusal ≡ none → lineTooWide (r .amountWidth) l ≡ false → T (not (notDue r (kindsDue (u .void) (u .held)) l))
       → Quiet (testsOfKind r u (u .held) l)
       → step r u (text l) ≡ taken u (u .held) (some l)
   line-taken u l e f due q =
       if-false u (stepUnrefused r u (readLine (r .amountWidth) (text l))) (isSome (u .refusal)) (rw e tt)
       ∙ ap (stepUnrefused r u) (line-read (r .amountWidth) l f)
       ∙ ap (answered u (some l)) (none-iff (firstOf (lineTests r u (some l))) .0 (none-applies (lineTests r u (some l)) .1
-      (and-intro (not (notDue r (kindsDue (u .held)) l)) _ due q)))
+      (and-intro (not (notDue r (kindsDue (u .void) (u .held)) l)) _ due q)))
 
   module _ {w : List ℤ} (h : Handed r (workingWeight r) (s .case) w) where
     shift-taken : (b : Bool) (e end v : ℕ) (a : ℤ) → AllowedShift r (s .case) w e end v a
@@ -289,7 +275,7 @@ module _ {r : Rules} (coherent : Coherent r) (kinds : MoveKinds r) (s : State) w
     module _ {i : ℕ} {raised : List ℕ} {a : ℤ} (k : AllowedPress r (s .case) w i (activeValues (s .case) w i) raised a) where
       -- the press held with some scopes raised
       abbrev held : List ℕ → ℕ → Held
-      held ys left = record { variable = i; amount = a; raised = ys; left = left }
+      held ys left = record { variable = i; target = pressing a; raised = ys; left = left }
 
       press-taken : (b : Bool) → step r (standing s w b) (text (line 2 (pos i) (pos (length raised)) (pos 0) a))
           ≡ holding (standing s w b) (held [] (length raised))
@@ -321,11 +307,9 @@ module _ {r : Rules} (coherent : Coherent r) (kinds : MoveKinds r) (s : State) w
               (
                 not-and (eqb left 1) (not (activeRefuted (s .case) w i (ys ++ (x ∷ []))))
                     (λ t. not-not-iff (activeRefuted (s .case) w i (ys ++ (x ∷ []))) .1 (rw (whole (eqb→eq left 1 t)) (k .refutes))),
-                (
-                  not-and (eqb left 1) (leavesRange r (s .case) (moved (s .case) (activePress (s .case) w i (ys ++ (x ∷ [])) a) w))
-                      (λ t. rw (whole (eqb→eq left 1 t)) (k .in-range)),
-                  tt,
-                ),
+                if-cases Quiet (eqb left 1) (targetTests r (holding (standing s w b) (held ys left)) (held (ys ++ (x ∷ [])) (left - 1)) (pressing a)) []
+                    (λ t. and-intro (not (leavesRange r (s .case) w (moved (s .case) (activePress (s .case) w i (ys ++ (x ∷ [])) a) w))) true
+                    (rw (whole (eqb→eq left 1 t)) (k .in-range)) tt) (λ t. tt),
               ),
             ),
           ))
@@ -373,12 +357,12 @@ module _ {r : Rules} (coherent : Coherent r) (kinds : MoveKinds r) (s : State) w
       ap (after r (standing s w b)) (map-append text (moveLines move) (joined (map moveLines moves)))
       ∙ after-append r (standing s w b) (map text (moveLines move)) (map text (joined (map moveLines moves)))
       ∙ ap (λ (u : State). after r u (map text (joined (map moveLines moves)))) (move-taken h b move k)
-      ∙ moves-on true (handed-moved r (s .case) w move k h) m ∙ ap (standing s v) (or-true (isSome (first moves)))
+      ∙ moves-on true (handed-moved coherent (s .case) w move k h) m ∙ ap (standing s v) (or-true (isSome (first moves)))
 
-  module _ (unrefused : s .refusal ≡ none) (unheld : s .held ≡ none) (h : Handed r (workingWeight r) (s .case) (s .weights)) where
+  module _ (unrefused : s .refusal ≡ none) (unheld : s .held ≡ none) (going : s .void ≡ false) (h : Handed r (workingWeight r) (s .case) (s .weights)) where
     pub moves-taken : {v : List ℤ} {moves : List Move} → AllAllowed r (s .case) (s .weights) moves v
         → after r s (map (lineText (r .amountWidth)) (joined (map moveLines moves))) ≡ standing s v (isSome (first moves) || s .moving)
-    moves-taken {moves} m = ap (λ (u : State). after r u (map text (joined (map moveLines moves)))) (stands s unrefused unheld) ∙ moves-on (s .moving) h m
+    moves-taken {moves} m = ap (λ (u : State). after r u (map text (joined (map moveLines moves)))) (stands s unrefused unheld going) ∙ moves-on (s .moving) h m
 
     module _ {v : List ℤ} {moves : List Move} (m : AllAllowed r (s .case) (s .weights) moves v) (few : s .rounds < r .rounds)
         (lower : upperBound (s .case) v <ℤ s .start) where
@@ -387,4 +371,4 @@ module _ {r : Rules} (coherent : Coherent r) (kinds : MoveKinds r) (s : State) w
           ap (after r s) (map-append text (joined (map moveLines moves)) (boundLine (upperBound (s .case) v) ∷ []))
           ∙ after-append r s (map text (joined (map moveLines moves))) (text (boundLine (upperBound (s .case) v)) ∷ [])
           ∙ ap (λ (u : State). step r u (text (boundLine (upperBound (s .case) v)))) (moves-taken m)
-          ∙ bound-taken (all-handed m h) (isSome (first moves) || s .moving) few lower
+          ∙ bound-taken (all-handed coherent m h) (isSome (first moves) || s .moving) few lower

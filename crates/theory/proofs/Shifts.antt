@@ -1,4 +1,4 @@
--- A shift keeps every assignment's objective: what it adds to a value of an end's variable it takes from the tuples that use that value.
+-- A shift keeps every lawful assignment's objective: what it adds to a value of an end's variable it takes from the tuples that use that value.
 -- Assumes nothing.
 use mathlib.Core.Path.{_≡_, refl, ap, ap₂, _∙_}
 use mathlib.Core.Bool.{Bool, true, false, _&&_}
@@ -10,10 +10,11 @@ use lib.Dec.{T, eqb}
 use Rattle.integers.specs.Words.{if_then_else_}
 use Rattle.integers.specs.Tests.{if-cases}
 use Rattle.definitions.specs.declared.Case.{Case}
-use Rattle.definitions.specs.Case.{valueOf, lowerEnd, upperEnd, isAssignment, objective}
-use Rattle.definitions.specs.Moves.{onlyWhere, endVariable, endValue, shiftBy, shift, moved}
+use Rattle.definitions.specs.Case.{valueOf, lowerEnd, upperEnd, isLawful, objective}
+use Rattle.definitions.specs.Moves.{onlyWhere, endVariable, endValue, shiftBy, spared, shift, moved}
 use Rattle.theory.proofs.Shape.{Shape}
 use Rattle.theory.proofs.Totals.{objectiveOf, objectiveOf-one, used-variable, used-edge, objectiveOf-add, objective-plus}
+use Rattle.theory.proofs.Barred.{lawful-iff, spared-used}
 
 module _ (c : Case) (e end v : ℕ) (a : ℤ) where
   end-used : (p : List ℕ) → endValue end (valueOf p (lowerEnd c e)) (valueOf p (upperEnd c e)) ≡ valueOf p (endVariable c e end)
@@ -42,5 +43,7 @@ module _ (c : Case) (e end v : ℕ) (a : ℤ) where
         none true = +ℤ-invr a
         none false = refl
 
-    pub shift-moves : (p : List ℕ) → T (isAssignment c p) → (w : List ℤ) → objective c (moved c (shift e end v a) w) p ≡ objective c w p
-    shift-moves p i w = objective-plus s p i (shiftBy c e end v a) w ∙ ap (λ (z : ℤ). objective c w p +ℤ z) (shift-keeps p) ∙ +ℤ-idr (objective c w p)
+    pub shift-moves : (p : List ℕ) (w : List ℤ) → T (isLawful c w p) → objective c (moved c (shift e end v a) w) p ≡ objective c w p
+    shift-moves p w t =
+        objective-plus s p (lawful-iff c w p .0 t .0) (spared c w (shiftBy c e end v a)) w
+        ∙ ap (λ (z : ℤ). objective c w p +ℤ z) (spared-used c w p t (shiftBy c e end v a) ∙ shift-keeps p) ∙ +ℤ-idr (objective c w p)

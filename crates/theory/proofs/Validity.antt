@@ -1,8 +1,8 @@
 -- What is known of a case and a table that are handed over and not refused, as plain facts: what a valid case is, and that its starting
 -- weights are working weights. Assumes nothing.
-use mathlib.Core.Path.{_≡_}
+use mathlib.Core.Path.{_≡_, sym, subst, _∙_}
 use mathlib.Core.Bool.{Bool, true, false, not, _&&_}
-use mathlib.Core.Logic.{_↔_}
+use mathlib.Core.Logic.{_↔_, ⊎-elim}
 use mathlib.Core.Option.{some}
 use mathlib.Core.List.{List, [], _∷_}
 use Prim.Native.Nat.{ℕ, _≤_, _<_}
@@ -11,18 +11,20 @@ use lib.IntN.{ℤ}
 use lib.Dec.{T, T-not, not-T, eqb, ltb}
 use lib.ListN.{length}
 use Rattle.integers.specs.Words.{if_then_else_, all, isSome}
-use Rattle.integers.specs.Tests.{tests, and-left, and-right, and-intro, not-not-iff}
+use Rattle.integers.specs.Tests.{tests, and-left, and-right, and-intro, or-left, or-right, or-cases, not-not-iff}
 use Rattle.integers.specs.Linear.{flat, zs, _▸_}
 use Rattle.integers.specs.Lists.{all-in, any-in}
 use Rattle.definitions.specs.declared.Case.{Case}
-use Rattle.definitions.specs.Case.{lowerEnd, upperEnd, lentLength, weight, isAssignment}
+use Rattle.definitions.specs.Case.{scopeCount, lowerEnd, upperEnd, lentLength, weight, isAssignment, isBarred, whollyBarred}
 use Rattle.definitions.specs.Rules.{Rules, Coherent}
 use Rattle.definitions.proofs.RulesLaws.{rules-fit}
 use Rattle.definitions.specs.Refusals.{Test, firstOf}
-use Rattle.definitions.specs.Valid.{startingWeight, workingWeight, wrongAssignment, valueOut, handedOver, valid}
+use Rattle.definitions.specs.Moves.{Difference, plus, spared, leavesRange}
+use Rattle.definitions.specs.Valid.{inStarting, inWorking, startingWeight, workingWeight, wrongAssignment, valueOut, handedOver, valid}
 use Rattle.theory.proofs.Shape.{Shape}
 use Rattle.theory.proofs.Words.{none-below}
-use Rattle.theory.proofs.Places.{IsTuple, all-weights}
+use Rattle.theory.proofs.Places.{IsTuple, each-cong, all-weights, plus-length}
+use Rattle.theory.proofs.Barred.{bars-kept, working-kept}
 
 -- the first refusal of a list is none just where none applies
 pub none-applies : (ts : List Test) → T (not (isSome (firstOf ts))) ↔ T (all (λ t. not (t .applies)) ts)
@@ -47,6 +49,8 @@ pub record Handed (r : Rules) (range : ℤ → Bool) (c : Case) (w : List ℤ) :
   -- no edge is repeated
   pub apart : (e f : ℕ) → e < c .m → f < e → lowerEnd c e ≡ lowerEnd c f → upperEnd c e ≡ upperEnd c f → ⊥
   pub in-range : (x k l : ℕ) → IsTuple c x k l → T (range (weight c w x k l))
+  -- no scope is wholly barred
+  pub some-free : (x : ℕ) → x < scopeCount c → T (not (whollyBarred c w x))
 
 module _ (r : Rules) (range : ℤ → Bool) (c : Case) (w : List ℤ) (wrong out : Bool) where
   pub handed : T (not (isSome (firstOf (handedOver r range c w wrong out)))) ↔ Handed r range c w × T (not wrong) × T (not out)
@@ -67,6 +71,7 @@ module _ (r : Rules) (range : ℤ → Bool) (c : Case) (w : List ℤ) (wrong out
             };
             apart = λ e f h g. p .1 .1 .1 .1 .0 e h f g;
             in-range = all-weights c range w (omega arith) .0 (p .1 .1 .1 .1 .1 .0);
+            some-free = p .1 .1 .1 .1 .1 .1 .0;
           },
           p .1 .0 .1,
           p .1 .1 .0 .0,
@@ -84,7 +89,7 @@ module _ (r : Rules) (range : ℤ → Bool) (c : Case) (w : List ℤ) (wrong out
                 s .ascending,
                 (
                   λ e u f v. h .apart e f u v,
-                  (all-weights c range w (omega arith) .1 (h .in-range), tt),
+                  (all-weights c range w (omega arith) .1 (h .in-range), (h .some-free, tt)),
                 ),
               ),
             ),
@@ -105,7 +110,39 @@ module _ (r : Rules) (c : Case) (w : List ℤ) where
 
 module _ {r : Rules} {c : Case} {w : List ℤ} (coherent : Coherent r) (h : Valid r c w) where
   pub working-weights : (x k l : ℕ) → IsTuple c x k l → T (workingWeight r (weight c w x k l))
-  working-weights x k l t = rules-fit coherent .starting ▸ h .in-range x k l t ▸ simp flat (omega zs)
+  working-weights x k l t = go (weight c w x k l) (h .in-range x k l t)
+    where
+      go : (z : ℤ) → T (startingWeight r z) → T (workingWeight r z)
+      go z = λ s. ⊎-elim (λ b. or-left (isBarred z) (inWorking r z) b)
+          (λ i. or-right (isBarred z) (inWorking r z) (rules-fit coherent .starting ▸ i ▸ simp flat (omega zs))) (or-cases (isBarred z) (inStarting r z) s)
+
+  pub working-handed : Handed r (workingWeight r) c w
+  working-handed = record {
+    variables-most = h .variables-most;
+    values-most = h .values-most;
+    edges-most = h .edges-most;
+    long = h .long;
+    shape = h .shape;
+    apart = h .apart;
+    in-range = working-weights;
+    some-free = h .some-free;
+  }
+
+-- a table that is changed, barred tuples apart, and does not leave the range
+pub handed-spared : {r : Rules} → Coherent r → {c : Case} {w : List ℤ} (δ : Difference) → Handed r (workingWeight r) c w
+    → T (not (leavesRange r c w (plus c (spared c w δ) w))) → Handed r (workingWeight r) c (plus c (spared c w δ) w)
+handed-spared {r} coherent {c} {w} δ h t =
+    let e = plus-length c (spared c w δ) w (let e = h .long in omega arith) in
+    record {
+      variables-most = h .variables-most;
+      values-most = h .values-most;
+      edges-most = h .edges-most;
+      long = e ∙ h .long;
+      shape = h .shape;
+      apart = h .apart;
+      in-range = λ x a b u. working-kept c w δ r t u (h .in-range x a b u);
+      some-free = λ x g. subst (λ (l : List Bool). T (not (all (λ b. b) l))) (sym (each-cong c x g (λ a b u. bars-kept c w δ coherent t u))) (h .some-free x g);
+    }
 
 -- an assignment of the case's length, with all values in their range, is what `isAssignment` asks for
 module _ (c : Case) (p : List ℕ) where

@@ -1,7 +1,7 @@
 //! Reads a case file, lets the engine lower its ceiling, replays the log in blocks, and prints what the checker says, the first round's
 //! lines, which of two simple plans is better, and what pair rounds alone come to.
 
-use ceiling::{case_size, read_case, view, Refused, Replay, LINE, ROOM};
+use ceiling::{case_size, read_case, view, End, Refused, Replay, LINE, ROOM};
 use std::io::Write;
 
 const ROUNDS: u64 = 100_000;
@@ -43,7 +43,10 @@ fn example(text: &[u8]) -> Result<Vec<u8>, Refused> {
     for block in log.chunks(100 * LINE) {
         passed += replay.lines(&case, &mut table, block).map_err(|r| Refused { line: r.line + passed, ..r })?;
     }
-    let rounds = replay.end(&case, log.len() % LINE).map_err(|r| Refused { line: passed, ..r })?;
+    let end = replay.end(&case, log.len() % LINE).map_err(|r| Refused { line: passed, ..r })?;
+    let End::Accepted(rounds) = end else {
+        return Ok(b"void\n".to_vec());
+    };
     let ceiling = case.upper_bound(&table)?;
     assert!(rounds == run.rounds && ceiling == run.bound);
 

@@ -25,6 +25,7 @@ pub struct Total {
 pub struct Rounds {
     pub number: u64,
     pub rounds: u64,
+    pub is_void: u64,
 }
 
 #[repr(C)]

@@ -40,6 +40,8 @@ pub fn engine_version() -> u64 {
     unsafe { c::ceiling_engine_version() }
 }
 
+/// The engine takes no barred channels yet: a table with one is number 8.
+///
 /// A pair gains if the greatest weights of the pair and its two links add up to more than these three weights do for any two channels. Its round
 /// shifts the links' weights into the pair, which keeps every plan's total. A pair whose round would leave the working range is passed over.
 impl Case {

@@ -1,14 +1,15 @@
 //! Safe calls of the ceiling library: a verified checker and engine for channel plans.
 //!
-//! A case has links, channels and pairs of links, and a table of weights; the ceiling is a number that no plan's total is above. The engine
-//! lowers it in rounds and logs each move, and the checker replays such logs, whoever wrote them. docs/LIBRARY.md tells what each call answers,
-//! docs/RULES.md how case files and logs are written and judged.
+//! A case has links, channels and pairs of links, and a table of weights, in which a channel may be barred ([`BARRED`]). A plan is lawful if it
+//! uses nothing barred, and the ceiling is a number that no lawful plan's total is above. The engine lowers it in rounds and logs each move, and the
+//! checker replays such logs, whoever wrote them. docs/LIBRARY.md tells what each call answers, docs/RULES.md how case files and logs are written
+//! and judged.
 //!
 //! The functions called are proved; this wrapper is not. It hands over whole slices and arrays of the right size, borrowed for the call alone:
 //! that is all that the library asks. Nothing is kept between calls, so that calls on different tables may run at once on different threads.
 //!
 //! ```
-//! use ceiling::{read_case, Replay, LINE};
+//! use ceiling::{read_case, End, Replay, LINE};
 //!
 //! let text = b"\
 //! 10   2   2   1           0
@@ -36,7 +37,7 @@
 //!
 //! let mut replay = Replay::start(&case, &table)?;
 //! replay.lines(&case, &mut table, log.as_bytes())?;
-//! assert_eq!(replay.end(&case, log.len() % LINE)?, 1); // accepted, one round
+//! assert_eq!(replay.end(&case, log.len() % LINE)?, End::Accepted(1)); // one round
 //! assert_eq!(case.upper_bound(&table)?, 2); // so the plan above is a best one
 //! # Ok::<(), ceiling::Refused>(())
 //! ```
@@ -62,6 +63,9 @@ pub const PAIRS: usize = 96;
 /// The bytes of a line.
 pub const LINE: usize = 27;
 
+/// What a table holds where a channel, or a pair of channels, is barred.
+pub const BARRED: i64 = -2_000_000_000;
+
 /// The bytes of a case.
 pub const CASE: usize = 24 + 2 * PAIRS;
 
@@ -79,7 +83,7 @@ pub struct Replay([u8; RECORD]);
 /// Why a call was refused.
 #[derive(Clone, Copy, Debug, PartialEq, Eq)]
 pub struct Refused {
-    /// The number of the rule that was broken, 1 to 14.
+    /// The number of the rule that was broken, 1 to 16.
     pub number: u64,
     /// In a file or a block of lines the line, counted from 0; else 0.
     pub line: usize,
@@ -93,6 +97,15 @@ impl std::fmt::Display for Refused {
 }
 
 impl std::error::Error for Refused {}
+
+/// What the end of a log says that was not refused.
+#[derive(Clone, Copy, Debug, PartialEq, Eq)]
+pub enum End {
+    /// The log is accepted, with so many rounds.
+    Accepted(u64),
+    /// The log ends with a void line: no lawful plan exists.
+    Void,
+}
 
 /// What the head of a case file says.
 #[derive(Clone, Copy, Debug, PartialEq, Eq)]
@@ -164,19 +177,19 @@ impl Case {
         &self.0
     }
 
-    /// The ceiling: the sum over scopes of the greatest weight.
+    /// The ceiling: the sum over scopes of the greatest weight. No lawful plan's total is above it.
     pub fn upper_bound(&self, table: &[i64]) -> Result<i64, Refused> {
         let r = unsafe { c::ceiling_upper_bound(self.0.as_ptr(), table.as_ptr(), table.len()) };
         answer(r.number, 0, r.total)
     }
 
-    /// A plan's total; a plan is one channel for each link.
+    /// A plan's total; a plan is one channel for each link. An unlawful one is number 5.
     pub fn objective(&self, table: &[i64], plan: &[u8]) -> Result<i64, Refused> {
         let r = unsafe { c::ceiling_objective(self.0.as_ptr(), table.as_ptr(), table.len(), plan.as_ptr(), plan.len()) };
         answer(r.number, 0, r.total)
     }
 
-    /// The plan with the greater total on starting weights, the first on a tie.
+    /// The plan with the greater total on starting weights, the first on a tie. Unlawful plans are level, below the lawful.
     pub fn better<'a>(&self, table: &[i64], first: &'a [u8], second: &'a [u8]) -> Result<&'a [u8], Refused> {
         let (a, b) = (first, second);
         let r = unsafe {
@@ -212,9 +225,36 @@ impl Replay {
         answer(r.number, r.lines, r.lines)
     }
 
-    /// The end of the log: its rounds. `part` is how many bytes of a part line are left after the last whole line.
-    pub fn end(&self, case: &Case, part: usize) -> Result<u64, Refused> {
+    /// The end of the log: its rounds, or that it is void. `part` is how many bytes of a part line are left after the last whole line.
+    ///
+    /// ```
+    /// use ceiling::{read_case, End, Replay, BARRED};
+    ///
+    /// // Each of two links has channel 0 alone, and they may not both use it.
+    /// let text = b"\
+    /// 10   2   2   1           0
+    /// 11   0   0   0           0
+    /// 14   0   1   0           0
+    /// 11   1   0   0           0
+    /// 14   1   1   0           0
+    /// 12   0   0   1           0
+    /// 15   0   0   0           0
+    /// 13   0   0   1           0
+    /// 13   0   1   0           0
+    /// 13   0   1   1           0
+    /// ";
+    /// // A void line of link 0 with two raise lines.
+    /// let log = [" 5   0   2   0           0\n", " 3   1   0   0           0\n", " 3   2   0   0           0\n"].concat();
+    ///
+    /// let (case, mut table) = read_case(text)?;
+    /// assert_eq!(table, [0, BARRED, 0, BARRED, BARRED, 0, 0, 0]);
+    /// let mut replay = Replay::start(&case, &table)?;
+    /// replay.lines(&case, &mut table, log.as_bytes())?;
+    /// assert_eq!(replay.end(&case, 0)?, End::Void);
+    /// # Ok::<(), ceiling::Refused>(())
+    /// ```
+    pub fn end(&self, case: &Case, part: usize) -> Result<End, Refused> {
         let r = unsafe { c::ceiling_replay_end(case.0.as_ptr(), self.0.as_ptr(), part) };
-        answer(r.number, 0, r.rounds)
+        answer(r.number, 0, if r.is_void == 0 { End::Accepted(r.rounds) } else { End::Void })
     }
 }

@@ -1,9 +1,10 @@
 //! Calls every function of the Rust wrapper on accepted and on refused input and compares answers and everything lent with what document 01
-//! says, and document 02 of pair rounds. Each call is a test: a line for each that failed, the count as the last line. vectors.c has more rows;
-//! here the wrapper is tried. A case's table of the wrong length (number 4) cannot be handed to `read_case`, which makes the table itself.
+//! says, and document 02 of pair rounds and barred channels. Each call is a test: a line for each that failed, the count as the last line.
+//! vectors.c has more rows; here the wrapper is tried. A case's table of the wrong length (number 4) cannot be handed to `read_case`, which makes
+//! the table itself.
 
-use ceiling::{case_size, engine_version, read_case, version, view, Case, Made, Refused, Replay, Run, Size};
-use ceiling::{CASE, CHANNELS, LINE, LINKS, PAIRS, RECORD, ROOM};
+use ceiling::{case_size, engine_version, read_case, version, view, Case, End, Made, Refused, Replay, Run, Size};
+use ceiling::{BARRED, CASE, CHANNELS, LINE, LINKS, PAIRS, RECORD, ROOM};
 
 const STARTING: i64 = 1_000_000;
 const WORKING: i64 = 500_000_000;
@@ -68,6 +69,19 @@ fn two() -> Sample {
     sample(3, 2, &[[0, 1], [1, 2]], &[0, 0, 1, 0, -1, 0, -2, 0, -2, -1, 0, 0, 0, -1])
 }
 
+/// Barred channels: one lawful plan, 0 1; none; one again, but no press that a void line would need.
+fn single() -> Sample {
+    sample(2, 2, &[[0, 1]], &[2, BARRED, 1, 0, BARRED, 0, 0, 3])
+}
+
+fn no_plan() -> Sample {
+    sample(2, 2, &[[0, 1]], &NO_PLAN)
+}
+
+fn a_plan() -> Sample {
+    sample(2, 2, &[[0, 1]], &A_PLAN)
+}
+
 /// Not starting weights: the pair gains but is passed over, the first press by 1 takes link 0 to the end of the range, the second is number 11.
 fn low() -> Sample {
     let pair = [-3, -3, 0];
@@ -90,14 +104,17 @@ impl Sample {
     fn text(&self) -> Vec<u8> {
         let (n, d) = (self.n as i64, self.d as i64);
         let mut weights = self.table.iter();
+        let weight = |kind, a, b, c, weight| {
+            if weight == BARRED { line(if kind == 11 { 14 } else { 15 }, a, b, c, 0) } else { line(kind, a, b, c, weight) }
+        };
         let mut text = line(10, n, d, self.m as i64, 0);
         for (i, k) in (0..n).flat_map(|i| (0..d).map(move |k| (i, k))) {
-            text.extend(line(11, i, k, 0, *weights.next().unwrap()));
+            text.extend(weight(11, i, k, 0, *weights.next().unwrap()));
         }
         for (e, pair) in self.pairs.iter().enumerate() {
             text.extend(line(12, e as i64, pair[0] as i64, pair[1] as i64, 0));
             for (k, l) in (0..d).flat_map(|k| (0..d).map(move |l| (k, l))) {
-                text.extend(line(13, e as i64, k, l, *weights.next().unwrap()));
+                text.extend(weight(13, e as i64, k, l, *weights.next().unwrap()));
             }
         }
         text
@@ -123,6 +140,7 @@ fn faults(range: i64) -> Vec<(&'static str, u64, Sample)> {
         ("a pair twice", 7, of(&|s| s.pairs[2] = [0, 1])),
         ("a weight above", 8, of(&|s| s.table[0] = range + 1)),
         ("a weight below", 8, of(&|s| s.table[17] = -range - 1)),
+        ("a weight below barred", 8, of(&|s| s.table[1] = BARRED - 1)),
     ]
 }
 
@@ -150,6 +168,10 @@ fn files(count: &mut Count) {
         }
         count.test("read_case", name, matches!(read_case(&text), Err(r) if r == Refused { number, line: at }));
     }
+    let s = single();
+    count.test("read_case", "barred channels", matches!(read_case(&s.text()), Ok((c, t)) if c == s.case() && t == s.table));
+    let barred = sample(2, 2, &[[0, 1]], &[0, 0, BARRED, BARRED, 0, 0, 0, 0]);
+    count.test("read_case", "a link wholly barred", matches!(read_case(&barred.text()), Err(Refused { number: 15, line: 4 })));
     let cut = read_case(&good[..9 * LINE + 5]);
     count.test("read_case", "cut in a pair weight", matches!(cut, Err(Refused { number: 14, line: 9 })));
 }
@@ -186,6 +208,31 @@ fn totals(count: &mut Count) {
     }
 }
 
+/// Unlawful plans have no total and rank level, below the lawful; a scope wholly barred is number 15.
+fn barred(count: &mut Count) {
+    let (case, table) = (single().case(), single().table);
+    count.test("upper_bound", "barred channels", case.upper_bound(&table) == Ok(6));
+    for (plan, answer) in [([0, 1], Ok(2)), ([0, 0], refused(5, 0)), ([1, 1], refused(5, 0))] {
+        count.test("objective", "barred channels", case.objective(&table, &plan) == answer);
+    }
+    for (first, second, better) in [([0, 1], [0, 0], 0), ([0, 0], [0, 1], 1), ([0, 0], [1, 1], 0)] {
+        let choice = case.better(&table, &first, &second);
+        count.test("better", "barred channels", choice == Ok([&first[..], &second][better]));
+    }
+    for (name, number, mut table) in [
+        ("a link wholly barred", 15, [BARRED, BARRED, 0, 0, 0, 0, 0, 0]),
+        ("a pair wholly barred", 15, [0, 0, 0, 0, BARRED, BARRED, BARRED, BARRED]),
+        ("8 before 15", 8, [BARRED, BARRED, 0, 0, 0, 0, 0, WORKING + 1]),
+    ] {
+        count.test("upper_bound", name, case.upper_bound(&table) == refused(number, 0));
+        count.test("objective", name, case.objective(&table, &[0, 0]) == refused(5, 0));
+        count.test("better", name, case.better(&table, &[0, 0], &[0, 1]) == refused(number, 0));
+        count.test("start", name, matches!(Replay::start(&case, &table), Err(r) if r == Refused { number, line: 0 }));
+        let answer = Replay::from_bytes([0; RECORD]).lines(&case, &mut table, &lines(&[[1, 0, 0, 0, 1]]));
+        count.test("lines", name, answer == refused(number, 0));
+    }
+}
+
 const PRESS: [i64; 5] = [2, 0, 2, 0, 2];
 const FIRST: [i64; 5] = [3, 1, 0, 0, 0];
 const LAST: [i64; 5] = [3, 2, 0, 0, 0];
@@ -194,17 +241,20 @@ const START: [i64; 8] = [2, 0, 2, 0, -3, 0, 0, 0];
 const PRESSED: [i64; 8] = [0, 0, 2, 2, -1, 0, 0, 0];
 const SHIFTS: [[i64; 5]; 2] = [[1, 0, 0, 0, -2], [1, 0, 1, 0, -2]];
 const SHIFTED: [i64; 8] = [0, 0, 0, 0, 1, 2, 2, 0];
+const VOID: [i64; 5] = [5, 0, 2, 0, 0];
+const NO_PLAN: [i64; 8] = [0, BARRED, 0, BARRED, BARRED, 0, 0, 0];
+const A_PLAN: [i64; 8] = [0, BARRED, 0, -5, BARRED, 0, 0, 0];
 
-/// Lines of a replay of P4: what the block answers, the table after it, and what the end answers.
-type Row = (&'static str, &'static [[i64; 5]], Result<usize, Refused>, [i64; 8], Result<u64, u64>);
+/// Lines of a replay of a sample: what the block answers, the table after it, and what the end answers.
+type Row = (&'static str, &'static [[i64; 5]], Result<usize, Refused>, [i64; 8], Result<End, u64>);
 
 const fn at(number: u64, line: usize) -> Result<usize, Refused> {
     Err(Refused { number, line })
 }
 
 const ROWS: &[Row] = &[
-    ("a round", &[PRESS, FIRST, LAST, BOUND], Ok(4), PRESSED, Ok(1)),
-    ("a pair round", &[SHIFTS[0], SHIFTS[1], BOUND], Ok(3), SHIFTED, Ok(1)),
+    ("a round", &[PRESS, FIRST, LAST, BOUND], Ok(4), PRESSED, Ok(End::Accepted(1))),
+    ("a pair round", &[SHIFTS[0], SHIFTS[1], BOUND], Ok(3), SHIFTED, Ok(End::Accepted(1))),
     ("a press without a bound", &[PRESS, FIRST, LAST], Ok(3), PRESSED, Err(14)),
     ("a shift", &[[1, 0, 1, 0, 5]], Ok(1), [2, 0, 7, 0, -8, 0, -5, 0], Err(14)),
     ("kind not due", &[FIRST], at(2, 0), START, Err(2)),
@@ -216,15 +266,40 @@ const ROWS: &[Row] = &[
     ("not lower", &[[4, 0, 0, 0, 4]], at(13, 0), START, Err(13)),
 ];
 
-fn replays(count: &mut Count) {
-    let case = p4().case();
-    for &(name, rows, answer, after, end) in ROWS {
-        let mut table = p4().table;
+const NO_PLAN_ROWS: &[Row] = &[
+    ("no lines", &[], Ok(0), NO_PLAN, Ok(End::Accepted(0))),
+    ("a void line", &[VOID, FIRST, LAST], Ok(3), NO_PLAN, Ok(End::Void)),
+    ("a void line cut", &[VOID, FIRST], Ok(2), NO_PLAN, Err(14)),
+    ("a line after it", &[VOID, FIRST, LAST, [4, 0, 0, 0, 0]], at(2, 3), NO_PLAN, Err(2)),
+    ("void, not refuted", &[[5, 0, 1, 0, 0], FIRST], at(10, 1), NO_PLAN, Err(10)),
+];
+
+const A_PLAN_ROWS: &[Row] = &[
+    ("not all barred", &[VOID, FIRST, LAST], at(16, 2), A_PLAN, Err(16)),
+    ("a press", &[[2, 0, 2, 0, 5], FIRST, LAST, [4, 0, 0, 0, -5]], Ok(4), [-5, BARRED, 0, 0, BARRED, 0, 0, 0], Ok(End::Accepted(1))),
+];
+
+/// Lines in blocks of so many bytes: how many, or the first refusal.
+fn in_blocks(replay: &mut Replay, case: &Case, table: &mut [i64], lines: &[u8], size: usize) -> Result<usize, Refused> {
+    let mut passed = 0;
+    for block in lines.chunks(size) {
+        passed += replay.lines(case, table, block).map_err(|r| Refused { line: r.line + passed, ..r })?;
+    }
+    Ok(passed)
+}
+
+/// A row line by line, and in one block.
+fn replayed(count: &mut Count, s: &Sample, row: &Row) {
+    let &(name, rows, answer, after, end) = row;
+    let case = s.case();
+    for size in [LINE, 5 * LINE] {
+        let mut table = s.table.clone();
         let Ok(mut replay) = Replay::start(&case, &table) else {
             count.test("start", name, false);
             continue;
         };
-        count.test("lines", name, replay.lines(&case, &mut table, &lines(rows)) == answer && table == after);
+        let answered = in_blocks(&mut replay, &case, &mut table, &lines(rows), size);
+        count.test("lines", name, answered == answer && table == after);
         let kept = Replay::from_bytes(*replay.bytes());
         count.test("end", name, kept.end(&case, 0) == end.map_err(|number| Refused { number, line: 0 }));
         let number = end.err().unwrap_or(14);
@@ -233,6 +308,12 @@ fn replays(count: &mut Count) {
             let again = replay.lines(&case, &mut table, &lines(&[PRESS]));
             count.test("lines", "the number that stands", again == refused(number, 0) && table == after);
         }
+    }
+}
+
+fn replays(count: &mut Count) {
+    for (s, rows) in [(p4(), ROWS), (no_plan(), NO_PLAN_ROWS), (a_plan(), A_PLAN_ROWS)] {
+        rows.iter().for_each(|row| replayed(count, &s, row));
     }
     for (name, number, mut s) in faults(WORKING) {
         let (case, before) = (s.case(), s.table.clone());
@@ -248,7 +329,7 @@ fn replays(count: &mut Count) {
         let answer = Replay::from_bytes([0; RECORD]).lines(&case, &mut s.table, b" 4");
         count.test("lines", &format!("no whole line, {name}"), answer == refused(number, 0) && s.table == before);
     }
-    let mut table = p4().table;
+    let (case, mut table) = (p4().case(), p4().table);
     let mut none = Replay::from_bytes([2; RECORD]);
     let answer = none.lines(&case, &mut table, &lines(&[PRESS]));
     count.test("lines", "no record", answer == refused(5, 0) && none.bytes() == &[2; RECORD] && none.end(&case, 0) == refused(5, 0));
@@ -311,6 +392,8 @@ fn engine(count: &mut Count) {
     let kept = out[81..].iter().all(|&byte| byte == 0xa5);
     count.test("round", "P5", round == Ok(Some(Made { bytes: 81, bound: 2 })) && out.starts_with(&pair) && kept && table == SHIFTED);
     count.test("round", "settled", p4().case().round(&mut table, &mut out) == Ok(None) && table == SHIFTED);
+    let (mut barred, mut kept) = (single().table, vec![0; ROOM]);
+    count.test("round", "barred channels", single().case().round(&mut barred, &mut kept) == refused(8, 0) && barred == single().table);
     count.test("round", "a short output", p4().case().round(&mut table, &mut out[..215]) == refused(4, 0) && table == SHIFTED);
     for (name, number, s) in faults(WORKING) {
         let (mut table, mut out) = (s.table.clone(), vec![0xa5; 320]);
@@ -345,6 +428,7 @@ fn all(count: &mut Count) {
     versions(count);
     files(count);
     totals(count);
+    barred(count);
     replays(count);
     views(count);
     engine(count);

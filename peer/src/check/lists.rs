@@ -18,6 +18,22 @@ impl Check {
         self.list(case, &lines)
     }
 
+    /// A foreign log from a table that is no starting one.
+    pub fn other_start(&mut self, random: &mut Random, case: &Case) -> Result<(), Difference> {
+        let table = match random.below(3) {
+            0 => border_for(random, case),
+            1 => any_table_for(random, case),
+            _ => {
+                let limit = random.below(12) as u64;
+                let weights = engine::run_case(case, Rounds::All, limit).weights;
+                Case { weights, ..case.clone() }
+            }
+        };
+        let careless = random.chance(2, 3);
+        let log = foreign::log(random, &table, careless);
+        self.list(&table, &cut(&log))
+    }
+
     pub fn list(&mut self, case: &Case, lines: &[Vec<u8>]) -> Result<(), Difference> {
         let input = [case::write(case), lines.concat()].concat();
         let mut fast = Replay::new(case);
@@ -37,6 +53,8 @@ impl Check {
             self.figures.lines += 1;
         }
         same("end of the log", &fast.end(), &slow.end(), &input)?;
+        same("void", &fast.void, &slow.void, &input)?;
+        self.figures.voids += u64::from(fast.void);
         if fast.end() == Some(14) {
             self.counts.note("list", 14, "end".into());
         }
@@ -51,10 +69,13 @@ impl Check {
         if case.values.saturating_pow(case.variables as u32) > MOST_PLANS {
             return Ok(());
         }
+        if slow.void {
+            holds("void without a lawful plan", !has_lawful(case), &input)?;
+        }
         self.trusted(case, &slow.weights, slow.rounds, &input)
     }
 
-    /// What a planner trusts, after any list of lines.
+    /// What a planner trusts of lawful plans, after any list of lines, and that bars stay.
     pub fn trusted(
         &mut self,
         case: &Case,
@@ -65,6 +86,9 @@ impl Check {
         let starting = figures::starting_weights(case);
         let start = figures::upper_bound(case, &starting);
         let bound = figures::upper_bound(case, weights);
+        let both = starting.iter().zip(weights);
+        let stay = |(old, new): (&i64, &i64)| (*old == figures::BARRED) == (*new == figures::BARRED);
+        holds("bars stay", both.into_iter().all(stay), input)?;
         for assignment in figures::assignments(case) {
             let total = figures::objective(case, &starting, &assignment);
             let working = figures::objective(case, weights, &assignment);
@@ -73,6 +97,7 @@ impl Check {
                 working >= total,
                 input,
             )?;
+            let Some(total) = total else { continue };
             holds("ceiling not below starting total", bound >= total, input)?;
             holds(
                 "rounds within the difference",

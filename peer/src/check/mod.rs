@@ -1,6 +1,8 @@
 //! The fast reading against the slow one on small cases, with the statements of
 //! demand 3 checked by listing every assignment.
 
+mod barred;
+pub mod every;
 mod lists;
 mod outputs;
 mod pairs;
@@ -19,10 +21,13 @@ use crate::slow::figures;
 use crate::slow::replay::PlainReplay;
 use crate::state::State;
 use crate::types::*;
-use crate::{case, engine, foreign, line, plain, programs, score, slow, view};
+use crate::{calls, case, engine, foreign, line, plain, programs, score, slow, view};
 
 /// One of so many cases is of any size, the others small.
 const LARGE_EVERY: u64 = 40;
+
+/// One of so many cases comes with a batch of calls.
+const CALLS_EVERY: u64 = 100;
 
 /// Tables up to this length are run to the end by the slow mode too.
 const WHOLE_RUN: usize = 250;
@@ -47,6 +52,11 @@ pub struct Figures {
     pub lists: u64,
     /// Rounds made in which the ceiling rose before it fell; no comparisons.
     pub climbs: u64,
+    /// Lists that ended with a void line.
+    pub voids: u64,
+    /// Cases with barred combinations, and those of them without a lawful plan.
+    pub barred: u64,
+    pub unlawful: u64,
     pub programs: u64,
     pub others: u64,
     pub pairs: pairs::PairFigures,
@@ -109,6 +119,8 @@ impl Check {
             return self.large(&mut random);
         }
         let case = small_case(&mut random);
+        self.figures.barred += u64::from(case.has_barred());
+        self.figures.unlawful += u64::from(!has_lawful(&case));
         self.files(&case)?;
         self.totals(&case)?;
         self.refutation(&mut random, &case)?;
@@ -117,12 +129,16 @@ impl Check {
             let log = some_log(&mut random, &case);
             self.logs(&mut random, &case, &log)?;
         }
+        self.other_start(&mut random, &case)?;
         self.careful(&mut random, &case)?;
         for _ in 0..8 {
             self.programs(&mut random, &case)?;
         }
         self.scores(&mut random, &case)?;
         self.columns(&mut random)?;
+        if index % CALLS_EVERY == 0 {
+            self.calls(seed, index)?;
+        }
         self.figures.cases += 1;
         Ok(())
     }
@@ -158,6 +174,13 @@ impl Check {
         self.figures.large += 1;
         Ok(())
     }
+}
+
+/// Whether some plan is lawful, by listing all.
+fn has_lawful(case: &Case) -> bool {
+    let weights = figures::starting_weights(case);
+    let plans = figures::assignments(case);
+    plans.iter().any(|plan| figures::objective(case, &weights, plan).is_some())
 }
 
 fn cut(log: &[u8]) -> Vec<Vec<u8>> {

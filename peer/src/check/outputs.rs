@@ -9,7 +9,7 @@ impl Check {
         let answer = programs::replay(&input);
         holds(
             "careful foreign log",
-            answer.starts_with(b"accepted "),
+            answer.starts_with(b"accepted ") || answer == b"void\n",
             &input,
         )?;
         same(
@@ -49,6 +49,17 @@ impl Check {
         let plain = programs::plain_replay(input);
         same("plain replay", &text(fast), &text(&plain), input)?;
         self.figures.programs += 1;
+        Ok(())
+    }
+
+    /// What is handed to an engine's program: whole lines, and answers to all tables.
+    pub fn calls(&mut self, seed: u64, index: u64) -> Result<(), Difference> {
+        let batch = calls::batch(seed, index, true);
+        let whole = batch.input.len() % LINE_BYTES == 0;
+        holds("calls in whole lines", whole, &batch.input)?;
+        let names = text(&batch.output).matches("table ").count() as u64;
+        same("tables answered", &names, &batch.figures.tables, &batch.input)?;
+        self.figures.others += 1;
         Ok(())
     }
 

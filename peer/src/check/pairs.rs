@@ -2,7 +2,7 @@
 //! with every plan listed.
 
 use super::*;
-use crate::slow::engine::{due, pair_round, totals_of_three};
+use crate::slow::engine::{due, round_of_due, totals_of_three, Passed};
 use crate::slow::moves;
 
 /// How often what the readings could differ in occurred.
@@ -18,18 +18,26 @@ pub struct PairFigures {
     pub presses: u64,
     /// Pairs passed over at end 0 though all shifts together would stay in range.
     pub half_way: u64,
+    /// Pairs without an unbarred choice, and pairs whose round would not lower the
+    /// ceiling, before a round.
+    pub no_choice: u64,
+    pub not_lower: u64,
     pub refused: u64,
     pub settled_passed: u64,
+    /// Runs that ended void.
+    pub void: u64,
+    /// Pair rounds of a pair that was not lower before.
+    pub lower_now: u64,
 }
 
 /// One round of a log: its lines, the tables before and after it, and the pairs that
 /// are due and passed over before it.
 pub struct Step {
     lines: Vec<Line>,
-    before: Vec<i64>,
-    after: Vec<i64>,
+    pub before: Vec<i64>,
+    pub after: Vec<i64>,
     due: Vec<usize>,
-    pub passed: Vec<usize>,
+    pub passed: Vec<(usize, Passed)>,
 }
 
 impl Step {
@@ -49,8 +57,13 @@ impl Step {
         self.lines[0].kind == 1
     }
 
-    fn first(&self) -> usize {
+    /// The pair or the pressed link.
+    pub fn first(&self) -> usize {
         self.lines[0].a as usize
+    }
+
+    pub fn amount(&self) -> i64 {
+        self.lines[0].amount
     }
 }
 
@@ -63,7 +76,8 @@ pub fn steps(table: &Case, log: &[u8], range: (i64, i64)) -> Option<Vec<Step>> {
     for bytes in log.chunks(LINE_BYTES) {
         lines.push(slow::line::parse(bytes)?);
         now = apply(table, &now, &lines)?;
-        if !now.iter().all(|weight| (range.0..=range.1).contains(weight)) {
+        let within = |weight: &i64| *weight == figures::BARRED || (range.0..=range.1).contains(weight);
+        if !now.iter().all(within) {
             return None;
         }
         if lines[lines.len() - 1].kind == 4 {
@@ -89,7 +103,7 @@ fn apply(table: &Case, now: &[i64], lines: &[Line]) -> Option<Vec<i64>> {
             last.amount,
         )
         .ok(),
-        3 if scopes.len() as i64 == lines[0].b => {
+        3 if lines[0].kind == 2 && scopes.len() as i64 == lines[0].b => {
             moves::press(table, now, place(lines[0].a), &scopes, lines[0].amount).ok()
         }
         _ => Some(now.to_vec()),
@@ -101,18 +115,19 @@ fn due_edges(table: &Case, weights: &[i64]) -> Vec<usize> {
     edges.filter(|&edge| due(table, weights, edge)).collect()
 }
 
-fn passed_over(table: &Case, weights: &[i64], due: &[usize]) -> Vec<usize> {
+fn passed_over(table: &Case, weights: &[i64], due: &[usize]) -> Vec<(usize, Passed)> {
     let due = due.iter().copied();
-    due.filter(|&edge| pair_round(table, weights, edge).is_err())
+    due.filter_map(|edge| Some((edge, round_of_due(table, weights, edge).err()?)))
         .collect()
 }
 
-fn every_total(table: &Case, weights: &[i64]) -> Vec<i64> {
+fn every_total(table: &Case, weights: &[i64]) -> Vec<Option<i64>> {
     let total = |plan: &Vec<usize>| figures::objective(table, weights, plan);
     figures::assignments(table).iter().map(total).collect()
 }
 
-/// By how much a pair round lowers the ceiling.
+/// By how much a pair round lowers the ceiling at most, and without bars exactly: by how
+/// much the three greatest weights are above the best total of the three.
 fn difference(table: &Case, weights: &[i64], edge: usize) -> i64 {
     let (lower, higher) = table.edges[edge];
     let three = [lower, higher, table.variables + edge];
@@ -140,8 +155,9 @@ fn pair_fact(
     same("totals over a pair round", &after, &before, file)?;
     let [before, after] = tables.map(|weights| figures::upper_bound(table, weights));
     let fall = difference(table, &step.before, edge);
-    same("fall of a pair round", &(before - after), &fall, file)?;
-    holds("a pair round lowers the ceiling", fall > 0, file)
+    let most = before - after <= fall && (table.has_barred() || before - after == fall);
+    holds("fall of a pair round", most, file)?;
+    holds("a pair round lowers the ceiling", before > after, file)
 }
 
 fn press_fact(table: &Case, step: &Step, file: &[u8]) -> Result<(), Difference> {
@@ -150,13 +166,14 @@ fn press_fact(table: &Case, step: &Step, file: &[u8]) -> Result<(), Difference> 
     let tables = [&step.before, &step.after];
     let [before, after] = tables.map(|weights| every_total(table, weights));
     let kept = before.iter().zip(&after).all(|(old, new)| old <= new);
-    holds("no total falls by a press", kept, file)
+    holds("no total falls by a press", kept, file)?;
+    barred::press_facts(table, step, file)
 }
 
 /// No run from starting weights leaves these.
 pub fn start_range(case: &Case) -> (i64, i64) {
-    let sizes = case.weights.iter().map(|&weight| i64::from(weight).abs());
-    let most = sizes.max().unwrap();
+    let unbarred = case.weights.iter().filter(|weight| **weight != BARRED);
+    let most = unbarred.map(|&weight| i64::from(weight).abs()).max().unwrap();
     (-(2 * case.scopes() as i64 + 1) * most, 3 * most)
 }
 
@@ -171,7 +188,7 @@ impl Check {
             let early = self.run_of_all(table, kind, limit)?;
             let stop = match limit {
                 _ if limit < full.rounds => Stop::Limit,
-                _ if limit == full.rounds && full.stop != Stop::Settled => Stop::Limit,
+                _ if limit == full.rounds && matches!(full.stop, Stop::Refused(_)) => Stop::Limit,
                 _ => full.stop,
             };
             holds("limit rule", early.stop == stop, &file)?;
@@ -225,11 +242,14 @@ impl Check {
         let run = engine::run_case(table, Rounds::All, PROGRAM_ROUNDS);
         holds("most rounds", run.rounds <= most_rounds(table), &file)?;
         self.own_log(table, &run)?;
-        let small = |weight: &i32| i64::from(weight.abs()) <= START_LIMIT;
+        let small = |&weight: &i32| weight == BARRED || i64::from(weight.abs()) <= START_LIMIT;
         if table.weights.iter().all(small) {
-            holds("settled from the start", run.stop == Stop::Settled, &file)?;
+            let ended = matches!(run.stop, Stop::Settled | Stop::Void);
+            holds("settled or void from the start", ended, &file)?;
             let (least, most) = start_range(table);
-            let within = |&weight: &i32| (least..=most).contains(&i64::from(weight));
+            let within = |&weight: &i32| {
+                weight == BARRED || (least..=most).contains(&i64::from(weight))
+            };
             holds("weights from the start", run.weights.iter().all(within), &file)?;
         }
         Ok(run)
@@ -244,7 +264,8 @@ impl Check {
         for (at, step) in steps.iter().enumerate() {
             self.note(table, &steps[..at], step);
             let after = due_edges(table, &step.after);
-            let kept = after.iter().all(|edge| step.due.contains(edge));
+            let own = |&edge: &usize| step.is_pair_round() && edge == step.first();
+            let kept = after.iter().all(|edge| step.due.contains(edge) || own(edge));
             holds("no pair becomes due", kept, &file)?;
             if step.is_pair_round() {
                 pair_fact(table, &steps[..at], step, &file)?;
@@ -273,10 +294,15 @@ impl Check {
             same("totals of pairs only", &every_total(table, &weights), &totals, file)?;
         }
         if run.stop == Stop::Settled {
-            same("pairs left are passed over", &left, &passed, file)?;
-            let none = kind == Rounds::Pairs || left.is_empty();
-            holds("no pair is due where no press is left", none, file)?;
+            holds("pairs left are passed over", left.len() == passed.len(), file)?;
+            if kind == Rounds::All {
+                barred::settled_fact(table, &weights, file)?;
+            }
             self.figures.pairs.settled_passed += u64::from(!left.is_empty());
+        }
+        if run.stop == Stop::Void {
+            holds("void without a lawful plan", !has_lawful(table), file)?;
+            self.figures.pairs.void += 1;
         }
         self.figures.pairs.refused += u64::from(matches!(run.stop, Stop::Refused(_)));
         self.figures.others += 1;
@@ -285,18 +311,24 @@ impl Check {
 
     fn note(&mut self, table: &Case, earlier: &[Step], step: &Step) {
         let figures = &mut self.figures.pairs;
-        for &edge in &step.passed {
+        for &(edge, why) in &step.passed {
             let whole = totals_of_three(table, &step.before, edge);
-            figures.half_way += u64::from(whole.iter().all(|total| total.abs() <= WORK_LIMIT));
+            let back = whole.iter().all(|total| total.abs() <= WORK_LIMIT);
+            figures.half_way += u64::from(why == Passed::OutOfRange && back);
+            figures.no_choice += u64::from(why == Passed::NoChoice);
+            figures.not_lower += u64::from(why == Passed::NotLower);
         }
         if !step.is_pair_round() {
             figures.presses += u64::from(!step.passed.is_empty());
             return;
         }
         let edge = step.first();
-        let back = earlier.iter().any(|step| step.passed.contains(&edge));
+        let passed = |step: &Step| step.passed.iter().any(|&(other, _)| other == edge);
+        let back = earlier.iter().any(passed);
+        let level = |step: &Step| step.passed.contains(&(edge, Passed::NotLower));
         figures.rounds += 1;
-        figures.higher += u64::from(step.passed.iter().any(|&other| other < edge));
+        figures.lower_now += u64::from(earlier.iter().any(level));
+        figures.higher += u64::from(step.passed.iter().any(|&(other, _)| other < edge));
         figures.back += u64::from(back);
         figures.after_press += u64::from(earlier.iter().any(|step| !step.is_pair_round()));
     }

@@ -1,6 +1,7 @@
 //! Runs from the starting weights and from other tables.
 
 use super::*;
+use crate::slow::engine::Passed;
 
 impl Check {
     /// Runs from the starting weights and from tables that are none.
@@ -17,22 +18,27 @@ impl Check {
     }
 
     /// What holds of runs from starting weights only.
-    fn from_start(&mut self, case: &Case) -> Result<(), Difference> {
+    pub fn from_start(&mut self, case: &Case) -> Result<(), Difference> {
         let file = case::write(case);
         let weights = figures::starting_weights(case);
         let totals = figures::assignments(case);
         let totals = totals.iter().map(|plan| figures::objective(case, &weights, plan));
-        let enough = figures::upper_bound(case, &weights) - totals.max().unwrap();
-        let run = self.run_of_all(case, Rounds::All, enough as u64)?;
-        holds("settled when the limit is enough", run.stop == Stop::Settled, &file)?;
+        let best = totals.max().unwrap();
+        let enough = best.map(|best| figures::upper_bound(case, &weights) - best);
+        let limit = enough.map_or(PROGRAM_ROUNDS, |rounds| rounds as u64);
+        let run = self.run_of_all(case, Rounds::All, limit)?;
+        let void = best.is_none() && run.stop == Stop::Void;
+        let ended = run.stop == Stop::Settled || void;
+        holds("settled when the limit is enough", ended, &file)?;
         let steps = pairs::steps(case, &run.log, pairs::start_range(case));
         holds("weights of a run from the start", steps.is_some(), &file)?;
         let steps = steps.unwrap_or_default();
+        barred::pair_phase(case, &steps, &file)?;
         let first = steps.iter().take_while(|step| step.is_pair_round()).count();
         let sorted = !steps[first..].iter().any(|step| step.is_pair_round());
         holds("pair rounds come first", sorted, &file)?;
-        let none = steps.iter().all(|step| step.passed.is_empty());
-        holds("no pair is passed over from the start", none, &file)
+        let out = |step: &pairs::Step| step.passed.iter().any(|(_, why)| *why == Passed::OutOfRange);
+        holds("no pair is out of range from the start", !steps.iter().any(out), &file)
     }
 
     /// The run's log is accepted with the run's rounds, ceiling and weights.
@@ -44,11 +50,13 @@ impl Check {
         let file = [case::write(case), run.log.clone()].concat();
         let found = (
             replay.end(),
+            replay.void,
             replay.rounds,
             replay.state.upper_bound,
             replay.state.weights(),
         );
-        let expected = (None, run.rounds, run.upper_bound, run.weights.clone());
+        let void = run.stop == Stop::Void;
+        let expected = (None, void, run.rounds, run.upper_bound, run.weights.clone());
         self.figures.others += 1;
         same("own log replayed", &found, &expected, &file)
     }

@@ -49,7 +49,7 @@ pub fn append(random: &mut Random, file: &mut Vec<u8>) {
         }
         3 => {
             let line = Line {
-                kind: random.between(-1, 14),
+                kind: random.between(-1, 16),
                 a: 0,
                 b: 0,
                 c: 0,

@@ -46,7 +46,7 @@ pub fn of_kind(file: &[u8], kind: i64) -> Vec<usize> {
 
 /// A line of a kind picked first, so that rare kinds come up as often as others.
 pub fn any_line(random: &mut Random, file: &[u8]) -> Option<usize> {
-    let mut kinds = vec![1, 2, 3, 4, 10, 11, 12, 13];
+    let mut kinds = vec![1, 2, 3, 4, 5, 10, 11, 12, 13, 14, 15];
     random.shuffle(&mut kinds);
     for kind in kinds {
         let found = of_kind(file, kind);
@@ -64,6 +64,6 @@ pub fn one_of_kind(random: &mut Random, file: &[u8], kind: i64) -> Option<usize>
 
 /// The first line of the log in the input, or past the end.
 pub fn log_start(file: &[u8]) -> usize {
-    let is_log = |&at: &usize| get(file, at).is_some_and(|line| (1..=4).contains(&line.kind));
+    let is_log = |&at: &usize| get(file, at).is_some_and(|line| (1..=5).contains(&line.kind));
     (0..lines(file)).find(is_log).unwrap_or(lines(file))
 }

@@ -18,7 +18,7 @@ pub fn damage(random: &mut Random, input: &[u8]) -> Vec<u8> {
 }
 
 fn once(random: &mut Random, file: &mut Vec<u8>) {
-    match random.below(22) {
+    match random.below(24) {
         0 => change_byte(random, file),
         1 => insert_or_delete_byte(random, file),
         2 | 3 => cut_short(random, file),
@@ -34,6 +34,7 @@ fn once(random: &mut Random, file: &mut Vec<u8>) {
         18 => insert_move(random, file),
         19 => bad_weight(random, file),
         20 => same_edge(random, file),
+        21 | 22 => bad_bar(random, file),
         _ => wrong_bound(random, file),
     }
 }

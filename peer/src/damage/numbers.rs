@@ -7,7 +7,7 @@ use crate::types::*;
 
 /// A number near the old one, at an end of a range, or just past it.
 pub fn other_number(random: &mut Random, old: i64) -> i64 {
-    const ENDS: [i64; 26] = [
+    const ENDS: [i64; 28] = [
         0,
         1,
         2,
@@ -31,6 +31,8 @@ pub fn other_number(random: &mut Random, old: i64) -> i64 {
         999_999_999,
         1_000_000_000,
         1_000_000_001,
+        2_000_000_000,
+        2_000_000_000,
         99_999_999_999,
         999_999_999_999,
         3,
@@ -75,7 +77,7 @@ pub fn change_kind(random: &mut Random, file: &mut [u8]) {
     let Some(mut line) = get(file, at) else {
         return;
     };
-    line.kind = *random.pick(&[-1, 0, 1, 2, 3, 4, 5, 9, 10, 11, 12, 13, 14, 99]);
+    line.kind = *random.pick(&[-1, 0, 1, 2, 3, 4, 5, 6, 9, 10, 11, 12, 13, 14, 15, 16, 99]);
     if random.chance(1, 2) {
         (line.a, line.b, line.c, line.amount) = (0, 0, 0, 0);
     }
@@ -132,7 +134,8 @@ pub fn bad_weight(random: &mut Random, file: &mut [u8]) {
         return;
     };
     let Some(line) = get(file, at) else { return };
-    let size = *random.pick(&[1_000_000, 1_000_001, 1_000_001, 500_000_001, 99_999_999_999]);
+    let sizes = [1_000_000, 1_000_001, 1_000_001, 500_000_001, 2_000_000_000, 99_999_999_999];
+    let size = *random.pick(&sizes);
     let amount = if random.chance(1, 2) { size } else { -size };
     set(file, at, Line { amount, ..line });
 }
@@ -149,9 +152,40 @@ pub fn bad_head(random: &mut Random, file: &mut [u8]) {
     set(file, 0, line);
 }
 
-/// Press and raise lines made wrong: order, own scope, one scope fewer, amount.
+/// Barred places: one more, one less, a whole scope, or with an amount.
+pub fn bad_bar(random: &mut Random, file: &mut [u8]) {
+    let (weight, barred) = *random.pick(&[(11, 14), (13, 15)]);
+    let kind = if random.chance(1, 3) { barred } else { weight };
+    let Some(at) = one_of_kind(random, file, kind) else {
+        return;
+    };
+    let Some(line) = get(file, at) else { return };
+    let other = match random.below(6) {
+        0 => Line { kind: barred, ..line },
+        1 => Line { kind: weight, amount: *random.pick(&[0, 1, -1, -2_000_000_000]), ..line },
+        2 => Line { kind: barred, amount: *random.pick(&[1, -1, -2_000_000_000]), ..line },
+        3 => Line { kind: 29 - kind, ..line },
+        4 => return bar_scope(file, line, [weight, barred]),
+        _ => Line { kind: barred, amount: 0, ..line },
+    };
+    set(file, at, other);
+}
+
+/// Bars all places of the line's scope.
+fn bar_scope(file: &mut [u8], line: Line, kinds: [i64; 2]) {
+    for at in 0..lines(file) {
+        let Some(other) = get(file, at) else { continue };
+        if kinds.contains(&other.kind) && other.a == line.a {
+            set(file, at, Line { kind: kinds[1], amount: 0, ..other });
+        }
+    }
+}
+
+/// Press, void and raise lines made wrong: order, own scope, one scope fewer, amount.
 pub fn bad_press(random: &mut Random, file: &mut Vec<u8>) {
-    let Some(at) = one_of_kind(random, file, 2) else {
+    let kinds = if random.chance(1, 2) { [2, 5] } else { [5, 2] };
+    let found = kinds.iter().find_map(|&kind| one_of_kind(random, file, kind));
+    let Some(at) = found else {
         return;
     };
     let Some(mut press) = get(file, at) else {
@@ -162,7 +196,8 @@ pub fn bad_press(random: &mut Random, file: &mut Vec<u8>) {
     let Some(mut raised) = get(file, raise) else {
         return;
     };
-    match random.below(8) {
+    match random.below(9) {
+        8 => (press.kind, press.amount) = (7 - press.kind, i64::from(press.kind == 5)),
         0 => {
             press.b -= 1;
             remove(file, raise);
@@ -198,8 +233,12 @@ pub fn insert_move(random: &mut Random, file: &mut Vec<u8>) {
     let size = *random.pick(&sizes);
     let amount = if random.chance(1, 2) { size } else { -size };
     let mut text = Vec::new();
-    match random.below(4) {
+    match random.below(5) {
         0 => line::write(&mut text, 4, 0, 0, 0, random.between(-5, 5)),
+        2 => {
+            let (link, count) = (random.between(0, 2), random.between(0, 4));
+            line::write(&mut text, 5, link, count, 0, 0);
+        }
         1 => line::write(
             &mut text,
             2,

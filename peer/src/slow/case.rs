@@ -50,12 +50,15 @@ fn head(line: Line) -> Result<(usize, usize, usize), u8> {
 }
 
 fn take(case: &mut Case, due: Due, line: Line) -> Result<(), u8> {
-    let (kind, unused) = match due {
-        Due::Unary(..) => (11, line.c),
-        Due::Edge(..) => (12, line.amount),
-        Due::Pair(..) => (13, 0),
+    let barred = [14, 15].contains(&line.kind);
+    let (kinds, unused): (&[i64], Vec<i64>) = match due {
+        Due::Unary(..) if barred => (&[14], vec![line.c, line.amount]),
+        Due::Unary(..) => (&[11], vec![line.c]),
+        Due::Edge(..) => (&[12], vec![line.amount]),
+        Due::Pair(..) if barred => (&[15], vec![line.amount]),
+        Due::Pair(..) => (&[13], vec![]),
     };
-    if line.kind != kind || unused != 0 {
+    if !kinds.contains(&line.kind) || unused.iter().any(|&column| column != 0) {
         return Err(2);
     }
     let named = match due {
@@ -72,11 +75,29 @@ fn take(case: &mut Case, due: Due, line: Line) -> Result<(), u8> {
     if let Due::Edge(_) = due {
         return take_edge(case, line.b as usize, line.c as usize);
     }
-    if line.amount < -1_000_000 || line.amount > 1_000_000 {
+    if barred {
+        case.weights.push(-2_000_000_000);
+    } else if line.amount < -1_000_000 || line.amount > 1_000_000 {
         return Err(8);
+    } else {
+        case.weights.push(line.amount as i32);
     }
-    case.weights.push(line.amount as i32);
+    if wholly_barred(case, due) {
+        return Err(15);
+    }
     Ok(())
+}
+
+/// The scope's last weight was the last one taken, and all of them are barred.
+fn wholly_barred(case: &Case, due: Due) -> bool {
+    let last = case.values - 1;
+    let count = match due {
+        Due::Unary(_, k) if k == last => case.values,
+        Due::Pair(_, k, l) if k == last && l == last => case.values * case.values,
+        _ => return false,
+    };
+    let mut scope = case.weights.iter().rev().take(count);
+    scope.all(|&weight| weight == -2_000_000_000)
 }
 
 fn take_edge(case: &mut Case, lower: usize, higher: usize) -> Result<(), u8> {
@@ -121,7 +142,10 @@ pub fn read_alone(file: &[u8]) -> Result<(Case, usize), Refusal> {
 pub fn write(case: &Case) -> Vec<u8> {
     let number = |number: usize| number as i64;
     let mut weights = case.weights.iter();
-    let mut next = || i64::from(*weights.next().unwrap());
+    let mut next = |[kind, barred]: [i64; 2]| match *weights.next().unwrap() {
+        -2_000_000_000 => (barred, 0),
+        weight => (kind, i64::from(weight)),
+    };
     let (a, b, c) = (
         number(case.variables),
         number(case.values),
@@ -136,13 +160,16 @@ pub fn write(case: &Case) -> Vec<u8> {
     });
     for due in due_lines(case.variables, case.values, case.edges.len()) {
         let line = match due {
-            Due::Unary(i, k) => Line {
-                kind: 11,
-                a: number(i),
-                b: number(k),
-                c: 0,
-                amount: next(),
-            },
+            Due::Unary(i, k) => {
+                let (kind, amount) = next([11, 14]);
+                Line {
+                    kind,
+                    a: number(i),
+                    b: number(k),
+                    c: 0,
+                    amount,
+                }
+            }
             Due::Edge(e) => {
                 let (lower, higher) = case.edges[e];
                 Line {
@@ -153,13 +180,16 @@ pub fn write(case: &Case) -> Vec<u8> {
                     amount: 0,
                 }
             }
-            Due::Pair(e, k, l) => Line {
-                kind: 13,
-                a: number(e),
-                b: number(k),
-                c: number(l),
-                amount: next(),
-            },
+            Due::Pair(e, k, l) => {
+                let (kind, amount) = next([13, 15]);
+                Line {
+                    kind,
+                    a: number(e),
+                    b: number(k),
+                    c: number(l),
+                    amount,
+                }
+            }
         };
         file.extend(line::write(line));
     }

@@ -1,4 +1,4 @@
-//! Places, weights, active tuples, upper bound and totals by scanning.
+//! Places, weights, barred and active tuples, upper bound and totals by scanning.
 
 use crate::types::Case;
 
@@ -58,12 +58,23 @@ pub fn places(case: &Case, scope: usize) -> std::ops::RangeInclusive<usize> {
     place(case, scope, &all[0])..=place(case, scope, &all[all.len() - 1])
 }
 
-pub fn greatest(case: &Case, weights: &[i64], scope: usize) -> i64 {
-    *weights[places(case, scope)].iter().max().unwrap()
+/// What a barred place holds.
+pub const BARRED: i64 = -2_000_000_000;
+
+pub fn is_barred(case: &Case, weights: &[i64], scope: usize, tuple: &[usize]) -> bool {
+    weight(case, weights, scope, tuple) == BARRED
 }
 
+/// The greatest weight of the tuples that are not barred.
+pub fn greatest(case: &Case, weights: &[i64], scope: usize) -> i64 {
+    let all = weights[places(case, scope)].iter();
+    *all.filter(|&&weight| weight != BARRED).max().unwrap()
+}
+
+/// A barred tuple is never active.
 pub fn is_active(case: &Case, weights: &[i64], scope: usize, tuple: &[usize]) -> bool {
-    weight(case, weights, scope, tuple) == greatest(case, weights, scope)
+    !is_barred(case, weights, scope, tuple)
+        && weight(case, weights, scope, tuple) == greatest(case, weights, scope)
 }
 
 pub fn active_values(case: &Case, weights: &[i64], variable: usize) -> Vec<usize> {
@@ -88,16 +99,20 @@ pub fn members(case: &Case, scope: usize) -> Vec<usize> {
     }
 }
 
-pub fn objective(case: &Case, weights: &[i64], assignment: &[usize]) -> i64 {
+/// The assignment's total; nothing if it is unlawful.
+pub fn objective(case: &Case, weights: &[i64], assignment: &[usize]) -> Option<i64> {
     let mut total = 0;
     for scope in 0..scope_count(case) {
         let used: Vec<usize> = members(case, scope)
             .iter()
             .map(|&member| assignment[member])
             .collect();
+        if is_barred(case, weights, scope, &used) {
+            return None;
+        }
         total += weight(case, weights, scope, &used);
     }
-    total
+    Some(total)
 }
 
 /// Every assignment there is.

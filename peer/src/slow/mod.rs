@@ -1,4 +1,4 @@
-//! A second, naive reading of document 01 and of change 1: every family tried, every
+//! A second, naive reading of document 01 and of changes 1 and 2: every family tried, every
 //! assignment listed, maxima by scanning, trimming one scope after another, pair
 //! rounds shift by shift. It shares only the data types with the fast reading.
 

@@ -1,4 +1,5 @@
-//! Shift and press by the definition: the whole next table, then the range rule.
+//! Shift and press by the definition: the whole next table, then the range rule. Barred
+//! places stay what they are, and no range is asked of them.
 
 use super::figures::*;
 use crate::types::Case;
@@ -21,7 +22,7 @@ pub fn shift(
             next[place(case, scope, &tuple)] -= amount;
         }
     }
-    in_range(next)
+    checked(weights, next)
 }
 
 /// The table after a press, or number 11.
@@ -43,16 +44,17 @@ pub fn press(
             }
         }
     }
-    in_range(next)
+    checked(weights, next)
 }
 
-fn in_range(weights: Vec<i64>) -> Result<Vec<i64>, u8> {
-    if weights
-        .iter()
-        .all(|weight| (-500_000_000..=500_000_000).contains(weight))
-    {
-        Ok(weights)
-    } else {
-        Err(11)
+/// The next table with the barred places of the last one, if all others are in range.
+fn checked(last: &[i64], mut next: Vec<i64>) -> Result<Vec<i64>, u8> {
+    for (place, weight) in next.iter_mut().enumerate() {
+        if last[place] == BARRED {
+            *weight = BARRED;
+        } else if !(-500_000_000..=500_000_000).contains(weight) {
+            return Err(11);
+        }
     }
+    Ok(next)
 }

@@ -55,6 +55,9 @@ fn replay_text(input: &[u8]) -> Result<String, Refusal> {
             line: pieces.len(),
         });
     }
+    if replay.void {
+        return Ok("void\n".into());
+    }
     Ok(format!(
         "accepted {} {}\n",
         replay.rounds,

@@ -16,7 +16,7 @@ impl<'a> Open<'a> {
         for &scope in raised {
             let greatest = greatest(case, weights, scope);
             for here in places(case, scope) {
-                allowed[here] = weights[here] == greatest;
+                allowed[here] = weights[here] != BARRED && weights[here] == greatest;
             }
         }
         Open { case, allowed }

@@ -1,4 +1,4 @@
-//! Document 01's plain replay, word for word.
+//! Document 01's plain replay with document 02's void lines, word for word.
 
 use super::figures::*;
 use super::line;
@@ -6,7 +6,9 @@ use super::moves;
 use super::refute::active_refuted;
 use crate::types::{Case, Line};
 
+/// A press, or a void line held like a press.
 struct HeldPress {
+    is_void: bool,
     variable: usize,
     amount: i64,
     raised: Vec<usize>,
@@ -21,6 +23,8 @@ pub struct PlainReplay<'a> {
     round_start: i64,
     press: Option<HeldPress>,
     moves_without_bound: bool,
+    /// A void line is whole.
+    pub void: bool,
 }
 
 impl<'a> PlainReplay<'a> {
@@ -35,6 +39,7 @@ impl<'a> PlainReplay<'a> {
             round_start,
             press: None,
             moves_without_bound: false,
+            void: false,
         }
     }
 
@@ -48,6 +53,7 @@ impl<'a> PlainReplay<'a> {
     pub fn end(&self) -> Option<u8> {
         match self.number {
             Some(number) => Some(number),
+            None if self.void => None,
             None if self.press.is_some() || self.moves_without_bound => Some(14),
             None => None,
         }
@@ -57,10 +63,12 @@ impl<'a> PlainReplay<'a> {
         let Some(line) = line::parse(bytes) else {
             return Err(1);
         };
-        let due: &[i64] = if self.press.is_some() {
+        let due: &[i64] = if self.void {
+            &[]
+        } else if self.press.is_some() {
             &[3]
         } else {
-            &[1, 2, 4]
+            &[1, 2, 4, 5]
         };
         if !due.contains(&line.kind) || unused(&line).iter().any(|&column| column != 0) {
             return Err(2);
@@ -70,7 +78,7 @@ impl<'a> PlainReplay<'a> {
         }
         match line.kind {
             1 => self.make_shift(&line),
-            2 => self.hold_press(&line),
+            2 | 5 => self.hold_press(&line),
             3 => self.raise(&line),
             _ => self.bound(&line),
         }
@@ -95,6 +103,9 @@ impl<'a> PlainReplay<'a> {
                     && (1..=1_000_000_000).contains(&amount)
             }
             3 => within(line.a, scopes),
+            5 => {
+                within(line.a, self.case.variables) && line.b >= 1 && line.b <= scopes as i64 - 1
+            }
             _ => self.rounds < 999_999_999_999_999_999,
         }
     }
@@ -108,6 +119,7 @@ impl<'a> PlainReplay<'a> {
 
     fn hold_press(&mut self, line: &Line) -> Result<(), u8> {
         self.press = Some(HeldPress {
+            is_void: line.kind == 5,
             variable: line.a as usize,
             amount: line.amount,
             raised: vec![],
@@ -129,6 +141,14 @@ impl<'a> PlainReplay<'a> {
             if !active_refuted(self.case, &self.weights, &raised, press.variable) {
                 return Err(10);
             }
+            if press.is_void {
+                if !self.barring_holds(press.variable, &raised) {
+                    return Err(16);
+                }
+                self.press = None;
+                self.void = true;
+                return Ok(());
+            }
             let (variable, amount) = (press.variable, press.amount);
             self.weights = moves::press(self.case, &self.weights, variable, &raised, amount)?;
             self.press = None;
@@ -139,6 +159,27 @@ impl<'a> PlainReplay<'a> {
         press.raised = raised;
         press.left -= 1;
         Ok(())
+    }
+
+    /// All values of the link but the active ones are barred, and so are all closed
+    /// combinations.
+    fn barring_holds(&self, variable: usize, raised: &[usize]) -> bool {
+        let active = active_values(self.case, &self.weights, variable);
+        for value in 0..self.case.values {
+            let barred = is_barred(self.case, &self.weights, variable, &[value]);
+            if !active.contains(&value) && !barred {
+                return false;
+            }
+        }
+        for &scope in raised {
+            for tuple in tuples(self.case, scope) {
+                let closed = !is_active(self.case, &self.weights, scope, &tuple);
+                if closed && !is_barred(self.case, &self.weights, scope, &tuple) {
+                    return false;
+                }
+            }
+        }
+        true
     }
 
     fn bound(&mut self, line: &Line) -> Result<(), u8> {
@@ -161,6 +202,7 @@ fn unused(line: &Line) -> Vec<i64> {
         2 => vec![line.c],
         3 => vec![line.b, line.c, line.amount],
         4 => vec![line.a, line.b, line.c],
+        5 => vec![line.c, line.amount],
         _ => vec![],
     }
 }

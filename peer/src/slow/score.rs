@@ -1,4 +1,5 @@
-//! Scoring by the numbers asked in turn of both assignments.
+//! Scoring by the numbers asked in turn of both assignments. Unlawful ones are level and
+//! below all others.
 
 use super::figures::{objective, starting_weights};
 use crate::types::{Better, Case};
@@ -22,9 +23,14 @@ pub fn score(case: &Case, first: &[u64], second: &[u64]) -> Result<Better, u8> {
         let assignment: Vec<usize> = assignment.iter().map(|&value| value as usize).collect();
         objective(case, &weights, &assignment)
     });
-    Ok(if totals[0] >= totals[1] {
-        Better::First
-    } else {
+    let second = match totals {
+        [_, None] => false,
+        [None, Some(_)] => true,
+        [Some(first), Some(second)] => second > first,
+    };
+    Ok(if second {
         Better::Second
+    } else {
+        Better::First
     })
 }

@@ -1,5 +1,5 @@
 -- `arcs::same` meets its contract. Assumes nothing.
-use Rattle.tables.proofs.Bounds.{same-bits, other-bits}
+use Rattle.integers.specs.Linear.{same-bits, other-bits}
 use Rattle.arcs.proofs.same.Statement.{statement}
 use Rattle.arcs.proofs.same.Tie as tie
 

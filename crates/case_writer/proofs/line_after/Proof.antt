@@ -7,6 +7,7 @@ use denote.Ref.{now}
 use mir.Syntax.{w64}
 use Rattle.integers.specs.Linear.{read-back}
 use Rattle.definitions.specs.Lines.{line}
+use Rattle.definitions.specs.CaseFiles.{weightLine}
 use Rattle.theory.proofs.Places.{place-variable, place-edge}
 use Rattle.case_theory.proofs.CaseDues.{lineOf}
 use Rattle.case_lines.specs.Dues.{dueAwaited, placesOf, caseWith}
@@ -49,18 +50,18 @@ place-of-requires c κs = search needs
 enum-known-due : tie.Need-enum-known-due
 enum-known-due c = search needs
 
-mul-make-line : tie.Need-mul-make-line
-mul-make-line c = let d = c .before in omega (arith, variable-known d .3, small (d .before .before .before))
+mul-weight-line : tie.Need-mul-weight-line
+mul-weight-line c = let d = c .before in omega (arith, variable-known d .3, small (d .before .before .before))
 
-shared-slice-copy-out-make-line : tie.Need-shared-slice-copy-out-make-line
-shared-slice-copy-out-make-line c = let d = c .before in omega (arith, variable-known d .3, d .before .before .before .pre .1 .1)
+shared-slice-copy-out-weight-line : tie.Need-shared-slice-copy-out-weight-line
+shared-slice-copy-out-weight-line c = let d = c .before in omega (arith, variable-known d .3, d .before .before .before .pre .1 .1)
 
-make-line-requires : tie.Need-make-line-requires
-make-line-requires c κs =
+weight-line-requires : tie.Need-weight-line-requires
+weight-line-requires c κs =
     let d = c .before .before in
     let l = d .before .before .before .pre .0 in
     let h = variable-known d in
-    (omega arith, omega (arith, h .0, l .variables-few), omega (arith, h .1, l .values-few), omega arith)
+    (omega arith, omega arith, omega (arith, h .0, l .variables-few), omega (arith, h .1, l .values-few), omega arith)
 
 enum-known-due-2 : tie.Need-enum-known-due-2
 enum-known-due-2 c = search needs
@@ -77,8 +78,8 @@ element-copy-out-wide-size-2 c = let d = c .before .before .before in omega (ari
 wide-size-requires-2 : tie.Need-wide-size-requires-2
 wide-size-requires-2 c κs = search needs
 
-make-line-requires-2 : tie.Need-make-line-requires-2
-make-line-requires-2 c κs =
+make-line-requires : tie.Need-make-line-requires
+make-line-requires c κs =
     let d = c .before .before .before .before .before in
     let l = d .before .before .before .pre .0 in (
       omega arith,
@@ -91,18 +92,18 @@ make-line-requires-2 c κs =
 enum-known-due-3 : tie.Need-enum-known-due-3
 enum-known-due-3 c = search needs
 
-mul-make-line-2 : tie.Need-mul-make-line-2
-mul-make-line-2 c = let d = c .before in omega (arith, edge-known d .4, small (d .before .before .before))
+mul-weight-line-2 : tie.Need-mul-weight-line-2
+mul-weight-line-2 c = let d = c .before in omega (arith, edge-known d .4, small (d .before .before .before))
 
-shared-slice-copy-out-make-line-2 : tie.Need-shared-slice-copy-out-make-line-2
-shared-slice-copy-out-make-line-2 c = let d = c .before in omega (arith, edge-known d .4, d .before .before .before .pre .1 .1)
+shared-slice-copy-out-weight-line-2 : tie.Need-shared-slice-copy-out-weight-line-2
+shared-slice-copy-out-weight-line-2 c = let d = c .before in omega (arith, edge-known d .4, d .before .before .before .pre .1 .1)
 
-make-line-requires-3 : tie.Need-make-line-requires-3
-make-line-requires-3 c κs =
+weight-line-requires-2 : tie.Need-weight-line-requires-2
+weight-line-requires-2 c κs =
     let d = c .before .before in
     let l = d .before .before .before .pre .0 in
     let h = edge-known d in
-    (omega arith, omega (arith, h .0, l .edges-placed), omega (arith, h .1, l .values-few), omega (arith, h .2, l .values-few))
+    (omega arith, omega arith, omega (arith, h .0, l .edges-placed), omega (arith, h .1, l .values-few), omega (arith, h .2, l .values-few))
 
 returns : tie.Need-returns
 returns c =
@@ -114,8 +115,8 @@ returns c =
     let i = d .due .given .0 .0 in
     let j = d .due .given .0 .1 .0 in
     let w = now (a .table) in
-    c .make-line .ensures
-    ∙ ap (line 11 (pos i) (pos j) (pos 0)) (read-back w64 (getD w (p .place-of .result) (pos 0)) (g .make-line-arg .given)
+    c .weight-line .ensures
+    ∙ ap (weightLine 11 14 (pos i) (pos j) (pos 0)) (read-back w64 (getD w (p .place-of .result) (pos 0)) (g .weight-line-arg .given)
     ∙ ap (λ p. getD w p (pos 0)) (variable-known d .2 ∙ sym (place-variable k i j 0 (variable-known d .0))))
     ∙ ap (λ a. lineOf k w (dueAwaited a)) (sym (d .due .given .1))
 
@@ -125,7 +126,7 @@ returns-2 c =
     let x = y .before .before in
     let d = x .before .before .before in
     let a = d .before .before .before .args in
-    c .make-line2 .ensures
+    c .make-line .ensures
     ∙ ap₂ (λ i j. line 12 (pos (d .due2 .given .0 .0)) (pos i) (pos j) (pos 0)) (x .wide-size .ensures .0) (y .wide-size2 .ensures .0)
     ∙ ap (λ x. lineOf (caseWith (a .sizes) (now (a .lower)) (now (a .upper))) (now (a .table)) (dueAwaited x)) (sym (d .due2 .given .1))
 
@@ -140,8 +141,8 @@ returns-3 c =
     let i = d .due3 .given .0 .1 .0 in
     let j = d .due3 .given .0 .1 .1 .0 in
     let w = now (a .table) in
-    c .make-line3 .ensures
-    ∙ ap (line 13 (pos e) (pos i) (pos j)) (read-back w64 (getD w (p .place-of .result) (pos 0)) (g .make-line-arg2 .given)
+    c .weight-line2 .ensures
+    ∙ ap (weightLine 13 15 (pos e) (pos i) (pos j)) (read-back w64 (getD w (p .place-of .result) (pos 0)) (g .weight-line-arg2 .given)
     ∙ ap (λ p. getD w p (pos 0)) (edge-known d .3 ∙ sym (place-edge k e i j)))
     ∙ ap (λ a. lineOf k w (dueAwaited a)) (sym (d .due3 .given .1))
 
@@ -151,19 +152,19 @@ line-after-spec =
     (tie.spec
     place-of-requires
     enum-known-due
-    mul-make-line
-    shared-slice-copy-out-make-line
-    make-line-requires
+    mul-weight-line
+    shared-slice-copy-out-weight-line
+    weight-line-requires
     enum-known-due-2
     element-copy-out-wide-size
     wide-size-requires
     element-copy-out-wide-size-2
     wide-size-requires-2
-    make-line-requires-2
+    make-line-requires
     enum-known-due-3
-    mul-make-line-2
-    shared-slice-copy-out-make-line-2
-    make-line-requires-3
+    mul-weight-line-2
+    shared-slice-copy-out-weight-line-2
+    weight-line-requires-2
     returns
     returns-2
     returns-3)

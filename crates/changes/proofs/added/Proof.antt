@@ -1,5 +1,5 @@
 use mir.Facts.{toZ-ofZ}
-use Rattle.tables.proofs.Bounds.{same-bits, other-bits}
+use Rattle.integers.specs.Linear.{same-bits, other-bits}
 use Rattle.changes.proofs.added.Statement.{statement}
 use Rattle.changes.proofs.added.Tie as tie
 

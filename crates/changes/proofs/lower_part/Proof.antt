@@ -1,7 +1,7 @@
 use mathlib.Core.Path.{_≡_, refl, ap, _∙_}
 use Prim.Native.Nat.{ℕ, _-_, _≤_, _<_}
 use native.Mathlib.Omega.{arith}
-use lib.IntN.{ℤ, pos, _+ℤ_}
+use lib.IntN.{ℤ, pos}
 use lib.ListN.{length, getD, length-set}
 use lib.Seq.{getD-set-same, getD-set-other}
 use mir.Syntax.{w64}
@@ -9,6 +9,7 @@ use mir.Val.{toZ, ofZ}
 use mir.Facts.{toZ-ofZ}
 use borrow.Author.Count.{below-more}
 use Rattle.integers.specs.Linear.{read-back}
+use Rattle.changes.specs.Spaced.{weightWith}
 use Rattle.changes.specs.Scopes.{loweredBy, weightAfter}
 use Rattle.changes.proofs.ScopeLaws.{after-is}
 use Rattle.changes.proofs.lower_part.Statement.{statement}
@@ -51,7 +52,7 @@ stored c =
     let a = s .before .args in
     let f = s .before .fits in
     read-back w64 (c .own-weight .result) (c .own-weight .ok) ∙ rw (toZ-ofZ (f .best), toZ-ofZ (f .rest), toZ-ofZ (f .amount)) at (c .own-weight .ensures)
-    ∙ ap (λ (z : ℤ). z +ℤ loweredBy (a .values) (a .amount) (a .best) (a .rest) (s .loop .at) z)
+    ∙ ap (λ (z : ℤ). weightWith z (loweredBy (a .values) (a .amount) (a .best) (a .rest) (s .loop .at) z))
     (read-back w64 (getD (s .loop .part) (s .loop .at) (pos 0)) (c .before .own-weight-arg .given) ∙ s .loop .inv .3 (s .loop .at) (omega arith))
 
 mul-weight : tie.Need-mul-weight Inv-loop μ-loop

@@ -2,7 +2,7 @@ use mathlib.Core.Path.{_≡_, sym, ap, ap₂, subst, _∙_}
 use mathlib.Core.Bool.{true}
 use Prim.Native.Nat.{ℕ, _-_, _≤_, _<_}
 use native.Mathlib.Omega.{arith}
-use lib.IntN.{ℤ, pos, _+ℤ_}
+use lib.IntN.{ℤ, pos}
 use lib.Dec.{T}
 use lib.ListN.{length, getD}
 use mir.Syntax.{w64}
@@ -12,9 +12,8 @@ use borrow.Author.Count.{below-more}
 use borrow.Author.Tests.{not-true, not-false}
 use Rattle.integers.specs.Linear.{read-back}
 use Rattle.definitions.specs.Rules.{rulesIn, coherent}
-use Rattle.definitions.specs.Valid.{workingWeight}
-use Rattle.changes.specs.Spaced.{amountWithin}
-use Rattle.changes.specs.Scopes.{loweredBy, weightAfter}
+use Rattle.changes.specs.Spaced.{amountWithin, staysWith, weightAt}
+use Rattle.changes.specs.Scopes.{loweredBy}
 use Rattle.changes.proofs.Tests.{not-all, all-passed}
 use Rattle.changes.proofs.SpacedLaws.{amount-fits}
 use Rattle.changes.proofs.own_stays.Statement.{statement}
@@ -22,7 +21,7 @@ use Rattle.changes.proofs.own_stays.Tie as tie
 
 abbrev Inv-loop : tie.InvT-loop
 Inv-loop rulebook part best rest values amount i₀ i = (i ≤ length part) × ((k : ℕ) → k < i
-    → workingWeight (rulesIn rulebook) (weightAfter (loweredBy values (toZ w64 amount) (toZ w64 best) (toZ w64 rest)) part k) ≡ true)
+    → staysWith (rulesIn rulebook) (weightAt part k) (loweredBy values (toZ w64 amount) (toZ w64 best) (toZ w64 rest) k (weightAt part k)) ≡ true)
 
 abbrev μ-loop : tie.MeasureT-loop
 μ-loop rulebook part best rest values amount i₀ i = length part - i
@@ -57,22 +56,24 @@ stays-with-requires c κs =
 
 told : (c : tie.After-stays-with Inv-loop μ-loop) → let s = c .before .before .before .before in let a = s .before .args in
     c .stays-with .result
-    ≡ workingWeight (rulesIn (a .rulebook)) (weightAfter (loweredBy (a .values) (a .amount) (a .best) (a .rest)) (a .part .now) (s .loop .i))
+    ≡ staysWith (rulesIn (a .rulebook)) (weightAt (a .part .now) (s .loop .i))
+    (loweredBy (a .values) (a .amount) (a .best) (a .rest) (s .loop .i) (weightAt (a .part .now) (s .loop .i)))
 told c =
     let s = c .before .before .before .before in
     let a = s .before .args in
     let f = s .before .fits in
     let r = c .before .own-added in
     let e = read-back w64 (getD (a .part .now) (s .loop .i) (pos 0)) (c .before .before .weight .given) in
-    c .stays-with .ensures ∙ ap (workingWeight (rulesIn (a .rulebook))) (ap₂ _+ℤ_ e (read-back w64 (r .result) (r .ok)
+    c .stays-with .ensures ∙ ap₂ (staysWith (rulesIn (a .rulebook))) e (read-back w64 (r .result) (r .ok)
     ∙ rw (toZ-ofZ (f .best), toZ-ofZ (f .rest), toZ-ofZ (f .amount)) at (r .ensures)
-    ∙ ap (loweredBy (a .values) (a .amount) (a .best) (a .rest) (s .loop .i)) e))
+    ∙ ap (loweredBy (a .values) (a .amount) (a .best) (a .rest) (s .loop .i)) e)
 
 returns : tie.Need-returns Inv-loop μ-loop
 returns c =
     let s = c .before .before .before .before .before in
     let a = s .before .args in
-    not-all (λ p. workingWeight (rulesIn (a .rulebook)) (weightAfter (loweredBy (a .values) (a .amount) (a .best) (a .rest)) (a .part .now) p))
+    not-all (λ p. staysWith (rulesIn (a .rulebook)) (weightAt (a .part .now) p)
+    (loweredBy (a .values) (a .amount) (a .best) (a .rest) p (weightAt (a .part .now) p)))
     (length (a .part .now)) (s .loop .i) (omega arith) (sym (told (c .before)) ∙ not-true _ (c .if1 .taken))
 
 add-i : tie.Need-add-i Inv-loop μ-loop
@@ -95,7 +96,8 @@ returns-2 c =
     let s = c .before in
     let a = s .before .args in
     let f = s .before .fits in
-    all-passed (λ p. workingWeight (rulesIn (a .rulebook)) (weightAfter (loweredBy (a .values) (a .amount) (a .best) (a .rest)) (a .part .now) p))
+    all-passed (λ p. staysWith (rulesIn (a .rulebook)) (weightAt (a .part .now) p)
+    (loweredBy (a .values) (a .amount) (a .best) (a .rest) p (weightAt (a .part .now) p)))
     (length (a .part .now)) (λ k h. rw (toZ-ofZ (f .best), toZ-ofZ (f .rest), toZ-ofZ (f .amount)) at (s .loop .inv .1 k (omega arith)))
 
 pub own-stays-spec : {M : Type 1} → statement M

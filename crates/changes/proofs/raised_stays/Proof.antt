@@ -2,7 +2,7 @@ use mathlib.Core.Path.{_≡_, sym, ap, ap₂, subst, _∙_}
 use mathlib.Core.Bool.{true}
 use Prim.Native.Nat.{ℕ, _-_, _≤_, _<_}
 use native.Mathlib.Omega.{arith}
-use lib.IntN.{ℤ, pos, _+ℤ_}
+use lib.IntN.{ℤ, pos}
 use lib.Dec.{T}
 use lib.ListN.{length, getD}
 use mir.Syntax.{w64}
@@ -13,16 +13,15 @@ use borrow.Author.Needs.{needs}
 use borrow.Author.Tests.{not-true, not-false}
 use Rattle.integers.specs.Linear.{read-back}
 use Rattle.definitions.specs.Rules.{rulesIn}
-use Rattle.definitions.specs.Valid.{workingWeight}
-use Rattle.changes.specs.Spaced.{amountWithin}
-use Rattle.changes.specs.Scopes.{raisedBy, weightAfter}
+use Rattle.changes.specs.Spaced.{amountWithin, staysWith, weightAt}
+use Rattle.changes.specs.Scopes.{raisedBy}
 use Rattle.changes.proofs.Tests.{not-all, all-passed}
 use Rattle.changes.proofs.raised_stays.Statement.{statement}
 use Rattle.changes.proofs.raised_stays.Tie as tie
 
 abbrev Inv-loop : tie.InvT-loop
 Inv-loop rulebook part best rest i₀ i = (i ≤ length part)
-    × ((k : ℕ) → k < i → workingWeight (rulesIn rulebook) (weightAfter (raisedBy (toZ w64 best) (toZ w64 rest)) part k) ≡ true)
+    × ((k : ℕ) → k < i → staysWith (rulesIn rulebook) (weightAt part k) (raisedBy (toZ w64 best) (toZ w64 rest) k (weightAt part k)) ≡ true)
 
 abbrev μ-loop : tie.MeasureT-loop
 μ-loop rulebook part best rest i₀ i = length part - i
@@ -50,21 +49,24 @@ stays-with-requires c κs =
     (s .before .pre (s .loop .i) (toZ w64 (ofZ w64 (getD (a .part .now) (s .loop .i) (pos 0)))))
 
 told : (c : tie.After-stays-with Inv-loop μ-loop) → let s = c .before .before .before .before in let a = s .before .args in
-    c .stays-with .result ≡ workingWeight (rulesIn (a .rulebook)) (weightAfter (raisedBy (a .best) (a .rest)) (a .part .now) (s .loop .i))
+    c .stays-with .result
+    ≡ staysWith (rulesIn (a .rulebook)) (weightAt (a .part .now) (s .loop .i))
+    (raisedBy (a .best) (a .rest) (s .loop .i) (weightAt (a .part .now) (s .loop .i)))
 told c =
     let s = c .before .before .before .before in
     let a = s .before .args in
     let f = s .before .fits in
     let r = c .before .added in
     let e = read-back w64 (getD (a .part .now) (s .loop .i) (pos 0)) (c .before .before .weight .given) in
-    c .stays-with .ensures ∙ ap (workingWeight (rulesIn (a .rulebook))) (ap₂ _+ℤ_ e (read-back w64 (r .result) (r .ok)
-    ∙ rw (toZ-ofZ (f .best), toZ-ofZ (f .rest)) at (r .ensures) ∙ ap (raisedBy (a .best) (a .rest) (s .loop .i)) e))
+    c .stays-with .ensures ∙ ap₂ (staysWith (rulesIn (a .rulebook))) e (read-back w64 (r .result) (r .ok)
+    ∙ rw (toZ-ofZ (f .best), toZ-ofZ (f .rest)) at (r .ensures) ∙ ap (raisedBy (a .best) (a .rest) (s .loop .i)) e)
 
 returns : tie.Need-returns Inv-loop μ-loop
 returns c =
     let s = c .before .before .before .before .before in
     let a = s .before .args in
-    not-all (λ p. workingWeight (rulesIn (a .rulebook)) (weightAfter (raisedBy (a .best) (a .rest)) (a .part .now) p)) (length (a .part .now))
+    not-all (λ p. staysWith (rulesIn (a .rulebook)) (weightAt (a .part .now) p) (raisedBy (a .best) (a .rest) p (weightAt (a .part .now) p)))
+    (length (a .part .now))
     (s .loop .i) (omega arith) (sym (told (c .before)) ∙ not-true _ (c .if1 .taken))
 
 add-i : tie.Need-add-i Inv-loop μ-loop
@@ -84,7 +86,8 @@ returns-2 c =
     let s = c .before in
     let a = s .before .args in
     let f = s .before .fits in
-    all-passed (λ p. workingWeight (rulesIn (a .rulebook)) (weightAfter (raisedBy (a .best) (a .rest)) (a .part .now) p)) (length (a .part .now))
+    all-passed (λ p. staysWith (rulesIn (a .rulebook)) (weightAt (a .part .now) p) (raisedBy (a .best) (a .rest) p (weightAt (a .part .now) p)))
+    (length (a .part .now))
     (λ k h. rw (toZ-ofZ (f .best), toZ-ofZ (f .rest)) at (s .loop .inv .1 k (omega arith)))
 
 pub raised-stays-spec : {M : Type 1} → statement M

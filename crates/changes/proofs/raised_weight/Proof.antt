@@ -1,5 +1,5 @@
-use mathlib.Core.Path.{_≡_, ap₂, _∙_}
-use lib.IntN.{pos, _+ℤ_}
+use mathlib.Core.Path.{_≡_, _∙_}
+use lib.IntN.{pos}
 use mir.Syntax.{w64}
 use mir.Val.{toZ, ofZ}
 use mir.Facts.{toZ-ofZ}
@@ -12,18 +12,20 @@ use Rattle.changes.proofs.raised_weight.Tie as tie
 added-requires : tie.Need-added-requires
 added-requires c κs = search needs
 
-after : (c : tie.After-added) → let a = c .before .args in
-    toZ w64 (ofZ w64 (a .weight)) +ℤ toZ w64 (ofZ w64 (c .added .result)) ≡ a .weight +ℤ (if eqZ (a .weight) (a .best) then pos 0 else a .rest)
-after c =
+by-is : (c : tie.After-added) → let a = c .before .args in
+    toZ w64 (ofZ w64 (c .added .result)) ≡ (if eqZ (a .weight) (a .best) then pos 0 else a .rest)
+by-is c =
     let f = c .before .fits in
-    ap₂ _+ℤ_ (toZ-ofZ (f .weight)) (read-back w64 (c .added .result) (c .added .ok)
-    ∙ rw (toZ-ofZ (f .weight), toZ-ofZ (f .best), toZ-ofZ (f .rest)) at (c .added .ensures))
+    read-back w64 (c .added .result) (c .added .ok) ∙ rw (toZ-ofZ (f .weight), toZ-ofZ (f .best), toZ-ofZ (f .rest)) at (c .added .ensures)
 
-add-result : tie.Need-add-result
-add-result c = rw (after c) (c .before .pre)
+weight-with-requires : tie.Need-weight-with-requires
+weight-with-requires c κs = rw (toZ-ofZ (c .before .fits .weight), by-is c) (c .before .pre)
 
 returns : tie.Need-returns
-returns c = toZ-ofZ (add-result c) ∙ after c
+returns c =
+    let q = c .before in
+    let r = c .weight-with in
+    read-back w64 (r .result) (r .ok) ∙ rw (toZ-ofZ (q .before .fits .weight), by-is q) at (r .ensures)
 
 pub raised-weight-spec : {M : Type 1} → statement M
-raised-weight-spec = tie.close (tie.spec added-requires add-result returns)
+raised-weight-spec = tie.close (tie.spec added-requires weight-with-requires returns)

@@ -1,4 +1,4 @@
-use Rattle.tables.proofs.Bounds.{same-bits, other-bits}
+use Rattle.integers.specs.Linear.{same-bits, other-bits}
 use Rattle.changes.proofs.same_weight.Statement.{statement}
 use Rattle.changes.proofs.same_weight.Tie as tie
 

@@ -2,14 +2,14 @@ use mathlib.Core.Path.{_≡_, refl, ap, _∙_}
 use Prim.Native.Nat.{_+_, _*_, _-_, _≤_, _<_}
 use native.Mathlib.Numerals.{add-one}
 use native.Mathlib.Omega.{arith}
-use lib.IntN.{_+ℤ_}
+use lib.IntN.{ℤ}
 use lib.ListN.{length, set}
 use mir.Facts.{toZ-ofZ}
 use mir.Val.{ofZ, toZ}
 use mir.Syntax.{w64}
 use Rattle.integers.specs.Linear.{read-back}
 use Rattle.changes.proofs.SpacedLaws.{spaced-long, spaced-next}
-use Rattle.changes.specs.Spaced.{weightAt, spacedAdd}
+use Rattle.changes.specs.Spaced.{weightWith, weightAt, spacedAdd}
 use Rattle.changes.proofs.spaced_add.Statement.{statement}
 use Rattle.changes.proofs.spaced_add.Tie as tie
 
@@ -37,37 +37,34 @@ inside c =
           (toZ w64 (ofZ w64 (a .by))) (s .loop .j),
     )
 
--- the weight there is as it was
-held : (c : tie.After-table Inv-loop μ-loop) → let s = c .before .before in let a = s .before .args in
-    toZ w64 (ofZ w64 (weightAt (s .loop .table) (a .start + s .loop .j * a .step))) ≡ weightAt (a .table .now) (a .start + s .loop .j * a .step)
-held c =
-    let s = c .before .before in
-    let a = s .before .args in
-    read-back w64 (weightAt (s .loop .table) (a .start + s .loop .j * a .step)) (c .table .given)
-    ∙ ap (λ t. weightAt t (a .start + s .loop .j * a .step)) (s .loop .inv .1)
-    ∙ spaced-next (a .table .now) (a .start) (a .step) (toZ w64 (ofZ w64 (a .by))) (s .before .pre .1 .1) (s .loop .j)
-
 mul-p : tie.Need-mul-p Inv-loop μ-loop
 mul-p c = let s = c .before in let a = s .before .args in omega (arith, s .before .pre .0 (s .loop .j) (c .loop-test .taken))
 
 add-p : tie.Need-add-p Inv-loop μ-loop
 add-p c = let s = c .before in let a = s .before .args in omega (arith, s .before .pre .0 (s .loop .j) (c .loop-test .taken))
 
-mul-table : tie.Need-mul-table Inv-loop μ-loop
-mul-table c = let s = c .before in let a = s .before .args in omega (arith, s .before .pre .0 (s .loop .j) (c .loop-test .taken))
+mul-weight-with : tie.Need-mul-weight-with Inv-loop μ-loop
+mul-weight-with c = let s = c .before in let a = s .before .args in omega (arith, s .before .pre .0 (s .loop .j) (c .loop-test .taken))
 
-slice-copy-out-table : tie.Need-slice-copy-out-table Inv-loop μ-loop
-slice-copy-out-table c = inside c
+slice-copy-out-weight-with : tie.Need-slice-copy-out-weight-with Inv-loop μ-loop
+slice-copy-out-weight-with c = inside c
 
-add-table : tie.Need-add-table Inv-loop μ-loop
-add-table c = let s = c .before .before in
-    rw (toZ-ofZ (s .before .fits .by), held c) (s .before .pre .1 .0 (s .loop .j) (c .before .loop-test .taken))
+weight-with-requires : tie.Need-weight-with-requires Inv-loop μ-loop
+weight-with-requires c κs =
+    let s = c .before .before in
+    let a = s .before .args in
+    let p = a .start + s .loop .j * a .step in
+    -- the weight there is as it was
+    let held = read-back w64 (weightAt (s .loop .table) p) (c .weight-with-arg .given) ∙ ap (λ t. weightAt t p) (s .loop .inv .1)
+    ∙ spaced-next (a .table .now) (a .start) (a .step) (toZ w64 (ofZ w64 (a .by))) (s .before .pre .1 .1) (s .loop .j) in
+    rw (toZ-ofZ (s .before .fits .by), held) (s .before .pre .1 .0 (s .loop .j) (c .before .loop-test .taken))
 
-mul-t13 : tie.Need-mul-t13 Inv-loop μ-loop
-mul-t13 c = let s = c .before .before in let a = s .before .args in omega (arith, s .before .pre .0 (s .loop .j) (c .before .loop-test .taken))
+mul-weight : tie.Need-mul-weight Inv-loop μ-loop
+mul-weight c = let s = c .before .before .before in
+    let a = s .before .args in omega (arith, s .before .pre .0 (s .loop .j) (c .before .before .loop-test .taken))
 
-slice-set-from-table : tie.Need-slice-set-from-table Inv-loop μ-loop
-slice-set-from-table c = inside (c .before)
+slice-set-from-weight : tie.Need-slice-set-from-weight Inv-loop μ-loop
+slice-set-from-weight c = inside (c .before .before)
 
 add-j : tie.Need-add-j Inv-loop μ-loop
 add-j c = omega arith
@@ -77,12 +74,15 @@ loop-less c = omega arith
 
 loop-again : tie.Need-loop-again Inv-loop μ-loop
 unfolding spacedAdd
-loop-again c = let s = c .before .before in
+loop-again c =
+    let s = c .before .before .before in
     let a = s .before .args in
-    let e = read-back w64 (weightAt (s .loop .table) (a .start + s .loop .j * a .step)) (c .table .given) in (
+    let p = a .start + s .loop .j * a .step in
+    let r = c .weight-with in
+    let e = read-back w64 (r .result) (r .ok) ∙ r .ensures
+    ∙ ap (λ (z : ℤ). weightWith z (toZ w64 (ofZ w64 (a .by)))) (read-back w64 (weightAt (s .loop .table) p) (c .before .weight-with-arg .given)) in (
       omega arith,
-      rw (toZ-ofZ (add-table c), e, add-one)
-          (ap (λ t. set t (a .start + s .loop .j * a .step) (weightAt t (a .start + s .loop .j * a .step) +ℤ toZ w64 (ofZ w64 (a .by)))) (s .loop .inv .1)),
+      rw (e, add-one) (ap (λ t. set t p (weightWith (weightAt t p) (toZ w64 (ofZ w64 (a .by))))) (s .loop .inv .1)),
     )
 
 same-length : tie.Need-same-length Inv-loop μ-loop
@@ -104,11 +104,11 @@ spaced-add-spec =
     loop-holds
     mul-p
     add-p
-    mul-table
-    slice-copy-out-table
-    add-table
-    mul-t13
-    slice-set-from-table
+    mul-weight-with
+    slice-copy-out-weight-with
+    weight-with-requires
+    mul-weight
+    slice-set-from-weight
     add-j
     loop-less
     loop-again

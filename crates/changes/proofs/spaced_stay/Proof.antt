@@ -1,8 +1,7 @@
-use mathlib.Core.Path.{_≡_, sym, ap, ap₂, _∙_}
+use mathlib.Core.Path.{_≡_, sym, ap₂, _∙_}
 use mathlib.Core.Bool.{true}
 use Prim.Native.Nat.{ℕ, _+_, _*_, _-_, _≤_, _<_}
 use native.Mathlib.Omega.{arith}
-use lib.IntN.{_+ℤ_}
 use mir.Facts.{toZ-ofZ}
 use mir.Syntax.{w64}
 use mir.Val.{toZ}
@@ -10,15 +9,14 @@ use borrow.Author.Count.{below-more}
 use borrow.Author.Tests.{not-true, not-false}
 use Rattle.integers.specs.Linear.{read-back}
 use Rattle.definitions.specs.Rules.{rulesIn}
-use Rattle.definitions.specs.Valid.{workingWeight}
 use Rattle.changes.proofs.Tests.{not-all, all-passed}
-use Rattle.changes.specs.Spaced.{weightAt}
+use Rattle.changes.specs.Spaced.{staysWith, weightAt}
 use Rattle.changes.proofs.spaced_stay.Statement.{statement}
 use Rattle.changes.proofs.spaced_stay.Tie as tie
 
 abbrev Inv-loop : tie.InvT-loop
 Inv-loop rulebook table start step count by j₀ j = (j ≤ count)
-    × ((i : ℕ) → i < j → workingWeight (rulesIn rulebook) (weightAt table (start + i * step) +ℤ toZ w64 by) ≡ true)
+    × ((i : ℕ) → i < j → staysWith (rulesIn rulebook) (weightAt table (start + i * step)) (toZ w64 by) ≡ true)
 
 abbrev μ-loop : tie.MeasureT-loop
 μ-loop rulebook table start step count by j₀ j = count - j
@@ -42,17 +40,17 @@ stays-with-requires : tie.Need-stays-with-requires Inv-loop μ-loop
 stays-with-requires c κs = let s = c .before .before in rw (toZ-ofZ (s .before .fits .by)) (s .before .pre .1)
 
 told : (c : tie.After-stays-with Inv-loop μ-loop) → let s = c .before .before .before in let a = s .before .args in
-    c .stays-with .result ≡ workingWeight (rulesIn (a .rulebook)) (weightAt (a .table .now) (a .start + s .loop .j * a .step) +ℤ a .by)
+    c .stays-with .result ≡ staysWith (rulesIn (a .rulebook)) (weightAt (a .table .now) (a .start + s .loop .j * a .step)) (a .by)
 told c =
     let s = c .before .before .before in
     let a = s .before .args in
     let e = read-back w64 (weightAt (a .table .now) (a .start + s .loop .j * a .step)) (c .before .stays-with-arg .given) in
-    c .stays-with .ensures ∙ ap (workingWeight (rulesIn (a .rulebook))) (ap₂ _+ℤ_ e (toZ-ofZ (s .before .fits .by)))
+    c .stays-with .ensures ∙ ap₂ (staysWith (rulesIn (a .rulebook))) e (toZ-ofZ (s .before .fits .by))
 
 returns : tie.Need-returns Inv-loop μ-loop
 returns c = let s = c .before .before .before .before in
     let a = s .before .args in
-    not-all (λ j. workingWeight (rulesIn (a .rulebook)) (weightAt (a .table .now) (a .start + j * a .step) +ℤ a .by)) (a .count) (s .loop .j)
+    not-all (λ j. staysWith (rulesIn (a .rulebook)) (weightAt (a .table .now) (a .start + j * a .step)) (a .by)) (a .count) (s .loop .j)
     (c .before .before .before .loop-test .taken)
     (sym (told (c .before)) ∙ not-true _ (c .if1 .taken))
 
@@ -69,7 +67,7 @@ loop-again c = let s = c .before .before .before .before in
 returns-2 : tie.Need-returns-2 Inv-loop μ-loop
 returns-2 c = let s = c .before in
     let a = s .before .args in
-    all-passed (λ j. workingWeight (rulesIn (a .rulebook)) (weightAt (a .table .now) (a .start + j * a .step) +ℤ a .by)) (a .count)
+    all-passed (λ j. staysWith (rulesIn (a .rulebook)) (weightAt (a .table .now) (a .start + j * a .step)) (a .by)) (a .count)
     (λ j h. rw (toZ-ofZ (s .before .fits .by)) at (s .loop .inv .1 j (omega arith)))
 
 pub spaced-stay-spec : {M : Type 1} → statement M

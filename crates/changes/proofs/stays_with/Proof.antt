@@ -1,12 +1,12 @@
-use mathlib.Core.Path.{_≡_, _∙_}
-use lib.IntN.{pos}
+use mathlib.Core.Path.{_≡_, sym, _∙_}
+use lib.IntN.{pos, _-ℤ_}
 use mir.Syntax.{w64}
 use mir.Val.{toZ, ofZ}
 use mir.Facts.{toZ-ofZ}
-use Rattle.integers.specs.Words.{minus}
+use Rattle.integers.specs.Words.{withinZ, minus}
 use Rattle.integers.specs.Linear.{read-back}
 use Rattle.definitions.specs.Rules.{rulesIn, coherent}
-use Rattle.changes.proofs.SpacedLaws.{low-fits, high-fits, range-moved}
+use Rattle.changes.proofs.SpacedLaws.{low-fits, high-fits, stays-in, stays-out}
 use borrow.Author.Needs.{needs}
 use Rattle.changes.proofs.stays_with.Statement.{statement}
 use Rattle.changes.proofs.stays_with.Tie as tie
@@ -32,12 +32,29 @@ sub-high c = let s = c .before .before in rw (most-is c, toZ-ofZ (s .fits .by)) 
 is-within-requires : tie.Need-is-within-requires
 is-within-requires c κs = search needs
 
-returns : tie.Need-returns
-returns c = let h = c .before in
+told : (c : tie.After-is-within) → let s = c .before .before .before in
+    let r = rulesIn (s .args .rulebook) in
+    c .is-within .result ≡ withinZ (minus (r .working) -ℤ s .args .by) (pos (r .working) -ℤ s .args .by) (s .args .weight)
+told c =
+    let h = c .before in
     let l = h .before in
     let s = l .before in
-    (rw (toZ-ofZ (sub-low l), toZ-ofZ (sub-high h), least-is l, most-is h, toZ-ofZ (s .fits .weight), toZ-ofZ (s .fits .by)) at (c .is-within .ensures))
-    ∙ range-moved (rulesIn (s .args .rulebook)) (s .args .weight) (s .args .by)
+    rw (toZ-ofZ (sub-low l), toZ-ofZ (sub-high h), least-is l, most-is h, toZ-ofZ (s .fits .weight), toZ-ofZ (s .fits .by)) at (c .is-within .ensures)
+
+returns : tie.Need-returns
+returns c =
+    let s = c .before .before .before .before in
+    stays-in (rulesIn (s .args .rulebook)) (s .args .weight) (s .args .by) (sym (told (c .before)) ∙ c .if1 .taken)
+
+is-barred-requires : tie.Need-is-barred-requires
+is-barred-requires c κs = search needs
+
+returns-2 : tie.Need-returns-2
+returns-2 c =
+    let q = c .before in
+    let s = q .before .before .before .before in
+    (rw (toZ-ofZ (s .fits .weight)) at (c .is-barred .ensures))
+    ∙ stays-out (rulesIn (s .args .rulebook)) (s .args .weight) (s .args .by) (sym (told (q .before)) ∙ q .if1 .left)
 
 pub stays-with-spec : {M : Type 1} → statement M
 stays-with-spec =
@@ -48,4 +65,6 @@ stays-with-spec =
     most-working-requires
     sub-high
     is-within-requires
-    returns)
+    returns
+    is-barred-requires
+    returns-2)

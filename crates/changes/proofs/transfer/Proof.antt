@@ -99,10 +99,7 @@ module _ (c : tie.Else3) where
   in-range = rw (toZ-ofZ (entry .fits .amount)) at (sym (c .before .transfer-out .ensures) ∙ c .if3 .left)
 
 end-variable-requires : tie.Need-end-variable-requires
-end-variable-requires c κs =
-    let a = entry c .args in
-    let i = transfer-in (a .case) (a .edge) (a .end) (a .value) (a .amount) (false-is _ (in-range c)) in
-    omega (arith, i .0 .0, limited (a .case) (right (limits-passed (lengths-passed c))) .edges-placed)
+end-variable-requires c κs = search needs
 
 returns-4 : tie.Need-returns-4
 unfolding transferCall

@@ -11,7 +11,7 @@ use Rattle.checker.proofs.end_good.Tie as tie
 abbrev start : tie.After-check-edges → tie.Start
 start c = c .before .before .before .before .before .before
 
-abbrev checked : tie.After-is-held → tie.After-check-edges
+abbrev checked : tie.After-is-short → tie.After-check-edges
 checked c = c .before .before .before
 
 within-limits-requires : tie.Need-within-limits-requires
@@ -36,27 +36,22 @@ enum-known-checked c = search needs
 enum-told : tie.Need-enum-told
 enum-told c = search needs
 
-is-held-requires : tie.Need-is-held-requires
-is-held-requires c κs = search needs
+is-short-requires : tie.Need-is-short-requires
+is-short-requires c κs = search needs
 
 returns-2 : tie.Need-returns-2
 returns-2 c = let k = checked (c .before) in let a = start k .args in
     end-cut (a .case) (a .replay) (k .before .record-out .ensures) (k .check-edges .ensures) (c .before .before .enum-told .given .1)
-    (rw (sym (c .before .is-held .ensures) ∙ c .if2 .taken))
+    (sym (c .before .is-short .ensures) ∙ c .if2 .taken)
 
 returns-3 : tie.Need-returns-3
-returns-3 c = let h = c .before .before in let k = checked h in let a = start k .args in
-    end-cut (a .case) (a .replay) (k .before .record-out .ensures) (k .check-edges .ensures) (h .before .enum-told .given .1)
-    (rw (sym (h .is-held .ensures) ∙ c .before .if2 .left, c .if3 .taken))
-
-returns-4 : tie.Need-returns-4
-returns-4 c = let k = c .before .before .before in let a = start k .args in
+returns-3 c = let k = c .before .before .before in let a = start k .args in
     end-stopped (a .case) (a .replay) (k .before .record-out .ensures) (k .check-edges .ensures) (c .before .checked .given .1)
 
-returns-5 : tie.Need-returns-5
-returns-5 c = let h = c .before .before in let k = checked h in let a = start k .args in
+returns-4 : tie.Need-returns-4
+returns-4 c = let h = c .before in let k = checked h in let a = start k .args in
     end-done (a .case) (a .replay) (k .before .record-out .ensures) (k .check-edges .ensures) (h .before .enum-told .given .1)
-    (rw (sym (h .is-held .ensures) ∙ c .before .if2 .left, c .if3 .left))
+    (sym (h .is-short .ensures) ∙ c .if2 .left)
 
 pub end-good-spec : {M : Type 1} → statement M
 end-good-spec =
@@ -69,8 +64,7 @@ end-good-spec =
     check-edges-requires
     enum-known-checked
     enum-told
-    is-held-requires
+    is-short-requires
     returns-2
     returns-3
-    returns-4
-    returns-5)
+    returns-4)

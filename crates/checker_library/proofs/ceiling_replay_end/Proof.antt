@@ -20,6 +20,9 @@ case-of-requires c κs = search needs
 end-requires : tie.Need-end-requires
 end-requires c κs = search needs
 
+is-over-requires : tie.Need-is-over-requires
+is-over-requires c κs = search needs
+
 end-with-requires : tie.Need-end-with-requires
 end-with-requires c κs = search needs
 
@@ -35,12 +38,21 @@ not-record-at-end-requires c κs = search needs
 returns : tie.Need-returns
 unfolding endCall
 returns c =
-    let k = c .before .before .before in
+    let o = c .before .before in
+    let k = o .before .before in
     let r = k .before in
     let t = r .before in
     let s = t .before .before in
     let e : isRecord (now (s .args .state)) ≡ true = sym (t .before .is-record .ensures) ∙ t .if1 .taken in
-    rw e (rw (c .rounds-of .ensures, c .before .end-with .ensures, c .before .before .end .ensures, k .case-of .ensures, r .record-of .ensures))
+    rw e
+    (rw (
+      c .rounds-of .ensures,
+      c .before .end-with .ensures,
+      o .is-over .ensures,
+      o .before .end .ensures,
+      k .case-of .ensures,
+      r .record-of .ensures,
+    ))
 
 returns-2 : tie.Need-returns-2
 unfolding endCall
@@ -59,6 +71,7 @@ ceiling-replay-end-spec =
     record-of-requires
     case-of-requires
     end-requires
+    is-over-requires
     end-with-requires
     rounds-of-requires
     case-of-requires-2

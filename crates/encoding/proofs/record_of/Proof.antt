@@ -6,8 +6,8 @@ use borrow.Author.Needs.{needs}
 use Rattle.encoding.proofs.record_of.Statement.{statement}
 use Rattle.encoding.proofs.record_of.Tie as tie
 
-press-at-requires : tie.Need-press-at-requires
-press-at-requires c κs = search needs
+begun-at-requires : tie.Need-begun-at-requires
+begun-at-requires c κs = search needs
 
 due-of-requires : tie.Need-due-of-requires
 due-of-requires c κs = search needs
@@ -47,7 +47,7 @@ returns c =
       start .before .number-at2 .ensures,
       marks .marks-at .ensures,
       due .due-of .ensures,
-      due .before .press-at .ensures,
+      due .before .begun-at .ensures,
       c .before .standing-of .ensures,
     )
 
@@ -55,7 +55,7 @@ pub record-of-spec : {M : Type 1} → statement M
 record-of-spec =
     tie.close
     (tie.spec
-    press-at-requires
+    begun-at-requires
     due-of-requires
     number-at-requires
     number-at-requires-2

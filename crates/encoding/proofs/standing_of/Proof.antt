@@ -46,23 +46,31 @@ returns-14 : tie.Need-returns-14
 returns-14 c = rw (c .match .keys14)
 
 returns-15 : tie.Need-returns-15
-returns-15 c =
+returns-15 c = rw (c .match .keys15)
+
+returns-16 : tie.Need-returns-16
+returns-16 c = rw (c .match .keys16)
+
+returns-17 : tie.Need-returns-17
+returns-17 c =
     let n = c .match .rest in
     simp (
-      ne-eqb _ 1 (n .0 .0 .0 .0 .0 .0 .0 .0 .0 .0 .0 .0 .0 .1),
-      ne-eqb _ 2 (n .0 .0 .0 .0 .0 .0 .0 .0 .0 .0 .0 .0 .1),
-      ne-eqb _ 3 (n .0 .0 .0 .0 .0 .0 .0 .0 .0 .0 .0 .1),
-      ne-eqb _ 4 (n .0 .0 .0 .0 .0 .0 .0 .0 .0 .0 .1),
-      ne-eqb _ 5 (n .0 .0 .0 .0 .0 .0 .0 .0 .0 .1),
-      ne-eqb _ 6 (n .0 .0 .0 .0 .0 .0 .0 .0 .1),
-      ne-eqb _ 7 (n .0 .0 .0 .0 .0 .0 .0 .1),
-      ne-eqb _ 8 (n .0 .0 .0 .0 .0 .0 .1),
-      ne-eqb _ 9 (n .0 .0 .0 .0 .0 .1),
-      ne-eqb _ 10 (n .0 .0 .0 .0 .1),
-      ne-eqb _ 11 (n .0 .0 .0 .1),
-      ne-eqb _ 12 (n .0 .0 .1),
-      ne-eqb _ 13 (n .0 .1),
-      ne-eqb _ 14 (n .1),
+      ne-eqb _ 1 (n .0 .0 .0 .0 .0 .0 .0 .0 .0 .0 .0 .0 .0 .0 .0 .1),
+      ne-eqb _ 2 (n .0 .0 .0 .0 .0 .0 .0 .0 .0 .0 .0 .0 .0 .0 .1),
+      ne-eqb _ 3 (n .0 .0 .0 .0 .0 .0 .0 .0 .0 .0 .0 .0 .0 .1),
+      ne-eqb _ 4 (n .0 .0 .0 .0 .0 .0 .0 .0 .0 .0 .0 .0 .1),
+      ne-eqb _ 5 (n .0 .0 .0 .0 .0 .0 .0 .0 .0 .0 .0 .1),
+      ne-eqb _ 6 (n .0 .0 .0 .0 .0 .0 .0 .0 .0 .0 .1),
+      ne-eqb _ 7 (n .0 .0 .0 .0 .0 .0 .0 .0 .0 .1),
+      ne-eqb _ 8 (n .0 .0 .0 .0 .0 .0 .0 .0 .1),
+      ne-eqb _ 9 (n .0 .0 .0 .0 .0 .0 .0 .1),
+      ne-eqb _ 10 (n .0 .0 .0 .0 .0 .0 .1),
+      ne-eqb _ 11 (n .0 .0 .0 .0 .0 .1),
+      ne-eqb _ 12 (n .0 .0 .0 .0 .1),
+      ne-eqb _ 13 (n .0 .0 .0 .1),
+      ne-eqb _ 14 (n .0 .0 .1),
+      ne-eqb _ 15 (n .0 .1),
+      ne-eqb _ 16 (n .1),
     )
 
 pub standing-of-spec : {M : Type 1} → statement M
@@ -83,4 +91,6 @@ standing-of-spec =
     returns-12
     returns-13
     returns-14
-    returns-15)
+    returns-15
+    returns-16
+    returns-17)

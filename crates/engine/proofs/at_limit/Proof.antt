@@ -14,6 +14,7 @@ use Rattle.pair_choice.specs.declared.Paired.{Paired}
 use Rattle.pair_choice.specs.PairChoice.{pairedOf}
 use Rattle.engine.specs.Rounds.{nextIn}
 use Rattle.engine.proofs.Pairs.{found-pair, found-nothing, next-pair, next-pairs, limit-press}
+use Rattle.pair_theory.proofs.Inside.{every-takes}
 use borrow.Author.Needs.{needs}
 use Rattle.engine.proofs.at_limit.Statement.{statement}
 use Rattle.engine.proofs.at_limit.Tie as tie
@@ -30,7 +31,7 @@ slice-aggregate-prepare-2 c = search needs
 prepare-requires : tie.Need-prepare-requires
 prepare-requires c κs =
     let s = c .before .before in
-    let l = limits-known (s .pre .0) in
+    let l = limits-known (every-takes (s .pre .0)) in
     (s .pre, (omega (arith, l .variables-placed), omega (arith, l .edges-placed)))
 
 -- what was found
@@ -68,7 +69,8 @@ has-press-requires : tie.Need-has-press-requires
 has-press-requires c κs =
     let q = looked (c .before .before .before) in
     let s = entry q in
-    (limited (s .args .case) (limits-true (s .pre .0)), omega (arith, limits-known (s .pre .0) .variables-placed, q .prepare .kept .1 .1 .1 .0))
+    let h = every-takes (s .pre .0) in
+    (limited (s .args .case) (limits-true h), omega (arith, limits-known h .variables-placed, q .prepare .kept .1 .1 .1 .0))
 
 -- whether a press is left
 module _ (c : tie.After-has-press) where

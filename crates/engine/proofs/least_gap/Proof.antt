@@ -5,6 +5,7 @@ use native.Mathlib.Omega.{arith}
 use lib.IntN.{ℤ}
 use mir.Syntax.{w64}
 use denote.Ref.{now}
+use Rattle.pair_theory.proofs.Inside.{every-takes}
 use borrow.Author.Needs.{needs}
 use Rattle.integers.specs.Linear.{read-back}
 use Rattle.definitions.specs.declared.Figure.{Figure}
@@ -21,8 +22,8 @@ answered : (c : tie.After-least-gap) {f : Figure} → c .least-gap .result ≡ f
     (z : ℤ) × (leastGap (a .case) (now (a .table)) (a .variable) ≡ some z) × (f ≡ Figure.Value z)
 answered c e =
     let s = c .before .before in
-    let (z, g, d) = least-gap-known (s .pre .0) (s .pre .1 .0) (now (s .args .raised)) (s .args .variable) (s .pre .1 .1 .1 .0) (s .pre .1 .1 .1 .1)
-    (s .pre .1 .1 .0) in
+    let (z, g, d) = least-gap-known (every-takes (s .pre .0)) (s .pre .1 .0) (now (s .args .raised)) (s .args .variable) (s .pre .0 .in-range)
+    (s .pre .1 .1 .1 .0) (s .pre .1 .1 .1 .1) (s .pre .1 .1 .0) in
     (z, g, sym e ∙ c .least-gap .ensures ∙ d)
 
 enum-known-gap : tie.Need-enum-known-gap

@@ -7,6 +7,7 @@ use Rattle.engine.specs.Search.{FoundIs}
 use Rattle.engine.proofs.Raising.{ones-raised}
 use Rattle.engine.proofs.Runs.{nothing-made}
 use Rattle.engine.proofs.Pairs.{next-settled}
+use Rattle.pair_theory.proofs.Inside.{every-takes}
 use borrow.Author.Needs.{needs}
 use Rattle.engine.proofs.press_next.Statement.{statement}
 use Rattle.engine.proofs.press_next.Tie as tie
@@ -17,7 +18,7 @@ slice-aggregate-search c = search needs
 search-requires : tie.Need-search-requires
 search-requires c κs =
     let s = c .before .before .before .before in
-    let l = limits-known (s .pre .0 .0) in
+    let l = limits-known (every-takes (s .pre .0 .0)) in
     (omega (arith, l .scopes-placed), s .pre .1 .1 .0 .1, l .variables-placed, l .values-few, l .edges-placed)
 
 -- what was found
@@ -30,7 +31,7 @@ module _ (c : tie.After-search) where
       let a = start .args in
       subst (FoundIs (a .case) (now (a .table)) (c .search .last .1 .1 .1 .0)) e
       (c .search .ensures (now (a .table)) (start .pre .1 .1 .0 .0) (ones-raised (a .case)
-      (omega (arith, limits-known (start .pre .0 .0) .scopes-placed))))
+      (omega (arith, limits-known (every-takes (start .pre .0 .0)) .scopes-placed))))
 
 enum-told : tie.Need-enum-told
 enum-told c = search needs
@@ -50,7 +51,7 @@ press-round-requires c κs =
       (
         s .pre .0 .1,
         (
-          (omega (arith, limits-known (s .pre .0 .0) .scopes-placed, q .search .kept .1 .1 .1 .0), s .pre .1 .0),
+          (omega (arith, limits-known (every-takes (s .pre .0 .0)) .scopes-placed, q .search .kept .1 .1 .1 .0), s .pre .1 .0),
           (s .pre .1 .1 .1, found-is q (f .found .given .1)),
         ),
       ),

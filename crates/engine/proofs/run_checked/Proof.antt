@@ -7,7 +7,7 @@ use lib.ListN.{length}
 use denote.Ref.{now}
 use Rattle.definitions.specs.declared.Round.{Round}
 use Rattle.definitions.specs.Rules.{rulesOf}
-use Rattle.definitions.specs.Valid.{workingWeight}
+use Rattle.definitions.specs.Valid.{inWorking}
 use Rattle.definitions.specs.Engine.{roundBytes}
 use Rattle.theory.proofs.Validity.{Handed}
 use Rattle.tables.specs.Scopes.{BestOf}
@@ -24,7 +24,7 @@ pub record Same (table₀ table : List ℤ) (out₀ out : List ℕ) (best₀ bes
 
 abbrev Inv-loop : tie.InvT-loop
 Inv-loop case table₀ out₀ best₀ limit pairs done₀ table out best done =
-    (done ≤ limit) × Same table₀ table out₀ out best₀ best × Handed (rulesOf case) (workingWeight (rulesOf case)) case table × BestOf case table best
+    (done ≤ limit) × Same table₀ table out₀ out best₀ best × Handed (rulesOf case) (inWorking (rulesOf case)) case table × BestOf case table best
     × Going pairs case limit table₀ out₀ done table out
 
 abbrev μ-loop : tie.MeasureT-loop

@@ -1,7 +1,9 @@
 -- Assumes nothing.
 use mathlib.Core.Path.{_≡_, _∙_}
+use native.Mathlib.Omega.{arith}
 use Rattle.definitions.specs.Case.{greatest}
-use Rattle.tables.proofs.Bounds.{same-bits, other-bits}
+use Rattle.tables.proofs.Answered.{limits-known}
+use Rattle.integers.specs.Linear.{same-bits, other-bits}
 use Rattle.figures.proofs.Tuples.{scope-greatest}
 use borrow.Author.Needs.{needs}
 use Rattle.figures.proofs.has_greatest.Statement.{statement}
@@ -14,7 +16,9 @@ greatest-requires : tie.Need-greatest-requires
 greatest-requires c κs = search needs
 
 weight-at-requires : tie.Need-weight-at-requires
-weight-at-requires c κs = search needs
+weight-at-requires c κs = let s = c .before .before in
+    let l = limits-known (s .pre .0) in
+    (l, omega (arith, l))
 
 -- the scope's greatest weight
 most : (c : tie.After-greatest) → let a = c .before .before .args in c .greatest .result ≡ greatest (a .case) (a .table .now) (a .x)

@@ -1,20 +1,18 @@
--- The loop holds the sum over the scopes passed, which fits, as every weight is in the range. Assumes nothing.
+-- The loop holds the sum over the scopes passed, which fits, as every weight used is in the range. Assumes nothing.
 use mathlib.Core.Path.{_≡_, refl, _∙_}
 use Prim.Native.Nat.{_+_, _-_, _≤_}
 use native.Mathlib.Omega.{arith}
-use lib.IntN.{ℤ, _+ℤ_}
-use lib.Dec.{T}
+use lib.IntN.{_+ℤ_}
 use mir.Syntax.{w64}
 use mir.Val.{toZ, ofZ}
 use mir.Facts.{toZ-ofZ}
 use Rattle.integers.specs.Linear.{read-back}
 use Rattle.integers.specs.Sums.{Σ}
-use Rattle.definitions.specs.Rules.{rulesOf, coherent}
+use Rattle.definitions.specs.Rules.{coherent}
 use Rattle.definitions.specs.Case.{atUsed, weight}
-use Rattle.definitions.specs.Valid.{workingWeight}
-use Rattle.theory.proofs.Totals.{at-used-holds}
 use Rattle.tables.proofs.Answered.{limits-known}
 use Rattle.tables.proofs.Bounds.{sum-more, sum-fits}
+use Rattle.figures.proofs.Tuples.{used-working}
 use Rattle.figures.proofs.sum_of_used.Statement.{statement}
 use Rattle.figures.proofs.sum_of_used.Tie as tie
 
@@ -31,7 +29,7 @@ loop-holds : tie.Need-loop-holds Inv-loop μ-loop
 loop-holds c = (omega arith, refl)
 
 used-weight-requires : tie.Need-used-weight-requires Inv-loop μ-loop
-used-weight-requires c κs = let p = c .before .before .before .before .pre in (p .0, (p .1, omega arith))
+used-weight-requires c κs = (limits-known (c .before .before .before .before .pre .0), omega arith)
 
 -- the sum after the turn
 next : (c : tie.After-used-weight Inv-loop μ-loop) → let s = c .before .before in let a = s .before .before .before .args in
@@ -49,9 +47,7 @@ add-sum c = let s = c .before .before in
     let h = s .before .before .before .pre .0 in
     rw (next c) (sum-fits (λ y. atUsed (a .case) (a .assignment .now) y (weight (a .case) (a .table .now) y)) (coherent (a .case .rulebook)) (s .loop .x + 1)
     (omega (arith, h .variables-most, h .edges-most))
-    (λ y l. at-used-holds (h .shape) (a .assignment .now) (s .before .before .before .pre .1) (λ (z : ℤ). T (workingWeight (rulesOf (a .case)) z)) y
-    (omega arith)
-    (weight (a .case) (a .table .now) y) (h .in-range y)))
+    (λ y l. used-working h (a .assignment .now) (s .before .before .before .pre .1) y (omega arith)))
 
 add-x : tie.Need-add-x Inv-loop μ-loop
 add-x c = let h = c .before .before .before .before .before .pre .0 in omega (arith, limits-known h)

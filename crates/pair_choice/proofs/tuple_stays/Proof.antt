@@ -7,7 +7,7 @@ use borrow.Author.Needs.{needs}
 use borrow.Author.Tests.{not-true, not-false}
 use Rattle.integers.specs.Tests.{true-is}
 use Rattle.definitions.specs.Rules.{rulesIn, coherent}
-use Rattle.definitions.specs.Valid.{workingWeight}
+use Rattle.definitions.specs.Valid.{inWorking}
 use Rattle.pair_choice.proofs.Ranges.{two-fit, three-fit}
 use Rattle.pair_choice.proofs.tuple_stays.Statement.{statement}
 use Rattle.pair_choice.proofs.tuple_stays.Tie as tie
@@ -15,43 +15,43 @@ use Rattle.pair_choice.proofs.tuple_stays.Tie as tie
 is-working-requires : tie.Need-is-working-requires
 is-working-requires c κs = search needs
 
-own-told : (c : tie.After-is-working) → let a = c .before .args in workingWeight (rulesIn (a .rulebook)) (a .own) ≡ c .is-working .result
-own-told c = let s = c .before in sym (c .is-working .ensures ∙ ap (workingWeight (rulesIn (s .args .rulebook))) (toZ-ofZ (s .fits .own)))
+own-told : (c : tie.After-is-working) → let a = c .before .args in inWorking (rulesIn (a .rulebook)) (a .own) ≡ c .is-working .result
+own-told c = let s = c .before in sym (c .is-working .ensures ∙ ap (inWorking (rulesIn (s .args .rulebook))) (toZ-ofZ (s .fits .own)))
 
 returns : tie.Need-returns
 returns c = rw (own-told (c .before) ∙ not-true _ (c .if1 .taken))
 
-own-works : (c : tie.Else1) → let a = c .before .before .args in workingWeight (rulesIn (a .rulebook)) (a .own) ≡ true
+own-works : (c : tie.Else1) → let a = c .before .before .args in inWorking (rulesIn (a .rulebook)) (a .own) ≡ true
 own-works c = own-told (c .before) ∙ not-false _ (c .if1 .left)
 
 is-working-requires-2 : tie.Need-is-working-requires-2
 is-working-requires-2 c κs = search needs
 
 other-told : (c : tie.After-is-working2) → let a = c .before .before .before .args in
-    workingWeight (rulesIn (a .rulebook)) (a .other) ≡ c .is-working2 .result
+    inWorking (rulesIn (a .rulebook)) (a .other) ≡ c .is-working2 .result
 other-told c =
     let s = c .before .before .before in
-    sym (c .is-working2 .ensures ∙ ap (workingWeight (rulesIn (s .args .rulebook))) (toZ-ofZ (s .fits .other)))
+    sym (c .is-working2 .ensures ∙ ap (inWorking (rulesIn (s .args .rulebook))) (toZ-ofZ (s .fits .other)))
 
 returns-2 : tie.Need-returns-2
 returns-2 c = rw (own-works (c .before .before), other-told (c .before) ∙ not-true _ (c .if2 .taken))
 
-other-works : (c : tie.Else2) → let a = c .before .before .before .before .args in workingWeight (rulesIn (a .rulebook)) (a .other) ≡ true
+other-works : (c : tie.Else2) → let a = c .before .before .before .before .args in inWorking (rulesIn (a .rulebook)) (a .other) ≡ true
 other-works c = other-told (c .before) ∙ not-false _ (c .if2 .left)
 
 is-working-requires-3 : tie.Need-is-working-requires-3
 is-working-requires-3 c κs = search needs
 
 weight-told : (c : tie.After-is-working3) → let a = c .before .before .before .before .before .args in
-    workingWeight (rulesIn (a .rulebook)) (a .weight) ≡ c .is-working3 .result
+    inWorking (rulesIn (a .rulebook)) (a .weight) ≡ c .is-working3 .result
 weight-told c =
     let s = c .before .before .before .before .before in
-    sym (c .is-working3 .ensures ∙ ap (workingWeight (rulesIn (s .args .rulebook))) (toZ-ofZ (s .fits .weight)))
+    sym (c .is-working3 .ensures ∙ ap (inWorking (rulesIn (s .args .rulebook))) (toZ-ofZ (s .fits .weight)))
 
 returns-3 : tie.Need-returns-3
 returns-3 c = rw (own-works (c .before .before .before .before), other-works (c .before .before), weight-told (c .before) ∙ not-true _ (c .if3 .taken))
 
-weight-works : (c : tie.Else3) → let a = c .before .before .before .before .before .before .args in workingWeight (rulesIn (a .rulebook)) (a .weight) ≡ true
+weight-works : (c : tie.Else3) → let a = c .before .before .before .before .before .before .args in inWorking (rulesIn (a .rulebook)) (a .weight) ≡ true
 weight-works c = weight-told (c .before) ∙ not-false _ (c .if3 .left)
 
 add-shifted : tie.Need-add-shifted
@@ -65,10 +65,10 @@ is-working-requires-4 : tie.Need-is-working-requires-4
 is-working-requires-4 c κs = search needs
 
 first-told : (c : tie.After-is-working4) → let a = c .before .before .before .before .before .before .before .args in
-    workingWeight (rulesIn (a .rulebook)) (a .weight +ℤ a .own) ≡ c .is-working4 .result
+    inWorking (rulesIn (a .rulebook)) (a .weight +ℤ a .own) ≡ c .is-working4 .result
 first-told c =
     let s = c .before .before .before .before .before .before .before in
-    sym (c .is-working4 .ensures ∙ ap (workingWeight (rulesIn (s .args .rulebook)))
+    sym (c .is-working4 .ensures ∙ ap (inWorking (rulesIn (s .args .rulebook)))
     (toZ-ofZ (add-shifted (c .before)) ∙ ap₂ _+ℤ_ (toZ-ofZ (s .fits .weight)) (toZ-ofZ (s .fits .own))))
 
 returns-4 : tie.Need-returns-4
@@ -100,7 +100,7 @@ returns-5 c =
     let k = l .before .before in
     let s = k .before .before .before .before .before .before in
     rw (own-works (k .before .before .before .before), other-works (k .before .before), weight-works k, first-told (l .before) ∙ not-false _ (l .if4 .left))
-    (c .is-working5 .ensures ∙ ap (workingWeight (rulesIn (s .args .rulebook)))
+    (c .is-working5 .ensures ∙ ap (inWorking (rulesIn (s .args .rulebook)))
     (toZ-ofZ (add-is-working-2 l) ∙ ap₂ _+ℤ_ (toZ-ofZ (add-is-working l) ∙ ap₂ _+ℤ_ (toZ-ofZ (s .fits .own)) (toZ-ofZ (s .fits .other)))
     (toZ-ofZ (s .fits .weight))))
 

@@ -4,6 +4,7 @@ use denote.Ref.{now}
 use Rattle.integers.specs.Tests.{true-is, false-is}
 use Rattle.tables.proofs.Answered.{limits-known}
 use Rattle.pair_choice.proofs.Pairs.{leaves-passed-over}
+use Rattle.pair_theory.proofs.Inside.{every-takes}
 use Rattle.pair_rounds.proofs.Rounds.{best-found, pair-round-refused}
 use borrow.Author.Needs.{needs}
 use Rattle.pair_rounds.proofs.pair_round.Statement.{statement}
@@ -39,7 +40,7 @@ shift-pair-requires c κs =
     let h = s .pre .0 .0 in (
       record {
         handed = h;
-        greatest-held = best-found _ _ h (omega (arith, limits-known h .scopes-placed)) (g .greatest-weights .ensures .1);
+        greatest-held = best-found _ _ (every-takes h) (omega (arith, limits-known (every-takes h) .scopes-placed)) (g .greatest-weights .ensures .1);
         edge = s .pre .0 .1;
       },
       (false-is _ (sym (l .leaves-range .ensures ∙ leaves-passed-over h (s .args .edge) (s .pre .0 .1)) ∙ i .if1 .left), s .pre .1),

@@ -12,6 +12,7 @@ use Rattle.definitions.specs.Case.{weight}
 use Rattle.definitions.specs.Moves.{Move, shift, endVariable}
 use Rattle.definitions.specs.PairRounds.{wholeShift}
 use Rattle.theory.proofs.Rounds.{AllAllowed}
+use Rattle.pair_theory.proofs.Inside.{every-takes}
 use Rattle.pair_rounds.proofs.Moves.{allowed-one, whole-none, whole-one, weight-small}
 use Rattle.pair_rounds.proofs.Texts.{shifted-none}
 use borrow.Author.Needs.{needs}
@@ -19,7 +20,7 @@ use Rattle.pair_rounds.proofs.shift_value.Statement.{statement}
 use Rattle.pair_rounds.proofs.shift_value.Tie as tie
 
 weight-at-requires : tie.Need-weight-at-requires
-weight-at-requires c κs = search needs
+weight-at-requires c κs = let s = c .before .before in (every-takes (s .pre .0 .0 .handed), s .pre .0 .0 .edge, s .pre .0 .1)
 
 same-length : tie.Need-same-length
 same-length c = search needs

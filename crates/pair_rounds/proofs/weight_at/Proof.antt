@@ -8,13 +8,13 @@ use denote.Ref.{now}
 use Rattle.integers.specs.Linear.{read-back}
 use Rattle.definitions.specs.Case.{place}
 use Rattle.definitions.specs.Moves.{endVariable}
-use Rattle.tables.proofs.Answered.{limits-known}
 use Rattle.pair_rounds.proofs.Moves.{weight-place}
+use borrow.Author.Needs.{needs}
 use Rattle.pair_rounds.proofs.weight_at.Statement.{statement}
 use Rattle.pair_rounds.proofs.weight_at.Tie as tie
 
 end-variable-requires : tie.Need-end-variable-requires
-end-variable-requires c κs = omega (arith, c .pre .1, limits-known (c .pre .0) .edges-placed)
+end-variable-requires c κs = search needs
 
 -- where the weight stands
 at : (c : tie.After-end-variable) → let a = c .before .args in

@@ -1,16 +1,15 @@
-use mathlib.Core.Path.{_≡_, sym, ap₂, _∙_}
+use mathlib.Core.Path.{_≡_, sym, ap, ap₂, _∙_}
 use lib.Dec.{T}
-use lib.Signed.{ltZ}
-use mir.Syntax.{w64}
 use denote.Ref.{now}
 use Rattle.integers.specs.Words.{if_then_else_}
-use Rattle.integers.specs.Linear.{read-back}
 use Rattle.definitions.specs.declared.Choice.{Choice}
 use Rattle.definitions.specs.Rules.{rulesOf}
 use Rattle.definitions.specs.Answers.{outcomeOf}
 use Rattle.definitions.specs.Case.{isAssignment}
+use Rattle.definitions.specs.Scoring.{ranksBelow}
 use Rattle.theory.proofs.Validity.{Valid}
-use Rattle.plans.proofs.Scored.{scoresAsked, both-known, choice-refused, choice-made}
+use Rattle.plans.specs.Totals.{totalIn}
+use Rattle.plans.proofs.Scored.{scoresAsked, total-given, both-known, choice-refused, choice-made}
 use borrow.Author.Needs.{needs}
 use Rattle.plans.proofs.better_of.Statement.{statement}
 use Rattle.plans.proofs.better_of.Tie as tie
@@ -43,14 +42,14 @@ enum-known-checked c = search needs
 enum-told : tie.Need-enum-told
 enum-told c = search needs
 
-objective-of-requires : tie.Need-objective-of-requires
-objective-of-requires c κs = (passed c .0, passed c .1)
+objective-requires : tie.Need-objective-requires
+objective-requires c κs = search needs
 
-objective-of-requires-2 : tie.Need-objective-of-requires-2
-objective-of-requires-2 c κs = (passed (c .before) .0, passed (c .before) .2)
+objective-requires-2 : tie.Need-objective-requires-2
+objective-requires-2 c κs = search needs
 
-greater-requires : tie.Need-greater-requires
-greater-requires c κs = search needs
+ranked-requires : tie.Need-ranked-requires
+ranked-requires c κs = search needs
 
 returns : tie.Need-returns
 returns c =
@@ -65,10 +64,11 @@ returns-2 c =
     let t = x .before in
     let s = t .before .before in
     let a = s .before .before .before .before .before .before .before .args in
-    c .greater .ensures
-    ∙ ap₂ (λ u v. if ltZ u v then Choice.Second else Choice.First)
-    (read-back w64 (x .objective-of .result) (x .objective-of .ok) ∙ x .objective-of .ensures)
-    (read-back w64 (y .objective-of2 .result) (y .objective-of2 .ok) ∙ y .objective-of2 .ensures)
+    let (h, p, q) = passed t in
+    c .ranked .ensures
+    ∙ ap₂ (λ u v. if ranksBelow u v then Choice.Second else Choice.First)
+    (ap totalIn (x .objective .ensures) ∙ total-given h (now (a .first)) p)
+    (ap totalIn (y .objective2 .ensures) ∙ total-given h (now (a .second)) q)
     ∙ choice-made (a .case) (now (a .table)) (now (a .first)) (now (a .second)) (sym (t .enum-told .given .1) ∙ checked s)
 
 pub better-of-spec : {M : Type 1} → statement M
@@ -80,8 +80,8 @@ better-of-spec =
     check-starting-requires
     enum-known-checked
     enum-told
-    objective-of-requires
-    objective-of-requires-2
-    greater-requires
+    objective-requires
+    objective-requires-2
+    ranked-requires
     returns
     returns-2)

@@ -2,7 +2,6 @@
 use mathlib.Core.Path.{_≡_, sym, _∙_}
 use mathlib.Core.Bool.{true, false}
 use lib.ListN.{length}
-use Rattle.integers.specs.Words.{withinZ}
 use mathlib.Core.Logic.{⊎-elim}
 use mir.Facts.{toZ-ofZ}
 use borrow.Author.Tests.{eq-eqb, ne-eqb, not-true, not-false}
@@ -46,12 +45,14 @@ enum-told : tie.Need-enum-told
 enum-told c = search needs
 
 weight-outcome-requires : tie.Need-weight-outcome-requires
-weight-outcome-requires c κs = search needs
+weight-outcome-requires c κs = let s = c .before .before .before in
+    let i = s .before .before .before .before .before in
+    (limited (i .args .case) (right s .0), (right s .1, simp (toZ-ofZ (i .fits .low)) (i .pre)))
 
 returns-3 : tie.Need-returns-3
 returns-3 c = let s = c .before .before .before in
     let a = s .before .before .before .before .before .before .args in
-    edges-wrong (rulesOf (a .case)) (withinZ (a .low) (a .high)) (a .case) (a .table .now) (a .wrong) (a .out) (right (s .before) .0) (right (s .before) .1)
+    edges-wrong (rulesOf (a .case)) (a .low) (a .high) (a .free) (a .case) (a .table .now) (a .wrong) (a .out) (right (s .before) .0) (right (s .before) .1)
     (right (s .before) .2)
     (sym (c .before .edges .given .1) ∙ s .edge-outcome .ensures)
 
@@ -60,7 +61,7 @@ returns-4 c = let s = c .before .before .before in
     let a = s .before .before .before .before .before .before .args in
     let f = s .before .before .before .before .before .before .fits in
     (simp (toZ-ofZ (f .low), toZ-ofZ (f .high)) at (c .weight-outcome .ensures))
-    ∙ edges-right (rulesOf (a .case)) (withinZ (a .low) (a .high)) (a .case) (a .table .now) (a .wrong) (a .out) (right (s .before) .0) (right (s .before) .1)
+    ∙ edges-right (rulesOf (a .case)) (a .low) (a .high) (a .free) (a .case) (a .table .now) (a .wrong) (a .out) (right (s .before) .0) (right (s .before) .1)
     (right (s .before) .2)
     (sym (c .before .enum-told .given .1) ∙ s .edge-outcome .ensures)
 

@@ -6,7 +6,7 @@ use mir.Facts.{toZ-ofZ}
 use Rattle.integers.specs.Linear.{read-back}
 use Rattle.integers.specs.Words.{withinZ}
 use Rattle.definitions.specs.Rules.{rulesIn}
-use Rattle.definitions.specs.Valid.{workingWeight}
+use Rattle.definitions.specs.Valid.{inWorking}
 use borrow.Author.Needs.{needs}
 use Rattle.tables.proofs.is_working.Statement.{statement}
 use Rattle.tables.proofs.is_working.Tie as tie
@@ -29,7 +29,7 @@ returns c =
     ∙ ap₂ (λ (x y : ℤ). withinZ x y (toZ w64 (ofZ w64 weight)))
     (read-back w64 (low .result) (low .ok) ∙ low .ensures)
     (read-back w64 (high .result) (high .ok) ∙ high .ensures)
-    ∙ ap (workingWeight (rulesIn (c .before .before .before .args .rulebook))) (toZ-ofZ (c .before .before .before .fits .weight))
+    ∙ ap (inWorking (rulesIn (c .before .before .before .args .rulebook))) (toZ-ofZ (c .before .before .before .fits .weight))
 
 pub is-working-spec : {M : Type 1} → statement M
 is-working-spec =

@@ -15,7 +15,7 @@ use Rattle.integers.specs.Tests.{true-is}
 use Rattle.integers.specs.Sums.{Σ}
 use Rattle.definitions.specs.declared.Figure.{Figure}
 use Rattle.definitions.specs.Rules.{rulesIn, rulesOf, coherent}
-use Rattle.definitions.specs.Valid.{workingWeight}
+use Rattle.definitions.specs.Valid.{inWorking}
 use Rattle.tables.specs.Scopes.{bestAt}
 use Rattle.tables.proofs.Bounds.{sum-more, sum-fits, sum-given, sum-refused}
 use Rattle.tables.proofs.sum_in_range.Statement.{statement}
@@ -23,7 +23,7 @@ use Rattle.tables.proofs.sum_in_range.Tie as tie
 
 abbrev Inv-loop : tie.InvT-loop
 Inv-loop best scopes rulebook sum₀ x₀ sum x =
-    (x ≤ scopes) × ((y : ℕ) → y < x → T (workingWeight (rulesIn rulebook) (bestAt best y))) × (toZ w64 sum ≡ Σ (bestAt best) 0 x)
+    (x ≤ scopes) × ((y : ℕ) → y < x → T (inWorking (rulesIn rulebook) (bestAt best y))) × (toZ w64 sum ≡ Σ (bestAt best) 0 x)
 
 abbrev μ-loop : tie.MeasureT-loop
 μ-loop best scopes rulebook sum₀ x₀ sum x = scopes - x
@@ -45,7 +45,7 @@ is-working-requires c κs = search needs
 
 -- the number at x
 asked : (c : tie.After-is-working Inv-loop μ-loop) → let s = c .before .before .before in
-    c .is-working .result ≡ workingWeight (rulesOf (s .before .before .args .case)) (bestAt (s .before .before .args .best .now) (s .loop .x))
+    c .is-working .result ≡ inWorking (rulesOf (s .before .before .args .case)) (bestAt (s .before .before .args .best .now) (s .loop .x))
 asked c =
     let s = c .before .before .before in
     rw (read-back w64 (bestAt (s .before .before .args .best .now) (s .loop .x)) (c .before .weight .given)) at (c .is-working .ensures)
@@ -57,7 +57,7 @@ returns c = let s = c .before .before .before .before in
 
 -- what holds of the scopes up to x, and their sum
 passed : (c : tie.Else1 Inv-loop μ-loop) → let s = c .before .before .before .before in
-    (y : ℕ) → y < s .loop .x + 1 → T (workingWeight (rulesOf (s .before .before .args .case)) (bestAt (s .before .before .args .best .now) y))
+    (y : ℕ) → y < s .loop .x + 1 → T (inWorking (rulesOf (s .before .before .args .case)) (bestAt (s .before .before .args .best .now) y))
 passed c = below-more _ _ (c .before .before .before .before .loop .inv .1) (true-is _ (sym (asked (c .before)) ∙ not-false _ (c .if1 .left)))
 
 next : (c : tie.Else1 Inv-loop μ-loop) → let s = c .before .before .before .before in

@@ -14,6 +14,12 @@ enum-known-judgement c = search needs
 write-accepted-requires : tie.Need-write-accepted-requires
 write-accepted-requires c κs = search needs
 
+enum-told : tie.Need-enum-told
+enum-told c = search needs
+
+write-void-requires : tie.Need-write-void-requires
+write-void-requires c κs = search needs
+
 enum-known-judgement-2 : tie.Need-enum-known-judgement-2
 enum-known-judgement-2 c = search needs
 
@@ -41,6 +47,15 @@ same-length-2 c = search needs
 returns-2 : tie.Need-returns-2
 returns-2 c =
     let k = c .before .before in
+    let d = k .before .before in
+    same-written (ap (writeJudgementCall (now (d .before .before .before .args .out))) (sym (d .enum-told .given .1))) (k .write-void .ensures)
+
+same-length-3 : tie.Need-same-length-3
+same-length-3 c = search needs
+
+returns-3 : tie.Need-returns-3
+returns-3 c =
+    let k = c .before .before in
     let d = k .before .before .before in
     same-written (ap (writeJudgementCall (now (d .before .before .before .args .out))) (sym (d .judgement2 .given .1))) (k .write-refused .ensures)
 
@@ -50,9 +65,13 @@ write-judgement-spec =
     (tie.spec
     enum-known-judgement
     write-accepted-requires
+    enum-told
+    write-void-requires
     enum-known-judgement-2
     write-refused-requires
     same-length
     returns
     same-length-2
-    returns-2)
+    returns-2
+    same-length-3
+    returns-3)

@@ -6,7 +6,6 @@ use lib.ListN.{set}
 use denote.Ref.{now}
 use Rattle.integers.specs.Linear.{read-back}
 use Rattle.tables.proofs.Order.{outcome-done}
-use Rattle.case_lines.specs.Dues.{caseWith}
 use Rattle.casefile.proofs.Taken.{ends-known, edge-refused, ends-left}
 use borrow.Author.Needs.{needs}
 use Rattle.casefile.proofs.edges.take_ends.Statement.{statement}
@@ -46,7 +45,7 @@ returns : tie.Need-returns
 returns c =
     let w = c .before .before .before in
     let a = w .before .args in
-    edge-refused (a .sizes .rulebook) (caseWith (a .sizes) (now (a .lower)) (now (a .upper))) (a .e) (a .line)
+    edge-refused (a .sizes .n) (now (a .lower)) (now (a .upper)) (a .e) (a .line)
     (set (now (a .lower)) (a .e) (natAbs (a .line .b))) (set (now (a .upper)) (a .e) (natAbs (a .line .c)))
     (sym (c .before .checked .given .1) ∙ w .check-ends .ensures)
 
@@ -57,7 +56,7 @@ returns-2 c =
     let e = b1 .before .before in
     let w = e .before .before in
     let a = w .before .args in
-    rw (ends-left (a .sizes .rulebook) (caseWith (a .sizes) (now (a .lower)) (now (a .upper))) (a .e) (a .line)
+    rw (ends-left (a .sizes .n) (now (a .lower)) (now (a .upper)) (a .e) (a .line)
     (sym (e .enum-told .given .1) ∙ w .check-ends .ensures))
     (rw (
       b1 .end-of .ensures ∙ ap natAbs (read-back w64 (a .line .b) (b1 .before .struct-told .given .1 .1 .0 .1)),

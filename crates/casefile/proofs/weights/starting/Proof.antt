@@ -5,7 +5,7 @@ use mir.Val.{toZ, ofZ}
 use Rattle.integers.specs.Linear.{read-back}
 use Rattle.integers.specs.Words.{withinZ}
 use Rattle.definitions.specs.Rules.{rulesIn}
-use Rattle.definitions.specs.Valid.{startingWeight}
+use Rattle.definitions.specs.Valid.{inStarting}
 use borrow.Author.Needs.{needs}
 use Rattle.casefile.proofs.weights.starting.Statement.{statement}
 use Rattle.casefile.proofs.weights.starting.Tie as tie
@@ -28,7 +28,7 @@ returns c =
     ∙ ap₂ (λ (x y : ℤ). withinZ x y (toZ w64 (ofZ w64 (a .line .amount))))
     (read-back w64 (low .least-starting .result) (low .least-starting .ok) ∙ low .least-starting .ensures)
     (read-back w64 (high .most-starting .result) (high .most-starting .ok) ∙ high .most-starting .ensures)
-    ∙ ap (startingWeight (rulesIn (a .rulebook))) (read-back w64 (a .line .amount) (c .before .struct-told .given .1 .1 .1 .1 .0 .1))
+    ∙ ap (inStarting (rulesIn (a .rulebook))) (read-back w64 (a .line .amount) (c .before .struct-told .given .1 .1 .1 .1 .0 .1))
 
 pub starting-spec : {M : Type 1} → statement M
 starting-spec =

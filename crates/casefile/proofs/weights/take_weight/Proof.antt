@@ -4,7 +4,7 @@ use lib.ListN.{set}
 use denote.Ref.{now}
 use Rattle.integers.specs.Linear.{read-back}
 use Rattle.definitions.specs.Refusals.{firstOf}
-use Rattle.casefile.specs.Steps.{isDone, weightTests}
+use Rattle.casefile.specs.Steps.{isDone, plainTests}
 use Rattle.casefile.proofs.Taken.{if-done, if-not-done}
 use borrow.Author.Needs.{needs}
 use Rattle.casefile.proofs.weights.take_weight.Statement.{statement}
@@ -30,7 +30,7 @@ returns c =
     let d = c .before .before in
     let w = d .before in
     let a = w .before .args in
-    let o = firstOf (weightTests (a .rulebook) (a .due) (a .a) (a .b) (a .c) (a .line)) in
+    let o = firstOf (plainTests (a .rulebook) (a .due) (a .a) (a .b) (a .c) (a .line)) in
     rw (read-back w64 (a .line .amount) (c .struct-told .given .1 .1 .1 .1 .0 .1)) (
       w .weigh .ensures,
       if-done (set (now (a .table)) (a .place) (a .line .amount)) (now (a .table)) o
@@ -42,7 +42,7 @@ returns-2 c =
     let d = c .before in
     let w = d .before in
     let a = w .before .args in
-    let o = firstOf (weightTests (a .rulebook) (a .due) (a .a) (a .b) (a .c) (a .line)) in (
+    let o = firstOf (plainTests (a .rulebook) (a .due) (a .a) (a .b) (a .c) (a .line)) in (
       w .weigh .ensures,
       if-not-done (set (now (a .table)) (a .place) (a .line .amount)) (now (a .table)) o
           (sym (d .is-done .ensures ∙ ap isDone (w .weigh .ensures)) ∙ c .if1 .left),

@@ -2,7 +2,7 @@ use mathlib.Core.Path.{refl}
 use mir.Syntax.{w64}
 use Rattle.integers.specs.Linear.{read-back}
 use Rattle.definitions.specs.Rules.{rulesOf}
-use Rattle.tables.proofs.Bounds.{same-bits, other-bits}
+use Rattle.integers.specs.Linear.{same-bits, other-bits}
 use Rattle.checker.specs.Checker.{ofBound}
 use Rattle.checker.specs.Taken.{goodReplay}
 use Rattle.lines.proofs.Bits.{same-number}

@@ -1,14 +1,10 @@
 use mathlib.Core.Path.{sym, ap, subst, _∙_}
 use mathlib.Core.Bool.{not}
-use lib.IntN.{ℤ}
 use lib.Dec.{T}
-use mir.Syntax.{w64}
-use Rattle.integers.specs.Linear.{read-back}
-use Rattle.definitions.specs.Rules.{rulesOf}
-use Rattle.definitions.specs.Moves.{pressAmount}
+use Rattle.definitions.specs.Rules.{coherent, rulesOf}
 use Rattle.checker.specs.declared.Due.{Due}
-use Rattle.checker.specs.Checker.{ofRaise, ofDue}
-use Rattle.checker.specs.Taken.{goodReplay, stepNext}
+use Rattle.checker.specs.Checker.{ofDue}
+use Rattle.checker.specs.Taken.{goodReplay, stepTaken, stepNext}
 use Rattle.checker.proofs.Leaves.{held}
 use borrow.Author.Needs.{needs}
 use Rattle.checker.proofs.kinds.take_line.Statement.{statement}
@@ -44,13 +40,13 @@ enum-known-due c = search needs
 raise-line-requires : tie.Need-raise-line-requires
 raise-line-requires c κs = let n = c .before .before .before in let s = held-start n in let a = s .args in let p = goodReplay (a .progress) (a .raised .now) in
     let q = s .pre in let g = n .before .due .given in
-    let k = held (a .case) (a .table .now) p (q .0) (q .1 .1 .1 .0) (g .0 .0) (g .0 .1 .0) (g .0 .1 .1 .0) (g .0 .1 .1 .1 .0) (g .1) in
-    let e = sym (read-back w64 (g .0 .1 .0) (n .known-told .given .1 .0 .1)) in (
+    let k = held (coherent (a .case .rulebook)) (a .case) (a .table .now) p (q .0) (q .1 .1 .1 .0)
+    (g .0 .0) (g .0 .1 .0) (g .0 .1 .1 .0) (g .0 .1 .1 .1 .0) (g .1) in (
       q .0,
       (
         q .1 .0,
         (
-          (q .1 .1 .0, k .0, subst (λ (z : ℤ). T (pressAmount (rulesOf (a .case)) z)) e (k .1), k .2),
+          (q .1 .1 .0, k .0, k .1, k .2),
           subst (λ (d : Due). T (not (ofDue (rulesOf (a .case)) (a .case) (a .table .now) p d (a .line) .out))) (g .1) (q .1 .1 .1 .1),
         ),
       ),
@@ -84,11 +80,27 @@ same-length-6 c = search needs
 returns-2 : tie.Need-returns-2
 returns-2 c = let m = c .before .before .before .before in let n = m .before .before .before .before in let a = held-start n .args in
     let w = a .table .now in let p = goodReplay (a .progress) (a .raised .now) in let g = n .before .due .given in (
-      m .raise-line .ensures .0
-          ∙ ap (λ (z : ℤ). stepNext w p (ofRaise (rulesOf (a .case)) (a .case) w p (g .0 .0) z (g .0 .1 .1 .0) (g .0 .1 .1 .1 .0) (a .line)))
-          (read-back w64 (g .0 .1 .0) (n .known-told .given .1 .0 .1))
-          ∙ sym (ap (λ (d : Due). stepNext w p (ofDue (rulesOf (a .case)) (a .case) w p d (a .line))) (g .1)),
+      m .raise-line .ensures .0 ∙ sym (ap (λ (d : Due). stepNext w p (ofDue (rulesOf (a .case)) (a .case) w p d (a .line))) (g .1)),
       m .raise-line .ensures .1,
+    )
+
+enum-told-2 : tie.Need-enum-told-2
+enum-told-2 c = search needs
+
+with-due-requires : tie.Need-with-due-requires
+with-due-requires c κs = search needs
+
+returns-3 : tie.Need-returns-3
+returns-3 c = let k = c .before in let s = k .before .before .before in let a = s .args in let e = k .enum-told2 .given .1 in
+    let w = a .table .now in let p = goodReplay (a .progress) (a .raised .now) in (
+      rw (c .with-due .ensures) (ap (λ (d : Due). stepTaken (goodReplay (record {
+        rounds = a .progress .rounds;
+        start = a .progress .start;
+        moved = a .progress .moved;
+        due = d;
+      }) (a .raised .now)) w) (sym e))
+          ∙ sym (ap (λ (d : Due). stepNext w p (ofDue (rulesOf (a .case)) (a .case) w p d (a .line))) e),
+      s .pre .1 .0,
     )
 
 pub take-line-spec : {M : Type 1} → statement M
@@ -99,6 +111,8 @@ take-line-spec =
     move-line-requires
     enum-known-due
     raise-line-requires
+    enum-told-2
+    with-due-requires
     same-length
     same-length-2
     same-length-3
@@ -106,4 +120,5 @@ take-line-spec =
     same-length-4
     same-length-5
     same-length-6
-    returns-2)
+    returns-2
+    returns-3)

@@ -12,9 +12,9 @@ use Rattle.checker.proofs.lent.is_wrong_length.Statement.{statement}
 use Rattle.checker.proofs.lent.is_wrong_length.Tie as tie
 
 -- the keys of the other variants
-others : (x : Refusal) → x ≡ WrongLength → OneOf (0 ∷ 1 ∷ 2 ∷ 4 ∷ 5 ∷ 6 ∷ 7 ∷ 8 ∷ 9 ∷ 10 ∷ 11 ∷ 12 ∷ 13 ∷ []) (tagOf the-type x) → ⊥
+others : (x : Refusal) → x ≡ WrongLength → OneOf (0 ∷ 1 ∷ 2 ∷ 4 ∷ 5 ∷ 6 ∷ 7 ∷ 8 ∷ 9 ∷ 10 ∷ 11 ∷ 12 ∷ 13 ∷ 14 ∷ 15 ∷ []) (tagOf the-type x) → ⊥
 others x e h =
-    let keys : List ℕ = 0 ∷ 1 ∷ 2 ∷ 4 ∷ 5 ∷ 6 ∷ 7 ∷ 8 ∷ 9 ∷ 10 ∷ 11 ∷ 12 ∷ 13 ∷ [] in
+    let keys : List ℕ = 0 ∷ 1 ∷ 2 ∷ 4 ∷ 5 ∷ 6 ∷ 7 ∷ 8 ∷ 9 ∷ 10 ∷ 11 ∷ 12 ∷ 13 ∷ 14 ∷ 15 ∷ [] in
     miss keys 3 tt (subst (λ (y : Refusal). OneOf keys (tagOf the-type y)) e h)
 
 enum-told : tie.Need-enum-told

@@ -1,16 +1,14 @@
-use mathlib.Core.Path.{_≡_, refl, sym, ap, subst, _∙_}
+use mathlib.Core.Path.{_≡_, refl, sym, ap, _∙_}
 use mathlib.Core.Bool.{false}
 use Prim.Native.Nat.{_<_}
 use native.Mathlib.Omega.{arith}
-use lib.IntN.{ℤ, natAbs}
-use lib.Dec.{T, eqb}
+use lib.IntN.{natAbs}
+use lib.Dec.{eqb}
 use borrow.Author.Tests.{eq-eqb, ne-eqb}
 use mir.Syntax.{w64}
-use mir.Facts.{toZ-ofZ}
 use Rattle.integers.specs.Linear.{read-back}
 use Rattle.definitions.specs.Rules.{rulesOf, scopePlaces}
 use Rattle.definitions.specs.Case.{scopeCount}
-use Rattle.definitions.specs.Moves.{pressAmount}
 use Rattle.theory.proofs.Replays.{inside}
 use Rattle.tables.proofs.Answered.{limits-known}
 use Rattle.checker.specs.declared.Replay.{Replay}
@@ -32,7 +30,7 @@ module _ (c : tie.After-not-above) where
   record-before = goodReplay (start c .args .progress) (start c .args .raised .now)
 
   abbrev asked : Asked
-  asked = let a = start c .args in ofRaise (rulesOf (a .case)) (a .case) (a .table .now) record-before (a .variable) (a .amount) (a .left) (a .last) (a .line)
+  asked = let a = start c .args in ofRaise (rulesOf (a .case)) (a .case) (a .table .now) record-before (a .variable) (a .target) (a .left) (a .last) (a .line)
 
   scope-is : c .before .index .result ≡ natAbs (start c .args .line .a)
   scope-is = c .before .index .ensures ∙ ap natAbs (read-back w64 (start c .args .line .a) (c .before .before .struct-told .given .1 .0 .1))
@@ -44,7 +42,7 @@ module _ (c : tie.After-not-above) where
   placed = let s = start c in
       omega (arith, scope-is, inside (scopeCount (s .args .case)) (s .args .line .a) (s .pre .1 .1 .1), limits-known (s .pre .0) .scopes-placed)
 
--- another scope than the press's variable
+-- another scope than the variable's own
 other : (c : tie.Else2) → let a = start (c .before .before) .args in eqb (natAbs (a .line .a)) (a .variable) ≡ false
 other c = let n = c .before .before in let a = start n .args in ne-eqb (natAbs (a .line .a)) (a .variable) (λ e. c .if2 .left (scope-is n ∙ e))
 
@@ -61,7 +59,7 @@ refused-requires c κs = search needs
 returns : tie.Need-returns
 returns c = let n = c .before .before in let s = start n in let a = s .args in let w = a .table .now in (
   taken-refused (c .refused .result) w w (a .raised .now) (asked n) (c .refused .ensures) refl
-      (raise-below (a .case) w (record-before n) (a .variable) (a .amount) (a .left) (a .last) (a .line) (above-is n ∙ c .before .if1 .taken)),
+      (raise-below (a .case) w (record-before n) (a .variable) (a .target) (a .left) (a .last) (a .line) (above-is n ∙ c .before .if1 .taken)),
   s .pre .1 .0,
 )
 
@@ -71,7 +69,7 @@ refused-requires-2 c κs = search needs
 returns-2 : tie.Need-returns-2
 returns-2 c = let n = c .before .before .before in let s = start n in let a = s .args in let w = a .table .now in (
   taken-refused (c .refused2 .result) w w (a .raised .now) (asked n) (c .refused2 .ensures) refl
-      (raise-own (a .case) w (record-before n) (a .variable) (a .amount) (a .left) (a .last) (a .line) (above-is n ∙ c .before .before .if1 .left)
+      (raise-own (a .case) w (record-before n) (a .variable) (a .target) (a .left) (a .last) (a .line) (above-is n ∙ c .before .before .if1 .left)
       (eq-eqb (natAbs (a .line .a)) (a .variable) (sym (scope-is n) ∙ c .before .if2 .taken))),
   s .pre .1 .0,
 )
@@ -84,7 +82,7 @@ last-raise-requires c κs = let n = c .before .before .before .before .before .b
     (
       q .1 .1 .0 .0,
       q .1 .1 .0 .1,
-      subst (λ (z : ℤ). T (pressAmount (rulesOf (s .args .case)) z)) (sym (toZ-ofZ (s .fits .amount))) (q .1 .1 .0 .2),
+      q .1 .1 .0 .2,
       placed n,
     ),
   ),
@@ -103,9 +101,8 @@ returns-3 : tie.Need-returns-3
 returns-3 c = let m = c .before .before .before .before in let t = m .before .before .before .before in let e = t .before in let n = e .before .before in
     let s = start n in let a = s .args in let w = a .table .now in let p = record-before n in (
       m .last-raise .ensures .0
-          ∙ ap (λ (z : ℤ). lastStep (a .case) w p (a .variable) z (n .before .index .result)) (toZ-ofZ (s .fits .amount))
-          ∙ ap (lastStep (a .case) w p (a .variable) (a .amount)) (scope-is n)
-          ∙ raise-last (a .case) w p (a .variable) (a .amount) (a .left) (a .last) (a .line) (above-is n ∙ e .before .if1 .left) (other e)
+          ∙ ap (lastStep (a .case) w p (a .variable) (a .target)) (scope-is n)
+          ∙ raise-last (a .case) w p (a .variable) (a .target) (a .left) (a .last) (a .line) (above-is n ∙ e .before .if1 .left) (other e)
           (eq-eqb (a .left) 1 (t .if3 .taken)),
       m .last-raise .ensures .1,
     )
@@ -127,9 +124,9 @@ returns-4 c = let e = c .before .before in let n = e .before .before in let s = 
     let w = a .table .now in let r = a .raised .now in let p = record-before n in
     let o = ne-eqb (a .left) 1 (c .before .if3 .left) in (
       taken-done (c .with-due .result) w w _ p (asked n) (c .with-due .ensures)
-          (raise-table (a .case) w (a .progress) r (a .variable) (a .amount) (a .left) (a .last) (a .line) o)
-          (raise-record (a .case) w (a .progress) r (a .variable) (a .amount) (a .left) (a .last) (a .line) o (scope-is n) (toZ-ofZ (s .fits .amount)))
-          (raise-more (a .case) w p (a .variable) (a .amount) (a .left) (a .last) (a .line) (above-is n ∙ e .before .if1 .left) (other e) o),
+          (raise-table (a .case) w (a .progress) r (a .variable) (a .target) (a .left) (a .last) (a .line) o)
+          (raise-record (a .case) w (a .progress) r (a .variable) (a .target) (a .left) (a .last) (a .line) o (scope-is n))
+          (raise-more (a .case) w p (a .variable) (a .target) (a .left) (a .last) (a .line) (above-is n ∙ e .before .if1 .left) (other e) o),
       s .pre .1 .0,
     )
 

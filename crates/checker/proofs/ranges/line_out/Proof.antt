@@ -30,6 +30,12 @@ returns-2 c = λ w p e. let a = c .before .before .before .before .before .args 
     rw (c .before .before .before .enum-told2 .given .1)
     (c .is-outside .ensures ∙ ap (outside (a .case .n + a .case .m)) (read-back w64 (a .line .a) (c .before .struct-told .given .1 .0 .1)))
 
+enum-told-3 : tie.Need-enum-told-3
+enum-told-3 c = search needs
+
+returns-3 : tie.Need-returns-3
+returns-3 c = λ w p e. rw (c .enum-told3 .given .1)
+
 pub line-out-spec : {M : Type 1} → statement M
 line-out-spec =
     tie.close
@@ -39,5 +45,7 @@ line-out-spec =
     enum-told-2
     add-is-outside
     is-outside-requires
+    enum-told-3
     returns
-    returns-2)
+    returns-2
+    returns-3)

@@ -1,5 +1,3 @@
-use mir.Syntax.{w64}
-use Rattle.integers.specs.Linear.{read-back}
 use borrow.Author.Tests.{lt-ltb, le-ltb}
 use borrow.Author.Needs.{needs}
 use Rattle.checker.proofs.ranges.record_out.Statement.{statement}
@@ -17,8 +15,8 @@ enum-told c = search needs
 enum-known-due : tie.Need-enum-known-due
 enum-known-due c = search needs
 
-press-out-requires : tie.Need-press-out-requires
-press-out-requires c κs = search needs
+held-out-requires : tie.Need-held-out-requires
+held-out-requires c κs = search needs
 
 returns-2 : tie.Need-returns-2
 returns-2 c = let k = c .before .before .before .most-rounds in
@@ -37,8 +35,20 @@ returns-3 c = let k = c .before .before .before .before .before .most-rounds in
           (c .before .before .before .before .if1 .left),
       c .before .before .due .given .1,
     )
-    (rw (read-back w64 (c .before .before .due .given .0 .1 .0) (c .before .known-told .given .1 .0 .1)) at (c .press-out .ensures))
+    (c .held-out .ensures)
+
+enum-told-2 : tie.Need-enum-told-2
+enum-told-2 c = search needs
+
+returns-4 : tie.Need-returns-4
+returns-4 c = let k = c .before .before .before .most-rounds in
+    rw (
+      ← (k .ensures),
+      le-ltb (k .result) (c .before .before .before .before .before .args .rounds)
+          (c .before .before .if1 .left),
+      c .enum-told2 .given .1,
+    )
 
 pub record-out-spec : {M : Type 1} → statement M
 record-out-spec =
-    tie.close (tie.spec most-rounds-requires returns enum-told enum-known-due press-out-requires returns-2 returns-3)
+    tie.close (tie.spec most-rounds-requires returns enum-told enum-known-due held-out-requires enum-told-2 returns-2 returns-3 returns-4)

@@ -1,0 +1,2 @@
+-- What a void line's conditions are on a table that was checked.
+pub mod Barring

@@ -1,0 +1,2 @@
+-- What the functions answer.
+pub mod Bars

@@ -1,0 +1,77 @@
+//! Every table of a small size: all runs with their facts, and every void line.
+
+use super::*;
+
+/// Links, values, and the pairs 0–1, 0–2, 1–2, 0–3 and so on, as many as asked for.
+pub fn empty_case(variables: usize, values: usize, edges: usize) -> Case {
+    let pairs = (1..variables).flat_map(|higher| (0..higher).map(move |lower| (lower, higher)));
+    let edges: Vec<(usize, usize)> = pairs.take(edges).collect();
+    let weights = vec![0; case::table_length(variables, values, edges.len())];
+    Case {
+        variables,
+        values,
+        edges,
+        weights,
+    }
+}
+
+/// The next table with weights up to `most` in size, and barred ones; false after the
+/// last.
+pub fn advance(case: &mut Case, most: i32) -> bool {
+    for weight in &mut case.weights {
+        *weight = match *weight {
+            BARRED => -most,
+            last if last == most => {
+                *weight = BARRED;
+                continue;
+            }
+            other => other + 1,
+        };
+        return true;
+    }
+    false
+}
+
+/// The first table: all barred.
+pub fn first(case: &mut Case) {
+    case.weights.fill(BARRED);
+}
+
+fn wholly_barred(case: &Case) -> bool {
+    let barred = |scope| case.weights[plain::part(case, scope)].iter().all(|&w| w == BARRED);
+    (0..case.scopes()).any(barred)
+}
+
+impl Check {
+    /// Everything about the table, unless a scope is wholly barred.
+    pub fn each(&mut self, random: &mut Random, case: &Case) -> Result<(), Difference> {
+        if wholly_barred(case) {
+            return Ok(());
+        }
+        self.figures.barred += u64::from(case.has_barred());
+        self.figures.unlawful += u64::from(!has_lawful(case));
+        self.run_both_kinds(random, case)?;
+        self.from_start(case)?;
+        for link in 0..case.variables {
+            self.every_void(case, link)?;
+        }
+        self.figures.cases += 1;
+        Ok(())
+    }
+
+    fn every_void(&mut self, case: &Case, link: usize) -> Result<(), Difference> {
+        for marks in 1..1u64 << case.scopes() {
+            if marks >> link & 1 == 1 {
+                continue;
+            }
+            let count = marks.count_ones().into();
+            let mut log = Vec::new();
+            line::write(&mut log, 5, link as i64, count, 0, 0);
+            for scope in (0..case.scopes()).filter(|scope| marks >> scope & 1 == 1) {
+                line::write(&mut log, 3, scope as i64, 0, 0, 0);
+            }
+            self.list(case, &cut(&log))?;
+        }
+        Ok(())
+    }
+}
