@@ -21,7 +21,7 @@ extern "C" {
 #endif
 
 /* The version that this header is of: major * 10000 + minor * 100 + patch. */
-#define CEILING_VERSION 10200
+#define CEILING_VERSION 10300
 
 /* The most links, channels and pairs of a case, and the bytes of a line. */
 #define CEILING_LINKS 48
@@ -49,8 +49,8 @@ struct ceiling_total_answer { uint64_t number; int64_t total; };
 struct ceiling_rounds_answer { uint64_t number, rounds, is_void; };
 struct ceiling_span_answer { uint64_t number; size_t from, to, line; };
 struct ceiling_choice_answer { uint64_t number, choice; };
-struct ceiling_round_answer { uint64_t number; size_t bytes; int64_t bound; };
-struct ceiling_run_answer { uint64_t number, limit, rounds; int64_t bound; };
+struct ceiling_round_answer { uint64_t number; size_t bytes; int64_t bound; uint64_t none_lawful; };
+struct ceiling_run_answer { uint64_t number, limit, rounds; int64_t bound; uint64_t none_lawful; };
 
 /* ---- the checker */
 
@@ -98,25 +98,30 @@ struct ceiling_span_answer ceiling_round_span(const uint8_t *log, size_t log_len
 
 /* ---- the engine
  *
- * It takes no barred channels yet: a table with one is number 8.
+ * A pair gains if the greatest weights of the pair and its two links add up to more than these three weights do for any two channels that are not
+ * barred. Its round shifts the links' weights into the pair, which keeps every lawful plan's total. A pair is passed over if no two channels are
+ * free of bars at both links and in the pair, or if its round would leave the working range or not lower the ceiling.
  *
- * A pair gains if the greatest weights of the pair and its two links add up to more than these three weights do for any two channels. Its round
- * shifts the links' weights into the pair, which keeps every plan's total. A pair whose round would leave the working range is passed over. */
+ * Where no gap limits a press, because everything that it closes is barred and every other channel of its link, the engine writes a void line in its
+ * stead: `none_lawful` is 1, and no lawful plan exists. The table stays. 0 promises nothing: where no lawful plan exists the engine may also settle,
+ * end by its limit or be refused by 11. */
 
 /* The version of libengine_library.a. */
 uint64_t ceiling_engine_version(void);
 
 /* One round, of the lowest pair that gains and is not passed over, or else a press: its lines from the output's first byte, how many bytes, and
- * the ceiling. No bytes and number 0: settled, and `bound` says nothing then: ask ceiling_upper_bound. */
+ * the ceiling. With `none_lawful` 1 the bytes are a void line's, which is no round, and `bound` is 0. No bytes and number 0: settled, and `bound`
+ * says nothing then: ask ceiling_upper_bound. */
 struct ceiling_round_answer ceiling_round(const uint8_t case_bytes[CEILING_CASE], int64_t *table, size_t table_length,
                                           uint8_t *out, size_t out_length);
 
-/* At most `limit` rounds, each writing from the output's first byte: rounds, ceiling, and limit 1 if it is not settled, 0 if it is.
- * Refused by 11, the earlier rounds stand. */
+/* At most `limit` rounds, each writing from the output's first byte: rounds, ceiling, limit 1 if it ended by its limit, and `none_lawful` 1 if it
+ * ended with a void line, which is written even at the limit; with number 0 and neither it is settled. Refused by 11, the earlier rounds stand. */
 struct ceiling_run_answer ceiling_run(const uint8_t case_bytes[CEILING_CASE], int64_t *table, size_t table_length,
                                       uint8_t *out, size_t out_length, uint64_t limit);
 
-/* The same with pair rounds only: settled where no pair gains but those passed over, also where a press is left. Never refused by 11. */
+/* The same with pair rounds only: settled where no pair gains but those passed over, also where a press or a void line is left. Never refused by
+ * 11, and never void. */
 struct ceiling_run_answer ceiling_run_pairs(const uint8_t case_bytes[CEILING_CASE], int64_t *table, size_t table_length,
                                             uint8_t *out, size_t out_length, uint64_t limit);
 

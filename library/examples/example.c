@@ -36,7 +36,7 @@ int main(int count, char **arguments) {
     struct ceiling_lines_answer read = ceiling_read_case(text, length, case_bytes, start, size.table);
     if (read.number) return refused(read.number, read.lines);
 
-    /* The engine's rounds, one after another, and their lines joined. */
+    /* The engine's rounds, one after another, and their lines joined; a void line is the last. */
     memcpy(table, start, size.table * sizeof *table);
     uint8_t *log = malloc(CEILING_ROOM);
     size_t logged = 0, room = CEILING_ROOM;
@@ -45,6 +45,7 @@ int main(int count, char **arguments) {
         if (round.number) return refused(round.number, read.lines);
         if (!round.bytes) break;
         logged += round.bytes;
+        if (round.none_lawful) break;
         if (room - logged < CEILING_ROOM) log = realloc(log, room = 2 * room + CEILING_ROOM);
     }
     if (!log) return 2;
@@ -70,6 +71,7 @@ int main(int count, char **arguments) {
     }
     struct ceiling_rounds_answer end = ceiling_replay_end(case_bytes, record, logged % CEILING_LINE);
     if (end.number) return refused(end.number, read.lines + logged / CEILING_LINE);
+    if (end.is_void != run.none_lawful) return 2;
     if (end.is_void) {
         puts("void");
         return 0;
@@ -93,14 +95,15 @@ int main(int count, char **arguments) {
     struct ceiling_choice_answer better = ceiling_better_of(case_bytes, start, size.table, first, size.n, second, size.n);
     const uint8_t *plan = better.choice ? second : first;
     struct ceiling_total_answer total = ceiling_objective(case_bytes, start, size.table, plan, size.n);
-    if (better.number || total.number) return 2;
-    printf("plan %llu %lld\n", (unsigned long long)better.choice, (long long)total.total);
+    if (better.number || (total.number && total.number != 5)) return 2;
+    if (total.number) printf("plan %llu unlawful\n", (unsigned long long)better.choice);
+    else printf("plan %llu %lld\n", (unsigned long long)better.choice, (long long)total.total);
 
-    /* Pair rounds only: the plan keeps its total. */
+    /* Pair rounds only: the plan keeps its total, if it is lawful. */
     memcpy(again, start, size.table * sizeof *again);
     struct ceiling_run_answer pairs = ceiling_run_pairs(case_bytes, again, size.table, out, CEILING_ROOM, ROUNDS);
     struct ceiling_total_answer kept = ceiling_objective(case_bytes, again, size.table, plan, size.n);
-    if (pairs.number || kept.number || kept.total != total.total) return 2;
+    if (pairs.number || kept.number != total.number || kept.total != total.total) return 2;
     printf("pairs %llu %lld\n", (unsigned long long)pairs.rounds, (long long)pairs.bound);
 
     free(out), free(again), free(log), free(table), free(start), free(text);

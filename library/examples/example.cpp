@@ -46,7 +46,7 @@ struct Case {
     }
 };
 
-// The engine's rounds, one after another, and their lines joined.
+// The engine's rounds, one after another, and their lines joined; a void line is the last.
 Bytes press(const Case &c, Table &table) {
     Bytes log, out(CEILING_ROOM);
     for (std::uint64_t i = 0; i < rounds_at_most; i++) {
@@ -54,6 +54,7 @@ Bytes press(const Case &c, Table &table) {
         ask(round.number, c.lines);
         if (!round.bytes) break;
         log.insert(log.end(), out.begin(), out.begin() + static_cast<std::ptrdiff_t>(round.bytes));
+        if (round.none_lawful) break;
     }
     return log;
 }
@@ -80,11 +81,12 @@ ceiling_rounds_answer replay(const Case &c, Table &table, const Bytes &log) {
     return end;
 }
 
-// A plan's total.
-std::int64_t total(const Case &c, const Table &table, const Bytes &plan) {
+// A plan's total in words; an unlawful plan has none.
+std::string total(const Case &c, const Table &table, const Bytes &plan) {
     const auto answer = ceiling_objective(c.bytes.data(), table.data(), table.size(), plan.data(), plan.size());
+    if (answer.number == 5) return "unlawful";
     ask(answer.number, 0);
-    return answer.total;
+    return std::to_string(answer.total);
 }
 
 // Every link on channel 0, or the channels in turn.
@@ -98,7 +100,7 @@ Bytes print_better_plan(const Case &c) {
     return plan;
 }
 
-// Pair rounds only: the plan keeps its total.
+// Pair rounds only: the plan keeps its total, if it is lawful.
 void print_pair_rounds(const Case &c, const Bytes &plan) {
     Table table = c.start;
     Bytes out(CEILING_ROOM);
@@ -114,6 +116,7 @@ void example(const Bytes &text) {
     const Bytes log = press(c, table);
     const auto made = run(c, again);
     const auto end = replay(c, replayed, log);
+    if (end.is_void != made.none_lawful) throw std::logic_error("not void in both");
     if (end.is_void) {
         std::cout << "void\n";
         return;

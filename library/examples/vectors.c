@@ -54,6 +54,9 @@ static const struct sample TWO = {3, 2, 2, {0, 1}, {1, 2}, {0, 0, 1, 0, -1, 0, -
 static const struct sample SINGLE = {2, 2, 1, {0}, {1}, {2, BAR, 1, 0, BAR, 0, 0, 3}, 8, 6};
 static const struct sample NO_PLAN = {2, 2, 1, {0}, {1}, {0, BAR, 0, BAR, BAR, 0, 0, 0}, 8, 0};
 static const struct sample A_PLAN = {2, 2, 1, {0}, {1}, {0, BAR, 0, -5, BAR, 0, 0, 0}, 8, 0};
+/* No lawful plan, which shows after two presses. EDGE, not starting weights: one lawful plan, and a press that would leave the range. */
+static const struct sample LATE = {2, 2, 1, {0}, {1}, {0, BAR, 4, BAR, BAR, -1, 0, -2}, 8, 4};
+static const struct sample EDGE = {2, 2, 1, {0}, {1}, {-499999999, BAR, 0, -5, BAR, 0, 0, 0}, 8, -499999999};
 /* Not starting weights, and the pairs (0,1) gain but are passed over. LOW: the first press by 1 takes link 0 to the end of the range, the second
  * is number 11. COMES: after a press the pair's round stays in range. BACK: end 0 would leave the range, and end 1 come back. HIGHER: the pair
  * (1,2) gains too. */
@@ -266,7 +269,7 @@ static void barred_readings(void) {
 /* ---- ceiling, totals, scoring: they change nothing */
 
 static void ceilings(void) {
-    static const struct sample *const rows[] = {&P1, &P4, &P10, &P11, &TWO, &SINGLE, &NO_PLAN, &A_PLAN, &LOW, &COMES, &BACK, &HIGHER};
+    static const struct sample *const rows[] = {&P1, &P4, &P10, &P11, &TWO, &SINGLE, &NO_PLAN, &A_PLAN, &LATE, &EDGE, &LOW, &COMES, &BACK, &HIGHER};
     uint8_t bytes[CEILING_CASE];
     for (size_t i = 0; i < sizeof rows / sizeof *rows; i++) {
         case_of(rows[i], bytes);
@@ -720,57 +723,88 @@ struct engine {
 /* the pair round's two lines, and the last line of the press before it */
 #define COMES_PAIR {{1, 0, 0, 1, 500000000}, {4, 0, 0, 0, -1}, {4, 0, 0, 0, 0}}, 3, {0, 0, 0, 0, -1, -1, -500000000, -500000000}
 #define BACK_PRESS {{2, 0, 2, 0, 3}, FIRST, LAST, {4, 0, 0, 0, 499999999}}, 4, {-1, -2, 0, 0, 500000000, 3, 3, 3}
+#define AS_SINGLE {2, BAR, 1, 0, BAR, 0, 0, 3}
+#define AS_LATE {0, BAR, 4, BAR, BAR, -1, 0, -2}
+#define AS_EDGE {-499999999, BAR, 0, -5, BAR, 0, 0, 0}
+#define NO_PLAN_VOID {VOID, FIRST, LAST}, 3, AS_NO_PLAN
+#define LATE_PRESS {{2, 0, 1, 0, 1}, LAST, {4, 0, 0, 0, 3}}, 3, {-1, BAR, 4, BAR, BAR, 0, 0, -1}
+/* the void line's three lines, and the last line of the press before it */
+#define LATE_VOID {VOID, FIRST, LAST, {4, 0, 0, 0, 2}}, 4, {-2, BAR, 4, BAR, BAR, 0, 0, 0}
+#define SINGLE_PAIR {{1, 0, 0, 0, -2}, {1, 0, 1, 0, -1}, {4, 0, 0, 0, 3}}, 3, {0, BAR, 0, 0, BAR, 2, 1, 3}
+#define SINGLE_PRESS {{2, 0, 1, 0, 1}, LAST, {4, 0, 0, 0, 2}}, 3, {-1, BAR, 0, 0, BAR, 3, 2, 3}
+#define A_PLAN_PRESS {{2, 0, 2, 0, 5}, FIRST, LAST, {4, 0, 0, 0, -5}}, 4, {-5, BAR, 0, 0, BAR, 0, 0, 0}
 #define HIGHER_PAIR {{1, 1, 0, 0, 1}, {4, 0, 0, 0, 1}}, 2, {0, 0, 0, 0, 0, 0, 1, 0, -500000000, 0, -1, 0, 0, 0}
 
 static const struct engine RUNS[] = {
-    {"P1, limit 0", &P1, 297, 0, {0, 1, 0, 0}, NONE, AS_P1},
-    {"P1, limit 1", &P1, 297, 1, {0, 0, 1, -1}, P1_PRESS},
-    {"P1, no limit", &P1, OUT, UINT64_MAX, {0, 0, 1, -1}, P1_PRESS},
-    {"P1, a short output", &P1, 296, 1, {4, 0, 0, 0}, NONE, AS_P1},
-    {"P1, a short output and limit 0", &P1, 296, 0, {4, 0, 0, 0}, NONE, AS_P1},
-    {"P5", &P4, 216, 9, {0, 0, 1, 2}, P5_PAIR},
-    {"P5, limit 0", &P4, 216, 0, {0, 1, 0, 4}, NONE, START},
-    {"P5, limit 1", &P4, 216, 1, {0, 0, 1, 2}, P5_PAIR},
-    {"P5, a short output", &P4, 215, 9, {4, 0, 0, 0}, NONE, START},
-    {"P10", &P10, 216, 9, {0, 0, 0, 11}, NONE, AS_P10},
-    {"P10, limit 0", &P10, 216, 0, {0, 0, 0, 11}, NONE, AS_P10},
-    {"P10, a short output", &P10, 215, 9, {4, 0, 0, 0}, NONE, AS_P10},
-    {"P10, a short output and limit 0", &P10, 215, 0, {4, 0, 0, 0}, NONE, AS_P10},
-    {"P12", &P11, 108, 9, {0, 0, 0, -7}, NONE, {-7}},
-    {"P12, limit 0", &P11, 108, 0, {0, 0, 0, -7}, NONE, {-7}},
-    {"P12, a short output", &P11, 107, 9, {4, 0, 0, 0}, NONE, {-7}},
-    {"a pair, limit 1", &TWO, 270, 1, {0, 1, 1, 0}, TWO_PAIR},
-    {"a pair, then a press", &TWO, 270, 2, {0, 0, 2, -1}, TWO_PRESS},
-    {"out of range, limit 0", &LOW, 270, 0, {0, 1, 0, -499999997}, NONE, AS_LOW},
-    {"out of range, limit 1", &LOW, 270, 1, {0, 1, 1, -499999998}, LOW_PRESS},
-    {"out of range", &LOW, 270, 2, {11, 0, 1, -499999998}, LOW_PRESS},
-    {"out of range, a short output", &LOW, 269, 2, {4, 0, 0, 0}, NONE, AS_LOW},
-    {"passed over, a press, limit 1", &COMES, 216, 1, {0, 1, 1, 0}, COMES_PRESS},
-    {"passed over, a press, then the pair", &COMES, 216, 9, {0, 0, 2, -1}, COMES_PAIR},
-    {"passed over at end 0", &BACK, 216, 9, {0, 0, 1, 499999999}, BACK_PRESS},
-    {"passed over, a higher pair", &HIGHER, 270, 9, {0, 0, 1, 1}, HIGHER_PAIR},
+    {"P1, limit 0", &P1, 297, 0, {0, 1, 0, 0, 0}, NONE, AS_P1},
+    {"P1, limit 1", &P1, 297, 1, {0, 0, 1, -1, 0}, P1_PRESS},
+    {"P1, no limit", &P1, OUT, UINT64_MAX, {0, 0, 1, -1, 0}, P1_PRESS},
+    {"P1, a short output", &P1, 296, 1, {4, 0, 0, 0, 0}, NONE, AS_P1},
+    {"P1, a short output and limit 0", &P1, 296, 0, {4, 0, 0, 0, 0}, NONE, AS_P1},
+    {"P5", &P4, 216, 9, {0, 0, 1, 2, 0}, P5_PAIR},
+    {"P5, limit 0", &P4, 216, 0, {0, 1, 0, 4, 0}, NONE, START},
+    {"P5, limit 1", &P4, 216, 1, {0, 0, 1, 2, 0}, P5_PAIR},
+    {"P5, a short output", &P4, 215, 9, {4, 0, 0, 0, 0}, NONE, START},
+    {"P10", &P10, 216, 9, {0, 0, 0, 11, 0}, NONE, AS_P10},
+    {"P10, limit 0", &P10, 216, 0, {0, 0, 0, 11, 0}, NONE, AS_P10},
+    {"P10, a short output", &P10, 215, 9, {4, 0, 0, 0, 0}, NONE, AS_P10},
+    {"P10, a short output and limit 0", &P10, 215, 0, {4, 0, 0, 0, 0}, NONE, AS_P10},
+    {"P12", &P11, 108, 9, {0, 0, 0, -7, 0}, NONE, {-7}},
+    {"P12, limit 0", &P11, 108, 0, {0, 0, 0, -7, 0}, NONE, {-7}},
+    {"P12, a short output", &P11, 107, 9, {4, 0, 0, 0, 0}, NONE, {-7}},
+    {"a pair, limit 1", &TWO, 270, 1, {0, 1, 1, 0, 0}, TWO_PAIR},
+    {"a pair, then a press", &TWO, 270, 2, {0, 0, 2, -1, 0}, TWO_PRESS},
+    {"out of range, limit 0", &LOW, 270, 0, {0, 1, 0, -499999997, 0}, NONE, AS_LOW},
+    {"out of range, limit 1", &LOW, 270, 1, {0, 1, 1, -499999998, 0}, LOW_PRESS},
+    {"out of range", &LOW, 270, 2, {11, 0, 1, -499999998, 0}, LOW_PRESS},
+    {"out of range, a short output", &LOW, 269, 2, {4, 0, 0, 0, 0}, NONE, AS_LOW},
+    {"passed over, a press, limit 1", &COMES, 216, 1, {0, 1, 1, 0, 0}, COMES_PRESS},
+    {"passed over, a press, then the pair", &COMES, 216, 9, {0, 0, 2, -1, 0}, COMES_PAIR},
+    {"passed over at end 0", &BACK, 216, 9, {0, 0, 1, 499999999, 0}, BACK_PRESS},
+    {"passed over, a higher pair", &HIGHER, 270, 9, {0, 0, 1, 1, 0}, HIGHER_PAIR},
+    {"void, limit 0", &NO_PLAN, 216, 0, {0, 0, 0, 0, 1}, NO_PLAN_VOID},
+    {"void, limit 1", &NO_PLAN, 216, 1, {0, 0, 0, 0, 1}, NO_PLAN_VOID},
+    {"void, no limit", &NO_PLAN, OUT, UINT64_MAX, {0, 0, 0, 0, 1}, NO_PLAN_VOID},
+    {"void, a short output", &NO_PLAN, 215, 1, {4, 0, 0, 0, 0}, NONE, AS_NO_PLAN},
+    {"void, a short output and limit 0", &NO_PLAN, 215, 0, {4, 0, 0, 0, 0}, NONE, AS_NO_PLAN},
+    {"two presses before void, limit 0", &LATE, 216, 0, {0, 1, 0, 4, 0}, NONE, AS_LATE},
+    {"two presses before void, limit 1", &LATE, 216, 1, {0, 1, 1, 3, 0}, LATE_PRESS},
+    {"two presses, void at the limit", &LATE, 216, 2, {0, 0, 2, 2, 1}, LATE_VOID},
+    {"two presses, then void", &LATE, 216, 9, {0, 0, 2, 2, 1}, LATE_VOID},
+    {"barred values left out, limit 0", &SINGLE, 216, 0, {0, 1, 0, 6, 0}, NONE, AS_SINGLE},
+    {"barred values left out, limit 1", &SINGLE, 216, 1, {0, 1, 1, 3, 0}, SINGLE_PAIR},
+    {"barred values left out", &SINGLE, 216, 9, {0, 0, 2, 2, 0}, SINGLE_PRESS},
+    {"not lower, so a press", &A_PLAN, 216, 9, {0, 0, 1, -5, 0}, A_PLAN_PRESS},
+    {"out of range beside barred, limit 0", &EDGE, 216, 0, {0, 1, 0, -499999999, 0}, NONE, AS_EDGE},
+    {"out of range beside barred", &EDGE, 216, 9, {11, 0, 0, -499999999, 0}, NONE, AS_EDGE},
 };
 
 static const struct engine PAIR_RUNS[] = {
-    {"P1, a press is left", &P1, 297, 9, {0, 0, 0, 0}, NONE, AS_P1},
-    {"P1, limit 0", &P1, 297, 0, {0, 0, 0, 0}, NONE, AS_P1},
-    {"P1, a short output", &P1, 296, 9, {4, 0, 0, 0}, NONE, AS_P1},
-    {"P5", &P4, 216, 9, {0, 0, 1, 2}, P5_PAIR},
-    {"P5, no limit", &P4, OUT, UINT64_MAX, {0, 0, 1, 2}, P5_PAIR},
-    {"P5, limit 0", &P4, 216, 0, {0, 1, 0, 4}, NONE, START},
-    {"P5, limit 1", &P4, 216, 1, {0, 0, 1, 2}, P5_PAIR},
-    {"P5, a short output", &P4, 215, 9, {4, 0, 0, 0}, NONE, START},
-    {"P5, a short output and limit 0", &P4, 215, 0, {4, 0, 0, 0}, NONE, START},
-    {"P10", &P10, 216, 9, {0, 0, 0, 11}, NONE, AS_P10},
-    {"P12", &P11, 108, 9, {0, 0, 0, -7}, NONE, {-7}},
-    {"P12, a short output", &P11, 107, 9, {4, 0, 0, 0}, NONE, {-7}},
-    {"a pair, limit 0", &TWO, 270, 0, {0, 1, 0, 1}, NONE, AS_TWO},
-    {"a pair, and a press is left", &TWO, 270, 9, {0, 0, 1, 0}, TWO_PAIR},
-    {"passed over, before 11", &LOW, 270, 9, {0, 0, 0, -499999997}, NONE, AS_LOW},
-    {"passed over, and a press is left", &COMES, 216, 9, {0, 0, 0, 1}, NONE, AS_COMES},
-    {"passed over, limit 0", &COMES, 216, 0, {0, 0, 0, 1}, NONE, AS_COMES},
-    {"passed over at end 0", &BACK, 216, 9, {0, 0, 0, 500000002}, NONE, AS_BACK},
-    {"passed over, a higher pair", &HIGHER, 270, 9, {0, 0, 1, 1}, HIGHER_PAIR},
+    {"P1, a press is left", &P1, 297, 9, {0, 0, 0, 0, 0}, NONE, AS_P1},
+    {"P1, limit 0", &P1, 297, 0, {0, 0, 0, 0, 0}, NONE, AS_P1},
+    {"P1, a short output", &P1, 296, 9, {4, 0, 0, 0, 0}, NONE, AS_P1},
+    {"P5", &P4, 216, 9, {0, 0, 1, 2, 0}, P5_PAIR},
+    {"P5, no limit", &P4, OUT, UINT64_MAX, {0, 0, 1, 2, 0}, P5_PAIR},
+    {"P5, limit 0", &P4, 216, 0, {0, 1, 0, 4, 0}, NONE, START},
+    {"P5, limit 1", &P4, 216, 1, {0, 0, 1, 2, 0}, P5_PAIR},
+    {"P5, a short output", &P4, 215, 9, {4, 0, 0, 0, 0}, NONE, START},
+    {"P5, a short output and limit 0", &P4, 215, 0, {4, 0, 0, 0, 0}, NONE, START},
+    {"P10", &P10, 216, 9, {0, 0, 0, 11, 0}, NONE, AS_P10},
+    {"P12", &P11, 108, 9, {0, 0, 0, -7, 0}, NONE, {-7}},
+    {"P12, a short output", &P11, 107, 9, {4, 0, 0, 0, 0}, NONE, {-7}},
+    {"a pair, limit 0", &TWO, 270, 0, {0, 1, 0, 1, 0}, NONE, AS_TWO},
+    {"a pair, and a press is left", &TWO, 270, 9, {0, 0, 1, 0, 0}, TWO_PAIR},
+    {"passed over, before 11", &LOW, 270, 9, {0, 0, 0, -499999997, 0}, NONE, AS_LOW},
+    {"passed over, and a press is left", &COMES, 216, 9, {0, 0, 0, 1, 0}, NONE, AS_COMES},
+    {"passed over, limit 0", &COMES, 216, 0, {0, 0, 0, 1, 0}, NONE, AS_COMES},
+    {"passed over at end 0", &BACK, 216, 9, {0, 0, 0, 500000002, 0}, NONE, AS_BACK},
+    {"passed over, a higher pair", &HIGHER, 270, 9, {0, 0, 1, 1, 0}, HIGHER_PAIR},
+    {"no choice, a void line is left", &NO_PLAN, 216, 9, {0, 0, 0, 0, 0}, NONE, AS_NO_PLAN},
+    {"no choice, limit 0", &NO_PLAN, 216, 0, {0, 0, 0, 0, 0}, NONE, AS_NO_PLAN},
+    {"no choice, a press is left", &LATE, 216, 9, {0, 0, 0, 4, 0}, NONE, AS_LATE},
+    {"barred values left out", &SINGLE, 216, 9, {0, 0, 1, 3, 0}, SINGLE_PAIR},
+    {"not lower", &A_PLAN, 216, 9, {0, 0, 0, 0, 0}, NONE, AS_A_PLAN},
+    {"passed over beside barred", &EDGE, 216, 9, {0, 0, 0, -499999999, 0}, NONE, AS_EDGE},
 };
 
 /* The output must hold the lines and then what it held; so must everything behind what was lent. */
@@ -798,17 +832,18 @@ static void runs(void) {
         lend(row->sample, bytes, table, out);
         struct ceiling_run_answer a = ceiling_run(bytes, table, row->sample->length, out, row->out, row->limit);
         test("ceiling_run", row->name, !memcmp(&a, &row->answer, sizeof a) && left(row, out, table));
-        /* one round alone is the run's first: the rows whose run ended with it */
-        if (row->limit == 0 || row->answer.rounds > 1 || (row->answer.number && row->answer.rounds)) continue;
+        /* one round alone is the run's first: the rows whose run ended with it, or with a void line at once */
+        uint64_t most = !row->answer.number && !row->answer.none_lawful;
+        if (row->limit == 0 || row->answer.rounds > most) continue;
         lend(row->sample, bytes, table, out);
         struct ceiling_round_answer r = ceiling_round(bytes, table, row->sample->length, out, row->out);
         int64_t bound = row->count ? row->lines[row->count - 1][4] : 0;
         int good = r.number == row->answer.number && r.bytes == row->count * CEILING_LINE && r.bound == bound;
-        test("ceiling_round", row->name, good && left(row, out, table));
+        test("ceiling_round", row->name, good && r.none_lawful == row->answer.none_lawful && left(row, out, table));
     }
 }
 
-/* Every plan's total on the table is its total on the sample's. */
+/* Every plan's total on the table is its total on the sample's; an unlawful plan has none in both. */
 static int same_totals(const struct sample *s, const uint8_t bytes[CEILING_CASE], const int64_t *table) {
     size_t plans = 1;
     for (size_t i = 0; i < s->n; i++) plans *= s->d;
@@ -817,7 +852,7 @@ static int same_totals(const struct sample *s, const uint8_t bytes[CEILING_CASE]
         for (size_t i = 0, rest = p; i < s->n; i++, rest /= s->d) plan[i] = (uint8_t)(rest % s->d);
         struct ceiling_total_answer before = ceiling_objective(bytes, s->table, s->length, plan, s->n);
         struct ceiling_total_answer after = ceiling_objective(bytes, table, s->length, plan, s->n);
-        if (before.number || after.number || before.total != after.total) return 0;
+        if (before.number != after.number || before.total != after.total) return 0;
     }
     return 1;
 }
@@ -834,15 +869,17 @@ static void pair_runs(void) {
     }
 }
 
-/* Rounds one after another: settled writes nothing, number 11 changes nothing. */
+/* Rounds one after another: settled writes nothing, number 11 changes nothing, a void line leaves the table. */
 static void rounds(void) {
     static const struct {
         struct ceiling_round_answer answers[3];
         struct engine after;
     } rows[] = {
-        {{{0, 54, 0}, {0, 135, -1}, {0, 0, 0}}, {"a pair, a press, settled", &TWO, 270, 0, {0, 0, 0, 0}, TWO_PRESS}},
-        {{{0, 81, 0}, {0, 54, -1}, {0, 0, 0}}, {"a press, a pair, settled", &COMES, 216, 0, {0, 0, 0, 0}, COMES_PAIR}},
-        {{{0, 108, -499999998}, {11, 0, 0}, {11, 0, 0}}, {"a press, out of range", &LOW, 270, 0, {0, 0, 0, 0}, LOW_PRESS}},
+        {{{0, 54, 0, 0}, {0, 135, -1, 0}, {0, 0, 0, 0}}, {"a pair, a press, settled", &TWO, 270, 0, {0, 0, 0, 0, 0}, TWO_PRESS}},
+        {{{0, 81, 0, 0}, {0, 54, -1, 0}, {0, 0, 0, 0}}, {"a press, a pair, settled", &COMES, 216, 0, {0, 0, 0, 0, 0}, COMES_PAIR}},
+        {{{0, 108, -499999998, 0}, {11, 0, 0, 0}, {11, 0, 0, 0}}, {"a press, out of range", &LOW, 270, 0, {0, 0, 0, 0, 0}, LOW_PRESS}},
+        {{{0, 81, 0, 1}, {0, 81, 0, 1}, {0, 81, 0, 1}}, {"void again", &NO_PLAN, 216, 0, {0, 0, 0, 0, 0}, NO_PLAN_VOID}},
+        {{{0, 81, 3, 0}, {0, 108, 2, 0}, {0, 81, 0, 1}}, {"two presses, void", &LATE, 216, 0, {0, 0, 0, 0, 0}, LATE_VOID}},
     };
     uint8_t bytes[CEILING_CASE], out[OUT];
     int64_t table[PLACES];
@@ -851,9 +888,42 @@ static void rounds(void) {
         lend(after->sample, bytes, table, out);
         for (size_t k = 0; k < 3; k++) {
             struct ceiling_round_answer r = ceiling_round(bytes, table, after->sample->length, out, after->out);
-            test("ceiling_round", after->name, !memcmp(&r, &rows[i].answers[k], sizeof r) && (k == 0 || left(after, out, table)));
+            test("ceiling_round", after->name, !memcmp(&r, &rows[i].answers[k], sizeof r) && (k < 2 || left(after, out, table)));
         }
     }
+}
+
+/* The engine's void logs, round by round, in the checker's functions: void at the end, and the record says that nothing is due. */
+static void void_logs(void) {
+    static const struct sample *const rows[] = {&NO_PLAN, &LATE};
+    uint8_t bytes[CEILING_CASE], out[OUT], record[CEILING_RECORD], log[TEXT];
+    int64_t table[PLACES], replayed[PLACES];
+    for (size_t i = 0; i < sizeof rows / sizeof *rows; i++) {
+        const struct sample *s = rows[i];
+        struct ceiling_round_answer r = {0, 0, 0, 0};
+        size_t length = 0;
+        lend(s, bytes, table, out);
+        memcpy(replayed, table, sizeof replayed);
+        for (int k = 0; k < 3 && !r.none_lawful; k++) {
+            r = ceiling_round(bytes, table, s->length, log + length, sizeof log - length);
+            length += r.bytes;
+        }
+        uint64_t number = ceiling_replay_start(bytes, replayed, s->length, record);
+        struct ceiling_lines_answer a = ceiling_replay_lines(bytes, replayed, s->length, record, log, length);
+        struct ceiling_rounds_answer e = ceiling_replay_end(bytes, record, 0);
+        test("ceiling_round", "a void log", r.none_lawful == 1 && number == 0 && a.number == 0 && a.lines == length / CEILING_LINE);
+        test("ceiling_replay_end", "a void log", e.number == 0 && e.is_void == 1 && e.rounds == 0 && record[49] == 3);
+        test("ceiling_replay_lines", "a void log", !memcmp(table, replayed, sizeof table));
+        a = ceiling_replay_lines(bytes, replayed, s->length, record, log, CEILING_LINE);
+        test("ceiling_replay_lines", "a line after a void log", a.number == 2 && a.lines == 0);
+    }
+    /* what a run with limit 0 wrote: a void line and two raise lines */
+    lend(&NO_PLAN, bytes, table, out);
+    struct ceiling_run_answer a = ceiling_run(bytes, table, NO_PLAN.length, out, OUT, 0);
+    uint64_t number = ceiling_replay_start(bytes, table, NO_PLAN.length, record);
+    struct ceiling_lines_answer l = ceiling_replay_lines(bytes, table, NO_PLAN.length, record, out, 3 * CEILING_LINE);
+    test("ceiling_run", "a void log", a.none_lawful == 1 && number == 0 && l.number == 0 && l.lines == 3);
+    test("ceiling_replay_end", "a run's void log", ceiling_replay_end(bytes, record, 0).is_void == 1 && record[49] == 3);
 }
 
 /* The largest case, all of its weights 0: settled with room for the longest round, and number 4 with a byte less. */
@@ -888,17 +958,30 @@ static void engine_faults(void) {
         struct ceiling_round_answer r = ceiling_round(bytes, table, s.length, out, OUT);
         int same = !memcmp(table, start, sizeof start) && !memcmp(out, before, sizeof out);
         test("ceiling_round", FAULTS[i].name, r.number == FAULTS[i].number && r.bytes == 0 && r.bound == 0 && same);
-        struct ceiling_run_answer a = ceiling_run(bytes, table, s.length, out, OUT, 9), wanted = {FAULTS[i].number, 0, 0, 0};
+        struct ceiling_run_answer a = ceiling_run(bytes, table, s.length, out, OUT, 9), wanted = {FAULTS[i].number, 0, 0, 0, 0};
         same = !memcmp(table, start, sizeof start) && !memcmp(out, before, sizeof out);
         test("ceiling_run", FAULTS[i].name, !memcmp(&a, &wanted, sizeof a) && same);
         a = ceiling_run_pairs(bytes, table, s.length, out, OUT, 9);
         same = !memcmp(table, start, sizeof start) && !memcmp(out, before, sizeof out);
         test("ceiling_run_pairs", FAULTS[i].name, !memcmp(&a, &wanted, sizeof a) && same);
     }
-    lend(&SINGLE, bytes, table, out);
-    test("ceiling_round", "barred channels", ceiling_round(bytes, table, SINGLE.length, out, OUT).number == 8);
-    test("ceiling_run", "barred channels", ceiling_run(bytes, table, SINGLE.length, out, OUT, 9).number == 8);
-    test("ceiling_run_pairs", "barred channels", ceiling_run_pairs(bytes, table, SINGLE.length, out, OUT, 9).number == 8);
+    static const struct {
+        const char *name;
+        int64_t table[8];
+        uint64_t number;
+    } rows[] = {
+        {"a link wholly barred", {BAR, BAR, 0, 0, 0, 0, 0, 0}, 15},  {"a pair wholly barred", {0, 0, 0, 0, BAR, BAR, BAR, BAR}, 15},
+        {"8 before 15", {500000001, 0, 0, 0, BAR, BAR, BAR, BAR}, 8}, {"above barred", {0, BAR + 1, 0, BAR, 0, 0, 0, 0}, 8},
+        {"below barred", {0, BAR - 1, 0, BAR, 0, 0, 0, 0}, 8},
+    };
+    case_of(&P4, bytes);
+    for (size_t i = 0; i < sizeof rows / sizeof *rows; i++) {
+        memcpy(table, rows[i].table, sizeof rows[i].table);
+        test("ceiling_round", rows[i].name, ceiling_round(bytes, table, 8, out, OUT).number == rows[i].number);
+        test("ceiling_run", rows[i].name, ceiling_run(bytes, table, 8, out, OUT, 0).number == rows[i].number);
+        test("ceiling_run_pairs", rows[i].name, ceiling_run_pairs(bytes, table, 8, out, OUT, 9).number == rows[i].number);
+        test("ceiling_round", "barred and refused", !memcmp(table, rows[i].table, sizeof rows[i].table) && !memcmp(out, before, sizeof out));
+    }
 }
 
 /* ---- the version, and null pointers with length 0 */
@@ -944,7 +1027,7 @@ int main(void) {
     steps(&A_PLAN, A_PLAN_STEPS, sizeof A_PLAN_STEPS / sizeof *A_PLAN_STEPS);
     no_whole_line(), handed_over(), records(), last_round();
     spans();
-    runs(), pair_runs(), rounds(), rooms(), engine_faults();
+    runs(), pair_runs(), rounds(), void_logs(), rooms(), engine_faults();
     printf("%u passed, %u failed\n", passed, failed);
     return failed > 0;
 }

@@ -2,7 +2,7 @@
 //! over as case lines, and on each of them calls one after another.
 
 use crate::case::{self, table_length};
-use crate::generate::{any_case, any_table_for, border_for, unbarred};
+use crate::generate::{any_case, any_table_for, border_for};
 use crate::inputs::{random_for, sized_case, small_case};
 use crate::programs::Engine;
 use crate::random::Random;
@@ -270,10 +270,10 @@ fn shifted(log: &[u8]) -> Vec<usize> {
     edges
 }
 
-/// The runs made by hand; no place is barred unless `barred`.
-pub fn samples(barred: bool) -> Batch {
+/// The runs made by hand.
+pub fn samples() -> Batch {
     let mut batch = Batch::default();
-    for (name, case, (kind, limit), run) in pair_samples::runs(barred) {
+    for (name, case, (kind, limit), run) in pair_samples::runs() {
         batch.hand_over(name, &case);
         batch.print(Call::Run(kind, limit), needed(&case), &run);
         batch.print_weights(&run.weights);
@@ -282,8 +282,7 @@ pub fn samples(barred: bool) -> Batch {
         let after = engine::passed_over(&Case { weights, ..case });
         batch.figures.passed += u64::from(!after.is_empty());
     }
-    let more = if barred { barred_samples::refused() } else { vec![] };
-    for (name, case, number) in more {
+    for (name, case, number) in barred_samples::refused() {
         batch.hand_over(name, &case);
         for call in [Call::Run(Rounds::All, 5), Call::Run(Rounds::Pairs, 0), Call::Round] {
             batch.print(call, needed(&case), &refused(number, &case));
@@ -294,12 +293,12 @@ pub fn samples(barred: bool) -> Batch {
     batch
 }
 
-/// Batch number `index` of a seed; no place is barred unless `barred`.
-pub fn batch(seed: u64, index: u64, barred: bool) -> Batch {
+/// Batch number `index` of a seed.
+pub fn batch(seed: u64, index: u64) -> Batch {
     let mut random = random_for(seed, FIRST + index);
     let mut batch = Batch::default();
     for at in 0..MOST_TABLES {
-        let next = one_table(&mut random, &format!("table {at} of {index}"), barred);
+        let next = one_table(&mut random, &format!("table {at} of {index}"));
         if batch.input.len() + next.input.len() > MOST_INPUT {
             break;
         }
@@ -308,14 +307,11 @@ pub fn batch(seed: u64, index: u64, barred: bool) -> Batch {
     batch
 }
 
-fn one_table(random: &mut Random, name: &str, barred: bool) -> Batch {
-    let mut case = match random.below(10) {
+fn one_table(random: &mut Random, name: &str) -> Batch {
+    let case = match random.below(10) {
         0 => spoilt_case(random),
         _ => some_table(random),
     };
-    if !barred {
-        case = unbarred(random, &case);
-    }
     let mut batch = Batch::default();
     batch.hand_over(name, &case);
     let engine = some_engine(random, &case);

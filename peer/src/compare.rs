@@ -4,8 +4,7 @@
 use crate::calls::{self, Batch};
 use crate::check::{every, Check, Difference};
 use crate::counts::Counts;
-use crate::generate::unbarred;
-use crate::inputs::{input_for, press_input, random_for, sized_case, Program};
+use crate::inputs::{input_for, random_for, sized_case, Program};
 use crate::options::Options;
 use crate::outside::Outside;
 use crate::{case, programs, samples};
@@ -81,12 +80,11 @@ pub fn compare(options: &mut Options) -> Result<ExitCode, String> {
     let seconds = options.number("seconds", DEFAULT_SECONDS)? as f64;
     let paths = ["press", "replay", "engine"].map(|name| options.text(name));
     let counts = options.flag("counts");
-    let barred_engine = options.flag("barred-engine");
     options.finish()?;
     println!("seed {seed}");
     let began = Instant::now();
     let mut check = Check::new();
-    let mut programs = Programs::new(paths, &keep, barred_engine)?;
+    let mut programs = Programs::new(paths, &keep)?;
     let [slow, files, tables] = programs.shares().map(|share| share * seconds);
     let result = samples_first().and_then(|samples| {
         against_slow(&mut check, seed, &in_seconds(slow))?;
@@ -267,8 +265,6 @@ struct Programs {
     replay: Option<Outside>,
     engine: Option<Outside>,
     counts: Counts,
-    /// Whether `press` and the engine are handed barred places too.
-    barred_engine: bool,
     compared: [u64; 2],
     /// Inputs of each with barred places.
     barred: [u64; 2],
@@ -279,18 +275,13 @@ struct Programs {
 }
 
 impl Programs {
-    fn new(
-        paths: [Option<String>; 3],
-        keep: &Path,
-        barred_engine: bool,
-    ) -> Result<Programs, String> {
+    fn new(paths: [Option<String>; 3], keep: &Path) -> Result<Programs, String> {
         let [press, replay, engine] = paths.map(|path| path.map(|path| Outside::new(&path, keep)));
         Ok(Programs {
             press: press.transpose()?,
             replay: replay.transpose()?,
             engine: engine.transpose()?,
             counts: Counts::default(),
-            barred_engine,
             compared: [0; 2],
             barred: [0; 2],
             void: 0,
@@ -320,7 +311,7 @@ impl Programs {
             };
             self.ask(program, &input, &output, name)?;
         }
-        self.call("samples", &calls::samples(self.barred_engine))
+        self.call("samples", &calls::samples())
     }
 
     fn generated(&mut self, seed: u64, end: &End) -> Result<(), Difference> {
@@ -332,11 +323,7 @@ impl Programs {
             let mut random = random_for(seed, index);
             let case = sized_case(&mut random);
             for _ in 0..4 {
-                let mut input = input_for(&mut random, &case);
-                if input.program == Program::Press && !self.barred_engine {
-                    let case = unbarred(&mut random, &case);
-                    input = press_input(&mut random, &case);
-                }
+                let input = input_for(&mut random, &case);
                 let expected = match input.program {
                     Program::Press => programs::press(&input.bytes),
                     Program::Replay => programs::replay(&input.bytes),
@@ -368,9 +355,6 @@ impl Programs {
             return Ok(());
         };
         let barred = case::read_front(input).is_ok_and(|(case, _)| case.has_barred());
-        if barred && program == Program::Press && !self.barred_engine {
-            return Ok(());
-        }
         answers(outside, &format!("{name}, program {program:?}"), input, expected)?;
         self.counts.note_output(input, expected);
         self.compared[program as usize] += 1;
@@ -384,7 +368,7 @@ impl Programs {
     fn batches(&mut self, seed: u64, end: &End) -> Result<(), Difference> {
         let mut index = 0;
         while self.engine.is_some() && !end.reached(index) {
-            let batch = calls::batch(seed, index, self.barred_engine);
+            let batch = calls::batch(seed, index);
             self.call(&format!("batch {index}"), &batch)?;
             index += 1;
         }

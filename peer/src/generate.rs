@@ -119,15 +119,6 @@ pub fn bar(random: &mut Random, case: &mut Case, bars: Bars) {
     }
 }
 
-/// The same table with other weights where it is barred.
-pub fn unbarred(random: &mut Random, case: &Case) -> Case {
-    let mut case = case.clone();
-    for weight in case.weights.iter_mut().filter(|weight| **weight == BARRED) {
-        *weight = *random.pick(&[0, 1, -9, -(START_LIMIT as i32)]);
-    }
-    case
-}
-
 /// Some way of barring, or none.
 fn some_bars(random: &mut Random) -> Bars {
     let percent = *random.pick(&[3, 10, 25, 50, 80]);

@@ -87,7 +87,7 @@ pub fn some_log(random: &mut Random, case: &Case) -> Vec<u8> {
     }
 }
 
-pub fn press_input(random: &mut Random, case: &Case) -> Input {
+fn press_input(random: &mut Random, case: &Case) -> Input {
     let mut bytes = case::write(case);
     if random.chance(1, 2) {
         bytes = damage(random, &bytes);

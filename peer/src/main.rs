@@ -55,7 +55,7 @@ const USAGE: &str = "usage: peer COMMAND [OPTIONS]
   untrimmed [--rounds N]      case file in, a log of untrimmed presses by 1 out
   check [--seconds N | --cases N] [--seed S] [--keep DIR] [--counts]
   compare [--seconds N] [--seed S] [--press PROGRAM] [--replay PROGRAM] [--engine PROGRAM]
-          [--barred-engine] [--keep DIR] [--counts]
+          [--keep DIR] [--counts]
   every [--links N] [--values D] [--pairs M] [--weights W] [--part P] [--seed S] [--keep DIR]
                               every table of a small size with weights up to W in size, or
                               one of P of them: its runs with their facts, and every void line

@@ -388,11 +388,9 @@ refused 11 19
     Ok(())
 }
 
-/// Every row, those with barred places only if asked for: name, table, rounds and limit,
-/// the run.
-pub fn runs(barred: bool) -> Vec<(&'static str, Case, (Rounds, u64), Run)> {
-    let more = if barred { barred_samples::rows() } else { &[] };
-    let rows = ROWS.iter().chain(more);
+/// Every row, those with barred places too: name, table, rounds and limit, the run.
+pub fn runs() -> Vec<(&'static str, Case, (Rounds, u64), Run)> {
+    let rows = ROWS.iter().chain(barred_samples::rows());
     rows.map(|row| (row.name, row.case(), row.run, row.expected())).collect()
 }
 

@@ -9,10 +9,11 @@ from picturing.columns import LINE
 from picturing.log import read_log
 from running import process
 from running.inputs import P4, case, line, with_line
+from running.stand_ins import says
 
 from .reasons import asked
 from .trial import cut, last_line, plain
-from .verdicts import NO_PLAN, read
+from .verdicts import NO_PLAN, read, summaries
 
 # Either link has one channel that is not barred, and these two may not go together; the same where another channel of link 0 is left, by 5
 # worse, and where the two go together, by 1 worse.
@@ -24,6 +25,12 @@ OTHER_PRESS = line(2, 0, 2, 0, 5) + line(3, 1) + line(3, 2) + line(4, 0, 0, 0, -
 # Two pairs apart: the second has a pair round, and then the first a void line.
 LATER = case(2, [[0, BARRED], [0, BARRED], [2, 0], [2, 0]], [(0, 1, [BARRED, 0, 0, 0]), (2, 3, [-3, 0, 0, 0])])
 LATER_LOG = line(1, 1, 0, 0, -2) + line(1, 1, 1, 0, -2) + line(4, 0, 0, 0, 2) + line(5, 0, 2) + line(3, 1) + line(3, 4)
+# A pair round, by which the pair's greatest weight is one with a barred channel, and then a press.
+PAIRED = case(2, [[3, 0], [2, BARRED]], [(0, 1, [-9, 0, 0, -4])])
+PAIRED_ROUND = line(1, 0, 0, 0, -3) + line(1, 0, 1, 0, -2) + line(4, 0, 0, 0, 3)
+PAIRED_LOG = PAIRED_ROUND + line(2, 0, 2, 0, 1) + line(3, 1) + line(3, 2) + line(4, 0, 0, 0, 2)
+# Four links, every two a pair, three channels, no two equal: no plan is lawful, but no channel is refuted.
+UNEQUAL = case(3, [[0, 0, 0]] * 4, [(low, high, [BARRED, 0, 0, 0] * 2 + [BARRED]) for low, high in itertools.combinations(range(4), 2)])
 
 
 def in_cases(trial):
@@ -101,7 +108,7 @@ def void_logs(trial):
         trial.ends(f"check void, {name}, behind its case", ended, 1, b"")
         trial.test(f"check void, {name}, behind its case, in words", b"holds a log as well as a case (`void`)" in ended.err, f"{ended.err}")
     ended = trial.ask("explain", trial.file("plan.case", NONE))
-    wanted = ["Barred: 2 channels of links and 1 combination of pairs", "no lawful plan's total is above it", "does not take barred channels"]
+    wanted = ["Barred: 2 channels of links and 1 combination of pairs", "no lawful plan's total is above it", "or may show that no lawful plan exists"]
     trial.test("explain a barred case", all(word in plain(ended.out) for word in wanted), f"{ended.out}")
     ended = trial.ask("explain", *trial.both(OTHER, OTHER_PRESS))
     trial.test("explain an accepted log of a barred case", b"No lawful plan's total is above -5." in ended.out, f"{ended.out}")
@@ -112,24 +119,47 @@ def sample(trial, name):
 
 
 def presses(trial):
-    """This tree's `press` turns barred cases back. What one prints that takes them is a log as any other, its void line too."""
-    ours = trial.file("plan.case", NONE)
-    ended = trial.ask("press", ours)
-    rows = ended.err.decode().splitlines()
-    trial.ends("press a barred case", ended, 1, b"")
-    good = len(rows) == 2 and rows[0] == "refused 8 10" and "the case is valid" in rows[1] and "does not take barred channels" in rows[1]
-    trial.test("press a barred case, the hint", good, f"{rows}")
-    for name, text, said in (("another case's 8", P4, "refused 8 10\n"), ("an 8 inside the case", NONE, "refused 8 4\n"), ("11", NONE, "refused 11 10\n")):
-        programs = trial.stand_ins.folder(press=f"cat > /dev/null; printf '{said}'\n")
-        ended = trial.ask("press", trial.file("plan.case", text), programs=programs)
-        trial.test(f"press {name}, no hint", ended.status == 1 and b"ceiling explain" in ended.err and b"barred" not in ended.err, f"{ended}")
-    programs = trial.stand_ins.folder(press=f"exec {trial.programs['peer']} press\n")
-    settled = "settled after 1 round: no lawful plan's total is above -5"
-    for name, text, log, said in (("void", NONE, VOID, NO_PLAN.decode().strip()), ("a press", OTHER, OTHER_PRESS, settled)):
-        to = os.path.join(trial.empty(), "to")
-        ended = trial.ask("press", trial.file("plan.case", text), "-o", to, programs=programs)
-        trial.ends(f"press by an engine that takes them, {name}", ended, 0, b"", trial.real("replay", text + log) + f"{said}\n".encode())
-        trial.test(f"press by an engine that takes them, {name}, the log", read(to) == log)
+    """Barred cases pressed to a ceiling and to void lines; each log is then checked, explained and drawn."""
+    for name, text, log in (
+        ("by a press", OTHER, OTHER_PRESS), ("by a pair round and a press", PAIRED, PAIRED_LOG), ("the valley", *sample(trial, "valley")),
+        ("void", NONE, VOID), ("the triangle", *sample(trial, "triangle")), ("void after a round", LATER, LATER_LOG),
+        ("settled without a lawful plan", UNEQUAL, b""),
+    ):
+        files = trial.file("plan.case", text), os.path.join(trial.empty(), "plan.log")
+        verdict = trial.real("replay", text + log)
+        summary = summaries(text, verdict)
+        trial.ends(f"press barred, {name}", trial.ask("press", files[0]), 0, log)
+        ended = trial.ask("press", files[0], "-o", files[1])
+        trial.ends(f"press barred -o, {name}", ended, 0, b"")
+        trial.test(f"press barred -o, {name}, the summary", ended.err in summary and verdict.split()[0] in (b"accepted", b"void"), f"{ended.err}")
+        trial.test(f"press barred -o, {name}, the log", read(files[1]) == log)
+        trial.ends(f"check pressed, {name}", trial.ask("check", *files), 0, verdict, NO_PLAN if verdict == b"void\n" else b"")
+        ended = trial.ask("explain", *files)
+        trial.ends(f"explain pressed, {name}", ended, 0, err=b"")
+        meaning = "No lawful plan exists" if verdict == b"void\n" else f"No lawful plan's total is above {verdict.split()[2].decode()}."
+        trial.test(f"explain pressed, {name}, its words", ended.out.startswith(verdict) and meaning in plain(ended.out), f"{ended.out}")
+        ended = trial.ask("picture", *files)
+        trial.ends(f"picture pressed, {name}", ended, 0)
+        trial.test(f"picture pressed, {name}, the judgement", last_line(ended.err) + b"\n" == verdict, f"{ended.err}")
+
+
+def false_voids(trial):
+    """A `press` that says void where it is not so: `replay` turns it back, no log is put in place, and nothing says that no plan is lawful."""
+    turned_back = b"ceiling: replay turned back the log that press made\n"
+    for name, text, log, number in (
+        ("another channel is left", OTHER, VOID, 16), ("a closed combination is left", WORSE, VOID, 16), ("nothing is barred", P4, VOID, 16),
+        ("a scope short", NONE, line(5, 0, 1) + line(3, 2), 10), ("nothing is refuted", UNEQUAL, line(5, 0, 1) + line(3, 1), 10),
+        ("cut off", NONE, VOID[:-LINE], 14), ("before a bound line", NONE, VOID + line(4), 2), ("after a round of another case", NONE, LATER_LOG, 5),
+    ):
+        path, to = trial.file("plan.case", text), os.path.join(trial.empty(), "to")
+        programs = trial.stand_ins.folder(press=says(log.decode()))
+        refusal = trial.real("replay", text + log)
+        trial.test(f"a false void line, {name}, its number", refusal.startswith(b"refused %d " % number), f"{refusal}")
+        trial.ends(f"press a false void line, {name}", trial.ask("press", path, "-o", to, programs=programs), 1, b"", turned_back + refusal)
+        trial.test(f"press a false void line, {name}, no log", os.listdir(os.path.dirname(to)) == [])
+        ended = trial.ask("press", path, programs=programs)
+        trial.ends(f"press a false void line, {name}, on standard output", ended, 1, err=turned_back + refusal)
+        trial.test(f"press a false void line, {name}, log lines at most", log.startswith(ended.out), f"{ended.out}")
 
 
 def score(links, pairs, values, plan):
@@ -182,6 +212,7 @@ def pages(trial):
     for name, text, log, void in (
         ("two links", NONE, VOID, [10, 11, 12]), ("the triangle", *sample(trial, "triangle"), [22, 23, 24, 25]),
         ("after a round", LATER, LATER_LOG, [22, 23, 24]), ("no void line", OTHER, OTHER_PRESS, []), ("the valley", *sample(trial, "valley"), []),
+        ("a pair round", PAIRED, PAIRED_LOG, []), ("no rounds", UNEQUAL, b"", []),
     ):
         files = trial.both(text, log)
         ended = trial.ask("picture", *files)
@@ -192,6 +223,14 @@ def pages(trial):
         found = [int(at) for at in re.findall(rb'<section class="block"><div class="said"><span class="no">(\d+)</span>', ended.out)]
         trial.test(f"picture {name}, the void line's lines", found == void, f"{found} instead of {void}")
         trial.test(f"picture {name}, void", (b"<h2>The void line</h2>" in ended.out) == bool(void) == (b"<dd>void</dd>" in ended.out))
+        table = read_case(text)
+        dashed = {int(scope) for scope in re.findall(rb'class="(?:link|pair) bars[^"]*" id="s(\d+)"', ended.out)}
+        trial.test(f"picture {name}, dashed", dashed == {scope for scope in range(table.scopes) if table.barred(scope)}, f"{dashed}")
+        rounds = verdict.startswith(b"void") and log.count(b"\n 4") > 0
+        shown = re.search(rb'id="void">([^<]*)<', ended.out)
+        trial.test(f"picture {name}, shown in the network", (b'id="show-void"' in ended.out.partition(b"<script")[0]) == rounds, f"{shown}")
+        if rounds:
+            trial.test(f"picture {name}, the void line carried", shown[1] == b'{"line": 3, "link": 0, "raised": [1, 4]}', f"{shown}")
         alone = process.on_file([os.path.join(trial.root, "scripts", "picture"), *files], b"")
         trial.test(f"scripts/picture {name}", alone.well and (b"<h2>The void line</h2>" in alone.printed) == bool(void), f"{alone.said}")
     ended = trial.ask("picture", *trial.both(NONE, VOID))
@@ -288,5 +327,5 @@ def conversions(trial):
 
 
 def tests(trial):
-    for part in (in_cases, in_logs, void_logs, presses, scores, pages, random_logs, conversions):
+    for part in (in_cases, in_logs, void_logs, presses, false_voids, scores, pages, random_logs, conversions):
         part(trial)

@@ -81,7 +81,7 @@ def tests(trial):
     path = trial.file("plan.case", case)
     programs = trial.stand_ins.folder(press=slow_press(trial, log))
     to = os.path.join(trial.empty(), "to")
-    summary = summaries(trial.real("replay", case + log))
+    summary = summaries(case, trial.real("replay", case + log))
     for name, arguments in (("press", ["press", path]), ("press -o", ["press", path, "-o", to])):
         ended, shown = on_terminal(trial, *arguments, programs=programs)
         good = ended.status == 0 and (read(to) if "-o" in arguments else ended.out) == log

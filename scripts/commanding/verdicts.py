@@ -73,10 +73,6 @@ def place(trial, name, words, files, before, at):
     trial.test(f"explain {name}, the mark", mark and len(mark[1]) + 1 == column, f"{words[:400]}")
 
 
-# Valid cases that the engine does not take.
-NOT_TAKEN = ("8-barred-value", "8-barred-pair-weight")
-
-
 def pressed(trial):
     """`press` prints the log, or the refusal on standard error; under its name a log is there whole or not at all."""
     for at, (name, data, printed) in enumerate(trial.samples("press")):
@@ -88,23 +84,25 @@ def pressed(trial):
             ended = trial.ask("press", case, *(["-o", to] if kept else []))
             if refused:
                 rows = ended.err.splitlines(keepends=True)
-                hint = b"does not take barred channels" if name in NOT_TAKEN else b"ceiling explain"
-                good = len(rows) == 2 and rows[0] == printed and hint in rows[1]
+                good = len(rows) == 2 and rows[0] == printed and b"ceiling explain" in rows[1]
                 trial.ends(title, ended, 1, b"")
                 trial.test(title + ", the refusal", good, f"{ended.err}")
                 trial.test(title + ", no file", not kept or os.listdir(os.path.dirname(to)) == [])
             else:
                 trial.ends(title, ended, 0, b"" if kept else printed)
-                trial.test(title + ", the summary", ended.err in summaries(trial.real("replay", data + printed)), f"{ended.err}")
+                trial.test(title + ", the summary", ended.err in summaries(data, trial.real("replay", data + printed)), f"{ended.err}")
                 trial.test(title + ", the file", not kept or read(to) == printed)
 
 
-def summaries(verdict):
-    """What `press` says for a verdict, the verdict itself first: one round may be said so."""
+def summaries(case, verdict):
+    """What `press` says of a case for a verdict, the verdict itself first: one round may be said so."""
+    if verdict == b"void\n":
+        return [verdict + NO_PLAN]
     rounds, ceiling = verdict.decode().split()[1:]
+    plan = "lawful plan" if re.search(rb"^1[45] ", case, re.M) else "plan"
     settled = {0: ["settled at once"], 1: ["settled after 1 round", "settled after 1 rounds"]}
     how = settled.get(int(rounds), [f"settled after {rounds} rounds"])
-    return [verdict + f"{one}: no plan's total is above {ceiling}\n".encode() for one in how]
+    return [verdict + f"{one}: no {plan}'s total is above {ceiling}\n".encode() for one in how]
 
 
 def read(path):

@@ -8,7 +8,7 @@ LONGEST = 250
 
 
 def network(case, marks):
-    """The drawing; `marks` gives scopes that are drawn in a style of their own."""
+    """The drawing; `marks` gives scopes that are drawn in a style of their own. What has something barred is dashed."""
     at = positions(case.n, case.pairs)
     radius = 17 if case.n <= 12 else 14 if case.n <= 24 else 11
     at = fit(at, WIDTH, HEIGHT, radius + 6)
@@ -23,7 +23,7 @@ def network(case, marks):
     for link in range(case.n):
         x, y = at[link]
         parts.append(
-            f'<g class="{style("link", link, marks)}" id="s{link}"><title>link {link}{bars(case, link, "channels")}</title>'
+            f'<g class="{style("link", link, case, marks)}" id="s{link}"><title>link {link}{bars(case, link, "channels")}</title>'
             f'<circle cx="{x:.1f}" cy="{y:.1f}" r="{radius}"/>'
             f'<text x="{x:.1f}" y="{y + radius * 0.34:.1f}" '
             f'font-size="{radius}">{link}</text></g>'
@@ -31,8 +31,8 @@ def network(case, marks):
     return "\n".join(parts + ["</svg>"])
 
 
-def style(name, scope, marks):
-    return f"{name} {marks[scope]}" if scope in marks else name
+def style(name, scope, case, marks):
+    return " ".join(filter(None, [name, "bars" if case.barred(scope) else "", marks.get(scope)]))
 
 
 def bars(case, scope, what):
@@ -45,7 +45,7 @@ def edge(pair, low, high, at, case, marks):
     (x1, y1), (x2, y2) = at[low], at[high]
     scope = case.n + pair
     return (
-        f'<line class="{style("pair", scope, marks)}" id="s{scope}" x1="{x1:.1f}" y1="{y1:.1f}" x2="{x2:.1f}" '
+        f'<line class="{style("pair", scope, case, marks)}" id="s{scope}" x1="{x1:.1f}" y1="{y1:.1f}" x2="{x2:.1f}" '
         f'y2="{y2:.1f}"><title>pair {pair} (scope {scope}): links {low} and {high}{bars(case, scope, "combinations")}'
         "</title></line>"
     )

@@ -1,5 +1,6 @@
 """The page: figures, network, fall of the ceiling, and the rounds beside the case sheet."""
 
+import json
 import os
 from html import escape
 
@@ -90,7 +91,7 @@ def picture(names, case, log, judgement=None):
         stop(log),
         drawings(case, log),
         rounds(case, log),
-        void_section(log),
+        void_section(log, carried_rounds(log) > 0),
         reading(case),
         data(case, log),
     ]
@@ -146,15 +147,16 @@ def stop(log):
 
 
 COLOURS = (
-    '<p class="legend"><span class="key pressed"></span>pressed link '
+    '<span class="key pressed"></span>pressed link '
     '<span class="key raised"></span>raised link or pair '
     '<span class="key shifted"></span>shifted pair '
-    '<span class="key emptied"></span>link emptied by a pair round, in the round chosen below</p>\n'
+    '<span class="key emptied"></span>link emptied by a pair round, in the round chosen below'
 )
 VOID_COLOURS = (
-    '<p class="legend"><span class="key pressed"></span>link of the void line '
-    '<span class="key raised"></span>link or pair that it raises</p>\n'
+    '<span class="key pressed"></span>link of the void line '
+    '<span class="key raised"></span>link or pair that it raises'
 )
+DASHED = '<span class="key bars"></span>something is barred: how much, under the pointer'
 AXIS = (
     '<p class="legend">The upright axis covers the fall only. '
     "Click on the curve to choose a round.</p>\n"
@@ -164,7 +166,9 @@ AXIS = (
 def drawings(case, log):
     some = log.rounds > 0
     void = None if some else log.void
-    legend = COLOURS if some else VOID_COLOURS if void else ""
+    chosen = COLOURS + (", or in the void line" if log.void else "")
+    keys = [*[chosen] * some, *[VOID_COLOURS] * (void is not None), *[DASHED] * case.bars]
+    legend = "".join(f'<p class="legend">{key}</p>\n' for key in keys)
     marks = {void.link: "pressed", **dict.fromkeys(void.raised, "raised")} if void else {}
     return (
         '<div class="drawings">\n<figure>\n<figcaption>The network: '
@@ -196,10 +200,15 @@ def rounds(case, log):
         f"</label><span>0 to {number(carried - 1)}</span>"
         '<button type="button" id="on">next \u2192</button>'
         '<label class="apart">round with line <input id="line" type="number" '
-        f'min="{log.lines.before}" max="{log.lines.before + log.ends[carried - 1] - 1}"></label>'
+        f'min="{log.lines.before}" max="{log.lines.before + last_line(log, carried)}"></label>'
         '<button type="button" id="unfold" class="apart">unfold all rows</button></form>\n'
         '<div id="view"></div>\n<h2>All rounds</h2>\n<div id="list"></div>'
     )
+
+
+def last_line(log, carried):
+    """The last line that the page carries, counted in the log."""
+    return log.void.line + len(log.void.raised) if log.void else log.ends[carried - 1] - 1
 
 
 def carried_rounds(log):
@@ -240,5 +249,6 @@ def data(case, log):
         f'<script type="text/plain" id="case">{case.data.decode("ascii")}</script>\n'
         f'<script type="text/plain" id="log">{log.data[:carried].decode("ascii")}</script>\n'
         f'<script type="application/json" id="pair-rounds">{pair_rounds}</script>\n'
+        f'<script type="application/json" id="void">{json.dumps(log.void and log.void._asdict())}</script>\n'
         f"<script>\n{part('rounds.js')}</script>"
     )

@@ -55,6 +55,8 @@ for (let line = 0; line < log.length / LINE; line++) {
 }
 const rounds = firstLines.length - 1;
 const pairRounds = new Set(JSON.parse(byId("pair-rounds").textContent));
+// The void line with which the log ends, or null: its line, its link and the scopes that it raises.
+const voidLine = JSON.parse(byId("void").textContent);
 
 // ---- moves
 
@@ -85,6 +87,17 @@ function greatest(table, scope) {
   let top = table[from];
   for (let place = from + 1; place < to; place++) top = Math.max(top, table[place]);
   return top;
+}
+
+function bars(table, scope) {
+  return table.slice(...span(scope)).filter((one) => one === BARRED).length;
+}
+
+// Whether a place of a pair uses a channel that is barred at its link.
+function barredEnd(table, place) {
+  const at = place - n * d;
+  const channels = [Math.floor((at % (d * d)) / d), at % d];
+  return pairEnds[Math.floor(at / (d * d))].some((link, end) => table[link * d + channels[end]] === BARRED);
 }
 
 // What is barred stays barred.
@@ -163,6 +176,10 @@ function scopeName(scope) {
   return `pair ${scope - n} (links ${low} and ${high})`;
 }
 
+function barsWords(table, scope) {
+  return bars(table, scope) ? `; ${number(bars(table, scope))} barred` : "";
+}
+
 function moveWords(move) {
   if (move.kind === 2) {
     return `Press link ${move.link} by ${number(move.amount)}, ${counted(move.raised.length, "scope")} raised`;
@@ -219,6 +236,7 @@ function shiftedRows(scope, before, after) {
     const words = change === 0 ? [] : [signed(change)];
     if (before[place] === top) words.unshift("active");
     if (scope >= n && after[place] === now) words.push("greatest now");
+    if (scope >= n && after[place] !== BARRED && barredEnd(after, place)) words.push("with a barred channel");
     return words.join(", ");
   });
 }
@@ -260,14 +278,13 @@ function block(lines, words, rows) {
 
 function pressBlocks(move, before, after, unfold) {
   const [changed, all] = touched(move.link, before, after);
-  const title = `Press link ${move.link}: ${changed} of ${counted(all, "channel")} active, lowered by ${number(move.amount)}`;
+  const lowered = `${changed} of ${counted(all, "channel")} active, lowered by ${number(move.amount)}`;
+  const title = `Press link ${move.link}: ${lowered}${barsWords(before, move.link)}`;
   const rows = folded(title, pressedRows(move.link, true, before, after), true);
   const blocks = [block([move.line], moveWords(move) + ".", rows)];
   move.raised.forEach((scope, k) => {
     const [up, of] = touched(scope, before, after);
-    const bars = before.slice(...span(scope)).filter((one) => one === BARRED).length;
-    const stay = bars ? `; ${number(bars)} barred` : "";
-    const head = `Raise ${scopeName(scope)}: ${up} of ${counted(of, "weight")} closed, raised by ${number(move.amount)}${stay}`;
+    const head = `Raise ${scopeName(scope)}: ${up} of ${counted(of, "weight")} closed, raised by ${number(move.amount)}${barsWords(before, scope)}`;
     const rows = pressedRows(scope, false, before, after);
     blocks.push(block([move.line + 1 + k], "", folded(head, rows, unfold)));
   });
@@ -289,23 +306,42 @@ function pairBlocks(moves, before, after) {
   const blocks = pairEnds[pair].map((link, end) => {
     const lines = moves.filter((move) => move.end === end).map((move) => move.line);
     const [changed, all] = touched(link, before, after);
-    const title = `Link ${link}: ${changed} of ${counted(all, "channel")} emptied into pair ${pair}`;
-    const words = lines.length ? "" : "No line: the link weighs 0 on every channel.";
+    const title = `Link ${link}: ${changed} of ${counted(all, "channel")} emptied into pair ${pair}${barsWords(before, link)}`;
+    const words = lines.length ? "" : `No line: the link weighs 0 on every channel${bars(before, link) ? " that is not barred" : ""}.`;
     return block(lines, words, folded(title, shiftedRows(link, before, after), true));
   });
-  const title = `Pair ${pair} takes up the weights of both links`;
+  const title = `Pair ${pair} takes up the weights of both links${barsWords(before, n + pair)}`;
   return [...blocks, block([], "", folded(title, shiftedRows(n + pair, before, after), true))];
 }
 
 function pairWords(pair, before, after) {
   const [low, high] = pairEnds[pair];
   const [first, second, third] = [low, high, n + pair].map((scope) => greatest(before, scope));
-  const best = greatest(after, n + pair);
+  const sum = first + second + third;
   return (
     `<p>A pair round of ${scopeName(n + pair)}: the whole weights of both links are moved into the pair, and no plan\u2019s total ` +
     `changes. The three greatest weights, ${number(first)} of link ${low}, ${number(second)} of link ${high} and ${number(third)} of the ` +
-    `pair, add up to ${number(first + second + third)}. They do not go together: whichever two channels the links take, the three weights ` +
-    `make ${number(best)} at most. The ceiling falls by the difference, ${number(first + second + third - best)}.</p>`
+    `pair, add up to ${number(sum)}. They do not go together: ${togetherWords(pair, after, sum)}</p>`
+  );
+}
+
+// What two channels bring at most. A greater weight of the pair, with a channel that is barred at its link, counts in the ceiling too.
+function togetherWords(pair, after, sum) {
+  const now = greatest(after, n + pair);
+  const [from] = span(n + pair);
+  const brought = [];
+  for (let place = from; place < from + d * d; place++) {
+    if (after[place] !== BARRED && !barredEnd(after, place)) brought.push(after[place]);
+  }
+  const best = Math.max(...brought);
+  const some = brought.length < d * d;
+  const most = brought.length
+    ? `whichever two channels the links ${some ? "may " : ""}take, the three weights make ${number(best)} at most.`
+    : "every two channels are barred, at a link or in the pair.";
+  if (best === now) return `${most} The ceiling falls by the difference, ${number(sum - now)}.`;
+  return (
+    `${most} The pair\u2019s greatest weight is ${number(now)} after the round, though: a combination with a barred channel counts in the ` +
+    `ceiling too. So the ceiling falls by ${number(sum - now)}.`
   );
 }
 
@@ -341,22 +377,37 @@ function layOut(round) {
 
 // ---- the drawings show the chosen round
 
-function mark(round) {
+function unmark() {
   for (const element of document.querySelectorAll("#network .link, #network .pair")) {
     element.classList.remove("pressed", "raised", "shifted", "emptied");
   }
+}
+
+function markRaised({ link, raised }) {
+  for (const scope of raised) byId("s" + scope).classList.add("raised");
+  byId("s" + link).classList.add("pressed");
+}
+
+function mark(round) {
+  unmark();
   const moves = movesOf(round);
   if (pairRounds.has(round)) for (const link of pairEnds[moves[0].pair]) byId("s" + link).classList.add("emptied");
   for (const move of moves) {
     if (move.kind === 1) byId("s" + (n + move.pair)).classList.add("shifted");
-    for (const scope of move.raised || []) byId("s" + scope).classList.add("raised");
-    if (move.kind === 2) byId("s" + move.link).classList.add("pressed");
+    else markRaised(move);
   }
   const { left, right, rounds: all } = byId("curve").dataset;
   const width = (right - left) / all;
   byId("chosen").setAttribute("x", Number(left) + round * width - (width < 3 ? 1.5 : 0));
   byId("chosen").setAttribute("width", Math.max(width, 3));
   byId("chosen").classList.toggle("wide", width > 12);
+}
+
+// In place of a round the network shows the void line, until a round is chosen again.
+function showVoid() {
+  unmark();
+  markRaised(voidLine);
+  byId("chosen").setAttribute("width", 0);
 }
 
 let shown = 0;
@@ -426,7 +477,18 @@ byId("choose").addEventListener("submit", (event) => event.preventDefault());
 byId("back").addEventListener("click", () => show(shown - 1));
 byId("on").addEventListener("click", () => show(shown + 1));
 byId("round").addEventListener("change", (event) => show(Math.floor(event.target.value)));
-byId("line").addEventListener("change", (event) => show(roundOfLine(Number(event.target.value))));
+byId("line").addEventListener("change", (event) => {
+  const line = Number(event.target.value);
+  if (!voidLine || line - sheetLines < voidLine.line) return show(roundOfLine(line));
+  showVoid();
+  byId("void-line").scrollIntoView();
+});
+if (voidLine) {
+  byId("show-void").addEventListener("click", () => {
+    showVoid();
+    byId("network").scrollIntoView();
+  });
+}
 byId("unfold").addEventListener("click", () => {
   for (const details of document.querySelectorAll("#view details")) details.open = true;
 });

@@ -25,8 +25,11 @@ def words(log):
     return said
 
 
-def section(log):
-    """The void line, where the log has one."""
+SHOW = '<p id="void-line"><button type="button" id="show-void">show it in the network</button></p>\n'
+
+
+def section(log, rounds):
+    """The void line, where the log has one; where the page has rounds too, the network shows it when it is asked to."""
     if log.void is None:
         return ""
     scopes = [log.void.link, *log.void.raised]
@@ -34,7 +37,7 @@ def section(log):
     unfold = sum(end - first for first, end in spans) <= MOST_OPEN
     blocks = [block(log, log.void.line + at, scope, unfold or at == 0) for at, scope in enumerate(scopes)]
     return (
-        f"<h2>The void line</h2>\n<p>{words(log)}</p>\n"
+        f'<h2>The void line</h2>\n<p>{words(log)}</p>\n{SHOW if rounds else ""}'
         '<div class="heads"><span><span class="no">line</span>of the log</span>'
         "<span>The rows of the case sheet that the line names</span></div>\n" + "\n".join(blocks)
     )

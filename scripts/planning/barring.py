@@ -8,7 +8,6 @@ from .moves import read_again
 from .rules import counted
 
 NO_PLAN = "no lawful plan exists: every plan uses something that is barred"
-NOT_YET = "the engine does not take barred channels (kinds 14 and 15) yet"
 VOID = b"5"
 
 
@@ -37,14 +36,9 @@ def none_above(front, ceiling):
     return f"no {'lawful ' if any(bars(front)) else ''}plan's total is above {ceiling}"
 
 
-def not_yet(front):
-    """That the engine turns a case back, where it does."""
-    return f"`ceiling press` turns it back: {NOT_YET}." if any(bars(front)) else ""
-
-
-def not_taken(front, refusal):
-    """Whether a refusal by `press` is the engine's of a valid case with barred channels: 8 at the line after the last."""
-    return refusal == b"refused 8 %d" % (len(front) // LINE) and any(bars(front))
+def pressing_words(front):
+    """What `ceiling press` can do with a case."""
+    return f"`ceiling press` lowers it{', or may show that no lawful plan exists' if any(bars(front)) else ''}."
 
 
 def void_words(case, source, first):

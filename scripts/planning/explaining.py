@@ -4,7 +4,7 @@ from picturing.case import read_case
 from picturing.columns import LINE, Lines, Refused
 
 from . import pair_rounds, standard
-from .barring import bars_words, capital, none_above, not_yet, void_words
+from .barring import bars_words, capital, none_above, pressing_words, void_words
 from .in_case import Sheet
 from .judging import judge, judge_case, line
 from .places import Place
@@ -56,7 +56,7 @@ def good_case(case, verdict):
     if verdict.accepted and verdict.first == 0:
         yield f"The case is valid: {size}."
         yield from bars_words(front)
-        yield f"Its ceiling at the start is {verdict.second}: {none_above(front, 'it')}. {not_yet(front) or '`ceiling press` lowers it.'}"
+        yield f"Its ceiling at the start is {verdict.second}: {none_above(front, 'it')}. {pressing_words(front)}"
         return
     yield f"The file holds a case ({size}) and after it a log. Other commands take the case alone."
     alone = front[: sheet.count * LINE]

@@ -1,7 +1,7 @@
 """`ceiling press`: the log of a case, with the judgement of `replay` on it."""
 
 from . import outputs
-from .barring import NO_PLAN, NOT_YET, none_above, not_taken
+from .barring import NO_PLAN, none_above
 from .judging import MOST, Judge, TurnedBack, line, why
 from .programs import Program, converse
 from .progress import Progress
@@ -12,7 +12,6 @@ from .standard import is_terminal, say
 # The most rounds that `press` makes.
 MOST_ROUNDS = 100_000
 REFUSED = b"refused"
-HINT = f"the case is valid, but {NOT_YET}; `ceiling check` judges logs of other engines"
 
 
 def run(options):
@@ -25,8 +24,7 @@ def run(options):
     finally:
         progress.clear()
     if press.refusal:
-        refusal = press.refusal.partition(b"\n")[0]
-        raise TurnedBack(refusal.decode("utf-8", "replace"), HINT if not_taken(case.front(), refusal) else why(case.name))
+        raise TurnedBack(press.refusal.partition(b"\n")[0].decode("utf-8", "replace"), why(case.name))
     verdict = press.judged.verdict()
     if verdict.refused:
         raise TurnedBack("ceiling: replay turned back the log that press made", line(verdict))

@@ -45,11 +45,15 @@ COMMANDS = {
         """\
 Runs `press` on the case. Its log goes to LOG, or to standard output. `replay` judges it
 meanwhile: LOG is put in place only where it is not refused. Its judgement is on standard
-error, `accepted ROUNDS CEILING`, and below it what that means. On a terminal a long run
-shows the rounds so far and the falling ceiling. Cases with barred channels are refused:
-the engine does not take them yet.""",
-        "0 accepted, 1 the case was refused (nothing is written; an older LOG stays), 2 otherwise",
-        ["ceiling press samples/valley.case -o valley.log", "ceiling press - < samples/triangle.case > triangle.log"],
+error, and below it what that means: `accepted ROUNDS CEILING`, or `void` where the log
+shows that no lawful plan exists, one that uses nothing barred. On a terminal a long run
+shows the rounds so far and the falling ceiling.""",
+        "0 accepted or void, 1 the case was refused (nothing is written; an older LOG stays), 2 otherwise",
+        [
+            "ceiling press samples/valley.case -o valley.log",
+            "ceiling press - < samples/triangle.case > triangle.log",
+            "ceiling press samples/triangle-barred.case -o void.log",
+        ],
     ),
     "check": (
         ["CASE", "LOG"],
@@ -129,9 +133,8 @@ Makes a case of a weighted CSP in toulbar2's text format. Costs are minimised th
 weight is minus a cost; how totals and costs belong together is said on standard error.
 Costs below 0 are refused, since programs read them differently. A cost at or above the
 file's upper bound forbids its combination. With --barred it becomes a barred one, and so
-do values that a variable does not have: exact, whatever the costs, but the engine does
-not take barred channels yet. Without it they weigh -1000000, and the file is refused
-where other weights could make up for that.
+do values that a variable does not have: exact, whatever the costs. Without it they weigh
+-1000000, and the file is refused where other weights could make up for that.
 The case goes to CASE, or to standard output.""",
         "0 converted, 1 the file cannot be converted (nothing is written), 2 otherwise",
         [

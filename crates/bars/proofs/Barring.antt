@@ -1,6 +1,6 @@
 -- On a table that was checked, with its greatest weights at hand, the answer is a void line's barring condition. Assumes nothing.
-use mathlib.Core.Path.{_≡_, sym, ap, subst, _∙_}
-use mathlib.Core.Bool.{Bool, not, _&&_, _||_}
+use mathlib.Core.Path.{_≡_, sym, subst, _∙_}
+use mathlib.Core.Bool.{Bool, not}
 use mathlib.Core.Logic.{⊎-elim}
 use mathlib.Core.List.{List}
 use Prim.Native.Nat.{ℕ, _≤_, _<_}
@@ -10,12 +10,12 @@ use lib.Dec.{T, T-not, not-T, eqb, eqb→eq, eqb-refl}
 use lib.ListN.{length}
 use borrow.Author.Tests.{le-ltb}
 use Rattle.integers.specs.Words.{any, all, eqZ, _⇒_}
-use Rattle.integers.specs.Tests.{same-test, is-true, either, and-left, and-right, and-intro, or-left, or-right, or-cases, imp-intro, imp-elim}
+use Rattle.integers.specs.Tests.{same-test, either, and-left, and-right, and-intro, or-left, or-right, or-cases, imp-intro, imp-elim}
 use Rattle.integers.specs.Lists.{_∈_, any-in, all-at, all-of}
 use Rattle.definitions.specs.declared.Case.{Case}
 use Rattle.definitions.specs.Rules.{rulesOf}
 use Rattle.definitions.specs.Case.{values, scopes, scopeCount, eachTuple, ownLength, weight, greatest, active, isBarred, barred}
-use Rattle.definitions.specs.Valid.{workingWeight, withinLimits}
+use Rattle.definitions.specs.Valid.{workingWeight}
 use Rattle.definitions.specs.Consistency.{forbidden}
 use Rattle.definitions.specs.Moves.{activeValues}
 use Rattle.definitions.specs.Replay.{allBarred}

@@ -5,12 +5,12 @@ ghost use mathlib.Core.Path.{_≡_};
 ghost use mathlib.Core.Bool.{not, _&&_, _||_};
 ghost use Prim.Native.Nat.{_+_, _≤_, _<_};
 ghost use lib.Dec.{eqb};
-ghost use lib.ListN.{length, getD};
-ghost use Rattle.integers.specs.Words.{any, eqZ};
+ghost use lib.ListN.{length};
+ghost use Rattle.integers.specs.Words.{any};
 ghost use Rattle.definitions.specs.Rules.{rulesOf};
 ghost use Rattle.definitions.specs.Case.{scopeCount, scopes};
 ghost use Rattle.tables.specs.Scopes.{Limited};
-ghost use Rattle.bars.specs.Bars.{isOpen, openIn, isAsked, someOpen, restBarred};
+ghost use Rattle.bars.specs.Bars.{isOpen, openIn, someOpen, restBarred};
 
 // The weight is not `best`, and not barred.
 fn is_open(weight: i64, best: i64) -> bool

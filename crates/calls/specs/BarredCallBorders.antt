@@ -3,16 +3,18 @@ use mathlib.Core.Path.{refl}
 use mathlib.Core.List.{List, [], _∷_, _++_}
 use Prim.Native.Nat.{ℕ, _+_}
 use lib.IntN.{ℤ, pos}
-use Rattle.integers.specs.Words.{minus}
+use Rattle.integers.specs.Words.{joined, minus}
 use Rattle.definitions.specs.Rules.{standard}
 use Rattle.definitions.specs.Answers.{Says, outcomeSays, figureSays, verdictSays, writtenSays, roundSays, runSays}
 use Rattle.definitions.specs.Engine.{engineNext, pairsNext}
 use Rattle.definitions.specs.Samples.{Input, given, couple, zeros}
 use Rattle.definitions.specs.Borders.{_is_, Hold, says, no, value, W, ones, l}
-use Rattle.definitions.specs.BarredBorders.{B, locked, patchy}
+use Rattle.definitions.specs.Programs.{bytesOf}
+use Rattle.definitions.specs.BarredBorders.{B, locked, patchy, voidLines}
+use Rattle.definitions.specs.BarredRuns.{late, overNoChoice, atBorder, byTwos, afterLate}
 use Rattle.calls.specs.Calls.{TableCall, WriteCall, objectiveAnswer, upperBoundAnswer, isActiveAnswer}
 use Rattle.calls.specs.Calls.{refutedAnswer, shiftCall, pressCall, writeCaseCall}
-use Rattle.calls.specs.EngineCalls.{RoundCall, RunCall, roundCall, runCall}
+use Rattle.calls.specs.EngineCalls.{RunCall, roundCall, runCall}
 
 -- link 0 is wholly barred
 abbrev closedLink : Input
@@ -87,7 +89,7 @@ pub written :
 unfolding writeCaseCall
 written = refl
 
--- ---- the engine takes no barred tuple
+-- ---- the engine
 
 -- the answer, the rounds, the bound, the table, the output and the log; one round: the answer, the table and the output
 pub engine :
@@ -97,17 +99,50 @@ pub engine :
     let ran : Input → ℕ → ℕ → Says × ℕ × ℤ × List ℤ × List ℕ × List ℕ =
     λ i limit room. told (runCall standard engineNext (i .case) limit (i .weights) (ones room))
     in
-    let paired : Input → Says × ℕ × ℤ × List ℤ × List ℕ × List ℕ =
-    λ i. told (runCall standard pairsNext (i .case) 5 (i .weights) (ones 216))
+    let paired : Input → ℕ → ℕ → Says × ℕ × ℤ × List ℤ × List ℕ × List ℕ =
+    λ i limit room. told (runCall standard pairsNext (i .case) limit (i .weights) (ones room))
     in
     let unmade : ℕ → Input → ℕ → Says × ℕ × ℤ × List ℤ × List ℕ × List ℕ = λ n i room. (no n, 0, pos 0, i .weights, ones room, []) in
-    let made : Input → Says × List ℤ × List ℕ =
-    λ i. let q = roundCall standard engineNext (i .case) (i .weights) (ones 216) in (roundSays (q .answer), q .table, q .out)
+    let made : Input → ℕ → Says × List ℤ × List ℕ =
+    λ i room. let q = roundCall standard engineNext (i .case) (i .weights) (ones room) in (roundSays (q .answer), q .table, q .out)
+    in
+    let voidText : List ℕ = joined (voidLines 0 (1 ∷ 2 ∷ [])) in
+    let voided : Says × ℕ × ℤ × List ℤ × List ℕ × List ℕ = (value (pos 2), 0, pos 2, locked .weights, voidText ++ ones 135, voidText) in
+    let pairText : List ℕ = bytesOf " 1   0   0   0          -3\n" ++ bytesOf " 1   0   1   0          -1\n" ++ l 4 0 0 0 5 in
+    let afterPair : List ℤ = pos 0 ∷ B ∷ zeros 2 ++ (pos 4 ∷ B ∷ pos 3 ∷ pos 5 ∷ []) in
+    let pressText : List ℕ = l 2 0 1 0 1 ++ l 3 2 0 0 0 ++ l 4 0 0 0 4 in
+    let afterPress : List ℤ = minus 1 ∷ B ∷ zeros 2 ++ (pos 5 ∷ B ∷ pos 4 ∷ pos 5 ∷ []) in
+    let lateVoid : List ℕ = joined (voidLines 0 (2 ∷ 4 ∷ [])) in
+    let lastVoid : List ℕ = joined (voidLines 0 (1 ∷ 3 ∷ [])) in
+    let lastBound : List ℕ = bytesOf " 4   0   0   0          -5\n" in
+    let threeRounds : List ℕ =
+    byTwos 1 4 ++ (l 2 0 2 0 1 ++ l 3 3 0 0 0 ++ l 3 4 0 0 0 ++ l 4 0 0 0 3) ++ (l 2 0 2 0 8 ++ l 3 3 0 0 0 ++ l 3 4 0 0 0 ++ lastBound)
+    in
+    let afterThree : List ℤ = minus 7 ∷ B ∷ pos 0 ∷ B ∷ zeros 2 ++ (B ∷ zeros 3 ++ (pos 2 ∷ pos 2 ∷ pos 2 ∷ pos 0 ∷ [])) in
+    let lastly : Says × ℕ × ℤ × List ℤ × List ℕ × List ℕ =
+    (value (pos 2), 3, minus 5, afterThree, lastVoid ++ lastBound ++ ones 162, threeRounds ++ lastVoid)
     in
     Hold
-    (ran patchy 5 216 is unmade 8 patchy 216 ∷ ran patchy 0 216 is unmade 8 patchy 216 ∷ ran patchy 5 215 is unmade 4 patchy 215
-    ∷ paired patchy is unmade 8 patchy 216 ∷ ran closedLink 5 216 is unmade 15 closedLink 216
+    (ran patchy 5 216 is (value (pos 0), 2, pos 4, afterPress, pressText ++ ones 135, pairText ++ pressText)
+    ∷ paired patchy 5 216 is (value (pos 0), 1, pos 5, afterPair, pairText ++ ones 135, pairText)
+    ∷ ran patchy 5 215 is unmade 4 patchy 215 ∷ ran closedLink 5 216 is unmade 15 closedLink 216
+    -- a void line is written also at limit 0, and by no run of pair rounds only
+    ∷ ran locked 5 216 is voided ∷ ran locked 0 216 is voided ∷ paired locked 0 216 is (value (pos 0), 0, pos 2, locked .weights, ones 216, [])
+    ∷ ran locked 0 215 is unmade 4 locked 215
+    -- after rounds, from the output's first byte; a pair round that comes first answers limit
+    ∷ ran overNoChoice 9 270 is lastly ∷ ran overNoChoice 3 270 is lastly
+    ∷ ran late 1 270 is (value (pos 2), 1, pos 2, afterLate, lateVoid ++ ones 189, byTwos 0 2 ++ lateVoid)
+    ∷ ran late 0 270 is (value (pos 1), 0, pos 4, late .weights, ones 270, [])
+    ∷ paired late 5 270 is (value (pos 0), 1, pos 2, afterLate, byTwos 0 2 ++ ones 189, byTwos 0 2)
+    -- 11 on a table with barred tuples
+    ∷ ran atBorder 5 216 is (no 11, 0, minus 499_999_995, atBorder .weights, ones 216, [])
+    ∷ ran atBorder 0 216 is (value (pos 1), 0, minus 499_999_995, atBorder .weights, ones 216, [])
     ∷ [])
-    × Hold (made locked is (no 8, locked .weights, ones 216) ∷ made closedLink is (no 15, closedLink .weights, ones 216) ∷ [])
+    × Hold
+    (made locked 216 is (says 0 (pos 81 ∷ []), locked .weights, voidText ++ ones 135)
+    ∷ made patchy 216 is (says 0 (pos 81 ∷ pos 5 ∷ []), afterPair, pairText ++ ones 135)
+    ∷ made closedLink 216 is (no 15, closedLink .weights, ones 216) ∷ made locked 215 is (no 4, locked .weights, ones 215)
+    ∷ made atBorder 216 is (no 11, atBorder .weights, ones 216)
+    ∷ [])
 unfolding roundCall runCall
 engine = (refl, refl)

@@ -23,7 +23,7 @@ use Rattle.checker.specs.declared.Due.{Due}
 use Rattle.checker.specs.declared.Replay.{Replay}
 use Rattle.definitions.specs.Rules.{Rules, scopesAtMost, scopePlaces}
 use Rattle.definitions.specs.Answers.{outcomeOf}
-use Rattle.definitions.specs.Case.{scopes, scopeCount, values, eachTuple, weight, active, barred}
+use Rattle.definitions.specs.Case.{scopes, scopeCount, values, active, barred}
 use Rattle.definitions.specs.Valid.{workingWeight}
 use Rattle.definitions.specs.Consistency.{allRefuted}
 use Rattle.definitions.specs.Moves.{plus, spared, onlyWhere, pressBy, activeValues}

@@ -167,28 +167,32 @@ span-back (Span.Refused x at) = refused-back x (Span.Part at 0) (λ y. Span.Refu
 pub span-same : (a b : Span) → spanSays a ≡ spanSays b → a ≡ b
 span-same = same-said spanSays spanFrom span-back
 
--- settled has no values
-abbrev roundWith : List ℤ → ℤ → Round
-roundWith [] bound = Round.Settled
-roundWith (z ∷ zs) bound = Round.Made (natAbs z) bound
+-- settled has no values, a void line one
+abbrev roundWith : List ℤ → Round
+roundWith [] = Round.Settled
+roundWith (z ∷ []) = Round.Void (natAbs z)
+roundWith (z ∷ y ∷ zs) = Round.Made (natAbs z) y
 
 abbrev roundFrom : Says → Round
-roundFrom s = from s (roundWith (s .values) (valueAt s 1)) Round.Refused
+roundFrom s = from s (roundWith (s .values)) Round.Refused
 
 round-back : (a : Round) → roundFrom (roundSays a) ≡ a
 round-back Round.Settled = refl
 round-back (Round.Made bytes bound) = refl
+round-back (Round.Void bytes) = refl
 round-back (Round.Refused x) = refused-back x _ Round.Refused
 
 pub round-same : (a b : Round) → roundSays a ≡ roundSays b → a ≡ b
 round-same = same-said roundSays roundFrom round-back
 
 abbrev runFrom : Says → RunAnswer
-runFrom s = from s (if eqZ (valueAt s 0) (pos 0) then RunAnswer.Settled else RunAnswer.Limit) RunAnswer.Refused
+runFrom s =
+    from s (if eqZ (valueAt s 0) (pos 0) then RunAnswer.Settled else if eqZ (valueAt s 0) (pos 1) then RunAnswer.Limit else RunAnswer.Void) RunAnswer.Refused
 
 run-back : (a : RunAnswer) → runFrom (runSays a) ≡ a
 run-back RunAnswer.Settled = refl
 run-back RunAnswer.Limit = refl
+run-back RunAnswer.Void = refl
 run-back (RunAnswer.Refused x) = refused-back x _ RunAnswer.Refused
 
 pub run-same : (a b : RunAnswer) → runSays a ≡ runSays b → a ≡ b

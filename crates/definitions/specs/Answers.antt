@@ -91,16 +91,18 @@ abbrev pub spanSays : Span → Says
 spanSays (Span.Part from to) = gives (pos from ∷ pos to ∷ [])
 spanSays (Span.Refused x at) = saysNoAt x at
 
--- settled has no values; a round its bytes and the upper bound
+-- settled has no values; a round its bytes and the upper bound; a void line its bytes
 abbrev pub roundSays : Round → Says
 roundSays Round.Settled = gives []
 roundSays (Round.Made bytes bound) = gives (pos bytes ∷ bound ∷ [])
+roundSays (Round.Void bytes) = gives (pos bytes ∷ [])
 roundSays (Round.Refused x) = saysNo x
 
--- settled is 0, limit is 1
+-- settled is 0, limit is 1, void is 2
 abbrev pub runSays : RunAnswer → Says
 runSays RunAnswer.Settled = gives (pos 0 ∷ [])
 runSays RunAnswer.Limit = gives (pos 1 ∷ [])
+runSays RunAnswer.Void = gives (pos 2 ∷ [])
 runSays (RunAnswer.Refused x) = saysNo x
 
 -- the first plan is 0, the second 1

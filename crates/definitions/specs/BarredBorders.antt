@@ -357,7 +357,6 @@ pub prints :
     ∷ replay (bytesOf " 1   0   0   0          -2\n" ∷ both) is bytesOf "refused 16 13\n"
     -- the case
     ∷ replayPrints Desk (l 10 1 1 0 0 ++ l 14 0 0 0 0) is bytesOf "refused 15 1\n" ∷ pressPrints Desk (l 10 1 1 0 0 ++ l 14 0 0 0 0) is bytesOf "refused 15 1\n"
-    -- the engine takes no barred tuple
-    ∷ pressPrints Desk (file patchy) is bytesOf "refused 8 10\n" ∷ pressPrints Desk (file locked ++ joined (x 1)) is bytesOf "refused 14 10\n"
+    ∷ pressPrints Desk (file locked ++ joined (x 1)) is bytesOf "refused 14 10\n"
     ∷ [])
 prints = refl

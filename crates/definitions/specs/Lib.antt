@@ -20,3 +20,4 @@ pub mod Samples
 pub mod Borders
 pub mod PairBorders
 pub mod BarredBorders
+pub mod BarredRuns

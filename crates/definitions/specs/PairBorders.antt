@@ -2,8 +2,7 @@
 -- with pair rounds only. Assumes nothing.
 use mathlib.Core.Path.{refl}
 use mathlib.Core.Bool.{true, false}
-use mathlib.Core.List.{List, [], _∷_, _++_}
-use Prim.Native.Nat.{ℕ}
+use mathlib.Core.List.{[], _∷_, _++_}
 use lib.IntN.{ℤ, pos}
 use Rattle.integers.specs.Words.{minus}
 use Rattle.definitions.specs.declared.Refusal.the-variants.{LeavesRange}

@@ -1,4 +1,4 @@
--- Document 01: what the programs `press` and `replay` print; document 02, change 2: `replay` on void lines. Assumes nothing.
+-- Document 01: what the programs `press` and `replay` print; document 02, change 2: void lines. Assumes nothing.
 use mathlib.Core.Bool.{Bool}
 use mathlib.Core.Option.{Option, none, some}
 use mathlib.Core.List.{List, [], _∷_, _++_}
@@ -15,14 +15,14 @@ use Rattle.definitions.specs.declared.CaseSize.{CaseSize}
 use Rattle.definitions.specs.declared.Judgement.{Judgement}
 use Rattle.definitions.specs.declared.RunAnswer.{RunAnswer}
 use Rattle.definitions.specs.declared.Refusal.{Refusal}
-use Rattle.definitions.specs.declared.Refusal.the-variants.{WeightOutOfRange, CutShort}
+use Rattle.definitions.specs.declared.Refusal.the-variants.{CutShort}
 use Rattle.definitions.specs.Rules.{rulesOf}
 use Rattle.definitions.specs.Refusals.{number}
 use Rattle.definitions.specs.Case.{upperBound}
 use Rattle.definitions.specs.Lines.{numberText, lineLength, linesIn, hasPart}
 use Rattle.definitions.specs.CaseFiles.{CaseCall, caseSize, readCase, readCaseAlone}
 use Rattle.definitions.specs.Replay.{State, fresh, after, answers, atEnd}
-use Rattle.definitions.specs.Engine.{RunOf, someBarred, engineNext, run}
+use Rattle.definitions.specs.Engine.{RunOf, engineNext, run}
 
 -- `press` makes at most so many rounds
 abbrev pub pressLimit : ℕ
@@ -78,10 +78,11 @@ judgeRead t call (FileAnswer.Read lines) =
 
 -- ---- `press`: a case alone, and the log of up to 100,000 rounds
 
--- a refusal by the engine counts as met at the line after the input's last
+-- a refusal by the engine counts as met at the line after the input's last; a void line is the end of the log
 abbrev pub pressEnd : ℕ → RunAnswer → List ℕ
 pressEnd at RunAnswer.Settled = []
 pressEnd at RunAnswer.Limit = []
+pressEnd at RunAnswer.Void = []
 pressEnd at (RunAnswer.Refused x) = refusedText x at
 
 abbrev pub pressRun : ℕ → RunOf → List ℕ
@@ -89,10 +90,7 @@ pressRun at q = joined (q .log) ++ pressEnd at (q .answer)
 
 abbrev pub pressRead : CaseCall → FileAnswer → List ℕ
 pressRead call (FileAnswer.Refused x at) = refusedText x at
-pressRead call (FileAnswer.Read lines) =
-    if someBarred (call .read .case) (call .table)
-    then refusedText WeightOutOfRange lines
-    else pressRun lines (run (rulesOf (call .read .case)) engineNext (call .read .case) pressLimit (call .table))
+pressRead call (FileAnswer.Read lines) = pressRun lines (run (rulesOf (call .read .case)) engineNext (call .read .case) pressLimit (call .table))
 
 -- ---- the programs' input is read under a rulebook
 

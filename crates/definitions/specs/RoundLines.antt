@@ -1,4 +1,4 @@
--- The lines of a round of moves: those of each move, and the bound line. Assumes nothing.
+-- The lines of a round of moves: those of each move, and the bound line; and those of a void line, which has none. Assumes nothing.
 use mathlib.Core.List.{List, [], _∷_, _++_, map}
 use Prim.Native.Nat.{ℕ}
 use lib.IntN.{ℤ, pos}
@@ -26,3 +26,11 @@ roundLines c moves after = joined (map moveLines moves) ++ (boundLine (upperBoun
 
 abbrev pub roundText : Rules → Case → List Move → List ℤ → List (List ℕ)
 roundText r c moves after = map (lineText (r .amountWidth)) (roundLines c moves after)
+
+-- ---- document 02, change 2
+
+abbrev pub linesOfVoid : ℕ → List ℕ → List Line
+linesOfVoid i raised = line 5 (pos i) (pos (length raised)) (pos 0) (pos 0) ∷ map raiseLine raised
+
+abbrev pub voidText : Rules → ℕ → List ℕ → List (List ℕ)
+voidText r i raised = map (lineText (r .amountWidth)) (linesOfVoid i raised)

@@ -119,9 +119,9 @@ pub record Coherent (r : Rules) : Type 0 where
   pub moving-fits : r .moving < 10 ^ (r .amountWidth - 1)
   pub bound-fits : scopesAtMost r * r .working < 10 ^ (r .amountWidth - 1)
   pub amount-fits : r .amountWidth ≤ 18
-  -- a count of rounds fits 64 bits, and is never used up from starting weights
+  -- a count of rounds fits 64 bits, and is never used up by rounds that each lower the upper bound of working weights
   pub rounds-fit : r .rounds < 2 ^ 63
-  pub rounds-enough : 2 * (scopesAtMost r * r .starting) ≤ r .rounds
+  pub rounds-enough : 2 * (scopesAtMost r * r .working) ≤ r .rounds
   -- the kinds are these
   pub known-kinds : r .kinds ≡ lineKinds
 

@@ -126,16 +126,18 @@ pub enum Span {
     Refused { refusal: Refusal, line: usize },
 }
 
-// The answer of one round of the engine: the bytes written and the bound, if one was made.
+// The answer of one round of the engine: the bytes written and the bound, if one was made; the bytes of a void line.
 pub enum Round {
     Settled,
     Made { bytes: usize, bound: i64 },
+    Void { bytes: usize },
     Refused(Refusal),
 }
 
 pub enum RunAnswer {
     Settled,
     Limit,
+    Void,
     Refused(Refusal),
 }
 

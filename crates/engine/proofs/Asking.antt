@@ -12,12 +12,11 @@ use Rattle.integers.specs.Words.{if_then_else_}
 use Rattle.definitions.specs.declared.Case.{Case}
 use Rattle.definitions.specs.Rules.{rulesOf, edgePlaces}
 use Rattle.definitions.specs.Case.{scopeCount}
-use Rattle.definitions.specs.Valid.{inWorking}
+use Rattle.definitions.specs.Valid.{workingWeight}
 use Rattle.definitions.specs.Consistency.{allRefuted}
 use Rattle.definitions.specs.Moves.{activeValues}
 use Rattle.calls.specs.Calls.{isRaised}
 use Rattle.theory.proofs.Validity.{Handed}
-use Rattle.pair_theory.proofs.Inside.{every-takes}
 use Rattle.tables.proofs.Answered.{limits-known}
 use Rattle.tables.specs.Scopes.{BestOf}
 use Rattle.arcs.specs.Active.{marksCall}
@@ -30,14 +29,14 @@ use Rattle.engine.specs.Search.{Prepared, Allowing}
 
 -- ---- what `active_marks` leaves
 
-pub marks-prepared : {c : Case} {w best : List ℤ} → Handed (rulesOf c) (inWorking (rulesOf c)) c w → BestOf c w best → (sets rows : List ℕ)
+pub marks-prepared : {c : Case} {w best : List ℤ} → Handed (rulesOf c) (workingWeight (rulesOf c)) c w → BestOf c w best → (sets rows : List ℕ)
     → c .n ≤ length sets
     → 16 * c .m ≤ length rows → Prepared c w (marksCall (rulesOf c) c w best sets rows .sets) (marksCall (rulesOf c) c w best sets rows .rows)
 marks-prepared h b sets rows room wide = record {
   handed = h;
-  acts-are = marked-sets b (every-takes h) sets rows room wide;
-  rows-long = marked-rows-long b (every-takes h) sets rows room wide;
-  rows-are = marked-rows b (every-takes h) sets rows room wide;
+  acts-are = marked-sets b h sets rows room wide;
+  rows-long = marked-rows-long b h sets rows room wide;
+  rows-are = marked-rows b h sets rows room wide;
 }
 
 -- ---- what is asked
@@ -63,7 +62,7 @@ module _ (c : Case) (w : List ℤ) {acts rows : List ℕ} (raised sets : List �
 
   bytes : Bytes c w R rows (edgesOf c raised) (take (c .n) sets)
   bytes =
-      let few : c .m ≤ edgePlaces = limits-known (every-takes (p .handed)) .edges-placed in record {
+      let few : c .m ≤ edgePlaces = limits-known (p .handed) .edges-placed in record {
         lowers = omega arith;
         uppers = omega arith;
         room = p .rows-long;
@@ -82,5 +81,5 @@ module _ (c : Case) (w : List ℤ) {acts rows : List ℕ} (raised sets : List �
       ≡ allRefuted c w R i (activeValues c w i)
   asked-says i g =
       ap (λ (values : ℕ). saysUnsupported (triedAnswer (c .lower) (c .upper) rows (edgesOf c raised) (take (c .n) sets) i values)) (p .acts-are i g)
-      ∙ ap saysUnsupported (tried-active c w (every-takes (p .handed)) R rows (edgesOf c raised) (take (c .n) sets) bytes i g)
+      ∙ ap saysUnsupported (tried-active c w (p .handed) R rows (edgesOf c raised) (take (c .n) sets) bytes i g)
       ∙ refuted-says (allRefuted c w R i (activeValues c w i))

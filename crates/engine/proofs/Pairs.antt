@@ -6,23 +6,19 @@ use mathlib.Core.List.{List}
 use Prim.Native.Nat.{ℕ, _≤_}
 use lib.IntN.{ℤ}
 use lib.ListN.{length}
-use Rattle.integers.specs.Words.{if_then_else_, isSome}
 use Rattle.definitions.specs.declared.Case.{Case}
 use Rattle.definitions.specs.declared.Round.{Round}
-use Rattle.definitions.specs.declared.RunAnswer.{RunAnswer}
 use Rattle.definitions.specs.Rules.{coherent, rulesOf}
-use Rattle.definitions.specs.Valid.{inWorking}
+use Rattle.definitions.specs.Valid.{workingWeight}
 use Rattle.definitions.specs.PairRounds.{pairRound, lowestPair}
-use Rattle.definitions.specs.Engine.{Next, nothing, round, chosen, pairNext, pressesNext, engineNext, makeNext, madeOf, atLimit, roundBytes}
+use Rattle.definitions.specs.Engine.{Next, nothing, round, chosen, pairNext, pressesNext, engineNext, makeNext, madeOf, roundBytes}
 use Rattle.calls.specs.EngineCalls.{RoundCall, roundMade, roundCall}
-use Rattle.theory.proofs.Shape.{Shape}
 use Rattle.theory.proofs.Validity.{Handed}
-use Rattle.press_theory.proofs.Gaps.{amount, next-press}
-use Rattle.pair_theory.proofs.Inside.{all-inside}
-use Rattle.pair_theory.proofs.Gains.{lowest-some}
 use Rattle.pair_theory.proofs.Rounded.{pairRounded}
+use Rattle.pair_theory.proofs.Passing.{rounded-handed}
 use Rattle.reach_theory.proofs.Next.{engine-next-nothing}
-use Rattle.engine_theory.proofs.Engine.{pairs as of-pair, pair-leads, engine-allowed}
+use Rattle.reach_theory.proofs.Counts.{lowest-ready}
+use Rattle.engine_theory.proofs.Engine.{pair-leads}
 use Rattle.engine_theory.proofs.Calls.{taken-iff, call-taken}
 use Rattle.pair_choice.specs.declared.Paired.{Paired}
 use Rattle.pair_choice.specs.PairChoice.{pairedOf}
@@ -52,28 +48,20 @@ module _ (c : Case) (w : List ℤ) where
     pub next-pairs : nextIn true (rulesOf c) c w ≡ nothing
     next-pairs = ap (λ (o : Option ℕ). pairNext c w o nothing) no-pair
 
-    pub next-settled : Shape c → chosen c w ≡ none → engineNext (rulesOf c) c w ≡ nothing
-    next-settled shape e = engine-next-nothing (rulesOf c) c w shape .1 (no-pair, e)
-
-    -- at its limit a run answers by whether a press is left
-    pub limit-press : Shape c → (o : Option ℕ) → chosen c w ≡ o
-        → (if isSome o then RunAnswer.Limit else RunAnswer.Settled) ≡ atLimit (engineNext (rulesOf c) c w)
-    limit-press shape none e = sym (ap atLimit (next-settled shape e))
-    limit-press shape (some i) e =
-        let (a, g) = amount c w shape e in
-        sym (ap atLimit (ap (λ (o : Option ℕ). pairNext c w o (pressesNext (rulesOf c) c w)) no-pair ∙ next-press (rulesOf c) c w e g))
+    pub next-settled : chosen c w ≡ none → engineNext (rulesOf c) c w ≡ nothing
+    next-settled e = engine-next-nothing (rulesOf c) c w .1 (no-pair, e)
 
 -- ---- the round of a pair
 
-module _ {c : Case} {w : List ℤ} {e : ℕ} (out : List ℕ) (h : Handed (rulesOf c) (inWorking (rulesOf c)) c w)
+module _ {c : Case} {w : List ℤ} {e : ℕ} (out : List ℕ) (h : Handed (rulesOf c) (workingWeight (rulesOf c)) c w)
     (long : roundBytes (rulesOf c) c ≤ length out) (which : lowestPair (rulesOf c) c w ≡ some e) where
   call-is : pairCall (rulesOf c) c w out e ≡ roundMade c w out (pairMade (rulesOf c) c w e)
-  call-is = pair-call-taken out h (lowest-some (rulesOf c) c w which .0) long
+  call-is = pair-call-taken out h (lowest-ready (coherent (c .rulebook)) h which .0) long
 
   pub pair-call : (pairs : Bool) → pairCall (rulesOf c) c w out e ≡ roundCall (rulesOf c) (nextIn pairs) c w out
   pair-call pairs =
       call-is
-      ∙ sym (call-taken (rulesOf c) (nextIn pairs) c w out (taken-iff (rulesOf c) (nextIn pairs) c w out (coherent (c .rulebook)) .1 (h, long))
+      ∙ sym (call-taken (rulesOf c) (nextIn pairs) c w out (taken-iff (rulesOf c) (nextIn pairs) c w out .1 (h, long))
       ∙ ap (λ (n : Next). roundMade c w out (makeNext (rulesOf c) c w n)) (next-pair c w which pairs))
 
   module _ {r : Round} {after : List ℤ} {written : List ℕ} (a : r ≡ pairCall (rulesOf c) c w out e .answer)
@@ -85,9 +73,10 @@ module _ {c : Case} {w : List ℤ} {e : ℕ} (out : List ℕ) (h : Handed (rules
       output = o ∙ ap (λ (u : RoundCall). u .out) d;
     }
 
-  pub pair-handed : {after : List ℤ} → after ≡ pairCall (rulesOf c) c w out e .table → Handed (rulesOf c) (inWorking (rulesOf c)) c after
+  pub pair-handed : {after : List ℤ} → after ≡ pairCall (rulesOf c) c w out e .table → Handed (rulesOf c) (workingWeight (rulesOf c)) c after
   pair-handed {after} t =
       let d : after ≡ pairRounded c w e =
       t ∙ ap (λ (u : RoundCall). u .table) (call-is
       ∙ ap (λ (v : Option (List ℤ)). roundMade c w out (madeOf (rulesOf c) c (pairRound c w e) v)) (pair-leads (coherent (c .rulebook)) h which)) in
-      rw d (all-inside (coherent (c .rulebook)) (engine-allowed (coherent (c .rulebook)) h (of-pair which)) h)
+      let (l, s, n, f) = lowest-ready (coherent (c .rulebook)) h which in
+      rw d (rounded-handed (coherent (c .rulebook)) h l n)

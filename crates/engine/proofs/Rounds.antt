@@ -1,17 +1,20 @@
--- What a call of the engine's round answers and leaves where no pair comes first, by what its press did. Assumes nothing.
+-- What a call of the engine's round answers and leaves where no pair comes first, by what its press did, or its void line. Assumes nothing.
 use mathlib.Core.Path.{_≡_, refl, sym, ap, ap₂, subst, _∙_}
 use mathlib.Core.Bool.{Bool, true, false, not, _&&_}
 use mathlib.Core.Option.{Option, none, some}
 use mathlib.Core.List.{List, [], _∷_, _++_, map, append-nil, List·Memᴰ·head, List·Memᴰ·tail}
-use Prim.Native.Nat.{ℕ, _+_, _*_, _≤_, _<_}
+use Prim.Native.Nat.{ℕ, _+_, _*_, _^_, _≤_, _<_}
 use native.Mathlib.Nat.{mul-le-mul-left}
 use native.Mathlib.Omega.{arith}
-use lib.IntN.{ℤ, negℤ, _+ℤ_}
-use lib.Dec.{T, eqb}
+use lib.IntN.{ℤ, pos, negℤ, _+ℤ_}
+use lib.Dec.{T, eqb, lit<}
+use lib.Signed.{mag}
 use lib.ListN.{length}
+use mir.Syntax.{w64}
+use mir.Val.{toZ, ofZ, hbits}
 use Rattle.integers.specs.Words.{if_then_else_, any, joined, isIn}
 use Rattle.integers.specs.Tests.{false-is, same-test}
-use Rattle.integers.specs.Linear.{flat, zs, _▸_}
+use Rattle.integers.specs.Linear.{flat, zs, _▸_, read-back}
 use Rattle.integers.specs.Lists.{_∈_, those-in, in-those, below-in, isIn-in}
 use Rattle.definitions.specs.declared.Case.{Case}
 use Rattle.definitions.specs.declared.Line.{Line}
@@ -23,34 +26,34 @@ use Rattle.definitions.specs.declared.Written.{Written}
 use Rattle.definitions.specs.Rules.{coherent, rulesOf}
 use Rattle.definitions.specs.Refusals.{_when_, firstOf}
 use Rattle.definitions.specs.Answers.{outcomeOf, unlessRefused}
-use Rattle.definitions.specs.Case.{scopes, scopeCount, active, upperBound}
-use Rattle.definitions.specs.Valid.{inWorking, workingWeight}
-use Rattle.definitions.specs.Moves.{activePress, onlyWhere, pressBy, activeValues, pressAmount, leavesRange}
+use Rattle.definitions.specs.Case.{scopes, scopeCount, active, barred, upperBound}
+use Rattle.definitions.specs.Valid.{workingWeight}
+use Rattle.definitions.specs.Moves.{activePress, onlyWhere, pressBy, spared, activeValues, pressAmount, leavesRange}
 use Rattle.definitions.specs.Lines.{lineLength, lineText, lineTooWide, overwritten}
 use Rattle.definitions.specs.PairRounds.{lowestPair}
-use Rattle.definitions.specs.Engine.{chosen, keptScopes, leastGap, Next, roundBytes, madeOf, makeNext, pairNext, pressesNext, engineNext}
-use Rattle.definitions.specs.RoundLines.{raiseLine, boundLine, roundLines, roundText}
+use Rattle.definitions.specs.Engine.{chosen, keptScopes, leastGap, Next, round, void, voided, roundBytes, madeOf, makeNext, pairNext, pressesNext, engineNext}
+use Rattle.definitions.specs.RoundLines.{raiseLine, boundLine, roundLines, roundText, voidText}
 use Rattle.calls.specs.Calls.{WriteCall, isRaised}
 use Rattle.calls.specs.EngineCalls.{RoundCall, roundMade, roundCall}
 use Rattle.theory.proofs.Validity.{Handed}
 use Rattle.theory.proofs.Places.{plus-cong}
-use Rattle.theory.proofs.Barred.{free-spared}
 use Rattle.theory.proofs.Rounds.{AllAllowed, all-handed, round-fits}
 use Rattle.press_theory.proofs.Trim.{chosen-some, kept-fewer}
-use Rattle.press_theory.proofs.Gaps.{amount-some, amount-most, next-press}
+use Rattle.press_theory.proofs.Gaps.{amount-some, amount-most, next-press, next-void}
 use Rattle.press_theory.proofs.Fall.{enginePressed, after-press}
-use Rattle.pair_theory.proofs.Inside.{every-takes, none-barred}
 use Rattle.engine_theory.proofs.Runs.{differ}
 use Rattle.engine_theory.proofs.Engine.{presses, engine-allowed}
 use Rattle.engine_theory.proofs.Calls.{taken-iff, call-taken}
 use Rattle.tables.specs.Scopes.{BestOf}
 use Rattle.tables.proofs.Answered.{limits-true}
+use Rattle.gaps.specs.Gaps.{noGap, elseNoGap}
+use Rattle.gaps.proofs.Amounts.{amount-less}
 use Rattle.changes.specs.Kept.{MarksOf, bestValues, lowerAndRaiseCall}
 use Rattle.changes.proofs.LoweringLaws.{lower-and-raise-is-press}
 use Rattle.changes.proofs.ValueLaws.{best-values-active}
-use Rattle.round_lines.specs.Press.{raisedBelow, pressLine, linesOfPress, writeAllCall}
-use Rattle.round_lines.proofs.Calls.{press-written}
-use Rattle.engine.specs.Rounds.{pressedBy, Pressed, roundWritten, MadeRound}
+use Rattle.round_lines.specs.Press.{raisedBelow, pressLine, linesOfPress, writeAllCall, writeVoidCall}
+use Rattle.round_lines.proofs.Calls.{press-written, void-written}
+use Rattle.engine.specs.Rounds.{pressedBy, Found, Pressed, roundWritten, MadeRound}
 
 -- ---- which way a press went
 
@@ -95,11 +98,11 @@ none-wide : (width : ℕ) (ls : List Line) → ((l : Line) → l ∈ ls → line
 none-wide width [] h = refl
 none-wide width (l ∷ ls) h = rw (h l (List·Memᴰ·head refl)) (none-wide width ls (λ k m. h k (List·Memᴰ·tail m)))
 
-module _ {c : Case} {w : List ℤ} {i : ℕ} {a : ℤ} (h : Handed (rulesOf c) (inWorking (rulesOf c)) c w) (which : chosen c w ≡ some i)
+module _ {c : Case} {w : List ℤ} {i : ℕ} {a : ℤ} (h : Handed (rulesOf c) (workingWeight (rulesOf c)) c w) (which : chosen c w ≡ some i)
     (least : leastGap c w i ≡ some a) where
   pub amount-within : T (pressAmount (rulesOf c) a)
   amount-within =
-      amount-some c w (h .shape) which least ▸ amount-most c w (h .shape) which least (rulesOf c) (h .in-range)
+      amount-some c w (h .shape) which least ▸ amount-most c w (h .shape) which least (rulesOf c) (coherent (c .rulebook)) (h .in-range)
       ▸ coherent (c .rulebook) .difference ▸ simp flat (omega zs)
 
   module _ (no-pair : lowestPair (rulesOf c) c w ≡ none) (raised : List ℕ) (same : raisedBelow raised (scopeCount c) ≡ keptScopes c w i) where
@@ -110,9 +113,10 @@ module _ {c : Case} {w : List ℤ} {i : ℕ} {a : ℤ} (h : Handed (rulesOf c) (
 
     pressed-is : pressedBy c i raised a w ≡ enginePressed c w i a
     pressed-is =
-        free-spared c w (none-barred (coherent (c .rulebook)) h) (pressBy c w i (activeValues c w i) (isRaised raised) a)
-        ∙ plus-cong c (pressBy c w i (activeValues c w i) (isRaised raised) a) w (pressBy c w i (activeValues c w i) (isIn (keptScopes c w i)) a) (λ x k l t.
-        ap (λ (b : Bool). onlyWhere (eqb x i && activeValues c w i k) (negℤ a) +ℤ onlyWhere (b && not (active c w x k l)) a) (kept-in x (t .scope)))
+        plus-cong c (spared c w (pressBy c w i (activeValues c w i) (isRaised raised) a)) w
+        (spared c w (pressBy c w i (activeValues c w i) (isIn (keptScopes c w i)) a)) (λ x k l t.
+        ap (λ (b : Bool). if barred c w x k l then pos 0 else
+        onlyWhere (eqb x i && activeValues c w i k) (negℤ a) +ℤ onlyWhere (b && not (active c w x k l)) a) (kept-in x (t .scope)))
 
     count-room : {n : ℕ} → roundBytes (rulesOf c) c ≤ n → lineLength (rulesOf c .amountWidth) * (length (raisedBelow raised (scopeCount c)) + 2) ≤ n
     count-room long =
@@ -125,11 +129,11 @@ module _ {c : Case} {w : List ℤ} {i : ℕ} {a : ℤ} (h : Handed (rulesOf c) (
           → roundCall (rulesOf c) engineNext c w out ≡ roundMade c w out
           (madeOf (rulesOf c) c (activePress c w i (keptScopes c w i) a ∷ []) (if b then none else some (enginePressed c w i a)))
       call-is b e =
-          call-taken (rulesOf c) engineNext c w out (taken-iff (rulesOf c) engineNext c w out (coherent (c .rulebook)) .1 (h, long))
+          call-taken (rulesOf c) engineNext c w out (taken-iff (rulesOf c) engineNext c w out .1 (h, long))
           ∙ ap (λ (n : Next). roundMade c w out (makeNext (rulesOf c) c w n))
           (ap (λ (o : Option ℕ). pairNext c w o (pressesNext (rulesOf c) c w)) no-pair ∙ next-press (rulesOf c) c w which least)
           ∙ ap (λ (o : Option (List ℤ)). roundMade c w out (madeOf (rulesOf c) c (activePress c w i (keptScopes c w i) a ∷ []) o))
-          (after-press c w (none-barred (coherent (c .rulebook)) h) i a (rulesOf c))
+          (after-press c w i a (rulesOf c))
           ∙ ap (λ (q : Bool). roundMade c w out
           (madeOf (rulesOf c) c (activePress c w i (keptScopes c w i) a ∷ []) (if q then none else some (enginePressed c w i a)))) e
 
@@ -160,7 +164,7 @@ module _ {c : Case} {w : List ℤ} {i : ℕ} {a : ℤ} (h : Handed (rulesOf c) (
         allows = engine-allowed (coherent (c .rulebook)) h (presses no-pair which least (false-is (leavesRange (rulesOf c) c w (enginePressed c w i a)) stays))
 
         pub done-handed : Handed (rulesOf c) (workingWeight (rulesOf c)) c after
-        done-handed = rw after-is (all-handed (coherent (c .rulebook)) allows (every-takes h))
+        done-handed = rw after-is (all-handed (coherent (c .rulebook)) allows h)
 
         abbrev linesMade : List Line
         linesMade = linesOfPress i (raisedBelow raised (scopeCount c)) a (upperBound c after)
@@ -172,7 +176,7 @@ module _ {c : Case} {w : List ℤ} {i : ℕ} {a : ℤ} (h : Handed (rulesOf c) (
 
         lines-fit : any (lineTooWide (rulesOf c .amountWidth)) linesMade ≡ false
         lines-fit = none-wide (rulesOf c .amountWidth) linesMade
-            (λ l m. round-fits (coherent (c .rulebook)) (every-takes h) allows (subst (λ (q : List Line). l ∈ q) lines-made m))
+            (λ l m. round-fits (coherent (c .rulebook)) h allows (subst (λ (q : List Line). l ∈ q) lines-made m))
 
         text-made : joined (map (lineText (rulesOf c .amountWidth)) linesMade)
             ≡ joined (roundText (rulesOf c) c (activePress c w i (keptScopes c w i) a ∷ []) (enginePressed c w i a))
@@ -189,7 +193,7 @@ module _ {c : Case} {w : List ℤ} {i : ℕ} {a : ℤ} (h : Handed (rulesOf c) (
               answer = Written.Bytes (length (joined (map (lineText (rulesOf c .amountWidth)) linesMade)));
               out = overwritten (joined (map (lineText (rulesOf c .amountWidth)) linesMade)) out;
             } =
-            press-written c out raised i a (upperBound c after) (limits-true (every-takes h)) room (count-room long) (chosen-some c w which .0) lines-fit in
+            press-written c out raised i a (upperBound c after) (limits-true h) room (count-room long) (chosen-some c w which .0) lines-fit in
             record {
               answer =
                   n ∙ ap (λ (z : ℤ). roundWritten (writeAllCall (rulesOf c) c out raised i a z .answer) z) e
@@ -201,3 +205,64 @@ module _ {c : Case} {w : List ℤ} {i : ℕ} {a : ℤ} (h : Handed (rulesOf c) (
                   ∙ ap (λ (q : WriteCall). q .out) u
                   ∙ ap (λ (l : List ℕ). overwritten l out) text-made ∙ sym (ap (λ (u : RoundCall). u .out) d);
             }
+
+-- ---- a void line
+
+module _ {c : Case} {w best : List ℤ} {raised : List ℕ} {i : ℕ} (f : Found c w best raised i) where
+  -- nothing sets a gap just where the least gap has the bits of noGap
+  module _ {z : ℤ} (small : mag z < 2 ^ hbits w64) (answer : z ≡ elseNoGap (leastGap c w i)) where
+    pub no-gap-bits : ofZ w64 z ≡ ofZ w64 (pos noGap) → leastGap c w i ≡ none
+    no-gap-bits b = go (leastGap c w i) refl
+      where
+        go : (o : Option ℤ) → leastGap c w i ≡ o → o ≡ none
+        go none e = refl
+        go (some a) e =
+            let d : z ≡ pos noGap = sym (read-back w64 z small) ∙ ap (toZ w64) b ∙ read-back w64 (pos noGap) (lit< tt) in
+            let g : z ≡ a = answer ∙ ap elseNoGap e in
+            absurd (amount-less (f .handed) (f .which) e ▸ d ▸ g ▸ simp flat (omega zs))
+
+    pub some-gap-bits : (ofZ w64 z ≡ ofZ w64 (pos noGap) → ⊥) → leastGap c w i ≡ some (toZ w64 (ofZ w64 z))
+    some-gap-bits n = go (leastGap c w i) refl
+      where
+        go : (o : Option ℤ) → leastGap c w i ≡ o → leastGap c w i ≡ some (toZ w64 (ofZ w64 z))
+        go none e = absurd (n (ap (ofZ w64) (answer ∙ ap elseNoGap e)))
+        go (some a) e = e ∙ ap some (sym (read-back w64 z small ∙ answer ∙ ap elseNoGap e))
+
+  pub next-pressed : {a : ℤ} → leastGap c w i ≡ some a → engineNext (rulesOf c) c w ≡ round (activePress c w i (keptScopes c w i) a ∷ [])
+  next-pressed least =
+      ap (λ (o : Option ℕ). pairNext c w o (pressesNext (rulesOf c) c w)) (f .no-pair) ∙ next-press (rulesOf c) c w (f .which) least
+
+  module _ (least : leastGap c w i ≡ none) where
+    pub next-voids : engineNext (rulesOf c) c w ≡ void i (keptScopes c w i)
+    next-voids = ap (λ (o : Option ℕ). pairNext c w o (pressesNext (rulesOf c) c w)) (f .no-pair) ∙ next-void (rulesOf c) c w (f .which) least
+
+    module _ (out : List ℕ) (long : roundBytes (rulesOf c) c ≤ length out) where
+      abbrev text : List ℕ
+      text = joined (voidText (rulesOf c) i (keptScopes c w i))
+
+      written-is : writeVoidCall (rulesOf c) c out raised i ≡ record { answer = Written.Bytes (length text); out = overwritten text out }
+      written-is =
+          let few : length (raisedBelow raised (scopeCount c)) + 1 ≤ scopeCount c =
+          omega (arith, ap length (f .kept), kept-fewer c w i (chosen-some c w (f .which) .0)) in
+          let most = mul-le-mul-left {m = length (raisedBelow raised (scopeCount c)) + 1} {n = scopeCount c} (lineLength (rulesOf c .amountWidth)) few in
+          void-written c out raised i (limits-true (f .handed)) (f .room) (omega arith) (chosen-some c w (f .which) .0)
+          ∙ ap (λ (xs : List ℕ). let t = joined (voidText (rulesOf c) i xs) in record { answer = Written.Bytes (length t); out = overwritten t out }) (f .kept)
+
+      void-call : roundCall (rulesOf c) engineNext c w out ≡ roundMade c w out (voided (voidText (rulesOf c) i (keptScopes c w i)))
+      void-call =
+          call-taken (rulesOf c) engineNext c w out (taken-iff (rulesOf c) engineNext c w out .1 (f .handed, long))
+          ∙ ap (λ (n : Next). roundMade c w out (makeNext (rulesOf c) c w n)) next-voids
+
+      pub void-unrefused : {x : Refusal} → Written.Refused x ≡ writeVoidCall (rulesOf c) c out raised i .answer → ⊥
+      void-unrefused e = let d = e ∙ ap (λ (q : WriteCall). q .answer) written-is in differ (cc)
+
+      pub void-made : {bytes : ℕ} {written : List ℕ} → Written.Bytes bytes ≡ writeVoidCall (rulesOf c) c out raised i .answer
+          → written ≡ writeVoidCall (rulesOf c) c out raised i .out → MadeRound false c w out w written (Round.Void bytes)
+      void-made {bytes} e o =
+          let d : Written.Bytes bytes ≡ Written.Bytes (length text) = e ∙ ap (λ (q : WriteCall). q .answer) written-is in
+          let n : bytes ≡ length text = cc in
+          record {
+            answer = ap Round.Void n ∙ sym (ap (λ (u : RoundCall). u .answer) void-call);
+            table = sym (ap (λ (u : RoundCall). u .table) void-call);
+            output = o ∙ ap (λ (q : WriteCall). q .out) written-is ∙ sym (ap (λ (u : RoundCall). u .out) void-call);
+          }

@@ -17,17 +17,18 @@ use Rattle.definitions.specs.declared.Run.{Run}
 use Rattle.definitions.specs.Rules.{coherent, rulesOf}
 use Rattle.definitions.specs.Answers.{outcomeOf}
 use Rattle.definitions.specs.Case.{upperBound}
-use Rattle.definitions.specs.Valid.{inWorking}
-use Rattle.definitions.specs.Engine.{Next, nothing, round, atLimit, roundBytes}
-use Rattle.calls.specs.EngineCalls.{RoundCall, RunCall, isLeaving, answerAtLimit, roundCall, boundAt, stopRun, goOn, runCallFrom, runCall}
+use Rattle.definitions.specs.Valid.{workingWeight}
+use Rattle.definitions.specs.Moves.{Move}
+use Rattle.definitions.specs.Engine.{nothing, round, void, roundBytes}
+use Rattle.calls.specs.EngineCalls.{RoundCall, RunCall, isLeaving, roundCall, boundAt, stopRun, goOn, endAtLimit, runCallFrom, runCall}
 use Rattle.theory.proofs.Validity.{Handed}
 use Rattle.engine_theory.proofs.Runs.{Lawful, differ, handed-on}
 use Rattle.engine_theory.proofs.Engine.{engine-lawful, pairs-lawful}
-use Rattle.engine_theory.proofs.Calls.{taken-iff, round-refused, run-refused, not-eleven, unmade-keeps}
-use Rattle.engine_theory.proofs.Round.{RoundIs, settles, makes, leaves, round-is, round-leaves}
+use Rattle.engine_theory.proofs.Calls.{taken-iff, round-refused, run-refused, not-eleven, unmade-table, unmade-output}
+use Rattle.engine_theory.proofs.Round.{RoundIs, settles, makes, voids, leaves, round-is, round-leaves}
 use Rattle.tables.proofs.Order.{outcome-done, outcome-refused}
 use Rattle.round_lines.specs.Asked.{roundRefusal}
-use Rattle.engine.specs.Rounds.{nextIn, MadeRound, RunIs, stoppedRun}
+use Rattle.engine.specs.Rounds.{nextIn, MadeRound, limitAnswer, limitOutput, LimitIs, RunIs, stoppedRun}
 
 abbrev pub runWith : RunAnswer → ℕ → ℤ → Run
 runWith answer rounds bound = record { answer = answer; rounds = rounds; bound = bound }
@@ -36,8 +37,8 @@ runWith answer rounds bound = record { answer = answer; rounds = rounds; bound =
 
 module _ (pairs : Bool) (c : Case) (w : List ℤ) (out : List ℕ) where
   pub asked-done : Outcome.Done ≡ outcomeOf (roundRefusal (rulesOf c) c w (length out) false)
-      → Handed (rulesOf c) (inWorking (rulesOf c)) c w × (roundBytes (rulesOf c) c ≤ length out)
-  asked-done e = taken-iff (rulesOf c) (nextIn pairs) c w out (coherent (c .rulebook)) .0 (outcome-done e)
+      → Handed (rulesOf c) (workingWeight (rulesOf c)) c w × (roundBytes (rulesOf c) c ≤ length out)
+  asked-done e = taken-iff (rulesOf c) (nextIn pairs) c w out .0 (outcome-done e)
 
   pub asked-refused : {x : Refusal} → Outcome.Refused x ≡ outcomeOf (roundRefusal (rulesOf c) c w (length out) false)
       → MadeRound pairs c w out w out (Round.Refused x)
@@ -63,60 +64,103 @@ lawful-in : (pairs : Bool) (c : Case) → Lawful (rulesOf c) (nextIn pairs) c
 lawful-in true c = pairs-lawful (coherent (c .rulebook)) c
 lawful-in false c = engine-lawful (coherent (c .rulebook)) c
 
-module _ {pairs : Bool} {c : Case} {w : List ℤ} {out : List ℕ} (h : Handed (rulesOf c) (inWorking (rulesOf c)) c w)
+module _ {pairs : Bool} {c : Case} {w : List ℤ} {out : List ℕ} (h : Handed (rulesOf c) (workingWeight (rulesOf c)) c w)
     (long : roundBytes (rulesOf c) c ≤ length out) where
   pub nothing-made : nextIn pairs (rulesOf c) c w ≡ nothing → MadeRound pairs c w out w out Round.Settled
-  nothing-made e = let (a, t, o) = go (round-is (rulesOf c) (nextIn pairs) c w out (coherent (c .rulebook)) h long) in
+  nothing-made e = let (a, t, o) = go (round-is (rulesOf c) (nextIn pairs) c w out h long) in
       record { answer = a; table = t; output = o }
     where
       go : {u : RoundCall} → RoundIs (rulesOf c) (nextIn pairs) c w out u → (Round.Settled ≡ u .answer) × (w ≡ u .table) × (out ≡ u .out)
       go (settles f) = (refl, refl, refl)
       go (makes m) = let d = m .comes in differ (cc)
+      go (voids f) = differ (cc)
       go (leaves f g) = differ (cc)
 
   module _ {after : List ℤ} {written : List ℕ} where
     settled-keeps : MadeRound pairs c w out after written Round.Settled → (after ≡ w) × (written ≡ out)
     settled-keeps p =
-        let a = p .answer in
-        let (t, o) = unmade-keeps (rulesOf c) (nextIn pairs) c w out (λ bytes bound d. differ (cc)) in
-        (p .table ∙ t, p .output ∙ o)
+        let a = p .answer in (
+          p .table ∙ unmade-table (rulesOf c) (nextIn pairs) c w out (λ bytes bound d. differ (cc)),
+          p .output ∙ unmade-output (rulesOf c) (nextIn pairs) c w out (λ bytes bound d. differ (cc)) (λ bytes d. differ (cc)),
+        )
+
+    void-keeps : {bytes : ℕ} → MadeRound pairs c w out after written (Round.Void bytes) → after ≡ w
+    void-keeps p = let a = p .answer in p .table ∙ unmade-table (rulesOf c) (nextIn pairs) c w out (λ bytes bound d. differ (cc))
 
     refused-keeps : {x : Refusal} → MadeRound pairs c w out after written (Round.Refused x) → (after ≡ w) × (written ≡ out) × (x ≡ LeavesRange)
     refused-keeps p =
-        let a = p .answer in
-        let (t, o) = unmade-keeps (rulesOf c) (nextIn pairs) c w out (λ bytes bound d. differ (cc)) in
-        (p .table ∙ t, p .output ∙ o, round-leaves (rulesOf c) (nextIn pairs) c w out (coherent (c .rulebook)) h long (sym a))
+        let a = p .answer in (
+          p .table ∙ unmade-table (rulesOf c) (nextIn pairs) c w out (λ bytes bound d. differ (cc)),
+          p .output ∙ unmade-output (rulesOf c) (nextIn pairs) c w out (λ bytes bound d. differ (cc)) (λ bytes d. differ (cc)),
+          round-leaves (rulesOf c) (nextIn pairs) c w out h long (sym a),
+        )
 
-    pub still-settled : MadeRound pairs c w out after written Round.Settled → Handed (rulesOf c) (inWorking (rulesOf c)) c after
+    pub still-settled : MadeRound pairs c w out after written Round.Settled → Handed (rulesOf c) (workingWeight (rulesOf c)) c after
     still-settled p = rw (settled-keeps p .0) h
 
-    pub still-refused : {x : Refusal} → MadeRound pairs c w out after written (Round.Refused x) → Handed (rulesOf c) (inWorking (rulesOf c)) c after
+    pub still-void : {bytes : ℕ} → MadeRound pairs c w out after written (Round.Void bytes) → Handed (rulesOf c) (workingWeight (rulesOf c)) c after
+    still-void p = rw (void-keeps p) h
+
+    pub still-refused : {x : Refusal} → MadeRound pairs c w out after written (Round.Refused x) → Handed (rulesOf c) (workingWeight (rulesOf c)) c after
     still-refused p = rw (refused-keeps p .0) h
 
     pub still-made : {bytes : ℕ} {bound : ℤ} → MadeRound pairs c w out after written (Round.Made bytes bound)
-        → Handed (rulesOf c) (inWorking (rulesOf c)) c after
-    still-made {bytes} {bound} p = rw (p .table) (go (round-is (rulesOf c) (nextIn pairs) c w out (coherent (c .rulebook)) h long) (sym (p .answer)))
+        → Handed (rulesOf c) (workingWeight (rulesOf c)) c after
+    still-made {bytes} {bound} p = rw (p .table) (go (round-is (rulesOf c) (nextIn pairs) c w out h long) (sym (p .answer)))
       where
         go : {u : RoundCall} → RoundIs (rulesOf c) (nextIn pairs) c w out u → u .answer ≡ Round.Made bytes bound
-            → Handed (rulesOf c) (inWorking (rulesOf c)) c (u .table)
+            → Handed (rulesOf c) (workingWeight (rulesOf c)) c (u .table)
         go (settles f) e = differ (cc)
+        go (voids f) e = differ (cc)
         go (leaves f g) e = differ (cc)
         go (makes m) e = handed-on (coherent (c .rulebook)) (lawful-in pairs c) m
 
--- at its limit a run answers by what comes next
-limit-answer : (pairs : Bool) {c : Case} {w : List ℤ} (out : List ℕ) → Handed (rulesOf c) (inWorking (rulesOf c)) c w
-    → roundBytes (rulesOf c) c ≤ length out
-    → answerAtLimit (roundCall (rulesOf c) (nextIn pairs) c w out .answer) ≡ atLimit (nextIn pairs (rulesOf c) c w)
-limit-answer pairs {c} {w} out h long = go (round-is (rulesOf c) (nextIn pairs) c w out (coherent (c .rulebook)) h long)
-  where
-    go : {u : RoundCall} → RoundIs (rulesOf c) (nextIn pairs) c w out u → answerAtLimit (u .answer) ≡ atLimit (nextIn pairs (rulesOf c) c w)
-    go (settles f) = sym (ap atLimit f)
-    go (makes m) = sym (ap atLimit (m .comes))
-    go (leaves f g) = sym (ap atLimit f)
+-- ---- at its limit a run ends by what comes next
 
-limit-bound : (pairs : Bool) (c : Case) (w : List ℤ) (n : Next) → boundAt (rulesOf c) (nextIn pairs) c (atLimit n) w ≡ upperBound c w
-limit-bound pairs c w nothing = refl
-limit-bound pairs c w (round moves) = refl
+module _ {pairs : Bool} {c : Case} {w : List ℤ} {out : List ℕ} (h : Handed (rulesOf c) (workingWeight (rulesOf c)) c w)
+    (long : roundBytes (rulesOf c) c ≤ length out) where
+  pub limit-round : {moves : List Move} → nextIn pairs (rulesOf c) c w ≡ round moves → LimitIs pairs c w out out RunAnswer.Limit
+  limit-round {moves} e = let (a, o) = go (round-is (rulesOf c) (nextIn pairs) c w out h long) in record { answer = a; output = o }
+    where
+      go : {u : RoundCall} → RoundIs (rulesOf c) (nextIn pairs) c w out u → (RunAnswer.Limit ≡ limitAnswer (u .answer))
+          × (out ≡ limitOutput (u .answer) (u .out) out)
+      go (settles f) = differ (cc)
+      go (makes m) = (refl, refl)
+      go (voids f) = differ (cc)
+      go (leaves f g) = (refl, refl)
+
+  pub limit-settled : nextIn pairs (rulesOf c) c w ≡ nothing → LimitIs pairs c w out out RunAnswer.Settled
+  limit-settled e = let (a, o) = go (round-is (rulesOf c) (nextIn pairs) c w out h long) in record { answer = a; output = o }
+    where
+      go : {u : RoundCall} → RoundIs (rulesOf c) (nextIn pairs) c w out u → (RunAnswer.Settled ≡ limitAnswer (u .answer))
+          × (out ≡ limitOutput (u .answer) (u .out) out)
+      go (settles f) = (refl, refl)
+      go (makes m) = let d = m .comes in differ (cc)
+      go (voids f) = differ (cc)
+      go (leaves f g) = differ (cc)
+
+  pub limit-void : {i : ℕ} {raised written : List ℕ} → nextIn pairs (rulesOf c) c w ≡ void i raised
+      → written ≡ roundCall (rulesOf c) (nextIn pairs) c w out .out
+      → LimitIs pairs c w out written RunAnswer.Void
+  limit-void {i} {raised} e f = let (a, o) = go (round-is (rulesOf c) (nextIn pairs) c w out h long) in record { answer = a; output = f ∙ o }
+    where
+      go : {u : RoundCall} → RoundIs (rulesOf c) (nextIn pairs) c w out u → (RunAnswer.Void ≡ limitAnswer (u .answer))
+          × (u .out ≡ limitOutput (u .answer) (u .out) out)
+      go (settles f) = differ (cc)
+      go (makes m) = let d = m .comes in differ (cc)
+      go (voids f) = (refl, refl)
+      go (leaves f g) = differ (cc)
+
+-- so it answers, and so leaves table and output
+limit-parts : (pairs : Bool) (c : Case) (w : List ℤ) (out : List ℕ) (done : ℕ) (log : List ℕ) {u : RoundCall}
+    → RoundIs (rulesOf c) (nextIn pairs) c w out u
+    → (stoppedRun c w (limitAnswer (u .answer)) done ≡ endAtLimit (rulesOf c) (nextIn pairs) c (u .answer) u done w out log .run)
+    × (w ≡ endAtLimit (rulesOf c) (nextIn pairs) c (u .answer) u done w out log .table)
+    × (limitOutput (u .answer) (u .out) out ≡ endAtLimit (rulesOf c) (nextIn pairs) c (u .answer) u done w out log .out)
+limit-parts pairs c w out done log (settles f) = (refl, refl, refl)
+limit-parts pairs c w out done log (makes m) = (refl, refl, refl)
+limit-parts pairs c w out done log (voids f) = (refl, refl, refl)
+limit-parts pairs c w out done log (leaves f g) = (refl, refl, refl)
 
 -- ---- the rounds of a run
 
@@ -139,7 +183,7 @@ module _ (pairs : Bool) (c : Case) (limit : ℕ) (first : List ℤ) (lent : List
     output = ap (λ (u : RunCall). u .out) e;
   }
 
-  module _ (done : ℕ) (w : List ℤ) (out : List ℕ) (h : Handed (rulesOf c) (inWorking (rulesOf c)) c w) (long : roundBytes (rulesOf c) c ≤ length out)
+  module _ (done : ℕ) (w : List ℤ) (out : List ℕ) (h : Handed (rulesOf c) (workingWeight (rulesOf c)) c w) (long : roundBytes (rulesOf c) c ≤ length out)
       (going : Going done w out) where
     module _ (more : done < limit) where
       -- what this round's answer leads to
@@ -169,6 +213,10 @@ module _ (pairs : Bool) (c : Case) (limit : ℕ) (first : List ℤ) (lent : List
           → RunIs pairs c limit first lent after written (stoppedRun c after RunAnswer.Settled done)
       settled-run p = let (a, o) = settled-keeps h long p in rw (a, o) (ended {answer = RunAnswer.Settled} refl (leads (p .answer)))
 
+      pub void-run : {after : List ℤ} {written : List ℕ} {bytes : ℕ} → MadeRound pairs c w out after written (Round.Void bytes)
+          → RunIs pairs c limit first lent after written (stoppedRun c after RunAnswer.Void done)
+      void-run p = rw (p .table, p .output) (ended {answer = RunAnswer.Void} refl (leads (p .answer)))
+
       pub run-leaves : {after : List ℤ} {written : List ℕ} {x : Refusal} → MadeRound pairs c w out after written (Round.Refused x)
           → RunIs pairs c limit first lent after written (stoppedRun c after (RunAnswer.Refused x) done)
       run-leaves {x = x} p =
@@ -176,9 +224,14 @@ module _ (pairs : Bool) (c : Case) (limit : ℕ) (first : List ℤ) (lent : List
           rw (a, o) (ended {answer = RunAnswer.Refused x} (ap (λ (y : Refusal). boundAt (rulesOf c) (nextIn pairs) c (RunAnswer.Refused y) w) e)
           (leads (p .answer)))
 
-    pub run-limits : limit ≤ done → RunIs pairs c limit first lent w out (stoppedRun c w (atLimit (nextIn pairs (rulesOf c) c w)) done)
-    run-limits e =
+    pub run-limits : limit ≤ done → {written : List ℕ} {answer : RunAnswer} → LimitIs pairs c w out written answer
+        → RunIs pairs c limit first lent w written (stoppedRun c w answer done)
+    run-limits e p =
         let z : 0 ≡ limit - done = omega arith in
-        ended {answer = atLimit (nextIn pairs (rulesOf c) c w)} (limit-bound pairs c w (nextIn pairs (rulesOf c) c w))
-        (ap (λ (a : RunAnswer). stopRun (rulesOf c) (nextIn pairs) c a done w out (going .0)) (sym (limit-answer pairs out h long))
-        ∙ ap (λ (k : ℕ). runCallFrom (rulesOf c) (nextIn pairs) c k done w out (going .0)) z ∙ going .1)
+        let d = ap (λ (k : ℕ). runCallFrom (rulesOf c) (nextIn pairs) c k done w out (going .0)) z ∙ going .1 in
+        let (a, t, o) = limit-parts pairs c w out done (going .0) (round-is (rulesOf c) (nextIn pairs) c w out h long) in
+        record {
+          run = ap (λ (a : RunAnswer). stoppedRun c w a done) (p .answer) ∙ a ∙ ap (λ (u : RunCall). u .run) d;
+          table = t ∙ ap (λ (u : RunCall). u .table) d;
+          output = p .output ∙ o ∙ ap (λ (u : RunCall). u .out) d;
+        }

@@ -12,7 +12,7 @@ use Rattle.integers.specs.Words.{if_then_else_, those}
 use Rattle.definitions.specs.declared.Case.{Case}
 use Rattle.definitions.specs.Rules.{rulesOf}
 use Rattle.definitions.specs.Case.{scopes, scopeCount}
-use Rattle.definitions.specs.Valid.{inWorking}
+use Rattle.definitions.specs.Valid.{workingWeight}
 use Rattle.definitions.specs.Consistency.{allRefuted}
 use Rattle.definitions.specs.Moves.{activeValues}
 use Rattle.definitions.specs.Engine.{chosen, keptScopes}
@@ -28,7 +28,7 @@ ActiveIn c w acts = (j : ℕ) → j < c .n → getD acts j 0 ≡ activeSet c w j
 
 -- what is prepared of a table: the active values of each variable, and the active partners on each edge
 pub record Prepared (c : Case) (w : List ℤ) (acts rows : List ℕ) : Type 0 where
-  pub handed : Handed (rulesOf c) (inWorking (rulesOf c)) c w
+  pub handed : Handed (rulesOf c) (workingWeight (rulesOf c)) c w
   pub acts-are : ActiveIn c w acts
   pub rows-long : 16 * c .m ≤ length rows
   pub rows-are : (e p : ℕ) → e < c .m → p < 16 → getD rows (16 * e + p) 0 ≡ activeRow c w e p

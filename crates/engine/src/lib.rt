@@ -1,5 +1,5 @@
-// The engine (document 01, "The engine's round"; document 02, change 1): one round, and the run that makes rounds one after another, or pair
-// rounds only.
+// The engine (document 01, "The engine's round"; document 02, changes 1 and 2): one round or a void line, and the run that makes rounds one after
+// another, or pair rounds only.
 mod choosing;
 mod guess;
 mod trim;
@@ -9,7 +9,6 @@ use choice::Chosen;
 use definitions::Case;
 use definitions::Figure;
 use definitions::Outcome;
-use definitions::Refusal;
 use definitions::Round;
 use definitions::Run;
 use definitions::RunAnswer;
@@ -25,29 +24,27 @@ ghost use Prim.Native.Nat.{_*_, _≤_, _<_};
 ghost use lib.Dec.{T};
 ghost use lib.IntN.{ℤ};
 ghost use lib.ListN.{length};
-ghost use Rattle.integers.specs.Words.{isSome};
 ghost use Rattle.definitions.specs.Rules.{rulesOf, variablePlaces, edgePlaces};
 ghost use Rattle.definitions.specs.Case.{scopeCount};
-ghost use Rattle.definitions.specs.Valid.{inWorking};
+ghost use Rattle.definitions.specs.Valid.{workingWeight};
 ghost use Rattle.definitions.specs.Moves.{pressAmount};
 ghost use Rattle.definitions.specs.PairRounds.{lowestPair};
-ghost use Rattle.definitions.specs.Engine.{chosen, keptScopes, leastGap, atLimit, roundBytes, engineNext, pairsNext};
+ghost use Rattle.definitions.specs.Engine.{chosen, leastGap, roundBytes, engineNext, pairsNext};
 ghost use Rattle.calls.specs.EngineCalls.{roundCall, runCall};
 ghost use Rattle.theory.proofs.Validity.{Handed};
-ghost use Rattle.tables.specs.Scopes.{Limited, BestOf};
+ghost use Rattle.tables.specs.Scopes.{BestOf};
+ghost use Rattle.gaps.specs.Gaps.{elseNoGap};
 ghost use Rattle.engine.specs.Search.{Prepared, AllRaised, FoundIs};
-ghost use Rattle.round_lines.specs.Press.{raisedBelow, writeAllCall};
+ghost use Rattle.round_lines.specs.Press.{writeAllCall};
 ghost use Rattle.pair_choice.specs.PairChoice.{pairedOf};
-ghost use Rattle.engine.specs.Rounds.{nextIn, Pressed, PressMade, roundWritten, MadeRound, RunIs, stoppedRun};
+ghost use Rattle.engine.specs.Rounds.{Found, Pressed, PressMade, roundWritten, MadeRound, LimitIs, RunIs, stoppedRun};
 
 // ---- the amount
 
+// The least gap, gaps::NO_GAP where neither the kept scopes nor the variable's own scope set one.
 fn least_gap(case: Case, table: &[i64], best: &[i64], raised: &[u8], variable: usize) -> i64
-    requires { ⌜ Handed (rulesOf case) (inWorking (rulesOf case)) case (now table) ⌝ }
-    requires { ⌜ BestOf case (now table) (now best) ⌝ }
-    requires { ⌜ scopeCount case ≤ length (now raised) ⌝ }
-    requires { ⌜ (chosen case (now table) ≡ some variable) × (raisedBelow (now raised) (scopeCount case) ≡ keptScopes case (now table) variable) ⌝ }
-    ensures { λ r. ⌜ leastGap case (now (table .entry)) variable ≡ some r ⌝ }
+    requires { ⌜ Found case (now table) (now best) (now raised) variable ⌝ }
+    ensures { λ r. ⌜ r ≡ elseNoGap (leastGap case (now (table .entry)) variable) ⌝ }
 {
     let gap = gaps::least_gap(case, table, best, raised, variable);
     match gap {
@@ -60,13 +57,13 @@ fn least_gap(case: Case, table: &[i64], best: &[i64], raised: &[u8], variable: u
 
 // Writes the marks of a table, for the searches, and answers the lowest pair whose round comes before a press.
 fn prepare(case: Case, table: &[i64], best: &[i64], acts: &mut [u8], rows: &mut [u8]) -> Paired
-    requires { ⌜ Handed (rulesOf case) (inWorking (rulesOf case)) case (now table) × BestOf case (now table) (now best) ⌝ }
+    requires { ⌜ Handed (rulesOf case) (workingWeight (rulesOf case)) case (now table) × BestOf case (now table) (now best) ⌝ }
     requires { ⌜ (case .n ≤ length (now acts)) × (16 * case .m ≤ length (now rows)) ⌝ }
     ensures { λ r. ⌜ (r ≡ pairedOf (lowestPair (rulesOf case) case (now (table .entry))))
         × Prepared case (now (table .entry)) (now (acts .exit)) (now (rows .exit)) ⌝ }
 {
     arcs::active_marks(case, table, best, acts, rows);
-    pair_choice::lowest_pair(case, table, acts, rows)
+    pair_choice::lowest_pair(case, table, best, acts, rows)
 }
 
 fn press(
@@ -77,7 +74,7 @@ fn press(
     variable: usize,
     amount: i64,
 ) -> Outcome
-    requires { ⌜ Handed (rulesOf case) (inWorking (rulesOf case)) case (now table) ⌝ }
+    requires { ⌜ Handed (rulesOf case) (workingWeight (rulesOf case)) case (now table) ⌝ }
     requires { ⌜ BestOf case (now table) (now best) ⌝ }
     requires { ⌜ (scopeCount case ≤ length (now raised)) × (variable < case .n) × T (pressAmount (rulesOf case) amount) ⌝ }
     ensures { λ r. ⌜ Pressed case variable (now (raised .entry)) amount (now (table .entry)) (now (table .exit)) (now (best .exit)) r ⌝ }
@@ -125,7 +122,7 @@ fn write_pressed(
     }
 }
 
-// The press of the chosen variable, and its lines.
+// The press of the chosen variable by its least gap, and its lines.
 fn press_round(
     case: Case,
     table: &mut [i64],
@@ -133,21 +130,50 @@ fn press_round(
     best: &mut [i64],
     raised: &[u8],
     variable: usize,
+    amount: i64,
 ) -> Round
-    requires { ⌜ Handed (rulesOf case) (inWorking (rulesOf case)) case (now table) ⌝ }
-    requires { ⌜ BestOf case (now table) (now best) ⌝ }
-    requires { ⌜ (scopeCount case ≤ length (now raised)) × (roundBytes (rulesOf case) case ≤ length (now out)) ⌝ }
-    requires { ⌜ lowestPair (rulesOf case) case (now table) ≡ none ⌝ }
-    requires { ⌜ (chosen case (now table) ≡ some variable) × (raisedBelow (now raised) (scopeCount case) ≡ keptScopes case (now table) variable) ⌝ }
+    requires { ⌜ Found case (now table) (now best) (now raised) variable × (leastGap case (now table) variable ≡ some amount) ⌝ }
+    requires { ⌜ roundBytes (rulesOf case) case ≤ length (now out) ⌝ }
     ensures { λ r. ⌜ MadeRound false case (now (table .entry)) (now (out .entry)) (now (table .exit)) (now (out .exit)) r
         × BestOf case (now (table .exit)) (now (best .exit)) ⌝ }
 {
-    let amount = least_gap(case, table, best, raised, variable);
     let pressed = press(case, table, best, raised, variable, amount);
     match pressed {
         Outcome::Refused(refusal) => Round::Refused(refusal),
         Outcome::Done => write_pressed(case, out, best, raised, variable, amount),
     }
+}
+
+// The void line of the chosen variable, where nothing sets a gap.
+fn void_line(case: Case, out: &mut [u8], raised: &[u8], variable: usize) -> Round
+    requires { ⌜ roundBytes (rulesOf case) case ≤ length (now out) ⌝ }
+    ensures { λ r. ⌜ ((w best : List ℤ) → Found case w best (now (raised .entry)) variable → leastGap case w variable ≡ none
+        → MadeRound false case w (now (out .entry)) w (now (out .exit)) r) ⌝ }
+{
+    let written = round_lines::write_void(case, out, raised, variable);
+    match written {
+        Written::Refused(refusal) => Round::Refused(refusal),
+        Written::Bytes(bytes) => Round::Void { bytes },
+    }
+}
+
+fn press_or_void(
+    case: Case,
+    table: &mut [i64],
+    out: &mut [u8],
+    best: &mut [i64],
+    raised: &[u8],
+    variable: usize,
+) -> Round
+    requires { ⌜ Found case (now table) (now best) (now raised) variable × (roundBytes (rulesOf case) case ≤ length (now out)) ⌝ }
+    ensures { λ r. ⌜ MadeRound false case (now (table .entry)) (now (out .entry)) (now (table .exit)) (now (out .exit)) r
+        × BestOf case (now (table .exit)) (now (best .exit)) ⌝ }
+{
+    let amount = least_gap(case, table, best, raised, variable);
+    if amount == gaps::NO_GAP {
+        return void_line(case, out, raised, variable);
+    }
+    press_round(case, table, out, best, raised, variable, amount)
 }
 
 // The variable to press, and the scopes to raise.
@@ -167,7 +193,7 @@ fn search(case: Case, acts: &[u8], rows: &[u8], raised: &mut [u8]) -> Chosen
     }
 }
 
-// A press and its lines, where no pair comes first.
+// A press and its lines, or a void line, where no pair comes first.
 fn press_next(
     case: Case,
     table: &mut [i64],
@@ -176,7 +202,7 @@ fn press_next(
     acts: &[u8],
     rows: &[u8],
 ) -> Round
-    requires { ⌜ Handed (rulesOf case) (inWorking (rulesOf case)) case (now table) × BestOf case (now table) (now best) ⌝ }
+    requires { ⌜ Handed (rulesOf case) (workingWeight (rulesOf case)) case (now table) × BestOf case (now table) (now best) ⌝ }
     requires { ⌜ roundBytes (rulesOf case) case ≤ length (now out) ⌝ }
     requires { ⌜ Prepared case (now table) (now acts) (now rows) × (case .n ≤ length (now acts)) ⌝ }
     requires { ⌜ lowestPair (rulesOf case) case (now table) ≡ none ⌝ }
@@ -187,13 +213,13 @@ fn press_next(
     let found = search(case, acts, rows, &mut raised);
     match found {
         Chosen::Nothing => Round::Settled,
-        Chosen::Variable(i) => press_round(case, table, out, best, &raised, i),
+        Chosen::Variable(i) => press_or_void(case, table, out, best, &raised, i),
     }
 }
 
 // Each scope's greatest weight.
 fn greatest_of(case: Case, table: &[i64], best: &mut [i64])
-    requires { ⌜ Handed (rulesOf case) (inWorking (rulesOf case)) case (now table) × (scopeCount case ≤ length (now best)) ⌝ }
+    requires { ⌜ Handed (rulesOf case) (workingWeight (rulesOf case)) case (now table) × (scopeCount case ≤ length (now best)) ⌝ }
     ensures { λ _. ⌜ BestOf case (now (table .entry)) (now (best .exit)) ⌝ }
 {
     tables::greatest_weights(case, table, best);
@@ -201,7 +227,7 @@ fn greatest_of(case: Case, table: &[i64], best: &mut [i64])
 
 // The round of the lowest pair.
 fn pair_round(case: Case, table: &mut [i64], out: &mut [u8], best: &mut [i64], edge: usize) -> Round
-    requires { ⌜ Handed (rulesOf case) (inWorking (rulesOf case)) case (now table) × BestOf case (now table) (now best) ⌝ }
+    requires { ⌜ Handed (rulesOf case) (workingWeight (rulesOf case)) case (now table) × BestOf case (now table) (now best) ⌝ }
     requires { ⌜ roundBytes (rulesOf case) case ≤ length (now out) ⌝ }
     requires { ⌜ lowestPair (rulesOf case) case (now table) ≡ some edge ⌝ }
     ensures { λ r. ⌜ ((pairs : Bool) → MadeRound pairs case (now (table .entry)) (now (out .entry)) (now (table .exit)) (now (out .exit)) r)
@@ -221,7 +247,7 @@ fn round_checked(
     best: &mut [i64],
     pairs: bool,
 ) -> Round
-    requires { ⌜ Handed (rulesOf case) (inWorking (rulesOf case)) case (now table) × BestOf case (now table) (now best) ⌝ }
+    requires { ⌜ Handed (rulesOf case) (workingWeight (rulesOf case)) case (now table) × BestOf case (now table) (now best) ⌝ }
     requires { ⌜ roundBytes (rulesOf case) case ≤ length (now out) ⌝ }
     ensures { λ r. ⌜ MadeRound pairs case (now (table .entry)) (now (out .entry)) (now (table .exit)) (now (out .exit)) r
         × BestOf case (now (table .exit)) (now (best .exit)) ⌝ }
@@ -241,7 +267,7 @@ fn round_checked(
 }
 
 fn first_round(case: Case, table: &mut [i64], out: &mut [u8]) -> Round
-    requires { ⌜ Handed (rulesOf case) (inWorking (rulesOf case)) case (now table) ⌝ }
+    requires { ⌜ Handed (rulesOf case) (workingWeight (rulesOf case)) case (now table) ⌝ }
     requires { ⌜ roundBytes (rulesOf case) case ≤ length (now out) ⌝ }
     ensures { λ r. ⌜ MadeRound false case (now (table .entry)) (now (out .entry)) (now (table .exit)) (now (out .exit)) r ⌝ }
 {
@@ -252,23 +278,51 @@ fn first_round(case: Case, table: &mut [i64], out: &mut [u8]) -> Round
 
 // ---- the run
 
-// Whether a press is left.
-fn has_press(case: Case, acts: &[u8], rows: &[u8]) -> bool
-    requires { ⌜ Limited case × (case .n ≤ length (now acts)) ⌝ }
-    ensures { λ r. ⌜ ((w : List ℤ) → Prepared case w (now (acts .entry)) (now (rows .entry)) → r ≡ isSome (chosen case w)) ⌝ }
+// What a run answers that may make no more rounds; a void line of the chosen variable is written.
+fn limit_press(
+    case: Case,
+    table: &[i64],
+    out: &mut [u8],
+    best: &[i64],
+    raised: &[u8],
+    variable: usize,
+) -> RunAnswer
+    requires { ⌜ Found case (now table) (now best) (now raised) variable × (roundBytes (rulesOf case) case ≤ length (now out)) ⌝ }
+    ensures { λ r. ⌜ LimitIs false case (now (table .entry)) (now (out .entry)) (now (out .exit)) r ⌝ }
 {
-    let raised = [1u8; SCOPE_PLACES];
-    let found = choosing::choose(case, acts, rows, &raised);
+    if least_gap(case, table, best, raised, variable) != gaps::NO_GAP {
+        return RunAnswer::Limit;
+    }
+    void_line(case, out, raised, variable);
+    RunAnswer::Void
+}
+
+fn limit_next(
+    case: Case,
+    table: &[i64],
+    out: &mut [u8],
+    best: &[i64],
+    acts: &[u8],
+    rows: &[u8],
+) -> RunAnswer
+    requires { ⌜ Handed (rulesOf case) (workingWeight (rulesOf case)) case (now table) × BestOf case (now table) (now best) ⌝ }
+    requires { ⌜ roundBytes (rulesOf case) case ≤ length (now out) ⌝ }
+    requires { ⌜ Prepared case (now table) (now acts) (now rows) × (case .n ≤ length (now acts)) ⌝ }
+    requires { ⌜ lowestPair (rulesOf case) case (now table) ≡ none ⌝ }
+    ensures { λ r. ⌜ LimitIs false case (now (table .entry)) (now (out .entry)) (now (out .exit)) r ⌝ }
+{
+    let mut raised = [1u8; SCOPE_PLACES];
+    let found = search(case, acts, rows, &mut raised);
     match found {
-        Chosen::Nothing => false,
-        Chosen::Variable(_) => true,
+        Chosen::Nothing => RunAnswer::Settled,
+        Chosen::Variable(i) => limit_press(case, table, out, best, &raised, i),
     }
 }
 
-// What a run answers that may make no more rounds.
-fn at_limit(case: Case, table: &[i64], best: &[i64], pairs: bool) -> RunAnswer
-    requires { ⌜ Handed (rulesOf case) (inWorking (rulesOf case)) case (now table) × BestOf case (now table) (now best) ⌝ }
-    ensures { λ r. ⌜ r ≡ atLimit (nextIn pairs (rulesOf case) case (now (table .entry))) ⌝ }
+fn at_limit(case: Case, table: &[i64], out: &mut [u8], best: &[i64], pairs: bool) -> RunAnswer
+    requires { ⌜ Handed (rulesOf case) (workingWeight (rulesOf case)) case (now table) × BestOf case (now table) (now best) ⌝ }
+    requires { ⌜ roundBytes (rulesOf case) case ≤ length (now out) ⌝ }
+    ensures { λ r. ⌜ LimitIs pairs case (now (table .entry)) (now (out .entry)) (now (out .exit)) r ⌝ }
 {
     let mut acts = [0u8; VARIABLE_PLACES];
     let mut rows = [0u8; ROW_PLACES];
@@ -279,16 +333,13 @@ fn at_limit(case: Case, table: &[i64], best: &[i64], pairs: bool) -> RunAnswer
             if pairs {
                 return RunAnswer::Settled;
             }
-            if has_press(case, &acts, &rows) {
-                return RunAnswer::Limit;
-            }
-            RunAnswer::Settled
+            limit_next(case, table, out, best, &acts, &rows)
         }
     }
 }
 
 fn stop_run(case: Case, table: &[i64], best: &[i64], answer: RunAnswer, rounds: u64) -> Run
-    requires { ⌜ Handed (rulesOf case) (inWorking (rulesOf case)) case (now table) × BestOf case (now table) (now best) ⌝ }
+    requires { ⌜ Handed (rulesOf case) (workingWeight (rulesOf case)) case (now table) × BestOf case (now table) (now best) ⌝ }
     ensures { λ r. ⌜ r ≡ stoppedRun case (now (table .entry)) answer rounds ⌝ }
 {
     let sum = tables::sum_of_best(case, best);
@@ -314,7 +365,7 @@ fn run_checked(
     limit: u64,
     pairs: bool,
 ) -> Run
-    requires { ⌜ Handed (rulesOf case) (inWorking (rulesOf case)) case (now table) × BestOf case (now table) (now best) ⌝ }
+    requires { ⌜ Handed (rulesOf case) (workingWeight (rulesOf case)) case (now table) × BestOf case (now table) (now best) ⌝ }
     requires { ⌜ roundBytes (rulesOf case) case ≤ length (now out) ⌝ }
     ensures { λ r. ⌜ RunIs pairs case limit (now (table .entry)) (now (out .entry)) (now (table .exit)) (now (out .exit)) r ⌝ }
 {
@@ -326,16 +377,19 @@ fn run_checked(
             Round::Refused(refusal) => {
                 return stop_run(case, table, best, RunAnswer::Refused(refusal), done);
             }
+            Round::Void { bytes: _ } => {
+                return stop_run(case, table, best, RunAnswer::Void, done);
+            }
             Round::Made { bytes: _, bound: _ } => {}
         }
         done += 1;
     }
-    let answer = at_limit(case, table, best, pairs);
+    let answer = at_limit(case, table, out, best, pairs);
     stop_run(case, table, best, answer, done)
 }
 
 fn run_from(case: Case, table: &mut [i64], out: &mut [u8], limit: u64, pairs: bool) -> Run
-    requires { ⌜ Handed (rulesOf case) (inWorking (rulesOf case)) case (now table) ⌝ }
+    requires { ⌜ Handed (rulesOf case) (workingWeight (rulesOf case)) case (now table) ⌝ }
     requires { ⌜ roundBytes (rulesOf case) case ≤ length (now out) ⌝ }
     ensures { λ r. ⌜ RunIs pairs case limit (now (table .entry)) (now (out .entry)) (now (table .exit)) (now (out .exit)) r ⌝ }
 {
@@ -361,7 +415,8 @@ fn run_asked(case: Case, table: &mut [i64], out: &mut [u8], limit: u64, pairs: b
 
 // ---- the calls
 
-// One round: its lines from the output's first byte. Settled or refused, table and output keep what they held.
+// One round, or a void line: its lines from the output's first byte. Settled or refused, table and output keep what they held; with a void line
+// the table does.
 pub fn round(case: Case, table: &mut [i64], out: &mut [u8]) -> Round
     ensures { λ r. ⌜ (r ≡ roundCall (rulesOf case) engineNext case (now (table .entry)) (now (out .entry)) .answer)
         × (now (table .exit) ≡ roundCall (rulesOf case) engineNext case (now (table .entry)) (now (out .entry)) .table)
@@ -374,7 +429,7 @@ pub fn round(case: Case, table: &mut [i64], out: &mut [u8]) -> Round
     }
 }
 
-// Rounds one after another, at most `limit`.
+// Rounds one after another, at most `limit`; a void line ends them, and is written even at the limit.
 pub fn run(case: Case, table: &mut [i64], out: &mut [u8], limit: u64) -> Run
     ensures { λ r. ⌜ (r ≡ runCall (rulesOf case) engineNext case limit (now (table .entry)) (now (out .entry)) .run)
         × (now (table .exit) ≡ runCall (rulesOf case) engineNext case limit (now (table .entry)) (now (out .entry)) .table)

@@ -1,4 +1,6 @@
--- Runs round by round: bound lines, each round's lines, the output after them, a run that goes on after earlier rounds. Assumes nothing.
+-- Runs round by round: bound lines, what each call wrote, the output after it, a run that goes on after earlier rounds, where a void line comes
+-- next. Assumes nothing.
+use mathlib.Core.Path.{_≡_}
 use mathlib.Core.Bool.{Bool, false}
 use mathlib.Core.Option.{Option, none, some}
 use mathlib.Core.List.{List, [], _∷_, _++_}
@@ -7,9 +9,11 @@ use lib.IntN.{ℤ}
 use Rattle.integers.specs.Words.{joined, those}
 use Rattle.definitions.specs.declared.Case.{Case}
 use Rattle.definitions.specs.declared.Line.{Line}
+use Rattle.definitions.specs.declared.RunAnswer.{RunAnswer}
 use Rattle.definitions.specs.Rules.{Rules}
 use Rattle.definitions.specs.Lines.{readLine, isKind, overwritten}
-use Rattle.definitions.specs.Engine.{Next, Made, settled, refused, made, makeNext}
+use Rattle.definitions.specs.RoundLines.{voidText}
+use Rattle.definitions.specs.Engine.{Next, nothing, round, void, Made, settled, refused, made, voided, makeNext}
 use Rattle.calls.specs.EngineCalls.{RunCall}
 
 -- the bound lines among these lines
@@ -20,17 +24,34 @@ isBound (some l) = isKind 4 l
 abbrev pub boundLines : Rules → List (List ℕ) → List (List ℕ)
 boundLines r ts = those (λ t. isBound (readLine (r .amountWidth) t)) ts
 
--- each round's lines, one list for each round
+-- a void line comes next
+abbrev pub VoidNext : Rules → (Rules → Case → List ℤ → Next) → Case → List ℤ → Type 0
+VoidNext r next c w = (i : ℕ) × (raised : List ℕ) × (next r c w ≡ void i raised)
+
+-- what each call of a run wrote: one list of lines for each round, and at the end one for a void line
 abbrev pub textsOf : Made → (List ℤ → List (List (List ℕ))) → List (List (List ℕ))
 textsOf settled go = []
 textsOf (refused x) go = []
 textsOf (made v lines) go = lines ∷ go v
+textsOf (voided lines) go = lines ∷ []
 
-abbrev pub roundTexts : Rules → (Rules → Case → List ℤ → Next) → Case → ℕ → List ℤ → List (List (List ℕ))
-roundTexts r next c zero w = []
-roundTexts r next c (suc left) w = textsOf (makeNext r c w (next r c w)) (λ v. roundTexts r next c left v)
+abbrev pub textsAtLimit : Rules → Next → List (List (List ℕ))
+textsAtLimit r nothing = []
+textsAtLimit r (round moves) = []
+textsAtLimit r (void i raised) = voidText r i raised ∷ []
 
--- an output after each round's lines were written from its first byte, one round after another
+abbrev pub callTexts : Rules → (Rules → Case → List ℤ → Next) → Case → ℕ → List ℤ → List (List (List ℕ))
+callTexts r next c zero w = textsAtLimit r (next r c w)
+callTexts r next c (suc left) w = textsOf (makeNext r c w (next r c w)) (λ v. callTexts r next c left v)
+
+-- how many of them are those of a void line
+abbrev pub voidTexts : RunAnswer → ℕ
+voidTexts RunAnswer.Settled = 0
+voidTexts RunAnswer.Limit = 0
+voidTexts RunAnswer.Void = 1
+voidTexts (RunAnswer.Refused x) = 0
+
+-- an output after each call's lines were written from its first byte, one call after another
 abbrev pub writtenInTurn : List (List (List ℕ)) → List ℕ → List ℕ
 writtenInTurn [] out = out
 writtenInTurn (lines ∷ rest) out = writtenInTurn rest (overwritten (joined lines) out)

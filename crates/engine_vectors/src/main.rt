@@ -1,5 +1,6 @@
 // Rounds and runs of the engine. Standard input holds lines of 27 bytes. One that is not in columns names what is tried and is printed. Kinds 10
-// to 13 are a case, taken as it stands: none of its numbers is asked, and each weight goes to the next place of the table.
+// to 13 are a case, taken as it stands: none of its numbers is asked, and each weight goes to the next place of the table,
+// -2000000000 where it is barred.
 // Kind 20: a run with limit amount; kind 24: one of pair rounds only; kind 21: one round; all with an output of a dots, which is printed after it.
 // Kind 22: amount rounds with an output of a dots; the bound after them and a checksum of their log are printed.
 // Kind 23: the table's first a weights are printed.
@@ -35,6 +36,9 @@ fn print_run(run: Run) {
         }
         RunAnswer::Limit => {
             drivers::print(b" limit");
+        }
+        RunAnswer::Void => {
+            drivers::print(b" void");
         }
         RunAnswer::Refused(refusal) => {
             drivers::print_refusal(refusal);
@@ -74,6 +78,10 @@ fn print_round(round: Round) {
             drivers::print_count(bytes as u64);
             drivers::print_number(bound);
         }
+        Round::Void { bytes } => {
+            drivers::print(b" void");
+            drivers::print_count(bytes as u64);
+        }
     }
     drivers::print(b"\n");
 }
@@ -101,6 +109,7 @@ fn next(case: Case, table: &mut [i64], out: &mut [u8], log: Log) -> Log {
             bound: bound,
         },
         Round::Settled => log,
+        Round::Void { bytes: _ } => log,
         Round::Refused(_) => log,
     }
 }
@@ -268,7 +277,7 @@ fn vectors(input: &[u8], table: &mut [i64]) {
 }
 
 fn main() {
-    let mut input = [0u8; 240000];
+    let mut input = [0u8; 300000];
     let mut table = [0i64; 6528];
     let n = io::read_full(0, &mut input);
     vectors(&input[..n], &mut table);

@@ -1,4 +1,4 @@
-// The amount of a press (document 01, "The engine's round"): the least gap of the scopes that limit it.
+// The amount of a press (document 01, "The engine's round"): the least gap of the scopes that limit it. A barred tuple sets no gap.
 use definitions::Case;
 use definitions::Figure;
 use definitions::Refusal;
@@ -8,19 +8,32 @@ ghost use Prim.Native.Nat.{_≤_, _<_};
 ghost use lib.Dec.{T, ltb, eqb};
 ghost use lib.IntN.{_-ℤ_};
 ghost use lib.ListN.{length};
-ghost use Rattle.integers.specs.Words.{if_then_else_};
+ghost use Rattle.integers.specs.Words.{if_then_else_, maxZ};
 ghost use Rattle.definitions.specs.Rules.{rulesOf};
-ghost use Rattle.definitions.specs.Case.{scopeCount, lentLength};
+ghost use Rattle.definitions.specs.Case.{scopeCount, lentLength, barredWeight};
 ghost use Rattle.tables.specs.Scopes.{Limited, scopePart};
-ghost use Rattle.gaps.specs.Gaps.{smallWeight, IsGap, limitsBy, lesserGap, lessGaps, gapBelow};
+ghost use Rattle.gaps.specs.Gaps.{smallWeight, IsGap, limitsBy, higherFloor, lessGaps, gapBelow};
 ghost use Rattle.gaps.specs.Gaps.{AllWorking, gapInRange, leastGapAnswer};
 
 // More than any gap of working weights.
-const NO_GAP: i64 = 4_611_686_018_427_387_904;
+pub const NO_GAP: i64 = 4_611_686_018_427_387_904;
+
+// The weights above it have a lesser gap than `limit`, and none of them is barred.
+fn first_floor(best: i64, limit: i64) -> i64
+    requires { ⌜ T (smallWeight best) × IsGap limit ⌝ }
+    ensures { λ r. ⌜ r ≡ maxZ (best -ℤ limit) barredWeight ⌝ }
+{
+    let floor = best - limit;
+    let barred = rules::barred();
+    if floor <= barred {
+        return barred;
+    }
+    floor
+}
 
 // The greater of `floor` and a weight below `best`: its gap is the lesser.
 fn higher_floor(weight: i64, best: i64, floor: i64) -> i64
-    ensures { λ r. ⌜ best -ℤ r ≡ lesserGap best weight (best -ℤ floor) ⌝ }
+    ensures { λ r. ⌜ r ≡ higherFloor best weight floor ⌝ }
 {
     if best <= weight {
         return floor;
@@ -36,11 +49,15 @@ fn gap_in(part: &[i64], best: i64, limit: i64) -> i64
     requires { ⌜ T (smallWeight best) × IsGap limit ⌝ }
     ensures { λ r. ⌜ r ≡ lessGaps best (now (part .entry)) limit ⌝ }
 {
-    let mut floor = best - limit;
+    let barred = rules::barred();
+    let mut floor = first_floor(best, limit);
     let mut j: usize = 0;
     while j < part.len() {
         floor = higher_floor(part[j], best, floor);
         j += 1;
+    }
+    if floor <= barred {
+        return limit;
     }
     best - floor
 }
@@ -124,7 +141,7 @@ fn lengths_wrong(case: Case, table: usize, best: usize, raised: usize) -> bool
 }
 
 // The least of NO_GAP and the gaps in the scope of `variable` and in each scope x whose byte in `raised` is not 0: how far a weight lies below
-// best[x]. Asks 3, 4, 5 of the arguments, and 8 of the first n + m numbers in `best`.
+// best[x], barred weights left out. Asks 3, 4, 5 of the arguments, and 8 of the first n + m numbers in `best`.
 pub fn least_gap(case: Case, table: &[i64], best: &[i64], raised: &[u8], variable: usize) -> Figure
     ensures { λ r. ⌜ r ≡ leastGapAnswer (rulesOf case) case (now (table .entry)) (now (best .entry)) (now (raised .entry)) variable ⌝ }
 {

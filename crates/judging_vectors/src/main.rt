@@ -3,8 +3,8 @@
 // program's input. Kind 20: judged by `judging`, the log in blocks of b lines, and printed. Kind 22: the same, and the judgement printed as numbers:
 // the rounds and the bound, or void, or the number and its line. Kind 21: pressed by `pressing`, each call's text printed, and then the calls of
 // `next` and the rounds that may still follow; where b is not 0, one more call is lent the output's first b bytes, and its answer is printed.
-// The file `stdout` has what the peer's programs print of these inputs; where a table or an output is too short, and of `press` on a barred case, it
-// was worked out from documents 01 and 02.
+// The file `stdout` has what the peer's programs print of these inputs; where a table or an output is too short it was worked out from documents 01
+// and 02.
 use definitions::FileAnswer;
 use definitions::Judgement;
 use definitions::Line;

@@ -20,7 +20,7 @@ use Rattle.marks.proofs.Laws.{mark-zero, lowest-small, lowest-marked}
 use Rattle.arcs.specs.Partners.{isPartner, hasPartner}
 use Rattle.arcs.proofs.Search.{mark-without, marks-none}
 use Rattle.tables.proofs.Search.{found, not-found, and-next}
-use Rattle.pair_choice.specs.PairChoice.{roundLeaves, hasChoice, activeChoice, takesPair}
+use Rattle.pair_choice.specs.PairChoice.{hasChoice, activeChoice, takesRound, takesPair}
 
 -- ---- values and their partners
 
@@ -65,12 +65,12 @@ module _ (rows : List ℕ) (at other : ℕ) where
 
 -- ---- which pair is taken
 
-module _ (r : Rules) (c : Case) (w : List ℤ) (acts rows : List ℕ) where
-  pub choice-passed : (e : ℕ) → activeChoice c acts rows e ≡ true → takesPair r c w acts rows e ≡ false
-  choice-passed e y = ap (λ (b : Bool). not b && not (roundLeaves r c w e)) y
+module _ (r : Rules) (c : Case) (w best : List ℤ) (acts rows : List ℕ) where
+  pub choice-passed : (e : ℕ) → activeChoice c acts rows e ≡ true → takesPair r c w best acts rows e ≡ false
+  choice-passed e y = ap (λ (b : Bool). not b && takesRound r c w best e) y
 
-  pub gain-taken : (e : ℕ) (leaves : Bool) → leaves ≡ roundLeaves r c w e → activeChoice c acts rows e ≡ false → takesPair r c w acts rows e ≡ not leaves
-  gain-taken e leaves o n = ap₂ (λ (a b : Bool). not a && not b) n (sym o)
+  pub candidate-taken : (e : ℕ) (takes : Bool) → takes ≡ takesRound r c w best e → activeChoice c acts rows e ≡ false → takesPair r c w best acts rows e ≡ takes
+  candidate-taken e takes o n = ap₂ (λ (a b : Bool). not a && b) n (sym o)
 
 -- passed below e, at e, and from there on
 pub passed-on : (f : ℕ → Bool) (e n : ℕ) → ((j : ℕ) → j < e → f j ≡ false) → f e ≡ false → ((j : ℕ) → j < n → e + 1 ≤ j → f j ≡ false)

@@ -11,8 +11,7 @@ use Rattle.definitions.specs.declared.Case.{Case}
 use Rattle.definitions.specs.Rules.{coherent, rulesOf}
 use Rattle.definitions.specs.Moves.{Move}
 use Rattle.definitions.specs.PairRounds.{wholeShift, endShifts, pairRound}
-use Rattle.theory.proofs.Rounds.{AllAllowed}
-use Rattle.pair_theory.proofs.Inside.{all-inside}
+use Rattle.theory.proofs.Rounds.{AllAllowed, all-handed}
 use Rattle.pair_rounds.specs.Shifts.{lineBytes, movesLineCount, Allows, Ready, Shifted}
 use Rattle.pair_rounds.proofs.Moves.{allowed-first, allowed-rest, shiftsBelow, shifts-next, shifts-split, whole-still, upper-still}
 use Rattle.pair_rounds.proofs.Texts.{count-append, shifted-more}
@@ -31,7 +30,7 @@ module _ {c : Case} {w best : List ℤ} {e : ℕ} (ready : Ready c w best e) {ou
   -- still ready after moves
   still-ready : {moves : List Move} {u after : List ℤ} {next : List ℕ} {to : ℕ} → Shifted c moves w u after at to out next → Ready c u after e
   still-ready s = record {
-    handed = all-inside (coherent (c .rulebook)) (s .allowed) (ready .handed);
+    handed = all-handed (coherent (c .rulebook)) (s .allowed) (ready .handed);
     greatest-held = s .greatest-kept;
     edge = ready .edge;
   }

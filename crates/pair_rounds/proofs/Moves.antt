@@ -1,7 +1,7 @@
 -- Moves one after another, in two parts; the shifts of an edge's end, value by value, which leave the weights of the values that are still to
 -- be shifted; and where a value's weight stands. Assumes nothing.
 use mathlib.Core.Path.{_≡_, refl, sym, ap, subst, _∙_}
-use mathlib.Core.Bool.{_&&_}
+use mathlib.Core.Bool.{true, false, _&&_}
 use mathlib.Core.Option.{none, some}
 use mathlib.Core.List.{List, [], _∷_, _++_, map, append-nil}
 use mathlib.Core.List.{List·Memᴰ·head, List·Memᴰ·tail, List·Memᴰ·not-nil, List·Memᴰ·eq-of-singleton, Memᴰ·of-map}
@@ -12,19 +12,19 @@ use native.Mathlib.Omega.{arith}
 use lib.IntN.{ℤ, pos, negℤ, _+ℤ_, +ℤ-idr}
 use lib.Dec.{not-T, eqb, eqb→eq}
 use lib.Signed.{_≤ℤ_}
-use Rattle.integers.specs.Words.{if_then_else_, from, below, joined, minus, eqZ}
+use Rattle.integers.specs.Words.{if_then_else_, from, below, joined, minus}
 use Rattle.integers.specs.Tests.{if-cases, if-false, and-left, and-right, not-or-iff}
-use Rattle.integers.specs.Linear.{flat, zs, _▸_, T-eq}
+use Rattle.integers.specs.Linear.{flat, zs, _▸_}
 use Rattle.integers.specs.Lists.{_∈_, joined-append, map-append, from-suc, from-split, in-joined, in-below, map-same}
 use Rattle.definitions.specs.declared.Case.{Case}
 use Rattle.definitions.specs.Rules.{Rules, rulesOf, coherent}
 use Rattle.definitions.specs.Case.{upperEnd, place, weight, barred}
-use Rattle.definitions.specs.Valid.{inWorking, workingWeight}
+use Rattle.definitions.specs.Valid.{workingWeight}
 use Rattle.definitions.specs.Moves.{Move, shift, press, endVariable, endValue, shiftBy, moved, leavesRange, afterMoves}
 use Rattle.definitions.specs.PairRounds.{wholeShift, endShifts}
 use Rattle.definitions.proofs.RulesLaws.{rules-fit}
 use Rattle.theory.proofs.Places.{variable-tuple, place-variable}
-use Rattle.theory.proofs.Barred.{weight-spared}
+use Rattle.theory.proofs.Barred.{weight-spared, working-bounds}
 use Rattle.theory.proofs.Shape.{Shape}
 use Rattle.theory.proofs.Validity.{Handed}
 use Rattle.theory.proofs.Replays.{Allowed, allowed-stays}
@@ -32,6 +32,7 @@ use Rattle.theory.proofs.Rounds.{AllAllowed, no-move, one-more}
 use Rattle.tables.proofs.Order.{variables-small}
 use Rattle.tables.proofs.Answered.{limits-known}
 use Rattle.changes.proofs.TransferLaws.{end-inside, transfer-still}
+use Rattle.pair_rounds.specs.Shifts.{leftOut}
 
 -- ---- moves one after another
 
@@ -88,18 +89,16 @@ module _ (c : Case) (i k : ℕ) (variable : i < c .n) (value : k < c .d) where
 
 module _ (c : Case) (w : List ℤ) (e end : ℕ) where
   abbrev shiftOf : ℤ → ℕ → List Move
-  shiftOf z v = if eqZ z (pos 0) then [] else shift e end v (negℤ z) ∷ []
+  shiftOf z v = if leftOut z then [] else shift e end v (negℤ z) ∷ []
 
   -- one value's
   module _ (v : ℕ) where
-    pub whole-none : weight c w (endVariable c e end) v 0 ≡ pos 0 → wholeShift c w e end v ≡ []
+    pub whole-none : leftOut (weight c w (endVariable c e end) v 0) ≡ true → wholeShift c w e end v ≡ []
     whole-none q = rw q
 
-    pub whole-one : (weight c w (endVariable c e end) v 0 ≡ pos 0 → ⊥)
+    pub whole-one : leftOut (weight c w (endVariable c e end) v 0) ≡ false
         → wholeShift c w e end v ≡ shift e end v (negℤ (weight c w (endVariable c e end) v 0)) ∷ []
-    whole-one n =
-        let z = weight c w (endVariable c e end) v 0 in
-        if-false [] (shift e end v (negℤ z) ∷ []) (eqZ z (pos 0)) (not-T (eqZ z (pos 0)) (λ t. n (T-eq z (pos 0) .0 t)))
+    whole-one q = rw q
 
   -- those of the values below v
   abbrev pub shiftsBelow : ℕ → List Move
@@ -128,7 +127,7 @@ module _ (c : Case) (w : List ℤ) (e end : ℕ) where
   below-spares i k n f m o =
       let (l, p, q) = in-joined (map (wholeShift c w e end) (below n)) o in
       let (u, s, g) = Memᴰ·of-map (wholeShift c w e end) (below n) p in
-      if-cases (λ (l : List Move). m ∈ l → Spares c i k m) (eqZ (weight c w (endVariable c e end) u 0) (pos 0)) []
+      if-cases (λ (l : List Move). m ∈ l → Spares c i k m) (leftOut (weight c w (endVariable c e end) u 0)) []
       (shift e end u (negℤ (weight c w (endVariable c e end) u 0)) ∷ [])
       (λ t o. absurd (List·Memᴰ·not-nil o))
       (λ t o. subst (Spares c i k) (sym (List·Memᴰ·eq-of-singleton o)) (f u (in-below n s)))
@@ -160,9 +159,10 @@ weight-place {c} {e} {v} {x} end h edge value q =
       variables-small c (limits-known h),
     )
 
-pub weight-small : {c : Case} {w : List ℤ} {e v : ℕ} (end : ℕ) → Handed (rulesOf c) (inWorking (rulesOf c)) c w → e < c .m → v < c .d
+pub weight-small : {c : Case} {w : List ℤ} {e v : ℕ} (end : ℕ) → Handed (rulesOf c) (workingWeight (rulesOf c)) c w → e < c .m → v < c .d
     → (minus (10 ^ 17) ≤ℤ weight c w (endVariable c e end) v 0) × (weight c w (endVariable c e end) v 0 ≤ℤ pos (10 ^ 17))
-weight-small {c} {e} {v} end h edge value =
+weight-small {c} {w} {e} {v} end h edge value =
     let t = h .in-range (endVariable c e end) v 0 (variable-tuple c (endVariable c e end) v (end-inside (h .shape) e end edge) value) in
+    let (low, high) = working-bounds (coherent (c .rulebook)) (weight c w (endVariable c e end) v 0) t in
     let m = rules-fit (coherent (c .rulebook)) .working in
-    (t ▸ m ▸ simp flat (omega zs), t ▸ m ▸ simp flat (omega zs))
+    (low ▸ simp flat (omega zs), high ▸ m ▸ simp flat (omega zs))

@@ -1,4 +1,4 @@
--- What the call of a pair's round answers and leaves: refused, passed over, or made. Assumes nothing.
+-- What the call of a pair's round answers and leaves: refused before, out of the range, or made. Assumes nothing.
 use mathlib.Core.Path.{_≡_, refl, sym, ap, _∙_}
 use mathlib.Core.Bool.{not}
 use mathlib.Core.Option.{Option, none, some}
@@ -10,7 +10,7 @@ use lib.IntN.{ℤ}
 use lib.Dec.{T, ltb, lt→ltb}
 use lib.ListN.{length}
 use Rattle.integers.specs.Words.{joined}
-use Rattle.integers.specs.Tests.{tests, not-not-iff}
+use Rattle.integers.specs.Tests.{tests, not-not-iff, if-true}
 use Rattle.integers.specs.Lists.{joined-append, map-append}
 use Rattle.definitions.specs.declared.Case.{Case}
 use Rattle.definitions.specs.declared.Outcome.{Outcome}
@@ -20,18 +20,19 @@ use Rattle.definitions.specs.declared.Round.{Round}
 use Rattle.definitions.specs.Rules.{rulesOf, coherent}
 use Rattle.definitions.specs.Answers.{outcomeOf}
 use Rattle.definitions.specs.Case.{scopeCount, upperBound}
-use Rattle.definitions.specs.Valid.{inWorking, workingWeight}
+use Rattle.definitions.specs.Valid.{workingWeight}
 use Rattle.definitions.specs.Moves.{Move, afterMoves}
 use Rattle.definitions.specs.Lines.{overwritten}
 use Rattle.definitions.specs.RoundLines.{moveLines, boundLine, roundText}
-use Rattle.definitions.specs.PairRounds.{pairRound, passedOver}
+use Rattle.definitions.specs.PairRounds.{pairRound}
 use Rattle.definitions.specs.Engine.{Made, madeOf, roundBytes}
 use Rattle.calls.specs.EngineCalls.{RoundCall, roundMade}
-use Rattle.theory.proofs.Validity.{Handed}
+use Rattle.theory.proofs.Validity.{Handed, handed}
 use Rattle.theory.proofs.Replays.{none-iff}
 use Rattle.theory.proofs.Rounds.{all-handed}
-use Rattle.pair_theory.proofs.Inside.{every-takes, asked-iff}
-use Rattle.pair_theory.proofs.Passing.{pair-allowed, pair-few}
+use Rattle.pair_theory.specs.Closed.{pairLeaves}
+use Rattle.pair_theory.proofs.Rounded.{pairRounded}
+use Rattle.pair_theory.proofs.Passing.{after-pair, pair-allowed, pair-few}
 use Rattle.tables.specs.Scopes.{BestOf, greatestCall}
 use Rattle.tables.proofs.Best.{greatest-known}
 use Rattle.tables.proofs.Order.{outcome-done, outcome-refused}
@@ -51,9 +52,9 @@ module _ (c : Case) (w : List ℤ) (out : List ℕ) (e : ℕ) where
   pair-refused f = let d : asked ≡ some _ = outcome-refused f in record { answer = rw (d, pairCall); table = rw (d, pairCall); output = rw (d, pairCall) }
 
   pub pair-asked : Outcome.Done ≡ outcomeOf asked
-      → (Handed (rulesOf c) (inWorking (rulesOf c)) c w × (e < c .m)) × (roundBytes (rulesOf c) c ≤ length out)
+      → (Handed (rulesOf c) (workingWeight (rulesOf c)) c w × (e < c .m)) × (roundBytes (rulesOf c) c ≤ length out)
   pair-asked f =
-      let (h, s, t) = asked-iff (coherent (c .rulebook)) c w (ltb (length out) (roundBytes (rulesOf c) c)) (not (ltb e (c .m))) .0
+      let (h, s, t) = handed (rulesOf c) (workingWeight (rulesOf c)) c w (ltb (length out) (roundBytes (rulesOf c) c)) (not (ltb e (c .m))) .0
       (none-iff asked .1 (outcome-done f)) in
       ((h, simp tests at t), let l = simp tests at s in omega arith)
 
@@ -72,11 +73,11 @@ round-text c moves v =
     ∙ joined-append (map (lineTextOf c) (joined (map moveLines moves))) (lineTextOf c (boundLine (upperBound c v)) ∷ [])
     ∙ ap (λ (t : List ℕ). movesText c moves ++ t) (append-nil (lineTextOf c (boundLine (upperBound c v))))
 
-module _ {c : Case} {w : List ℤ} {e : ℕ} (out : List ℕ) (h : Handed (rulesOf c) (inWorking (rulesOf c)) c w) (edge : e < c .m)
+module _ {c : Case} {w : List ℤ} {e : ℕ} (out : List ℕ) (h : Handed (rulesOf c) (workingWeight (rulesOf c)) c w) (edge : e < c .m)
     (long : roundBytes (rulesOf c) c ≤ length out) where
   taken : pairRefusal (rulesOf c) c w (length out) e ≡ none
   taken = none-iff (pairRefusal (rulesOf c) c w (length out) e) .0
-      (asked-iff (coherent (c .rulebook)) c w (ltb (length out) (roundBytes (rulesOf c) c)) (not (ltb e (c .m))) .1
+      (handed (rulesOf c) (workingWeight (rulesOf c)) c w (ltb (length out) (roundBytes (rulesOf c) c)) (not (ltb e (c .m))) .1
       (h, simp tests (omega arith), not-not-iff (ltb e (c .m)) .1 (lt→ltb e (c .m) edge)))
 
   -- the call is the round
@@ -89,10 +90,10 @@ module _ {c : Case} {w : List ℤ} {e : ℕ} (out : List ℕ) (h : Handed (rules
   call-is o f =
       pair-call-taken ∙ ap (λ (u : Option (List ℤ)). roundMade c w out (madeOf (rulesOf c) c (pairRound c w e) u)) f
 
-  -- the pair is passed over
-  pub pair-round-refused : T (passedOver (rulesOf c) c w e) → MadePair c w out e w out (Round.Refused LeavesRange)
+  -- it leaves the range
+  pub pair-round-refused : T (pairLeaves (rulesOf c) c w e) → MadePair c w out e w out (Round.Refused LeavesRange)
   pair-round-refused t =
-      let d = call-is none (none-iff (afterMoves (rulesOf c) c (pairRound c w e) w) .0 t) in
+      let d = call-is none (after-pair (coherent (c .rulebook)) h edge ∙ if-true none (some (pairRounded c w e)) (pairLeaves (rulesOf c) c w e) t) in
       record {
         answer = sym (ap (λ (u : RoundCall). u .answer) d);
         table = sym (ap (λ (u : RoundCall). u .table) d);
@@ -113,7 +114,7 @@ module _ {c : Case} {w : List ℤ} {e : ℕ} (out : List ℕ) (h : Handed (rules
         output = p ∙ ap (λ (l : List ℕ). overwritten l out) (sym t) ∙ sym (ap (λ (u : RoundCall). u .out) d);
       }
 
-  module _ (n : T (not (passedOver (rulesOf c) c w e))) where
+  module _ (n : T (not (pairLeaves (rulesOf c) c w e))) where
     room : lineBytes c * (movesLineCount (pairRound c w e) + 1) ≤ length out
     room =
         omega (
@@ -129,5 +130,5 @@ module _ {c : Case} {w : List ℤ} {e : ℕ} (out : List ℕ) (h : Handed (rules
         → (at + lineBytes c ≤ length next) × Held c best
     bound-ready {v} s same = (
       omega (arith, s .bytes, room, mul-add (lineBytes c) (movesLineCount (pairRound c w e)) 1),
-      (v, all-handed (coherent (c .rulebook)) (s .allowed) (every-takes h), s .greatest-kept),
+      (v, all-handed (coherent (c .rulebook)) (s .allowed) h, s .greatest-kept),
     )

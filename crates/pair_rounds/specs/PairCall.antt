@@ -15,8 +15,7 @@ use Rattle.definitions.specs.Engine.{Made, refused, madeOf}
 use Rattle.calls.specs.EngineCalls.{RoundCall, roundMade}
 use Rattle.round_lines.specs.Asked.{roundRefusal}
 
--- numbers 3 to 8 and 15, with an output of so many bytes: 4 also where it is too short for a round, 5 also where there is no such edge; and 8
--- where a tuple is barred
+-- numbers 3 to 8 and 15, with an output of so many bytes: 4 also where it is too short for a round, 5 also where there is no such edge
 abbrev pub pairRefusal : Rules → Case → List ℤ → ℕ → ℕ → Option Refusal
 pairRefusal r c w bytes e = roundRefusal r c w bytes (not (ltb e (c .m)))
 

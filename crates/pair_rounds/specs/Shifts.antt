@@ -1,17 +1,18 @@
 -- What the inner functions may take as known and what they leave: moves made on a table, and their lines put one after the other. Assumes
 -- nothing.
 use mathlib.Core.Path.{_≡_}
+use mathlib.Core.Bool.{Bool, _||_}
 use mathlib.Core.List.{List, map}
 use Prim.Native.Nat.{ℕ, _+_, _*_, _<_}
 use lib.IntN.{ℤ, pos}
 use lib.ListN.{length}
-use Rattle.integers.specs.Words.{joined}
+use Rattle.integers.specs.Words.{joined, eqZ}
 use Rattle.definitions.specs.declared.Case.{Case}
 use Rattle.definitions.specs.declared.Line.{Line}
 use Rattle.definitions.specs.declared.Round.{Round}
 use Rattle.definitions.specs.Rules.{rulesOf}
-use Rattle.definitions.specs.Case.{upperBound}
-use Rattle.definitions.specs.Valid.{inWorking, workingWeight}
+use Rattle.definitions.specs.Case.{upperBound, isBarred}
+use Rattle.definitions.specs.Valid.{workingWeight}
 use Rattle.definitions.specs.Moves.{Move}
 use Rattle.definitions.specs.Lines.{line, lineLength, lineText}
 use Rattle.definitions.specs.RoundLines.{moveLines, boundLine}
@@ -30,6 +31,10 @@ lineTextOf c l = lineText (rulesOf c .amountWidth) l
 abbrev pub shiftLine : ℕ → ℕ → ℕ → ℤ → Line
 shiftLine e end v a = line 1 (pos e) (pos end) (pos v) a
 
+-- a value with this weight is not shifted
+abbrev pub leftOut : ℤ → Bool
+leftOut z = isBarred z || eqZ z (pos 0)
+
 -- the lines of moves, without a bound line
 abbrev pub movesText : Case → List Move → List ℕ
 movesText c moves = joined (map (lineTextOf c) (joined (map moveLines moves)))
@@ -41,9 +46,9 @@ movesLineCount moves = length (joined (map moveLines moves))
 abbrev pub Allows : Case → List ℤ → List Move → Type 0
 Allows c w moves = (v : List ℤ) × AllAllowed (rulesOf c) c w moves v
 
--- a table that the engine takes, with each scope's greatest weight, and an edge
+-- a table that every call takes, with each scope's greatest weight, and an edge
 pub record Ready (c : Case) (w best : List ℤ) (e : ℕ) : Type 0 where
-  pub handed : Handed (rulesOf c) (inWorking (rulesOf c)) c w
+  pub handed : Handed (rulesOf c) (workingWeight (rulesOf c)) c w
   pub greatest-held : BestOf c w best
   pub edge : e < c .m
 

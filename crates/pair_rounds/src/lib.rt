@@ -1,4 +1,4 @@
-// The round of one pair (document 02, change 1), made on a lent table, with its lines in a lent output.
+// The round of one pair (document 02, changes 1 and 2), made on a lent table, with its lines in a lent output.
 use definitions::Case;
 use definitions::Figure;
 use definitions::Line;
@@ -15,18 +15,20 @@ ghost use lib.IntN.{ℤ, pos};
 ghost use lib.ListN.{length};
 ghost use Rattle.definitions.specs.Rules.{rulesOf};
 ghost use Rattle.definitions.specs.Case.{weight};
-ghost use Rattle.definitions.specs.Valid.{inWorking, workingWeight};
+ghost use Rattle.definitions.specs.Valid.{workingWeight};
 ghost use Rattle.definitions.specs.Moves.{shift, endVariable};
 ghost use Rattle.definitions.specs.Lines.{lineTooWide};
 ghost use Rattle.definitions.specs.RoundLines.{boundLine};
-ghost use Rattle.definitions.specs.PairRounds.{wholeShift, endShifts, pairRound, passedOver};
+ghost use Rattle.definitions.specs.PairRounds.{wholeShift, endShifts, pairRound};
 ghost use Rattle.definitions.specs.Engine.{roundBytes};
 ghost use Rattle.theory.proofs.Validity.{Handed};
 ghost use Rattle.theory.proofs.Replays.{AllowedShift};
+ghost use Rattle.pair_theory.specs.Closed.{pairLeaves};
 ghost use Rattle.tables.specs.Scopes.{BestOf};
 ghost use Rattle.round_lines.specs.Press.{Put};
 ghost use Rattle.pair_rounds.specs.PairCall.{pairCall};
-ghost use Rattle.pair_rounds.specs.Shifts.{lineBytes, lineTextOf, shiftLine, movesLineCount, Allows, Ready, Shifted, Held, Bounded, MadePair};
+ghost use Rattle.pair_rounds.specs.Shifts.{lineBytes, lineTextOf, shiftLine, leftOut, movesLineCount, Allows, Ready, Shifted, Held};
+ghost use Rattle.pair_rounds.specs.Shifts.{Bounded, MadePair};
 
 // ---- lines
 
@@ -82,6 +84,19 @@ fn weight_at(case: Case, table: &[i64], edge: usize, end: usize, value: usize) -
     table[variable * case.d + value]
 }
 
+// A barred value and a weight of 0 are not shifted.
+fn left_out(weight: i64) -> bool
+    ensures { λ r. ⌜ r ≡ leftOut weight ⌝ }
+{
+    if rules::is_barred(weight) {
+        return true;
+    }
+    if weight == 0 {
+        return true;
+    }
+    false
+}
+
 // The shift, which is allowed, and its line.
 fn shift_by(
     case: Case,
@@ -103,7 +118,7 @@ fn shift_by(
     put_line(case, out, at, shift_line(edge, end, value, amount))
 }
 
-// The whole weight of a value is shifted, if it is not 0.
+// The whole weight of a value is shifted, unless it is left out.
 fn shift_value(
     case: Case,
     table: &mut [i64],
@@ -121,7 +136,7 @@ fn shift_value(
         at r (now (out .entry)) (now (out .exit)) ⌝ }
 {
     let weight = weight_at(case, table, edge, end, value);
-    if weight == 0 {
+    if left_out(weight) {
         return at;
     }
     shift_by(case, table, best, out, at, edge, end, value, 0 - weight)
@@ -183,10 +198,10 @@ fn put_bound(case: Case, out: &mut [u8], best: &[i64], at: usize) -> Round
     }
 }
 
-// The round of a pair that is not passed over.
+// The round of a pair that does not leave the range.
 fn shift_pair(case: Case, table: &mut [i64], out: &mut [u8], best: &mut [i64], edge: usize) -> Round
     requires { ⌜ Ready case (now table) (now best) edge ⌝ }
-    requires { ⌜ T (not (passedOver (rulesOf case) case (now table) edge)) × (roundBytes (rulesOf case) case ≤ length (now out)) ⌝ }
+    requires { ⌜ T (not (pairLeaves (rulesOf case) case (now table) edge)) × (roundBytes (rulesOf case) case ≤ length (now out)) ⌝ }
     ensures { λ r. ⌜ MadePair case (now (table .entry)) (now (out .entry)) edge (now (table .exit)) (now (out .exit)) r ⌝ }
 {
     let at = shift_both(case, table, best, out, edge);
@@ -194,7 +209,7 @@ fn shift_pair(case: Case, table: &mut [i64], out: &mut [u8], best: &mut [i64], e
 }
 
 fn pair_round(case: Case, table: &mut [i64], out: &mut [u8], edge: usize) -> Round
-    requires { ⌜ Handed (rulesOf case) (inWorking (rulesOf case)) case (now table) × (edge < case .m) ⌝ }
+    requires { ⌜ Handed (rulesOf case) (workingWeight (rulesOf case)) case (now table) × (edge < case .m) ⌝ }
     requires { ⌜ roundBytes (rulesOf case) case ≤ length (now out) ⌝ }
     ensures { λ r. ⌜ MadePair case (now (table .entry)) (now (out .entry)) edge (now (table .exit)) (now (out .exit)) r ⌝ }
 {
@@ -208,8 +223,8 @@ fn pair_round(case: Case, table: &mut [i64], out: &mut [u8], edge: usize) -> Rou
 
 // ---- the call
 
-// The round of one pair: its lines from the output's first byte. Asks 3 to 8 and 15, 4 of the output, 5 of the edge and 8 of barred tuples too,
-// and 11; refused, table and output keep what they held. Whether the pair gains is not asked.
+// The round of one pair: its lines from the output's first byte. Asks 3 to 8 and 15, 4 of the output and 5 of the edge too, and 11; refused, table
+// and output keep what they held. Whether the pair gains is not asked.
 pub fn make_round(case: Case, table: &mut [i64], out: &mut [u8], edge: usize) -> Round
     ensures { λ r. ⌜ (r ≡ pairCall (rulesOf case) case (now (table .entry)) (now (out .entry)) edge .answer)
         × (now (table .exit) ≡ pairCall (rulesOf case) case (now (table .entry)) (now (out .entry)) edge .table)

@@ -1,5 +1,6 @@
--- What a pair's whole round does to the table: both variables are left with weights of 0, each tuple of the edge with the three weights added
--- up, and all else as it was. So the upper bound falls by the pair's gain, and no objective changes. Assumes nothing.
+-- What a pair's whole round does to the table: a barred tuple keeps its number; of the others, those of both variables are left with weights of
+-- 0, each of the edge with the weights added up that the ends shift, and all else as it was. So the upper bound falls by what the three greatest
+-- weights pass the edge's greatest one after the round, and no lawful assignment's objective changes. Assumes nothing.
 use mathlib.Core.Path.{_≡_, refl, sym, ap, ap₂, subst, _∙_}
 use mathlib.Core.Bool.{Bool, true, false, not, _&&_}
 use mathlib.Core.Logic.{_≢_, _⊎_, inl, inr, ⊎-elim}
@@ -10,17 +11,20 @@ use lib.IntN.{ℤ, pos, negℤ, _+ℤ_, _-ℤ_, +ℤ-idl, +ℤ-idr}
 use lib.Dec.{T, ltb, eqb, eqb→eq}
 use Rattle.integers.specs.Words.{greatestOf}
 use Rattle.integers.specs.Tests.{tests, is-true, is-false, same-test, either, eqb-iff, not-eqb-iff, if-true, if-false}
-use Rattle.integers.specs.Linear.{flat, zs, _▸_}
+use Rattle.integers.specs.Linear.{flat, zs, _▸_, T-eq}
 use Rattle.integers.specs.Sums.{sum-zero, Σ-cong, Σ-sub, Σ-add, Σ-only, only}
 use Rattle.definitions.specs.declared.Case.{Case}
 use Rattle.definitions.specs.Case.{lowerEnd, upperEnd, scopeCount, scopes, weight, atUsed, greatest, isAssignment, objective, upperBound}
-use Rattle.definitions.specs.Moves.{Difference, plus, onlyWhere, endVariable, endValue, shiftBy}
-use Rattle.definitions.specs.PairRounds.{threeAt, bestOfThree, pairGain}
+use Rattle.definitions.specs.Case.{barredWeight, barred, whollyBarred, isLawful}
+use Rattle.definitions.specs.Moves.{Difference, plus, spared, onlyWhere, endVariable, endValue, shiftBy}
+use Rattle.definitions.specs.PairRounds.{threeGreatest}
 use Rattle.theory.proofs.Shape.{Shape}
-use Rattle.theory.proofs.Places.{IsTuple, edge-tuple, each-cong, weight-plus, greatest-at}
+use Rattle.theory.proofs.Places.{IsTuple, variable-tuple, edge-tuple, each-cong, greatest-there}
 use Rattle.theory.proofs.Totals.{objectiveOf, firstUsed, secondUsed, at-used, objectiveOf-add, objectiveOf-cong, objective-plus}
 use Rattle.theory.proofs.Shifts.{shift-keeps}
-use Rattle.pair_theory.proofs.Gains.{lower-tuple, upper-tuple}
+use Rattle.theory.proofs.Barred.{each-some-not, weight-spared, lawful-iff, spared-used}
+use Rattle.pair_theory.specs.Closed.{shifted, bothAt}
+use Rattle.pair_theory.proofs.Gains.{lower-tuple, upper-tuple, shifted-free}
 
 -- the pair's three scopes and the others
 pub by-pair : (c : Case) (e : ℕ) (P : ℕ → Type 0) → P (lowerEnd c e) → P (upperEnd c e) → P (c .n + e)
@@ -32,11 +36,11 @@ by-pair c e P a b g f x =
     (λ u. f x (not-eqb-iff x (lowerEnd c e) .0 s) (not-eqb-iff x (upperEnd c e) .0 t) (not-eqb-iff x (c .n + e) .0 u))
     (either (eqb x (c .n + e)))) (either (eqb x (upperEnd c e)))) (either (eqb x (lowerEnd c e)))
 
--- the whole weights of an end's values below p, shifted into edge e
+-- what an end shifts of its values below p into edge e
 abbrev pub endBy : Case → List ℤ → ℕ → ℕ → ℕ → Difference
 endBy c w e end p x k l =
-    onlyWhere (eqb x (endVariable c e end) && ltb k p) (negℤ (weight c w (endVariable c e end) k 0))
-    +ℤ onlyWhere (eqb x (c .n + e) && ltb (endValue end k l) p) (weight c w (endVariable c e end) (endValue end k l) 0)
+    onlyWhere (eqb x (endVariable c e end) && ltb k p) (negℤ (shifted c w (endVariable c e end) k))
+    +ℤ onlyWhere (eqb x (c .n + e) && ltb (endValue end k l) p) (shifted c w (endVariable c e end) (endValue end k l))
 
 -- those of end 0 below p and of end 1 below q; the whole round
 abbrev pub partBy : Case → List ℤ → ℕ → ℕ → ℕ → Difference
@@ -46,7 +50,7 @@ abbrev pub pairBy : Case → List ℤ → ℕ → Difference
 pairBy c w e = partBy c w e (c .d) (c .d)
 
 abbrev pub pairRounded : Case → List ℤ → ℕ → List ℤ
-pairRounded c w e = plus c (pairBy c w e) w
+pairRounded c w e = plus c (spared c w (pairBy c w e)) w
 
 -- ---- one value more
 only-more : (s : Bool) (f : ℕ → ℤ) (k p : ℕ) → onlyWhere (s && ltb k (suc p)) (f k) ≡ onlyWhere (s && ltb k p) (f k) +ℤ onlyWhere (s && eqb k p) (f p)
@@ -74,11 +78,11 @@ apart x y n = is-false (eqb x y) (not-eqb-iff x y .1 n)
 
 module _ (c : Case) (w : List ℤ) (e : ℕ) where
   pub end-more : (end p x k l : ℕ)
-      → endBy c w e end (suc p) x k l ≡ endBy c w e end p x k l +ℤ shiftBy c e end p (negℤ (weight c w (endVariable c e end) p 0)) x k l
+      → endBy c w e end (suc p) x k l ≡ endBy c w e end p x k l +ℤ shiftBy c e end p (negℤ (shifted c w (endVariable c e end) p)) x k l
   end-more end p x k l =
-      only-more (eqb x (endVariable c e end)) (λ k. negℤ (weight c w (endVariable c e end) k 0)) k p
-      ▸ only-more (eqb x (c .n + e)) (λ k. weight c w (endVariable c e end) k 0) (endValue end k l) p
-      ▸ ap (onlyWhere (eqb x (c .n + e) && eqb (endValue end k l) p)) (twice (weight c w (endVariable c e end) p 0))
+      only-more (eqb x (endVariable c e end)) (λ k. negℤ (shifted c w (endVariable c e end) k)) k p
+      ▸ only-more (eqb x (c .n + e)) (shifted c w (endVariable c e end)) (endValue end k l) p
+      ▸ ap (onlyWhere (eqb x (c .n + e) && eqb (endValue end k l) p)) (twice (shifted c w (endVariable c e end) p))
       ▸ simp flat (omega zs)
     where
       twice : (z : ℤ) → z ≡ negℤ (negℤ z)
@@ -89,20 +93,20 @@ module _ (c : Case) (w : List ℤ) (e : ℕ) where
 
   -- ---- at each scope
   module _ (shape : Shape c) (h : e < c .m) (p q : ℕ) where
-    pub part-lower : (k : ℕ) → partBy c w e p q (lowerEnd c e) k 0 ≡ onlyWhere (ltb k p) (negℤ (weight c w (lowerEnd c e) k 0))
+    pub part-lower : (k : ℕ) → partBy c w e p q (lowerEnd c e) k 0 ≡ onlyWhere (ltb k p) (negℤ (shifted c w (lowerEnd c e) k))
     part-lower k =
         let o : lowerEnd c e < upperEnd c e = shape .ascending e h in
         let u : upperEnd c e < c .n = shape .below-n e h in
         rw (apart (lowerEnd c e) (upperEnd c e) (omega arith), apart (lowerEnd c e) (c .n + e) (omega arith), same (lowerEnd c e)) (simp flat (omega zs))
 
-    pub part-upper : (l : ℕ) → partBy c w e p q (upperEnd c e) l 0 ≡ onlyWhere (ltb l q) (negℤ (weight c w (upperEnd c e) l 0))
+    pub part-upper : (l : ℕ) → partBy c w e p q (upperEnd c e) l 0 ≡ onlyWhere (ltb l q) (negℤ (shifted c w (upperEnd c e) l))
     part-upper l =
         let o : lowerEnd c e < upperEnd c e = shape .ascending e h in
         let u : upperEnd c e < c .n = shape .below-n e h in
         rw (apart (upperEnd c e) (lowerEnd c e) (omega arith), apart (upperEnd c e) (c .n + e) (omega arith), same (upperEnd c e)) (simp flat (omega zs))
 
     pub part-edge : (k l : ℕ) → partBy c w e p q (c .n + e) k l
-        ≡ onlyWhere (ltb k p) (weight c w (lowerEnd c e) k 0) +ℤ onlyWhere (ltb l q) (weight c w (upperEnd c e) l 0)
+        ≡ onlyWhere (ltb k p) (shifted c w (lowerEnd c e) k) +ℤ onlyWhere (ltb l q) (shifted c w (upperEnd c e) l)
     part-edge k l =
         let o : lowerEnd c e < upperEnd c e = shape .ascending e h in
         let u : upperEnd c e < c .n = shape .below-n e h in
@@ -112,45 +116,57 @@ module _ (c : Case) (w : List ℤ) (e : ℕ) where
   part-else p q x k l a b g = rw (apart x (lowerEnd c e) a, apart x (upperEnd c e) b, apart x (c .n + e) g)
 
   -- ---- the whole round
+  pub rounded-barred : {x k l : ℕ} → IsTuple c x k l → T (barred c w x k l) → weight c (pairRounded c w e) x k l ≡ weight c w x k l
+  rounded-barred {x} {k} {l} t b = weight-spared c w (pairBy c w e) t ∙ if-true _ _ (barred c w x k l) b
+
+  rounded-free : {x k l : ℕ} → IsTuple c x k l → T (not (barred c w x k l))
+      → weight c (pairRounded c w e) x k l ≡ weight c w x k l +ℤ pairBy c w e x k l
+  rounded-free {x} {k} {l} t f = weight-spared c w (pairBy c w e) t ∙ if-false _ _ (barred c w x k l) f
+
   pub rounded-else : {x k l : ℕ} → IsTuple c x k l → x ≢ lowerEnd c e → x ≢ upperEnd c e → x ≢ c .n + e
       → weight c (pairRounded c w e) x k l ≡ weight c w x k l
-  rounded-else {x} {k} {l} t a b g =
-      weight-plus c (pairBy c w e) w t ∙ ap (λ (z : ℤ). weight c w x k l +ℤ z) (part-else (c .d) (c .d) x k l a b g) ∙ +ℤ-idr (weight c w x k l)
+  rounded-else {x} {k} {l} t a b g = ⊎-elim (rounded-barred t)
+      (λ f. rounded-free t f ∙ ap (λ (z : ℤ). weight c w x k l +ℤ z) (part-else (c .d) (c .d) x k l a b g) ∙ +ℤ-idr (weight c w x k l))
+      (either (barred c w x k l))
 
   pub greatest-else : {x : ℕ} → x < scopeCount c → x ≢ lowerEnd c e → x ≢ upperEnd c e → x ≢ c .n + e
       → greatest c (pairRounded c w e) x ≡ greatest c w x
   greatest-else {x} o a b g = ap greatestOf (each-cong c x o (λ k l t. rounded-else t a b g))
 
+  -- a variable's scope that has a tuple that is not barred, where those come to 0
+  all-spent : {i : ℕ} → i < c .n → T (not (whollyBarred c w i))
+      → ((k : ℕ) → k < c .d → T (not (barred c w i k 0)) → weight c (pairRounded c w e) i k 0 ≡ pos 0) → greatest c (pairRounded c w e) i ≡ pos 0
+  all-spent {i} o some spent =
+      let (k, l, t, f) = each-some-not c (barred c w i) i (omega arith) some in
+      let z : weight c (pairRounded c w e) i k 0 ≡ pos 0 = spent k (t .one) (subst (λ (l : ℕ). T (not (barred c w i k l))) (t .alone o) f) in
+      greatest-there c (pairRounded c w e) (variable-tuple c i k o (t .one)) (λ a b v. rw (v .alone o) (⊎-elim
+      (λ s. z ▸ rounded-barred (variable-tuple c i a o (v .one)) s ▸ T-eq (weight c w i a 0) barredWeight .0 s ▸ simp flat (omega zs))
+      (λ s. z ▸ spent a (v .one) s ▸ simp flat (omega zs)) (either (barred c w i a 0))))
+      ∙ z
+
   module _ (shape : Shape c) (h : e < c .m) where
-    pub rounded-lower : (k : ℕ) → k < c .d → weight c (pairRounded c w e) (lowerEnd c e) k 0 ≡ pos 0
-    rounded-lower k o =
-        weight-plus c (pairBy c w e) w (lower-tuple c shape e h o) ▸ part-lower shape h (c .d) (c .d) k
-        ▸ if-true (negℤ (weight c w (lowerEnd c e) k 0)) (pos 0) (ltb k (c .d)) (simp tests o) ▸ simp flat (omega zs)
+    pub rounded-lower : (k : ℕ) → k < c .d → T (not (barred c w (lowerEnd c e) k 0)) → weight c (pairRounded c w e) (lowerEnd c e) k 0 ≡ pos 0
+    rounded-lower k o f =
+        rounded-free (lower-tuple c shape e h o) f ▸ part-lower shape h (c .d) (c .d) k ▸ shifted-free c w (lowerEnd c e) k f
+        ▸ if-true (negℤ (shifted c w (lowerEnd c e) k)) (pos 0) (ltb k (c .d)) (simp tests o) ▸ simp flat (omega zs)
 
-    pub rounded-upper : (l : ℕ) → l < c .d → weight c (pairRounded c w e) (upperEnd c e) l 0 ≡ pos 0
-    rounded-upper l o =
-        weight-plus c (pairBy c w e) w (upper-tuple c shape e h o) ▸ part-upper shape h (c .d) (c .d) l
-        ▸ if-true (negℤ (weight c w (upperEnd c e) l 0)) (pos 0) (ltb l (c .d)) (simp tests o) ▸ simp flat (omega zs)
+    pub rounded-upper : (l : ℕ) → l < c .d → T (not (barred c w (upperEnd c e) l 0)) → weight c (pairRounded c w e) (upperEnd c e) l 0 ≡ pos 0
+    rounded-upper l o f =
+        rounded-free (upper-tuple c shape e h o) f ▸ part-upper shape h (c .d) (c .d) l ▸ shifted-free c w (upperEnd c e) l f
+        ▸ if-true (negℤ (shifted c w (upperEnd c e) l)) (pos 0) (ltb l (c .d)) (simp tests o) ▸ simp flat (omega zs)
 
-    pub rounded-edge : (k l : ℕ) → k < c .d → l < c .d → weight c (pairRounded c w e) (c .n + e) k l ≡ threeAt c w e k l
-    rounded-edge k l o u =
-        weight-plus c (pairBy c w e) w (edge-tuple c e k l h o u) ▸ part-edge shape h (c .d) (c .d) k l
-        ▸ if-true (weight c w (lowerEnd c e) k 0) (pos 0) (ltb k (c .d)) (simp tests o)
-        ▸ if-true (weight c w (upperEnd c e) l 0) (pos 0) (ltb l (c .d)) (simp tests u) ▸ simp flat (omega zs)
+    pub rounded-edge : (k l : ℕ) → k < c .d → l < c .d → T (not (barred c w (c .n + e) k l))
+        → weight c (pairRounded c w e) (c .n + e) k l ≡ bothAt c w e k l
+    rounded-edge k l o u f =
+        rounded-free (edge-tuple c e k l h o u) f ▸ part-edge shape h (c .d) (c .d) k l
+        ▸ if-true (shifted c w (lowerEnd c e) k) (pos 0) (ltb k (c .d)) (simp tests o)
+        ▸ if-true (shifted c w (upperEnd c e) l) (pos 0) (ltb l (c .d)) (simp tests u) ▸ simp flat (omega zs)
 
-    pub greatest-lower : greatest c (pairRounded c w e) (lowerEnd c e) ≡ pos 0
-    greatest-lower =
-        let (k, l, t, o) = greatest-at c (pairRounded c w e) (lower-tuple c shape e h (shape .some-value)) in
-        sym o ∙ ap (weight c (pairRounded c w e) (lowerEnd c e) k) (t .alone (omega (arith, shape .ascending e h, shape .below-n e h)))
-        ∙ rounded-lower k (t .one)
+    pub greatest-lower : T (not (whollyBarred c w (lowerEnd c e))) → greatest c (pairRounded c w e) (lowerEnd c e) ≡ pos 0
+    greatest-lower some = all-spent (omega (arith, shape .ascending e h, shape .below-n e h)) some rounded-lower
 
-    pub greatest-upper : greatest c (pairRounded c w e) (upperEnd c e) ≡ pos 0
-    greatest-upper =
-        let (l, z, t, o) = greatest-at c (pairRounded c w e) (upper-tuple c shape e h (shape .some-value)) in
-        sym o ∙ ap (weight c (pairRounded c w e) (upperEnd c e) l) (t .alone (shape .below-n e h)) ∙ rounded-upper l (t .one)
-
-    pub greatest-edge : greatest c (pairRounded c w e) (c .n + e) ≡ bestOfThree c w e
-    greatest-edge = ap greatestOf (each-cong c (c .n + e) (omega arith) (λ k l t. rounded-edge k l (t .one) (t .two)))
+    pub greatest-upper : T (not (whollyBarred c w (upperEnd c e))) → greatest c (pairRounded c w e) (upperEnd c e) ≡ pos 0
+    greatest-upper some = all-spent (shape .below-n e h) some rounded-upper
 
     -- ---- the upper bound
     abbrev atLower : ℕ → ℤ
@@ -159,51 +175,57 @@ module _ (c : Case) (w : List ℤ) (e : ℕ) where
     abbrev atUpper : ℕ → ℤ
     atUpper = only (upperEnd c e) (greatest c w (upperEnd c e))
 
+    abbrev edgeFall : ℤ
+    edgeFall = greatest c w (c .n + e) -ℤ greatest c (pairRounded c w e) (c .n + e)
+
     abbrev atEdge : ℕ → ℤ
-    atEdge = only (c .n + e) (greatest c w (c .n + e) -ℤ bestOfThree c w e)
+    atEdge = only (c .n + e) edgeFall
 
     abbrev fallen : ℕ → ℤ
     fallen x = (atLower x +ℤ atUpper x) +ℤ atEdge x
 
-    fall-at : (x : ℕ) → x < scopeCount c → greatest c (pairRounded c w e) x ≡ greatest c w x -ℤ fallen x
-    fall-at =
-        let o : lowerEnd c e < upperEnd c e = shape .ascending e h in
-        let u : upperEnd c e < c .n = shape .below-n e h in
-        by-pair c e (λ x. x < scopeCount c → greatest c (pairRounded c w e) x ≡ greatest c w x -ℤ fallen x)
-        (λ s. rw (greatest-lower, same (lowerEnd c e), apart (lowerEnd c e) (upperEnd c e) (omega arith), apart (lowerEnd c e) (c .n + e) (omega arith))
-        (simp flat (omega zs)))
-        (λ s. rw (greatest-upper, same (upperEnd c e), apart (upperEnd c e) (lowerEnd c e) (omega arith), apart (upperEnd c e) (c .n + e) (omega arith))
-        (simp flat (omega zs)))
-        (λ s. rw (greatest-edge, same (c .n + e), apart (c .n + e) (lowerEnd c e) (omega arith), apart (c .n + e) (upperEnd c e) (omega arith))
-        (simp flat (omega zs)))
-        (λ x a b g s. rw (greatest-else s a b g, apart x (lowerEnd c e) a, apart x (upperEnd c e) b, apart x (c .n + e) g) (simp flat (omega zs)))
+    module _ (lower-some : T (not (whollyBarred c w (lowerEnd c e)))) (upper-some : T (not (whollyBarred c w (upperEnd c e)))) where
+      fall-at : (x : ℕ) → x < scopeCount c → greatest c (pairRounded c w e) x ≡ greatest c w x -ℤ fallen x
+      fall-at =
+          let o : lowerEnd c e < upperEnd c e = shape .ascending e h in
+          let u : upperEnd c e < c .n = shape .below-n e h in
+          by-pair c e (λ x. x < scopeCount c → greatest c (pairRounded c w e) x ≡ greatest c w x -ℤ fallen x)
+          (λ s. rw (same (lowerEnd c e), apart (lowerEnd c e) (upperEnd c e) (omega arith), apart (lowerEnd c e) (c .n + e) (omega arith))
+          (greatest-lower lower-some ▸ simp flat (omega zs)))
+          (λ s. rw (same (upperEnd c e), apart (upperEnd c e) (lowerEnd c e) (omega arith), apart (upperEnd c e) (c .n + e) (omega arith))
+          (greatest-upper upper-some ▸ simp flat (omega zs)))
+          (λ s. rw (same (c .n + e), apart (c .n + e) (lowerEnd c e) (omega arith), apart (c .n + e) (upperEnd c e) (omega arith))
+          (simp flat (omega zs)))
+          (λ x a b g s. rw (greatest-else s a b g, apart x (lowerEnd c e) a, apart x (upperEnd c e) b, apart x (c .n + e) g) (simp flat (omega zs)))
 
-    pub pair-fall : upperBound c (pairRounded c w e) ≡ upperBound c w -ℤ pairGain c w e
-    pair-fall =
-        let o : lowerEnd c e < upperEnd c e = shape .ascending e h in
-        let u : upperEnd c e < c .n = shape .below-n e h in
-        Σ-cong (greatest c (pairRounded c w e)) (λ x. greatest c w x -ℤ fallen x) 0 (scopeCount c) (λ x a b. fall-at x (omega arith))
-        ▸ Σ-sub (greatest c w) fallen 0 (scopeCount c) ▸ Σ-add (λ x. atLower x +ℤ atUpper x) atEdge 0 (scopeCount c) ▸ Σ-add atLower atUpper 0 (scopeCount c)
-        ▸ Σ-only (lowerEnd c e) (greatest c w (lowerEnd c e)) 0 (scopeCount c) (omega arith) (omega arith)
-        ▸ Σ-only (upperEnd c e) (greatest c w (upperEnd c e)) 0 (scopeCount c) (omega arith) (omega arith)
-        ▸ Σ-only (c .n + e) (greatest c w (c .n + e) -ℤ bestOfThree c w e) 0 (scopeCount c) (omega arith) (omega arith)
-        ▸ simp flat (omega zs)
+      pub pair-fall : upperBound c (pairRounded c w e) ≡ upperBound c w -ℤ (threeGreatest c w e -ℤ greatest c (pairRounded c w e) (c .n + e))
+      pair-fall =
+          let o : lowerEnd c e < upperEnd c e = shape .ascending e h in
+          let u : upperEnd c e < c .n = shape .below-n e h in
+          Σ-cong (greatest c (pairRounded c w e)) (λ x. greatest c w x -ℤ fallen x) 0 (scopeCount c) (λ x a b. fall-at x (omega arith))
+          ▸ Σ-sub (greatest c w) fallen 0 (scopeCount c) ▸ Σ-add (λ x. atLower x +ℤ atUpper x) atEdge 0 (scopeCount c)
+          ▸ Σ-add atLower atUpper 0 (scopeCount c)
+          ▸ Σ-only (lowerEnd c e) (greatest c w (lowerEnd c e)) 0 (scopeCount c) (omega arith) (omega arith)
+          ▸ Σ-only (upperEnd c e) (greatest c w (upperEnd c e)) 0 (scopeCount c) (omega arith) (omega arith)
+          ▸ Σ-only (c .n + e) edgeFall 0 (scopeCount c) (omega arith) (omega arith)
+          ▸ simp flat (omega zs)
 
     -- ---- objectives
-    module _ (p : List ℕ) (a : T (isAssignment c p)) where
-      end-keeps : (end q : ℕ) → objectiveOf c (endBy c w e end q) p ≡ pos 0
-      end-keeps end zero =
+    module _ (p : List ℕ) where
+      end-keeps : T (isAssignment c p) → (end q : ℕ) → objectiveOf c (endBy c w e end q) p ≡ pos 0
+      end-keeps a end zero =
           sum-zero (λ x. atUsed c p x (endBy c w e end 0 x)) (scopes c)
           (λ x m. at-used c p (endBy c w e end 0 x) x ∙ end-begun end x (firstUsed c p x) (secondUsed c p x))
-      end-keeps end (suc q) =
-          let z : ℤ = negℤ (weight c w (endVariable c e end) q 0) in
+      end-keeps a end (suc q) =
+          let z : ℤ = negℤ (shifted c w (endVariable c e end) q) in
           objectiveOf-cong shape p a (endBy c w e end (suc q)) (λ x k l. endBy c w e end q x k l +ℤ shiftBy c e end q z x k l)
           (λ x k l t. end-more end q x k l)
-          ∙ objectiveOf-add c p (endBy c w e end q) (shiftBy c e end q z) ∙ ap₂ _+ℤ_ (end-keeps end q) (shift-keeps c e end q z shape h p)
+          ∙ objectiveOf-add c p (endBy c w e end q) (shiftBy c e end q z) ∙ ap₂ _+ℤ_ (end-keeps a end q) (shift-keeps c e end q z shape h p)
 
-      pub pair-keeps : objective c (pairRounded c w e) p ≡ objective c w p
-      pair-keeps =
-          objective-plus shape p a (pairBy c w e) w
-          ∙ ap (λ (z : ℤ). objective c w p +ℤ z) (objectiveOf-add c p (endBy c w e 0 (c .d)) (endBy c w e 1 (c .d))
-          ∙ ap₂ _+ℤ_ (end-keeps 0 (c .d)) (end-keeps 1 (c .d)))
+      pub pair-keeps : T (isLawful c w p) → objective c (pairRounded c w e) p ≡ objective c w p
+      pair-keeps t =
+          let a = lawful-iff c w p .0 t .0 in
+          objective-plus shape p a (spared c w (pairBy c w e)) w
+          ∙ ap (λ (z : ℤ). objective c w p +ℤ z) (spared-used c w p t (pairBy c w e)
+          ∙ objectiveOf-add c p (endBy c w e 0 (c .d)) (endBy c w e 1 (c .d)) ∙ ap₂ _+ℤ_ (end-keeps a 0 (c .d)) (end-keeps a 1 (c .d)))
           ∙ +ℤ-idr (objective c w p)

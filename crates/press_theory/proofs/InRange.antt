@@ -2,7 +2,7 @@
 -- one: no scope's greatest weight rises, no weight falls by more than the upper bound has, and no objective falls. With starting weights of at
 -- most U on either side of 0 the upper bound begins at s·U at most and never passes below an objective, which is −s·U at least; so it falls by
 -- 2·s·U at most, and each weight stays between −(2·s + 1)·U and U. Assumes nothing.
-use mathlib.Core.Path.{_≡_, ap, subst, _∙_}
+use mathlib.Core.Path.{_≡_, ap, _∙_}
 use mathlib.Core.Bool.{not}
 use mathlib.Core.Option.{none, some}
 use mathlib.Core.Logic.{⊎-elim}
@@ -35,7 +35,7 @@ use Rattle.theory.proofs.Presses.{press-moves}
 use Rattle.theory.proofs.Validity.{Valid}
 use Rattle.press_theory.proofs.Trim.{chosen-some, kept-refuted}
 use Rattle.press_theory.proofs.Gaps.{amount-some, next-round}
-use Rattle.press_theory.proofs.Fall.{enginePressed, pressed-moved, after-press, only-within, pressed-weight, no-rise, fall}
+use Rattle.press_theory.proofs.Fall.{enginePressed, free-below, after-press, only-within, pressed-weight, no-rise, fall}
 
 -- reached from w₀ by engine presses, of tables with no barred tuple
 pub data Reached (c : Case) (w₀ : List ℤ) : List ℤ → Type 0 where
@@ -55,7 +55,7 @@ module _ {c : Case} {w₀ : List ℤ} (shape : Shape c) where
   -- no scope's greatest weight rises
   pub reached-high : {w : List ℤ} → Reached c w₀ w → (x : ℕ) → x < scopeCount c → greatest c w x ≤ℤ greatest c w₀ x
   reached-high start x h = omega zs
-  reached-high (pressed {w = w} r free e g) x h = ≤ℤ-trans (no-rise c w shape e g x h) (reached-high r x h)
+  reached-high (pressed {w = w} {i = i} {a = a} r free e g) x h = ≤ℤ-trans (no-rise c w shape e g (free-below c w i a free) x h) (reached-high r x h)
 
   -- no weight falls by more than the upper bound has
   pub reached-low : {w : List ℤ} → Reached c w₀ w → {x k l : ℕ} → IsTuple c x k l
@@ -64,7 +64,8 @@ module _ {c : Case} {w₀ : List ℤ} (shape : Shape c) where
   reached-low (pressed {w = w} {i = i} {a = a} r free e g) {x} {k} {l} t =
       low-step (weight c w₀ x k l) (weight c w x k l) (weight c (enginePressed c w i a) x k l) (upperBound c w₀) (upperBound c w)
       (upperBound c (enginePressed c w i a)) (only i a x) a
-      (reached-low r t) (pressed-weight c w shape e g t .0) (only-within c w shape e g x .1) (fall c w shape e g)
+      (reached-low r t) (pressed-weight c w shape e g (free-below c w i a free) t .0) (only-within c w shape e g x .1)
+      (fall c w shape e g (free-below c w i a free))
 
   -- no objective falls, so the upper bound never passes below a first one
   module _ (p : List ℕ) (assigned : T (isAssignment c p)) where
@@ -72,9 +73,9 @@ module _ {c : Case} {w₀ : List ℤ} (shape : Shape c) where
     reached-objective start = omega zs
     reached-objective (pressed {w = w} {i = i} {a = a} r free e g) =
         let (h, t, l) = chosen-some c w e in
-        ≤ℤ-trans (reached-objective r) (subst (λ (v : List ℤ). objective c w p ≤ℤ objective c v p) (pressed-moved c w free i a)
+        ≤ℤ-trans (reached-objective r)
         (press-moves shape p w (free-lawful c w free shape p assigned) i h (activeValues c w i) (keptScopes c w i) (kept-refuted c w i t) a
-        (above-zero a (amount-some c w shape e g))))
+        (above-zero a (amount-some c w shape e g)))
 
     pub reached-bound : {w : List ℤ} → Reached c w₀ w → objective c w₀ p ≤ℤ upperBound c w
     reached-bound {w} r = ≤ℤ-trans (reached-objective r) (bound-above shape p assigned w)
@@ -94,16 +95,21 @@ zeros-assigned c shape = and-intro (eqb (length (zeros c)) (c .n)) (all (λ k. l
     (simp tests (length-tab (λ j. 0) 0 (c .n)))
     (rw (all-map (λ k. ltb k (c .d)) (λ (j : ℕ). 0) (below (c .n))) (all-of (λ j. ltb 0 (c .d)) (c .n) (λ j h. simp tests (shape .some-value))))
 
+module _ {r : Rules} {c : Case} {w₀ : List ℤ} (coherent : Coherent r) (valid : Valid r c w₀) where
+  pub start-weight : {x k l : ℕ} → IsTuple c x k l → T (not (barred c w₀ x k l))
+      → (minus (r .starting) ≤ℤ weight c w₀ x k l) × (weight c w₀ x k l ≤ℤ pos (r .starting))
+  start-weight {x} {k} {l} t f = ⊎-elim (λ s. absurd (T-not (barred c w₀ x k l) f s)) (λ s. s ▸ simp flat (omega zs))
+      (or-cases (barred c w₀ x k l) (inStarting r (weight c w₀ x k l)) (valid .in-range x k l t))
+
 module _ {r : Rules} {c : Case} {w₀ : List ℤ} (coherent : Coherent r) (valid : Valid r c w₀) (free : Free c w₀) where
   shape : Shape c
   shape = valid .shape
 
-  pub start-weight : {x k l : ℕ} → IsTuple c x k l → (minus (r .starting) ≤ℤ weight c w₀ x k l) × (weight c w₀ x k l ≤ℤ pos (r .starting))
-  start-weight {x} {k} {l} t = ⊎-elim (λ s. absurd (T-not (barred c w₀ x k l) (free x k l t) s)) (λ s. s ▸ simp flat (omega zs))
-      (or-cases (barred c w₀ x k l) (inStarting r (weight c w₀ x k l)) (valid .in-range x k l t))
+  free-weight : {x k l : ℕ} → IsTuple c x k l → (minus (r .starting) ≤ℤ weight c w₀ x k l) × (weight c w₀ x k l ≤ℤ pos (r .starting))
+  free-weight {x} {k} {l} t = start-weight coherent valid t (free x k l t)
 
   start-greatest : (x : ℕ) → x < scopeCount c → greatest c w₀ x ≤ℤ pos (r .starting)
-  start-greatest x h = greatest-within c w₀ (first-tuple c (shape .some-value) x h) (λ k l t. start-weight t .1)
+  start-greatest x h = greatest-within c w₀ (first-tuple c (shape .some-value) x h) (λ k l t. free-weight t .1)
 
   -- what lies above every objective lies at most 2·s·U below the upper bound
   pub bound-spread : (z : ℤ) → ((p : List ℕ) → T (isAssignment c p) → objective c w₀ p ≤ℤ z) → upperBound c w₀ ≤ℤ (pos (2 * (scopeCount c * r .starting)) +ℤ z)
@@ -111,7 +117,7 @@ module _ {r : Rules} {c : Case} {w₀ : List ℤ} (coherent : Coherent r) (valid
       Σ-most (greatest c w₀) (r .starting) 0 (scopeCount c) (λ x l u. start-greatest x (omega arith))
       ▸ Σ-least (λ x. atUsed c (zeros c) x (weight c w₀ x)) (r .starting) 0 (scopeCount c)
       (λ x l u. at-used-holds shape (zeros c) (zeros-assigned c shape) (λ z. minus (r .starting) ≤ℤ z) x (omega arith) (weight c w₀ x)
-      (λ k l t. start-weight t .0))
+      (λ k l t. free-weight t .0))
       ▸ above (zeros c) (zeros-assigned c shape) ▸ simp flat (omega zs)
 
   -- so it falls by 2·s·U at most
@@ -122,7 +128,7 @@ module _ {r : Rules} {c : Case} {w₀ : List ℤ} (coherent : Coherent r) (valid
       → (minus ((2 * scopeCount c + 1) * r .starting) ≤ℤ weight c w x k l) × (weight c w x k l ≤ℤ pos (r .starting))
   reached-weight {w} h {x} {k} {l} t =
       let e : (2 * scopeCount c + 1) * r .starting ≡ 2 * (scopeCount c * r .starting) + r .starting = spread (scopeCount c) (r .starting) in
-      start-weight t .0 ▸ reached-low shape h t ▸ reached-fall h ▸ weight-most c w t ▸ reached-high shape h x (t .scope) ▸ start-greatest x (t .scope)
+      free-weight t .0 ▸ reached-low shape h t ▸ reached-fall h ▸ weight-most c w t ▸ reached-high shape h x (t .scope) ▸ start-greatest x (t .scope)
       ▸ simp flat (omega zs)
 
   pub reached-working : {w : List ℤ} → Reached c w₀ w → {x k l : ℕ} → IsTuple c x k l → T (inWorking r (weight c w x k l))
@@ -148,7 +154,7 @@ module _ {r : Rules} {c : Case} {w₀ : List ℤ} (coherent : Coherent r) (valid
       let (i, a, e, g, q) = next-round r c w d in
       let v : List ℤ = enginePressed c w i a in (
         v,
-        ap (λ l. afterMoves r c l w) q ∙ after-press c w (reached-free h) i a r ∙ if-false none (some v) (leavesRange r c w v) (never-leaves h e g),
+        ap (λ l. afterMoves r c l w) q ∙ after-press c w i a r ∙ if-false none (some v) (leavesRange r c w v) (never-leaves h e g),
         pressed h (reached-free h) e g,
-        fall c w shape e g ▸ amount-some c w shape e g ▸ simp flat (omega zs),
+        fall c w shape e g (free-below c w i a (reached-free h)) ▸ amount-some c w shape e g ▸ simp flat (omega zs),
       )

@@ -1,7 +1,7 @@
--- Two tables that agree on the case's own places have the same next press: the same variable, kept scopes, gaps and amount; and one has no
--- press left where the other has none. Assumes nothing.
+-- Two tables that agree on the case's own places have the same next press or void line: the same variable, kept scopes, gaps and amount; and one
+-- has none left where the other has none. Assumes nothing.
 use mathlib.Core.Path.{_≡_, refl, sym, ap, ap₂, _∙_}
-use mathlib.Core.Bool.{Bool}
+use mathlib.Core.Bool.{Bool, _||_}
 use mathlib.Core.Logic.{_↔_}
 use mathlib.Core.List.{List, [], _∷_, _++_, map, List·Memᴰ·head, List·Memᴰ·tail}
 use Prim.Native.Nat.{ℕ, _<_}
@@ -11,7 +11,7 @@ use lib.ListN.{getD}
 use Rattle.integers.specs.Words.{if_then_else_, first, joined, leastOf}
 use Rattle.integers.specs.Lists.{_∈_, those-same, map-cong}
 use Rattle.definitions.specs.declared.Case.{Case}
-use Rattle.definitions.specs.Case.{ownLength, scopeCount}
+use Rattle.definitions.specs.Case.{ownLength, scopeCount, isBarred}
 use Rattle.definitions.specs.Moves.{activeRefuted}
 use Rattle.definitions.specs.Engine.{NoPress, others, chosen, trimmed, keptScopes, gap, gapAbove, leastGap}
 use Rattle.definitions.proofs.CaseLaws.{eachTuple-same, weight-same, greatest-same, active-same}
@@ -40,7 +40,7 @@ module _ (c : Case) (w u : List ℤ) (own : (p : ℕ) → p < ownLength c → ge
 
   pub own-gap-same : (x : ℕ) → x < scopeCount c → gap c w x ≡ gap c u x
   own-gap-same x h = ap₂ gapAbove (greatest-same c w u own x h)
-      (ap joined (eachTuple-same c x (λ k l p q. ap₂ (λ (b : Bool) (z : ℤ). if b then [] else z ∷ []) (active-same c w u own x h k l p q)
+      (ap joined (eachTuple-same c x (λ k l p q. ap₂ (λ (b : Bool) (z : ℤ). if b || isBarred z then [] else z ∷ []) (active-same c w u own x h k l p q)
       (weight-same c w u own x h k l p q))))
 
   own-or-kept : (i : ℕ) → i < c .n → {x : ℕ} → x ∈ (i ∷ keptScopes c w i) → x < scopeCount c

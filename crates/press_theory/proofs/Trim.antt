@@ -29,7 +29,7 @@ use Rattle.press_theory.proofs.Raised.{refuted-more}
 use Rattle.theory.proofs.Places.{IsTuple, variable-tuple, edge-tuple, some-active-value}
 
 -- ---- tests that fail somewhere
-not-all : (f : ℕ → Bool) (n : ℕ) → T (not (all f (below n))) → (x : ℕ) × (x < n) × T (not (f x))
+pub not-all : (f : ℕ → Bool) (n : ℕ) → T (not (all f (below n))) → (x : ℕ) × (x < n) × T (not (f x))
 not-all f n t =
     ⊎-elim (any-at (λ x. not (f x)) n)
     (λ s. absurd (T-not (all f (below n)) t (all-of f n (λ x h. ⊎-elim (λ p. p)
@@ -90,7 +90,7 @@ module _ (c : Case) (w : List ℤ) where
       test : ℕ → Bool
       test i = activeRefuted c w i (others c i)
 
-  -- settled, said leavingOut an algorithm
+  -- no press and no void line is left, said without an algorithm
   pub no-press-iff : Shape c → chosen c w ≡ none ↔ NoPress c w
   no-press-iff shape = (
     λ e i h.

@@ -1,6 +1,6 @@
 -- The start and the rounds print what document 01 says of the whole input. Assumes nothing.
 use mathlib.Core.Path.{_≡_, refl, sym, ap, subst, _∙_}
-use mathlib.Core.Bool.{Bool, true, false}
+use mathlib.Core.Bool.{Bool}
 use mathlib.Core.Option.{Option, none, some}
 use mathlib.Core.List.{List, [], _++_, append-assoc, append-nil}
 use Prim.Native.Nat.{ℕ, zero, suc, _*_, _-_, _≤_}
@@ -12,28 +12,27 @@ use lib.ListN.{length, drop, length-append, length-drop}
 use lib.Seq.{take-append-seam}
 use borrow.Author.Tests.{le-ltb, ne-eqb}
 use Rattle.integers.specs.Words.{if_then_else_, joined}
-use Rattle.integers.specs.Tests.{false-is}
 use Rattle.integers.specs.Lists.{joined-append}
 use Rattle.definitions.specs.declared.Rulebook.{Rulebook}
 use Rattle.definitions.specs.declared.Case.{Case}
 use Rattle.definitions.specs.declared.FileAnswer.{FileAnswer}
 use Rattle.definitions.specs.declared.Refusal.{Refusal}
-use Rattle.definitions.specs.declared.Refusal.the-variants.{WeightOutOfRange, LeavesRange}
+use Rattle.definitions.specs.declared.Refusal.the-variants.{LeavesRange}
 use Rattle.definitions.specs.declared.Written.{Written}
 use Rattle.definitions.specs.Rules.{Rules, Coherent, coherent, rulesIn, rulesOf}
 use Rattle.calls.specs.Calls.{WriteCall, writtenOf}
-use Rattle.definitions.specs.Valid.{inWorking}
+use Rattle.definitions.specs.Valid.{workingWeight}
 use Rattle.definitions.specs.Moves.{Move, afterMoves}
 use Rattle.definitions.specs.Lines.{lineLength, overwritten}
 use Rattle.definitions.specs.CaseFiles.{CaseCall, caseOf, caseRefused, caseSize, restRefusal, nothingAfter, readCase, readCaseAlone}
-use Rattle.definitions.specs.Engine.{Next, nothing, round, Made, engineNext, roundBytes, madeOf, makeNext, atLimit, onward, runFrom, run, someBarred}
+use Rattle.definitions.specs.Engine.{Next, nothing, round, void, Made, engineNext, roundBytes, madeOf, makeNext, atLimit, onward, runFrom}
 use Rattle.calls.specs.EngineCalls.{RoundCall, roundMade, engineRefusal, roundCall}
 use Rattle.definitions.specs.Places.{longestLines, longestRound, placed}
-use Rattle.definitions.specs.Programs.{pressLimit, refusedText, tableFor, pressEnd, pressRun, pressRead}
-use Rattle.definitions.specs.RoundLines.{roundText}
+use Rattle.definitions.specs.Programs.{pressLimit, refusedText, tableFor, pressRun, pressRead}
+use Rattle.definitions.specs.RoundLines.{roundText, voidText}
+use Rattle.reach_theory.proofs.Counts.{roundsLeft, left-most, left-less, void-left-some}
+use Rattle.pressing.proofs.Unlimited.{most-few}
 use Rattle.theory.proofs.Validity.{Handed, valid-facts, working-handed}
-use Rattle.theory.proofs.Barred.{free-iff}
-use Rattle.pair_theory.proofs.Inside.{engine-takes}
 use Rattle.case_theory.proofs.CaseReads.{alone-rulebook}
 use Rattle.case_theory.proofs.CaseTexts.{written-read-alone}
 use Rattle.engine_theory.proofs.Runs.{RoundFrom, handed-on}
@@ -43,7 +42,7 @@ use Rattle.texts.specs.Texts.{textRoom, greatestCount, writeRefusedCall}
 use Rattle.texts.proofs.Answers.{text-done}
 use Rattle.judging.proofs.Fronts.{frontLine, case-line, press-front}
 use Rattle.judging.proofs.Prints.{few-lines}
-use Rattle.pressing.specs.Pressing.{PressingCall, afterText, afterRound, headOrShort, freeOnly, afterCase, startPressing, roundNext, nextPressing}
+use Rattle.pressing.specs.Pressing.{PressingCall, afterText, afterRound, headOrShort, afterCase, startPressing, roundNext, nextPressing}
 use Rattle.pressing.specs.Prints.{printedBytes, textOf, called, afterCalls, printedOf, Over, Printed, PressPrinted}
 
 -- ---- nothing more is due
@@ -127,9 +126,10 @@ module _ (c : Case) (at : ℕ) (few : at ≤ greatestCount) where
     settles : engineNext r c w ≡ nothing → Called left w out (stand 0 w out (Written.Bytes 0))
     refuses : {moves : List Move} → engineNext r c w ≡ round moves → afterMoves r c moves w ≡ none
         → Called left w out (written (refusedText LeavesRange at) out 0 w)
+    voids : {i : ℕ} {raised : List ℕ} → engineNext r c w ≡ void i raised → Called left w out (written (joined (voidText r i raised)) out 0 w)
     makes : {moves : List Move} {v : List ℤ} → RoundFrom r engineNext c w moves v → Called left w out (written (joined (roundText r c moves v)) out left v)
 
-  module _ (left : ℕ) (w : List ℤ) (out : List ℕ) (h : Handed r (inWorking r) c w) (long : roundBytes r c ≤ length out) (room : textRoom ≤ length out) where
+  module _ (left : ℕ) (w : List ℤ) (out : List ℕ) (h : Handed r (workingWeight r) c w) (long : roundBytes r c ≤ length out) (room : textRoom ≤ length out) where
     text-written : writeRefusedCall out LeavesRange at ≡ record {
       answer = Written.Bytes (length (refusedText LeavesRange at));
       out =
@@ -145,7 +145,7 @@ module _ (c : Case) (at : ℕ) (few : at ≤ greatestCount) where
     unfolding nextPressing
     called-told x =
         ap (λ (b : Bool). if b then idle (stand (suc left) w out x) else told (roundCall r engineNext c w out)) (ne-eqb (suc left) 0 (λ z. omega arith))
-        ∙ ap told (call-taken r engineNext c w out (taken-iff r engineNext c w out whole .1 (h, long)))
+        ∙ ap told (call-taken r engineNext c w out (taken-iff r engineNext c w out .1 (h, long)))
 
     abbrev leads-to : Made → PressingCall
     leads-to m = told (roundMade c w out m)
@@ -168,6 +168,7 @@ module _ (c : Case) (at : ℕ) (few : at ≤ greatestCount) where
 
         go : (n : Next) → engineNext r c w ≡ n → Called left w out (leads-to (makeNext r c w n))
         go nothing e = settles e
+        go (void i raised) e = voids e
         go (round moves) e = leads moves (afterMoves r c moves w) e refl
 
   -- what is left to print after so many calls
@@ -187,7 +188,7 @@ module _ (c : Case) (at : ℕ) (few : at ≤ greatestCount) where
       → length (overwritten (joined (roundText r c moves v)) out) ≡ length out
   kept-long m out long = simp (length-append, length-drop) (omega (arith, round-short whole (engine-lawful whole c) m))
 
-  ends-after : (left : ℕ) (w : List ℤ) (out : List ℕ) (x : Written) → Handed r (inWorking r) c w → roundBytes r c ≤ length out → textRoom ≤ length out
+  ends-after : (left : ℕ) (w : List ℤ) (out : List ℕ) (x : Written) → Handed r (workingWeight r) c w → roundBytes r c ≤ length out → textRoom ≤ length out
       → (n : ℕ) → left ≤ n → Over (afterCalls n (stand left w out x))
   ends-after zero w out x h long room n k = over-after n (stand 0 w out x) refl
   ends-after (suc left) w out x h long room zero k = absurd (omega arith)
@@ -195,32 +196,36 @@ module _ (c : Case) (at : ℕ) (few : at ≤ greatestCount) where
       go (called (stand (suc left) w out x)) (called-is left w out h long room x) (λ v bytes y g l m. ends-after left v bytes y g l m n (omega arith))
     where
       go : (g : PressingCall) → Called left w out g
-          → ((v : List ℤ) (bytes : List ℕ) (y : Written) → Handed r (inWorking r) c v → roundBytes r c ≤ length bytes → textRoom ≤ length bytes
+          → ((v : List ℤ) (bytes : List ℕ) (y : Written) → Handed r (workingWeight r) c v → roundBytes r c ≤ length bytes → textRoom ≤ length bytes
           → Over (afterCalls n (stand left v bytes y)))
           → Over (afterCalls n g)
       go g (settles e) on = over-after n g refl
       go g (refuses e f) on = over-after n g refl
+      go g (voids e) on = over-after n g refl
       go g (makes {moves} {v} m) on =
           let same = kept-long m out long in
           on v (overwritten (joined (roundText r c moves v)) out) (Written.Bytes (length (joined (roundText r c moves v))))
           (handed-on whole (engine-lawful whole c) m) (omega arith) (omega arith)
 
-  prints-after : (left done : ℕ) (w : List ℤ) (out : List ℕ) (x : Written) (log : List (List ℕ)) → Handed r (inWorking r) c w
-      → roundBytes r c ≤ length out → textRoom ≤ length out
+  -- where no more rounds can come than may follow, a void line does not come after the last of them
+  prints-after : (left done : ℕ) (w : List ℤ) (out : List ℕ) (x : Written) (log : List (List ℕ)) → Handed r (workingWeight r) c w
+      → roundsLeft c w ≤ left → roundBytes r c ≤ length out → textRoom ≤ length out
       → (n : ℕ) → Over (afterCalls n (stand left w out x)) → joined log ++ more n (stand left w out x) ≡ pressRun at (runFrom r engineNext c left done w log)
-  prints-after zero done w out x log h long room n over = ap (λ (l : List ℕ). joined log ++ l) (over-more n (stand 0 w out x) refl) ∙ go (engineNext r c w)
+  prints-after zero done w out x log h enough long room n over =
+      ap (λ (l : List ℕ). joined log ++ l) (over-more n (stand 0 w out x) refl) ∙ go (engineNext r c w) refl
     where
-      go : (n : Next) → joined log ++ [] ≡ joined log ++ pressEnd at (atLimit n)
-      go nothing = refl
-      go (round moves) = refl
-  prints-after (suc left) done w out x log h long room zero over = absurd (omega arith)
-  prints-after (suc left) done w out x log h long room (suc n) over =
+      go : (n : Next) → engineNext r c w ≡ n → joined log ++ [] ≡ pressRun at (atLimit r n done w log)
+      go nothing e = refl
+      go (round moves) e = refl
+      go (void i raised) e = absurd (omega (arith, void-left-some whole h e))
+  prints-after (suc left) done w out x log h enough long room zero over = absurd (omega arith)
+  prints-after (suc left) done w out x log h enough long room (suc n) over =
       go (called (stand (suc left) w out x)) (called-is left w out h long room x) over
-      (λ v bytes y l g k m o. prints-after left (suc done) v bytes y l g k m n o)
+      (λ v bytes y l g e k m o. prints-after left (suc done) v bytes y l g e k m n o)
     where
       go : (g : PressingCall) → Called left w out g → Over (afterCalls n g)
-          → ((v : List ℤ) (bytes : List ℕ) (y : Written) (l : List (List ℕ)) → Handed r (inWorking r) c v → roundBytes r c ≤ length bytes
-          → textRoom ≤ length bytes
+          → ((v : List ℤ) (bytes : List ℕ) (y : Written) (l : List (List ℕ)) → Handed r (workingWeight r) c v → roundsLeft c v ≤ left
+          → roundBytes r c ≤ length bytes → textRoom ≤ length bytes
           → Over (afterCalls n (stand left v bytes y)) → joined l ++ more n (stand left v bytes y) ≡ pressRun at (runFrom r engineNext c left (suc done) v l))
           → joined log ++ printedOf n g ≡ pressRun at (onward (makeNext r c w (engineNext r c w)) done w log
           (λ v lines. runFrom r engineNext c left (suc done) v lines))
@@ -232,11 +237,17 @@ module _ (c : Case) (at : ℕ) (few : at ≤ greatestCount) where
           ∙ take-append-seam (refusedText LeavesRange at) (drop (length (refusedText LeavesRange at)) out))
           ∙ sym (ap (λ (k : Next). pressRun at (onward (makeNext r c w k) done w log (λ v lines. runFrom r engineNext c left (suc done) v lines))) e
           ∙ ap (λ (o : Option (List ℤ)). pressRun at (onward (madeOf r c moves o) done w log (λ v lines. runFrom r engineNext c left (suc done) v lines))) f)
+      go g (voids {i} {raised} e) over on =
+          let lines : List (List ℕ) = voidText r i raised in
+          ap (λ (l : List ℕ). joined log ++ l) (over-printed n g refl ∙ take-append-seam (joined lines) (drop (length (joined lines)) out))
+          ∙ sym (joined-append log lines) ∙ sym (append-nil (joined (log ++ lines)))
+          ∙ sym (ap (λ (k : Next). pressRun at (onward (makeNext r c w k) done w log (λ v lines. runFrom r engineNext c left (suc done) v lines))) e)
       go g (makes {moves} {v} m) over on =
           let lines : List (List ℕ) = roundText r c moves v in
           let same = kept-long m out long in
+          let fewer = left-less whole h (m .comes) (m .leads) in
           let rest = on v (overwritten (joined lines) out) (Written.Bytes (length (joined lines))) (log ++ lines) (handed-on whole (engine-lawful whole c) m)
-          (omega arith) (omega arith) over in
+          (omega arith) (omega arith) (omega arith) over in
           ap (λ (l : List ℕ). joined log ++ l) (text-more n g
           ∙ ap (λ (l : List ℕ). l ++ more n g) (take-append-seam (joined lines) (drop (length (joined lines)) out)))
           ∙ sym (append-assoc (joined log) (joined lines) (more n g)) ∙ ap (λ (l : List ℕ). l ++ more n g) (sym (joined-append log lines)) ∙ rest
@@ -246,7 +257,7 @@ module _ (c : Case) (at : ℕ) (few : at ≤ greatestCount) where
 
 -- ---- an input that is read under a rulebook
 
-round-fits : {c : Case} {w : List ℤ} → Handed (rulesOf c) (inWorking (rulesOf c)) c w → roundBytes (rulesOf c) c ≤ longestRound (rulesOf c)
+round-fits : {c : Case} {w : List ℤ} → Handed (rulesOf c) (workingWeight (rulesOf c)) c w → roundBytes (rulesOf c) c ≤ longestRound (rulesOf c)
 round-fits {c} h = mul-le-mul-left (lineLength (rulesOf c .amountWidth)) (omega (arith, h .variables-most, h .edges-most, h .values-most))
 
 module _ (book : Rulebook) (texts-fit : textRoom ≤ longestRound (rulesIn book)) where
@@ -260,39 +271,17 @@ module _ (book : Rulebook) (texts-fit : textRoom ≤ longestRound (rulesIn book)
     abbrev begun : PressingCall
     begun = startPressing book t lent out
 
-    line-few : {a : FileAnswer} → call .read .answer ≡ a → frontLine a ≤ greatestCount
-    line-few e = omega (arith, alone-line book t lent, ap frontLine e, few-lines (coherent book))
-
-    -- what the case's reading answers, and a case with barred tuples
-    abbrev asked : FileAnswer
-    asked = freeOnly (someBarred (call .read .case) (call .table)) (call .read .answer)
-
-    begins : begun ≡ afterCase out call asked
+    begins : begun ≡ afterCase out call (call .read .answer)
     unfolding startPressing
     begins =
         ap (λ (b : Bool). if b then record {
           pressed = record { pressing = record { case = caseOf book 0 0 0; lines = 0; left = 0 }; written = Written.Refused (headOrShort (caseSize book t)) };
           table = lent;
           out = out;
-        } else afterCase out call asked) (le-ltb (length out) textRoom (omega arith))
+        } else afterCase out call (call .read .answer)) (le-ltb (length out) textRoom (omega arith))
 
-    -- a refusal, or a case without barred tuples
-    data Asked : FileAnswer → Type 0 where
-      refuses : {x : Refusal} {line : ℕ} → line ≤ greatestCount → pressRead call (call .read .answer) ≡ refusedText x line → Asked (FileAnswer.Refused x line)
-      takes : {lines : ℕ} → call .read .answer ≡ FileAnswer.Read lines → someBarred (call .read .case) (call .table) ≡ false → Asked (FileAnswer.Read lines)
-
-    asked-is : Asked asked
-    asked-is = go (call .read .answer) refl
-      where
-        free : (lines : ℕ) → call .read .answer ≡ FileAnswer.Read lines → (b : Bool) → someBarred (call .read .case) (call .table) ≡ b
-            → Asked (freeOnly b (FileAnswer.Read lines))
-        free lines e true d = refuses (line-few e) (ap (pressRead call) e
-            ∙ ap (λ (b : Bool). if b then refusedText WeightOutOfRange lines else pressRun lines (run (rulesOf (call .read .case)) engineNext (call .read .case) pressLimit (call .table))) d)
-        free lines e false d = takes e d
-
-        go : (a : FileAnswer) → call .read .answer ≡ a → Asked (freeOnly (someBarred (call .read .case) (call .table)) a)
-        go (FileAnswer.Refused x at) e = refuses (line-few e) (ap (pressRead call) e)
-        go (FileAnswer.Read lines) e = free lines e (someBarred (call .read .case) (call .table)) refl
+    line-few : {a : FileAnswer} → call .read .answer ≡ a → frontLine a ≤ greatestCount
+    line-few e = omega (arith, alone-line book t lent, ap frontLine e, few-lines (coherent book))
 
     refused-text : (x : Refusal) (line : ℕ) → line ≤ greatestCount → textOf (afterCase out call (FileAnswer.Refused x line)) ≡ refusedText x line
     unfolding writeRefusedCall
@@ -304,19 +293,20 @@ module _ (book : Rulebook) (texts-fit : textRoom ≤ longestRound (rulesIn book)
     abbrev Right : FileAnswer → Type 0
     Right a = Printed book t (afterCase out call a)
 
-    right : (a : FileAnswer) → Asked a → Right a
-    right (FileAnswer.Refused x line) (refuses few e) =
-        let is : textOf (afterCase out call (FileAnswer.Refused x line)) ≡ refusedText x line = refused-text x line few in
+    right : (a : FileAnswer) → call .read .answer ≡ a → Right a
+    right (FileAnswer.Refused x line) e =
+        let is : textOf (afterCase out call (FileAnswer.Refused x line)) ≡ refusedText x line = refused-text x line (line-few e) in
         record {
           ends = λ n k. over-after n (afterCase out call (FileAnswer.Refused x line)) refl;
-          printed = λ n over. over-printed n (afterCase out call (FileAnswer.Refused x line)) refl ∙ is ∙ sym e;
+          printed = λ n over. over-printed n (afterCase out call (FileAnswer.Refused x line)) refl ∙ is ∙ sym (ap (pressRead call) e);
         }
-    right (FileAnswer.Read lines) (takes e d) =
+    right (FileAnswer.Read lines) e =
         let c : Case = call .read .case in
         let whole : Coherent (rulesOf c) = coherent (c .rulebook) in
-        let known = working-handed whole (valid-facts (rulesOf c) c (call .table) (written-read-alone book t lent e .accepted)) in
-        let h : Handed (rulesOf c) (inWorking (rulesOf c)) c (call .table) =
-        engine-takes known (free-iff c (call .table) (omega (arith, known .long)) .0 (false-is (someBarred c (call .table)) d)) in
+        let h : Handed (rulesOf c) (workingWeight (rulesOf c)) c (call .table) =
+        working-handed whole (valid-facts (rulesOf c) c (call .table) (written-read-alone book t lent e .accepted)) in
+        let most : roundsLeft c (call .table) ≤ pressLimit =
+        omega (arith, left-most c (call .table), most-few (c .rulebook) c (h .variables-most) (h .values-most) (h .edges-most)) in
         let same : longestRound (rulesOf c) ≡ longestRound (rulesIn book) = ap (λ (b : Rulebook). longestRound (rulesIn b)) (alone-rulebook book t lent) in
         let fits = round-fits h in
         let k : lines ≤ greatestCount = line-few e in
@@ -324,13 +314,12 @@ module _ (book : Rulebook) (texts-fit : textRoom ≤ longestRound (rulesIn book)
           ends = ends-after c lines k pressLimit (call .table) out (Written.Bytes 0) h (omega arith) (omega arith);
           printed = λ n over.
               text-more c lines k n (afterCase out call (FileAnswer.Read lines))
-              ∙ prints-after c lines k pressLimit 0 (call .table) out (Written.Bytes 0) [] h (omega arith) (omega arith) n over
-              ∙ sym (ap (pressRead call) e
-              ∙ ap (λ (b : Bool). if b then refusedText WeightOutOfRange lines else pressRun lines (run (rulesOf c) engineNext c pressLimit (call .table))) d);
+              ∙ prints-after c lines k pressLimit 0 (call .table) out (Written.Bytes 0) [] h most (omega arith) (omega arith) n over
+              ∙ sym (ap (pressRead call) e);
         }
 
     prints : Printed book t begun
-    prints = subst (Printed book t) (sym begins) (right asked asked-is)
+    prints = subst (Printed book t) (sym begins) (right (call .read .answer) refl)
 
   press-prints : PressPrinted book
   press-prints front rest out enough long =

@@ -1,5 +1,4 @@
 -- The program `press` as a start and rounds one after another, on all input. Assumes nothing.
-use mathlib.Core.Bool.{Bool}
 use mathlib.Core.List.{List}
 use Prim.Native.Nat.{ℕ, _-_}
 use lib.IntN.{ℤ}
@@ -10,14 +9,14 @@ use Rattle.definitions.specs.declared.CaseSize.{CaseSize}
 use Rattle.definitions.specs.declared.FileAnswer.{FileAnswer}
 use Rattle.definitions.specs.declared.Rulebook.{Rulebook}
 use Rattle.definitions.specs.declared.Refusal.{Refusal}
-use Rattle.definitions.specs.declared.Refusal.the-variants.{WrongLength, WeightOutOfRange}
+use Rattle.definitions.specs.declared.Refusal.the-variants.{WrongLength}
 use Rattle.definitions.specs.declared.Round.{Round}
 use Rattle.definitions.specs.declared.Written.{Written}
 use Rattle.definitions.specs.Rules.{rulesOf}
 use Rattle.definitions.specs.Refusals.{number}
 use Rattle.calls.specs.Calls.{WriteCall, writtenOf}
 use Rattle.definitions.specs.CaseFiles.{CaseCall, caseOf, caseSize, readCaseAlone}
-use Rattle.definitions.specs.Engine.{someBarred, engineNext}
+use Rattle.definitions.specs.Engine.{engineNext}
 use Rattle.calls.specs.EngineCalls.{RoundCall, isLeaving, engineRefusal, roundCall}
 use Rattle.definitions.specs.Programs.{pressLimit}
 use Rattle.texts.specs.Texts.{textRoom, writeRefusedCall}
@@ -34,7 +33,7 @@ pub record PressingCall : Type 0 where
 abbrev pub withLeft : Pressing → ℕ → Pressing
 withLeft p left = record { case = p .case; lines = p .lines; left = left }
 
--- a refusal's text; nothing more is due after it
+-- a text or a void line; nothing more is due after it
 abbrev pub afterText : Pressing → Written → Pressed
 afterText p (Written.Bytes n) = record { pressing = withLeft p 0; written = Written.Bytes n }
 afterText p (Written.Refused x) = record { pressing = p; written = Written.Refused x }
@@ -48,6 +47,8 @@ abbrev pub afterRound : Pressing → RoundCall → Round → PressingCall
 afterRound p call Round.Settled = record { pressed = record { pressing = withLeft p 0; written = Written.Bytes 0 }; table = call .table; out = call .out }
 afterRound p call (Round.Made bytes bound) =
     record { pressed = record { pressing = withLeft p (p .left - 1); written = Written.Bytes bytes }; table = call .table; out = call .out }
+afterRound p call (Round.Void bytes) =
+    record { pressed = record { pressing = withLeft p 0; written = Written.Bytes bytes }; table = call .table; out = call .out }
 afterRound p call (Round.Refused x) =
     let text : WriteCall = pressRefusal x (p .lines) (call .out) in
     record { pressed = afterText p (text .answer); table = call .table; out = text .out }
@@ -59,11 +60,6 @@ shortOr x = if eqb (number x) 14 then WrongLength else x
 abbrev pub headOrShort : CaseSize → Refusal
 headOrShort (CaseSize.Refused x) = shortOr x
 headOrShort (CaseSize.Size n d m long) = WrongLength
-
--- `press` takes no barred tuples: a case with some is refused by 8, at the line after its last
-abbrev pub freeOnly : Bool → FileAnswer → FileAnswer
-freeOnly some (FileAnswer.Refused x at) = FileAnswer.Refused x at
-freeOnly some (FileAnswer.Read lines) = if some then FileAnswer.Refused WeightOutOfRange lines else FileAnswer.Read lines
 
 -- a refused case is printed and nothing more is due; after a case that was read, up to 100,000 rounds
 abbrev pub afterCase : List ℕ → CaseCall → FileAnswer → PressingCall
@@ -91,7 +87,7 @@ startPressing b t w out =
     }
     else (
     let call : CaseCall = readCaseAlone b t w in
-    afterCase out call (freeOnly (someBarred (call .read .case) (call .table)) (call .read .answer))
+    afterCase out call (call .read .answer)
     )
 
 abbrev pub roundNext : Pressing → List ℤ → List ℕ → PressingCall

@@ -4,24 +4,23 @@ use definitions::Case;
 use definitions::CaseSize;
 use definitions::EDGE_PLACES;
 use definitions::FileAnswer;
+use definitions::Outcome;
 use definitions::Refusal;
 use definitions::Round;
 use definitions::Rulebook;
-use definitions::RunAnswer;
 use definitions::Written;
 ghost use mathlib.Core.Path.{_≡_};
+ghost use mathlib.Core.Bool.{false};
 ghost use Prim.Native.Nat.{_<_};
 ghost use lib.ListN.{length};
-ghost use Rattle.integers.specs.Words.{any};
-ghost use Rattle.definitions.specs.Case.{isBarred};
 ghost use Rattle.definitions.specs.declared.Rulebook.the-variants.{Desk};
 ghost use Rattle.definitions.specs.Rules.{rulesOf};
 ghost use Rattle.definitions.specs.CaseFiles.{caseOf, caseSize};
 ghost use Rattle.calls.specs.Calls.{writtenOf};
-ghost use Rattle.definitions.specs.Engine.{engineNext};
-ghost use Rattle.calls.specs.EngineCalls.{isLeaving, engineRefusal};
+ghost use Rattle.calls.specs.EngineCalls.{isLeaving};
 ghost use Rattle.definitions.specs.Programs.{tableFor};
-ghost use Rattle.pressing.specs.Pressing.{withLeft, afterText, pressRefusal, shortOr, headOrShort, freeOnly, startPressing, roundNext, nextPressing};
+ghost use Rattle.round_lines.specs.Asked.{roundRefusal};
+ghost use Rattle.pressing.specs.Pressing.{withLeft, afterText, pressRefusal, shortOr, headOrShort, startPressing, roundNext, nextPressing};
 
 // An output must have so many bytes for a text.
 const ROOM: usize = 64;
@@ -90,7 +89,7 @@ fn write_refusal(refusal: Refusal, lines: usize, out: &mut [u8]) -> Written
     }
 }
 
-// Nothing more is due after a text.
+// Nothing more is due after a text or a void line.
 fn after_text(pressing: Pressing, written: Written) -> Pressed
     ensures { λ r. ⌜ r ≡ afterText pressing written ⌝ }
 {
@@ -126,6 +125,7 @@ fn one_round(pressing: Pressing, table: &mut [i64], out: &mut [u8]) -> Pressed
                 written: Written::Bytes(bytes),
             }
         }
+        Round::Void { bytes } => after_text(pressing, Written::Bytes(bytes)),
         Round::Refused(refusal) => {
             let written = write_refusal(refusal, pressing.lines, out);
             after_text(pressing, written)
@@ -133,17 +133,14 @@ fn one_round(pressing: Pressing, table: &mut [i64], out: &mut [u8]) -> Pressed
     }
 }
 
-// No round may follow: a run of no round asks what is handed over, and changes nothing.
-fn ask_round(case: Case, table: &mut [i64], out: &mut [u8]) -> Written
-    ensures { λ r. ⌜ (r ≡ writtenOf (engineRefusal (rulesOf case) engineNext case (now (table .entry)) (now (out .entry))) 0)
-        × (now (table .exit) ≡ now (table .entry)) × (now (out .exit) ≡ now (out .entry)) ⌝ }
+// No round may follow: what is handed over is asked as the engine's round asks it.
+fn ask_round(case: Case, table: &[i64], length: usize) -> Written
+    ensures { λ r. ⌜ r ≡ writtenOf (roundRefusal (rulesOf case) case (now (table .entry)) length false) 0 ⌝ }
 {
-    let run = engine::run(case, table, out, 0);
-    let answer = run.answer;
-    match answer {
-        RunAnswer::Refused(refusal) => Written::Refused(refusal),
-        RunAnswer::Settled => Written::Bytes(0),
-        RunAnswer::Limit => Written::Bytes(0),
+    let asked = round_lines::check_round(case, table, length, false);
+    match asked {
+        Outcome::Refused(refusal) => Written::Refused(refusal),
+        Outcome::Done => Written::Bytes(0),
     }
 }
 
@@ -169,24 +166,6 @@ fn head_or_short(bytes: &[u8]) -> Refusal
             m: _,
             table: _,
         } => Refusal::WrongLength,
-    }
-}
-
-// A case with barred tuples is refused by 8, at the line after its last.
-fn free_only(answer: FileAnswer, table: &[i64]) -> FileAnswer
-    ensures { λ r. ⌜ r ≡ freeOnly (any isBarred (now (table .entry))) answer ⌝ }
-{
-    match answer {
-        FileAnswer::Refused { refusal, line } => FileAnswer::Refused { refusal, line },
-        FileAnswer::Read { lines } => {
-            if tables::some_barred(table) {
-                return FileAnswer::Refused {
-                    refusal: Refusal::WeightOutOfRange,
-                    line: lines,
-                };
-            }
-            FileAnswer::Read { lines }
-        }
     }
 }
 
@@ -227,8 +206,7 @@ pub fn start(bytes: &[u8], table: &mut [i64], out: &mut [u8]) -> Pressed
     }
     let read = casefile::read_case_alone(bytes, table);
     let case = read.case;
-    let found = read.answer;
-    let answer = free_only(found, table);
+    let answer = read.answer;
     match answer {
         FileAnswer::Refused { refusal, line } => {
             let written = texts::write_refused(out, refusal, line);
@@ -252,7 +230,8 @@ pub fn start(bytes: &[u8], table: &mut [i64], out: &mut [u8]) -> Pressed
     }
 }
 
-// The next round, if one may follow: its lines, or the text of a refusal by the engine. If none may, only what is handed over is asked.
+// The next round, if one may follow: its lines, those of a void line, or the text of a refusal by the engine. If none may, only what is handed
+// over is asked.
 pub fn next(pressing: Pressing, table: &mut [i64], out: &mut [u8]) -> Pressed
     ensures { λ r. ⌜ (r ≡ nextPressing pressing (now (table .entry)) (now (out .entry)) .pressed)
         × (now (table .exit) ≡ nextPressing pressing (now (table .entry)) (now (out .entry)) .table)
@@ -260,7 +239,7 @@ pub fn next(pressing: Pressing, table: &mut [i64], out: &mut [u8]) -> Pressed
 {
     if pressing.left == 0 {
         let case = pressing.case;
-        let written = ask_round(case, table, out);
+        let written = ask_round(case, table, out.len());
         return Pressed { pressing, written };
     }
     one_round(pressing, table, out)

@@ -2,6 +2,7 @@
 pub mod Next
 pub mod Kept
 pub mod Spread
+pub mod Shares
 pub mod Summing
 pub mod Counts
 pub mod Phases

@@ -1,5 +1,5 @@
--- What comes next in the engine's run: the round of the lowest pair, and where there is none a press, and where there is none nothing; and in
--- a run of pair rounds only. Assumes nothing.
+-- What comes next in the engine's run: the round of the lowest pair, and where there is none a press or a void line, and where there is none
+-- nothing; and in a run of pair rounds only. Assumes nothing.
 use mathlib.Core.Path.{_≡_, refl, sym, ap, _∙_}
 use mathlib.Core.Option.{Option, none, some}
 use mathlib.Core.Logic.{_↔_, _⊎_, inl, inr}
@@ -11,9 +11,8 @@ use Rattle.definitions.specs.declared.Case.{Case}
 use Rattle.definitions.specs.Rules.{Rules}
 use Rattle.definitions.specs.Moves.{Move, activePress}
 use Rattle.definitions.specs.PairRounds.{pairRound, lowestPair}
-use Rattle.definitions.specs.Engine.{chosen, keptScopes, leastGap, Next, nothing, round, pairNext, engineNext, pairsNext, pressesNext}
-use Rattle.theory.proofs.Shape.{Shape}
-use Rattle.press_theory.proofs.Gaps.{next-round, next-nothing}
+use Rattle.definitions.specs.Engine.{chosen, keptScopes, leastGap, Next, nothing, round, void, pairNext, engineNext, pairsNext, pressesNext}
+use Rattle.press_theory.proofs.Gaps.{next-round, next-nothing, next-voided}
 
 round-something : {a : List Move} → round a ≡ nothing → ⊥
 round-something e = let z : _≡_ {A = ℕ} 0 1 = cc in absurd (omega arith)
@@ -51,11 +50,26 @@ module _ (r : Rules) (c : Case) (w : List ℤ) where
       go (inl p) = inl p
       go (inr (e, d)) = let (i, a, f, g, q) = next-round r c w d in inr (e, i, a, f, g, q)
 
-  pub engine-next-nothing : Shape c → engineNext r c w ≡ nothing ↔ ((lowestPair r c w ≡ none) × (chosen c w ≡ none))
-  engine-next-nothing shape = (
-    λ d. let (e, f) = without (pressesNext r c w) .0 d in (e, next-nothing r c w shape .0 f),
-    λ (e, f). without (pressesNext r c w) .1 (e, next-nothing r c w shape .1 f),
+  pub engine-next-nothing : engineNext r c w ≡ nothing ↔ ((lowestPair r c w ≡ none) × (chosen c w ≡ none))
+  engine-next-nothing = (
+    λ d. let (e, f) = without (pressesNext r c w) .0 d in (e, next-nothing r c w .0 f),
+    λ (e, f). without (pressesNext r c w) .1 (e, next-nothing r c w .1 f),
   )
+
+  -- a void line comes of no pair
+  void-other : {i : ℕ} {raised : List ℕ} (other : Next) → pairNext c w (lowestPair r c w) other ≡ void i raised → other ≡ void i raised
+  void-other {i} {raised} other = go (lowestPair r c w)
+    where
+      go : (o : Option ℕ) → pairNext c w o other ≡ void i raised → other ≡ void i raised
+      go none d = d
+      go (some x) d = let z : _≡_ {A = ℕ} 0 1 = cc in absurd (omega arith)
+
+  pub engine-next-void : {i : ℕ} {raised : List ℕ} → engineNext r c w ≡ void i raised
+      → (chosen c w ≡ some i) × (leastGap c w i ≡ none) × (raised ≡ keptScopes c w i)
+  engine-next-void d = next-voided r c w (void-other (pressesNext r c w) d)
+
+  pub pairs-no-void : {i : ℕ} {raised : List ℕ} → pairsNext r c w ≡ void i raised → ⊥
+  pairs-no-void d = let e = void-other nothing d in let z : _≡_ {A = ℕ} 0 1 = cc in absurd (omega arith)
 
   pub pairs-next-is : {moves : List Move} → pairsNext r c w ≡ round moves → IsPairRound moves
   pairs-next-is d = go (cases nothing d)

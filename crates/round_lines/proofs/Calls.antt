@@ -1,15 +1,15 @@
 -- What the calls answer and leave, by what was asked. Assumes nothing.
 use mathlib.Core.Path.{_≡_, refl, sym, ap, ap₂, _∙_}
-use mathlib.Core.Bool.{Bool, true, false, not, _||_, or-false}
+use mathlib.Core.Bool.{Bool, true, false, not, _||_}
 use mathlib.Core.List.{List, [], _∷_, _++_, map, append-nil, append-assoc, List·Memᴰ·head, List·Memᴰ·tail}
 use Prim.Native.Nat.{ℕ, _+_, _*_, _^_, _≤_, _<_}
 use native.Mathlib.Omega.{arith}
 use lib.IntN.{ℤ}
-use lib.Dec.{T, ltb}
+use lib.Dec.{T, ltb, lit<}
 use lib.ListN.{length, length-append, length-map}
 use borrow.Author.Tests.{lt-ltb, le-ltb}
 use Rattle.integers.specs.Words.{any, below, joined}
-use Rattle.integers.specs.Tests.{is-false}
+use Rattle.integers.specs.Tests.{is-false, false-is}
 use Rattle.integers.specs.Lists.{_∈_, any-append, map-append, map-map, joined-append, in-those, in-below}
 use Rattle.definitions.specs.declared.Case.{Case}
 use Rattle.definitions.specs.declared.Line.{Line}
@@ -17,50 +17,62 @@ use Rattle.definitions.specs.declared.Outcome.{Outcome}
 use Rattle.definitions.specs.declared.Written.{Written}
 use Rattle.definitions.specs.declared.Refusal.{Refusal}
 use Rattle.definitions.specs.declared.Refusal.the-variants.{OutsideLimits, WrongLength, OutOfRange}
-use Rattle.definitions.specs.Rules.{rulesOf}
+use Rattle.definitions.specs.Rules.{rulesOf, coherent}
 use Rattle.definitions.specs.Refusals.{_when_, firstOf}
 use Rattle.definitions.specs.Case.{scopeCount}
 use Rattle.definitions.specs.Valid.{withinLimits}
 use Rattle.definitions.specs.Lines.{lineLength, lineText, lineTooWide, overwritten}
-use Rattle.definitions.specs.RoundLines.{raiseLine, boundLine}
+use Rattle.definitions.specs.RoundLines.{raiseLine, linesOfVoid, voidText}
 use Rattle.calls.specs.Calls.{WriteCall, LineCall, isRaised}
 use Rattle.lines.specs.AtWidth.{widthOut, lineOut, writeLineAt}
-use Rattle.lines.proofs.Answers.{line-within, write-wide, write-done}
-use Rattle.round_lines.specs.Press.{raisedBelow, raiseTexts, pressLine, linesOfPress, textOfPress, putText, textWritten, putCall}
-use Rattle.round_lines.specs.Press.{linesOut, linesWritten, outShort, checkedCall, writeAllCall}
-use Rattle.round_lines.proofs.Texts.{raise-in}
+use Rattle.lines.proofs.Answers.{write-wide, write-done}
+use Rattle.lines.proofs.AtRules.{width-in}
+use Rattle.tables.proofs.Order.{limited}
+use Rattle.round_lines.specs.declared.Entry.{Entry}
+use Rattle.round_lines.specs.declared.Entry.the-variants.{Press, Void}
+use Rattle.round_lines.specs.Press.{raisedBelow, linesOfPress, entryLines, firstLine, lastLines, raiseTexts, lineTexts, putText}
+use Rattle.round_lines.specs.Press.{textWritten, putCall, linesCall, checkedCall, writeAllCall, writeVoidCall}
+use Rattle.round_lines.proofs.Texts.{small-narrow, raised-few}
 
--- ---- the lines of a press
+-- ---- a first line, raise lines, and what comes last
 
-module _ (i : ℕ) (xs : List ℕ) (a bound : ℤ) where
-  pub lines-count : length (linesOfPress i xs a bound) ≡ length xs + 2
+pub entry-lines : (entry : Entry) (i : ℕ) (xs : List ℕ) → entryLines entry i xs ≡ (firstLine entry i (length xs) ∷ map raiseLine xs) ++ lastLines entry
+entry-lines (Press a bound) i xs = refl
+entry-lines Void i xs = sym (append-nil (linesOfVoid i xs))
+
+pub last-few : (entry : Entry) → length (lastLines entry) ≤ 1
+last-few (Press a bound) = omega arith
+last-few Void = omega arith
+
+-- raise lines are never too wide
+narrow-raises : (width : ℕ) → T (not (widthOut width)) → (xs : List ℕ) → ((x : ℕ) → x ∈ xs → x < 10 ^ 4) → any (lineTooWide width) (map raiseLine xs) ≡ false
+narrow-raises width t [] few = refl
+narrow-raises width t (x ∷ xs) few =
+    rw (small-narrow width 3 x 0 t (lit< tt) (few x (List·Memᴰ·head refl)) (lit< tt)) (narrow-raises width t xs (λ y m. few y (List·Memᴰ·tail m)))
+
+module _ (first : Line) (xs : List ℕ) (last : List Line) where
+  abbrev framed : List Line
+  framed = (first ∷ map raiseLine xs) ++ last
+
+  lines-count : length framed ≡ length xs + 1 + length last
   lines-count = simp (length-append, length-map) (omega arith)
 
   module _ (width : ℕ) where
-    pub text-put : textOfPress width i xs a bound ≡ putText width (pressLine i (length xs) a) (boundLine bound) xs
+    text-put : lineTexts width framed ≡ putText width first last xs
     text-put =
-        let first = lineText width (pressLine i (length xs) a) in
-        let last = lineText width (boundLine bound) in
-        ap (λ (t : List ℕ). first ++ t)
-        (ap joined (map-append (lineText width) (map raiseLine xs) (boundLine bound ∷ []))
-        ∙ joined-append (map (lineText width) (map raiseLine xs)) (last ∷ [])
-        ∙ ap₂ (λ (s t : List ℕ). s ++ t) (ap joined (map-map (lineText width) raiseLine xs)) (append-nil last))
-        ∙ sym (append-assoc first (raiseTexts width xs) last)
+        ap (λ (t : List ℕ). lineText width first ++ t)
+        (ap joined (map-append (lineText width) (map raiseLine xs) last) ∙ joined-append (map (lineText width) (map raiseLine xs)) (map (lineText width) last)
+        ∙ ap (λ (t : List (List ℕ)). joined t ++ lineTexts width last) (map-map (lineText width) raiseLine xs))
+        ∙ sym (append-assoc (lineText width first) (raiseTexts width xs) (lineTexts width last))
 
-    -- raise lines are never too wide
-    pub wide-put : T (not (widthOut width)) → ((x : ℕ) → x ∈ xs → x < 10 ^ 4)
-        → any (lineTooWide width) (linesOfPress i xs a bound) ≡ (lineTooWide width (pressLine i (length xs) a) || lineTooWide width (boundLine bound))
+    wide-put : T (not (widthOut width)) → ((x : ℕ) → x ∈ xs → x < 10 ^ 4)
+        → any (lineTooWide width) framed ≡ (lineTooWide width first || any (lineTooWide width) last)
     wide-put t few =
-        ap (λ (b : Bool). lineTooWide width (pressLine i (length xs) a) || b)
-        (any-append (lineTooWide width) (map raiseLine xs) (boundLine bound ∷ [])
-        ∙ ap₂ _||_ (narrow-all xs few) (or-false (lineTooWide width (boundLine bound))))
-      where
-        narrow : (x : ℕ) → x < 10 ^ 4 → lineTooWide width (raiseLine x) ≡ false
-        narrow x h = line-within width (raiseLine x) (is-false (lineOut width (raiseLine x)) (raise-in width x t h))
+        ap (λ (b : Bool). lineTooWide width first || b)
+        (any-append (lineTooWide width) (map raiseLine xs) last ∙ rw (narrow-raises width t xs few))
 
-        narrow-all : (l : List ℕ) → ((x : ℕ) → x ∈ l → x < 10 ^ 4) → any (lineTooWide width) (map raiseLine l) ≡ false
-        narrow-all [] few = refl
-        narrow-all (x ∷ l) few = rw (narrow x (few x (List·Memᴰ·head refl))) (narrow-all l (λ y m. few y (List·Memᴰ·tail m)))
+pub entry-count : (entry : Entry) (i : ℕ) (xs : List ℕ) → length (entryLines entry i xs) ≡ length xs + 1 + length (lastLines entry)
+entry-count entry i xs = ap length (entry-lines entry i xs) ∙ lines-count (firstLine entry i (length xs)) xs (lastLines entry)
 
 pub line-in : (width : ℕ) (l : Line) → T (not (widthOut width)) → lineTooWide width l ≡ false → T (not (lineOut width l))
 line-in width l t e = rw (is-false (widthOut width) t, e) tt
@@ -98,65 +110,88 @@ module _ (width : ℕ) (text : List ℕ) (l : Line) (t : T (not (widthOut width)
 abbrev pub Refuses : WriteCall → Refusal → List ℕ → Type 0
 Refuses call x out = (Written.Refused x ≡ call .answer) × (out ≡ call .out)
 
-module _ (c : Case) (out raised : List ℕ) (i : ℕ) (a bound : ℤ) where
-  abbrev raisedHere : List ℕ
-  raisedHere = raisedBelow raised (scopeCount c)
+-- of any lines
+module _ (c : Case) (out : List ℕ) (i : ℕ) (ls : List Line) where
+  abbrev width : ℕ
+  width = rulesOf c .amountWidth
 
+  pub checked-short : length out < lineLength width * length ls → Refuses (checkedCall (rulesOf c) c out i ls) WrongLength out
+  checked-short h = let e = lt-ltb (length out) (lineLength width * length ls) h in (rw e, rw e)
+
+  pub checked-none : lineLength width * length ls ≤ length out → c .n ≤ i → Refuses (checkedCall (rulesOf c) c out i ls) OutOfRange out
+  checked-none room h =
+      let d = le-ltb (length out) (lineLength width * length ls) room in
+      let e = le-ltb i (c .n) h in
+      (rw (d, e), rw (d, e))
+
+  module _ (raised : List ℕ) where
+    pub lines-outside : withinLimits (rulesOf c) (c .n) (c .d) (c .m) ≡ false → Refuses (linesCall (rulesOf c) c out i ls raised) OutsideLimits out
+    unfolding linesCall
+    lines-outside e = (rw e, rw e)
+
+    module _ (e : withinLimits (rulesOf c) (c .n) (c .d) (c .m) ≡ true) where
+      pub lines-short : length raised < scopeCount c → Refuses (linesCall (rulesOf c) c out i ls raised) WrongLength out
+      unfolding linesCall
+      lines-short h = let d = lt-ltb (length raised) (scopeCount c) h in (rw (e, d), rw (e, d))
+
+      pub lines-checked : scopeCount c ≤ length raised → checkedCall (rulesOf c) c out i ls ≡ linesCall (rulesOf c) c out i ls raised
+      unfolding linesCall
+      lines-checked h = rw (e, le-ltb (length raised) (scopeCount c) h)
+
+      -- the lines are written where they fit
+      lines-written : scopeCount c ≤ length raised → lineLength width * length ls ≤ length out → i < c .n → any (lineTooWide width) ls ≡ false
+          → linesCall (rulesOf c) c out i ls raised
+          ≡ record { answer = Written.Bytes (length (lineTexts width ls)); out = overwritten (lineTexts width ls) out }
+      unfolding linesCall
+      lines-written room long h narrow =
+          rw (e, le-ltb (length raised) (scopeCount c) room, le-ltb (length out) (lineLength width * length ls) long, lt-ltb i (c .n) h, narrow)
+
+-- of the scopes that are raised
+module _ (c : Case) (out raised : List ℕ) (i : ℕ) where
   abbrev widthHere : ℕ
   widthHere = rulesOf c .amountWidth
 
-  pub checked-short : length out < lineLength widthHere * (length raisedHere + 2) → Refuses (checkedCall (rulesOf c) c out raised i a bound) WrongLength out
-  checked-short h =
-      let e = lt-ltb (length out) (lineLength widthHere * (length raisedHere + 2)) h in
-      let n = lines-count i raisedHere a bound in
-      (rw (n, e), rw (n, e))
+  abbrev raisedHere : List ℕ
+  raisedHere = raisedBelow raised (scopeCount c)
 
-  module _ (room : lineLength widthHere * (length raisedHere + 2) ≤ length out) where
-    enough : outShort (rulesOf c) c out raised i a bound ≡ false
-    enough = rw (lines-count i raisedHere a bound) (le-ltb (length out) (lineLength widthHere * (length raisedHere + 2)) room)
+  raised-small : scopeCount c ≤ 10 ^ 4 → (x : ℕ) → x ∈ raisedHere → x < 10 ^ 4
+  raised-small few x m = let h : x < scopeCount c = in-below (scopeCount c) (in-those (isRaised raised) (below (scopeCount c)) m .0) in omega arith
 
-    pub checked-none : c .n ≤ i → Refuses (checkedCall (rulesOf c) c out raised i a bound) OutOfRange out
-    checked-none h = let e = le-ltb i (c .n) h in (rw (enough, e), rw (enough, e))
+  pub checked-put : (entry : Entry) → lineLength widthHere * length (entryLines entry i raisedHere) ≤ length out → i < c .n
+      → T (not (widthOut widthHere)) → scopeCount c ≤ 10 ^ 4
+      → putCall widthHere (firstLine entry i (length raisedHere)) (lastLines entry) raisedHere out
+      ≡ checkedCall (rulesOf c) c out i (entryLines entry i raisedHere)
+  checked-put entry room h t few =
+      let first = firstLine entry i (length raisedHere) in
+      let last = lastLines entry in
+      ap₂ (λ (t : List ℕ) (b : Bool). textWritten t out (firstOf (OutOfRange when b ∷ [])))
+      (sym (ap (lineTexts widthHere) (entry-lines entry i raisedHere) ∙ text-put first raisedHere last widthHere))
+      (sym (ap (any (lineTooWide widthHere)) (entry-lines entry i raisedHere) ∙ wide-put first raisedHere last widthHere t (raised-small few)))
+      ∙ sym (rw (le-ltb (length out) (lineLength widthHere * length (entryLines entry i raisedHere)) room, lt-ltb i (c .n) h))
 
-    pub checked-put : i < c .n → T (not (widthOut widthHere)) → scopeCount c ≤ 10 ^ 4
-        → putCall widthHere (pressLine i (length raisedHere) a) (boundLine bound) raisedHere out ≡ checkedCall (rulesOf c) c out raised i a bound
-    checked-put h t few =
-        ap₂ (λ (t : List ℕ) (b : Bool). textWritten t out (firstOf (OutOfRange when b ∷ []))) (sym (text-put i raisedHere a bound widthHere)) (sym out-is)
-        ∙ sym (ap (λ (b : Bool). linesWritten (rulesOf c) c out raised i a bound (firstOf (
-        WrongLength when b ∷ OutOfRange when (linesOut (rulesOf c) c out raised i a bound) ∷ []
-        ))) enough)
-      where
-        below-few : (x : ℕ) → x < scopeCount c → x < 10 ^ 4
-        below-few x h = omega arith
-
-        wide-is : any (lineTooWide widthHere) (linesOfPress i raisedHere a bound)
-            ≡ (lineTooWide widthHere (pressLine i (length raisedHere) a) || lineTooWide widthHere (boundLine bound))
-        wide-is = wide-put i raisedHere a bound widthHere t
-            (λ x m. below-few x (in-below (scopeCount c) (in-those (isRaised raised) (below (scopeCount c)) m .0)))
-
-        out-is : linesOut (rulesOf c) c out raised i a bound
-            ≡ (lineTooWide widthHere (pressLine i (length raisedHere) a) || lineTooWide widthHere (boundLine bound))
-        out-is = ap (λ (b : Bool). not b || any (lineTooWide widthHere) (linesOfPress i raisedHere a bound)) (lt-ltb i (c .n) h) ∙ wide-is
-
-  pub press-outside : withinLimits (rulesOf c) (c .n) (c .d) (c .m) ≡ false → Refuses (writeAllCall (rulesOf c) c out raised i a bound) OutsideLimits out
-  unfolding writeAllCall
-  press-outside e = (rw e, rw e)
-
-  module _ (e : withinLimits (rulesOf c) (c .n) (c .d) (c .m) ≡ true) where
-    pub press-short : length raised < scopeCount c → Refuses (writeAllCall (rulesOf c) c out raised i a bound) WrongLength out
-    unfolding writeAllCall
-    press-short h = let d = lt-ltb (length raised) (scopeCount c) h in (rw (e, d), rw (e, d))
-
-    pub press-checked : scopeCount c ≤ length raised → checkedCall (rulesOf c) c out raised i a bound ≡ writeAllCall (rulesOf c) c out raised i a bound
-    unfolding writeAllCall
-    press-checked h = rw (e, le-ltb (length raised) (scopeCount c) h)
-
-  -- the lines are written where they fit
-  pub press-written : withinLimits (rulesOf c) (c .n) (c .d) (c .m) ≡ true → scopeCount c ≤ length raised
+  -- the lines of a press are written where they fit
+  pub press-written : (a bound : ℤ) → withinLimits (rulesOf c) (c .n) (c .d) (c .m) ≡ true → scopeCount c ≤ length raised
       → lineLength widthHere * (length raisedHere + 2) ≤ length out → i < c .n
       → any (lineTooWide widthHere) (linesOfPress i raisedHere a bound) ≡ false
-      → let text = textOfPress widthHere i raisedHere a bound in
+      → let text = lineTexts widthHere (linesOfPress i raisedHere a bound) in
       writeAllCall (rulesOf c) c out raised i a bound ≡ record { answer = Written.Bytes (length text); out = overwritten text out }
   unfolding writeAllCall
-  press-written e room long h narrow =
-      rw (e, le-ltb (length raised) (scopeCount c) room, enough long, lt-ltb i (c .n) h, narrow)
+  press-written a bound e room fits h narrow =
+      let n : length (linesOfPress i raisedHere a bound) ≡ length raisedHere + 2 = entry-count (Press a bound) i raisedHere ∙ omega arith in
+      lines-written c out i (linesOfPress i raisedHere a bound) raised e room (rw n fits) h narrow
+
+  -- and those of a void line where there is room
+  pub void-written : withinLimits (rulesOf c) (c .n) (c .d) (c .m) ≡ true → scopeCount c ≤ length raised
+      → lineLength widthHere * (length raisedHere + 1) ≤ length out → i < c .n
+      → let text = joined (voidText (rulesOf c) i raisedHere) in
+      writeVoidCall (rulesOf c) c out raised i ≡ record { answer = Written.Bytes (length text); out = overwritten text out }
+  unfolding writeVoidCall
+  void-written e room fits h =
+      let l = limited c e in
+      let rules = coherent (c .rulebook) in
+      let t = false-is (widthOut widthHere) (width-in (rulesOf c) rules refl) in
+      let few : scopeCount c < 10 ^ 4 = omega (arith, rules .scopes-few, l .variables, l .edges) in
+      let n : length (linesOfVoid i raisedHere) ≡ length raisedHere + 1 = entry-count Void i raisedHere ∙ omega arith in
+      lines-written c out i (linesOfVoid i raisedHere) raised e room (rw n fits) h
+      (rw (small-narrow widthHere 5 i (length raisedHere) t (lit< tt) (omega arith) (omega (arith, raised-few raised (scopeCount c))))
+      (narrow-raises widthHere t raisedHere (raised-small (omega arith))))

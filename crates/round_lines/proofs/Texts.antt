@@ -14,7 +14,7 @@ use Rattle.integers.specs.Words.{if_then_else_, from, below, those, joined}
 use Rattle.integers.specs.Tests.{is-false, if-cases, not-or-iff}
 use Rattle.integers.specs.Lists.{joined-append, map-append, those-append, from-suc, from-split}
 use Rattle.definitions.specs.declared.Line.{Line}
-use Rattle.definitions.specs.Lines.{lineLength, lineText, lineTooWide, overwritten}
+use Rattle.definitions.specs.Lines.{line, lineLength, lineText, lineTooWide, overwritten}
 use Rattle.definitions.proofs.ColumnLaws.{fits-iff, fits-digits}
 use Rattle.definitions.proofs.LineLaws.{line-length, each-fits}
 use Rattle.definitions.specs.RoundLines.{raiseLine}
@@ -22,7 +22,7 @@ use Rattle.calls.specs.Calls.{isRaised}
 use Rattle.lines.specs.AtWidth.{widthOut, lineOut, writeLineAt}
 use Rattle.lines.proofs.Answers.{width-within, line-within, write-done}
 use Rattle.lines.proofs.Stores.{column-next}
-use Rattle.round_lines.specs.Press.{raisedFrom, raisedBelow, raiseTexts, Put}
+use Rattle.round_lines.specs.Press.{raisedFrom, raisedBelow, raiseTexts, lineTexts, Put}
 
 -- those of the first numbers, one more, and split
 module _ (R : ℕ → Bool) where
@@ -59,20 +59,20 @@ line-put width out next p o at l t e f n =
 pub line-width : (width : ℕ) (l : Line) → T (not (lineOut width l)) → T (not (widthOut width))
 line-width width l t = not-or-iff (widthOut width) (lineTooWide width l) .0 t .0
 
--- a raise line is not out
+-- a line of small numbers and no amount is not too wide, and so a raise line is not out
+pub small-narrow : (width kind x y : ℕ) → T (not (widthOut width)) → kind < 10 ^ 2 → x < 10 ^ 4 → y < 10 ^ 4
+    → lineTooWide width (line kind (pos x) (pos y) (pos 0) (pos 0)) ≡ false
+small-narrow width kind x y t k h g =
+    each-fits width (line kind (pos x) (pos y) (pos 0) (pos 0)) (record {
+      kind = fits-digits 2 kind (omega arith) k;
+      a = fits-digits 4 x (omega arith) h;
+      b = fits-digits 4 y (omega arith) g;
+      c = fits-digits 4 0 (omega arith) (lit< tt);
+      amount = fits-iff width (pos 0) .1 (width-within width (is-false (widthOut width) t) .0);
+    })
+
 pub raise-in : (width x : ℕ) → T (not (widthOut width)) → x < 10 ^ 4 → T (not (lineOut width (raiseLine x)))
-raise-in width x t h =
-    let (some, most) = width-within width (is-false (widthOut width) t) in
-    rw (
-      is-false (widthOut width) t,
-      each-fits width (raiseLine x) (record {
-        kind = fits-digits 2 3 (omega arith) (lit< tt);
-        a = fits-digits 4 x (omega arith) h;
-        b = fits-digits 4 0 (omega arith) (lit< tt);
-        c = fits-digits 4 0 (omega arith) (lit< tt);
-        amount = fits-iff width (pos 0) .1 some;
-      }),
-    ) tt
+raise-in width x t h = rw (is-false (widthOut width) t, small-narrow width 3 x 0 t (lit< tt) h (lit< tt)) tt
 
 -- no line for a scope that is not raised, and one for a scope that is
 module _ (raised : List ℕ) (x : ℕ) where
@@ -127,24 +127,25 @@ module _ (width : ℕ) where
         mul-add (lineLength width) (length (raisedBelow raised x)) (length (raisedFrom raised x 1)),
       )
 
+  pub put-nothing : (at : ℕ) (out : List ℕ) → Put at [] at out out
+  put-nothing at out p o q n = (rw (append-nil p) q, rw (append-nil p) n)
+
+  pub put-alone : (l : Line) {at r : ℕ} {out next : List ℕ} → r ≡ at + lineLength width
+      → Put at (lineText width l) (at + lineLength width) out next → Put at (lineTexts width (l ∷ [])) r out next
+  put-alone l h f p o q n = let (a, b) = f p o q n in (rw (append-nil (lineText width l)) a, rw (append-nil (lineText width l)) (b ∙ sym h))
+
   pub puts-none : (from : ℕ) (out : List ℕ) → (from ≡ from + lineLength width * 0) × PutRaises from [] from out out
-  puts-none from out = (omega arith, λ p o q n. (rw (append-nil p) q, rw (append-nil p) n))
+  puts-none from out = (omega arith, put-nothing from out)
 
   module _ (raised : List ℕ) (x : ℕ) where
     pub put-none : isRaised raised x ≡ false → (at : ℕ) (out : List ℕ)
         → (at ≡ at + lineLength width * length (raisedFrom raised x 1)) × PutRaises at (raisedFrom raised x 1) at out out
-    put-none e at out = rw e (omega arith, λ p o q n. (rw (append-nil p) q, rw (append-nil p) n))
+    put-none e at out = rw e (puts-none at out)
 
     pub put-one : isRaised raised x ≡ true → {at r : ℕ} {out next : List ℕ} → r ≡ at + lineLength width
         → Put at (lineText width (raiseLine x)) (at + lineLength width) out next
         → (r ≡ at + lineLength width * length (raisedFrom raised x 1)) × PutRaises at (raisedFrom raised x 1) r out next
-    put-one e h f =
-        rw e (
-          omega arith,
-          λ p o q n.
-              let (a, b) = f p o q n in
-              (rw (append-nil (lineText width (raiseLine x))) a, rw (append-nil (lineText width (raiseLine x))) (b ∙ sym h)),
-        )
+    put-one e h f = rw e (omega arith, put-alone (raiseLine x) h f)
 
     texts-next : (p : List ℕ)
         → (p ++ raiseTexts width (raisedBelow raised x)) ++ raiseTexts width (raisedFrom raised x 1) ≡ p ++ raiseTexts width (raisedBelow raised (x + 1))

@@ -2,7 +2,7 @@
 pub mod Search
 pub mod Maxima
 pub mod Order
-mod Unbarred
+mod Ranges
 pub mod Bounds
 pub mod Parts
 pub mod Answered

@@ -1,6 +1,6 @@
 -- What a check that passed says, and products within the limits. Assumes nothing.
 use mathlib.Core.Path.{_≡_, refl, sym, ap, _∙_}
-use mathlib.Core.Bool.{Bool, true, false, _&&_}
+use mathlib.Core.Bool.{Bool, true, false}
 use mathlib.Core.Option.{Option, none, some}
 use mathlib.Core.List.{List, [], _∷_, _++_}
 use Prim.Native.Nat.{ℕ, _*_, _≤_}
@@ -14,14 +14,12 @@ use Rattle.integers.specs.Words.{if_then_else_}
 use Rattle.integers.specs.Tests.{tests}
 use Rattle.definitions.specs.declared.Case.{Case}
 use Rattle.definitions.specs.declared.Refusal.{Refusal}
-use Rattle.definitions.specs.declared.Refusal.the-variants.{WeightOutOfRange}
 use Rattle.definitions.specs.declared.Outcome.{Outcome}
 use Rattle.definitions.specs.Rules.{Rules, Coherent, coherent, rulesOf, edgePlaces}
-use Rattle.definitions.specs.Refusals.{Test, _when_, firstOf}
+use Rattle.definitions.specs.Refusals.{Test, firstOf}
 use Rattle.definitions.specs.Answers.{outcomeOf}
 use Rattle.definitions.specs.Case.{ownLength, lentLength}
 use Rattle.definitions.specs.Valid.{withinLimits, edgeTests, handedOver}
-use Rattle.definitions.specs.Engine.{someBarred}
 use Rattle.tables.specs.Scopes.{Limited, holdable, tupleTests}
 
 -- with the bounds that coherent rules give
@@ -91,22 +89,17 @@ module _ (us : List Test) where
       go true e r = e
       go false e r = r e
 
--- a test that does not apply may be left out at the end
-pub last-none : (ts : List Test) (x : Refusal) → firstOf (ts ++ (x when false ∷ [])) ≡ firstOf ts
-last-none [] x = refl
-last-none (t ∷ ts) x = ap (λ (o : Option Refusal). if t .applies then some (t .refusal) else o) (last-none ts x)
-
 -- what is left to ask once the limits and the lengths are right
-module _ (r : Rules) (low high : ℤ) (free : Bool) (c : Case) (w : List ℤ) (wrong out : Bool)
+module _ (r : Rules) (low high : ℤ) (c : Case) (w : List ℤ) (wrong out : Bool)
     (e : withinLimits r (c .n) (c .d) (c .m) ≡ true) (l : length w ≡ lentLength c) (g : wrong ≡ false) where
   abbrev asked : List Test
-  asked = handedOver r (holdable low high) c w wrong out ++ (WeightOutOfRange when (free && someBarred c w) ∷ [])
+  asked = handedOver r (holdable low high) c w wrong out
 
-  lengths-right : firstOf asked ≡ firstOf (edgeTests c out ++ tupleTests c w low high free)
+  lengths-right : firstOf asked ≡ firstOf (edgeTests c out ++ tupleTests c w low high)
   lengths-right = rw (e, eq-eqb (length w) (lentLength c) l, g, take-all (ownLength c) w (omega arith))
 
   pub edges-wrong : {x : Refusal} → Outcome.Refused x ≡ outcomeOf (firstOf (edgeTests c out)) → Outcome.Refused x ≡ outcomeOf (firstOf asked)
-  edges-wrong d = ap outcomeOf (sym (lengths-right ∙ first-stops (tupleTests c w low high free) (edgeTests c out) (outcome-refused d)))
+  edges-wrong d = ap outcomeOf (sym (lengths-right ∙ first-stops (tupleTests c w low high) (edgeTests c out) (outcome-refused d)))
 
-  pub edges-right : Outcome.Done ≡ outcomeOf (firstOf (edgeTests c out)) → outcomeOf (firstOf (tupleTests c w low high free)) ≡ outcomeOf (firstOf asked)
-  edges-right d = ap outcomeOf (sym (lengths-right ∙ first-next (tupleTests c w low high free) (edgeTests c out) (outcome-done d)))
+  pub edges-right : Outcome.Done ≡ outcomeOf (firstOf (edgeTests c out)) → outcomeOf (firstOf (tupleTests c w low high)) ≡ outcomeOf (firstOf asked)
+  edges-right d = ap outcomeOf (sym (lengths-right ∙ first-next (tupleTests c w low high) (edgeTests c out) (outcome-done d)))

@@ -47,10 +47,9 @@ sizeOf c x = if isVariable c x then c .d else c .d * c .d
 abbrev pub holdable : ℤ → ℤ → ℤ → Bool
 holdable low high z = isBarred z || withinZ low high z
 
--- what is asked of the weights of a table of the right length: 8, 15, and 8 of bars where it is to be free of them
-abbrev pub tupleTests : Case → List ℤ → ℤ → ℤ → Bool → List Test
-tupleTests c w low high free =
-    WeightOutOfRange when (not (all (holdable low high) w)) ∷ scopeTest c w ∷ WeightOutOfRange when (free && any isBarred w) ∷ []
+-- what is asked of the weights of a table of the right length: 8 and 15
+abbrev pub tupleTests : Case → List ℤ → ℤ → ℤ → List Test
+tupleTests c w low high = WeightOutOfRange when (not (all (holdable low high) w)) ∷ scopeTest c w ∷ []
 
 -- the weights of scope x
 abbrev pub scopePart : Case → List ℤ → ℕ → List ℤ

@@ -9,18 +9,16 @@ use definitions::SCOPE_PLACES;
 ghost use mathlib.Core.Path.{_≡_};
 ghost use mathlib.Core.Bool.{not, _&&_};
 ghost use lib.Dec.{eqb, ltb};
-ghost use mathlib.Core.List.{[], _∷_, _++_, map};
+ghost use mathlib.Core.List.{_∷_, map};
 ghost use Prim.Native.Nat.{_+_, _*_, _≤_, _<_};
 ghost use lib.Signed.{_<ℤ_};
 ghost use lib.ListN.{length};
 ghost use Rattle.integers.specs.Words.{below, any, all, within, withinZ, greatestOf};
 ghost use Rattle.definitions.specs.Rules.{rulesIn, rulesOf, edgePlaces};
-ghost use Rattle.definitions.specs.Refusals.{_when_, firstOf};
-ghost use Rattle.definitions.specs.declared.Refusal.the-variants.{WeightOutOfRange};
+ghost use Rattle.definitions.specs.Refusals.{firstOf};
 ghost use Rattle.definitions.specs.Answers.{outcomeOf};
 ghost use Rattle.definitions.specs.Case.{place, greatest as greatestWeight, scopeCount, scopes, lentLength, barredWeight, isBarred, whollyBarred};
 ghost use Rattle.definitions.specs.Valid.{inWorking, startingWeight, workingWeight, withinLimits, someEdge, sameEnds, limitTest, edgeTests, handedOver};
-ghost use Rattle.definitions.specs.Engine.{someBarred};
 ghost use Rattle.tables.specs.Scopes.{Limited, ofSize, sizeOf, holdable, tupleTests, scopePart, scopeWeights, bestAt};
 ghost use Rattle.tables.specs.Scopes.{writtenOver, greatestCall, sumInRange, greatestSum, bestSum};
 ghost use Rattle.tables.specs.Edges.{faulty, withEdges};
@@ -194,12 +192,12 @@ fn some_scope_barred(case: Case, table: &[i64]) -> bool
     false
 }
 
-// Numbers 8 and 15; and then 8 where `free` asks that no tuple is barred. Where all are in the range nothing applies, and no more is looked at.
-fn weight_outcome(case: Case, table: &[i64], low: i64, high: i64, free: bool) -> Outcome
+// Numbers 8 and 15. Where all are in the range nothing applies, and no more is looked at.
+fn weight_outcome(case: Case, table: &[i64], low: i64, high: i64) -> Outcome
     requires { ⌜ Limited case ⌝ }
     requires { ⌜ length (now table) ≡ lentLength case ⌝ }
     requires { ⌜ barredWeight <ℤ low ⌝ }
-    ensures { λ r. ⌜ r ≡ outcomeOf (firstOf (tupleTests case (now (table .entry)) low high free)) ⌝ }
+    ensures { λ r. ⌜ r ≡ outcomeOf (firstOf (tupleTests case (now (table .entry)) low high)) ⌝ }
 {
     if all_within(table, low, high) {
         return Outcome::Done;
@@ -209,9 +207,6 @@ fn weight_outcome(case: Case, table: &[i64], low: i64, high: i64, free: bool) ->
     }
     if some_scope_barred(case, table) {
         return Outcome::Refused(Refusal::ScopeBarred);
-    }
-    if free {
-        return Outcome::Refused(Refusal::WeightOutOfRange);
     }
     Outcome::Done
 }
@@ -246,18 +241,9 @@ fn edge_outcome(case: Case, out: bool) -> Outcome
     Outcome::Done
 }
 
-fn check(
-    case: Case,
-    table: &[i64],
-    wrong: bool,
-    out: bool,
-    low: i64,
-    high: i64,
-    free: bool,
-) -> Outcome
+fn check(case: Case, table: &[i64], wrong: bool, out: bool, low: i64, high: i64) -> Outcome
     requires { ⌜ barredWeight <ℤ low ⌝ }
-    ensures { λ r. ⌜ r ≡ outcomeOf (firstOf (handedOver (rulesOf case) (holdable low high) case (now (table .entry)) wrong out
-        ++ (WeightOutOfRange when (free && someBarred case (now (table .entry))) ∷ []))) ⌝ }
+    ensures { λ r. ⌜ r ≡ outcomeOf (firstOf (handedOver (rulesOf case) (holdable low high) case (now (table .entry)) wrong out)) ⌝ }
 {
     if !within_limits(case) {
         return Outcome::Refused(Refusal::OutsideLimits);
@@ -268,7 +254,7 @@ fn check(
     let edges = edge_outcome(case, out);
     match edges {
         Outcome::Refused(refusal) => Outcome::Refused(refusal),
-        Outcome::Done => weight_outcome(case, table, low, high, free),
+        Outcome::Done => weight_outcome(case, table, low, high),
     }
 }
 
@@ -396,7 +382,6 @@ pub fn check_starting(case: Case, table: &[i64], wrong: bool, out: bool) -> Outc
         out,
         rules::least_starting(rulebook),
         rules::most_starting(rulebook),
-        false,
     )
 }
 
@@ -411,24 +396,6 @@ pub fn check_working(case: Case, table: &[i64], wrong: bool, out: bool) -> Outco
         out,
         rules::least_working(rulebook),
         rules::most_working(rulebook),
-        false,
-    )
-}
-
-// As `check_working`; and then 8 where a tuple is barred.
-pub fn check_unbarred(case: Case, table: &[i64], wrong: bool, out: bool) -> Outcome
-    ensures { λ r. ⌜ r ≡ outcomeOf (firstOf (handedOver (rulesOf case) (workingWeight (rulesOf case)) case (now (table .entry)) wrong out
-        ++ (WeightOutOfRange when (someBarred case (now (table .entry))) ∷ []))) ⌝ }
-{
-    let rulebook = case.rulebook;
-    check(
-        case,
-        table,
-        wrong,
-        out,
-        rules::least_working(rulebook),
-        rules::most_working(rulebook),
-        true,
     )
 }
 
@@ -491,20 +458,6 @@ pub fn sum_of_best(case: Case, best: &[i64]) -> Figure
         return Figure::Refused(Refusal::WrongLength);
     }
     sum_in_range(case, best)
-}
-
-// Some tuple is barred.
-pub fn some_barred(weights: &[i64]) -> bool
-    ensures { λ r. ⌜ r ≡ any isBarred (now (weights .entry)) ⌝ }
-{
-    let mut i: usize = 0;
-    while i < weights.len() {
-        if rules::is_barred(weights[i]) {
-            return true;
-        }
-        i += 1;
-    }
-    false
 }
 
 // All tuples are barred.

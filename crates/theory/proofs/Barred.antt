@@ -5,11 +5,10 @@ use mathlib.Core.Bool.{Bool, true, false, not}
 use mathlib.Core.Logic.{_↔_, ⊎-elim}
 use mathlib.Core.List.{List}
 use Prim.Native.Nat.{ℕ, _<_, _≤_}
-use native.Mathlib.Omega.{arith}
 use lib.IntN.{ℤ, pos, _+ℤ_, +ℤ-idr}
 use lib.Dec.{T, T-not, not-T}
 use lib.Signed.{_≤ℤ_}
-use lib.ListN.{length, getD, take}
+use lib.ListN.{getD}
 use Rattle.integers.specs.Words.{if_then_else_, below, all, any, minus}
 use Rattle.integers.specs.Tests.{is-false, either, if-true, if-false, not-not-iff, and-left, and-right, and-intro, or-right, or-cases}
 use Rattle.integers.specs.Linear.{flat, zs, _▸_, T-eq}
@@ -19,13 +18,12 @@ use Rattle.definitions.specs.declared.Case.{Case}
 use Rattle.definitions.specs.Rules.{Rules, Coherent, barring}
 use Rattle.definitions.specs.Case.{scopeCount, scopes, eachTuple, ownLength, place, weight, greatest, active, isAssignment, atUsed}
 use Rattle.definitions.specs.Case.{barredWeight, isBarred, barred, whollyBarred, isLawful}
-use Rattle.definitions.specs.Valid.{inWorking, workingWeight, allWeights}
+use Rattle.definitions.specs.Valid.{inWorking, workingWeight}
 use Rattle.definitions.specs.Moves.{Difference, spared, plus, keepsRange, leavesRange}
-use Rattle.definitions.specs.Engine.{someBarred}
 use Rattle.definitions.proofs.CaseLaws.{place-own}
 use Rattle.theory.proofs.Shape.{Shape}
 use Rattle.theory.proofs.Words.{none-below}
-use Rattle.theory.proofs.Places.{IsTuple, tuple-in, in-tuples, tuple-at, all-weights, weight-plus, plus-cong, weight-most, active-weight, greatest-at}
+use Rattle.theory.proofs.Places.{IsTuple, tuple-in, in-tuples, tuple-at, weight-plus, weight-most, active-weight, greatest-at}
 use Rattle.theory.proofs.Totals.{objectiveOf, at-used, at-used-holds, used-tuple, firstUsed, secondUsed}
 
 -- ---- numbers
@@ -152,28 +150,5 @@ abbrev pub Free : Case → List ℤ → Type 0
 Free c w = (x k l : ℕ) → IsTuple c x k l → T (not (barred c w x k l))
 
 module _ (c : Case) (w : List ℤ) (free : Free c w) where
-  pub free-spared : (δ : Difference) → plus c (spared c w δ) w ≡ plus c δ w
-  free-spared δ = plus-cong c (spared c w δ) w δ (λ x k l t. if-false (pos 0) (δ x k l) (barred c w x k l) (free x k l t))
-
-  pub free-range : (r : Rules) (v : List ℤ) → ownLength c ≤ length v → T (not (leavesRange r c w v)) ↔ T (allWeights (inWorking r) c v)
-  free-range r v long = (
-    λ t. all-weights c (inWorking r) v long .1 (λ x k l u. ⊎-elim (λ s. absurd (T-not (barred c w x k l) (free x k l u) s)) (λ s. s)
-        (or-cases (barred c w x k l) (inWorking r (weight c v x k l)) (stays-in-range c r w v .0 t x k l u))),
-    λ t. stays-in-range c r w v .1 (λ x k l u. or-right (barred c w x k l) (inWorking r (weight c v x k l)) (all-weights c (inWorking r) v long .0 t x k l u)),
-  )
-
   pub free-lawful : Shape c → (p : List ℕ) → T (isAssignment c p) → T (isLawful c w p)
   free-lawful s p a = lawful-iff c w p .1 (a, λ x h. at-used-holds s p a (λ b. T (not b)) x h (barred c w x) (free x))
-
--- `someBarred` is the test of it
-pub free-iff : (c : Case) (w : List ℤ) → ownLength c ≤ length w → T (not (someBarred c w)) ↔ Free c w
-free-iff c w long = (
-  λ t. all-weights c (λ z. not (isBarred z)) w long .0 (all-in (λ z. not (isBarred z)) own .1 (λ z m. not-T (isBarred z) (λ s.
-      T-not (any isBarred own) t (any-in isBarred own .1 (z, m, s))))),
-  λ f. not-T (any isBarred own) (λ t.
-      let (z, m, s) = any-in isBarred own .0 t in
-      T-not (isBarred z) (all-in (λ z. not (isBarred z)) own .0 (all-weights c (λ z. not (isBarred z)) w long .1 f) z m) s),
-)
-  where
-    own : List ℤ
-    own = take (ownLength c) w

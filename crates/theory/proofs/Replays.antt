@@ -28,7 +28,7 @@ use Rattle.definitions.specs.Refusals.{Test, _when_, firstOf}
 use Rattle.definitions.specs.Case.{scopeCount, ownLength, objective, upperBound, barred, isLawful}
 use Rattle.definitions.specs.Valid.{workingWeight, valid}
 use Rattle.definitions.specs.Consistency.{allRefuted}
-use Rattle.definitions.specs.Moves.{Move, shift, press, shiftAmount, pressAmount, activeValues, difference, spared, moved, leavesRange}
+use Rattle.definitions.specs.Moves.{Move, shift, press, shiftAmount, pressAmount, activeValues, activeRefuted, difference, spared, moved, leavesRange}
 use Rattle.definitions.specs.Lines.{readLine, notDue, isKind, outside}
 use Rattle.calls.specs.Calls.{isRising}
 use Rattle.definitions.specs.Replay.{Target, pressing, voiding, Held, State, fresh, afterMove, holding, afterBound, afterVoid, refused, kindsDue, shiftOf}
@@ -62,6 +62,14 @@ pub record AllowedPress (r : Rules) (c : Case) (w : List ℤ) (i : ℕ) (lowered
   pub lowers : lowered ≡ activeValues c w i
   pub refutes : T (allRefuted c w (isIn raised) i lowered)
   pub in-range : T (not (leavesRange r c w (moved c (press i lowered raised a) w)))
+
+-- what a press and a void line have in common: scopes, raised in order, that refute the active values of a variable
+pub record Refuting (c : Case) (w : List ℤ) (i : ℕ) (raised : List ℕ) : Type 0 where
+  pub variable : i < c .n
+  pub some-raised : 0 < length raised
+  pub rising : T (isRising raised)
+  pub scopes : (x : ℕ) → x ∈ raised → (x < scopeCount c) × (x ≢ i)
+  pub refutes : T (activeRefuted c w i raised)
 
 abbrev pub Allowed : Rules → Case → List ℤ → Move → Type 0
 Allowed r c w (shift e end v a) = AllowedShift r c w e end v a

@@ -1,6 +1,7 @@
 -- Any list of moves, each allowed where the ones before it lead, is written in lines that the plain replay takes, with the effect of the
--- moves; where the list ends with a lower upper bound, the lines and a bound line are taken as a round. And whatever the lines, the weights
--- after them are reached by such a list. Assumes nothing.
+-- moves; where the list ends with a lower upper bound, the lines and a bound line are taken as a round. The lines of a void line are taken
+-- where its scopes refute and what it asks to be barred is. And whatever the lines, the weights after them are reached by a list of moves.
+-- Assumes nothing.
 use mathlib.Core.Path.{_≡_, refl, sym, ap, ap₂, subst, _∙_}
 use mathlib.Core.Bool.{Bool, true, false, not, _&&_, _||_}
 use mathlib.Core.Logic.{_≢_, _⊎_, inl, inr, ⊎-elim}
@@ -14,7 +15,7 @@ use lib.IntN.{ℤ, pos, negsuc, natAbs}
 use lib.Dec.{T, eqb, eqb→eq, ltb, ltb→lt, nltb→le, lt→ltb, lit<}
 use lib.Signed.{_≤ℤ_, _<ℤ_}
 use lib.ListN.{length}
-use Rattle.integers.specs.Words.{if_then_else_, first, last, joined, isSome, minus, withinZ}
+use Rattle.integers.specs.Words.{if_then_else_, first, last, joined, isIn, isSome, minus, withinZ}
 use Rattle.integers.specs.Tests.{and-iff, not-or-iff, not-not-iff, not-leb-iff, not-eqb-iff, and-intro, and-left, and-right, either, if-false, if-cases}
 use Rattle.integers.specs.Linear.{flat, zs, _▸_, T-eq}
 use Rattle.integers.specs.Lists.{_∈_, map-append}
@@ -29,14 +30,14 @@ use Rattle.definitions.specs.Valid.{inWorking, workingWeight}
 use Rattle.definitions.specs.Moves.{Move, shift, press, activePress, shiftAmount, pressAmount, activeValues, activeRefuted, moved, leavesRange}
 use Rattle.definitions.specs.Lines.{line, lineText, lineTooWide, readLine, notDue, outside}
 use Rattle.calls.specs.Calls.{isRising}
-use Rattle.definitions.specs.Replay.{pressing, Held, State, holding, afterBound, kindsDue, notAbove, targetTests, testsOfKind, lineTests}
-use Rattle.definitions.specs.Replay.{taken, answered, stepUnrefused, step, after}
+use Rattle.definitions.specs.Replay.{Target, pressing, voiding, Held, State, holding, afterBound, afterVoid, kindsDue, beginOut, allBarred, notAbove}
+use Rattle.definitions.specs.Replay.{targetTests, testsOfKind, lineTests, completed, taken, answered, stepUnrefused, step, after}
 use Rattle.definitions.proofs.ColumnLaws.{fits-digits, fits}
 use Rattle.definitions.proofs.LineLaws.{each-fits, line-read}
-use Rattle.definitions.specs.RoundLines.{raiseLine, moveLines, boundLine, roundLines, roundText}
+use Rattle.definitions.specs.RoundLines.{raiseLine, moveLines, boundLine, roundLines, roundText, linesOfVoid, voidText}
 use Rattle.theory.proofs.Barred.{greatest-in-range}
 use Rattle.theory.proofs.Validity.{none-applies, Handed}
-use Rattle.theory.proofs.Replays.{AllowedShift, AllowedPress, Allowed, handed-moved, Quiet, Sound, sound-step, stepped}
+use Rattle.theory.proofs.Replays.{AllowedShift, AllowedPress, Refuting, Allowed, handed-moved, Quiet, Sound, sound-step, stepped}
 use Rattle.theory.proofs.Replays.{stepped-allowed, case-after, none-iff}
 
 -- ---- moves that are allowed
@@ -87,13 +88,16 @@ rising-short lo x (y ∷ xs) n i f g l t h =
     let m = rising-most x (y ∷ xs) n t (λ y m. h y m .0) in
     ⊎-elim (λ b. omega (arith, k (ltb→lt x i b))) (λ b. omega (arith, nltb→le x i b)) (either (ltb x i))
 
-raised-few : {r : Rules} {c : Case} {w : List ℤ} {i : ℕ} {lowered : ℕ → Bool} {raised : List ℕ} {a : ℤ} → AllowedPress r c w i lowered raised a
-    → length raised < scopeCount c
+pub raised-few : {c : Case} {w : List ℤ} {i : ℕ} {raised : List ℕ} → Refuting c w i raised → length raised < scopeCount c
 raised-few {c} {i} {raised} k = go raised (k .some-raised) (k .rising) (k .scopes)
   where
     go : (xs : List ℕ) → 0 < length xs → T (isRising xs) → ((x : ℕ) → x ∈ xs → (x < scopeCount c) × (x ≢ i)) → length xs < scopeCount c
     go [] o t h = absurd (omega arith)
     go (x ∷ xs) o t h = omega (arith, rising-short 0 x xs (scopeCount c) i (omega arith) (omega arith) (omega (arith, k .variable)) t h)
+
+press-refuting : {r : Rules} {c : Case} {w : List ℤ} {i : ℕ} {raised : List ℕ} {a : ℤ} → AllowedPress r c w i (activeValues c w i) raised a
+    → Refuting c w i raised
+press-refuting k = record { variable = k .variable; some-raised = k .some-raised; rising = k .rising; scopes = k .scopes; refutes = k .refutes }
 
 -- each is above the last before it
 above-last : (r : Rules) (ys : List ℕ) (x : ℕ) (xs : List ℕ) → T (isRising (ys ++ (x ∷ xs))) → T (not (notAbove (last ys) x))
@@ -109,6 +113,7 @@ pub record MoveKinds (r : Rules) : Type 0 where
   pub press-due : (i k : ℕ) (a : ℤ) → T (not (notDue r (kindsDue false none) (line 2 (pos i) (pos k) (pos 0) a)))
   pub raise-due : (h : Held) (x : ℕ) → T (not (notDue r (kindsDue false (some h)) (raiseLine x)))
   pub bound-due : (z : ℤ) → T (not (notDue r (kindsDue false none) (boundLine z)))
+  pub void-due : (i k : ℕ) → T (not (notDue r (kindsDue false none) (line 5 (pos i) (pos k) (pos 0) (pos 0))))
 
 pub move-kinds : {r : Rules} → Coherent r → MoveKinds r
 move-kinds {r} coherent = record {
@@ -116,6 +121,7 @@ move-kinds {r} coherent = record {
   press-due = λ i k a. rw (coherent .known-kinds) tt;
   raise-due = λ h x. rw (coherent .known-kinds) tt;
   bound-due = λ z. rw (coherent .known-kinds) tt;
+  void-due = λ i k. rw (coherent .known-kinds) tt;
 }
 
 -- ---- lines that fit their columns
@@ -151,32 +157,46 @@ module _ {r : Rules} (coherent : Coherent r) where
         (q ▸ simp flat (omega zs), q ▸ simp flat (omega zs))
 
     -- an upper bound of working weights fits the amount column
+    pub bound-within : (minus (scopesAtMost r * r .working) ≤ℤ upperBound c w) × (upperBound c w ≤ℤ pos (scopesAtMost r * r .working))
+    bound-within =
+        let m = mul-le-mul-right {m = scopeCount c} {n = scopesAtMost r} (r .working) (omega (arith, h .variables-most, h .edges-most)) in (
+          Σ-least (greatest c w) (r .working) 0 (scopeCount c) (λ x l u. greatest-working x (omega arith) .0) ▸ simp flat (omega zs),
+          Σ-most (greatest c w) (r .working) 0 (scopeCount c) (λ x l u. greatest-working x (omega arith) .1) ▸ simp flat (omega zs),
+        )
+
     bound-small : natAbs (upperBound c w) < 10 ^ (r .amountWidth - 1)
     bound-small =
-        omega (
-          arith,
-          coherent .bound-fits,
-          mul-le-mul-right {m = scopeCount c} {n = scopesAtMost r} (r .working) (omega (arith, h .variables-most, h .edges-most)),
-          within-most (scopeCount c * r .working) (upperBound c w)
-              (Σ-least (greatest c w) (r .working) 0 (scopeCount c) (λ x l u. greatest-working x (omega arith) .0))
-              (Σ-most (greatest c w) (r .working) 0 (scopeCount c) (λ x l u. greatest-working x (omega arith) .1)),
-        )
+        omega (arith, coherent .bound-fits, within-most (scopesAtMost r * r .working) (upperBound c w) (bound-within .0) (bound-within .1))
 
     shift-fits : {e end v : ℕ} {a : ℤ} → AllowedShift r c w e end v a → lineTooWide (r .amountWidth) (line 1 (pos e) (pos end) (pos v) a) ≡ false
     shift-fits {e} {end} {v} {a} k = line-fits 1 e end v a (lit< tt) (omega (arith, k .edge, scopes-small)) (omega (arith, k .side, values-small))
         (omega (arith, k .value, values-small)) (amount-small a (k .amount ▸ simp flat (omega zs)) (k .amount ▸ simp flat (omega zs)))
 
+    -- the first line of a press or a void line
+    begin-fits : {i : ℕ} {raised : List ℕ} (kind : ℕ) (a : ℤ) → kind < 10 ^ 2 → natAbs a < 10 ^ (r .amountWidth - 1) → Refuting c w i raised
+        → lineTooWide (r .amountWidth) (line kind (pos i) (pos (length raised)) (pos 0) a) ≡ false
+    begin-fits {i} {raised} kind a t n k =
+        line-fits kind i (length raised) 0 a t (omega (arith, k .variable, scopes-small)) (omega (arith, raised-few k, scopes-small)) (lit< tt) n
+
     press-fits : {i : ℕ} {lowered : ℕ → Bool} {raised : List ℕ} {a : ℤ} → AllowedPress r c w i lowered raised a
         → lineTooWide (r .amountWidth) (line 2 (pos i) (pos (length raised)) (pos 0) a) ≡ false
-    press-fits {i} {raised} {a} k = line-fits 2 i (length raised) 0 a (lit< tt) (omega (arith, k .variable, scopes-small))
-        (omega (arith, raised-few k, scopes-small))
-        (lit< tt) (amount-small a (k .amount ▸ simp flat (omega zs)) (k .amount ▸ simp flat (omega zs)))
+    press-fits {i} {raised} {a} k = begin-fits 2 a (lit< tt) (amount-small a (k .amount ▸ simp flat (omega zs)) (k .amount ▸ simp flat (omega zs)))
+        (press-refuting (subst (λ (set : ℕ → Bool). AllowedPress r c w i set raised a) (k .lowers) k))
+
+    void-begin-fits : {i : ℕ} {raised : List ℕ} → Refuting c w i raised
+        → lineTooWide (r .amountWidth) (line 5 (pos i) (pos (length raised)) (pos 0) (pos 0)) ≡ false
+    void-begin-fits k = begin-fits 5 (pos 0) (lit< tt) (omega (arith, coherent .moving-fits)) k
 
     raise-fits : {x : ℕ} → x < scopeCount c → lineTooWide (r .amountWidth) (raiseLine x) ≡ false
     raise-fits {x} k = line-fits 3 x 0 0 (pos 0) (lit< tt) (omega (arith, scopes-small)) (lit< tt) (lit< tt) (omega (arith, coherent .moving-fits))
 
     bound-fits : lineTooWide (r .amountWidth) (boundLine (upperBound c w)) ≡ false
     bound-fits = line-fits 4 0 0 0 (upperBound c w) (lit< tt) (lit< tt) (lit< tt) (lit< tt) bound-small
+
+    -- every line of a void line
+    pub void-fits : {i : ℕ} {raised : List ℕ} → Refuting c w i raised → {l : Line} → l ∈ linesOfVoid i raised → lineTooWide (r .amountWidth) l ≡ false
+    void-fits k (List·Memᴰ·head e) = rw e (void-begin-fits k)
+    void-fits {raised} k (List·Memᴰ·tail m) = let (x, o, e) = Memᴰ·of-map raiseLine raised m in rw (← e) (raise-fits (k .scopes x o .0))
 
     move-fits : (move : Move) → Allowed r c w move → {l : Line} → l ∈ moveLines move → lineTooWide (r .amountWidth) l ≡ false
     move-fits (shift e end v a) k m = rw (List·Memᴰ·eq-of-singleton m) (shift-fits k)
@@ -272,62 +292,91 @@ module _ {r : Rules} (coherent : Coherent r) (kinds : MoveKinds r) (s : State) w
           (k .in-range, tt),
         ))
 
-    module _ {i : ℕ} {raised : List ℕ} {a : ℤ} (k : AllowedPress r (s .case) w i (activeValues (s .case) w i) raised a) where
-      -- the press held with some scopes raised
+    begin-in : {i : ℕ} {raised : List ℕ} (kind : ℕ) (a : ℤ) → Refuting (s .case) w i raised
+        → T (not (beginOut (s .case) (line kind (pos i) (pos (length raised)) (pos 0) a)))
+    begin-in {i} {raised} kind a k = simp not-or-iff (
+      within-n (s .case .n) i (k .variable),
+      not-not-iff (withinZ (pos 1) (pos (scopeCount (s .case) - 1)) (pos (length raised))) .1 (k .some-raised ▸ raised-few k ▸ simp flat (omega zs)),
+    )
+
+    -- A press or a void line held, with scopes that refute. With the last raise line its target has no number, and it leads to `done`.
+    module _ {i : ℕ} {raised : List ℕ} (k : Refuting (s .case) w i raised) (target : Target) (done : Bool → State) where
       abbrev held : List ℕ → ℕ → Held
-      held ys left = record { variable = i; target = pressing a; raised = ys; left = left }
+      held ys left = record { variable = i; target = target; raised = ys; left = left }
 
-      press-taken : (b : Bool) → step r (standing s w b) (text (line 2 (pos i) (pos (length raised)) (pos 0) a))
-          ≡ holding (standing s w b) (held [] (length raised))
-      press-taken b =
-          line-taken (standing s w b) (line 2 (pos i) (pos (length raised)) (pos 0) a) refl
-          (press-fits coherent h k) (kinds .press-due i (length raised) a)
-          (simp (and-iff, not-or-iff) (
-            (
+      abbrev now : Bool → List ℕ → ℕ → State
+      now b ys left = holding (standing s w b) (held ys left)
+
+      module _ (quiet : (b : Bool) (ys : List ℕ) (left next : ℕ) → Quiet (targetTests r (now b ys left) (held raised next) target))
+          (completes : (b : Bool) (ys : List ℕ) (left next : ℕ) → completed (now b ys left) (held raised next) target ≡ done b) where
+        raise-taken : (b : Bool) (ys : List ℕ) (x left : ℕ) → x ∈ raised → T (not (notAbove (last ys) x)) → (left ≡ 1 → ys ++ (x ∷ []) ≡ raised)
+            → step r (now b ys left) (text (raiseLine x))
+            ≡ (if eqb left 1 then completed (now b ys left) (held (ys ++ (x ∷ [])) (left - 1)) target else now b (ys ++ (x ∷ [])) (left - 1))
+        raise-taken b ys x left m up whole =
+            line-taken (now b ys left) (raiseLine x) refl
+            (raise-fits coherent h (k .scopes x m .0)) (kinds .raise-due (held ys left) x)
+            (simp (and-iff, not-or-iff) (
+              within-n (scopeCount (s .case)) x (k .scopes x m .0),
               (
-                within-n (s .case .n) i (k .variable),
-                not-not-iff (withinZ (pos 1) (pos (scopeCount (s .case) - 1)) (pos (length raised))) .1 (k .some-raised ▸ raised-few k ▸ simp flat (omega zs)),
+                (up, not-eqb-iff x i .1 (k .scopes x m .1)),
+                (
+                  not-and (eqb left 1) (not (activeRefuted (s .case) w i (ys ++ (x ∷ []))))
+                      (λ t. not-not-iff (activeRefuted (s .case) w i (ys ++ (x ∷ []))) .1 (rw (whole (eqb→eq left 1 t)) (k .refutes))),
+                  if-cases Quiet (eqb left 1) (targetTests r (now b ys left) (held (ys ++ (x ∷ [])) (left - 1)) target) []
+                      (λ t. rw (whole (eqb→eq left 1 t)) (quiet b ys left (left - 1))) (λ t. tt),
+                ),
               ),
-              not-not-iff (pressAmount r a) .1 (k .amount),
-            ),
-            tt,
-          ))
+            ))
 
-      raise-taken : (b : Bool) (ys : List ℕ) (x left : ℕ) → x ∈ raised → T (not (notAbove (last ys) x)) → (left ≡ 1 → ys ++ (x ∷ []) ≡ raised)
-          → step r (holding (standing s w b) (held ys left)) (text (raiseLine x))
-          ≡ (if eqb left 1 then standing s (moved (s .case) (activePress (s .case) w i (ys ++ (x ∷ [])) a) w) true else holding (standing s w b)
-          (held (ys ++ (x ∷ [])) (left - 1)))
-      raise-taken b ys x left m up whole =
-          line-taken (holding (standing s w b) (held ys left)) (raiseLine x) refl
-          (raise-fits coherent h (k .scopes x m .0)) (kinds .raise-due (held ys left) x)
-          (simp (and-iff, not-or-iff) (
-            within-n (scopeCount (s .case)) x (k .scopes x m .0),
-            (
-              (up, not-eqb-iff x i .1 (k .scopes x m .1)),
-              (
-                not-and (eqb left 1) (not (activeRefuted (s .case) w i (ys ++ (x ∷ []))))
-                    (λ t. not-not-iff (activeRefuted (s .case) w i (ys ++ (x ∷ []))) .1 (rw (whole (eqb→eq left 1 t)) (k .refutes))),
-                if-cases Quiet (eqb left 1) (targetTests r (holding (standing s w b) (held ys left)) (held (ys ++ (x ∷ [])) (left - 1)) (pressing a)) []
-                    (λ t. and-intro (not (leavesRange r (s .case) w (moved (s .case) (activePress (s .case) w i (ys ++ (x ∷ [])) a) w))) true
-                    (rw (whole (eqb→eq left 1 t)) (k .in-range)) tt) (λ t. tt),
-              ),
-            ),
-          ))
+        -- the raise lines that are left, after those of ys
+        raises-taken : (b : Bool) (ys : List ℕ) (x : ℕ) (xs : List ℕ) → ys ++ (x ∷ xs) ≡ raised
+            → after r (now b ys (length (x ∷ xs))) (map text (map raiseLine (x ∷ xs))) ≡ done b
+        raises-taken b ys x [] e =
+            raise-taken b ys x 1 (subst (λ (l : List ℕ). x ∈ l) e (Memᴰ·append-right ys (List·Memᴰ·head refl))) (above-last r ys x [] (rw e (k .rising)))
+            (λ _. e)
+            ∙ ap (λ (zs : List ℕ). completed (now b ys 1) (held zs 0) target) e ∙ completes b ys 1 0
+        raises-taken b ys x (z ∷ xs) e =
+            ap (λ (u : State). after r u (map text (map raiseLine (z ∷ xs))))
+            (raise-taken b ys x (length (x ∷ z ∷ xs)) (subst (λ (l : List ℕ). x ∈ l) e (Memᴰ·append-right ys (List·Memᴰ·head refl)))
+            (above-last r ys x (z ∷ xs) (rw e (k .rising)))
+            (λ n. absurd (omega arith)) ∙ if-false _ _ (eqb (length (x ∷ z ∷ xs)) 1) (not-eqb-iff (length (x ∷ z ∷ xs)) 1 .1 (λ n. omega arith))
+            ∙ ap (λ (n : ℕ). now b (ys ++ (x ∷ [])) n) (omega arith))
+            ∙ raises-taken b (ys ++ (x ∷ [])) z xs (append-assoc ys (x ∷ []) (z ∷ xs) ∙ e)
 
-      -- the raise lines that are left, after those of ys
-      raises-taken : (b : Bool) (ys : List ℕ) (x : ℕ) (xs : List ℕ) → ys ++ (x ∷ xs) ≡ raised
-          → after r (holding (standing s w b) (held ys (length (x ∷ xs)))) (map text (map raiseLine (x ∷ xs)))
-          ≡ standing s (moved (s .case) (activePress (s .case) w i raised a) w) true
-      raises-taken b ys x [] e =
-          raise-taken b ys x 1 (subst (λ (l : List ℕ). x ∈ l) e (Memᴰ·append-right ys (List·Memᴰ·head refl))) (above-last r ys x [] (rw e (k .rising))) (λ _. e)
-          ∙ rw e
-      raises-taken b ys x (z ∷ xs) e =
-          ap (λ (u : State). after r u (map text (map raiseLine (z ∷ xs))))
-          (raise-taken b ys x (length (x ∷ z ∷ xs)) (subst (λ (l : List ℕ). x ∈ l) e (Memᴰ·append-right ys (List·Memᴰ·head refl)))
-          (above-last r ys x (z ∷ xs) (rw e (k .rising)))
-          (λ n. absurd (omega arith)) ∙ if-false _ _ (eqb (length (x ∷ z ∷ xs)) 1) (not-eqb-iff (length (x ∷ z ∷ xs)) 1 .1 (λ n. omega arith))
-          ∙ ap (λ (n : ℕ). holding (standing s w b) (held (ys ++ (x ∷ [])) n)) (omega arith))
-          ∙ raises-taken b (ys ++ (x ∷ [])) z xs (append-assoc ys (x ∷ []) (z ∷ xs) ∙ e)
+        all-raises-taken : (b : Bool) → after r (now b [] (length raised)) (map text (map raiseLine raised)) ≡ done b
+        all-raises-taken b = go raised refl
+          where
+            go : (xs : List ℕ) → xs ≡ raised → after r (now b [] (length xs)) (map text (map raiseLine xs)) ≡ done b
+            go [] e = absurd (omega (arith, k .some-raised, ap length e))
+            go (x ∷ xs) e = raises-taken b [] x xs e
+
+    press-taken : (b : Bool) {i : ℕ} {raised : List ℕ} {a : ℤ} → AllowedPress r (s .case) w i (activeValues (s .case) w i) raised a
+        → after r (standing s w b) (map text (moveLines (press i (activeValues (s .case) w i) raised a)))
+        ≡ standing s (moved (s .case) (activePress (s .case) w i raised a) w) true
+    press-taken b {i} {raised} {a} k =
+        let v : List ℤ = moved (s .case) (activePress (s .case) w i raised a) w in
+        let f = press-refuting k in
+        ap (λ (u : State). after r u (map text (map raiseLine raised)))
+        (line-taken (standing s w b) (line 2 (pos i) (pos (length raised)) (pos 0) a) refl (press-fits coherent h k) (kinds .press-due i (length raised) a)
+        (and-intro (not (beginOut (s .case) (line 2 (pos i) (pos (length raised)) (pos 0) a) || not (pressAmount r a))) true
+        (not-or-iff (beginOut (s .case) (line 2 (pos i) (pos (length raised)) (pos 0) a)) (not (pressAmount r a)) .1
+        (begin-in 2 a f, not-not-iff (pressAmount r a) .1 (k .amount))) tt))
+        ∙ all-raises-taken f (pressing a) (λ _. standing s v true)
+        (λ b ys left next. and-intro (not (leavesRange r (s .case) w v)) true (k .in-range) tt) (λ b ys left next. refl) b
+
+    -- weights and rounds stay, and nothing is due any more
+    void-taken : (b : Bool) {i : ℕ} {raised : List ℕ} → Refuting (s .case) w i raised
+        → T (allBarred (s .case) w i (activeValues (s .case) w i) (isIn raised))
+        → after r (standing s w b) (voidText r i raised) ≡ afterVoid (standing s w b)
+    void-taken b {i} {raised} k bars =
+        let all = allBarred (s .case) w i (activeValues (s .case) w i) (isIn raised) in
+        ap (λ (u : State). after r u (map text (map raiseLine raised)))
+        (line-taken (standing s w b) (line 5 (pos i) (pos (length raised)) (pos 0) (pos 0)) refl (void-begin-fits coherent h k)
+        (kinds .void-due i (length raised))
+        (and-intro (not (beginOut (s .case) (line 5 (pos i) (pos (length raised)) (pos 0) (pos 0)))) true
+        (begin-in 5 (pos 0) k) tt))
+        ∙ all-raises-taken k voiding (λ b. afterVoid (standing s w b))
+        (λ b ys left next. and-intro (not (not all)) true (not-not-iff all .1 bars) tt) (λ b ys left next. refl) b
 
     bound-taken : (b : Bool) → s .rounds < r .rounds → upperBound (s .case) w <ℤ s .start
         → step r (standing s w b) (text (boundLine (upperBound (s .case) w))) ≡ afterBound (standing s w b) (upperBound (s .case) w)
@@ -339,14 +388,11 @@ module _ {r : Rules} (coherent : Coherent r) (kinds : MoveKinds r) (s : State) w
     move-taken : (b : Bool) (move : Move) → Allowed r (s .case) w move
         → after r (standing s w b) (map text (moveLines move)) ≡ standing s (moved (s .case) move w) true
     move-taken b (shift e end v a) k = shift-taken b e end v a k
-    move-taken b (press i lowered [] a) k = absurd (omega (arith, k .some-raised))
-    move-taken b (press i lowered (x ∷ xs) a) k =
+    move-taken b (press i lowered raised a) k =
         subst
-        (λ (set : ℕ → Bool). AllowedPress r (s .case) w i set (x ∷ xs) a
-        → after r (standing s w b) (map text (moveLines (press i set (x ∷ xs) a))) ≡ standing s (moved (s .case) (press i set (x ∷ xs) a) w) true)
-        (sym (k .lowers))
-        (λ k. ap (λ (u : State). after r u (map text (map raiseLine (x ∷ xs)))) (press-taken k b) ∙ raises-taken k b [] x xs refl)
-        k
+        (λ (set : ℕ → Bool). AllowedPress r (s .case) w i set raised a
+        → after r (standing s w b) (map text (moveLines (press i set raised a))) ≡ standing s (moved (s .case) (press i set raised a) w) true)
+        (sym (k .lowers)) (press-taken b) k
 
   -- ---- moves one after another
 
@@ -363,6 +409,13 @@ module _ {r : Rules} (coherent : Coherent r) (kinds : MoveKinds r) (s : State) w
     pub moves-taken : {v : List ℤ} {moves : List Move} → AllAllowed r (s .case) (s .weights) moves v
         → after r s (map (lineText (r .amountWidth)) (joined (map moveLines moves))) ≡ standing s v (isSome (first moves) || s .moving)
     moves-taken {moves} m = ap (λ (u : State). after r u (map text (joined (map moveLines moves)))) (stands s unrefused unheld going) ∙ moves-on (s .moving) h m
+
+    pub void-line-taken : {i : ℕ} {raised : List ℕ} → Refuting (s .case) (s .weights) i raised
+        → T (allBarred (s .case) (s .weights) i (activeValues (s .case) (s .weights) i) (isIn raised))
+        → after r s (voidText r i raised) ≡ afterVoid s
+    void-line-taken {i} {raised} k bars =
+        ap (λ (u : State). after r u (voidText r i raised)) (stands s unrefused unheld going) ∙ void-taken h (s .moving) k bars
+        ∙ ap afterVoid (sym (stands s unrefused unheld going))
 
     module _ {v : List ℤ} {moves : List Move} (m : AllAllowed r (s .case) (s .weights) moves v) (few : s .rounds < r .rounds)
         (lower : upperBound (s .case) v <ℤ s .start) where

@@ -1,7 +1,7 @@
 //! Reads a case file, lets the engine lower its ceiling, replays the log in blocks, and prints what the checker says, the first round's
 //! lines, which of two simple plans is better, and what pair rounds alone come to.
 
-use ceiling::{case_size, read_case, view, End, Refused, Replay, LINE, ROOM};
+use ceiling::{case_size, read_case, view, Case, End, Ending, Refused, Replay, Round, LINE, ROOM};
 use std::io::Write;
 
 const ROUNDS: u64 = 100_000;
@@ -20,21 +20,25 @@ fn example(text: &[u8]) -> Result<Vec<u8>, Refused> {
     let lines = text.len() / LINE;
     let later = |refused: Refused| Refused { line: refused.line + lines, ..refused };
 
-    // The engine's rounds, one after another, and their lines joined.
+    // The engine's rounds, one after another, and their lines joined; a void line is the last.
     let mut table = start.clone();
     let mut out = vec![0; ROOM];
     let mut log = Vec::new();
     for _ in 0..ROUNDS {
         match case.round(&mut table, &mut out).map_err(later)? {
-            None => break,
-            Some(made) => log.extend_from_slice(&out[..made.bytes]),
+            Round::Settled => break,
+            Round::Made { bytes, .. } => log.extend_from_slice(&out[..bytes]),
+            Round::Void { bytes } => {
+                log.extend_from_slice(&out[..bytes]);
+                break;
+            }
         }
     }
 
     // The same in one run.
     let mut again = start.clone();
     let run = case.run(&mut again, &mut out, ROUNDS);
-    assert!(run.refused.is_none() && again == table);
+    assert!(!matches!(run.ending, Ending::Refused(_)) && again == table);
 
     // The replay of the log in blocks, on the starting weights.
     let mut table = start.clone();
@@ -44,6 +48,7 @@ fn example(text: &[u8]) -> Result<Vec<u8>, Refused> {
         passed += replay.lines(&case, &mut table, block).map_err(|r| Refused { line: r.line + passed, ..r })?;
     }
     let end = replay.end(&case, log.len() % LINE).map_err(|r| Refused { line: passed, ..r })?;
+    assert!((end == End::Void) == (run.ending == Ending::Void));
     let End::Accepted(rounds) = end else {
         return Ok(b"void\n".to_vec());
     };
@@ -61,13 +66,21 @@ fn example(text: &[u8]) -> Result<Vec<u8>, Refused> {
     let second: Vec<u8> = (0..size.n).map(|i| (i % size.d) as u8).collect();
     let better = case.better(&start, &first, &second)?;
     let choice = if std::ptr::eq(better.as_ptr(), first.as_ptr()) { 0 } else { 1 };
-    let total = case.objective(&start, better)?;
-    printed.extend_from_slice(format!("plan {choice} {total}\n").as_bytes());
+    let kept = total(&case, &start, better)?;
+    printed.extend_from_slice(format!("plan {choice} {kept}\n").as_bytes());
 
-    // Pair rounds only: the plan keeps its total.
+    // Pair rounds only: the plan keeps its total, if it is lawful.
     let mut table = start.clone();
     let pairs = case.run_pairs(&mut table, &mut out, ROUNDS);
-    assert!(pairs.refused.is_none() && case.objective(&table, better)? == total);
+    assert!(!matches!(pairs.ending, Ending::Refused(_)) && total(&case, &table, better)? == kept);
     printed.extend_from_slice(format!("pairs {} {}\n", pairs.rounds, pairs.bound).as_bytes());
     Ok(printed)
+}
+
+/// A plan's total in words; an unlawful plan has none.
+fn total(case: &Case, table: &[i64], plan: &[u8]) -> Result<String, Refused> {
+    match case.objective(table, plan) {
+        Err(Refused { number: 5, .. }) => Ok("unlawful".to_string()),
+        other => other.map(|total| total.to_string()),
+    }
 }

@@ -80,6 +80,7 @@ mod engine {
         pub number: u64,
         pub bytes: usize,
         pub bound: i64,
+        pub none_lawful: u64,
     }
 
     #[repr(C)]
@@ -88,6 +89,7 @@ mod engine {
         pub limit: u64,
         pub rounds: u64,
         pub bound: i64,
+        pub none_lawful: u64,
     }
 
     extern "C" {

@@ -49,7 +49,7 @@ mod c;
 mod engine;
 
 #[cfg(feature = "engine")]
-pub use engine::{engine_version, Made, Run, ROOM};
+pub use engine::{engine_version, Ending, Round, Run, ROOM};
 
 /// The most links of a case.
 pub const LINKS: usize = 48;

@@ -3,7 +3,7 @@
 //! vectors.c has more rows; here the wrapper is tried. A case's table of the wrong length (number 4) cannot be handed to `read_case`, which makes
 //! the table itself.
 
-use ceiling::{case_size, engine_version, read_case, version, view, Case, End, Made, Refused, Replay, Run, Size};
+use ceiling::{case_size, engine_version, read_case, version, view, Case, End, Ending, Refused, Replay, Round, Run, Size};
 use ceiling::{BARRED, CASE, CHANNELS, LINE, LINKS, PAIRS, RECORD, ROOM};
 
 const STARTING: i64 = 1_000_000;
@@ -80,6 +80,11 @@ fn no_plan() -> Sample {
 
 fn a_plan() -> Sample {
     sample(2, 2, &[[0, 1]], &A_PLAN)
+}
+
+/// No lawful plan, which shows after two presses.
+fn late() -> Sample {
+    sample(2, 2, &[[0, 1]], &[0, BARRED, 4, BARRED, BARRED, -1, 0, -2])
 }
 
 /// Not starting weights: the pair gains but is passed over, the first press by 1 takes link 0 to the end of the range, the second is number 11.
@@ -359,49 +364,81 @@ fn ran(count: &mut Count, function: &str, row: RunRow, call: fn(&Case, &mut [i64
 }
 
 fn engine(count: &mut Count) {
-    let made = |refused, settled, rounds, bound| Run { refused, settled, rounds, bound };
+    let made = |ending, rounds, bound| Run { ending, rounds, bound };
     let one = lines(&[[2, 0, 3, 0, 1], [3, 3, 0, 0, 0], [3, 4, 0, 0, 0], [3, 5, 0, 0, 0], [4, 0, 0, 0, -1]]);
     let pair = lines(&[SHIFTS[0], SHIFTS[1], BOUND]);
     let first = lines(&[[1, 0, 1, 0, -1], [4, 0, 0, 0, 0]]);
     let second = lines(&[[2, 0, 3, 0, 1], LAST, [3, 3, 0, 0, 0], [3, 4, 0, 0, 0], [4, 0, 0, 0, -1]]);
     let lowest = lines(&[[2, 0, 2, 0, 1], FIRST, LAST, [4, 0, 0, 0, -499_999_998]]);
+    let void = lines(&[VOID, FIRST, LAST]);
+    let void_after = lines(&[VOID, FIRST, LAST, BOUND]);
+    let unbarred = lines(&[[1, 0, 0, 0, -2], [1, 0, 1, 0, -1], [4, 0, 0, 0, 3]]);
     for row in [
-        ("P1, limit 0", p1(), 0, 297, made(None, false, 0, 0), &b""[..]),
-        ("P1, limit 1", p1(), 1, 297, made(None, true, 1, -1), &one),
-        ("P1, a short output", p1(), 1, 296, made(Some(4), false, 0, 0), b""),
-        ("P5", p4(), 9, 216, made(None, true, 1, 2), &pair),
-        ("P10", p10(), 0, 216, made(None, true, 0, 11), b""),
-        ("a pair, limit 1", two(), 1, 270, made(None, false, 1, 0), &first),
-        ("a pair, then a press", two(), 9, 270, made(None, true, 2, -1), &second),
-        ("out of range", low(), 9, 270, made(Some(11), false, 1, -499_999_998), &lowest),
+        ("P1, limit 0", p1(), 0, 297, made(Ending::Limit, 0, 0), &b""[..]),
+        ("P1, limit 1", p1(), 1, 297, made(Ending::Settled, 1, -1), &one),
+        ("P1, a short output", p1(), 1, 296, made(Ending::Refused(4), 0, 0), b""),
+        ("P5", p4(), 9, 216, made(Ending::Settled, 1, 2), &pair),
+        ("P10", p10(), 0, 216, made(Ending::Settled, 0, 11), b""),
+        ("a pair, limit 1", two(), 1, 270, made(Ending::Limit, 1, 0), &first),
+        ("a pair, then a press", two(), 9, 270, made(Ending::Settled, 2, -1), &second),
+        ("out of range", low(), 9, 270, made(Ending::Refused(11), 1, -499_999_998), &lowest),
+        ("void, limit 0", no_plan(), 0, 216, made(Ending::Void, 0, 0), &void),
+        ("void, limit 9", no_plan(), 9, 216, made(Ending::Void, 0, 0), &void),
+        ("void, a short output", no_plan(), 0, 215, made(Ending::Refused(4), 0, 0), b""),
+        ("before void, limit 0", late(), 0, 216, made(Ending::Limit, 0, 4), b""),
+        ("void at the limit", late(), 2, 216, made(Ending::Void, 2, 2), &void_after),
+        ("barred values left out", single(), 1, 216, made(Ending::Limit, 1, 3), &unbarred),
     ] {
         ran(count, "run", row, Case::run);
     }
     for row in [
-        ("P1, a press is left", p1(), 9, 297, made(None, true, 0, 0), &b""[..]),
-        ("P1, a short output", p1(), 9, 296, made(Some(4), false, 0, 0), b""),
-        ("P5", p4(), 9, 216, made(None, true, 1, 2), &pair),
-        ("P5, limit 0", p4(), 0, 216, made(None, false, 0, 4), b""),
-        ("a pair, and a press is left", two(), 9, 270, made(None, true, 1, 0), &first),
-        ("passed over, before 11", low(), 9, 270, made(None, true, 0, -499_999_997), b""),
+        ("P1, a press is left", p1(), 9, 297, made(Ending::Settled, 0, 0), &b""[..]),
+        ("P1, a short output", p1(), 9, 296, made(Ending::Refused(4), 0, 0), b""),
+        ("P5", p4(), 9, 216, made(Ending::Settled, 1, 2), &pair),
+        ("P5, limit 0", p4(), 0, 216, made(Ending::Limit, 0, 4), b""),
+        ("a pair, and a press is left", two(), 9, 270, made(Ending::Settled, 1, 0), &first),
+        ("passed over, before 11", low(), 9, 270, made(Ending::Settled, 0, -499_999_997), b""),
+        ("no choice, a void line is left", no_plan(), 9, 216, made(Ending::Settled, 0, 0), b""),
+        ("barred values left out", single(), 9, 216, made(Ending::Settled, 1, 3), &unbarred),
+        ("not lower", a_plan(), 9, 216, made(Ending::Settled, 0, 0), b""),
     ] {
         ran(count, "run_pairs", row, Case::run_pairs);
     }
     let (mut table, mut out) = (p4().table, vec![0xa5; 217]);
     let round = p4().case().round(&mut table, &mut out);
     let kept = out[81..].iter().all(|&byte| byte == 0xa5);
-    count.test("round", "P5", round == Ok(Some(Made { bytes: 81, bound: 2 })) && out.starts_with(&pair) && kept && table == SHIFTED);
-    count.test("round", "settled", p4().case().round(&mut table, &mut out) == Ok(None) && table == SHIFTED);
-    let (mut barred, mut kept) = (single().table, vec![0; ROOM]);
-    count.test("round", "barred channels", single().case().round(&mut barred, &mut kept) == refused(8, 0) && barred == single().table);
+    count.test("round", "P5", round == Ok(Round::Made { bytes: 81, bound: 2 }) && out.starts_with(&pair) && kept && table == SHIFTED);
+    count.test("round", "settled", p4().case().round(&mut table, &mut out) == Ok(Round::Settled) && table == SHIFTED);
     count.test("round", "a short output", p4().case().round(&mut table, &mut out[..215]) == refused(4, 0) && table == SHIFTED);
     for (name, number, s) in faults(WORKING) {
         let (mut table, mut out) = (s.table.clone(), vec![0xa5; 320]);
         let same = |table: &[i64], out: &[u8]| table == s.table && out == [0xa5; 320];
         count.test("round", name, s.case().round(&mut table, &mut out) == refused(number, 0) && same(&table, &out));
-        count.test("run", name, s.case().run(&mut table, &mut out, 9) == made(Some(number), false, 0, 0) && same(&table, &out));
-        count.test("run_pairs", name, s.case().run_pairs(&mut table, &mut out, 9) == made(Some(number), false, 0, 0) && same(&table, &out));
+        count.test("run", name, s.case().run(&mut table, &mut out, 9) == made(Ending::Refused(number), 0, 0) && same(&table, &out));
+        count.test("run_pairs", name, s.case().run_pairs(&mut table, &mut out, 9) == made(Ending::Refused(number), 0, 0) && same(&table, &out));
     }
+}
+
+/// The engine's void logs in the checker's calls: void at the end, and the record says that nothing is due.
+fn void_logs(count: &mut Count) {
+    for s in [no_plan(), late()] {
+        let (case, mut table, mut out, mut log) = (s.case(), s.table.clone(), vec![0; ROOM], Vec::new());
+        while let Ok(Round::Made { bytes, .. }) = case.round(&mut table, &mut out) {
+            log.extend_from_slice(&out[..bytes]);
+        }
+        let void = case.round(&mut table, &mut out);
+        count.test("round", "void", void == Ok(Round::Void { bytes: 3 * LINE }));
+        log.extend_from_slice(&out[..3 * LINE]);
+        let mut replayed = s.table.clone();
+        let mut replay = Replay::start(&case, &replayed).expect("a fresh record");
+        count.test("lines", "a void log", replay.lines(&case, &mut replayed, &log) == Ok(log.len() / LINE) && replayed == table);
+        count.test("end", "a void log", replay.end(&case, 0) == Ok(End::Void) && replay.bytes()[49] == 3);
+    }
+    let (case, mut table) = (single().case(), [BARRED, BARRED, 0, 0, 0, 0, 0, 0]);
+    count.test("round", "a link wholly barred", case.round(&mut table, &mut [0; 216]) == refused(15, 0));
+    count.test("run", "a link wholly barred", case.run(&mut table, &mut [0; 216], 0).ending == Ending::Refused(15));
+    table[1] = BARRED + 1;
+    count.test("run_pairs", "above barred", case.run_pairs(&mut table, &mut [0; 216], 0).ending == Ending::Refused(8));
 }
 
 /// The largest case, all of its weights 0: settled with room for the longest round, and number 4 with a byte less.
@@ -410,10 +447,10 @@ fn room(count: &mut Count) {
     let places = LINKS * CHANNELS + PAIRS * CHANNELS * CHANNELS;
     let s = sample(LINKS as u64, CHANNELS as u64, &pairs, &vec![0; places]);
     let (case, mut table, mut out) = (s.case(), s.table, vec![0; ROOM]);
-    count.test("round", "the longest round", case.round(&mut table, &mut out) == Ok(None));
+    count.test("round", "the longest round", case.round(&mut table, &mut out) == Ok(Round::Settled));
     count.test("round", "a byte less", case.round(&mut table, &mut out[1..]) == refused(4, 0));
-    count.test("run", "a byte less", case.run(&mut table, &mut out[1..], 1).refused == Some(4));
-    count.test("run_pairs", "a byte less", case.run_pairs(&mut table, &mut out[1..], 1).refused == Some(4));
+    count.test("run", "a byte less", case.run(&mut table, &mut out[1..], 1).ending == Ending::Refused(4));
+    count.test("run_pairs", "a byte less", case.run_pairs(&mut table, &mut out[1..], 1).ending == Ending::Refused(4));
 }
 
 /// Both libraries are of this package's version.
@@ -432,6 +469,7 @@ fn all(count: &mut Count) {
     replays(count);
     views(count);
     engine(count);
+    void_logs(count);
     room(count);
 }
 

@@ -54,7 +54,7 @@ impl Check {
 
     /// What is handed to an engine's program: whole lines, and answers to all tables.
     pub fn calls(&mut self, seed: u64, index: u64) -> Result<(), Difference> {
-        let batch = calls::batch(seed, index, true);
+        let batch = calls::batch(seed, index);
         let whole = batch.input.len() % LINE_BYTES == 0;
         holds("calls in whole lines", whole, &batch.input)?;
         let names = text(&batch.output).matches("table ").count() as u64;

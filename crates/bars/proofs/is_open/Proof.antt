@@ -1,4 +1,4 @@
-use mathlib.Core.Path.{sym, ap, _∙_}
+use mathlib.Core.Path.{sym, ap}
 use mathlib.Core.Bool.{not}
 use mir.Facts.{toZ-ofZ}
 use borrow.Author.Needs.{needs}

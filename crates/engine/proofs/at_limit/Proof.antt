@@ -1,26 +1,23 @@
-use mathlib.Core.Path.{_≡_, refl, sym, ap, _∙_}
-use mathlib.Core.Bool.{Bool, true, false}
+use mathlib.Core.Path.{_≡_, sym, subst, _∙_}
+use mathlib.Core.Bool.{Bool}
 use mathlib.Core.Option.{none}
 use native.Mathlib.Omega.{arith}
 use denote.Ref.{now}
-use Rattle.integers.specs.Words.{if_then_else_}
-use Rattle.tables.proofs.Answered.{limits-known, limits-true}
-use Rattle.tables.proofs.Order.{limited}
+use Rattle.tables.proofs.Answered.{limits-known}
 use Rattle.definitions.specs.declared.RunAnswer.{RunAnswer}
 use Rattle.definitions.specs.Rules.{rulesOf}
 use Rattle.definitions.specs.PairRounds.{lowestPair}
-use Rattle.definitions.specs.Engine.{chosen, atLimit}
 use Rattle.pair_choice.specs.declared.Paired.{Paired}
 use Rattle.pair_choice.specs.PairChoice.{pairedOf}
-use Rattle.engine.specs.Rounds.{nextIn}
-use Rattle.engine.proofs.Pairs.{found-pair, found-nothing, next-pair, next-pairs, limit-press}
-use Rattle.pair_theory.proofs.Inside.{every-takes}
+use Rattle.engine.specs.Rounds.{LimitIs}
+use Rattle.engine.proofs.Pairs.{found-pair, found-nothing, next-pair, next-pairs}
+use Rattle.engine.proofs.Runs.{limit-round, limit-settled}
 use borrow.Author.Needs.{needs}
 use Rattle.engine.proofs.at_limit.Statement.{statement}
 use Rattle.engine.proofs.at_limit.Tie as tie
 
 abbrev entry : tie.After-prepare → tie.Start
-entry c = c .before .before .before
+entry c = c .before .before .before .before
 
 slice-aggregate-prepare : tie.Need-slice-aggregate-prepare
 slice-aggregate-prepare c = search needs
@@ -30,9 +27,9 @@ slice-aggregate-prepare-2 c = search needs
 
 prepare-requires : tie.Need-prepare-requires
 prepare-requires c κs =
-    let s = c .before .before in
-    let l = limits-known (every-takes (s .pre .0)) in
-    (s .pre, (omega (arith, l .variables-placed), omega (arith, l .edges-placed)))
+    let s = c .before .before .before in
+    let l = limits-known (s .pre .0 .0) in
+    (s .pre .0, (omega (arith, l .variables-placed), omega (arith, l .edges-placed)))
 
 -- what was found
 found-is : (c : tie.After-prepare) {r : Paired} → c .prepare .result ≡ r → let a = entry c .args in
@@ -55,52 +52,43 @@ no-pair c = found-nothing _ (found-is (looked c) (c .enum-told2 .given .1))
 returns : tie.Need-returns
 returns c =
     let t = c .before in
-    let a = entry (looked t) .args in
-    sym (ap (λ (b : Bool). atLimit (nextIn b (rulesOf (a .case)) (a .case) (now (a .table)))) (c .if1 .taken)
-    ∙ ap atLimit (next-pairs (a .case) (now (a .table)) (no-pair t)))
+    let s = entry (looked t) in
+    let a = s .args in
+    subst (λ (b : Bool). LimitIs b (a .case) (now (a .table)) (now (a .out)) (now (a .out)) RunAnswer.Settled) (sym (c .if1 .taken))
+    (limit-settled (s .pre .0 .0) (s .pre .1) (next-pairs (a .case) (now (a .table)) (no-pair t)))
 
-slice-aggregate-has-press : tie.Need-slice-aggregate-has-press
-slice-aggregate-has-press c = search needs
+slice-aggregate-limit-next : tie.Need-slice-aggregate-limit-next
+slice-aggregate-limit-next c = search needs
 
-slice-aggregate-has-press-2 : tie.Need-slice-aggregate-has-press-2
-slice-aggregate-has-press-2 c = search needs
+slice-aggregate-limit-next-2 : tie.Need-slice-aggregate-limit-next-2
+slice-aggregate-limit-next-2 c = search needs
 
-has-press-requires : tie.Need-has-press-requires
-has-press-requires c κs =
-    let q = looked (c .before .before .before) in
-    let s = entry q in
-    let h = every-takes (s .pre .0) in
-    (limited (s .args .case) (limits-true h), omega (arith, limits-known h .variables-placed, q .prepare .kept .1 .1 .1 .0))
-
--- whether a press is left
-module _ (c : tie.After-has-press) where
-  abbrev left : tie.Else1
-  left = c .before .before .before
-
-  abbrev at : tie.After-prepare
-  at = looked (left .before)
-
-  answers : (b : Bool) → c .has-press .result ≡ b → let a = entry at .args in
-      (if b then RunAnswer.Limit else RunAnswer.Settled) ≡ atLimit (nextIn (a .pairs) (rulesOf (a .case)) (a .case) (now (a .table)))
-  answers b e =
-      let s = entry at in
-      let a = s .args in
-      ap (λ (b : Bool). if b then RunAnswer.Limit else RunAnswer.Settled) (sym e ∙ c .has-press .ensures (now (a .table)) (at .prepare .ensures .1))
-      ∙ limit-press (a .case) (now (a .table)) (no-pair (left .before)) (s .pre .0 .shape) (chosen (a .case) (now (a .table))) refl
-      ∙ ap (λ (b : Bool). atLimit (nextIn b (rulesOf (a .case)) (a .case) (now (a .table)))) (sym (left .if1 .left))
+limit-next-requires : tie.Need-limit-next-requires
+limit-next-requires c κs =
+    let t = c .before .before .before .before in
+    let q = looked t in
+    let s = entry q in (
+      s .pre .0,
+      (s .pre .1, ((q .prepare .ensures .1, omega (arith, limits-known (s .pre .0 .0) .variables-placed, q .prepare .kept .1 .1 .1 .0)), no-pair t)),
+    )
 
 returns-2 : tie.Need-returns-2
-returns-2 c = answers (c .before) true (c .if2 .taken)
+returns-2 c =
+    let q = c .before .before .before .before in
+    let s = entry q in
+    let a = s .args in
+    limit-round (s .pre .0 .0) (s .pre .1) (next-pair (a .case) (now (a .table)) (found-pair _ (found-is q (c .enum-told .given .1))) (a .pairs))
+
+same-length : tie.Need-same-length
+same-length c = search needs
 
 returns-3 : tie.Need-returns-3
 returns-3 c =
-    let q = c .before .before .before .before in
-    let a = entry q .args in
-    let f = c .enum-told .given in
-    sym (ap atLimit (next-pair (a .case) (now (a .table)) (found-pair _ (found-is q (f .1))) (a .pairs)))
-
-returns-4 : tie.Need-returns-4
-returns-4 c = answers (c .before) false (c .if2 .left)
+    let p = c .before .before in
+    let f = p .before .before .before .before in
+    let a = entry (looked (f .before)) .args in
+    subst (λ (b : Bool). LimitIs b (a .case) (now (a .table)) (now (a .out)) (p .limit-next .last .1 .1 .0) (p .limit-next .result)) (sym (f .if1 .left))
+    (p .limit-next .ensures)
 
 pub at-limit-spec : {M : Type 1} → statement M
 at-limit-spec =
@@ -112,9 +100,9 @@ at-limit-spec =
     enum-told
     enum-told-2
     returns
-    slice-aggregate-has-press
-    slice-aggregate-has-press-2
-    has-press-requires
+    slice-aggregate-limit-next
+    slice-aggregate-limit-next-2
+    limit-next-requires
     returns-2
-    returns-3
-    returns-4)
+    same-length
+    returns-3)

@@ -1,6 +1,5 @@
 use native.Mathlib.Omega.{arith}
 use Rattle.tables.proofs.Answered.{limits-known}
-use Rattle.pair_theory.proofs.Inside.{every-takes}
 use borrow.Author.Needs.{needs}
 use Rattle.engine.proofs.first_round.Statement.{statement}
 use Rattle.engine.proofs.first_round.Tie as tie
@@ -9,7 +8,7 @@ slice-aggregate-greatest-of : tie.Need-slice-aggregate-greatest-of
 slice-aggregate-greatest-of c = search needs
 
 greatest-of-requires : tie.Need-greatest-of-requires
-greatest-of-requires c κs = let s = c .before .before .before in (s .pre .0, omega (arith, limits-known (every-takes (s .pre .0)) .scopes-placed))
+greatest-of-requires c κs = let s = c .before .before .before in (s .pre .0, omega (arith, limits-known (s .pre .0) .scopes-placed))
 
 slice-aggregate-round-checked : tie.Need-slice-aggregate-round-checked
 slice-aggregate-round-checked c = search needs

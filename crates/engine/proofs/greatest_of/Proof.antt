@@ -1,6 +1,5 @@
 use denote.Ref.{now}
 use Rattle.tables.proofs.Best.{greatest-known}
-use Rattle.pair_theory.proofs.Inside.{every-takes}
 use borrow.Author.Needs.{needs}
 use Rattle.engine.proofs.greatest_of.Statement.{statement}
 use Rattle.engine.proofs.greatest_of.Tie as tie
@@ -14,7 +13,7 @@ same-length c = search needs
 returns : tie.Need-returns
 returns c =
     let s = c .before .before .before in
-    rw (c .before .greatest-weights .ensures .1) (greatest-known (now (s .args .best)) (every-takes (s .pre .0)) (s .pre .1) .1)
+    rw (c .before .greatest-weights .ensures .1) (greatest-known (now (s .args .best)) (s .pre .0) (s .pre .1) .1)
 
 pub greatest-of-spec : {M : Type 1} → statement M
 greatest-of-spec =

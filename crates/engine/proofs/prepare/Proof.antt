@@ -29,7 +29,7 @@ returns c =
     let p : Prepared (a .case) (now (a .table)) (k .last .1 .1 .1 .0) (k .last .1 .1 .1 .1 .0) =
     rw (k .ensures .1, k .ensures .2) (marks-prepared (s .pre .0 .0) (s .pre .0 .1) (now (a .acts)) (now (a .rows)) (s .pre .1 .0) (s .pre .1 .1)) in (
       c .lowest-pair .ensures
-          ∙ lowest-pair-is (p .handed) (k .last .1 .1 .1 .0) (k .last .1 .1 .1 .1 .0) (p .acts-are) (p .rows-are)
+          ∙ lowest-pair-is (p .handed) (s .pre .0 .1) (k .last .1 .1 .1 .0) (k .last .1 .1 .1 .1 .0) (p .acts-are) (p .rows-are)
           (omega (arith, s .pre .1 .0, k .kept .1 .1 .1 .0)) (p .rows-long),
       p,
     )

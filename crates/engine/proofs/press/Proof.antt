@@ -1,7 +1,6 @@
 use mir.Facts.{toZ-ofZ}
 use denote.Ref.{now}
 use Rattle.engine.proofs.Rounds.{pressed-by}
-use Rattle.pair_theory.proofs.Inside.{every-takes}
 use borrow.Author.Needs.{needs}
 use Rattle.engine.proofs.press.Statement.{statement}
 use Rattle.engine.proofs.press.Tie as tie
@@ -26,7 +25,7 @@ returns c =
     let a = s .args in
     let p = s .pre in
     let e = rw (toZ-ofZ (s .fits .amount)) at (d .lower-and-raise .ensures) in
-    pressed-by (every-takes (p .0)) (p .1 .0) (now (a .raised)) (a .variable) (a .amount) (p .1 .1 .0) (p .1 .1 .1) (p .1 .1 .2)
+    pressed-by (p .0) (p .1 .0) (now (a .raised)) (a .variable) (a .amount) (p .1 .1 .0) (p .1 .1 .1) (p .1 .1 .2)
     (v .best-values .result) (v .best-values .ensures) (e .0) (e .1) (e .2)
 
 pub press-spec : {M : Type 1} → statement M

@@ -7,7 +7,6 @@ use Rattle.engine.specs.Search.{FoundIs}
 use Rattle.engine.proofs.Raising.{ones-raised}
 use Rattle.engine.proofs.Runs.{nothing-made}
 use Rattle.engine.proofs.Pairs.{next-settled}
-use Rattle.pair_theory.proofs.Inside.{every-takes}
 use borrow.Author.Needs.{needs}
 use Rattle.engine.proofs.press_next.Statement.{statement}
 use Rattle.engine.proofs.press_next.Tie as tie
@@ -18,7 +17,7 @@ slice-aggregate-search c = search needs
 search-requires : tie.Need-search-requires
 search-requires c κs =
     let s = c .before .before .before .before in
-    let l = limits-known (every-takes (s .pre .0 .0)) in
+    let l = limits-known (s .pre .0 .0) in
     (omega (arith, l .scopes-placed), s .pre .1 .1 .0 .1, l .variables-placed, l .values-few, l .edges-placed)
 
 -- what was found
@@ -31,7 +30,7 @@ module _ (c : tie.After-search) where
       let a = start .args in
       subst (FoundIs (a .case) (now (a .table)) (c .search .last .1 .1 .1 .0)) e
       (c .search .ensures (now (a .table)) (start .pre .1 .1 .0 .0) (ones-raised (a .case)
-      (omega (arith, limits-known (every-takes (start .pre .0 .0)) .scopes-placed))))
+      (omega (arith, limits-known (start .pre .0 .0) .scopes-placed))))
 
 enum-told : tie.Need-enum-told
 enum-told c = search needs
@@ -39,22 +38,24 @@ enum-told c = search needs
 enum-known-found : tie.Need-enum-known-found
 enum-known-found c = search needs
 
-slice-aggregate-press-round : tie.Need-slice-aggregate-press-round
-slice-aggregate-press-round c = search needs
+slice-aggregate-press-or-void : tie.Need-slice-aggregate-press-or-void
+slice-aggregate-press-or-void c = search needs
 
-press-round-requires : tie.Need-press-round-requires
-press-round-requires c κs =
+press-or-void-requires : tie.Need-press-or-void-requires
+press-or-void-requires c κs =
     let f = c .before .before .before .before .before in
     let q = f .before .before .before in
-    let s = start q in (
-      s .pre .0 .0,
-      (
-        s .pre .0 .1,
-        (
-          (omega (arith, limits-known (every-takes (s .pre .0 .0)) .scopes-placed, q .search .kept .1 .1 .1 .0), s .pre .1 .0),
-          (s .pre .1 .1 .1, found-is q (f .found .given .1)),
-        ),
-      ),
+    let s = start q in
+    let (which, kept) = found-is q (f .found .given .1) in (
+      record {
+        handed = s .pre .0 .0;
+        greatest-held = s .pre .0 .1;
+        no-pair = s .pre .1 .1 .1;
+        which = which;
+        room = omega (arith, limits-known (s .pre .0 .0) .scopes-placed, q .search .kept .1 .1 .1 .0);
+        kept = kept;
+      },
+      s .pre .1 .0,
     )
 
 returns : tie.Need-returns
@@ -62,7 +63,7 @@ returns c =
     let q = c .before .before .before in
     let s = start q in
     let e = found-is q (c .enum-told .given .1) in
-    (nothing-made (s .pre .0 .0) (s .pre .1 .0) (next-settled (s .args .case) (now (s .args .table)) (s .pre .1 .1 .1) (s .pre .0 .0 .shape) e), s .pre .0 .1)
+    (nothing-made (s .pre .0 .0) (s .pre .1 .0) (next-settled (s .args .case) (now (s .args .table)) (s .pre .1 .1 .1) e), s .pre .0 .1)
 
 same-length : tie.Need-same-length
 same-length c = search needs
@@ -74,7 +75,7 @@ same-length-3 : tie.Need-same-length-3
 same-length-3 c = search needs
 
 returns-2 : tie.Need-returns-2
-returns-2 c = c .before .before .before .before .press-round .ensures
+returns-2 c = c .before .before .before .before .press-or-void .ensures
 
 pub press-next-spec : {M : Type 1} → statement M
 press-next-spec =
@@ -84,8 +85,8 @@ press-next-spec =
     search-requires
     enum-told
     enum-known-found
-    slice-aggregate-press-round
-    press-round-requires
+    slice-aggregate-press-or-void
+    press-or-void-requires
     returns
     same-length
     same-length-2

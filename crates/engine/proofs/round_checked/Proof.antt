@@ -12,7 +12,6 @@ use Rattle.pair_choice.specs.PairChoice.{pairedOf}
 use Rattle.engine.specs.Rounds.{MadeRound}
 use Rattle.engine.proofs.Runs.{nothing-made}
 use Rattle.engine.proofs.Pairs.{found-pair, found-nothing, next-pairs}
-use Rattle.pair_theory.proofs.Inside.{every-takes}
 use borrow.Author.Needs.{needs}
 use Rattle.engine.proofs.round_checked.Statement.{statement}
 use Rattle.engine.proofs.round_checked.Tie as tie
@@ -29,7 +28,7 @@ slice-aggregate-prepare-2 c = search needs
 prepare-requires : tie.Need-prepare-requires
 prepare-requires c κs =
     let s = c .before .before .before .before .before in
-    let l = limits-known (every-takes (s .pre .0 .0)) in
+    let l = limits-known (s .pre .0 .0) in
     (s .pre .0, (omega (arith, l .variables-placed), omega (arith, l .edges-placed)))
 
 -- what was found
@@ -87,7 +86,7 @@ press-next-requires c κs =
       s .pre .0,
       (
         s .pre .1,
-        ((q .prepare .ensures .1, omega (arith, limits-known (every-takes (s .pre .0 .0)) .variables-placed, q .prepare .kept .1 .1 .1 .0)), no-pair t),
+        ((q .prepare .ensures .1, omega (arith, limits-known (s .pre .0 .0) .variables-placed, q .prepare .kept .1 .1 .1 .0)), no-pair t),
       ),
     )
 

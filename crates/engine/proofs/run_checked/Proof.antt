@@ -7,12 +7,13 @@ use lib.ListN.{length}
 use denote.Ref.{now}
 use Rattle.definitions.specs.declared.Round.{Round}
 use Rattle.definitions.specs.Rules.{rulesOf}
-use Rattle.definitions.specs.Valid.{inWorking}
+use Rattle.definitions.specs.Valid.{workingWeight}
 use Rattle.definitions.specs.Engine.{roundBytes}
 use Rattle.theory.proofs.Validity.{Handed}
 use Rattle.tables.specs.Scopes.{BestOf}
 use Rattle.engine.specs.Rounds.{MadeRound}
-use Rattle.engine.proofs.Runs.{Going, run-starts, run-goes-on, settled-run, run-leaves, run-limits, still-settled, still-refused, still-made}
+use Rattle.engine.proofs.Runs.{Going, run-starts, run-goes-on, settled-run, void-run, run-leaves, run-limits}
+use Rattle.engine.proofs.Runs.{still-settled, still-void, still-refused, still-made}
 use borrow.Author.Needs.{needs}
 use Rattle.engine.proofs.run_checked.Statement.{statement}
 use Rattle.engine.proofs.run_checked.Tie as tie
@@ -24,7 +25,7 @@ pub record Same (table₀ table : List ℤ) (out₀ out : List ℕ) (best₀ bes
 
 abbrev Inv-loop : tie.InvT-loop
 Inv-loop case table₀ out₀ best₀ limit pairs done₀ table out best done =
-    (done ≤ limit) × Same table₀ table out₀ out best₀ best × Handed (rulesOf case) (inWorking (rulesOf case)) case table × BestOf case table best
+    (done ≤ limit) × Same table₀ table out₀ out best₀ best × Handed (rulesOf case) (workingWeight (rulesOf case)) case table × BestOf case table best
     × Going pairs case limit table₀ out₀ done table out
 
 abbrev μ-loop : tie.MeasureT-loop
@@ -146,12 +147,45 @@ returns-2 c =
     (turn q .loop-test .taken)
     (did q (e .before .made .given .1)))
 
--- the run goes on
-abbrev going : tie.After-enum-told2 Inv-loop μ-loop → tie.After-round-checked Inv-loop μ-loop
-going c = made (c .before .before)
+-- the run ends with a void line
+abbrev void : tie.After-enum-told2 Inv-loop μ-loop → tie.After-round-checked Inv-loop μ-loop
+void c = made (c .before .before)
 
 enum-told-2 : tie.Need-enum-told-2 Inv-loop μ-loop
 enum-told-2 c = search needs
+
+stop-run-requires-3 : tie.Need-stop-run-requires-3 Inv-loop μ-loop
+stop-run-requires-3 c κs =
+    let e = c .before .before in
+    let q = void e in
+    (still-void (at q .loop .inv .2) (room (at q)) (did q (e .enum-told2 .given .1)), q .round-checked .ensures .1)
+
+same-length-7 : tie.Need-same-length-7 Inv-loop μ-loop
+same-length-7 c = same (void (c .before .before .before)) .tables
+
+same-length-8 : tie.Need-same-length-8 Inv-loop μ-loop
+same-length-8 c = same (void (c .before .before .before)) .outs
+
+same-length-9 : tie.Need-same-length-9 Inv-loop μ-loop
+same-length-9 c = same (void (c .before .before .before)) .bests
+
+returns-3 : tie.Need-returns-3 Inv-loop μ-loop
+returns-3 c =
+    let e = c .before .before .before in
+    let q = void e in
+    let a = entry (at q) .args in
+    let l = at q .loop in
+    rw (c .stop-run3 .ensures)
+    (void-run (a .pairs) (a .case) (a .limit) (now (a .table)) (now (a .out)) (l .done) (l .table) (l .out) (l .inv .2) (room (at q)) (l .inv .4)
+    (turn q .loop-test .taken)
+    (did q (e .enum-told2 .given .1)))
+
+-- the run goes on
+abbrev going : tie.After-enum-told3 Inv-loop μ-loop → tie.After-round-checked Inv-loop μ-loop
+going c = made (c .before .before)
+
+enum-told-3 : tie.Need-enum-told-3 Inv-loop μ-loop
+enum-told-3 c = search needs
 
 add-done : tie.Need-add-done Inv-loop μ-loop
 add-done c = omega (arith, turn (going c) .loop-test .taken)
@@ -164,7 +198,7 @@ loop-again c =
     let q = going c in
     let a = entry (at q) .args in
     let l = at q .loop in
-    let d = did q (c .enum-told2 .given .1) in (
+    let d = did q (c .enum-told3 .given .1) in (
       omega (arith, turn q .loop-test .taken),
       same q,
       still-made (l .inv .2) (room (at q)) d,
@@ -175,32 +209,35 @@ loop-again c =
 
 -- no more rounds
 abbrev over : tie.After-at-limit Inv-loop μ-loop → tie.After-loop Inv-loop μ-loop
-over c = c .before .before .before
+over c = c .before .before .before .before
 
 at-limit-requires : tie.Need-at-limit-requires Inv-loop μ-loop
-at-limit-requires c κs = let l = c .before .before .before .loop in (l .inv .2, l .inv .3)
+at-limit-requires c κs = let l = c .before .before .before .before in ((l .loop .inv .2, l .loop .inv .3), room l)
 
-stop-run-requires-3 : tie.Need-stop-run-requires-3 Inv-loop μ-loop
-stop-run-requires-3 c κs = let l = over (c .before .before) .before .loop in (l .inv .2, l .inv .3)
+abbrev asked : tie.After-slice-known3 Inv-loop μ-loop → tie.After-at-limit Inv-loop μ-loop
+asked c = c .before .before
 
-same-length-7 : tie.Need-same-length-7 Inv-loop μ-loop
-same-length-7 c = over (c .before .before .before) .before .loop .inv .1 .tables
+stop-run-requires-4 : tie.Need-stop-run-requires-4 Inv-loop μ-loop
+stop-run-requires-4 c κs = let l = over (asked (c .before .before)) .before .loop in (l .inv .2, l .inv .3)
 
-same-length-8 : tie.Need-same-length-8 Inv-loop μ-loop
-same-length-8 c = over (c .before .before .before) .before .loop .inv .1 .outs
+same-length-10 : tie.Need-same-length-10 Inv-loop μ-loop
+same-length-10 c = over (asked (c .before .before .before)) .before .loop .inv .1 .tables
 
-same-length-9 : tie.Need-same-length-9 Inv-loop μ-loop
-same-length-9 c = over (c .before .before .before) .before .loop .inv .1 .bests
+same-length-11 : tie.Need-same-length-11 Inv-loop μ-loop
+same-length-11 c = let q = asked (c .before .before .before) in q .at-limit .kept .1 .1 .0 ∙ over q .before .loop .inv .1 .outs
 
-returns-3 : tie.Need-returns-3 Inv-loop μ-loop
-returns-3 c =
-    let e = c .before .before .before in
+same-length-12 : tie.Need-same-length-12 Inv-loop μ-loop
+same-length-12 c = over (asked (c .before .before .before)) .before .loop .inv .1 .bests
+
+returns-4 : tie.Need-returns-4 Inv-loop μ-loop
+returns-4 c =
+    let e = asked (c .before .before .before) in
     let t = over e in
     let a = entry (t .before) .args in
     let l = t .before .loop in
-    rw (c .stop-run3 .ensures, e .at-limit .ensures)
+    rw (c .stop-run4 .ensures)
     (run-limits (a .pairs) (a .case) (a .limit) (now (a .table)) (now (a .out)) (l .done) (l .table) (l .out) (l .inv .2) (room (t .before)) (l .inv .4)
-    (t .loop-test .left))
+    (t .loop-test .left) (e .at-limit .ensures))
 
 pub run-checked-spec : {M : Type 1} → statement M
 run-checked-spec =
@@ -223,12 +260,18 @@ run-checked-spec =
     same-length-6
     returns-2
     enum-told-2
-    add-done
-    loop-less
-    loop-again
-    at-limit-requires
     stop-run-requires-3
     same-length-7
     same-length-8
     same-length-9
-    returns-3)
+    returns-3
+    enum-told-3
+    add-done
+    loop-less
+    loop-again
+    at-limit-requires
+    stop-run-requires-4
+    same-length-10
+    same-length-11
+    same-length-12
+    returns-4)

@@ -6,7 +6,6 @@ use Rattle.definitions.specs.declared.Figure.{Figure}
 use Rattle.definitions.specs.Case.{upperBound}
 use Rattle.tables.proofs.Best.{best-sum-known}
 use Rattle.engine.proofs.Runs.{runWith}
-use Rattle.pair_theory.proofs.Inside.{every-takes}
 use borrow.Author.Needs.{needs}
 use Rattle.engine.proofs.stop_run.Statement.{statement}
 use Rattle.engine.proofs.stop_run.Tie as tie
@@ -23,7 +22,7 @@ enum-known-sum-2 c = search needs
 -- the sum is the upper bound
 summed : (c : tie.After-sum-of-best) {x : Figure} → c .sum-of-best .result ≡ x → let a = c .before .args in x ≡ Figure.Value
     (upperBound (a .case) (now (a .table)))
-summed c e = sym e ∙ c .sum-of-best .ensures ∙ best-sum-known (every-takes (c .before .pre .0)) (c .before .pre .1)
+summed c e = sym e ∙ c .sum-of-best .ensures ∙ best-sum-known (c .before .pre .0) (c .before .pre .1)
 
 returns : tie.Need-returns
 returns c = let e = summed (c .before .before .before) (c .before .sum .given .1) in cc

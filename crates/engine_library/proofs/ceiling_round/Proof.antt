@@ -1,7 +1,6 @@
 -- The three calls. Assumes nothing.
 use mathlib.Core.Path.{ap, _∙_}
-use Rattle.definitions.specs.Answers.{roundSays}
-use Rattle.engine_library.specs.Answers.{roundAnswer}
+use Rattle.engine_library.specs.Answers.{roundOf}
 use borrow.Author.Needs.{needs}
 use Rattle.engine_library.proofs.ceiling_round.Statement.{statement}
 use Rattle.engine_library.proofs.ceiling_round.Tie as tie
@@ -25,7 +24,7 @@ returns : tie.Need-returns
 returns c =
     let k = c .before .before .before .before in
     let (p, q, z) = rw (k .before .before .before .case-of .ensures) at (k .round .ensures) in
-    (c .round-of .ensures ∙ ap (λ x. roundAnswer (roundSays x)) p, q, z)
+    (c .round-of .ensures ∙ ap roundOf p, q, z)
 
 pub ceiling-round-spec : {M : Type 1} → statement M
 ceiling-round-spec =

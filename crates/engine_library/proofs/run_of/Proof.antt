@@ -11,12 +11,16 @@ answer-number-requires c κs = search needs
 limit-of-requires : tie.Need-limit-of-requires
 limit-of-requires c κs = search needs
 
+none-lawful-of-requires : tie.Need-none-lawful-of-requires
+none-lawful-of-requires c κs = search needs
+
 returns : tie.Need-returns
 returns c = rw (
-  c .before .limit-of .ensures,
-  c .before .before .answer-number .ensures,
-  read-back w64 (c .before .before .before .args .run .bound) (c .struct-told .given .1 .1 .0 .1),
+  c .before .none-lawful-of .ensures,
+  c .before .before .limit-of .ensures,
+  c .before .before .before .answer-number .ensures,
+  read-back w64 (c .before .before .before .before .args .run .bound) (c .struct-told .given .1 .1 .0 .1),
 )
 
 pub run-of-spec : {M : Type 1} → statement M
-run-of-spec = tie.close (tie.spec answer-number-requires limit-of-requires returns)
+run-of-spec = tie.close (tie.spec answer-number-requires limit-of-requires none-lawful-of-requires returns)

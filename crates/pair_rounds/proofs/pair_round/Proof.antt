@@ -3,8 +3,7 @@ use native.Mathlib.Omega.{arith}
 use denote.Ref.{now}
 use Rattle.integers.specs.Tests.{true-is, false-is}
 use Rattle.tables.proofs.Answered.{limits-known}
-use Rattle.pair_choice.proofs.Pairs.{leaves-passed-over}
-use Rattle.pair_theory.proofs.Inside.{every-takes}
+use Rattle.pair_choice.proofs.Pairs.{leaves-is}
 use Rattle.pair_rounds.proofs.Rounds.{best-found, pair-round-refused}
 use borrow.Author.Needs.{needs}
 use Rattle.pair_rounds.proofs.pair_round.Statement.{statement}
@@ -20,7 +19,7 @@ returns : tie.Need-returns
 returns c =
     let s = c .before .before .before .before in
     pair-round-refused (now (s .args .out)) (s .pre .0 .0) (s .pre .0 .1) (s .pre .1)
-    (true-is _ (sym (c .before .leaves-range .ensures ∙ leaves-passed-over (s .pre .0 .0) (s .args .edge) (s .pre .0 .1)) ∙ c .if1 .taken))
+    (true-is _ (sym (c .before .leaves-range .ensures ∙ leaves-is (s .pre .0 .0) (s .args .edge) (s .pre .0 .1)) ∙ c .if1 .taken))
 
 slice-aggregate-greatest-weights : tie.Need-slice-aggregate-greatest-weights
 slice-aggregate-greatest-weights c = search needs
@@ -40,10 +39,10 @@ shift-pair-requires c κs =
     let h = s .pre .0 .0 in (
       record {
         handed = h;
-        greatest-held = best-found _ _ (every-takes h) (omega (arith, limits-known (every-takes h) .scopes-placed)) (g .greatest-weights .ensures .1);
+        greatest-held = best-found _ _ h (omega (arith, limits-known h .scopes-placed)) (g .greatest-weights .ensures .1);
         edge = s .pre .0 .1;
       },
-      (false-is _ (sym (l .leaves-range .ensures ∙ leaves-passed-over h (s .args .edge) (s .pre .0 .1)) ∙ i .if1 .left), s .pre .1),
+      (false-is _ (sym (l .leaves-range .ensures ∙ leaves-is h (s .args .edge) (s .pre .0 .1)) ∙ i .if1 .left), s .pre .1),
     )
 
 same-length-2 : tie.Need-same-length-2

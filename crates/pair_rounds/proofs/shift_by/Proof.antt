@@ -1,5 +1,4 @@
 use mir.Facts.{toZ-ofZ}
-use Rattle.pair_theory.proofs.Inside.{every-takes}
 use Rattle.pair_rounds.proofs.Texts.{shift-small, shift-fits, shifted-one}
 use borrow.Author.Needs.{needs}
 use Rattle.pair_rounds.proofs.shift_by.Statement.{statement}
@@ -10,12 +9,12 @@ transfer-requires c κs = search needs
 
 shift-line-requires : tie.Need-shift-line-requires
 shift-line-requires c κs = let s = c .before .before .before .before .before .before .before in
-    shift-small (every-takes (s .pre .0 .0 .handed)) (s .pre .0 .0 .greatest-held) (s .pre .0 .1)
+    shift-small (s .pre .0 .0 .handed) (s .pre .0 .0 .greatest-held) (s .pre .0 .1)
 
 put-line-requires : tie.Need-put-line-requires
 put-line-requires c κs =
     let s = c .before .before .before .before .before .before .before .before in
-    (s .pre .1, rw (c .shift-line .ensures, toZ-ofZ (s .fits .amount)) (shift-fits (every-takes (s .pre .0 .0 .handed)) (s .pre .0 .1)))
+    (s .pre .1, rw (c .shift-line .ensures, toZ-ofZ (s .fits .amount)) (shift-fits (s .pre .0 .0 .handed) (s .pre .0 .1)))
 
 same-length : tie.Need-same-length
 same-length c = search needs
@@ -32,7 +31,7 @@ returns c =
     let l = p .before in
     let t = l .before .before .before .before in
     let s = t .before .before .before .before in
-    shifted-one (every-takes (s .pre .0 .0 .handed)) (s .pre .0 .0 .greatest-held) (s .pre .0 .1) (rw (toZ-ofZ (s .fits .amount)) at (t .transfer .ensures))
+    shifted-one (s .pre .0 .0 .handed) (s .pre .0 .0 .greatest-held) (s .pre .0 .1) (rw (toZ-ofZ (s .fits .amount)) at (t .transfer .ensures))
     (p .put-line .ensures .0) (rw (l .shift-line .ensures, toZ-ofZ (s .fits .amount)) at (p .put-line .ensures .1))
 
 pub shift-by-spec : {M : Type 1} → statement M

@@ -1,7 +1,6 @@
 use denote.Ref.{now}
 use Rattle.definitions.specs.Rules.{coherent}
 use Rattle.theory.proofs.Rounds.{all-handed}
-use Rattle.pair_theory.proofs.Inside.{every-takes}
 use Rattle.pair_rounds.proofs.Rounds.{round-ready, bound-ready, pair-round-made}
 use borrow.Author.Needs.{needs}
 use Rattle.pair_rounds.proofs.shift_pair.Statement.{statement}
@@ -35,7 +34,7 @@ returns c =
     let s = q .before .before .before .before .before in
     let m = q .shift-both .ensures in
     pair-round-made (now (s .args .out)) (s .pre .0 .handed) (s .pre .0 .edge) (s .pre .1 .1) m
-    (p .put-bound .ensures (q .shift-both .last .1 .0) (all-handed (coherent (s .args .case .rulebook)) (m .allowed) (every-takes (s .pre .0 .handed)))
+    (p .put-bound .ensures (q .shift-both .last .1 .0) (all-handed (coherent (s .args .case .rulebook)) (m .allowed) (s .pre .0 .handed))
     (m .greatest-kept))
 
 pub shift-pair-spec : {M : Type 1} → statement M

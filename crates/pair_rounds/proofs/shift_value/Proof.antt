@@ -12,7 +12,7 @@ use Rattle.definitions.specs.Case.{weight}
 use Rattle.definitions.specs.Moves.{Move, shift, endVariable}
 use Rattle.definitions.specs.PairRounds.{wholeShift}
 use Rattle.theory.proofs.Rounds.{AllAllowed}
-use Rattle.pair_theory.proofs.Inside.{every-takes}
+use Rattle.pair_rounds.specs.Shifts.{leftOut}
 use Rattle.pair_rounds.proofs.Moves.{allowed-one, whole-none, whole-one, weight-small}
 use Rattle.pair_rounds.proofs.Texts.{shifted-none}
 use borrow.Author.Needs.{needs}
@@ -20,43 +20,52 @@ use Rattle.pair_rounds.proofs.shift_value.Statement.{statement}
 use Rattle.pair_rounds.proofs.shift_value.Tie as tie
 
 weight-at-requires : tie.Need-weight-at-requires
-weight-at-requires c κs = let s = c .before .before in (every-takes (s .pre .0 .0 .handed), s .pre .0 .0 .edge, s .pre .0 .1)
+weight-at-requires c κs = let s = c .before .before in (s .pre .0 .0 .handed, s .pre .0 .0 .edge, s .pre .0 .1)
+
+left-out-requires : tie.Need-left-out-requires
+left-out-requires c κs = search needs
+
+-- the value's weight is looked at
+told : (c : tie.After-left-out) → let a = c .before .before .before .before .args in
+    leftOut (weight (a .case) (now (a .table)) (endVariable (a .case) (a .edge) (a .end)) (a .value) 0) ≡ c .left-out .result
+told c =
+    let g = c .before in
+    sym (c .left-out .ensures ∙ ap leftOut (read-back w64 (g .weight-at .result) (g .weight-at .ok) ∙ g .weight-at .ensures))
 
 same-length : tie.Need-same-length
 same-length c = search needs
 
 returns : tie.Need-returns
 returns c =
-    let g = c .before in
-    let s = g .before .before .before in
+    let s = c .before .before .before .before .before in
     let a = s .args in
-    let z : weight (a .case) (now (a .table)) (endVariable (a .case) (a .edge) (a .end)) (a .value) 0 ≡ pos 0 =
-    sym (g .weight-at .ensures) ∙ sym (read-back w64 (g .weight-at .result) (g .weight-at .ok)) ∙ ap (toZ w64) (c .if1 .taken) in
-    rw (whole-none (a .case) (now (a .table)) (a .edge) (a .end) (a .value) z) (shifted-none (a .at) (now (a .out)) (s .pre .0 .0 .greatest-held))
+    rw (whole-none (a .case) (now (a .table)) (a .edge) (a .end) (a .value) (told (c .before) ∙ c .if1 .taken))
+    (shifted-none (a .at) (now (a .out)) (s .pre .0 .0 .greatest-held))
 
 sub-shift-by : tie.Need-sub-shift-by
 sub-shift-by c =
-    let g = c .before .before .before .before in
+    let g = c .before .before .before .before .before in
     let s = g .before .before .before in
     let (l, u) = weight-small (s .args .end) (s .pre .0 .0 .handed) (s .pre .0 .0 .edge) (s .pre .0 .1) in
     rw (read-back w64 (g .weight-at .result) (g .weight-at .ok), g .weight-at .ensures) (l ▸ u ▸ simp flat (omega zs))
 
 -- the shift of the value, by the amount as it is read back
-one : (c : tie.After-shift-by-arg3) → let g = c .before .before .before .before in
+one : (c : tie.After-shift-by-arg3) → let g = c .before .before .before .before .before in
     let a = g .before .before .before .args in
     wholeShift (a .case) (now (a .table)) (a .edge) (a .end) (a .value)
     ≡ shift (a .edge) (a .end) (a .value) (toZ w64 (ofZ w64 (pos 0 -ℤ toZ w64 (ofZ w64 (g .weight-at .result))))) ∷ []
 one c =
-    let g = c .before .before .before .before in
+    let l = c .before .before .before .before in
+    let g = l .before in
     let a = g .before .before .before .args in
     let z = weight (a .case) (now (a .table)) (endVariable (a .case) (a .edge) (a .end)) (a .value) 0 in
-    whole-one (a .case) (now (a .table)) (a .edge) (a .end) (a .value) (λ e. c .before .before .before .if1 .left (ap (ofZ w64) (g .weight-at .ensures ∙ e)))
+    whole-one (a .case) (now (a .table)) (a .edge) (a .end) (a .value) (told l ∙ c .before .before .before .if1 .left)
     ∙ ap (λ (m : ℤ). shift (a .edge) (a .end) (a .value) m ∷ []) (sym (toZ-ofZ (sub-shift-by c)
     ∙ ap (λ (y : ℤ). pos 0 -ℤ y) (read-back w64 (g .weight-at .result) (g .weight-at .ok) ∙ g .weight-at .ensures) ∙ +ℤ-idl (negℤ z)))
 
 shift-by-requires : tie.Need-shift-by-requires
 shift-by-requires c κs =
-    let s = c .before .before .before .before .before .before .before in
+    let s = c .before .before .before .before .before .before .before .before in
     let a = s .args in
     let (v, m) = s .pre .1 .0 in (
       (s .pre .0 .0, allowed-one (subst (λ (l : List Move). AllAllowed (rulesOf (a .case)) (a .case) (now (a .table)) l v) (one c) m)),
@@ -82,6 +91,7 @@ shift-value-spec =
     tie.close
     (tie.spec
     weight-at-requires
+    left-out-requires
     same-length
     returns
     sub-shift-by

@@ -1,5 +1,5 @@
 -- By whether a round may follow. Assumes nothing.
-use mathlib.Core.Path.{ap}
+use mathlib.Core.Path.{refl, ap}
 use borrow.Author.Tests.{eq-eqb, ne-eqb}
 use denote.Ref.{now}
 use Rattle.definitions.specs.declared.Written.{Written}
@@ -14,26 +14,21 @@ ask-round-requires c κs = search needs
 same-length : tie.Need-same-length
 same-length c = search needs
 
-same-length-2 : tie.Need-same-length-2
-same-length-2 c = search needs
-
 returns : tie.Need-returns
 returns c =
-    let k = c .before .before .before in
-    let i = k .before .before .before .before in
+    let i = c .before .before .before in
     let s = i .before .before .before in
-    let (a, t, o) = k .ask-round .ensures in
     same-pressing (next-is (s .args .pressing) (now (s .args .table)) (now (s .args .out)) (eq-eqb (s .args .pressing .left) 0 (i .if1 .taken)))
-    (ap (λ (x : Written). record { pressing = s .args .pressing; written = x }) a, t, o)
+    (ap (λ (x : Written). record { pressing = s .args .pressing; written = x }) (c .ask-round .ensures), refl, refl)
 
 one-round-requires : tie.Need-one-round-requires
 one-round-requires c κs = search needs
 
+same-length-2 : tie.Need-same-length-2
+same-length-2 c = search needs
+
 same-length-3 : tie.Need-same-length-3
 same-length-3 c = search needs
-
-same-length-4 : tie.Need-same-length-4
-same-length-4 c = search needs
 
 returns-2 : tie.Need-returns-2
 returns-2 c =
@@ -49,9 +44,8 @@ next-spec =
     (tie.spec
     ask-round-requires
     same-length
-    same-length-2
     returns
     one-round-requires
+    same-length-2
     same-length-3
-    same-length-4
     returns-2)

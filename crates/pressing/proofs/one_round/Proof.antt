@@ -3,7 +3,7 @@ use denote.Ref.{now}
 use Rattle.definitions.specs.Rules.{rulesOf}
 use Rattle.definitions.specs.Engine.{engineNext}
 use Rattle.calls.specs.EngineCalls.{roundCall}
-use Rattle.pressing.proofs.Calls.{round-settled, round-made, call-refused}
+use Rattle.pressing.proofs.Calls.{round-settled, round-made, round-void, call-refused}
 use borrow.Author.Needs.{needs}
 use Rattle.pressing.proofs.one_round.Statement.{statement}
 use Rattle.pressing.proofs.one_round.Tie as tie
@@ -29,11 +29,17 @@ with-left-requires c κs = search needs
 enum-known-round-2 : tie.Need-enum-known-round-2
 enum-known-round-2 c = search needs
 
+after-text-requires-2 : tie.Need-after-text-requires-2
+after-text-requires-2 c κs = search needs
+
+enum-known-round-3 : tie.Need-enum-known-round-3
+enum-known-round-3 c = search needs
+
 write-refusal-requires : tie.Need-write-refusal-requires
 write-refusal-requires c κs = search needs
 
-after-text-requires-2 : tie.Need-after-text-requires-2
-after-text-requires-2 c κs = search needs
+after-text-requires-3 : tie.Need-after-text-requires-3
+after-text-requires-3 c κs = search needs
 
 same-length : tie.Need-same-length
 same-length c = search needs
@@ -73,13 +79,28 @@ same-length-6 c = search needs
 
 returns-3 : tie.Need-returns-3
 returns-3 c =
+    let k = c .before .before in
+    let e = k .before .before .before .before .before in
+    let s = e .before .before .before .before .before in
+    let p = s .args .pressing in
+    round-void p (roundCall (rulesOf (p .case)) engineNext (p .case) (now (s .args .table)) (now (s .args .out))) (e .round .ensures) (k .round3 .given .1)
+    (c .after-text2 .ensures)
+
+same-length-7 : tie.Need-same-length-7
+same-length-7 c = search needs
+
+same-length-8 : tie.Need-same-length-8
+same-length-8 c = search needs
+
+returns-4 : tie.Need-returns-4
+returns-4 c =
     let w = c .before .before .before in
     let k = w .before .before .before in
     let e = k .before .before .before .before .before in
     let s = e .before .before .before .before .before in
     let p = s .args .pressing in
-    call-refused p (roundCall (rulesOf (p .case)) engineNext (p .case) (now (s .args .table)) (now (s .args .out))) (e .round .ensures) (k .round3 .given .1)
-    (w .write-refusal .ensures) (c .after-text2 .ensures)
+    call-refused p (roundCall (rulesOf (p .case)) engineNext (p .case) (now (s .args .table)) (now (s .args .out))) (e .round .ensures) (k .round4 .given .1)
+    (w .write-refusal .ensures) (c .after-text3 .ensures)
 
 pub one-round-spec : {M : Type 1} → statement M
 one-round-spec =
@@ -92,8 +113,10 @@ one-round-spec =
     sub-with-left
     with-left-requires
     enum-known-round-2
-    write-refusal-requires
     after-text-requires-2
+    enum-known-round-3
+    write-refusal-requires
+    after-text-requires-3
     same-length
     same-length-2
     returns
@@ -102,4 +125,7 @@ one-round-spec =
     returns-2
     same-length-5
     same-length-6
-    returns-3)
+    returns-3
+    same-length-7
+    same-length-8
+    returns-4)

@@ -7,6 +7,7 @@ use Rattle.definitions.specs.declared.Case.{Case}
 use Rattle.definitions.specs.declared.Refusal.{Refusal}
 use Rattle.definitions.specs.declared.Written.{Written}
 use Rattle.definitions.specs.declared.Rulebook.the-variants.{Desk}
+use Rattle.definitions.specs.CaseFiles.{readCaseAlone}
 use Rattle.texts.specs.Texts.{textRoom}
 use Rattle.pressing.specs.declared.Pressed.{Pressed}
 use Rattle.pressing.proofs.Calls.{same-pressing, start-is, start-refused, start-read}
@@ -34,9 +35,6 @@ returns c =
 read-case-alone-requires : tie.Need-read-case-alone-requires
 read-case-alone-requires c κs = search needs
 
-free-only-requires : tie.Need-free-only-requires
-free-only-requires c κs = search needs
-
 enum-known-answer : tie.Need-enum-known-answer
 enum-known-answer c = search needs
 
@@ -56,14 +54,13 @@ returns-2 : tie.Need-returns-2
 returns-2 c =
     let k = c .before .before in
     let a = k .before .before .before in
-    let f = a .before .before in
-    let d = f .before .before .before .before in
+    let d = a .before .before .before .before in
     let i = d .before .before in
     let s = i .before .before .before in
     same-pressing (start-is Desk (now (s .args .bytes)) (now (s .args .table)) (now (s .args .out))
     (le-ltb (length (now (s .args .out))) textRoom (i .if1 .left)))
-    (start-refused Desk (now (s .args .bytes)) (now (s .args .table)) (now (s .args .out)) (d .read-case-alone .ensures) (f .free-only .ensures)
-    (a .answer .given .1) (k .write-refused .ensures))
+    (start-refused (now (s .args .out)) (readCaseAlone Desk (now (s .args .bytes)) (now (s .args .table))) (d .read-case-alone .ensures) (a .answer .given .1)
+    (k .write-refused .ensures))
 
 same-length-3 : tie.Need-same-length-3
 same-length-3 c = search needs
@@ -71,14 +68,12 @@ same-length-3 c = search needs
 returns-3 : tie.Need-returns-3
 returns-3 c =
     let a = c .before in
-    let f = a .before .before in
-    let d = f .before .before .before .before in
+    let d = a .before .before .before .before in
     let i = d .before .before in
     let s = i .before .before .before in
     same-pressing (start-is Desk (now (s .args .bytes)) (now (s .args .table)) (now (s .args .out))
     (le-ltb (length (now (s .args .out))) textRoom (i .if1 .left)))
-    (start-read Desk (now (s .args .bytes)) (now (s .args .table)) (now (s .args .out)) (d .read-case-alone .ensures) (f .free-only .ensures)
-    (a .answer2 .given .1))
+    (start-read (now (s .args .out)) (readCaseAlone Desk (now (s .args .bytes)) (now (s .args .table))) (d .read-case-alone .ensures) (a .answer2 .given .1))
 
 pub start-spec : {M : Type 1} → statement M
 start-spec =
@@ -88,7 +83,6 @@ start-spec =
     no-case-requires
     returns
     read-case-alone-requires
-    free-only-requires
     enum-known-answer
     write-refused-requires
     enum-known-answer-2

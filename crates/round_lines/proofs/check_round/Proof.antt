@@ -15,11 +15,11 @@ returns c = let e = sym (c .before .within-limits .ensures) ∙ not-true _ (c .i
 too-short-requires : tie.Need-too-short-requires
 too-short-requires c κs = limited (c .before .before .args .case) (sym (c .before .within-limits .ensures) ∙ not-false _ (c .if1 .left))
 
-check-unbarred-requires : tie.Need-check-unbarred-requires
-check-unbarred-requires c κs = search needs
+check-working-requires : tie.Need-check-working-requires
+check-working-requires c κs = search needs
 
 returns-2 : tie.Need-returns-2
-returns-2 c = rw (c .before .too-short .ensures) at (c .check-unbarred .ensures)
+returns-2 c = rw (c .before .too-short .ensures) at (c .check-working .ensures)
 
 pub check-round-spec : {M : Type 1} → statement M
-check-round-spec = tie.close (tie.spec within-limits-requires returns too-short-requires check-unbarred-requires returns-2)
+check-round-spec = tie.close (tie.spec within-limits-requires returns too-short-requires check-working-requires returns-2)

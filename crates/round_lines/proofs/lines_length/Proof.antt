@@ -13,22 +13,18 @@ amount-width-requires c κs = search needs
 add-result : tie.Need-add-result
 add-result c = omega (arith, c .amount-width .ensures, coherent (c .before .args .case .rulebook) .amount-fits)
 
-add-result-2 : tie.Need-add-result-2
-add-result-2 c = search needs
-
 mul-result : tie.Need-mul-result
 mul-result c =
     let s = c .before in
     let w = c .amount-width in
     omega (
       arith,
-      times-most (15 + w .result) (s .args .count + 2) 33 (scopePlaces + 2) (omega (arith, w .ensures, coherent (s .args .case .rulebook) .amount-fits))
+      times-most (15 + w .result) (s .args .count) 33 (scopePlaces + 2) (omega (arith, w .ensures, coherent (s .args .case .rulebook) .amount-fits))
           (omega (arith, s .pre .0 .scopes-placed)),
     )
 
 returns : tie.Need-returns
-returns c = ap (λ (n : ℕ). (15 + n) * (c .before .args .count + 2)) (c .amount-width .ensures)
+returns c = ap (λ (n : ℕ). (15 + n) * c .before .args .count) (c .amount-width .ensures)
 
 pub lines-length-spec : {M : Type 1} → statement M
-lines-length-spec =
-    tie.close (tie.spec amount-width-requires add-result add-result-2 mul-result returns)
+lines-length-spec = tie.close (tie.spec amount-width-requires add-result mul-result returns)

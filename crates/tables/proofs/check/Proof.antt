@@ -52,7 +52,7 @@ weight-outcome-requires c κs = let s = c .before .before .before in
 returns-3 : tie.Need-returns-3
 returns-3 c = let s = c .before .before .before in
     let a = s .before .before .before .before .before .before .args in
-    edges-wrong (rulesOf (a .case)) (a .low) (a .high) (a .free) (a .case) (a .table .now) (a .wrong) (a .out) (right (s .before) .0) (right (s .before) .1)
+    edges-wrong (rulesOf (a .case)) (a .low) (a .high) (a .case) (a .table .now) (a .wrong) (a .out) (right (s .before) .0) (right (s .before) .1)
     (right (s .before) .2)
     (sym (c .before .edges .given .1) ∙ s .edge-outcome .ensures)
 
@@ -61,7 +61,7 @@ returns-4 c = let s = c .before .before .before in
     let a = s .before .before .before .before .before .before .args in
     let f = s .before .before .before .before .before .before .fits in
     (simp (toZ-ofZ (f .low), toZ-ofZ (f .high)) at (c .weight-outcome .ensures))
-    ∙ edges-right (rulesOf (a .case)) (a .low) (a .high) (a .free) (a .case) (a .table .now) (a .wrong) (a .out) (right (s .before) .0) (right (s .before) .1)
+    ∙ edges-right (rulesOf (a .case)) (a .low) (a .high) (a .case) (a .table .now) (a .wrong) (a .out) (right (s .before) .0) (right (s .before) .1)
     (right (s .before) .2)
     (sym (c .before .enum-told .given .1) ∙ s .edge-outcome .ensures)
 

@@ -1,20 +1,16 @@
 -- With the ends of the range of working weights. Assumes nothing.
-use mathlib.Core.Path.{ap, ap₂, subst, sym, _∙_}
-use mathlib.Core.Bool.{false}
-use mathlib.Core.List.{[], _∷_, _++_}
+use mathlib.Core.Path.{ap₂, subst, sym, _∙_}
 use lib.IntN.{ℤ}
 use lib.Signed.{_<ℤ_}
 use mir.Syntax.{w64}
 use Rattle.integers.specs.Linear.{read-back}
-use Rattle.definitions.specs.declared.Refusal.the-variants.{WeightOutOfRange}
-use Rattle.definitions.specs.Refusals.{_when_, firstOf}
+use Rattle.definitions.specs.Refusals.{firstOf}
 use Rattle.definitions.specs.Rules.{coherent, rulesOf}
 use Rattle.definitions.specs.Answers.{outcomeOf}
 use Rattle.definitions.specs.Case.{barredWeight}
-use Rattle.definitions.specs.Valid.{handedOver, workingWeight}
+use Rattle.definitions.specs.Valid.{handedOver}
 use Rattle.tables.specs.Scopes.{holdable}
-use Rattle.tables.proofs.Order.{last-none}
-use Rattle.tables.proofs.Unbarred.{working-above}
+use Rattle.tables.proofs.Ranges.{working-above}
 use borrow.Author.Needs.{needs}
 use Rattle.tables.proofs.check_working.Statement.{statement}
 use Rattle.tables.proofs.check_working.Tie as tie
@@ -36,11 +32,9 @@ returns c = let a = c .before .before .before .args in
     let low = c .before .before .least-working in
     let high = c .before .most-working in
     c .check .ensures
-    ∙ ap₂ (λ (x y : ℤ). outcomeOf (firstOf (handedOver (rulesOf (a .case)) (holdable x y) (a .case) (a .table .now) (a .wrong) (a .out)
-    ++ (WeightOutOfRange when false ∷ []))))
+    ∙ ap₂ (λ (x y : ℤ). outcomeOf (firstOf (handedOver (rulesOf (a .case)) (holdable x y) (a .case) (a .table .now) (a .wrong) (a .out))))
     (read-back w64 (low .result) (low .ok) ∙ low .ensures)
     (read-back w64 (high .result) (high .ok) ∙ high .ensures)
-    ∙ ap outcomeOf (last-none (handedOver (rulesOf (a .case)) (workingWeight (rulesOf (a .case))) (a .case) (a .table .now) (a .wrong) (a .out)) WeightOutOfRange)
 
 pub check-working-spec : {M : Type 1} → statement M
 check-working-spec =

@@ -1,7 +1,6 @@
 use mathlib.Core.Path.{sym, _∙_}
 use mir.Facts.{toZ-ofZ}
 use borrow.Author.Needs.{needs}
-use Rattle.integers.specs.Words.{withinZ}
 use Rattle.definitions.specs.Case.{isBarred}
 use Rattle.tables.proofs.Search.{or-second, or-first}
 use Rattle.tables.proofs.is_holdable.Statement.{statement}

@@ -1,13 +1,13 @@
 -- By whether all are in the range, and else by what is asked. Assumes nothing.
 use mir.Facts.{toZ-ofZ}
 use mathlib.Core.Path.{_≡_, sym, ap, _∙_}
-use mathlib.Core.Bool.{true, false}
+use mathlib.Core.Bool.{true}
 use borrow.Author.Needs.{needs}
 use borrow.Author.Tests.{not-true, not-false}
-use Rattle.integers.specs.Words.{all, withinZ}
+use Rattle.integers.specs.Words.{all}
 use Rattle.definitions.specs.Answers.{outcomeOf}
 use Rattle.tables.specs.Scopes.{holdable}
-use Rattle.tables.proofs.Unbarred.{one-barred, nothing-left}
+use Rattle.tables.proofs.Ranges.{nothing-left}
 use Rattle.tables.proofs.weight_outcome.Statement.{statement}
 use Rattle.tables.proofs.weight_outcome.Tie as tie
 
@@ -19,7 +19,7 @@ returns c = let s = c .before .before in
     let a = s .args in
     let f = s .fits in
     ap outcomeOf (sym (nothing-left (a .low) (a .high) (a .table .now) (s .pre .1 .1)
-    (sym (simp (toZ-ofZ (f .low), toZ-ofZ (f .high)) at (c .before .all-within .ensures)) ∙ c .if1 .taken) (a .case) (s .pre .0) (s .pre .1 .0) (a .free)))
+    (sym (simp (toZ-ofZ (f .low), toZ-ofZ (f .high)) at (c .before .all-within .ensures)) ∙ c .if1 .taken) (a .case) (s .pre .0) (s .pre .1 .0)))
 
 all-holdable-requires : tie.Need-all-holdable-requires
 all-holdable-requires c κs = search needs
@@ -31,32 +31,16 @@ returns-2 c = let f = c .before .before .before .before .fits in
 some-scope-barred-requires : tie.Need-some-scope-barred-requires
 some-scope-barred-requires c κs = search needs
 
--- all weights may be held, and one is not in the range
+-- all weights may be held
 held : (c : tie.Else2) → let a = c .before .before .before .before .args in all (holdable (a .low) (a .high)) (a .table .now) ≡ true
 held c = let f = c .before .before .before .before .fits in
     sym (simp (toZ-ofZ (f .low), toZ-ofZ (f .high)) at (c .before .all-holdable .ensures)) ∙ not-false _ (c .if2 .left)
-
-outside : (c : tie.Else1) → let a = c .before .before .args in all (withinZ (a .low) (a .high)) (a .table .now) ≡ false
-outside c = let f = c .before .before .fits in
-    sym (simp (toZ-ofZ (f .low), toZ-ofZ (f .high)) at (c .before .all-within .ensures)) ∙ c .if1 .left
 
 returns-3 : tie.Need-returns-3
 returns-3 c = rw (held (c .before .before), sym (c .before .some-scope-barred .ensures) ∙ c .if3 .taken)
 
 returns-4 : tie.Need-returns-4
-returns-4 c = let s = c .before .before in
-    let e = s .before in
-    let a = e .before .before .before .before .args in
-    rw (
-      held e,
-      sym (s .some-scope-barred .ensures) ∙ c .before .if3 .left,
-      c .if4 .taken,
-      one-barred (a .low) (a .high) (a .table .now) (outside (e .before .before)) (held e),
-    )
-
-returns-5 : tie.Need-returns-5
-returns-5 c = let s = c .before .before in
-    rw (held (s .before), sym (s .some-scope-barred .ensures) ∙ c .before .if3 .left, c .if4 .left)
+returns-4 c = rw (held (c .before .before), sym (c .before .some-scope-barred .ensures) ∙ c .if3 .left)
 
 pub weight-outcome-spec : {M : Type 1} → statement M
 weight-outcome-spec =
@@ -68,5 +52,4 @@ weight-outcome-spec =
     returns-2
     some-scope-barred-requires
     returns-3
-    returns-4
-    returns-5)
+    returns-4)

@@ -1,4 +1,3 @@
-use mathlib.Core.Path.{refl}
 use borrow.Author.Needs.{needs}
 use Rattle.checker.proofs.presses.after_target.Statement.{statement}
 use Rattle.checker.proofs.presses.after_target.Tie as tie
