@@ -21,7 +21,7 @@ extern "C" {
 #endif
 
 /* The version that this header is of: major * 10000 + minor * 100 + patch. */
-#define CEILING_VERSION 10300
+#define CEILING_VERSION 10400
 
 /* The most links, channels and pairs of a case, and the bytes of a line. */
 #define CEILING_LINKS 48
@@ -40,6 +40,10 @@ extern "C" {
  * the case's own counts, also where nothing is written. */
 #define CEILING_ROOM (CEILING_LINE * (CEILING_LINKS + CEILING_PAIRS + 2 * CEILING_CHANNELS + 1))
 
+/* What stands in place of a partner where the channel is outside the family, and room for the partners of any case. */
+#define CEILING_OUTSIDE 255
+#define CEILING_PARTNERS (2 * CEILING_PAIRS * CEILING_CHANNELS)
+
 /* No call takes more bytes of stack. */
 #define CEILING_STACK 16384
 
@@ -49,6 +53,7 @@ struct ceiling_total_answer { uint64_t number; int64_t total; };
 struct ceiling_rounds_answer { uint64_t number, rounds, is_void; };
 struct ceiling_span_answer { uint64_t number; size_t from, to, line; };
 struct ceiling_choice_answer { uint64_t number, choice; };
+struct ceiling_value_answer { uint64_t number; size_t value; };
 struct ceiling_round_answer { uint64_t number; size_t bytes; int64_t bound; uint64_t none_lawful; };
 struct ceiling_run_answer { uint64_t number, limit, rounds; int64_t bound; uint64_t none_lawful; };
 
@@ -76,6 +81,16 @@ struct ceiling_total_answer ceiling_objective(const uint8_t case_bytes[CEILING_C
  * lawful. */
 struct ceiling_choice_answer ceiling_better_of(const uint8_t case_bytes[CEILING_CASE], const int64_t *table, size_t table_length,
                                                const uint8_t *first, size_t first_length, const uint8_t *second, size_t second_length);
+
+/* Why a channel was kept: the lowest active channel of the link that is not refuted with all other scopes raised. Active are the channels with
+ * the link's greatest weight. The channel's largest family is written to `family`, a byte for each link, bit k for channel k; the lowest partner of
+ * each of the family's channels to `partners`, the byte at (2 * pair + end) * channels + channel, CEILING_OUTSIDE where the channel is outside its
+ * link's set; end 0 is the pair's lower link. `family` needs a byte for each link, `partners` 2 * pairs * channels, or the number is 4; bytes past
+ * these are left as they are. A link that is not there is number 5. So is, asked last of all, a link without such a channel: all its active channels
+ * are refuted, and a press or a void line of it is left. Refused, nothing is written. */
+struct ceiling_value_answer ceiling_supported_value(const uint8_t case_bytes[CEILING_CASE], const int64_t *table, size_t table_length,
+                                                    size_t link, uint8_t *family, size_t family_length, uint8_t *partners,
+                                                    size_t partners_length);
 
 /* Writes a fresh record for a replay that begins with these starting weights, and answers its number.
  * Refused, the record stands refused: later lines get the same number. */
@@ -165,6 +180,15 @@ CEILING_INLINE struct ceiling_choice_answer ceiling_better_of_or_empty(const uin
                              second_length ? second : &none, second_length);
 }
 
+CEILING_INLINE struct ceiling_value_answer ceiling_supported_value_or_empty(const uint8_t case_bytes[CEILING_CASE], const int64_t *table,
+                                                                            size_t table_length, size_t link, uint8_t *family,
+                                                                            size_t family_length, uint8_t *partners, size_t partners_length) {
+    uint8_t none = 0, no_partner = 0;
+    int64_t no_weight = 0;
+    return ceiling_supported_value(case_bytes, table_length ? table : &no_weight, table_length, link, family_length ? family : &none,
+                                   family_length, partners_length ? partners : &no_partner, partners_length);
+}
+
 CEILING_INLINE uint64_t ceiling_replay_start_or_empty(const uint8_t case_bytes[CEILING_CASE], const int64_t *table, size_t table_length,
                                                       uint8_t record[CEILING_RECORD]) {
     int64_t no_weight = 0;
@@ -211,6 +235,7 @@ CEILING_INLINE struct ceiling_run_answer ceiling_run_pairs_or_empty(const uint8_
 #define ceiling_upper_bound ceiling_upper_bound_or_empty
 #define ceiling_objective ceiling_objective_or_empty
 #define ceiling_better_of ceiling_better_of_or_empty
+#define ceiling_supported_value ceiling_supported_value_or_empty
 #define ceiling_replay_start ceiling_replay_start_or_empty
 #define ceiling_replay_lines ceiling_replay_lines_or_empty
 #define ceiling_round_span ceiling_round_span_or_empty

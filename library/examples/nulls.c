@@ -38,6 +38,7 @@ static void calls(uint8_t *bytes, uint8_t *more, int64_t *weights, size_t length
     ceiling_upper_bound(case_bytes, weights, length), test("ceiling_upper_bound", 1, table, length);
     ceiling_objective(case_bytes, weights, length, bytes, length), test("ceiling_objective", 2, plan, length);
     ceiling_better_of(case_bytes, weights, length, bytes, length, more, length), test("ceiling_better_of", 3, plans, length);
+    ceiling_supported_value(case_bytes, weights, length, 0, bytes, length, more, length), test("ceiling_supported_value", 3, plans, length);
     ceiling_replay_start(case_bytes, weights, length, record), test("ceiling_replay_start", 1, table, length);
     ceiling_replay_lines(case_bytes, weights, length, record, bytes, length), test("ceiling_replay_lines", 2, plan, length);
     ceiling_round_span(bytes, length, 0), test("ceiling_round_span", 1, text, length);
@@ -62,6 +63,7 @@ int main(void) {
 #undef ceiling_upper_bound
 #undef ceiling_objective
 #undef ceiling_better_of
+#undef ceiling_supported_value
 #undef ceiling_replay_start
 #undef ceiling_replay_lines
 #undef ceiling_round_span
@@ -73,6 +75,7 @@ static struct ceiling_size_answer no_size;
 static struct ceiling_lines_answer no_lines;
 static struct ceiling_total_answer no_total;
 static struct ceiling_choice_answer no_choice;
+static struct ceiling_value_answer no_value;
 static struct ceiling_span_answer no_span;
 static struct ceiling_round_answer no_round;
 static struct ceiling_run_answer no_run;
@@ -103,6 +106,12 @@ struct ceiling_choice_answer ceiling_better_of(const uint8_t case_bytes[CEILING_
                                                const uint8_t *first, size_t one, const uint8_t *second, size_t other) {
     (void)case_bytes, note(table, places), note(first, one), note(second, other);
     return no_choice;
+}
+
+struct ceiling_value_answer ceiling_supported_value(const uint8_t case_bytes[CEILING_CASE], const int64_t *table, size_t places, size_t link,
+                                                    uint8_t *family, size_t links, uint8_t *partners, size_t room) {
+    (void)case_bytes, (void)link, note(table, places), note(family, links), note(partners, room);
+    return no_value;
 }
 
 uint64_t ceiling_replay_start(const uint8_t case_bytes[CEILING_CASE], const int64_t *table, size_t places, uint8_t record[CEILING_RECORD]) {

@@ -11,7 +11,8 @@ enum { LINKS = CEILING_LINKS, CHANNELS = CEILING_CHANNELS, PAIRS = CEILING_PAIRS
 enum { TABLE = LINKS * CHANNELS + PAIRS * CHANNELS * CHANNELS, TEXT = (1 + TABLE + PAIRS) * CEILING_LINE, STACK = 1 << 18, PAINT = 0xa5 };
 
 static uint8_t text[TEXT], bytes[CEILING_CASE], record[CEILING_RECORD], out[CEILING_ROOM], log_lines[2 * CEILING_ROOM], plan[LINKS];
-static int64_t start[TABLE], table[TABLE];
+static uint8_t family[LINKS], partners[CEILING_PARTNERS];
+static int64_t start[TABLE], table[TABLE], lowered[TABLE];
 static size_t logged;
 static uint64_t number; /* of the last call */
 
@@ -78,6 +79,12 @@ static void two_rounds(void) {
     struct ceiling_round_answer press = ceiling_round(bytes, table, TABLE, log_lines + pair.bytes, CEILING_ROOM);
     number = pair.bytes == (2 * CHANNELS + 1) * CEILING_LINE && press.bytes ? press.number : 1;
     logged = pair.bytes + press.bytes;
+    memcpy(lowered, table, sizeof lowered);
+}
+
+/* After the two rounds, where each link keeps a channel. */
+static void supported_value(void) {
+    number = ceiling_supported_value(bytes, lowered, TABLE, 0, family, LINKS, partners, CEILING_PARTNERS).number;
 }
 
 /* The bytes of stack that a call takes. */
@@ -103,7 +110,7 @@ int main(void) {
         {"ceiling_upper_bound", upper_bound},   {"ceiling_objective", objective},       {"ceiling_better_of", better_of},
         {"ceiling_replay_start", replay_start}, {"ceiling_engine_version", engine_version}, {"ceiling_round", two_rounds},
         {"ceiling_run", run},                   {"ceiling_run_pairs", run_pairs},       {"ceiling_replay_lines", replay_lines},
-        {"ceiling_replay_end", replay_end},     {"ceiling_round_span", round_span},
+        {"ceiling_replay_end", replay_end},     {"ceiling_round_span", round_span},     {"ceiling_supported_value", supported_value},
     };
     unsigned passed = 0, failed = 0;
     size_t before = taken(nothing);

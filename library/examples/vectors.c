@@ -1,5 +1,5 @@
 /* Calls every function of ceiling.h on accepted and on refused input and compares answers and everything lent with what document 01 says, and
- * document 02 of pair rounds and barred channels. Each call is a test: a line for each that failed, the count as the last line. */
+ * document 02 of pair rounds, barred channels and partners. Each call is a test: a line for each that failed, the count as the last line. */
 #include <stdio.h>
 #include <string.h>
 
@@ -50,10 +50,15 @@ static const struct sample P10 = {2, 2, 1, {0}, {1}, {3, 4, 6, 2, -2, -4, 1, 1},
 static const struct sample P11 = {1, 1, 0, {0}, {0}, {-7}, 1, -7};
 /* A pair round, and then a press. */
 static const struct sample TWO = {3, 2, 2, {0, 1}, {1, 2}, {0, 0, 1, 0, -1, 0, -2, 0, -2, -1, 0, 0, 0, -1}, 14, 1};
-/* Barred channels. SINGLE: one lawful plan, 0 1. NO_PLAN: none. A_PLAN: one, 0 1 again, but no press that a void line would need. */
+/* P1 after its round. A chain in which channel 0 of link 1 is not among the best across pair 1. */
+static const struct sample ROUND_1 = {3, 2, 3, {0, 0, 1}, {1, 2, 2}, {-1, -1}, 18, -1};
+static const struct sample CHAIN = {3, 2, 2, {0, 1}, {1, 2}, {0, 0, 0, 0, 0, 0, 0, 0, 0, 0, -1, -1, 0, 0}, 14, 0};
+/* Barred channels. SINGLE: one lawful plan, 0 1. NO_PLAN: none. A_PLAN: one, 0 1 again, but no press that a void line would need.
+ * PASSED: again, and link 1's channel 0 is active and refuted. */
 static const struct sample SINGLE = {2, 2, 1, {0}, {1}, {2, BAR, 1, 0, BAR, 0, 0, 3}, 8, 6};
 static const struct sample NO_PLAN = {2, 2, 1, {0}, {1}, {0, BAR, 0, BAR, BAR, 0, 0, 0}, 8, 0};
 static const struct sample A_PLAN = {2, 2, 1, {0}, {1}, {0, BAR, 0, -5, BAR, 0, 0, 0}, 8, 0};
+static const struct sample PASSED = {2, 2, 1, {0}, {1}, {0, BAR, 0, 0, BAR, 0, 0, 0}, 8, 0};
 /* No lawful plan, which shows after two presses. EDGE, not starting weights: one lawful plan, and a press that would leave the range. */
 static const struct sample LATE = {2, 2, 1, {0}, {1}, {0, BAR, 4, BAR, BAR, -1, 0, -2}, 8, 4};
 static const struct sample EDGE = {2, 2, 1, {0}, {1}, {-499999999, BAR, 0, -5, BAR, 0, 0, 0}, 8, -499999999};
@@ -269,7 +274,8 @@ static void barred_readings(void) {
 /* ---- ceiling, totals, scoring: they change nothing */
 
 static void ceilings(void) {
-    static const struct sample *const rows[] = {&P1, &P4, &P10, &P11, &TWO, &SINGLE, &NO_PLAN, &A_PLAN, &LATE, &EDGE, &LOW, &COMES, &BACK, &HIGHER};
+    static const struct sample *const rows[] = {&P1,     &P4,     &P10,  &P11,  &ROUND_1, &CHAIN, &TWO,  &SINGLE, &NO_PLAN,
+                                                &A_PLAN, &PASSED, &LATE, &EDGE, &LOW,     &COMES, &BACK, &HIGHER};
     uint8_t bytes[CEILING_CASE];
     for (size_t i = 0; i < sizeof rows / sizeof *rows; i++) {
         case_of(rows[i], bytes);
@@ -377,15 +383,19 @@ static void barred_tables(void) {
         {"below barred", {0, 0, 0, BAR - 1, 0, 0, 0, 0}, 8, 8},
         {"above barred", {0, 0, 0, BAR + 1, 0, 0, 0, 0}, 8, 8},
     };
-    uint8_t bytes[CEILING_CASE], record[CEILING_RECORD], line[CEILING_LINE], plan[2] = {0, 0};
+    uint8_t bytes[CEILING_CASE], record[CEILING_RECORD], line[CEILING_LINE], plan[2] = {0, 0}, family[2], partners[4];
     case_of(&P4, bytes);
     put_line(line, 0, 1, 0, 0, 0, 1);
+    memset(family, 0xa5, sizeof family), memset(partners, 0xa5, sizeof partners);
     for (size_t i = 0; i < sizeof rows / sizeof *rows; i++) {
         int64_t table[8];
         memcpy(table, rows[i].table, sizeof table);
         test("ceiling_upper_bound", rows[i].name, ceiling_upper_bound(bytes, table, 8).number == rows[i].number);
         test("ceiling_objective", rows[i].name, ceiling_objective(bytes, table, 8, plan, 2).number == rows[i].total);
         test("ceiling_better_of", rows[i].name, ceiling_better_of(bytes, table, 8, plan, 2, plan, 2).number == rows[i].number);
+        struct ceiling_value_answer v = ceiling_supported_value(bytes, table, 8, 1, family, 2, partners, 4);
+        int same = !memcmp(family, "\xa5\xa5", 2) && !memcmp(partners, "\xa5\xa5\xa5\xa5", 4);
+        test("ceiling_supported_value", rows[i].name, v.number == rows[i].number && v.value == 0 && same);
         uint64_t number = ceiling_replay_start(bytes, table, 8, record);
         test("ceiling_replay_start", rows[i].name, number == rows[i].number && record[51] == number);
         test("ceiling_replay_end", rows[i].name, ceiling_replay_end(bytes, record, 0).number == number);
@@ -394,6 +404,106 @@ static void barred_tables(void) {
             struct ceiling_lines_answer a = ceiling_replay_lines(bytes, table, 8, record, line, length);
             test("ceiling_replay_lines", rows[i].name, a.number == rows[i].number && record[51] == a.number && !memcmp(table, rows[i].table, sizeof table));
         }
+    }
+}
+
+/* ---- why a channel was kept */
+
+#define OUTSIDE CEILING_OUTSIDE
+
+/* What a link keeps: its channel, the channel's family and the partners; nothing is written where the call is refused. */
+static const struct kept {
+    const char *name;
+    const struct sample *sample;
+    size_t link;
+    struct ceiling_value_answer answer;
+    uint8_t family[3], partners[12];
+} KEPT[] = {
+    {"P1, all refuted, link 0", &P1, 0, {5, 0}, {0}, {0}},
+    {"P1, all refuted, link 1", &P1, 1, {5, 0}, {0}, {0}},
+    {"P1, all refuted, link 2", &P1, 2, {5, 0}, {0}, {0}},
+    {"P1, no such link", &P1, 3, {5, 0}, {0}, {0}},
+    {"P1 after its round, link 0", &ROUND_1, 0, {0, 0}, {1, 3, 3}, {0, OUTSIDE, 0, 0, 0, OUTSIDE, 0, 0, 0, 0, 0, 0}},
+    {"P1 after its round, link 1", &ROUND_1, 1, {0, 0}, {3, 1, 3}, {0, 0, 0, OUTSIDE, 0, 0, 0, 0, 0, OUTSIDE, 0, 0}},
+    {"P1 after its round, link 2", &ROUND_1, 2, {0, 0}, {3, 3, 1}, {0, 0, 0, 0, 0, 0, 0, OUTSIDE, 0, 0, 0, OUTSIDE}},
+    {"P1 after its round, no such link", &ROUND_1, 3, {5, 0}, {0}, {0}},
+    {"P1 after its round, the last number", &ROUND_1, SIZE_MAX, {5, 0}, {0}, {0}},
+    {"a chain, link 0", &CHAIN, 0, {0, 0}, {1, 2, 3}, {1, OUTSIDE, OUTSIDE, 0, OUTSIDE, 0, 1, 1}},
+    {"a chain, link 1, the lowest refuted", &CHAIN, 1, {0, 1}, {3, 2, 3}, {1, 1, OUTSIDE, 0, OUTSIDE, 0, 1, 1}},
+    {"a chain, link 2", &CHAIN, 2, {0, 0}, {3, 2, 1}, {1, 1, OUTSIDE, 0, OUTSIDE, 0, 1, OUTSIDE}},
+    {"P4, a press is left", &P4, 0, {5, 0}, {0}, {0}},
+    {"P4, a press is left, link 1", &P4, 1, {5, 0}, {0}, {0}},
+    {"P10, the lowest not active", &P10, 0, {0, 1}, {2, 1}, {OUTSIDE, 0, 1, OUTSIDE}},
+    {"P10, link 1", &P10, 1, {0, 0}, {2, 1}, {OUTSIDE, 0, 1, OUTSIDE}},
+    {"P11, one link", &P11, 0, {0, 0}, {1}, {0}},
+    {"P11, no such link", &P11, 1, {5, 0}, {0}, {0}},
+    {"barred channels", &PASSED, 0, {0, 0}, {1, 2}, {1, OUTSIDE, OUTSIDE, 0}},
+    {"barred channels, the lowest refuted", &PASSED, 1, {0, 1}, {1, 2}, {1, OUTSIDE, OUTSIDE, 0}},
+    {"no lawful plan, a void line is left", &NO_PLAN, 0, {5, 0}, {0}, {0}},
+    {"no lawful plan, link 1", &NO_PLAN, 1, {5, 0}, {0}, {0}},
+    {"a press beside barred places is left", &A_PLAN, 0, {5, 0}, {0}, {0}},
+    {"the end of the range", &EDGE, 1, {5, 0}, {0}, {0}},
+};
+
+/* A call with so many bytes lent: what must be written, and then what was there. */
+static void keeping(const struct kept *row, const char *name, size_t family_length, size_t partners_length, struct ceiling_value_answer answer) {
+    const struct sample *s = row->sample;
+    uint8_t bytes[CEILING_CASE], family[OUT], partners[OUT], wanted_family[OUT], wanted_partners[OUT];
+    case_of(s, bytes);
+    memset(family, 0xa5, OUT), memset(partners, 0xa5, OUT);
+    memset(wanted_family, 0xa5, OUT), memset(wanted_partners, 0xa5, OUT);
+    if (!answer.number) memcpy(wanted_family, row->family, s->n), memcpy(wanted_partners, row->partners, 2 * s->m * s->d);
+    struct ceiling_value_answer a = ceiling_supported_value(bytes, s->table, s->length, row->link, family, family_length, partners, partners_length);
+    int same = !memcmp(family, wanted_family, OUT) && !memcmp(partners, wanted_partners, OUT);
+    test("ceiling_supported_value", name, !memcmp(&a, &answer, sizeof a) && same);
+}
+
+static void kept_channels(void) {
+    const struct ceiling_value_answer short_of = {4, 0};
+    for (size_t i = 0; i < sizeof KEPT / sizeof *KEPT; i++) {
+        const struct kept *row = &KEPT[i];
+        size_t n = row->sample->n, p = 2 * row->sample->m * row->sample->d;
+        keeping(row, row->name, n, p, row->answer);
+        keeping(row, row->name, n + 1, p, row->answer);
+        keeping(row, row->name, OUT, OUT, row->answer);
+        /* 4 comes before both fives: of a link that is not there, and of one whose channels are refuted */
+        keeping(row, "a short family", n - 1, OUT, short_of);
+        if (p) keeping(row, "short partners", OUT, p - 1, short_of);
+        keeping(row, "no bytes", 0, 0, short_of);
+    }
+    /* P1's faults, of whose links all channels are refuted: 3 before 4 of what is lent, 4 before 5, 5 of the link with that of the ends */
+    for (size_t i = 0; i < FAULT_COUNT; i++) {
+        uint64_t number = FAULTS[i].number;
+        struct sample s = faulty(&FAULTS[i], WORKING);
+        struct kept row = {FAULTS[i].name, &s, 0, {number, 0}, {0}, {0}};
+        struct ceiling_value_answer four = {number < 4 ? number : 4, 0}, five = {number < 5 ? number : 5, 0};
+        keeping(&row, row.name, OUT, OUT, row.answer);
+        keeping(&row, row.name, 2, OUT, four);
+        keeping(&row, row.name, OUT, 7, four);
+        row.link = SIZE_MAX;
+        keeping(&row, row.name, OUT, OUT, five);
+        keeping(&row, row.name, 2, 7, four);
+    }
+    /* where the link keeps none, 8 and 15 come first, and 5 of the link before them */
+    static const struct {
+        const char *name;
+        int64_t table[8];
+        uint64_t number;
+    } rows[] = {
+        {"8 before the last 5", {2, 0, 2, 0, -3, 0, 0, -500000001}, 8},
+        {"8 before the last 5, above", {2, 0, 2, 500000001, -3, 0, 0, 0}, 8},
+        {"15 before the last 5", {2, 0, 2, 0, BAR, BAR, BAR, BAR}, 15},
+        {"15 of a link before the last 5", {BAR, BAR, 2, 0, -3, 0, 0, 0}, 15},
+        {"the last 5", {2, 0, 2, 0, -3, 0, 0, -500000000}, 5},
+    };
+    for (size_t i = 0; i < sizeof rows / sizeof *rows; i++) {
+        struct sample s = P4;
+        memcpy(s.table, rows[i].table, sizeof rows[i].table);
+        struct kept row = {rows[i].name, &s, 0, {rows[i].number, 0}, {0}, {0}};
+        keeping(&row, row.name, 2, 4, row.answer);
+        row.link = 2;
+        struct ceiling_value_answer five = {5, 0};
+        keeping(&row, row.name, 2, 4, five);
     }
 }
 
@@ -926,11 +1036,12 @@ static void void_logs(void) {
     test("ceiling_replay_end", "a run's void log", ceiling_replay_end(bytes, record, 0).is_void == 1 && record[49] == 3);
 }
 
-/* The largest case, all of its weights 0: settled with room for the longest round, and number 4 with a byte less. */
+/* The largest case, all of its weights 0: settled with room for the longest round, and number 4 with a byte less. The last link keeps channel 0,
+ * with which all others go. */
 static void rooms(void) {
     enum { TABLE = CEILING_LINKS * CEILING_CHANNELS + CEILING_PAIRS * CEILING_CHANNELS * CEILING_CHANNELS };
     static int64_t table[TABLE];
-    uint8_t bytes[CEILING_CASE], out[CEILING_ROOM];
+    uint8_t bytes[CEILING_CASE], out[CEILING_ROOM], family[CEILING_LINKS], partners[CEILING_PARTNERS];
     put_number(bytes, CEILING_LINKS), put_number(bytes + 8, CEILING_CHANNELS), put_number(bytes + 16, CEILING_PAIRS);
     for (int e = 0; e < CEILING_PAIRS; e++) {
         bytes[24 + e] = (uint8_t)(e % 24);
@@ -945,6 +1056,18 @@ static void rooms(void) {
         test("ceiling_run", "the longest round", a.number == number && a.limit == 0 && a.rounds == 0);
         test("ceiling_run_pairs", "the longest round", p.number == number && p.limit == 0 && p.rounds == 0);
     }
+    const size_t last = CEILING_LINKS - 1;
+    int good = ceiling_supported_value(bytes, table, TABLE, last, family, CEILING_LINKS - 1, partners, CEILING_PARTNERS).number == 4
+        && ceiling_supported_value(bytes, table, TABLE, last, family, CEILING_LINKS, partners, CEILING_PARTNERS - 1).number == 4;
+    test("ceiling_supported_value", "a byte less", good);
+    struct ceiling_value_answer v = ceiling_supported_value(bytes, table, TABLE, last, family, CEILING_LINKS, partners, CEILING_PARTNERS);
+    good = v.number == 0 && v.value == 0;
+    for (size_t i = 0; i < CEILING_LINKS; i++) good = good && family[i] == (i == last ? 1 : 255);
+    for (size_t i = 0; i < CEILING_PARTNERS; i++) {
+        size_t k = i % CEILING_CHANNELS, end = i / CEILING_CHANNELS % 2, e = i / CEILING_CHANNELS / 2;
+        good = good && partners[i] == (k && bytes[24 + 96 * end + e] == last ? OUTSIDE : 0);
+    }
+    test("ceiling_supported_value", "the largest case", good);
 }
 
 static void engine_faults(void) {
@@ -1006,6 +1129,9 @@ static void nulls(void) {
     test("ceiling_objective", "null plan", ceiling_objective(bytes, table, 8, NULL, 0).number == 4);
     test("ceiling_better_of", "null table", ceiling_better_of(bytes, NULL, 0, plan, 2, plan, 2).number == 4);
     test("ceiling_better_of", "null plans", ceiling_better_of(bytes, table, 8, NULL, 0, NULL, 0).number == 4);
+    test("ceiling_supported_value", "null table", ceiling_supported_value(bytes, NULL, 0, 0, plan, 2, text, 4).number == 4);
+    test("ceiling_supported_value", "null family", ceiling_supported_value(bytes, table, 8, 0, NULL, 0, text, 4).number == 4);
+    test("ceiling_supported_value", "null partners", ceiling_supported_value(bytes, table, 8, 0, plan, 2, NULL, 0).number == 4);
     test("ceiling_replay_start", "null", ceiling_replay_start(bytes, NULL, 0, record) == 4);
     test("ceiling_replay_start", "a table", ceiling_replay_start(bytes, table, 8, record) == 0);
     test("ceiling_replay_lines", "null lines", ceiling_replay_lines(bytes, table, 8, record, NULL, 0).number == 0);
@@ -1015,12 +1141,15 @@ static void nulls(void) {
     test("ceiling_round", "null output", ceiling_round(bytes, table, 8, NULL, 0).number == 4);
     test("ceiling_run", "null", ceiling_run(bytes, NULL, 0, NULL, 0, 1).number == 4);
     test("ceiling_run_pairs", "null", ceiling_run_pairs(bytes, NULL, 0, NULL, 0, 1).number == 4);
+    case_of(&P11, bytes);
+    test("ceiling_supported_value", "null, no pairs", ceiling_supported_value(bytes, P11.table, 1, 0, plan, 1, NULL, 0).number == 0 && plan[0] == 1);
 }
 
 int main(void) {
     versions(), nulls();
     sizes(), readings(), barred_readings();
     ceilings(), totals(), choices(), unlawful(), barred_tables();
+    kept_channels();
     starts();
     steps(&P4, STEPS, sizeof STEPS / sizeof *STEPS);
     steps(&NO_PLAN, NO_PLAN_STEPS, sizeof NO_PLAN_STEPS / sizeof *NO_PLAN_STEPS);

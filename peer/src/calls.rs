@@ -1,5 +1,6 @@
 //! Inputs for a program of engine calls, and what it must print: working tables handed
-//! over as case lines, and on each of them calls one after another.
+//! over as case lines, and on each of them calls one after another. The program of
+//! families (`family_calls`) is handed its tables in the same way.
 
 use crate::case::{self, table_length};
 use crate::generate::{any_case, any_table_for, border_for};
@@ -7,7 +8,7 @@ use crate::inputs::{random_for, sized_case, small_case};
 use crate::programs::Engine;
 use crate::random::Random;
 use crate::types::*;
-use crate::{barred_samples, engine, line, pair_samples, plain, slow};
+use crate::{barred_samples, engine, lent, line, pair_samples, plain, slow};
 
 /// Batches are numbered apart from the other programs' inputs.
 const FIRST: u64 = 1 << 41;
@@ -41,6 +42,9 @@ pub struct Figures {
     pub passed: u64,
     /// Pair rounds of a pair that was passed over before an earlier call or this one.
     pub back: u64,
+    /// Of families: calls that found a value, and calls that found none.
+    pub found: u64,
+    pub none: u64,
 }
 
 impl Figures {
@@ -54,6 +58,8 @@ impl Figures {
         self.met_11 += other.met_11;
         self.passed += other.passed;
         self.back += other.back;
+        self.found += other.found;
+        self.none += other.none;
     }
 }
 
@@ -140,27 +146,12 @@ pub fn needed(case: &Case) -> usize {
 
 /// The first of the numbers 3 to 8 and 15 that applies to the call.
 pub fn refusal(case: &Case, bytes: usize) -> Option<u8> {
-    let (n, d, m) = (case.variables, case.values, case.edges.len());
-    let seen = |at: usize| case.edges[..at].contains(&case.edges[at]);
-    let outside = |&weight: &i32| weight != BARRED && i64::from(weight).abs() > WORK_LIMIT;
-    let barred = |scope| case.weights[plain::part(case, scope)].iter().all(|&w| w == BARRED);
-    let sized = (1..=MAX_VARIABLES).contains(&n) && (1..=MAX_VALUES).contains(&d);
-    let numbers = [
-        (3, !sized || m > MAX_EDGES),
-        (4, case.weights.len() != table_length(n, d, m) || bytes < needed(case)),
-        (5, case.edges.iter().any(|&(i, j)| i >= n || j >= n)),
-        (6, case.edges.iter().any(|&(i, j)| i >= j)),
-        (7, (0..m).any(seen)),
-        (8, case.weights.iter().any(outside)),
-    ];
-    let first = numbers.iter().find(|(_, applies)| *applies);
-    let first = first.map(|&(number, _)| number);
-    first.or_else(|| (0..case.scopes()).any(barred).then_some(15))
+    lent::refusal(case, bytes < needed(case), false)
 }
 
 /// The table's lines, kinds 11 and 13 for barred places too; a table of another length
 /// ends with fewer or more weights.
-fn table_lines(case: &Case) -> Vec<u8> {
+pub fn table_lines(case: &Case) -> Vec<u8> {
     let length = table_length(case.variables, case.values, case.edges.len());
     let held = case.weights.len();
     let mut whole = case.clone();
@@ -184,7 +175,7 @@ pub struct Batch {
 }
 
 impl Batch {
-    fn hand_over(&mut self, name: &str, case: &Case) {
+    pub fn hand_over(&mut self, name: &str, case: &Case) {
         let name = format!("{name:<26.26}\n").into_bytes();
         self.input.extend_from_slice(&name);
         self.output.extend(name);
@@ -210,7 +201,12 @@ impl Batch {
         self.output.extend(format!("weights{numbers}\n").into_bytes());
     }
 
-    fn join(&mut self, other: Batch) {
+    /// Whether both together are not too long.
+    pub fn has_room(&self, other: &Batch) -> bool {
+        self.input.len() + other.input.len() <= MOST_INPUT
+    }
+
+    pub fn join(&mut self, other: Batch) {
         self.input.extend(other.input);
         self.output.extend(other.output);
         self.figures.add(&other.figures);
@@ -295,11 +291,15 @@ pub fn samples() -> Batch {
 
 /// Batch number `index` of a seed.
 pub fn batch(seed: u64, index: u64) -> Batch {
-    let mut random = random_for(seed, FIRST + index);
+    fill(&mut random_for(seed, FIRST + index), index, one_table)
+}
+
+/// Tables until there are enough, each with its calls.
+pub fn fill(random: &mut Random, index: u64, one: fn(&mut Random, &str) -> Batch) -> Batch {
     let mut batch = Batch::default();
     for at in 0..MOST_TABLES {
-        let next = one_table(&mut random, &format!("table {at} of {index}"));
-        if batch.input.len() + next.input.len() > MOST_INPUT {
+        let next = one(random, &format!("table {at} of {index}"));
+        if !batch.has_room(&next) {
             break;
         }
         batch.join(next);
@@ -376,7 +376,7 @@ fn some_length(random: &mut Random, case: &Case) -> usize {
 }
 
 /// A case to which, mostly, some of the numbers 3 to 8 apply.
-fn spoilt_case(random: &mut Random) -> Case {
+pub fn spoilt_case(random: &mut Random) -> Case {
     if random.chance(1, 6) {
         return too_large(random);
     }

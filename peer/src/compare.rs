@@ -7,7 +7,7 @@ use crate::counts::Counts;
 use crate::inputs::{input_for, random_for, sized_case, Program};
 use crate::options::Options;
 use crate::outside::Outside;
-use crate::{case, programs, samples};
+use crate::{case, family_calls, programs, samples};
 use std::path::{Path, PathBuf};
 use std::process::ExitCode;
 use std::time::{Duration, Instant};
@@ -78,19 +78,20 @@ pub fn compare(options: &mut Options) -> Result<ExitCode, String> {
     let seed = options.number("seed", 1)?;
     let keep = PathBuf::from(options.text("keep").unwrap_or(DEFAULT_KEEP.into()));
     let seconds = options.number("seconds", DEFAULT_SECONDS)? as f64;
-    let paths = ["press", "replay", "engine"].map(|name| options.text(name));
+    let paths = ["press", "replay", "engine", "families"].map(|name| options.text(name));
     let counts = options.flag("counts");
     options.finish()?;
     println!("seed {seed}");
     let began = Instant::now();
     let mut check = Check::new();
     let mut programs = Programs::new(paths, &keep)?;
-    let [slow, files, tables] = programs.shares().map(|share| share * seconds);
+    let [slow, files, tables, families] = programs.shares().map(|share| share * seconds);
     let result = samples_first().and_then(|samples| {
         against_slow(&mut check, seed, &in_seconds(slow))?;
         programs.samples()?;
         programs.generated(seed, &in_seconds(files))?;
-        programs.batches(seed, &in_seconds(tables))?;
+        programs.batches(Calls::Engine, seed, &in_seconds(tables))?;
+        programs.batches(Calls::Families, seed, &in_seconds(families))?;
         Ok(samples)
     });
     finish(
@@ -168,7 +169,7 @@ fn slow_figures(check: &Check) -> String {
     format!(
         "slow mode: cases {} and {} large, comparisons {} (refutations {}, runs {}, lines {}, \
          lists {}, programs {}, others {}; rounds with a climb {}, void lists {}; cases barred \
-         {}, without a lawful plan {}), {}",
+         {}, without a lawful plan {}), {}, {}",
         figures.cases,
         figures.large,
         figures.comparisons(),
@@ -182,7 +183,25 @@ fn slow_figures(check: &Check) -> String {
         figures.voids,
         figures.barred,
         figures.unlawful,
-        pair_figures(check)
+        pair_figures(check),
+        family_figures(check)
+    )
+}
+
+fn family_figures(check: &Check) -> String {
+    let families = check.figures.families;
+    format!(
+        "family calls {} (values found {}, {} of them not the lowest active one, families without \
+         an active value {}, partners not the lowest active one {}, values of a family refuted at \
+         their own link {}; refused by the last 5 {}, by other numbers {})",
+        families.calls,
+        families.found,
+        families.not_lowest,
+        families.narrowed,
+        families.higher,
+        families.refuted,
+        families.none,
+        families.numbers
     )
 }
 
@@ -259,47 +278,74 @@ fn keep_input(keep: &Path, difference: &Difference, seed: u64) -> std::io::Resul
     Ok(path)
 }
 
+/// The programs that are handed tables.
+#[derive(Clone, Copy, Debug)]
+enum Calls {
+    Engine,
+    Families,
+}
+
+impl Calls {
+    fn batch(self, seed: u64, index: u64) -> Batch {
+        match self {
+            Calls::Engine => calls::batch(seed, index),
+            Calls::Families => family_calls::batch(seed, index),
+        }
+    }
+
+    fn samples(self) -> Vec<Batch> {
+        match self {
+            Calls::Engine => vec![calls::samples()],
+            Calls::Families => family_calls::samples(),
+        }
+    }
+}
+
 /// The programs compared with the fast reading.
 struct Programs {
     press: Option<Outside>,
     replay: Option<Outside>,
-    engine: Option<Outside>,
+    /// The engine's and that of families.
+    callers: [Option<Outside>; 2],
     counts: Counts,
     compared: [u64; 2],
     /// Inputs of each with barred places.
     barred: [u64; 2],
     /// Logs that ended void.
     void: u64,
-    called: calls::Figures,
+    called: [calls::Figures; 2],
     bytes: u64,
 }
 
 impl Programs {
-    fn new(paths: [Option<String>; 3], keep: &Path) -> Result<Programs, String> {
-        let [press, replay, engine] = paths.map(|path| path.map(|path| Outside::new(&path, keep)));
+    fn new(paths: [Option<String>; 4], keep: &Path) -> Result<Programs, String> {
+        let outside = |path: Option<String>| path.map(|path| Outside::new(&path, keep));
+        let [press, replay, engine, families] = paths.map(|path| outside(path).transpose());
         Ok(Programs {
-            press: press.transpose()?,
-            replay: replay.transpose()?,
-            engine: engine.transpose()?,
+            press: press?,
+            replay: replay?,
+            callers: [engine?, families?],
             counts: Counts::default(),
             compared: [0; 2],
             barred: [0; 2],
             void: 0,
-            called: calls::Figures::default(),
+            called: [calls::Figures::default(); 2],
             bytes: 0,
         })
     }
 
-    /// Which part of the time goes to the slow mode, to inputs of `press` and `replay`,
-    /// and to tables for the engine.
-    fn shares(&self) -> [f64; 3] {
+    /// Which part of the time goes to the slow mode, to inputs of `press` and `replay`, to
+    /// tables for the engine and to tables for families.
+    fn shares(&self) -> [f64; 4] {
         let files = self.press.is_some() || self.replay.is_some();
-        match (files, self.engine.is_some()) {
-            (false, false) => [1.0, 0.0, 0.0],
-            (true, false) => [0.3, 0.7, 0.0],
-            (false, true) => [0.3, 0.0, 0.7],
-            (true, true) => [0.3, 0.35, 0.35],
+        let [engine, families] = [0, 1].map(|at| self.callers[at].is_some());
+        let there = [files, engine, families].map(|there| f64::from(u8::from(there)));
+        let all: f64 = there.iter().sum();
+        if all == 0.0 {
+            return [1.0, 0.0, 0.0, 0.0];
         }
+        let [files, engine, families] = there.map(|one| 0.7 * one / all);
+        [0.3, files, engine, families]
     }
 
     fn samples(&mut self) -> Result<(), Difference> {
@@ -311,7 +357,12 @@ impl Programs {
             };
             self.ask(program, &input, &output, name)?;
         }
-        self.call("samples", &calls::samples())
+        for calls in [Calls::Engine, Calls::Families] {
+            for batch in calls.samples() {
+                self.call(calls, "samples", &batch)?;
+            }
+        }
+        Ok(())
     }
 
     fn generated(&mut self, seed: u64, end: &End) -> Result<(), Difference> {
@@ -365,23 +416,23 @@ impl Programs {
     }
 
     /// Working tables, many in one input.
-    fn batches(&mut self, seed: u64, end: &End) -> Result<(), Difference> {
+    fn batches(&mut self, calls: Calls, seed: u64, end: &End) -> Result<(), Difference> {
         let mut index = 0;
-        while self.engine.is_some() && !end.reached(index) {
-            let batch = calls::batch(seed, index);
-            self.call(&format!("batch {index}"), &batch)?;
+        while self.callers[calls as usize].is_some() && !end.reached(index) {
+            let batch = calls.batch(seed, index);
+            self.call(calls, &format!("batch {index}"), &batch)?;
             index += 1;
         }
         Ok(())
     }
 
-    fn call(&mut self, name: &str, batch: &Batch) -> Result<(), Difference> {
-        let Some(outside) = &mut self.engine else {
+    fn call(&mut self, calls: Calls, name: &str, batch: &Batch) -> Result<(), Difference> {
+        let Some(outside) = &mut self.callers[calls as usize] else {
             return Ok(());
         };
-        let name = format!("{name}, program Engine");
+        let name = format!("{name}, program {calls:?}");
         answers(outside, &name, &batch.input, &batch.output)?;
-        self.called.add(&batch.figures);
+        self.called[calls as usize].add(&batch.figures);
         self.bytes += batch.input.len() as u64;
         Ok(())
     }
@@ -394,15 +445,16 @@ impl Programs {
         let [press_barred, replay_barred] = self.barred;
         format!(
             "press {press} inputs ({press_barred} barred), replay {replay} inputs ({replay_barred} \
-             barred, {} void), {}, {} MB in",
+             barred, {} void), {}, {}, {} MB in",
             self.void,
             self.call_figures(),
+            self.family_figures(),
             self.bytes / 1_000_000
         )
     }
 
     fn call_figures(&self) -> String {
-        let called = self.called;
+        let [called, _] = self.called;
         format!(
             "engine {} tables ({} barred; {} calls, {} rounds; calls refused by 3 to 8 or 15 {}, \
              void {}, that met 11 {}, that ended with a pair passed over {}; pair rounds of one passed over before {})",
@@ -415,6 +467,15 @@ impl Programs {
             called.met_11,
             called.passed,
             called.back
+        )
+    }
+
+    fn family_figures(&self) -> String {
+        let [_, called] = self.called;
+        format!(
+            "families {} tables ({} barred; {} calls, values found {}, refused by the last 5 {}, \
+             by other numbers {})",
+            called.tables, called.barred, called.calls, called.found, called.none, called.refused
         )
     }
 }

@@ -322,6 +322,30 @@ pub fn any_table_for(random: &mut Random, case: &Case) -> Case {
     with_bars_of(case, weights)
 }
 
+/// Weights of 0, and some below, for the links and pairs of a case, barred where the case
+/// is: many combinations are active, so that some families are supported, and not all. In
+/// some pairs each value has one active partner, or all but one.
+pub fn loose_for(random: &mut Random, case: &Case) -> Case {
+    let percent = *random.pick(&[40, 60, 75, 85, 92, 97]);
+    let styles = *random.pick(&[4, 4, 40]);
+    let d = case.values;
+    let mut weights = Vec::with_capacity(case.weights.len());
+    for scope in 0..case.scopes() {
+        let style = if scope < case.variables { 2 } else { random.below(styles) };
+        let turn = random.below(d);
+        for at in 0..plain::part(case, scope).len() {
+            let meets = at % d == (at / d + turn) % d;
+            let active = match style {
+                0 => meets,
+                1 => !meets,
+                _ => random.chance(percent, 100),
+            };
+            weights.push(if active { 0 } else { -1 - random.below(3) as i32 });
+        }
+    }
+    with_bars_of(case, weights)
+}
+
 /// Any kind of case with at most these sizes.
 pub fn any_case(random: &mut Random, variables: usize, values: usize, edges: usize) -> Case {
     let shape = *random.pick(&[

@@ -1,4 +1,4 @@
-//! The peer: a second reading of document 01 and of changes 1 and 2 of document 02 in plain
+//! The peer: a second reading of document 01 and of changes 1 to 3 of document 02 in plain
 //! Rust, to hold programs, vectors and speed against. See ../README.md.
 
 mod barred_samples;
@@ -10,9 +10,13 @@ mod compare;
 mod counts;
 mod damage;
 mod engine;
+mod families;
+mod family_calls;
+mod family_samples;
 mod foreign;
 mod generate;
 mod inputs;
+mod lent;
 mod line;
 mod options;
 mod outside;
@@ -44,6 +48,8 @@ const USAGE: &str = "usage: peer COMMAND [OPTIONS]
   slow-press [--pairs] [--limit ROUNDS], slow-replay  the same by the slow reading
   run-table [--pairs] [--limit ROUNDS] [--plain | --slow]  working table as a case file
                               in, log and settled, limit, void or refused 11 out
+  family LINK [--table], slow-family LINK [--table]  case file (or working table) in, the
+                              link's lowest value kept, its family and partners out
   view ROUND                  log in, the round's lines out
   score FIRST SECOND          case file in, first or second out (plans like 0,1,0)
   total PLAN                  case file in, the plan's starting total out
@@ -55,10 +61,11 @@ const USAGE: &str = "usage: peer COMMAND [OPTIONS]
   untrimmed [--rounds N]      case file in, a log of untrimmed presses by 1 out
   check [--seconds N | --cases N] [--seed S] [--keep DIR] [--counts]
   compare [--seconds N] [--seed S] [--press PROGRAM] [--replay PROGRAM] [--engine PROGRAM]
-          [--keep DIR] [--counts]
+          [--families PROGRAM] [--keep DIR] [--counts]
   every [--links N] [--values D] [--pairs M] [--weights W] [--part P] [--seed S] [--keep DIR]
                               every table of a small size with weights up to W in size, or
-                              one of P of them: its runs with their facts, and every void line
+                              one of P of them: its runs with their facts, every void line
+                              and the family of every link
   bench [--seconds N]         figures of speed";
 
 fn main() -> ExitCode {
@@ -88,6 +95,8 @@ fn run(command: &str, options: &mut Options) -> Result<ExitCode, String> {
         "slow-press" => slow_press(options),
         "slow-replay" => print_after(options, slow::programs::replay),
         "run-table" => run_table(options),
+        "family" => family(options, case::read_alone, families::show),
+        "slow-family" => family(options, slow::case::read_alone, slow::families::show),
         "view" => view_round(options),
         "score" => score_plans(options),
         "total" => total(options),
@@ -169,6 +178,15 @@ fn run_table(options: &mut Options) -> Result<ExitCode, String> {
     print_after(options, |input| {
         programs::run_table(input, engine, kind, limit)
     })
+}
+
+type Reader = fn(&[u8]) -> Result<(Case, usize), Refusal>;
+
+fn family(options: &mut Options, read: Reader, show: programs::Show) -> Result<ExitCode, String> {
+    let link = options.word("LINK")?;
+    let link: i64 = link.parse().map_err(|_| "LINK is no number")?;
+    let read = if options.flag("table") { case::read_table } else { read };
+    print_after(options, |input| programs::family(read(input), show, link))
 }
 
 fn ceiling(input: &[u8]) -> Vec<u8> {

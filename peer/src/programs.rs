@@ -1,7 +1,8 @@
-//! What the programs `press` and `replay` print, fast reading.
+//! What the programs `press` and `replay` print, and the call of change 3, fast reading.
 
 use crate::case;
 use crate::engine;
+use crate::families::partner_bytes;
 use crate::plain_replay;
 use crate::replay::replay_file;
 use crate::types::*;
@@ -48,6 +49,45 @@ pub fn run_table(input: &[u8], engine: Engine, kind: Rounds, limit: u64) -> Vec<
     };
     let last = format!("{stop} {} {}\n", run.rounds, run.upper_bound);
     [run.log, last.into_bytes()].concat()
+}
+
+/// A reading of the call of change 3: case, link, family and partners.
+pub type Show = fn(&Case, u64, &mut [u8], &mut [u8]) -> Result<usize, u8>;
+
+/// A call that is lent so many bytes for family and partners, each of them 46; a negative
+/// link stands for the greatest.
+pub fn shown(show: Show, case: &Case, link: i64, lent: [usize; 2]) -> Shown {
+    let [mut family, mut partners] = lent.map(|bytes| vec![b'.'; bytes]);
+    let link = u64::try_from(link).unwrap_or(u64::MAX);
+    let answer = show(case, link, &mut family, &mut partners);
+    Shown { answer, family, partners }
+}
+
+/// The call's three lines.
+pub fn shown_text(link: i64, shown: &Shown) -> String {
+    let answer = match shown.answer {
+        Ok(value) => format!("value {value}"),
+        Err(number) => format!("refused {number}"),
+    };
+    let numbers = |bytes: &[u8]| -> String { bytes.iter().map(|b| format!(" {b}")).collect() };
+    let [family, partners] = [&shown.family, &shown.partners].map(|bytes| numbers(bytes));
+    format!("link {link} {answer}\nfamily{family}\npartners{partners}\n")
+}
+
+/// The bytes that family and partners take.
+pub fn shown_bytes(case: &Case) -> [usize; 2] {
+    [case.variables, partner_bytes(case)]
+}
+
+/// The call of a link on the weights of the case that was read.
+pub fn family(read: Result<(Case, usize), Refusal>, show: Show, link: i64) -> Vec<u8> {
+    match read {
+        Ok((case, _)) => {
+            let shown = shown(show, &case, link, shown_bytes(&case));
+            shown_text(link, &shown).into_bytes()
+        }
+        Err(refusal) => refusal_text(refusal),
+    }
 }
 
 /// What an accepted case and log say, or the refusal.

@@ -49,7 +49,7 @@ pub type Domains = [u8; MAX_VARIABLES];
 /// Narrows the domains of `dirty` variables' neighbours until nothing changes.
 /// False if some domain runs empty.
 #[inline]
-fn propagate(state: &State, raised: &Scopes, domains: &mut Domains, mut dirty: u64) -> bool {
+pub fn propagate(state: &State, raised: &Scopes, domains: &mut Domains, mut dirty: u64) -> bool {
     while dirty != 0 {
         let variable = dirty.trailing_zeros() as usize;
         dirty &= dirty - 1;

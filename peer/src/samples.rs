@@ -3,7 +3,7 @@
 
 use crate::refusals::by_hand;
 use crate::types::*;
-use crate::{barred_samples, case, engine, pair_samples, plain, programs, slow};
+use crate::{barred_samples, case, engine, family_samples, pair_samples, plain, programs, slow};
 
 #[derive(Clone)]
 pub struct Sample {
@@ -32,7 +32,7 @@ pub fn case_of(values: usize, edges: &[(usize, usize)], weights: &[i32]) -> Case
     }
 }
 
-fn triangle() -> Case {
+pub fn triangle() -> Case {
     let pair = [-1, 0, 0, -1];
     let weights = [[0; 6].as_slice(), &pair, &pair, &pair].concat();
     case_of(2, &[(0, 1), (0, 2), (1, 2)], &weights)
@@ -59,11 +59,11 @@ pub fn p4() -> Case {
     two([2, 0], [2, 0], [-3, 0, 0, 0])
 }
 
-fn p10() -> Case {
+pub fn p10() -> Case {
     two([3, 4], [6, 2], [-2, -4, 1, 1])
 }
 
-fn single() -> Case {
+pub fn single() -> Case {
     case_of(1, &[], &[-7])
 }
 
@@ -290,6 +290,7 @@ fn all() -> Vec<Sample> {
 /// Every sample of all readings; the number of answers compared.
 pub fn check() -> Result<usize, String> {
     let mut count = ask_runs()? + pair_samples::check()? + barred_samples::check()?;
+    count += family_samples::check()?;
     for sample in all() {
         ask(&sample)?;
         count += 3;

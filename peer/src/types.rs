@@ -13,6 +13,8 @@ pub const ROUND_LIMIT: u64 = 999_999_999_999_999_999;
 pub const PROGRAM_ROUNDS: u64 = 100_000;
 /// What a barred combination holds in a table.
 pub const BARRED: i32 = -2_000_000_000;
+/// What a partner byte holds outside the family.
+pub const OUTSIDE: u8 = 255;
 
 /// One case: `edges[e]` joins a lower and a higher variable; `weights` is the table in
 /// document 01's order, of starting weights or, where a run is lent one, of working
@@ -65,6 +67,14 @@ pub struct Run {
     pub upper_bound: i64,
     pub log: Vec<u8>,
     pub weights: Vec<i32>,
+}
+
+/// What the call of change 3 hands back: the value or a number, and the lent bytes.
+#[derive(Clone, PartialEq, Eq, Debug)]
+pub struct Shown {
+    pub answer: Result<usize, u8>,
+    pub family: Vec<u8>,
+    pub partners: Vec<u8>,
 }
 
 /// What the replay of an accepted case and log says.

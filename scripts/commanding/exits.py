@@ -12,7 +12,7 @@ from running.inputs import P4, P4_PRESS, P4_ROUND, line, with_line
 
 from .trial import last_line
 
-COMMANDS = ("press", "check", "explain", "picture", "score", "from-csv", "to-csv", "from-wcsp", "to-wcsp")
+COMMANDS = ("press", "check", "explain", "picture", "show", "score", "from-csv", "to-csv", "from-wcsp", "to-wcsp")
 LINKS = b"link,0,1\nA,2,0\nB,2,0\n"
 PAIRS = b"first link,second link,first channel,second channel,weight\nA,B,0,0,-3\n"
 WCSP = b"plan 2 2 3 4\n2 2\n1 0 0 1\n1 2\n1 1 0 1\n1 2\n2 0 1 0 1\n0 0 3\n"
@@ -34,7 +34,8 @@ class Files:
     def accepted(self):
         return [
             ["press", self.case], ["check", self.case, self.log], ["explain", self.case], ["explain", self.case, self.log],
-            ["picture", self.case, self.log], ["score", self.case, self.plan], ["score", self.case, self.plan, "--log", self.log],
+            ["picture", self.case, self.log], ["show", self.case, self.log], ["show", self.case, self.log, "1"],
+            ["score", self.case, self.plan], ["score", self.case, self.plan, "--log", self.log],
             ["from-csv", self.links, self.pairs], ["to-csv", self.case, *self.to], ["from-wcsp", self.wcsp], ["to-wcsp", self.case],
         ]
 
@@ -42,6 +43,7 @@ class Files:
         return [
             ["press", self.bad_case], ["check", self.case, self.bad_log], ["check", self.bad_case, self.log], ["explain", self.bad_case],
             ["explain", self.case, self.bad_log], ["picture", self.case, self.bad_log], ["picture", self.bad_case, self.log],
+            ["show", self.case, self.bad_log], ["show", self.bad_case, self.log, "0"],
             ["score", self.case, self.bad_plan], ["score", self.case, self.plan, self.bad_plan], ["score", self.bad_case, self.plan],
             ["score", self.case, self.plan, "--log", self.bad_log], ["from-csv", self.bad_links, self.pairs],
             ["to-csv", self.bad_case, *self.to], ["from-wcsp", self.bad_wcsp], ["to-wcsp", self.bad_case],
@@ -139,9 +141,10 @@ def wrong_lines(trial):
     case, log, plan, to = files.case, files.log, files.plan, files.to[0]
     wrong = [[], ["frobnicate"], ["--frobnicate"], ["press"], ["press", case, case], ["press", case, "-o"], ["check", case]]
     wrong += [["check", case, log, log], ["check", case, "-o", log], ["explain"], ["picture", case], ["score", case], ["score", case, plan, "--log"]]
+    wrong += [["show"], ["show", case], ["show", case, log, "0", "1"], ["show", case, log, "--log", log], ["show", case, log, "-o", to]]
     wrong += [["from-csv", files.links], ["to-csv", case, to], ["from-wcsp"], ["to-wcsp"]]
     wrong += [[command, "--frobnicate", case, log] for command in COMMANDS]
-    wrong += [["check", "-", "-"], ["explain", "-", "-"], ["picture", "-", "-"], ["score", "-", "-"], ["score", case, "-", "-"]]
+    wrong += [["check", "-", "-"], ["explain", "-", "-"], ["picture", "-", "-"], ["show", "-", "-"], ["score", "-", "-"], ["score", case, "-", "-"]]
     wrong += [["score", "-", plan, "--log", "-"], ["from-csv", "-", "-"], ["to-csv", case, "-", to], ["to-csv", case, to, "-"]]
     for arguments in wrong:
         ended = trial.ask(*arguments, data=P4)

@@ -1,4 +1,4 @@
-"""The page: figures, network, fall of the ceiling, and the rounds beside the case sheet."""
+"""The page: figures, network, fall of the ceiling, the rounds beside the case sheet, and what each link keeps at their end."""
 
 import json
 import os
@@ -8,6 +8,7 @@ from .axes import number
 from .case import BARRED
 from .columns import LINE, SHAPE, NotInColumns
 from .curve import curve
+from .kept import section as kept_section
 from .network import network
 from .void import BAR, section as void_section
 
@@ -92,6 +93,7 @@ def picture(names, case, log, judgement=None):
         drawings(case, log),
         rounds(case, log),
         void_section(log, carried_rounds(log) > 0),
+        kept_section(log),
         reading(case),
         data(case, log),
     ]

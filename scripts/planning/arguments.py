@@ -3,12 +3,16 @@
 import argparse
 import importlib
 import os
+import re
 import stat
 
 from . import standard
 from .failed import Failed, failed
 from .programs import SCRIPTS
 from .texts import ABOUT, COMMANDS, ENDING
+from .unfit import shown
+
+NUMBER = re.compile("[0-9]{1,9}")
 
 # The module and function of each command; a module is read when its command is run.
 RUNS = {
@@ -16,6 +20,7 @@ RUNS = {
     "check": ("checking", "run"),
     "explain": ("explaining", "run"),
     "picture": ("drawing", "run"),
+    "show": ("showing", "run"),
     "score": ("scoring", "run"),
     "from-csv": ("converting", "from_csv"),
     "to-csv": ("converting", "to_csv"),
@@ -101,7 +106,13 @@ def add_argument(parser, words):
     else:
         count = "?" if file.startswith("[") else "+" if file.endswith("..") else None
         name = file.strip("[.]")
-        parser.add_argument(name.lower(), metavar=name, nargs=count)
+        parser.add_argument(name.lower(), metavar=name, nargs=count, type=whole_number if name == "LINK" else None)
+
+
+def whole_number(text):
+    if not NUMBER.fullmatch(text):
+        raise argparse.ArgumentTypeError(f"`{shown(text)}` is no number of a link")
+    return int(text)
 
 
 def files(options, *names):

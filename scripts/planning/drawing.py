@@ -5,13 +5,13 @@ import os
 from picturing import page
 from picturing.case import read_case
 from picturing.columns import LINE, NotInColumns, Refused
-from picturing.log import read_log
 
 from . import outputs
 from .judging import judge_case, judge, line
+from .moves import read_judged, read_lines
 from .places import Place
 from .rules import RULES
-from .sources import Source, changed
+from .sources import Source
 from .standard import say
 
 
@@ -36,24 +36,14 @@ def run(options):
 def draw(names, case, log, verdict):
     """The page of a case and a log; of a refused log the lines before the refused one."""
     sheet = read_case(case.front())
-    at = verdict.second - len(case.front()) // LINE if verdict.refused else None
-    moves = read_again(sheet, log, at)
     if verdict.refused:
+        at = verdict.second - len(case.front()) // LINE
+        moves = read_lines(sheet, log, at)
         moves.stopped = turned_back("log", Place(log, at, verdict.second, None, 0), verdict)
-    elif moves.stopped or bool(moves.void) != verdict.void:
-        raise changed(log)
-    elif verdict.accepted and (moves.rounds, moves.ceilings[-1]) != (verdict.first, verdict.second):
-        raise changed(log)
+    else:
+        moves = read_judged(sheet, log, verdict)
     log.same()
     return page.picture(names, sheet, moves, line(verdict))
-
-
-def read_again(sheet, log, lines):
-    """The moves of a log that `replay` has read, all or so many lines."""
-    try:
-        return read_log(sheet, b"".join(log.chunks() if lines is None else log.blocks(0, lines * LINE)))
-    except Refused:
-        raise changed(log) from None
 
 
 def turned_back(file, place, verdict):

@@ -7,7 +7,7 @@ SIGNALS = (signal.SIGINT, signal.SIGTERM, signal.SIGHUP)
 
 
 class Failed(Exception):
-    """A file that could not be read or written, or a program that is missing or did not end by itself."""
+    """A file that could not be read or written, a program that is missing or did not end by itself, or a command line that does not fit its files."""
 
 
 def failed(name, error):

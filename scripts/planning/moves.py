@@ -1,12 +1,13 @@
-"""The moves of a log: all of one that was accepted, or those up to the line that was refused."""
+"""The moves of a log: all of one that was not refused, or those up to the line that was."""
 
 from collections import deque, namedtuple
 
 from picturing.case import read_case
-from picturing.columns import COLUMNS, LINE
+from picturing.columns import COLUMNS, LINE, Refused
 from picturing.log import Log, read_log, read_move
 
 from .progress import working
+from .sources import changed
 
 BLOCK = 1 << 20
 # Lines of a log after which a word is shown meanwhile, and those of a log that is not read again.
@@ -63,3 +64,23 @@ def read_again(case, source, first, kind, words):
         return None
     with working(words, len(data) > LONG * LINE):
         return read_log(read_case(case), data)
+
+
+def read_lines(case, source, lines=None):
+    """The moves of a log that `replay` has read, all or so many lines."""
+    data = b"".join(source.chunks() if lines is None else source.blocks(0, lines * LINE))
+    try:
+        with working("making the moves ..", len(data) > LONG * LINE):
+            return read_log(case, data)
+    except Refused:
+        raise changed(source) from None
+
+
+def read_judged(case, source, verdict):
+    """All moves of a log that `replay` did not refuse: they end as it says."""
+    log = read_lines(case, source)
+    if log.stopped or bool(log.void) != verdict.void:
+        raise changed(source)
+    if verdict.accepted and (log.rounds, log.ceilings[-1]) != (verdict.first, verdict.second):
+        raise changed(source)
+    return log

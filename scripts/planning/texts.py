@@ -13,6 +13,8 @@ commands:
              ceiling explain samples/valley.case samples/valley.log
   picture    draw a case and its log as a page for the browser
              ceiling picture samples/valley.case samples/valley.log -o valley.html
+  show       say why each channel is kept after a log: its family, and the partners in it
+             ceiling show samples/valley.case samples/valley.log 0
   score      the totals of plans, and how far the best is below the ceiling
              ceiling score samples/valley.case samples/valley.plan --log samples/valley.log
   from-csv   make a case of two spreadsheets, links and pairs
@@ -79,10 +81,26 @@ the byte, and what would have been right.""",
         ["CASE", "LOG", "-o PAGE"],
         """\
 Writes an HTML page to PAGE, or to standard output: the network, the fall of the ceiling,
-and each round beside the rows of the case that it touches. The judgement of `replay` is
-on the page and is the last line on standard error.""",
+each round beside the rows of the case that it touches, and why each channel is kept. The
+judgement of `replay` is on the page and is the last line on standard error.""",
         "0 accepted or void, 1 refused (the page is written as far as it can be drawn), 2 otherwise",
         ["ceiling picture samples/valley.case samples/valley.log -o valley.html"],
+    ),
+    "show": (
+        ["CASE", "LOG", "[LINK]"],
+        """\
+Prints the judgement of `replay` on the log as `check` does, and where it is accepted the
+channel that the link, or every link, keeps with the weights after the log: its lowest
+active channel that is not refuted with all other scopes raised. Beside it stand its
+largest family, the channels left to each link, and the lowest partner of each of them
+across each pair. Where a link keeps none, a press or a void line of it is left. An empty
+log (/dev/null) shows the starting weights.""",
+        "0 accepted or void (then nothing is shown), 1 refused, 2 otherwise, or the case has no such link",
+        [
+            "ceiling show samples/valley.case samples/valley.log",
+            "ceiling show samples/valley.case samples/valley.log 0",
+            "ceiling show samples/valley.case /dev/null 0",
+        ],
     ),
     "score": (
         ["CASE", "PLAN..", "--log LOG"],

@@ -1,31 +1,38 @@
--- The key theorem: over the bytes of a table with one value fixed, no family is supported exactly where the value is refuted. Assumes nothing.
+-- The key theorems: over the bytes of a table with one value fixed, no family is supported exactly where the value is refuted, and what the
+-- closure leaves is the largest family. Assumes nothing.
 use mathlib.Core.Path.{_≡_, refl, sym, ap, ap₂, _∙_}
 use mathlib.Core.Bool.{Bool, true, false, not, _&&_, _||_}
 use mathlib.Core.Logic.{_↔_, ⊎-elim}
-use mathlib.Core.List.{List}
+use mathlib.Core.List.{List, map}
 use Prim.Native.Nat.{ℕ, _+_, _*_, _-_, _≤_, _<_}
 use native.Mathlib.Omega.{arith}
 use borrow.Author.Tests.{lt-ltb, le-ltb}
 use lib.IntN.{ℤ}
-use lib.Dec.{T, T-not, not-T, ltb, ltb→lt, eqb}
+use lib.Dec.{T, T-not, not-T, ltb, ltb→lt, lt→ltb, eqb}
 use lib.ListN.{length, getD}
-use Rattle.integers.specs.Words.{if_then_else_, _⇒_}
-use Rattle.integers.specs.Tests.{and-left, either, same-test}
+use Rattle.integers.specs.Words.{if_then_else_, below, _⇒_}
+use Rattle.integers.specs.Tests.{tests, and-intro, and-left, and-right, either, same-test}
+use Rattle.integers.specs.Lists.{map-same}
 use Rattle.definitions.specs.declared.Case.{Case}
 use Rattle.definitions.specs.Rules.{rulesOf}
 use Rattle.definitions.specs.Case.{active}
 use Rattle.definitions.specs.Valid.{workingWeight}
 use Rattle.definitions.specs.Consistency.{allowed, refuted}
-use Rattle.networks.specs.Network.{Network, networkOf, fixedSets}
+use Rattle.definitions.specs.Families.{largestFamily, familyBytes}
+use Rattle.networks.specs.Network.{Network, largest, networkOf, fixedSets}
+use Rattle.theory.proofs.Words.{none-below}
+use Rattle.theory.proofs.Shape.{Shape}
 use Rattle.theory.proofs.Validity.{Handed}
-use Rattle.networks.proofs.Networks.{None, Alike, to-fewer, to-more, case-ends, refuted-none, none-tried, some-tried}
+use Rattle.networks.proofs.Networks.{None, Alike, to-fewer, to-more, case-ends, refuted-none, none-tried, some-tried, largest-in, in-largest}
+use Rattle.networks.proofs.Families.{family-is-largest}
 use Rattle.tables.proofs.Answered.{limits-known}
-use Rattle.marks.specs.Marks.{mark, fullOf, onlyOf, inBoth}
-use Rattle.marks.proofs.Laws.{mark-byteOf}
-use Rattle.arcs.specs.Closure.{networkOfBytes, setsOf, isMalformed, someFamily}
+use Rattle.marks.specs.Marks.{mark, byteOf, fullOf, onlyOf, inBoth}
+use Rattle.marks.proofs.Laws.{mark-byteOf, byteOf-cong, bits-byte}
+use Rattle.arcs.specs.Closure.{networkOfBytes, setsOf, isMalformed, someFamily, closureAnswer, closureSets}
 use Rattle.arcs.specs.Active.{activeSet, aboveWhere, belowWhere, activeRow}
 use Rattle.arcs.specs.Fixed.{allowedSet, fixedSet}
-use Rattle.arcs.proofs.Results.{well-formed}
+use Rattle.arcs.specs.declared.Closed.the-variants.{Empty, Family as SomeFamily}
+use Rattle.arcs.proofs.Results.{well-formed, closed-sets, answer-is}
 
 -- ---- tests
 
@@ -71,14 +78,14 @@ module _ (c : Case) (w : List ℤ) (few : c .d ≤ 8) where
 
   -- ---- rows
   module _ (e : ℕ) (x y : ℕ) (p : x < c .d) (q : y < c .d) where
-    above-mark : mark (activeRow c w e x) y ≡ active c w (c .n + e) x y
+    pub above-mark : mark (activeRow c w e x) y ≡ active c w (c .n + e) x y
     above-mark =
         let small : x < 8 = omega arith in
         ap (λ (s : ℕ). mark s y) (ap (λ (b : Bool). if b then aboveWhere c (active c w) e x else belowWhere c (active c w) e (x - 8)) (lt-ltb x 8 small))
         ∙ mark-byteOf (λ l. ltb l (c .d) && (ltb x (c .d) && active c w (c .n + e) x l)) y (omega arith)
         ∙ simp (lt-ltb x (c .d) p, lt-ltb y (c .d) q)
 
-    below-mark : mark (activeRow c w e (8 + y)) x ≡ active c w (c .n + e) x y
+    pub below-mark : mark (activeRow c w e (8 + y)) x ≡ active c w (c .n + e) x y
     below-mark =
         let s : (8 + y) - 8 ≡ y = omega arith in
         let large : 8 ≤ 8 + y = omega arith in
@@ -95,6 +102,17 @@ pub record Edges (c : Case) (w : List ℤ) (R : ℕ → Bool) (rows edges : List
   pub count : length edges ≡ c .m
   pub raised : (e : ℕ) → e < c .m → eqb (getD edges e 0) 0 ≡ not (R (c .n + e))
   pub partners : (e p : ℕ) → e < c .m → p < 16 → T (R (c .n + e)) → getD rows (16 * e + p) 0 ≡ activeRow c w e p
+
+-- the bytes are as the closure takes them
+pub bytes-well : (c : Case) → Shape c → (rows edges S : List ℕ) → length S ≡ c .n → length edges ≡ c .m → c .m ≤ length (c .lower)
+    → c .m ≤ length (c .upper) → 16 * c .m ≤ length rows → isMalformed (length S) (c .lower) (c .upper) rows edges ≡ false
+bytes-well c shape rows edges S len count lowers uppers room =
+    simp (tests, none-below) (
+      ((omega arith, omega arith), omega arith),
+      λ e l.
+          let u : e < c .m = omega arith in
+          (omega (arith, shape .ascending e u, shape .below-n e u), omega (arith, shape .below-n e u)),
+    )
 
 module _ (c : Case) (w : List ℤ) (h : Handed (rulesOf c) (workingWeight (rulesOf c)) c w) (R : ℕ → Bool) (i k : ℕ) (rows edges S : List ℕ)
     (known : Edges c w R rows edges)
@@ -149,3 +167,37 @@ module _ (c : Case) (w : List ℤ) (h : Handed (rulesOf c) (workingWeight (rules
         (λ n. absurd (T-not (refuted c w R i k) t (refuted-bytes g .1 (λ F p. rw
         (some-tried M (setsOf S) (well-formed (c .lower) (c .upper) rows edges S good .ends) p) at n))))
         (either (someFamily M (setsOf S))))
+
+    -- what the closure leaves on these bytes is the largest family
+    family-left : (j v : ℕ) → j < c .n → v < 8 → largest M (setsOf S) j v ≡ (ltb v (c .d) && largestFamily c w R i k j v)
+    family-left j v u l =
+        let ends = case-ends c w R (h .shape) in
+        let u′ : j < length S = rw sets-length u in
+        same-test (largest M (setsOf S) j v) (ltb v (c .d) && largestFamily c w R i k j v)
+        (λ t.
+        let (F, p, s) = largest-in M (setsOf S) j v t in
+        let o = only-values j v u l (p .inside j v u′ l s) in
+        and-intro (ltb v (c .d)) (largestFamily c w R i k j v) (lt→ltb v (c .d) o)
+        (rw (family-is-largest c w R i k g j v)
+        (in-largest N (fixedSets c w R i k) ends (to-fewer ends alike same-sets few-values only-values p) j v u o s)))
+        (λ t.
+        let o = ltb→lt v (c .d) (and-left (ltb v (c .d)) (largestFamily c w R i k j v) t) in
+        let (F, p, s) = largest-in N (fixedSets c w R i k) j v
+        (rw (family-is-largest c w R i k g j v) at (and-right (ltb v (c .d)) (largestFamily c w R i k j v) t)) in
+        in-largest M (setsOf S) (well-formed (c .lower) (c .upper) rows edges S good .ends) (to-more ends alike same-sets few-values only-values p) j v u′ l
+        (and-intro (F j v) (ltb v (c .d)) s (lt→ltb v (c .d) o)))
+
+    pub closure-left : closureSets (c .lower) (c .upper) rows edges S ≡ familyBytes c (largestFamily c w R i k)
+    closure-left =
+        closed-sets (c .lower) (c .upper) rows edges S good
+        ∙ ap (λ (n : ℕ). map (λ j. byteOf (largest M (setsOf S) j)) (below n)) sets-length
+        ∙ map-same (c .n) (λ j u. byteOf-cong (λ v l. family-left j v u l) ∙ sym (bits-byte (c .d) (largestFamily c w R i k j) few-values))
+
+    pub closure-answer : closureAnswer (c .lower) (c .upper) rows edges S ≡ (if refuted c w R i k then Empty else SomeFamily)
+    closure-answer =
+        answer-is (c .lower) (c .upper) rows edges S good
+        ∙ ap (λ (b : Bool). if b then SomeFamily else Empty) some-family ∙ turned (refuted c w R i k)
+      where
+        turned : (b : Bool) → (if not b then SomeFamily else Empty) ≡ (if b then Empty else SomeFamily)
+        turned true = refl
+        turned false = refl

@@ -15,7 +15,7 @@ use Rattle.integers.specs.Tables.{length-tab, getD-tab}
 use Rattle.integers.specs.Lists.{map-same}
 use Rattle.marks.specs.Marks.{mark, lowestOf, without}
 use Rattle.marks.proofs.Laws.{mark-high, mark-zero, byte-small, lowest-small, lowest-marked, lowest-below}
-use Rattle.arcs.specs.Partners.{lowestPartner, partnerByte, partnerAt, lowestPartners}
+use Rattle.arcs.specs.Partners.{lowestInBoth, byteOfPartner, partnerAt, lowestPartners}
 use Rattle.arcs.proofs.Search.{mark-without}
 use Rattle.arcs.proofs.Steps.{after-set}
 
@@ -41,7 +41,7 @@ module _ (left k : ℕ) (small : left < 256) (ne : left ≡ 0 → ⊥) (is : k �
 
 module _ (rows : List ℕ) (other : ℕ) where
   abbrev named : ℕ → ℕ
-  named k = partnerByte (lowestPartner (getD rows k 0) other)
+  named k = byteOfPartner (lowestInBoth (getD rows k 0) other)
 
   abbrev chosen : ℕ → Bool → ℕ → ℕ
   chosen p b x = if b && ltb p (length rows) then named p else x

@@ -10,10 +10,9 @@ use lib.IntN.{ℤ}
 use lib.Dec.{T, ltb, ltb→lt, lt→ltb}
 use lib.ListN.{length, getD, set, length-set}
 use Rattle.integers.specs.Words.{if_then_else_, _⇒_}
-use Rattle.integers.specs.Tests.{tests, if-true, if-false, true-is, false-is, or-left, or-right}
+use Rattle.integers.specs.Tests.{if-true, if-false, true-is, false-is, or-left, or-right}
 use Rattle.integers.specs.Tests.{and-left, and-right, and-intro, imp-intro, imp-elim, not-not-iff, same-test}
 use Rattle.integers.specs.Lists.{all-at, all-of}
-use Rattle.theory.proofs.Words.{none-below}
 use Rattle.definitions.specs.declared.Case.{Case}
 use Rattle.definitions.specs.Rules.{rulesOf, variablePlaces}
 use Rattle.definitions.specs.Case.{active}
@@ -31,7 +30,7 @@ use Rattle.arcs.specs.Fixed.{allowedSet, fixedSet}
 use Rattle.arcs.specs.Tried.{hasFamily, noneHas, triedAnswer}
 use Rattle.arcs.specs.declared.Tried.the-variants.{Malformed, Unsupported, Supported}
 use Rattle.arcs.proofs.Steps.{after-set}
-use Rattle.arcs.proofs.Fixed.{Edges, some-family}
+use Rattle.arcs.proofs.Fixed.{Edges, bytes-well, some-family}
 
 module _ (lower upper rows raised S : List ℕ) (i values : ℕ) where
   abbrev out : Bool
@@ -82,15 +81,7 @@ module _ (c : Case) (w : List ℤ) (h : Handed (rulesOf c) (workingWeight (rules
   N = networkOfBytes (length S) (c .lower) (c .upper) rows edges
 
   well : isMalformed (length S) (c .lower) (c .upper) rows edges ≡ false
-  well =
-      let count = bytes .edges .count in
-      let len = bytes .sets-length in
-      simp (tests, none-below) (
-        ((omega (arith, bytes .lowers), omega (arith, bytes .uppers)), omega (arith, bytes .room)),
-        λ e l.
-            let u : e < c .m = omega arith in
-            (omega (arith, h .shape .ascending e u, h .shape .below-n e u), omega (arith, h .shape .below-n e u)),
-      )
+  well = bytes-well c (h .shape) rows edges S (bytes .sets-length) (bytes .edges .count) (bytes .lowers) (bytes .uppers) (bytes .room)
 
   -- a value has a family where it is not refuted
   pub has-family : (k : ℕ) → hasFamily N S i k ≡ not (refuted c w R i k)

@@ -44,9 +44,9 @@ module _ (lower upper rows raised S : List ℕ) where
           ends = λ e h. p .1 e h;
         }
 
-    sets-are : closureSets lower upper rows raised S ≡ map (λ j. byteOf (largest N (setsOf S) j)) (below (length S))
+    pub closed-sets : closureSets lower upper rows raised S ≡ map (λ j. byteOf (largest N (setsOf S) j)) (below (length S))
     unfolding closureSets
-    sets-are = if-false _ _ (isMalformed (length S) lower upper rows raised) (false-is _ e)
+    closed-sets = if-false _ _ (isMalformed (length S) lower upper rows raised) (false-is _ e)
 
     pub answer-is : closureAnswer lower upper rows raised S ≡ (if someFamily N (setsOf S) then SomeFamily else Empty)
     unfolding closureAnswer
@@ -65,7 +65,7 @@ module _ (lower upper rows raised S : List ℕ) where
               let i : j < length S = rw len at h in
               byte-is (getD S′ j 0) _ (bytes j) (λ v g. closed-is-largest N (setsOf S) ends-in (p .0) (p .1) j v i g)
               ∙ sym (getD-tab (λ j. byteOf (largest N (setsOf S) j)) (length S) j 0 i))
-              ∙ sym sets-are,
+              ∙ sym closed-sets,
         )
 
     no-family : None N (setsOf S) → (Empty ≡ closureAnswer lower upper rows raised S) × (replicate (length S) 0 ≡ closureSets lower upper rows raised S)
@@ -77,7 +77,7 @@ module _ (lower upper rows raised S : List ℕ) where
           getD-replicate (length S) j 0 0 i
           ∙ byte-is 0 _ (omega arith) (λ v g. mark-zero v ∙ sym (largest-empty N (setsOf S) none j v))
           ∙ sym (getD-tab (λ j. byteOf (largest N (setsOf S) j)) (length S) j 0 i))
-          ∙ sym sets-are,
+          ∙ sym closed-sets,
     )
 
     pub empty-answer : (S′ cleared : List ℕ) → length S′ ≡ length S → (b : Bool) → b ≡ false → SettledSets N (setsOf S) S′ b → cleared ≡ replicate (length S′) 0

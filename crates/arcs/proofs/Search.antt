@@ -6,14 +6,14 @@ use mathlib.Core.Option.{Option, none, some}
 use mathlib.Core.List.{List}
 use Prim.Native.Nat.{ℕ, _+_, _<_}
 use native.Mathlib.Omega.{arith}
-use borrow.Author.Tests.{lt-ltb, le-ltb, eq-eqb, ne-eqb, eqb-true}
+use borrow.Author.Tests.{lt-ltb, le-ltb, eqb-true}
 use lib.Dec.{T, T-not, ltb, eqb, eqb→eq, ltb→lt, lt→ltb}
 use Rattle.integers.specs.Words.{if_then_else_, below, any, those, first, _⇒_}
-use Rattle.integers.specs.Tests.{either, is-true, is-false, true-is, false-is, and-intro, and-left, not-eqb-iff, same-test}
-use Rattle.integers.specs.Lists.{any-of, any-same, those-same, first-least, first-none}
-use Rattle.marks.specs.Marks.{mark, byteOf, lowestOf, without}
+use Rattle.integers.specs.Tests.{either, is-true, is-false, true-is, and-intro, and-left, and-right, not-eqb-iff, same-test}
+use Rattle.integers.specs.Lists.{any-of, those-same, first-least, first-none}
+use Rattle.marks.specs.Marks.{mark, byteOf, lowestOf, without, inBoth}
 use Rattle.marks.proofs.Laws.{mark-byteOf, mark-zero, byteOf-cong, byte-is, byte-small, strike-less, lowest-small, lowest-marked, lowest-below}
-use Rattle.arcs.specs.Partners.{isPartner, partnerOf, lowestPartner}
+use Rattle.arcs.specs.Partners.{isPartner, hasPartner, partnerOf, lowestInBoth, isNothing}
 use Rattle.arcs.specs.declared.Partner.the-variants.{At, Nothing}
 
 pub mark-without : (s v k : ℕ) → k < 8 → mark (without s v) k ≡ (mark s k && not (eqb k v))
@@ -34,18 +34,15 @@ module _ (row other l : ℕ) (no : mark other l ≡ false) where
       ap (λ (b : Bool). b && mark other k) (mark-without row l k h)
       ∙ and-skip (mark row k) (eqb k l) (mark other k) (λ e. ap (mark other) (eqb-true k l e) ∙ no)
 
-  pub lowest-less : lowestPartner (without row l) other ≡ lowestPartner row other
-  unfolding lowestPartner
+  pub lowest-less : lowestInBoth (without row l) other ≡ lowestInBoth row other
+  unfolding lowestInBoth
   lowest-less = ap (λ (ls : List ℕ). partnerOf (first ls)) (those-same 8 partner-other)
 
 no-partner : (other k : ℕ) → isPartner 0 other k ≡ false
 no-partner other k = ap (λ (b : Bool). b && mark other k) (mark-zero k)
 
-none-of : (n : ℕ) (f : ℕ → Bool) → ((k : ℕ) → k < n → f k ≡ false) → any f (below n) ≡ any (λ k. false) (below n)
-none-of n f h = any-same n h
-
-pub lowest-none : (other : ℕ) → lowestPartner 0 other ≡ Nothing
-unfolding lowestPartner
+pub lowest-none : (other : ℕ) → lowestInBoth 0 other ≡ Nothing
+unfolding lowestInBoth
 lowest-none other = ap (λ (ls : List ℕ). partnerOf (first ls)) (those-same {f = isPartner 0 other} {g = λ k. false} 8 (λ k h. no-partner other k))
 
 -- the lowest value of the row is a partner
@@ -53,8 +50,8 @@ module _ (row other : ℕ) (h : row < 256) (filled : 0 < row) (yes : mark other 
   is-partner : T (isPartner row other (lowestOf row))
   is-partner = and-intro (mark row (lowestOf row)) (mark other (lowestOf row)) (lowest-marked row h filled) (true-is (mark other (lowestOf row)) yes)
 
-  pub lowest-found : lowestPartner row other ≡ At (lowestOf row)
-  unfolding lowestPartner
+  pub lowest-found : lowestInBoth row other ≡ At (lowestOf row)
+  unfolding lowestInBoth
   lowest-found = go (first (those (isPartner row other) (below 8))) refl
     where
       go : (o : Option ℕ) → first (those (isPartner row other) (below 8)) ≡ o → partnerOf o ≡ At (lowestOf row)
@@ -75,35 +72,58 @@ lowest-struck left l r h ne e q =
     let is : r ≡ without left (lowestOf left) = q ∙ ap (without left) e in
     (rw is (byte-small _), rw is (strike-less left (lowestOf left) h (lowest-marked left h filled)))
 
-pub lowest-step : (row other left l r : ℕ) (b : Bool) → lowestPartner left other ≡ lowestPartner row other → r ≡ without left l → b ≡ mark other l → b ≡ false
-    → lowestPartner r other ≡ lowestPartner row other
+pub lowest-step : (row other left l r : ℕ) (b : Bool) → lowestInBoth left other ≡ lowestInBoth row other → r ≡ without left l → b ≡ mark other l → b ≡ false
+    → lowestInBoth r other ≡ lowestInBoth row other
 lowest-step row other left l r b i q e f = rw q (lowest-less left other l (sym e ∙ f) ∙ i)
 
-pub lowest-at : (left other l : ℕ) (b : Bool) → left < 256 → (left ≡ 0 → ⊥) → l ≡ lowestOf left → b ≡ mark other l → b ≡ true → At l ≡ lowestPartner left other
+pub lowest-at : (left other l : ℕ) (b : Bool) → left < 256 → (left ≡ 0 → ⊥) → l ≡ lowestOf left → b ≡ mark other l → b ≡ true → At l ≡ lowestInBoth left other
 lowest-at left other l b h ne e q t =
     let filled : 0 < left = omega arith in
     ap At e ∙ sym (lowest-found left other h filled (ap (mark other) (sym e) ∙ sym q ∙ t))
 
+-- the marks in common have the same partners
+module _ (row other both : ℕ) (is : both ≡ inBoth row other) where
+  mark-both : (k : ℕ) → k < 8 → mark both k ≡ isPartner row other k
+  mark-both k h = ap (λ (s : ℕ). mark s k) is ∙ mark-byteOf (isPartner row other) k h
+
+  both-small : both < 256
+  both-small = rw is (byte-small _)
+
+  partner-both : (k : ℕ) → k < 8 → isPartner both other k ≡ isPartner row other k
+  partner-both k h = ap (λ (b : Bool). b && mark other k) (mark-both k h) ∙ and-same (mark row k) (mark other k)
+    where
+      and-same : (a b : Bool) → ((a && b) && b) ≡ (a && b)
+      and-same true true = refl
+      and-same true false = refl
+      and-same false b = refl
+
+  lowest-both : lowestInBoth both other ≡ lowestInBoth row other
+  unfolding lowestInBoth
+  lowest-both = ap (λ (ls : List ℕ). partnerOf (first ls)) (those-same 8 partner-both)
+
+  pub none-common : both ≡ 0 → Nothing ≡ lowestInBoth row other
+  none-common z = sym (sym lowest-both ∙ ap (λ (s : ℕ). lowestInBoth s other) z ∙ lowest-none other)
+
+  pub least-common : (both ≡ 0 → ⊥) → (l : ℕ) → l ≡ lowestOf both → At l ≡ lowestInBoth row other
+  least-common ne l e =
+      let filled : 0 < both = omega arith in
+      let small : lowestOf both < 8 = lowest-small both both-small filled in
+      let marked = rw (mark-both (lowestOf both) small) at (lowest-marked both both-small filled) in
+      ap At e ∙ sym (lowest-found both other both-small filled (is-true _ (and-right (mark row (lowestOf both)) (mark other (lowestOf both)) marked)))
+      ∙ lowest-both
+
+-- none is found where no value is a partner
+pub nothing-found : (row other : ℕ) → isNothing (lowestInBoth row other) ≡ not (hasPartner row other)
+unfolding lowestInBoth
+nothing-found row other = go (first (those (isPartner row other) (below 8))) refl
+  where
+    go : (o : Option ℕ) → first (those (isPartner row other) (below 8)) ≡ o → isNothing (partnerOf o) ≡ not (any (isPartner row other) (below 8))
+    go none e = sym (is-true (not (any (isPartner row other) (below 8))) (first-none (isPartner row other) (below 8) e))
+    go (some x) e =
+        let p = first-least (isPartner row other) 8 e in
+        sym (ap not (is-true (any (isPartner row other) (below 8)) (any-of (isPartner row other) 8 (p .0) (p .1))))
+
 -- ---- the values of a set, looked at from the lowest on
-
--- the marks are none where f passes nowhere
-module _ (f : ℕ → Bool) where
-  nowhere : byteOf f ≡ 0 → any f (below 8) ≡ false
-  nowhere z = none-of 8 f (λ k h. sym (mark-byteOf f k h) ∙ ap (λ (s : ℕ). mark s k) z ∙ mark-zero k)
-
-  no-marks : any f (below 8) ≡ false → byteOf f ≡ 0
-  no-marks e = sym (byte-is 0 f (omega arith) (λ k h. mark-zero k ∙ sym (at k h (f k) refl)))
-    where
-      at : (k : ℕ) → k < 8 → (b : Bool) → f k ≡ b → f k ≡ false
-      at k h true y = absurd (T-not (any f (below 8)) (false-is _ e) (any-of f 8 h (true-is (f k) y)))
-      at k h false n = n
-
-  pub marks-none : eqb (byteOf f) 0 ≡ not (any f (below 8))
-  marks-none = go (any f (below 8)) refl
-    where
-      go : (b : Bool) → any f (below 8) ≡ b → eqb (byteOf f) 0 ≡ not b
-      go true e = ne-eqb (byteOf f) 0 (λ z. T-not (any f (below 8)) (false-is _ (nowhere z)) (true-is _ e))
-      go false e = eq-eqb (byteOf f) 0 (no-marks e)
 
 -- those of a set that pass, of the values below k
 abbrev pub keptBelow : (ℕ → Bool) → ℕ → ℕ → ℕ

@@ -94,7 +94,7 @@ module _ (has : ℕ → Bool) (own values : ℕ) where
 -- ---- a value alone
 
 -- a value of the set alone is the value alone
-only-own : (own k : ℕ) → T (mark own k) → inBoth own (onlyOf k) ≡ onlyOf k
+pub only-own : (own k : ℕ) → T (mark own k) → inBoth own (onlyOf k) ≡ onlyOf k
 only-own own k t = byteOf-cong (λ v h. ap (λ (b : Bool). mark own v && b) (mark-byteOf (λ j. eqb j k) v h) ∙ by v (eqb v k) refl)
   where
     by : (v : ℕ) (b : Bool) → eqb v k ≡ b → (mark own v && b) ≡ b

@@ -1,5 +1,5 @@
 -- The search for partners: a row holds the marks of a value's partners. Assumes nothing.
-use mathlib.Core.Bool.{Bool, _&&_}
+use mathlib.Core.Bool.{Bool, true, false, _&&_}
 use mathlib.Core.Option.{Option, none, some}
 use mathlib.Core.List.{List, map}
 use Prim.Native.Nat.{ℕ, _+_}
@@ -21,8 +21,13 @@ abbrev pub partnerOf : Option ℕ → Partner
 partnerOf none = Nothing
 partnerOf (some l) = At l
 
-unfoldable pub lowestPartner : ℕ → ℕ → Partner
-lowestPartner row other = partnerOf (first (those (isPartner row other) (below 8)))
+abbrev pub isNothing : Partner → Bool
+isNothing Nothing = true
+isNothing (At l) = false
+
+-- the lowest partner in `other`, or that there is none
+unfoldable pub lowestInBoth : ℕ → ℕ → Partner
+lowestInBoth row other = partnerOf (first (those (isPartner row other) (below 8)))
 
 -- the values of `set` that have a partner in `other`; the row of value k stands at place `at` + k
 unfoldable pub supportedValues : List ℕ → ℕ → ℕ → ℕ → ℕ
@@ -30,14 +35,14 @@ supportedValues rows at set other = byteOf (λ k. mark set k && hasPartner (getD
 
 -- ---- the lowest partner of each value, as bytes
 
-abbrev pub partnerByte : Partner → ℕ
-partnerByte (At l) = l
-partnerByte Nothing = 255
+abbrev pub byteOfPartner : Partner → ℕ
+byteOfPartner (At l) = l
+byteOfPartner Nothing = 255
 
 -- place k: the lowest partner of value k, where the set has it and there is a row for it; else what stood there
 abbrev pub partnerAt : List ℕ → ℕ → ℕ → List ℕ → ℕ → ℕ
 partnerAt rows set other partners k =
-    if mark set k && ltb k (length rows) then partnerByte (lowestPartner (getD rows k 0) other) else getD partners k 0
+    if mark set k && ltb k (length rows) then byteOfPartner (lowestInBoth (getD rows k 0) other) else getD partners k 0
 
 unfoldable pub lowestPartners : List ℕ → ℕ → ℕ → List ℕ → List ℕ
 lowestPartners rows set other partners = map (partnerAt rows set other partners) (below (length partners))

@@ -19,7 +19,7 @@ ghost use Rattle.definitions.specs.Valid.{someEdge, endOutside};
 ghost use Rattle.definitions.specs.Lines.{overwritten};
 ghost use Rattle.tables.specs.Scopes.{Limited};
 ghost use Rattle.marks.specs.Marks.{mark, without};
-ghost use Rattle.arcs.specs.Partners.{lowestPartner, partnerByte, lowestPartners, supportedValues};
+ghost use Rattle.arcs.specs.Partners.{lowestInBoth, isNothing, byteOfPartner, lowestPartners, supportedValues};
 ghost use Rattle.arcs.specs.Closure.{networkOfBytes, setsOf, endMissing, isMalformed, closureAnswer, closureSets};
 ghost use Rattle.arcs.specs.Tried.{hasFamily, noneHas, triedAnswer};
 ghost use Rattle.arcs.specs.declared.Tried.{Tried};
@@ -56,14 +56,14 @@ pub const NO_PARTNER: u8 = 255;
 
 // ---- the search for partners
 
-// The set without value k, if it has no partners.
-fn kept_with(set: u8, k: u8, partners: u8) -> u8
-    ensures { λ r. ⌜ r ≡ (if eqb partners 0 then without set k else set) ⌝ }
+// The set without value k, where no partner was found.
+fn kept_with(set: u8, k: u8, found: Partner) -> u8
+    ensures { λ r. ⌜ r ≡ (if isNothing found then without set k else set) ⌝ }
 {
-    if partners == 0 {
-        return marks::strike(set, k);
+    match found {
+        Partner::At(_) => set,
+        Partner::Nothing => marks::strike(set, k),
     }
-    set
 }
 
 // The values of `set` that have a partner in `other`. The partners of value k stand at rows[at + k].
@@ -74,14 +74,14 @@ fn supported(rows: &[u8], at: usize, set: u8, other: u8) -> u8
     let mut kept = set;
     let mut k: usize = 0;
     while k < 8 {
-        kept = kept_with(kept, k as u8, marks::common(rows[at + k], other));
+        kept = kept_with(kept, k as u8, lowest_partner(rows[at + k], other));
         k += 1;
     }
     kept
 }
 
 fn partner_byte(found: Partner) -> u8
-    ensures { λ r. ⌜ r ≡ partnerByte found ⌝ }
+    ensures { λ r. ⌜ r ≡ byteOfPartner found ⌝ }
 {
     match found {
         Partner::At(l) => l,
@@ -702,22 +702,16 @@ fn verdict(yes: bool) -> Verdict
 
 // ---- the calls
 
-// The lowest value of both: `row` holds a value's partners, `other` is the other end's set.
+// The search for a partner, which the closure runs: `row` holds a value's partners, `other` is the other end's set. The lowest that it has,
+// or that there is none.
 pub fn lowest_partner(row: u8, other: u8) -> Partner
-    ensures { λ r. ⌜ r ≡ lowestPartner row other ⌝ }
+    ensures { λ r. ⌜ r ≡ lowestInBoth row other ⌝ }
 {
-    let mut left = row;
-    let found = 'partners: loop {
-        if left == 0 {
-            break 'partners Partner::Nothing;
-        }
-        let l = marks::lowest(left);
-        if marks::has(other, l) {
-            break 'partners Partner::At(l);
-        }
-        left = marks::strike(left, l);
-    };
-    found
+    let partners = marks::common(row, other);
+    if partners == 0 {
+        return Partner::Nothing;
+    }
+    Partner::At(marks::lowest(partners))
 }
 
 // The lowest partner of each value: for each value k of `set` the lowest value of `other` in rows[k] is written to partners[k], NO_PARTNER where

@@ -1,14 +1,18 @@
 -- Samples of the calls on tables with barred tuples (document 02, change 2), in tables as those of Borders. Assumes nothing.
 use mathlib.Core.Path.{refl}
+use mathlib.Core.Bool.{false}
 use mathlib.Core.List.{List, [], _∷_, _++_}
 use Prim.Native.Nat.{ℕ, _+_}
 use lib.IntN.{ℤ, pos}
-use Rattle.integers.specs.Words.{joined, minus}
+use lib.ListN.{replicate}
+use Rattle.integers.specs.Words.{any, choices, joined, minus}
+use Rattle.definitions.specs.declared.RunAnswer.the-variants.{Settled}
 use Rattle.definitions.specs.Rules.{standard}
 use Rattle.definitions.specs.Answers.{Says, outcomeSays, figureSays, verdictSays, writtenSays, roundSays, runSays}
+use Rattle.definitions.specs.Case.{isLawful}
 use Rattle.definitions.specs.Engine.{engineNext, pairsNext}
 use Rattle.definitions.specs.Samples.{Input, given, couple, zeros}
-use Rattle.definitions.specs.Borders.{_is_, Hold, says, no, value, W, ones, l}
+use Rattle.definitions.specs.Borders.{_is_, Hold, says, no, value, W, ones, l, ranBy}
 use Rattle.definitions.specs.Programs.{bytesOf}
 use Rattle.definitions.specs.BarredBorders.{B, locked, patchy, voidLines}
 use Rattle.definitions.specs.BarredRuns.{late, overNoChoice, atBorder, byTwos, afterLate}
@@ -19,6 +23,12 @@ use Rattle.calls.specs.EngineCalls.{RunCall, roundCall, runCall}
 -- link 0 is wholly barred
 abbrev closedLink : Input
 closedLink = couple (B ∷ B ∷ zeros 6)
+
+-- four links, three values, all pairs, equal values barred: no plan is lawful, and nothing is refuted
+abbrev coloured : Input
+coloured =
+    given 4 3 6 (0 ∷ 0 ∷ 0 ∷ 1 ∷ 1 ∷ 2 ∷ []) (1 ∷ 2 ∷ 3 ∷ 2 ∷ 3 ∷ 3 ∷ [])
+    (zeros 12 ++ joined (replicate 6 (B ∷ zeros 3 ++ (B ∷ zeros 3 ++ (B ∷ [])))))
 
 -- ---- totals and refutation
 
@@ -146,3 +156,10 @@ pub engine :
     ∷ [])
 unfolding roundCall runCall
 engine = (refl, refl)
+
+-- settled, although no plan is lawful
+pub settled-without-plan :
+    let plans : List (List ℕ) = choices 4 (0 ∷ 1 ∷ 2 ∷ []) in
+    Hold (any (isLawful (coloured .case) (coloured .weights)) plans is false ∷ [])
+    × Hold (ranBy engineNext coloured 5 is (Settled, 0, coloured .weights, []) ∷ [])
+settled-without-plan = (refl, refl)

@@ -1,10 +1,11 @@
 -- The library's calls on all input, as document 01 and docs/DECISIONS.md say: totals, refutation, moves, lines, case files.
 -- What is refused changes nothing that was lent. Assumes nothing.
+use mathlib.Core.Path.{_≡_}
 use mathlib.Core.Bool.{Bool, true, false, not, _&&_, _||_}
 use mathlib.Core.Option.{Option, none, some}
 use mathlib.Core.List.{List, [], _∷_, _++_}
 use Prim.Native.Nat.{ℕ, _+_, _*_, _-_}
-use lib.IntN.{ℤ}
+use lib.IntN.{ℤ, pos}
 use lib.Dec.{ltb, eqb}
 use lib.ListN.{length, getD, take, drop}
 use Rattle.integers.specs.Words.{if_then_else_, any, isIn, within}
@@ -22,7 +23,8 @@ use Rattle.definitions.specs.Refusals.{Test, _when_, firstOf}
 use Rattle.definitions.specs.Answers.{outcomeOf, unlessRefused}
 use Rattle.definitions.specs.Case.{scopeCount, isVariable, objective, upperBound, active, usesBarred}
 use Rattle.definitions.specs.Valid.{startingWeight, workingWeight, wrongAssignment, valueOut, handedOver}
-use Rattle.definitions.specs.Consistency.{refuted}
+use Rattle.definitions.specs.Consistency.{Family, refuted, others}
+use Rattle.definitions.specs.Families.{supportedValue, largestFamily, familyBytes, partnerBytes}
 use Rattle.definitions.specs.Moves.{Move, shift, activePress, shiftAmount, pressAmount, moved, activeRefuted, leavesRange}
 use Rattle.definitions.specs.Lines.{readLine, lineText, lineLength, lineTooWide, overwritten}
 use Rattle.definitions.specs.CaseFiles.{caseText}
@@ -95,6 +97,41 @@ isRising [] = true
 isRising (x ∷ []) = true
 isRising (x ∷ y ∷ ys) = ltb x y && isRising (y ∷ ys)
 
+-- ---- why a value was kept (document 02, change 3): the value, and the bytes of its family and of the partners
+
+pub record FamilyCall : Type 0 where
+  pub answer : Figure
+  pub family : List ℕ
+  pub partners : List ℕ
+
+-- an answer and what is left are the call's
+abbrev pub FamilyIs : FamilyCall → Figure → List ℕ → List ℕ → Type 0
+FamilyIs call answer family partners = (answer ≡ call .answer) × (family ≡ call .family) × (partners ≡ call .partners)
+
+abbrev pub familyRefused : Refusal → List ℕ → List ℕ → FamilyCall
+familyRefused x family partners = record { answer = Figure.Refused x; family = family; partners = partners }
+
+-- value k of variable i with its largest family, all other scopes raised
+abbrev pub familyShown : Case → List ℤ → ℕ → ℕ → List ℕ → List ℕ → FamilyCall
+familyShown c w i k family partners =
+    let R : ℕ → Bool = isIn (others c i) in
+    let S : Family = largestFamily c w R i k in
+    record {
+      answer = Figure.Value (pos k);
+      family = overwritten (familyBytes c S) family;
+      partners = overwritten (partnerBytes c w R S) partners;
+    }
+
+-- no such value is number 5, asked last
+abbrev pub familyFound : Case → List ℤ → ℕ → List ℕ → List ℕ → Option Refusal → Option ℕ → FamilyCall
+familyFound c w i family partners (some x) found = familyRefused x family partners
+familyFound c w i family partners none none = familyRefused OutOfRange family partners
+familyFound c w i family partners none (some k) = familyShown c w i k family partners
+
+-- the family has a byte for each variable, the partners one for each edge, end and value
+abbrev pub familyShort : Case → List ℕ → List ℕ → Bool
+familyShort c family partners = ltb (length family) (c .n) || ltb (length partners) (c .m * (2 * c .d))
+
 module _ (r : Rules) where
   -- ---- totals: the range is that of working weights
 
@@ -117,6 +154,14 @@ module _ (r : Rules) where
       (firstOf (handedOver r (workingWeight r) c w (not (eqb (length raised) (scopeCount c)))
       (any (λ b. ltb 1 b) raised || not (ltb i (c .n)) || not (ltb k (c .d)))))
       (refuted c w (isMarked raised) i k)
+
+  -- ---- why a value was kept
+
+  unfoldable pub supportedValueCall : Case → List ℤ → ℕ → List ℕ → List ℕ → FamilyCall
+  supportedValueCall c w i family partners =
+      familyFound c w i family partners
+      (firstOf (handedOver r (workingWeight r) c w (familyShort c family partners) (not (ltb i (c .n)))))
+      (supportedValue c w i)
 
   -- ---- moves
 

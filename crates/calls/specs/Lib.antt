@@ -4,3 +4,5 @@ pub mod EngineCalls
 pub mod CallSamples
 pub mod CallBorders
 pub mod BarredCallBorders
+pub mod FileBorders
+pub mod FamilySamples

@@ -117,17 +117,9 @@ fn signed(x: u8) -> i64 {
     x as i64
 }
 
-fn print_each(bytes: &[u8]) {
-    let mut i: usize = 0;
-    while i < bytes.len() {
-        drivers::print_number(signed(bytes[i]));
-        i += 1;
-    }
-}
-
 fn print_bytes(label: &[u8], bytes: &[u8]) {
     drivers::print(label);
-    print_each(bytes);
+    drivers::print_bytes(bytes);
     drivers::print(b"\n");
 }
 

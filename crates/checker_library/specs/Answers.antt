@@ -11,6 +11,7 @@ use Rattle.checker_library.specs.declared.CeilingTotal.{CeilingTotal}
 use Rattle.checker_library.specs.declared.CeilingRounds.{CeilingRounds}
 use Rattle.checker_library.specs.declared.CeilingSpan.{CeilingSpan}
 use Rattle.checker_library.specs.declared.CeilingChoice.{CeilingChoice}
+use Rattle.checker_library.specs.declared.CeilingValue.{CeilingValue}
 
 abbrev pub ceilingSizeOf : Says → CeilingSize
 ceilingSizeOf s = record { number = s .number; n = countAt s 0; d = countAt s 1; m = countAt s 2; table = countAt s 3 }
@@ -34,3 +35,6 @@ spanOf s = record { number = s .number; from = (if eqb (s .number) 0 then countA
 
 abbrev pub choiceOf : Says → CeilingChoice
 choiceOf s = record { number = s .number; choice = countAt s 0 }
+
+abbrev pub valueOf : Says → CeilingValue
+valueOf s = record { number = s .number; value = countAt s 0 }

@@ -13,9 +13,10 @@ use Rattle.definitions.specs.declared.Outcome.{Outcome}
 use Rattle.definitions.specs.declared.Refusal.the-variants.{CutShort}
 use Rattle.definitions.specs.Rules.{rulesOf}
 use Rattle.definitions.specs.Refusals.{firstOf}
-use Rattle.definitions.specs.Answers.{outcomeSays, fileSays, outcomeOf}
+use Rattle.definitions.specs.Answers.{outcomeSays, figureSays, fileSays, outcomeOf}
 use Rattle.definitions.specs.Valid.{workingWeight, limitTest, edgeTests, handedOver}
 use Rattle.definitions.specs.CaseFiles.{readCaseAlone}
+use Rattle.calls.specs.Calls.{supportedValueCall}
 use Rattle.checker.specs.declared.Replay.{Replay}
 use Rattle.checker.specs.declared.Block.{Block}
 use Rattle.checker.specs.Checker.{isVoid, freshReplay, blockReplay, endReplay}
@@ -23,7 +24,8 @@ use Rattle.encoding.specs.CaseBytes.{bytesOfCase, caseIn}
 use Rattle.encoding.specs.RecordBytes.{recordBytes, isRecord, recordIn}
 use Rattle.checker_library.specs.declared.CeilingLines.{CeilingLines}
 use Rattle.checker_library.specs.declared.CeilingRounds.{CeilingRounds}
-use Rattle.checker_library.specs.Answers.{linesOf, roundsOf}
+use Rattle.checker_library.specs.declared.CeilingValue.{CeilingValue}
+use Rattle.checker_library.specs.Answers.{linesOf, roundsOf, valueOf}
 
 -- ---- reading a case
 
@@ -46,6 +48,19 @@ readCall text bytes w =
       case = caseAfter (call .read .answer) (call .read) bytes;
       table = call .table;
     }
+
+-- ---- why a channel was kept (document 02, change 3)
+
+-- what is answered, and the lent bytes of the family and of the partners after it
+pub record ValueCall : Type 0 where
+  pub answer : CeilingValue
+  pub family : List ℕ
+  pub partners : List ℕ
+
+unfoldable pub valueCall : List ℕ → List ℤ → ℕ → List ℕ → List ℕ → ValueCall
+valueCall case w link family partners =
+    let call = supportedValueCall (rulesOf (caseIn case)) (caseIn case) w link family partners in
+    record { answer = valueOf (figureSays (call .answer)); family = call .family; partners = call .partners }
 
 -- ---- the replay
 

@@ -1,5 +1,5 @@
-// The checker's functions for programs in other languages: a case file read, totals, the replay of a log, the view of a round, scoring. A case
-// and the replay's record cross as bytes (crate encoding). What each function answers is defined in specs/.
+// The checker's functions for programs in other languages: a case file read, totals, the replay of a log, the view of a round, scoring, why a channel
+// was kept. A case and the replay's record cross as bytes (crate encoding). What each function answers is defined in specs/.
 use checker::Due;
 use checker::Replay;
 use checker::Standing;
@@ -15,10 +15,13 @@ use definitions::Span;
 use encoding::CaseArray;
 use encoding::RecordArray;
 ghost use mathlib.Core.Path.{_≡_};
+ghost use mathlib.Core.Bool.{false};
+ghost use lib.IntN.{pos};
+ghost use lib.Signed.{ltZ};
 ghost use Rattle.definitions.specs.declared.Rulebook.the-variants.{Desk};
 ghost use Rattle.definitions.specs.Rules.{rulesIn, rulesOf};
 ghost use Rattle.definitions.specs.Refusals.{number};
-ghost use Rattle.definitions.specs.Answers.{outcomeSays, figureSays, sizeSays, fileSays, spanSays, choiceSays};
+ghost use Rattle.definitions.specs.Answers.{outcomeSays, figureSays, sizeSays, fileSays, spanSays, choiceSays, valueAt};
 ghost use Rattle.definitions.specs.CaseFiles.{caseSize};
 ghost use Rattle.calls.specs.Calls.{upperBoundAnswer, objectiveAnswer};
 ghost use Rattle.definitions.specs.Views.{roundSpan};
@@ -27,8 +30,9 @@ ghost use Rattle.checker.specs.Checker.{standingSays, isVoid, blockReplay};
 ghost use Rattle.encoding.specs.CaseBytes.{caseIn};
 ghost use Rattle.encoding.specs.RecordBytes.{recordBytes};
 ghost use Rattle.encoding.specs.Version.{versionNumber};
-ghost use Rattle.checker_library.specs.Answers.{ceilingSizeOf, linesOf, totalOf, roundsOf, spanOf, choiceOf};
-ghost use Rattle.checker_library.specs.Calls.{caseAfter, readCall, startRecord, blockAnswer, replayCall, notRecord, notRecordAtEnd, endWith, endCall};
+ghost use Rattle.checker_library.specs.Answers.{ceilingSizeOf, linesOf, totalOf, roundsOf, spanOf, choiceOf, valueOf};
+ghost use Rattle.checker_library.specs.Calls.{caseAfter, readCall, valueCall, startRecord, blockAnswer, replayCall};
+ghost use Rattle.checker_library.specs.Calls.{notRecord, notRecordAtEnd, endWith, endCall};
 
 // What the head of a case file says, with the length of the table to lend.
 #[repr(C)]
@@ -75,6 +79,13 @@ pub struct CeilingSpan {
 pub struct CeilingChoice {
     pub number: u64,
     pub choice: u64,
+}
+
+// A channel of a link.
+#[repr(C)]
+pub struct CeilingValue {
+    pub number: u64,
+    pub value: usize,
 }
 
 // ---- answers as numbers
@@ -212,6 +223,22 @@ fn choice_of(choice: Choice) -> CeilingChoice
     }
 }
 
+fn value_of(figure: Figure) -> CeilingValue
+    requires { ⌜ ltZ (valueAt (figureSays figure) 0) (pos 0) ≡ false ⌝ }
+    ensures { λ r. ⌜ r ≡ valueOf (figureSays figure) ⌝ }
+{
+    match figure {
+        Figure::Value(value) => CeilingValue {
+            number: 0,
+            value: value as usize,
+        },
+        Figure::Refused(refusal) => CeilingValue {
+            number: number_of(refusal),
+            value: 0,
+        },
+    }
+}
+
 // ---- a case that was read
 
 // Its bytes, where it is not refused.
@@ -337,6 +364,23 @@ pub extern "C" fn ceiling_better_of(
         (now (first .entry)) (now (second .entry)))) ⌝ }
 {
     choice_of(plans::better_of(encoding::case_of(case), table, first, second))
+}
+
+// The lowest active channel of a link that is not refuted with all other scopes raised. Its largest family and the lowest partners are written
+// to the lent bytes; refused, they stay.
+#[no_mangle]
+pub extern "C" fn ceiling_supported_value(
+    case: &CaseArray,
+    table: &[i64],
+    link: usize,
+    family: &mut [u8],
+    partners: &mut [u8],
+) -> CeilingValue
+    ensures { λ r. ⌜ (r ≡ valueCall (now (case .entry)) (now (table .entry)) link (now (family .entry)) (now (partners .entry)) .answer)
+        × (now (family .exit) ≡ valueCall (now (case .entry)) (now (table .entry)) link (now (family .entry)) (now (partners .entry)) .family)
+        × (now (partners .exit) ≡ valueCall (now (case .entry)) (now (table .entry)) link (now (family .entry)) (now (partners .entry)) .partners) ⌝ }
+{
+    value_of(families::supported_value(encoding::case_of(case), table, link, family, partners))
 }
 
 #[no_mangle]

@@ -7,15 +7,15 @@ use mathlib.Core.List.{List, [], _∷_, map, List·Memᴰ·head, List·Memᴰ·t
 use Prim.Native.Nat.{ℕ, _+_, _<_}
 use native.Mathlib.Omega.{arith}
 use lib.IntN.{ℤ, pos}
-use lib.Dec.{T, T-not, not-T, ltb, nltb→le}
+use lib.Dec.{T, T-not, not-T, ltb, eqb, nltb→le}
 use lib.ListN.{getD, List·getD-eq-default}
-use Rattle.integers.specs.Words.{below, any, choices}
+use Rattle.integers.specs.Words.{below, any, choices, isIn}
 use Rattle.integers.specs.Tests.{tests, same-test, either}
-use Rattle.integers.specs.Lists.{_∈_, any-in, all-below, any-below, choices-tab}
+use Rattle.integers.specs.Lists.{_∈_, any-in, all-below, any-below, in-those, those-in, below-in, isIn-in, choices-tab}
 use Rattle.integers.specs.Tables.{length-tab, getD-tab}
 use Rattle.definitions.specs.declared.Case.{Case}
-use Rattle.definitions.specs.Case.{lowerEnd, upperEnd, scopeCount, ownLength, active}
-use Rattle.definitions.specs.Consistency.{Family, Supported, Refuted, allowed, supported, families, marks, refuted}
+use Rattle.definitions.specs.Case.{lowerEnd, upperEnd, scopes, scopeCount, ownLength, active}
+use Rattle.definitions.specs.Consistency.{Family, Supported, Refuted, allowed, supported, families, marks, refuted, others}
 use Rattle.definitions.proofs.CaseLaws.{active-same}
 
 -- ---- `supported` says what `Supported` says
@@ -98,6 +98,19 @@ module _ (c : Case) (w : List ℤ) (R : ℕ → Bool) (i k : ℕ) where
 
     pub refuted-sound : T (refuted c w R i k) → Refuted c w R i k
     refuted-sound t = record { none-exists = λ S s. refuted-tried .0 t (listed c S) (listed-in c S) (listed-supported S s) }
+
+  -- a value that is not refuted has a supported family
+  pub not-refuted : T (not (refuted c w R i k)) → (S : Family) × Supported c w R i k S
+  not-refuted t =
+      let (F, m, s) = any-in (λ F. supported c w R i k (marks F)) (families c) .0 (simp tests at t) in
+      (marks F, supported-holds c w R i k (marks F) s)
+
+-- ---- all other scopes
+
+pub others-in : (c : Case) (i x : ℕ) → x < scopeCount c → isIn (others c i) x ≡ not (eqb x i)
+others-in c i x h = same-test (isIn (others c i) x) (not (eqb x i))
+    (λ t. in-those (λ x. not (eqb x i)) (scopes c) (isIn-in (others c i) x .0 t) .1)
+    (λ t. isIn-in (others c i) x .1 (those-in (λ x. not (eqb x i)) (below-in h) t))
 
 -- ---- what counts
 

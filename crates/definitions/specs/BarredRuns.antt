@@ -6,18 +6,15 @@ use mathlib.Core.List.{List, [], _∷_, _++_}
 use Prim.Native.Nat.{ℕ}
 use lib.IntN.{ℤ, pos}
 use lib.ListN.{replicate}
-use Rattle.integers.specs.Words.{any, choices, joined, minus}
-use Rattle.definitions.specs.declared.Rulebook.the-variants.{Desk}
+use Rattle.integers.specs.Words.{joined, minus}
 use Rattle.definitions.specs.declared.Refusal.the-variants.{LeavesRange}
 use Rattle.definitions.specs.declared.RunAnswer.the-variants.{Settled, Limit, Void, Refused}
 use Rattle.definitions.specs.Rules.{standard}
-use Rattle.definitions.specs.Case.{isLawful}
 use Rattle.definitions.specs.Moves.{shift}
 use Rattle.definitions.specs.PairRounds.{someChoice, pairGain, gains, pairRound, passedOver}
 use Rattle.definitions.specs.Lines.{line, lineText}
-use Rattle.definitions.specs.Engine.{engineNext, pairsNext, pressesNext, run}
-use Rattle.definitions.specs.CaseFiles.{caseText}
-use Rattle.definitions.specs.Programs.{bytesOf, pressRun, pressPrints, replayPrints}
+use Rattle.definitions.specs.Engine.{engineNext, pairsNext, pressesNext}
+use Rattle.definitions.specs.Programs.{bytesOf}
 use Rattle.definitions.specs.Samples.{Input, given, couple, example2, zeros}
 use Rattle.definitions.specs.Borders.{_is_, Hold, W, l, pressed, ranBy}
 use Rattle.definitions.specs.BarredBorders.{B, locked, patchy, noPartner, voidLines}
@@ -33,12 +30,6 @@ strict = given 3 2 3 (0 ∷ 0 ∷ 1 ∷ []) (1 ∷ 2 ∷ 2 ∷ []) (zeros 6 ++ u
 
 abbrev fourStrict : Input
 fourStrict = given 4 2 3 (1 ∷ 1 ∷ 2 ∷ []) (2 ∷ 3 ∷ 3 ∷ []) (zeros 8 ++ unequal)
-
--- four links, three values, all pairs, equal values barred: no plan is lawful, and nothing is refuted
-abbrev coloured : Input
-coloured =
-    given 4 3 6 (0 ∷ 0 ∷ 0 ∷ 1 ∷ 1 ∷ 2 ∷ []) (1 ∷ 2 ∷ 3 ∷ 2 ∷ 3 ∷ 3 ∷ [])
-    (zeros 12 ++ joined (replicate 6 (B ∷ zeros 3 ++ (B ∷ zeros 3 ++ (B ∷ [])))))
 
 -- Three links. The pair (0,1) gains. In `late` a void line is possible after its round only, when all values of link 0 are active; in
 -- `waiting` before it too, and the other value of link 0 is barred.
@@ -77,7 +68,7 @@ chain links pair = given 3 2 2 (0 ∷ 1 ∷ []) (1 ∷ 2 ∷ []) (links ++ (pos 
 abbrev pub overNoChoice : Input
 overNoChoice = chain (pos 2 ∷ B ∷ pos 2 ∷ B ∷ []) (B ∷ zeros 3)
 
-abbrev overNotLower : Input
+abbrev pub overNotLower : Input
 overNotLower = chain (pos 0 ∷ B ∷ pos 0 ∷ B ∷ []) (pos 1 ∷ pos 1 ∷ pos 4 ∷ pos 4 ∷ [])
 
 -- a working table: the press would take the only value of link 0 below the range, and the round would raise the upper bound
@@ -119,7 +110,7 @@ pairs = (refl, refl, refl)
 
 -- ---- runs
 
-abbrev voidOf : ℕ → List ℕ → List ℕ
+abbrev pub voidOf : ℕ → List ℕ → List ℕ
 voidOf i scopes = joined (voidLines i scopes)
 
 -- the round of a pair that shifts value 0 of both ends by −2
@@ -227,24 +218,3 @@ pub gaps :
     ∷ ran (keptGap (pos 0) 3) 5 is (Settled, 1, keptGap (minus 2) 5 .weights, pressed (l 2 0 2 0 2) (1 ∷ 2 ∷ []) " 4   0   0   0           3\n")
     ∷ [])
 gaps = refl
-
--- settled, although no plan is lawful
-pub settled-without-plan :
-    let plans : List (List ℕ) = choices 4 (0 ∷ 1 ∷ 2 ∷ []) in
-    Hold (any (isLawful (coloured .case) (coloured .weights)) plans is false ∷ [])
-    × Hold (ranBy engineNext coloured 5 is (Settled, 0, coloured .weights, []) ∷ [])
-settled-without-plan = (refl, refl)
-
--- ---- programs: the void lines are the last that `press` prints, and `replay` takes them
-
-pub prints :
-    let file : Input → List ℕ = λ i. caseText standard (i .case) (i .weights) in
-    let press : Input → List ℕ = λ i. pressPrints Desk (file i) in
-    let replay : Input → List ℕ = λ i. replayPrints Desk (file i ++ press i) in
-    Hold
-    (press locked is voidOf 0 (1 ∷ 2 ∷ []) ∷ press late is (byTwos 0 2 ++ voidOf 0 (2 ∷ 4 ∷ []))
-    ∷ replay locked is bytesOf "void\n" ∷ replay late is bytesOf "void\n" ∷ replay overNoChoice is bytesOf "void\n"
-    ∷ replay patchy is bytesOf "accepted 2 4\n" ∷ replay overNotLower is bytesOf "accepted 2 1\n"
-    ∷ pressRun 10 (run standard engineNext (atBorder .case) 5 (atBorder .weights)) is bytesOf "refused 11 10\n"
-    ∷ [])
-prints = refl

@@ -6,9 +6,9 @@ use Prim.Native.Nat.{ℕ, _+_, _<_}
 use lib.IntN.{ℤ}
 use lib.Dec.{T, eqb}
 use lib.ListN.{getD}
-use Rattle.integers.specs.Words.{below, all, any, choices, _⇒_}
+use Rattle.integers.specs.Words.{below, all, any, those, choices, _⇒_}
 use Rattle.definitions.specs.declared.Case.{Case}
-use Rattle.definitions.specs.Case.{values, lowerEnd, upperEnd, active}
+use Rattle.definitions.specs.Case.{values, scopes, lowerEnd, upperEnd, active}
 
 -- a tuple is forbidden (closed) if it is inactive and its scope is raised; all others are allowed (open)
 abbrev pub forbidden : Case → List ℤ → (ℕ → Bool) → ℕ → ℕ → ℕ → Bool
@@ -19,6 +19,10 @@ allowed c w R x k l = not (forbidden c w R x k l)
 
 abbrev pub allowedOnEdge : Case → List ℤ → (ℕ → Bool) → ℕ → ℕ → ℕ → Bool
 allowedOnEdge c w R e k l = allowed c w R (c .n + e) k l
+
+-- all scopes but variable i's own
+abbrev pub others : Case → ℕ → List ℕ
+others c i = those (λ x. not (eqb x i)) (scopes c)
 
 -- a set of values for each variable: S j v says that v is in variable j's set
 abbrev pub Family : Type 0

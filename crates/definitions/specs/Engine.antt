@@ -1,29 +1,25 @@
 -- Document 01, "The engine's round", and its run, with pair rounds before presses (document 02, change 1) and void lines (change 2). Assumes
 -- nothing.
-use mathlib.Core.Bool.{not, _||_}
+use mathlib.Core.Bool.{_||_}
 use mathlib.Core.Option.{Option, none, some}
 use mathlib.Core.List.{List, [], _∷_, _++_, map}
 use Prim.Native.Nat.{ℕ, zero, suc, _+_, _*_, _<_}
 use lib.IntN.{ℤ, _-ℤ_}
-use lib.Dec.{T, eqb}
+use lib.Dec.{T}
 use Rattle.integers.specs.Words.{if_then_else_, below, isIn, those, first, joined, greatestOf, leastOf}
 use Rattle.definitions.specs.declared.Case.{Case}
 use Rattle.definitions.specs.declared.Refusal.{Refusal}
 use Rattle.definitions.specs.declared.Refusal.the-variants.{LeavesRange}
 use Rattle.definitions.specs.declared.RunAnswer.{RunAnswer}
 use Rattle.definitions.specs.Rules.{Rules}
-use Rattle.definitions.specs.Case.{scopes, scopeCount, eachTuple, weight, greatest, active, barred}
-use Rattle.definitions.specs.Consistency.{Family, Supported}
+use Rattle.definitions.specs.Case.{scopeCount, eachTuple, weight, greatest, active, barred}
+use Rattle.definitions.specs.Consistency.{Family, Supported, others}
 use Rattle.definitions.specs.Moves.{Move, activePress, activeRefuted, afterMoves}
 use Rattle.definitions.specs.PairRounds.{pairRound, lowestPair, PairsSettled}
 use Rattle.definitions.specs.Lines.{lineLength}
 use Rattle.definitions.specs.RoundLines.{roundText, voidText}
 
 -- ---- which press
-
--- all other scopes
-abbrev pub others : Case → ℕ → List ℕ
-others c i = those (λ x. not (eqb x i)) (scopes c)
 
 -- the lowest variable whose active values are all refuted with all other scopes raised
 abbrev pub chosen : Case → List ℤ → Option ℕ

@@ -1,4 +1,4 @@
--- Document 01 as definitions, in its order, with document 02's changes 1 (PairRounds) and 2 (barred tuples, void lines); Samples has P1 to P12.
+-- Document 01 as definitions, in its order, with document 02's changes 1 (PairRounds), 2 (barred tuples, void lines) and 3 (Families); Samples has P1 to P12.
 pub mod Rules
 pub mod Refusals
 pub mod Answers
@@ -13,6 +13,7 @@ pub mod Replay
 pub mod RoundLines
 pub mod PairRounds
 pub mod Engine
+pub mod Families
 pub mod Views
 pub mod Scoring
 pub mod Programs

@@ -1,15 +1,23 @@
--- Counts, and a checksum's next byte. Assumes nothing.
-use mathlib.Core.Path.{_≡_, refl}
+-- Counts, a checksum's next byte, and the lines of a case. Assumes nothing.
+use mathlib.Core.Path.{_≡_, refl, sym, ap}
 use mathlib.Core.Bool.{true, false}
-use mathlib.Core.List.{List}
-use Prim.Native.Nat.{ℕ, _+_, _*_, _%_, _<_, _≤_}
+use mathlib.Core.List.{List, [], _∷_}
+use Prim.Native.Nat.{ℕ, zero, suc, _+_, _*_, _%_, _<_, _≤_}
 use native.Mathlib.Numerals.{add-one}
+use native.Mathlib.Omega.{arith}
+use borrow.Author.Tests.{lt-ltb, le-ltb}
 use lib.IntN.{ℤ, pos, negsuc, natAbs}
 use lib.Signed.{ltZ}
-use lib.ListN.{length, drop, getD, drop-of-length-le}
+use lib.ListN.{length, drop, getD, set, drop-of-length-le}
 use lib.Seq.{drop-cons}
 use Rattle.integers.specs.Linear.{zs}
+use Rattle.definitions.specs.declared.Case.{Case}
+use Rattle.definitions.specs.declared.Line.{Line}
+use Rattle.definitions.specs.Lines.{isKind}
+use Rattle.definitions.specs.CaseFiles.{withEnds}
 use Rattle.drivers.specs.Drivers.{countOr, digestFrom}
+use Rattle.drivers.specs.declared.Held.{Held}
+use Rattle.drivers.specs.Taken.{headedBy, joinedBy, placesAfter, takenCall}
 
 pub count-below : (other : ℕ) (z : ℤ) → ltZ z (pos 0) ≡ true → countOr other z ≡ other
 count-below other (pos n) h = absurd (omega zs)
@@ -27,3 +35,39 @@ digest-next sum i bytes h = rw (add-one, drop-cons bytes i 0)
 pub digest-ends : (sum i : ℕ) (bytes : List ℕ) → length bytes ≤ i → digestFrom sum (drop i bytes) ≡ sum
 unfolding digestFrom
 digest-ends sum i bytes h = rw (drop-of-length-le bytes {i = i} h)
+
+-- ---- the next weight, and an edge for which a case has no place
+
+pub places-more : (places room : ℕ) → places < room → placesAfter places room ≡ places + 1
+places-more places room h = simp (lt-ltb _ _ h)
+
+pub places-full : (places room : ℕ) → room ≤ places → placesAfter places room ≡ places
+places-full places room h = simp (le-ltb _ _ h)
+
+-- a place past a list's end is not set
+pub set-past : {A : Type 0} (l : List A) (i : ℕ) (a : A) → length l ≤ i → set l i a ≡ l
+set-past [] i a h = refl
+set-past (x ∷ xs) zero a h = absurd (omega arith)
+set-past (x ∷ xs) (suc i) a h = ap (λ t. x ∷ t) (set-past xs i a (omega arith))
+
+pub ends-past : (c : Case) (e i j : ℕ) → length (c .lower) ≤ e → length (c .upper) ≤ e → withEnds c e i j ≡ c
+ends-past c e i j low high = rw (set-past (c .lower) e i low, set-past (c .upper) e j high) refl
+
+-- ---- a line taken, by its kind
+
+module _ (h : Held) (w : List ℤ) (l : Line) where
+  abbrev Takes : Held → List ℤ → Type 0
+  Takes held table = (held ≡ takenCall h w l .held) × (table ≡ takenCall h w l .table)
+
+  pub takes-head : {c : Case} → true ≡ isKind 10 l → c ≡ headedBy l → Takes (record { case = c; places = 0 }) w
+  unfolding takenCall
+  takes-head k e = rw (sym k, e) (refl, refl)
+
+  pub takes-ends : {c : Case} → false ≡ isKind 10 l → true ≡ isKind 12 l → c ≡ joinedBy (h .case) l → Takes (record { case = c; places = h .places }) w
+  unfolding takenCall
+  takes-ends n k e = rw (sym n, sym k, e) (refl, refl)
+
+  pub takes-weight : {places : ℕ} {table : List ℤ} → false ≡ isKind 10 l → false ≡ isKind 12 l → places ≡ placesAfter (h .places) (length w)
+      → table ≡ set w (h .places) (l .amount) → Takes (record { case = h .case; places = places }) table
+  unfolding takenCall
+  takes-weight n k p t = rw (sym n, sym k, p, t) (refl, refl)

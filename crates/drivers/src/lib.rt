@@ -1,21 +1,104 @@
-// What the programs that execute vectors share: numbers of their input, and what they print. A function that prints answers what it was
-// handed, or how many; no contract can say what is written.
+// What the programs that execute vectors share: numbers and cases of their input, and what they print. A function that prints answers what it
+// was handed, or how many; no contract can say what is written.
+use definitions::Case;
+use definitions::EDGE_PLACES;
 use definitions::Line;
 use definitions::LineRead;
 use definitions::Refusal;
+use definitions::Rulebook;
 use definitions::Written;
 ghost use mathlib.Core.Path.{_≡_};
 ghost use Prim.Native.Nat.{_<_, _%_, min};
-ghost use lib.ListN.{length};
+ghost use lib.ListN.{length, set};
 ghost use Rattle.definitions.specs.Refusals.{number};
 ghost use Rattle.definitions.specs.declared.Rulebook.the-variants.{Desk};
 ghost use Rattle.definitions.specs.Rules.{rulesIn};
 ghost use Rattle.calls.specs.Calls.{readLineAnswer};
+ghost use Rattle.definitions.specs.CaseFiles.{caseOf, withEnds};
 ghost use Rattle.drivers.specs.Drivers.{lineTold, countOr, digestFrom};
+ghost use Rattle.drivers.specs.Taken.{placesAfter, headedBy, joinedBy, nothingHeld, takenCall};
+
+// A case that is taken line by line, and how many weights of its table there are.
+pub struct Held {
+    pub case: Case,
+    pub places: usize,
+}
 
 fn print_first(text: &[u8], n: usize) {
     if n <= text.len() {
         io::write_all(1, &text[0..n]);
+    }
+}
+
+// ---- a line of a case
+
+fn count(z: i64) -> usize
+    ensures { λ r. ⌜ r ≡ countOr 0 z ⌝ }
+{
+    count_or(z, 0)
+}
+
+fn sized(n: usize, d: usize, m: usize) -> Case
+    ensures { λ r. ⌜ r ≡ caseOf Desk n d m ⌝ }
+{
+    Case {
+        n,
+        d,
+        m,
+        lower: [0; EDGE_PLACES],
+        upper: [0; EDGE_PLACES],
+        rulebook: Rulebook::Desk,
+    }
+}
+
+// Edge e joins i and j, if the case has a place for it.
+fn with_ends(case: Case, e: usize, i: u8, j: u8) -> Case
+    ensures { λ r. ⌜ r ≡ withEnds case e i j ⌝ }
+{
+    if EDGE_PLACES <= e {
+        return case;
+    }
+    let mut lower = case.lower;
+    let mut upper = case.upper;
+    let rulebook = case.rulebook;
+    lower[e] = i;
+    upper[e] = j;
+    Case {
+        n: case.n,
+        d: case.d,
+        m: case.m,
+        lower,
+        upper,
+        rulebook,
+    }
+}
+
+fn headed(line: Line) -> Case
+    ensures { λ r. ⌜ r ≡ headedBy line ⌝ }
+{
+    sized(count(line.a), count(line.b), count(line.c))
+}
+
+fn joined(case: Case, line: Line) -> Case
+    ensures { λ r. ⌜ r ≡ joinedBy case line ⌝ }
+{
+    with_ends(
+        case,
+        count(line.a),
+        byte(count(line.b)),
+        byte(count(line.c)),
+    )
+}
+
+// Puts a weight at the next place, if the table has one, and answers how many weights there are.
+fn put(table: &mut [i64], places: usize, z: i64) -> usize
+    ensures { λ r. ⌜ (r ≡ placesAfter places (length (now (table .entry)))) × (now (table .exit) ≡ set (now (table .entry)) places z) ⌝ }
+{
+    if places < table.len() {
+        table[places] = z;
+        places + 1
+    } else {
+        places
     }
 }
 
@@ -60,6 +143,41 @@ pub fn byte(n: usize) -> u8
     ensures { λ r. ⌜ r ≡ min n 255 ⌝ }
 {
     if 255 < n { 255 } else { n as u8 }
+}
+
+// No case yet.
+pub fn empty() -> Held
+    ensures { λ r. ⌜ r ≡ nothingHeld ⌝ }
+{
+    Held {
+        case: sized(0, 0, 0),
+        places: 0,
+    }
+}
+
+// Takes a line of a case as it stands: kind 10 is its head, kind 12 the ends of an edge, any other a weight, which goes to the next place of the
+// table. None of its numbers is asked.
+pub fn taken(held: Held, table: &mut [i64], line: Line) -> Held
+    ensures { λ r. ⌜ (r ≡ takenCall held (now (table .entry)) line .held) × (now (table .exit) ≡ takenCall held (now (table .entry)) line .table) ⌝ }
+{
+    let case = held.case;
+    let kind = line.kind;
+    if kind == 10 {
+        Held {
+            case: headed(line),
+            places: 0,
+        }
+    } else if kind == 12 {
+        Held {
+            case: joined(case, line),
+            places: held.places,
+        }
+    } else {
+        Held {
+            case,
+            places: put(table, held.places, line.amount),
+        }
+    }
 }
 
 // A checksum that goes on from an earlier one.
@@ -120,6 +238,18 @@ pub fn print_numbers(numbers: &[i64]) -> usize
     let mut i: usize = 0;
     while i < numbers.len() {
         print_number(numbers[i]);
+        i += 1;
+    }
+    i
+}
+
+// Prints the number of each byte after a space, and answers how many.
+pub fn print_bytes(bytes: &[u8]) -> usize
+    ensures { λ r. ⌜ r ≡ length (now (bytes .entry)) ⌝ }
+{
+    let mut i: usize = 0;
+    while i < bytes.len() {
+        print_count(integers::wide(bytes[i]));
         i += 1;
     }
     i

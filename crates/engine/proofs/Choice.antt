@@ -12,13 +12,15 @@ use lib.Dec.{eqb, eqb→eq}
 use lib.ListN.{length, getD, set, take}
 use lib.Seq.{length-take-le}
 use Rattle.integers.specs.Words.{below, those, first, isIn}
-use Rattle.integers.specs.Tests.{either, is-true, is-false, same-test, not-eqb-iff}
-use Rattle.integers.specs.Lists.{those-same, in-those, those-in, below-in, isIn-in, first-least}
+use Rattle.integers.specs.Tests.{either, is-true, is-false, not-eqb-iff}
+use Rattle.integers.specs.Lists.{those-same, first-least}
 use Rattle.definitions.specs.declared.Case.{Case}
 use Rattle.definitions.specs.Rules.{edgePlaces}
-use Rattle.definitions.specs.Case.{scopes, scopeCount}
+use Rattle.definitions.specs.Case.{scopeCount}
 use Rattle.definitions.specs.Moves.{activeRefuted}
-use Rattle.definitions.specs.Engine.{others, chosen}
+use Rattle.definitions.specs.Consistency.{others}
+use Rattle.definitions.specs.Engine.{chosen}
+use Rattle.definitions.proofs.Refutation.{others-in}
 use Rattle.calls.specs.Calls.{isRaised}
 use Rattle.theory.proofs.Shape.{Shape}
 use Rattle.press_theory.proofs.Raised.{own-scope}
@@ -42,19 +44,14 @@ chosen-says c w none e = e
 chosen-says c w (some i) e = e
 
 module _ (c : Case) (w : List ℤ) where
-  others-in : (i y : ℕ) → y < scopeCount c → isIn (others c i) y ≡ not (eqb y i)
-  others-in i y h = same-test (isIn (others c i) y) (not (eqb y i))
-      (λ t. in-those (λ y. not (eqb y i)) (scopes c) (isIn-in (others c i) y .0 t) .1)
-      (λ t. isIn-in (others c i) y .1 (those-in (λ y. not (eqb y i)) (below-in h) t))
-
   -- all other scopes raised
   pub others-refuted : (i : ℕ) (raised : List ℕ) → OthersRaised c i raised → refutesIn c w i raised ≡ activeRefuted c w i (others c i)
-  others-refuted i raised o = refutes-alike c w (λ y h. o y h ∙ sym (others-in i y h)) i
+  others-refuted i raised o = refutes-alike c w (λ y h. o y h ∙ sym (others-in c i y h)) i
 
   -- all scopes raised
   all-refuted : Shape c → (raised : List ℕ) → AllRaised c raised → (i : ℕ) → i < c .n → refutesIn c w i raised ≡ activeRefuted c w i (others c i)
   all-refuted shape raised all i h =
-      own-scope c w i h shape (isRaised raised) (isIn (others c i)) (λ x g ne. all x g ∙ sym (others-in i x g ∙ ap not (ne-eqb x i ne)))
+      own-scope c w i h shape (isRaised raised) (isIn (others c i)) (λ x g ne. all x g ∙ sym (others-in c i x g ∙ ap not (ne-eqb x i ne)))
 
   pub lowest-chosen : {acts rows : List ℕ} (raised sets : List ℕ) → Prepared c w acts rows → AllRaised c raised
       → ((j : ℕ) → j < c .n → getD sets j 0 ≡ getD acts j 0)

@@ -7,18 +7,11 @@
 // The file `stdout` was worked out from documents 01 and 02 by a small engine of its own; the peer writes the same log of each case that a case file can
 // hold. The largest case's log is the peer's.
 use definitions::Case;
-use definitions::EDGE_PLACES;
 use definitions::Line;
 use definitions::Round;
-use definitions::Rulebook;
 use definitions::Run;
 use definitions::RunAnswer;
-
-// A case, and how many weights of its table there are.
-struct Held {
-    case: Case,
-    places: usize,
-}
+use drivers::Held;
 
 // A checksum of the lines of all rounds so far, and the bound after the last.
 struct Log {
@@ -132,50 +125,11 @@ fn rounds(case: Case, table: &mut [i64], out: &mut [u8], most: u64) {
     print_log(log);
 }
 
-// ---- a case, line by line
+// ---- the vectors
 
 fn count(z: i64) -> usize {
     drivers::count_or(z, 0)
 }
-
-fn head(n: usize, d: usize, m: usize) -> Case {
-    Case {
-        n: n,
-        d: d,
-        m: m,
-        lower: [0; EDGE_PLACES],
-        upper: [0; EDGE_PLACES],
-        rulebook: Rulebook::Desk,
-    }
-}
-
-fn joined(case: Case, e: usize, i: u8, j: u8) -> Case {
-    let mut lower = case.lower;
-    let mut upper = case.upper;
-    if e < EDGE_PLACES {
-        lower[e] = i;
-        upper[e] = j;
-    }
-    Case {
-        n: case.n,
-        d: case.d,
-        m: case.m,
-        lower: lower,
-        upper: upper,
-        rulebook: Rulebook::Desk,
-    }
-}
-
-fn put(table: &mut [i64], places: usize, z: i64) -> usize {
-    if places < table.len() {
-        table[places] = z;
-        places + 1
-    } else {
-        places
-    }
-}
-
-// ---- the vectors
 
 fn weights(table: &[i64], n: usize) {
     drivers::print(b"weights");
@@ -222,52 +176,19 @@ fn execute(held: Held, table: &mut [i64], line: Line) {
     }
 }
 
-// Kinds 10 to 13.
-fn taken(held: Held, table: &mut [i64], line: Line) -> Held {
-    let case = held.case;
-    if line.kind == 10 {
-        Held {
-            case: head(count(line.a), count(line.b), count(line.c)),
-            places: 0,
-        }
-    } else if line.kind == 12 {
-        Held {
-            case: joined(
-                case,
-                count(line.a),
-                drivers::byte(count(line.b)),
-                drivers::byte(count(line.c)),
-            ),
-            places: held.places,
-        }
-    } else {
-        Held {
-            case: case,
-            places: put(table, held.places, line.amount),
-        }
-    }
-}
-
 fn step(held: Held, table: &mut [i64], line: Line) -> Held {
     if line.kind < 10 {
         held
     } else if line.kind < 20 {
-        taken(held, table, line)
+        drivers::taken(held, table, line)
     } else {
         execute(held, table, line);
         held
     }
 }
 
-fn empty() -> Held {
-    Held {
-        case: head(0, 0, 0),
-        places: 0,
-    }
-}
-
 fn vectors(input: &[u8], table: &mut [i64]) {
-    let mut held = empty();
+    let mut held = drivers::empty();
     let mut at: usize = 0;
     while 27 <= input.len() - at {
         let to = at + 27;

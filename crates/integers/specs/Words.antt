@@ -2,7 +2,7 @@
 use mathlib.Core.Bool.{Bool, true, false, _&&_, _||_}
 use mathlib.Core.Option.{Option, none, some}
 use mathlib.Core.List.{List, [], _∷_, _++_, map}
-use Prim.Native.Nat.{ℕ, zero, suc}
+use Prim.Native.Nat.{ℕ, zero, suc, _+_, _*_}
 use lib.IntN.{ℤ, pos, negsuc, negℤ, _+ℤ_}
 use lib.Dec.{leb, eqb}
 use lib.Signed.{leZ}
@@ -81,6 +81,11 @@ choices (suc n) xs = joined (map (λ x. map (λ r. x ∷ r) (choices n xs)) xs)
 
 abbrev pub isIn : List ℕ → ℕ → Bool
 isIn xs x = any (λ y. eqb y x) xs
+
+-- the number whose n lowest bits say where f passes
+unfoldable pub bitsOf : ℕ → (ℕ → Bool) → ℕ
+bitsOf zero f = 0
+bitsOf (suc n) f = (if f 0 then 1 else 0) + 2 * bitsOf n (λ k. f (suc k))
 
 -- ---- whole numbers
 

@@ -6,15 +6,15 @@ use Prim.Native.Nat.{ℕ, zero, suc, _+_, _-_, _*_, _/_, _%_, _^_, _<_, _≤_}
 use native.Mathlib.Nat.{div-eq-of-lt, div-div-eq-div-mul, div-one, pow-succ', lt-of-lt-of-le}
 use native.Mathlib.Omega.{arith}
 use lib.Dec.{T, T-not, ltb, eqb, eqb→eq, ltb→lt, lt→ltb, nltb→le}
-use borrow.Author.Tests.{ne-eqb}
+use borrow.Author.Tests.{lt-ltb, le-ltb, ne-eqb}
 use lib.Bits.{bitAnd, bitOr, and-shr, and-mod, and-lt}
 use lib.Count.{ones, onesIn, trailingZeros}
 use lib.ListN.{length}
 use lib.Pow.{pow-mono, pow-pos}
-use Rattle.integers.specs.Words.{if_then_else_, below, all, _⇒_}
-use Rattle.integers.specs.Tests.{either, is-true, eqb-iff, and-left, and-right, imp-elim, if-cases}
+use Rattle.integers.specs.Words.{if_then_else_, below, all, _⇒_, bitsOf}
+use Rattle.integers.specs.Tests.{either, is-true, eqb-iff, and-left, and-right, imp-elim, if-cases, same-test}
 use Rattle.integers.specs.Lists.{all-at}
-use Rattle.marks.specs.Marks.{mark, bitsOf, byteOf, members, lowestOf, isSingle, without, added, pushed, onlyOf, fullOf, inBoth}
+use Rattle.marks.specs.Marks.{mark, byteOf, members, lowestOf, isSingle, without, added, pushed, onlyOf, fullOf, inBoth}
 
 -- ---- the lowest mark, and the others
 mark-first : (s : ℕ) → mark s 0 ≡ eqb (s % 2) 1
@@ -54,6 +54,24 @@ unfolding bitsOf
 bits-cong zero h = refl
 bits-cong (suc n) h = ap₂ (λ (b : Bool) (x : ℕ). (if b then 1 else 0) + 2 * x) (h 0 (omega arith)) (bits-cong n (λ k l. h (suc k) (omega arith)))
 
+-- the bits of a set of values below d
+bits-none : (n : ℕ) (f : ℕ → Bool) → ((k : ℕ) → k < n → f k ≡ false) → bitsOf n f ≡ 0
+unfolding bitsOf
+bits-none zero f h = refl
+bits-none (suc n) f h = ap₂ (λ (b : Bool) (x : ℕ). (if b then 1 else 0) + 2 * x) (h 0 (omega arith)) (bits-none n (λ k. f (suc k)) (λ k l. h (suc k) (omega arith)))
+
+bits-below : (d n : ℕ) (f : ℕ → Bool) → d ≤ n → bitsOf d f ≡ bitsOf n (λ k. ltb k d && f k)
+unfolding bitsOf
+bits-below zero n f h = sym (bits-none n (λ k. ltb k 0 && f k) (λ k l. ap (λ (b : Bool). b && f k) (le-ltb k 0 (omega arith))))
+bits-below (suc d) zero f h = absurd (omega arith)
+bits-below (suc d) (suc n) f h =
+    ap₂ (λ (b : Bool) (x : ℕ). (if b then 1 else 0) + 2 * x) (sym (ap (λ (b : Bool). b && f 0) (lt-ltb 0 (suc d) (omega arith))))
+    (bits-below d n (λ k. f (suc k)) (omega arith) ∙ bits-cong n (λ k l. ap (λ (b : Bool). b && f (suc k)) (less k)))
+  where
+    less : (k : ℕ) → ltb k d ≡ ltb (suc k) (suc d)
+    less k = same-test (ltb k d) (ltb (suc k) (suc d)) (λ t. lt→ltb (suc k) (suc d) (let l = ltb→lt k d t in omega arith))
+        (λ t. lt→ltb k d (let l = ltb→lt (suc k) (suc d) t in omega arith))
+
 bits-mono : (f g : ℕ → Bool) (n : ℕ) → ((k : ℕ) → k < n → T (f k) → T (g k)) → bitsOf n f ≤ bitsOf n g
 unfolding bitsOf
 bits-mono f g zero h = omega arith
@@ -88,6 +106,10 @@ byte-small f = bits-lt 8 f
 pub mark-byteOf : (f : ℕ → Bool) (k : ℕ) → k < 8 → mark (byteOf f) k ≡ f k
 unfolding byteOf
 mark-byteOf f k h = mark-bitsOf 8 f k h
+
+pub bits-byte : (d : ℕ) (f : ℕ → Bool) → d ≤ 8 → bitsOf d f ≡ byteOf (λ k. ltb k d && f k)
+unfolding byteOf
+bits-byte d f h = bits-below d 8 f h
 
 pub byteOf-mark : (s : ℕ) → s < 256 → byteOf (mark s) ≡ s
 unfolding byteOf

@@ -2,19 +2,14 @@
 use mathlib.Core.Bool.{Bool, not, _&&_, _||_}
 use mathlib.Core.Option.{none, some}
 use mathlib.Core.List.{List}
-use Prim.Native.Nat.{ℕ, zero, suc, _+_, _*_, _-_, _/_, _%_, _^_}
+use Prim.Native.Nat.{ℕ, _-_, _/_, _%_, _^_}
 use lib.Dec.{ltb, eqb}
 use lib.ListN.{length}
-use Rattle.integers.specs.Words.{if_then_else_, below, those, first}
+use Rattle.integers.specs.Words.{if_then_else_, below, those, first, bitsOf}
 
 -- value k is in the set s
 unfoldable pub mark : ℕ → ℕ → Bool
 mark s k = eqb (s / 2 ^ k % 2) 1
-
--- the number whose n lowest bits say where f passes
-unfoldable pub bitsOf : ℕ → (ℕ → Bool) → ℕ
-bitsOf zero f = 0
-bitsOf (suc n) f = (if f 0 then 1 else 0) + 2 * bitsOf n (λ k. f (suc k))
 
 -- the set of the values below 8 at which f passes
 unfoldable pub byteOf : (ℕ → Bool) → ℕ

@@ -1,2 +1,3 @@
 -- Laws of supported families, of the largest one, and of the network of a case.
 pub mod Networks
+pub mod Families

@@ -201,6 +201,21 @@ module _ (N : Network) (G : Family) where
         any-in (holdsAt j v) (familiesOf N) .1
         (listed N S, listed-in N S, and-intro (holds (listed N S)) (marks (listed N S) j v) (listed-holds p) (rw (marks-listed N S j v h g) at s))
 
+    -- all supported families together are supported, if there is one
+    pub largest-supported : {S : Family} → SupportedIn N G S → SupportedIn N G (largest N G)
+    largest-supported p = record {
+      non-empty = λ j h. let (v, g, s) = p .non-empty j h in (v, g, in-largest p j v h g s);
+      inside = λ j v h g t. let (F, q, f) = largest-in j v t in q .inside j v h g f;
+      partner-above = λ e v h g t.
+          let (F, q, f) = largest-in (N .lower e) v t in
+          let (u, l, r, a) = q .partner-above e v h g f in
+          (u, l, in-largest q (N .upper e) u (ends e h .1) l r, a);
+      partner-below = λ e u h g t.
+          let (F, q, f) = largest-in (N .upper e) u t in
+          let (v, l, r, a) = q .partner-below e u h g f in
+          (v, l, in-largest q (N .lower e) v (ends e h .0) l r, a);
+    }
+
     -- a supported family that holds every supported family
     pub closed-is-largest : {F : Family} → SupportedIn N G F → ((S : Family) → SupportedIn N G S → Within N S F)
         → (j v : ℕ) → j < N .variables → v < N .values → F j v ≡ largest N G j v

@@ -10,15 +10,15 @@ use lib.IntN.{ℤ}
 use lib.Dec.{ltb, eqb, ltb→lt, nltb→le}
 use lib.ListN.{getD}
 use borrow.Author.Count.{below-more}
-use borrow.Author.Tests.{eqb-true, eq-eqb, ne-eqb, not-true, not-false}
+use borrow.Author.Tests.{eqb-true, not-true, not-false}
 use Rattle.integers.specs.Tests.{is-true, either}
 use Rattle.integers.specs.Lists.{any-same}
 use Rattle.definitions.specs.declared.Case.{Case}
 use Rattle.definitions.specs.Rules.{Rules}
 use Rattle.marks.specs.Marks.{mark, lowestOf, without, inBoth}
 use Rattle.marks.proofs.Laws.{mark-zero, lowest-small, lowest-marked}
-use Rattle.arcs.specs.Partners.{isPartner, hasPartner}
-use Rattle.arcs.proofs.Search.{mark-without, marks-none}
+use Rattle.arcs.specs.Partners.{hasPartner, isNothing}
+use Rattle.arcs.proofs.Search.{mark-without, none-common, least-common, nothing-found}
 use Rattle.tables.proofs.Search.{found, not-found, and-next}
 use Rattle.pair_choice.specs.PairChoice.{hasChoice, activeChoice, takesRound, takesPair}
 
@@ -30,14 +30,14 @@ module _ (rows : List ℕ) (at other : ℕ) where
 
   -- what the row of value k and the other set have in common
   module _ (k both : ℕ) (e : both ≡ inBoth (getD rows (at + k) 0) other) where
-    fits-by : not (fits k) ≡ eqb both 0
-    fits-by = sym (ap (λ (s : ℕ). eqb s 0) e ∙ marks-none (isPartner (getD rows (at + k) 0) other))
+    abbrev row : ℕ
+    row = getD rows (at + k) 0
 
     pub no-partner : both ≡ 0 → fits k ≡ false
-    no-partner z = not-true (fits k) (fits-by ∙ eq-eqb both 0 z)
+    no-partner z = not-true (fits k) (sym (nothing-found row other) ∙ ap isNothing (sym (none-common row other both e z)))
 
     pub a-partner : (both ≡ 0 → ⊥) → fits k ≡ true
-    a-partner ne = not-false (fits k) (fits-by ∙ ne-eqb both 0 ne)
+    a-partner ne = not-false (fits k) (sym (nothing-found row other) ∙ ap isNothing (sym (least-common row other both e ne (lowestOf both) refl)))
 
   pub no-choice : false ≡ hasChoice rows at 0 other
   unfolding hasChoice

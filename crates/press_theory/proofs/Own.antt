@@ -13,7 +13,8 @@ use Rattle.integers.specs.Lists.{_∈_, those-same, map-cong}
 use Rattle.definitions.specs.declared.Case.{Case}
 use Rattle.definitions.specs.Case.{ownLength, scopeCount, isBarred}
 use Rattle.definitions.specs.Moves.{activeRefuted}
-use Rattle.definitions.specs.Engine.{NoPress, others, chosen, trimmed, keptScopes, gap, gapAbove, leastGap}
+use Rattle.definitions.specs.Consistency.{others}
+use Rattle.definitions.specs.Engine.{NoPress, chosen, trimmed, keptScopes, gap, gapAbove, leastGap}
 use Rattle.definitions.proofs.CaseLaws.{eachTuple-same, weight-same, greatest-same, active-same}
 use Rattle.theory.proofs.Shape.{Shape}
 use Rattle.theory.proofs.Own.{activeRefuted-same}

@@ -15,15 +15,15 @@ use lib.Dec.{T, T-not, not-T, ltb, ltb→lt, eqb}
 use lib.ListN.{length, length-append}
 use Rattle.integers.specs.Words.{from, below, all, any, those, first, isIn, _⇒_}
 use Rattle.integers.specs.Tests.{tests, either, and-intro, and-left, and-right, if-false, if-cases}
-use Rattle.integers.specs.Lists.{_∈_, any-in, all-at, all-of, any-at, any-of, in-those, those-in}
+use Rattle.integers.specs.Lists.{_∈_, all-at, all-of, any-at, any-of, in-those, those-in}
 use Rattle.integers.specs.Lists.{isIn-in, those-none, first-none, first-least, in-below, below-in, length-from}
 use Rattle.definitions.specs.declared.Case.{Case}
 use Rattle.definitions.specs.Case.{scopes, scopeCount, lowerEnd, upperEnd, active}
 use Rattle.calls.specs.Calls.{isRising}
-use Rattle.definitions.specs.Consistency.{Family, Supported, allowed, supported, families, marks, refuted}
-use Rattle.definitions.specs.Engine.{others, chosen, NoPress, trimmed, keptScopes}
+use Rattle.definitions.specs.Consistency.{Family, Supported, allowed, refuted, others}
+use Rattle.definitions.specs.Engine.{chosen, NoPress, trimmed, keptScopes}
 use Rattle.definitions.specs.Moves.{activeRefuted}
-use Rattle.definitions.proofs.Refutation.{supported-holds, refuted-sound}
+use Rattle.definitions.proofs.Refutation.{refuted-sound, not-refuted}
 use Rattle.theory.proofs.Shape.{Shape}
 use Rattle.press_theory.proofs.Raised.{refuted-more}
 use Rattle.theory.proofs.Places.{IsTuple, variable-tuple, edge-tuple, some-active-value}
@@ -43,11 +43,6 @@ not-imp false b t = absurd t
 -- ---- values that are not refuted
 
 module _ (c : Case) (w : List ℤ) (R : ℕ → Bool) (i k : ℕ) where
-  pub not-refuted : T (not (refuted c w R i k)) → (S : Family) × Supported c w R i k S
-  not-refuted t =
-      let (F, m, s) = any-in (λ F. supported c w R i k (marks F)) (families c) .0 (simp tests at t) in
-      (marks F, supported-holds c w R i k (marks F) s)
-
   -- where nothing is forbidden, {k} for i and all values for the others
   pub all-open : k < c .d → ((x a b : ℕ) → IsTuple c x a b → T (allowed c w R x a b)) → (S : Family) × Supported c w R i k S
   all-open h free = (

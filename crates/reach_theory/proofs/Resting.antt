@@ -15,9 +15,9 @@ use Rattle.definitions.specs.declared.Case.{Case}
 use Rattle.definitions.specs.Rules.{Rules, Coherent}
 use Rattle.definitions.specs.Case.{scopeCount, lowerEnd, upperEnd, active}
 use Rattle.definitions.specs.Valid.{workingWeight}
-use Rattle.definitions.specs.Consistency.{allowed}
+use Rattle.definitions.specs.Consistency.{allowed, others}
 use Rattle.definitions.specs.PairRounds.{gains, passedOver}
-use Rattle.definitions.specs.Engine.{others, NoPress, Settled}
+use Rattle.definitions.specs.Engine.{NoPress, Settled}
 use Rattle.theory.proofs.Validity.{Handed}
 use Rattle.pair_theory.proofs.Gains.{taken-choice, gains-iff, active-no-gain}
 

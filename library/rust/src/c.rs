@@ -42,6 +42,12 @@ pub struct Choice {
     pub choice: u64,
 }
 
+#[repr(C)]
+pub struct Value {
+    pub number: u64,
+    pub value: usize,
+}
+
 extern "C" {
     pub fn ceiling_version() -> u64;
     pub fn ceiling_case_size(text: *const u8, n: usize) -> Size;
@@ -57,6 +63,16 @@ extern "C" {
         second: *const u8,
         s: usize,
     ) -> Choice;
+    pub fn ceiling_supported_value(
+        case: *const u8,
+        table: *const i64,
+        t: usize,
+        link: usize,
+        family: *mut u8,
+        f: usize,
+        partners: *mut u8,
+        p: usize,
+    ) -> Value;
     pub fn ceiling_replay_start(case: *const u8, table: *const i64, t: usize, record: *mut u8) -> u64;
     pub fn ceiling_replay_lines(
         case: *const u8,

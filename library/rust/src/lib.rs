@@ -66,6 +66,12 @@ pub const LINE: usize = 27;
 /// What a table holds where a channel, or a pair of channels, is barred.
 pub const BARRED: i64 = -2_000_000_000;
 
+/// What stands in place of a partner where the channel is outside the family.
+pub const OUTSIDE: u8 = 255;
+
+/// Room for the partners of any case.
+pub const PARTNERS: usize = 2 * PAIRS * CHANNELS;
+
 /// The bytes of a case.
 pub const CASE: usize = 24 + 2 * PAIRS;
 
@@ -196,6 +202,45 @@ impl Case {
             c::ceiling_better_of(self.0.as_ptr(), table.as_ptr(), table.len(), a.as_ptr(), a.len(), b.as_ptr(), b.len())
         };
         answer(r.number, 0, if r.choice == 0 { first } else { second })
+    }
+
+    /// Why a channel was kept: the lowest active channel of the link that is not refuted with all other scopes raised. Active are the channels
+    /// with the link's greatest weight. The channel's largest family is written to `family`, a byte for each link, bit k for channel k; the lowest
+    /// partner of each of the family's channels to `partners`, the byte at (2 · pair + end) · channels + channel, [`OUTSIDE`] where the channel is
+    /// outside its link's set.
+    ///
+    /// `family` needs a byte for each link, `partners` 2 · pairs · channels ([`PARTNERS`] is enough), or the number is 4; bytes past these are left
+    /// as they are. A link that is not there is number 5. So is, asked last of all, a link without such a channel: all its active channels are
+    /// refuted, and a press or a void line of it is left. Refused, nothing is written.
+    ///
+    /// ```
+    /// use ceiling::{read_case, OUTSIDE};
+    ///
+    /// let text = b"\
+    /// 10   2   2   1           0
+    /// 11   0   0   0           3
+    /// 11   0   1   0           4
+    /// 11   1   0   0           6
+    /// 11   1   1   0           2
+    /// 12   0   0   1           0
+    /// 13   0   0   0          -2
+    /// 13   0   0   1          -4
+    /// 13   0   1   0           1
+    /// 13   0   1   1           1
+    /// ";
+    /// let (case, table) = read_case(text)?;
+    /// let (mut family, mut partners) = ([0; 2], [0; 4]);
+    /// assert_eq!(case.supported_value(&table, 0, &mut family, &mut partners)?, 1);
+    /// assert_eq!(family, [0b10, 0b01]); // channel 1 of link 0 with channel 0 of link 1
+    /// assert_eq!(partners, [OUTSIDE, 0, 1, OUTSIDE]);
+    /// assert_eq!(case.supported_value(&table, 2, &mut family, &mut partners).unwrap_err().number, 5);
+    /// # Ok::<(), ceiling::Refused>(())
+    /// ```
+    pub fn supported_value(&self, table: &[i64], link: usize, family: &mut [u8], partners: &mut [u8]) -> Result<usize, Refused> {
+        let (f, p) = (family.len(), partners.len());
+        let (family, partners) = (family.as_mut_ptr(), partners.as_mut_ptr());
+        let r = unsafe { c::ceiling_supported_value(self.0.as_ptr(), table.as_ptr(), table.len(), link, family, f, partners, p) };
+        answer(r.number, 0, r.value)
     }
 }
 

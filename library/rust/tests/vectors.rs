@@ -1,10 +1,10 @@
 //! Calls every function of the Rust wrapper on accepted and on refused input and compares answers and everything lent with what document 01
-//! says, and document 02 of pair rounds and barred channels. Each call is a test: a line for each that failed, the count as the last line.
+//! says, and document 02 of pair rounds, barred channels and partners. Each call is a test: a line for each that failed, the count as the last line.
 //! vectors.c has more rows; here the wrapper is tried. A case's table of the wrong length (number 4) cannot be handed to `read_case`, which makes
 //! the table itself.
 
 use ceiling::{case_size, engine_version, read_case, version, view, Case, End, Ending, Refused, Replay, Round, Run, Size};
-use ceiling::{BARRED, CASE, CHANNELS, LINE, LINKS, PAIRS, RECORD, ROOM};
+use ceiling::{BARRED, CASE, CHANNELS, LINE, LINKS, OUTSIDE, PAIRS, PARTNERS, RECORD, ROOM};
 
 const STARTING: i64 = 1_000_000;
 const WORKING: i64 = 500_000_000;
@@ -64,6 +64,21 @@ fn p10() -> Sample {
     sample(2, 2, &[[0, 1]], &[3, 4, 6, 2, -2, -4, 1, 1])
 }
 
+/// P1 after its round.
+fn round_1() -> Sample {
+    sample(3, 2, &[[0, 1], [0, 2], [1, 2]], &[&[-1; 2][..], &[0; 16]].concat())
+}
+
+/// Channel 0 of link 1 is not among the best across pair 1.
+fn chain() -> Sample {
+    sample(3, 2, &[[0, 1], [1, 2]], &[&[0; 10][..], &[-1, -1, 0, 0]].concat())
+}
+
+/// One link and no pairs.
+fn p11() -> Sample {
+    sample(1, 1, &[], &[-7])
+}
+
 /// A pair round, and then a press.
 fn two() -> Sample {
     sample(3, 2, &[[0, 1], [1, 2]], &[0, 0, 1, 0, -1, 0, -2, 0, -2, -1, 0, 0, 0, -1])
@@ -80,6 +95,11 @@ fn no_plan() -> Sample {
 
 fn a_plan() -> Sample {
     sample(2, 2, &[[0, 1]], &A_PLAN)
+}
+
+/// Link 1's channel 0 is active and refuted: it goes with a barred channel of link 0 alone.
+fn passed() -> Sample {
+    sample(2, 2, &[[0, 1]], &[0, BARRED, 0, 0, BARRED, 0, 0, 0])
 }
 
 /// No lawful plan, which shows after two presses.
@@ -235,6 +255,63 @@ fn barred(count: &mut Count) {
         count.test("start", name, matches!(Replay::start(&case, &table), Err(r) if r == Refused { number, line: 0 }));
         let answer = Replay::from_bytes([0; RECORD]).lines(&case, &mut table, &lines(&[[1, 0, 0, 0, 1]]));
         count.test("lines", name, answer == refused(number, 0));
+    }
+}
+
+/// What a link keeps, with bytes past the family and the partners or without; nothing is written where the call is refused.
+type KeptRow = (&'static str, Sample, usize, Result<usize, Refused>, &'static [u8], &'static [u8]);
+
+fn keeping(count: &mut Count, row: &KeptRow, room: [usize; 2], answer: Result<usize, Refused>) {
+    let (name, s, link, _, family, partners) = row;
+    let (mut f, mut p) = (vec![0xa5; room[0]], vec![0xa5; room[1]]);
+    let good = s.case().supported_value(&s.table, *link, &mut f, &mut p) == answer;
+    let wrote = |out: &[u8], bytes: &[u8]| out.starts_with(bytes) && out[bytes.len()..].iter().all(|&byte| byte == 0xa5);
+    let (family, partners) = if answer.is_ok() { (*family, *partners) } else { (&[][..], &[][..]) };
+    count.test("supported_value", name, good && wrote(&f, family) && wrote(&p, partners));
+}
+
+fn kept(count: &mut Count) {
+    const NOT: u8 = OUTSIDE;
+    let rows: [KeptRow; 14] = [
+        ("P1, all refuted", p1(), 0, refused(5, 0), &[], &[]),
+        ("P1, all refuted, link 2", p1(), 2, refused(5, 0), &[], &[]),
+        ("P1 after its round", round_1(), 0, Ok(0), &[1, 3, 3], &[0, NOT, 0, 0, 0, NOT, 0, 0, 0, 0, 0, 0]),
+        ("P1 after its round, link 2", round_1(), 2, Ok(0), &[3, 3, 1], &[0, 0, 0, 0, 0, 0, 0, NOT, 0, 0, 0, NOT]),
+        ("P1 after its round, no such link", round_1(), 3, refused(5, 0), &[], &[]),
+        ("a chain", chain(), 0, Ok(0), &[1, 2, 3], &[1, NOT, NOT, 0, NOT, 0, 1, 1]),
+        ("a chain, the lowest refuted", chain(), 1, Ok(1), &[3, 2, 3], &[1, 1, NOT, 0, NOT, 0, 1, 1]),
+        ("P4, a press is left", p4(), 0, refused(5, 0), &[], &[]),
+        ("P10, the lowest not active", p10(), 0, Ok(1), &[2, 1], &[NOT, 0, 1, NOT]),
+        ("one link", p11(), 0, Ok(0), &[1], &[]),
+        ("barred channels", passed(), 0, Ok(0), &[1, 2], &[1, NOT, NOT, 0]),
+        ("barred channels, the lowest refuted", passed(), 1, Ok(1), &[1, 2], &[1, NOT, NOT, 0]),
+        ("a void line is left", no_plan(), 0, refused(5, 0), &[], &[]),
+        ("the last number", p10(), usize::MAX, refused(5, 0), &[], &[]),
+    ];
+    for row in &rows {
+        let (n, p) = (row.1.n as usize, 2 * row.1.pairs.len() * row.1.d as usize);
+        for room in [[n, p], [n + 1, p], [LINKS, PARTNERS]] {
+            keeping(count, row, room, row.3);
+        }
+        keeping(count, row, [n - 1, PARTNERS], refused(4, 0));
+        keeping(count, row, [0, 0], refused(4, 0));
+        if p > 0 {
+            keeping(count, row, [LINKS, p - 1], refused(4, 0));
+        }
+    }
+    for (name, number, s) in faults(WORKING) {
+        let row: KeptRow = (name, s.clone(), 0, refused(number, 0), &[], &[]);
+        keeping(count, &row, [LINKS, PARTNERS], refused(number, 0));
+        keeping(count, &row, [2, PARTNERS], refused(number.min(4), 0));
+        keeping(count, &(name, s, 3, row.3, &[], &[]), [LINKS, PARTNERS], refused(number.min(5), 0));
+    }
+    for (name, number, table) in [
+        ("8 before the last 5", 8, [2, 0, 2, 0, -3, 0, 0, WORKING + 1]),
+        ("15 before the last 5", 15, [2, 0, 2, 0, BARRED, BARRED, BARRED, BARRED]),
+        ("15 of a link before the last 5", 15, [BARRED, BARRED, 2, 0, -3, 0, 0, 0]),
+    ] {
+        let row: KeptRow = (name, sample(2, 2, &[[0, 1]], &table), 0, refused(number, 0), &[], &[]);
+        keeping(count, &row, [2, 4], refused(number, 0));
     }
 }
 
@@ -451,6 +528,13 @@ fn room(count: &mut Count) {
     count.test("round", "a byte less", case.round(&mut table, &mut out[1..]) == refused(4, 0));
     count.test("run", "a byte less", case.run(&mut table, &mut out[1..], 1).ending == Ending::Refused(4));
     count.test("run_pairs", "a byte less", case.run_pairs(&mut table, &mut out[1..], 1).ending == Ending::Refused(4));
+    let (mut family, mut partners) = ([0xa5; LINKS], [0xa5; PARTNERS]);
+    let less = case.supported_value(&table, 0, &mut family, &mut partners[1..]);
+    count.test("supported_value", "a byte less", less == refused(4, 0) && family == [0xa5; LINKS] && partners == [0xa5; PARTNERS]);
+    let kept = case.supported_value(&table, 0, &mut family, &mut partners);
+    let fixed = |i: usize| i / CHANNELS % 2 == 0 && pairs[i / CHANNELS / 2][0] == 0 && i % CHANNELS > 0;
+    let same = (0..PARTNERS).all(|i| partners[i] == if fixed(i) { OUTSIDE } else { 0 });
+    count.test("supported_value", "the largest case", kept == Ok(0) && family[0] == 1 && family[1..] == [255; LINKS - 1] && same);
 }
 
 /// Both libraries are of this package's version.
@@ -466,6 +550,7 @@ fn all(count: &mut Count) {
     files(count);
     totals(count);
     barred(count);
+    kept(count);
     replays(count);
     views(count);
     engine(count);

@@ -1,6 +1,8 @@
-//! Every table of a small size: all runs with their facts, and every void line.
+//! Every table of a small size: all runs with their facts, every void line, and the family
+//! of every link.
 
 use super::*;
+use crate::lent::wholly_barred;
 
 /// Links, values, and the pairs 0–1, 0–2, 1–2, 0–3 and so on, as many as asked for.
 pub fn empty_case(variables: usize, values: usize, edges: usize) -> Case {
@@ -37,11 +39,6 @@ pub fn first(case: &mut Case) {
     case.weights.fill(BARRED);
 }
 
-fn wholly_barred(case: &Case) -> bool {
-    let barred = |scope| case.weights[plain::part(case, scope)].iter().all(|&w| w == BARRED);
-    (0..case.scopes()).any(barred)
-}
-
 impl Check {
     /// Everything about the table, unless a scope is wholly barred.
     pub fn each(&mut self, random: &mut Random, case: &Case) -> Result<(), Difference> {
@@ -55,6 +52,7 @@ impl Check {
         for link in 0..case.variables {
             self.every_void(case, link)?;
         }
+        self.families_of(case)?;
         self.figures.cases += 1;
         Ok(())
     }

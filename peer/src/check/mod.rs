@@ -3,6 +3,7 @@
 
 mod barred;
 pub mod every;
+mod families;
 mod lists;
 mod outputs;
 mod pairs;
@@ -12,7 +13,7 @@ mod tables;
 use crate::counts::Counts;
 use crate::damage::damage;
 use crate::inputs::{input_for, random_for, sized_case, small_case, some_log, Program};
-use crate::generate::{any_table_for, border_for};
+use crate::generate::{any_table_for, border_for, loose_for};
 use crate::random::Random;
 use crate::refute;
 use crate::replay::Replay;
@@ -21,7 +22,7 @@ use crate::slow::figures;
 use crate::slow::replay::PlainReplay;
 use crate::state::State;
 use crate::types::*;
-use crate::{calls, case, engine, foreign, line, plain, programs, score, slow, view};
+use crate::{calls, case, engine, family_calls, foreign, line, plain, programs, score, slow, view};
 
 /// One of so many cases is of any size, the others small.
 const LARGE_EVERY: u64 = 40;
@@ -60,11 +61,13 @@ pub struct Figures {
     pub programs: u64,
     pub others: u64,
     pub pairs: pairs::PairFigures,
+    pub families: families::FamilyFigures,
 }
 
 impl Figures {
     pub fn comparisons(&self) -> u64 {
-        self.refutations + self.runs + self.lines + self.lists + self.programs + self.others
+        let logs = self.lines + self.lists + self.programs;
+        self.refutations + self.runs + logs + self.others + self.families.calls
     }
 }
 
@@ -136,6 +139,7 @@ impl Check {
         }
         self.scores(&mut random, &case)?;
         self.columns(&mut random)?;
+        self.families(&mut random, &case)?;
         if index % CALLS_EVERY == 0 {
             self.calls(seed, index)?;
         }
@@ -171,6 +175,7 @@ impl Check {
         let log = foreign::log(random, &case, careless);
         self.list(&case, &cut(&log))?;
         self.programs(random, &case)?;
+        self.large_families(random, &[case, later, table])?;
         self.figures.large += 1;
         Ok(())
     }

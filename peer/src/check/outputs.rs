@@ -52,14 +52,15 @@ impl Check {
         Ok(())
     }
 
-    /// What is handed to an engine's program: whole lines, and answers to all tables.
+    /// What is handed to the programs of calls: whole lines, and answers to all tables.
     pub fn calls(&mut self, seed: u64, index: u64) -> Result<(), Difference> {
-        let batch = calls::batch(seed, index);
-        let whole = batch.input.len() % LINE_BYTES == 0;
-        holds("calls in whole lines", whole, &batch.input)?;
-        let names = text(&batch.output).matches("table ").count() as u64;
-        same("tables answered", &names, &batch.figures.tables, &batch.input)?;
-        self.figures.others += 1;
+        for batch in [calls::batch(seed, index), family_calls::batch(seed, index)] {
+            let whole = batch.input.len() % LINE_BYTES == 0;
+            holds("calls in whole lines", whole, &batch.input)?;
+            let names = text(&batch.output).matches("table ").count() as u64;
+            same("tables answered", &names, &batch.figures.tables, &batch.input)?;
+            self.figures.others += 1;
+        }
         Ok(())
     }
 

@@ -1,9 +1,10 @@
-//! A second, naive reading of document 01 and of changes 1 and 2: every family tried, every
+//! A second, naive reading of document 01 and of changes 1 to 3: every family tried, every
 //! assignment listed, maxima by scanning, trimming one scope after another, pair
 //! rounds shift by shift. It shares only the data types with the fast reading.
 
 pub mod case;
 pub mod engine;
+pub mod families;
 pub mod figures;
 pub mod line;
 pub mod moves;

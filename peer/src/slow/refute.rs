@@ -5,13 +5,13 @@ use super::figures::*;
 use crate::types::Case;
 
 /// What is open, looked up once for a set of raised scopes.
-struct Open<'a> {
-    case: &'a Case,
+pub struct Open<'a> {
+    pub case: &'a Case,
     allowed: Vec<bool>,
 }
 
 impl<'a> Open<'a> {
-    fn new(case: &'a Case, weights: &[i64], raised: &[usize]) -> Open<'a> {
+    pub fn new(case: &'a Case, weights: &[i64], raised: &[usize]) -> Open<'a> {
         let mut allowed = vec![true; case.weights.len()];
         for &scope in raised {
             let greatest = greatest(case, weights, scope);
@@ -22,8 +22,13 @@ impl<'a> Open<'a> {
         Open { case, allowed }
     }
 
-    fn is_open(&self, scope: usize, tuple: &[usize]) -> bool {
+    pub fn is_open(&self, scope: usize, tuple: &[usize]) -> bool {
         self.allowed[place(self.case, scope, tuple)]
+    }
+
+    /// Open values only, each with a partner.
+    pub fn supports(&self, family: &[u32]) -> bool {
+        self.holds_open_values(family) && self.has_partners(family)
     }
 
     fn holds_open_values(&self, family: &[u32]) -> bool {
@@ -50,12 +55,12 @@ impl<'a> Open<'a> {
     }
 }
 
-fn values_of(set: u32) -> impl Iterator<Item = usize> {
+pub fn values_of(set: u32) -> impl Iterator<Item = usize> {
     (0..8).filter(move |value| set >> value & 1 == 1)
 }
 
 /// The next family in counting order, `fixed` staying as it is.
-fn advance(family: &mut [u32], fixed: usize, last_set: u32) -> bool {
+pub fn advance(family: &mut [u32], fixed: usize, last_set: u32) -> bool {
     for variable in 0..family.len() {
         if variable == fixed {
             continue;
@@ -71,7 +76,7 @@ fn advance(family: &mut [u32], fixed: usize, last_set: u32) -> bool {
 
 /// No family of non-empty sets, {value} at `variable`, is supported.
 fn refuted(open: &Open, variable: usize, value: usize) -> bool {
-    if families(open.case.variables, open.case.values) <= MOST_FAMILIES {
+    if can_list(open.case) {
         no_family(open, variable, value)
     } else {
         nothing_left(open, variable, value)
@@ -98,7 +103,7 @@ fn no_family(open: &Open, variable: usize, value: usize) -> bool {
     family[variable] = 1 << value;
     let last_set = (1 << open.case.values) - 1;
     loop {
-        if open.holds_open_values(&family) && open.has_partners(&family) {
+        if open.supports(&family) {
             return false;
         }
         if !advance(&mut family, variable, last_set) {
@@ -107,8 +112,13 @@ fn no_family(open: &Open, variable: usize, value: usize) -> bool {
     }
 }
 
-/// Starts with all open values and deletes those without a partner.
 fn nothing_left(open: &Open, variable: usize, value: usize) -> bool {
+    let left = values_left(open, variable, value);
+    left.iter().any(|values| !values.contains(&true))
+}
+
+/// Starts with all open values and deletes those without a partner.
+pub fn values_left(open: &Open, variable: usize, value: usize) -> Vec<Vec<bool>> {
     let case = open.case;
     let mut left = vec![vec![false; case.values]; case.variables];
     for other in 0..case.variables {
@@ -117,7 +127,7 @@ fn nothing_left(open: &Open, variable: usize, value: usize) -> bool {
         }
     }
     while delete_one_pass(open, &mut left) {}
-    left.iter().any(|values| !values.contains(&true))
+    left
 }
 
 fn delete_one_pass(open: &Open, left: &mut [Vec<bool>]) -> bool {
@@ -154,7 +164,8 @@ pub fn active_refuted(case: &Case, weights: &[i64], raised: &[usize], variable: 
 
 const MOST_FAMILIES: u64 = 5000;
 
-/// How many families one refutation tries at most.
-fn families(variables: usize, values: usize) -> u64 {
-    ((1u64 << values) - 1).saturating_pow(variables as u32 - 1)
+/// Whether the families of one refutation can all be tried.
+pub fn can_list(case: &Case) -> bool {
+    let sets = (1u64 << case.values) - 1;
+    sets.saturating_pow(case.variables as u32 - 1) <= MOST_FAMILIES
 }

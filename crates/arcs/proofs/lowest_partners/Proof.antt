@@ -5,14 +5,14 @@ use Prim.Native.Nat.{ℕ, _<_}
 use native.Mathlib.Omega.{arith}
 use denote.Ref.{now}
 use lib.ListN.{length, getD, length-set}
-use Rattle.arcs.specs.Partners.{lowestPartner, partnerByte, lowestPartners}
+use Rattle.arcs.specs.Partners.{lowestInBoth, byteOfPartner, lowestPartners}
 use Rattle.arcs.proofs.Search.{lowest-struck, lowest-step, lowest-at, lowest-none}
 use Rattle.arcs.proofs.Places.{value-small, none-left, no-row, no-place, value-written}
 use Rattle.arcs.proofs.lowest_partners.Statement.{statement}
 use Rattle.arcs.proofs.lowest_partners.Tie as tie
 
 abbrev Inv-partners : tie.InvT-partners
-Inv-partners rows set other partners left k at rest₀ rest = (rest < 256) × (lowestPartner rest other ≡ lowestPartner (getD rows at 0) other)
+Inv-partners rows set other partners left k at rest₀ rest = (rest < 256) × (lowestInBoth rest other ≡ lowestInBoth (getD rows at 0) other)
 
 abbrev μ-partners : tie.MeasureT-partners
 μ-partners rows set other partners left k at rest₀ rest = rest
@@ -56,11 +56,11 @@ module _ (c : tie.Joined3 Inv-partners μ-partners Inv-values μ-values) where
   abbrev row : ℕ
   row = getD (now (lent .args .rows)) (here .lowest .result) 0
 
-  answer : c .if3 .found ≡ lowestPartner row (lent .args .other)
+  answer : c .if3 .found ≡ lowestInBoth row (lent .args .other)
   answer =
       let inv = c .before .partners .inv in
       ⊎-elim
-      (λ w. w .1 ∙ sym (sym (inv .1) ∙ ap (λ (x : ℕ). lowestPartner x (lent .args .other)) (w .0 .taken) ∙ lowest-none _))
+      (λ w. w .1 ∙ sym (sym (inv .1) ∙ ap (λ (x : ℕ). lowestInBoth x (lent .args .other)) (w .0 .taken) ∙ lowest-none _))
       (λ w. w .4 ∙ lowest-at _ _ _ _ (inv .0) (w .0 .left) (w .1 .ensures) (w .2 .ensures) (w .3 .taken) ∙ inv .1)
       (c .if3 .came)
 
@@ -121,7 +121,7 @@ values-again c =
       struck q .0,
       length-set (v .partners) _ _ ∙ v .inv .1,
       value-written _ _ _ _ _ (v .inv .0) (k .before .values-test .taken) (k .lowest .ensures) _ _ (q .strike .ensures) (q .before .before .if1 .left)
-          (q .before .if2 .left) (c .partner-byte .ensures ∙ ap partnerByte (answer (c .before)))
+          (q .before .if2 .left) (c .partner-byte .ensures ∙ ap byteOfPartner (answer (c .before)))
           ∙ v .inv .2,
     )
 

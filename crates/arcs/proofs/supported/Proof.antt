@@ -4,10 +4,9 @@ use mathlib.Core.Bool.{Bool}
 use Prim.Native.Nat.{ℕ, _+_, _-_, _≤_}
 use native.Mathlib.Omega.{arith}
 use denote.Ref.{now}
-use lib.Dec.{eqb}
 use lib.ListN.{getD}
-use Rattle.arcs.specs.Partners.{isPartner, hasPartner, supportedValues}
-use Rattle.arcs.proofs.Search.{marks-none, keptBelow, kept-none, kept-one-more, kept-all}
+use Rattle.arcs.specs.Partners.{isNothing, hasPartner, supportedValues}
+use Rattle.arcs.proofs.Search.{nothing-found, keptBelow, kept-none, kept-one-more, kept-all}
 use Rattle.arcs.proofs.supported.Statement.{statement}
 use Rattle.arcs.proofs.supported.Tie as tie
 
@@ -23,14 +22,14 @@ loop-holds c = (omega arith, kept-none _ _ (c .before .fits .set .fits))
 cast-kept-with : tie.Need-cast-kept-with Inv-loop μ-loop
 cast-kept-with c = omega (arith, c .loop-test .taken)
 
-add-common : tie.Need-add-common Inv-loop μ-loop
-add-common c = omega (arith, c .loop-test .taken, c .before .before .before .pre)
+add-lowest-partner : tie.Need-add-lowest-partner Inv-loop μ-loop
+add-lowest-partner c = omega (arith, c .loop-test .taken, c .before .before .before .pre)
 
-shared-slice-read-common : tie.Need-shared-slice-read-common Inv-loop μ-loop
-shared-slice-read-common c = omega (arith, c .before .loop-test .taken, c .before .before .before .before .pre)
+shared-slice-read-lowest-partner : tie.Need-shared-slice-read-lowest-partner Inv-loop μ-loop
+shared-slice-read-lowest-partner c = omega (arith, c .before .loop-test .taken, c .before .before .before .before .pre)
 
-common-requires : tie.Need-common-requires Inv-loop μ-loop
-common-requires c κs = tt
+lowest-partner-requires : tie.Need-lowest-partner-requires Inv-loop μ-loop
+lowest-partner-requires c κs = tt
 
 kept-with-requires : tie.Need-kept-with-requires Inv-loop μ-loop
 kept-with-requires c κs = tt
@@ -50,8 +49,8 @@ loop-again c =
       omega (arith, t .loop-test .taken),
       c .kept-with .ensures
           ∙ kept-one-more (λ v. hasPartner (getD (now (a .rows)) (a .at + v) 0) (a .other)) (a .set) (l .k) (l .kept) (l .inv .1)
-          (eqb (c .before .common .result) 0)
-          (ap (λ (p : ℕ). eqb p 0) (c .before .common .ensures) ∙ marks-none (isPartner row (a .other))),
+          (isNothing (c .before .lowest-partner .result))
+          (ap isNothing (c .before .lowest-partner .ensures) ∙ nothing-found row (a .other)),
     )
 
 returns : tie.Need-returns Inv-loop μ-loop
@@ -71,9 +70,9 @@ supported-spec =
     μ-loop
     loop-holds
     cast-kept-with
-    add-common
-    shared-slice-read-common
-    common-requires
+    add-lowest-partner
+    shared-slice-read-lowest-partner
+    lowest-partner-requires
     kept-with-requires
     add-k
     loop-less

@@ -1,0 +1,2 @@
+-- What the private functions leave.
+pub mod Closing
