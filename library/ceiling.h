@@ -21,7 +21,7 @@ extern "C" {
 #endif
 
 /* The version that this header is of: major * 10000 + minor * 100 + patch. */
-#define CEILING_VERSION 10400
+#define CEILING_VERSION 10500
 
 /* The most links, channels and pairs of a case, and the bytes of a line. */
 #define CEILING_LINKS 48
@@ -54,6 +54,7 @@ struct ceiling_rounds_answer { uint64_t number, rounds, is_void; };
 struct ceiling_span_answer { uint64_t number; size_t from, to, line; };
 struct ceiling_choice_answer { uint64_t number, choice; };
 struct ceiling_value_answer { uint64_t number; size_t value; };
+struct ceiling_verdict_answer { uint64_t number, yes; };
 struct ceiling_round_answer { uint64_t number; size_t bytes; int64_t bound; uint64_t none_lawful; };
 struct ceiling_run_answer { uint64_t number, limit, rounds; int64_t bound; uint64_t none_lawful; };
 
@@ -91,6 +92,9 @@ struct ceiling_choice_answer ceiling_better_of(const uint8_t case_bytes[CEILING_
 struct ceiling_value_answer ceiling_supported_value(const uint8_t case_bytes[CEILING_CASE], const int64_t *table, size_t table_length,
                                                     size_t link, uint8_t *family, size_t family_length, uint8_t *partners,
                                                     size_t partners_length);
+
+/* Whether the pairs form no loop: `yes` is 1 if they form none, else 0. No table is asked for: only the case's limits and its pairs' ends. */
+struct ceiling_verdict_answer ceiling_is_acyclic(const uint8_t case_bytes[CEILING_CASE]);
 
 /* Writes a fresh record for a replay that begins with these starting weights, and answers its number.
  * Refused, the record stands refused: later lines get the same number. */

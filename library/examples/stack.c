@@ -56,6 +56,7 @@ static void read_case(void) { number = ceiling_read_case(text, TEXT, bytes, star
 static void upper_bound(void) { number = ceiling_upper_bound(bytes, start, TABLE).number; }
 static void objective(void) { number = ceiling_objective(bytes, start, TABLE, plan, LINKS).number; }
 static void better_of(void) { number = ceiling_better_of(bytes, start, TABLE, plan, LINKS, plan, LINKS).number; }
+static void is_acyclic(void) { number = ceiling_is_acyclic(bytes).number; }
 static void replay_start(void) { number = ceiling_replay_start(bytes, start, TABLE, record); }
 static void replay_lines(void) { number = ceiling_replay_lines(bytes, table, TABLE, record, log_lines, logged).number; }
 static void replay_end(void) { number = ceiling_replay_end(bytes, record, 0).number; }
@@ -111,6 +112,7 @@ int main(void) {
         {"ceiling_replay_start", replay_start}, {"ceiling_engine_version", engine_version}, {"ceiling_round", two_rounds},
         {"ceiling_run", run},                   {"ceiling_run_pairs", run_pairs},       {"ceiling_replay_lines", replay_lines},
         {"ceiling_replay_end", replay_end},     {"ceiling_round_span", round_span},     {"ceiling_supported_value", supported_value},
+        {"ceiling_is_acyclic", is_acyclic},
     };
     unsigned passed = 0, failed = 0;
     size_t before = taken(nothing);

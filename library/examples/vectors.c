@@ -1,5 +1,5 @@
 /* Calls every function of ceiling.h on accepted and on refused input and compares answers and everything lent with what document 01 says, and
- * document 02 of pair rounds, barred channels and partners. Each call is a test: a line for each that failed, the count as the last line. */
+ * document 02 of pair rounds, barred channels, partners and loops. Each call is a test: a line for each that failed, the count as the last line. */
 #include <stdio.h>
 #include <string.h>
 
@@ -505,6 +505,68 @@ static void kept_channels(void) {
         struct ceiling_value_answer five = {5, 0};
         keeping(&row, row.name, 2, 4, five);
     }
+}
+
+/* ---- whether the pairs form no loop: asked of the case alone */
+
+static const struct {
+    const char *name;
+    size_t n, d, m;
+    uint8_t pairs[5][2];
+    struct ceiling_verdict_answer answer;
+} LOOPS[] = {
+    {"one link", 1, 1, 0, {{0}}, {0, 1}},
+    {"no pairs", 48, 8, 0, {{0}}, {0, 1}},
+    {"one pair", 2, 1, 1, {{0, 1}}, {0, 1}},
+    {"a chain", 4, 2, 3, {{0, 1}, {1, 2}, {2, 3}}, {0, 1}},
+    {"a chain from its end", 4, 2, 3, {{2, 3}, {1, 2}, {0, 1}}, {0, 1}},
+    {"its ends joined", 4, 2, 4, {{2, 3}, {1, 2}, {0, 1}, {0, 3}}, {0, 0}},
+    {"a pair that is not asked", 4, 2, 3, {{2, 3}, {1, 2}, {0, 1}, {0, 3}}, {0, 1}},
+    {"a star", 5, 1, 4, {{0, 2}, {1, 2}, {2, 3}, {2, 4}}, {0, 1}},
+    {"two components", 4, 1, 2, {{0, 1}, {2, 3}}, {0, 1}},
+    {"joined by one pair", 4, 1, 3, {{0, 1}, {2, 3}, {0, 2}}, {0, 1}},
+    {"joined by two pairs", 4, 1, 4, {{0, 1}, {2, 3}, {0, 2}, {1, 3}}, {0, 0}},
+    {"a loop of three", 3, 2, 3, {{0, 1}, {0, 2}, {1, 2}}, {0, 0}},
+    {"a loop beside a chain", 5, 2, 4, {{0, 1}, {2, 3}, {3, 4}, {2, 4}}, {0, 0}},
+    {"a loop of four", 4, 8, 4, {{0, 3}, {0, 1}, {1, 2}, {2, 3}}, {0, 0}},
+    {"3 before 5", 0, 1, 1, {{0, 1}}, {3, 0}},
+    {"5 before 6", 2, 1, 2, {{1, 0}, {0, 2}}, {5, 0}},
+    {"5, the lower end", 2, 1, 1, {{2, 1}}, {5, 0}},
+    {"6 before 7", 2, 1, 3, {{0, 1}, {0, 1}, {1, 1}}, {6, 0}},
+    {"7 before a loop", 3, 1, 4, {{0, 1}, {0, 2}, {1, 2}, {0, 1}}, {7, 0}},
+    {"7, a pair twice", 2, 1, 2, {{0, 1}, {0, 1}}, {7, 0}},
+};
+
+static void looped(const char *name, const uint8_t bytes[CEILING_CASE], struct ceiling_verdict_answer answer) {
+    struct ceiling_verdict_answer a = ceiling_is_acyclic(bytes);
+    test("ceiling_is_acyclic", name, !memcmp(&a, &answer, sizeof a));
+}
+
+static void loops(void) {
+    uint8_t bytes[CEILING_CASE];
+    for (size_t i = 0; i < sizeof LOOPS / sizeof *LOOPS; i++) {
+        struct sample s = {LOOPS[i].n, LOOPS[i].d, LOOPS[i].m, {0}, {0}, {0}, 0, 0};
+        case_of(&s, bytes);
+        for (size_t e = 0; e < 5; e++) bytes[24 + e] = LOOPS[i].pairs[e][0], bytes[120 + e] = LOOPS[i].pairs[e][1];
+        looped(LOOPS[i].name, bytes, LOOPS[i].answer);
+    }
+    /* P1's pairs are a loop. No table is asked for: number 8 is not answered, and the rows of number 4 are left out. */
+    const struct ceiling_verdict_answer yes = {0, 1}, no = {0, 0};
+    for (size_t i = 0; i < FAULT_COUNT; i++) {
+        uint64_t number = FAULTS[i].number;
+        struct ceiling_verdict_answer refused = {number, 0};
+        struct sample s = faulty(&FAULTS[i], WORKING);
+        case_of(&s, bytes);
+        if (number != 4) looped(FAULTS[i].name, bytes, number == 8 ? no : refused);
+    }
+    /* The most links in a chain, and a pair that joins its ends. */
+    struct sample most = {CEILING_LINKS, CEILING_CHANNELS, CEILING_LINKS - 1, {0}, {0}, {0}, 0, 0};
+    case_of(&most, bytes);
+    for (int e = 0; e < CEILING_LINKS - 1; e++) bytes[24 + e] = (uint8_t)e, bytes[120 + e] = (uint8_t)(e + 1);
+    bytes[24 + CEILING_LINKS - 1] = 0, bytes[120 + CEILING_LINKS - 1] = CEILING_LINKS - 1;
+    looped("the longest chain", bytes, yes);
+    bytes[16] = CEILING_LINKS;
+    looped("the longest loop", bytes, no);
 }
 
 /* ---- the replay */
@@ -1150,6 +1212,7 @@ int main(void) {
     sizes(), readings(), barred_readings();
     ceilings(), totals(), choices(), unlawful(), barred_tables();
     kept_channels();
+    loops();
     starts();
     steps(&P4, STEPS, sizeof STEPS / sizeof *STEPS);
     steps(&NO_PLAN, NO_PLAN_STEPS, sizeof NO_PLAN_STEPS / sizeof *NO_PLAN_STEPS);

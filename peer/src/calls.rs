@@ -289,6 +289,18 @@ pub fn samples() -> Batch {
     batch
 }
 
+/// A table with one run to the end, and that run.
+pub fn whole_run(name: &str, case: &Case, kind: Rounds) -> (Batch, Run) {
+    let mut batch = Batch::default();
+    batch.hand_over(name, case);
+    let call = Call::Run(kind, 999_999_999_999);
+    let run = call.run(engine::run_case, case);
+    batch.print(call, needed(case), &run);
+    batch.print_weights(&run.weights);
+    batch.figures.met_11 += u64::from(run.stop == Stop::Refused(11));
+    (batch, run)
+}
+
 /// Batch number `index` of a seed.
 pub fn batch(seed: u64, index: u64) -> Batch {
     fill(&mut random_for(seed, FIRST + index), index, one_table)

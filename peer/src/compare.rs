@@ -7,10 +7,12 @@ use crate::counts::Counts;
 use crate::inputs::{input_for, random_for, sized_case, Program};
 use crate::options::Options;
 use crate::outside::Outside;
-use crate::{case, family_calls, programs, samples};
+use crate::{case, family_calls, loop_calls, programs, samples};
 use std::path::{Path, PathBuf};
 use std::process::ExitCode;
 use std::time::{Duration, Instant};
+
+mod forests;
 
 const DEFAULT_SECONDS: u64 = 90;
 const DEFAULT_KEEP: &str = "peer/target/failed";
@@ -78,20 +80,24 @@ pub fn compare(options: &mut Options) -> Result<ExitCode, String> {
     let seed = options.number("seed", 1)?;
     let keep = PathBuf::from(options.text("keep").unwrap_or(DEFAULT_KEEP.into()));
     let seconds = options.number("seconds", DEFAULT_SECONDS)? as f64;
-    let paths = ["press", "replay", "engine", "families"].map(|name| options.text(name));
+    let names = ["press", "replay", "engine", "families", "calls"];
+    let paths = names.map(|name| options.text(name));
     let counts = options.flag("counts");
     options.finish()?;
     println!("seed {seed}");
     let began = Instant::now();
     let mut check = Check::new();
     let mut programs = Programs::new(paths, &keep)?;
-    let [slow, files, tables, families] = programs.shares().map(|share| share * seconds);
+    let shares = programs.shares().map(|share| share * seconds);
+    let [slow, files, forests, tables, families, loops] = shares;
     let result = samples_first().and_then(|samples| {
         against_slow(&mut check, seed, &in_seconds(slow))?;
         programs.samples()?;
         programs.generated(seed, &in_seconds(files))?;
+        programs.forests(seed, &in_seconds(forests))?;
         programs.batches(Calls::Engine, seed, &in_seconds(tables))?;
         programs.batches(Calls::Families, seed, &in_seconds(families))?;
+        programs.batches(Calls::Loops, seed, &in_seconds(loops))?;
         Ok(samples)
     });
     finish(
@@ -101,10 +107,7 @@ pub fn compare(options: &mut Options) -> Result<ExitCode, String> {
         seed,
         |samples| {
             if counts {
-                println!("fast against slow:");
-                check.counts.print();
-                println!("programs against fast:");
-                programs.counts.print();
+                print_counts(&check.counts, &programs.counts);
             }
             let seen = missing(&[&check.counts, &programs.counts]);
             format!(
@@ -115,6 +118,13 @@ pub fn compare(options: &mut Options) -> Result<ExitCode, String> {
         },
         began,
     )
+}
+
+fn print_counts(slow: &Counts, programs: &Counts) {
+    println!("fast against slow:");
+    slow.print();
+    println!("programs against fast:");
+    programs.print();
 }
 
 /// `peer every`: all tables of a size, or one of so many.
@@ -146,7 +156,8 @@ pub fn every(options: &mut Options) -> Result<ExitCode, String> {
 }
 
 fn samples_first() -> Result<usize, Difference> {
-    samples::check().map_err(|what| Difference {
+    let counts = samples::check().and_then(|count| Ok(count + loop_calls::check()?));
+    counts.map_err(|what| Difference {
         what,
         input: vec![],
     })
@@ -169,7 +180,7 @@ fn slow_figures(check: &Check) -> String {
     format!(
         "slow mode: cases {} and {} large, comparisons {} (refutations {}, runs {}, lines {}, \
          lists {}, programs {}, others {}; rounds with a climb {}, void lists {}; cases barred \
-         {}, without a lawful plan {}), {}, {}",
+         {}, without a lawful plan {}), {}, {}, graphs {} (without a loop {}), {}",
         figures.cases,
         figures.large,
         figures.comparisons(),
@@ -184,7 +195,31 @@ fn slow_figures(check: &Check) -> String {
         figures.barred,
         figures.unlawful,
         pair_figures(check),
-        family_figures(check)
+        family_figures(check),
+        figures.chains.graphs,
+        figures.chains.without,
+        chain_figures(check)
+    )
+}
+
+fn chain_figures(check: &Check) -> String {
+    let chains = check.figures.chains;
+    format!(
+        "quiet tables without a loop {} ({} barred) and {} larger, runs void {}, quiet after \
+         shifts only {} (not quiet {}), settled after a press {} ({} with a ceiling above the \
+         best total before, {} with no best plan of active combinations), quiet tables with a \
+         loop {} ({} without a plan of active combinations)",
+        chains.quiet,
+        chains.barred,
+        chains.larger,
+        chains.void,
+        chains.shifted,
+        chains.unquiet,
+        chains.pressed,
+        chains.above,
+        chains.worse,
+        chains.with_loop,
+        chains.stuck
     )
 }
 
@@ -283,6 +318,7 @@ fn keep_input(keep: &Path, difference: &Difference, seed: u64) -> std::io::Resul
 enum Calls {
     Engine,
     Families,
+    Loops,
 }
 
 impl Calls {
@@ -290,6 +326,7 @@ impl Calls {
         match self {
             Calls::Engine => calls::batch(seed, index),
             Calls::Families => family_calls::batch(seed, index),
+            Calls::Loops => loop_calls::batch(seed, index),
         }
     }
 
@@ -297,6 +334,7 @@ impl Calls {
         match self {
             Calls::Engine => vec![calls::samples()],
             Calls::Families => family_calls::samples(),
+            Calls::Loops => vec![loop_calls::samples()],
         }
     }
 }
@@ -305,47 +343,52 @@ impl Calls {
 struct Programs {
     press: Option<Outside>,
     replay: Option<Outside>,
-    /// The engine's and that of families.
-    callers: [Option<Outside>; 2],
+    /// The engine's, that of families and that of loops.
+    callers: [Option<Outside>; 3],
     counts: Counts,
     compared: [u64; 2],
     /// Inputs of each with barred places.
     barred: [u64; 2],
     /// Logs that ended void.
     void: u64,
-    called: [calls::Figures; 2],
+    called: [calls::Figures; 3],
     bytes: u64,
+    /// What was found on forests.
+    forests: Check,
 }
 
 impl Programs {
-    fn new(paths: [Option<String>; 4], keep: &Path) -> Result<Programs, String> {
+    fn new(paths: [Option<String>; 5], keep: &Path) -> Result<Programs, String> {
         let outside = |path: Option<String>| path.map(|path| Outside::new(&path, keep));
-        let [press, replay, engine, families] = paths.map(|path| outside(path).transpose());
+        let [press, replay, engine, families, loops] = paths.map(|path| outside(path).transpose());
         Ok(Programs {
             press: press?,
             replay: replay?,
-            callers: [engine?, families?],
+            callers: [engine?, families?, loops?],
             counts: Counts::default(),
             compared: [0; 2],
             barred: [0; 2],
             void: 0,
-            called: [calls::Figures::default(); 2],
+            called: [calls::Figures::default(); 3],
             bytes: 0,
+            forests: Check::new(),
         })
     }
 
     /// Which part of the time goes to the slow mode, to inputs of `press` and `replay`, to
-    /// tables for the engine and to tables for families.
-    fn shares(&self) -> [f64; 4] {
+    /// forests, to tables for the engine, to tables for families and to loops.
+    fn shares(&self) -> [f64; 6] {
         let files = self.press.is_some() || self.replay.is_some();
-        let [engine, families] = [0, 1].map(|at| self.callers[at].is_some());
-        let there = [files, engine, families].map(|there| f64::from(u8::from(there)));
-        let all: f64 = there.iter().sum();
+        let [engine, families, loops] = [0, 1, 2].map(|at| self.callers[at].is_some());
+        let forests = self.press.is_some() || engine;
+        let there = [files, forests, engine, families].map(|there| f64::from(u8::from(there)));
+        let loops = 0.3 * f64::from(u8::from(loops));
+        let all = there.iter().sum::<f64>() + loops;
         if all == 0.0 {
-            return [1.0, 0.0, 0.0, 0.0];
+            return [1.0, 0.0, 0.0, 0.0, 0.0, 0.0];
         }
-        let [files, engine, families] = there.map(|one| 0.7 * one / all);
-        [0.3, files, engine, families]
+        let [files, forests, engine, families] = there.map(|one| 0.7 * one / all);
+        [0.3, files, forests, engine, families, 0.7 * loops / all]
     }
 
     fn samples(&mut self) -> Result<(), Difference> {
@@ -357,7 +400,7 @@ impl Programs {
             };
             self.ask(program, &input, &output, name)?;
         }
-        for calls in [Calls::Engine, Calls::Families] {
+        for calls in [Calls::Engine, Calls::Families, Calls::Loops] {
             for batch in calls.samples() {
                 self.call(calls, "samples", &batch)?;
             }
@@ -445,16 +488,18 @@ impl Programs {
         let [press_barred, replay_barred] = self.barred;
         format!(
             "press {press} inputs ({press_barred} barred), replay {replay} inputs ({replay_barred} \
-             barred, {} void), {}, {}, {} MB in",
+             barred, {} void), {}, {}, {}, by programs: {}, {} MB in",
             self.void,
             self.call_figures(),
             self.family_figures(),
+            self.loop_figures(),
+            chain_figures(&self.forests),
             self.bytes / 1_000_000
         )
     }
 
     fn call_figures(&self) -> String {
-        let [called, _] = self.called;
+        let [called, _, _] = self.called;
         format!(
             "engine {} tables ({} barred; {} calls, {} rounds; calls refused by 3 to 8 or 15 {}, \
              void {}, that met 11 {}, that ended with a pair passed over {}; pair rounds of one passed over before {})",
@@ -471,11 +516,19 @@ impl Programs {
     }
 
     fn family_figures(&self) -> String {
-        let [_, called] = self.called;
+        let [_, called, _] = self.called;
         format!(
             "families {} tables ({} barred; {} calls, values found {}, refused by the last 5 {}, \
              by other numbers {})",
             called.tables, called.barred, called.calls, called.found, called.none, called.refused
+        )
+    }
+
+    fn loop_figures(&self) -> String {
+        let [_, _, called] = self.called;
+        format!(
+            "loops {} cases (none {}, some {}, refused {})",
+            called.tables, called.found, called.none, called.refused
         )
     }
 }
@@ -494,7 +547,8 @@ fn answers(
     let same = found.iter().zip(expected).take_while(|(a, b)| a == b);
     let same = same.count();
     let what = format!(
-        "{name} {note}\nbytes alike: {same}{}\nfound:\n{}\nexpected:\n{}",
+        "{name} {note}\nbytes alike: {same}, lines {}{}\nfound:\n{}\nexpected:\n{}",
+        expected[..same].iter().filter(|&&byte| byte == b'\n').count(),
         last_name(&expected[..same]),
         shown(&found, same),
         shown(expected, same)

@@ -1,5 +1,6 @@
 //! Cases of many kinds and sizes.
 
+use crate::forests;
 use crate::plain;
 use crate::random::Random;
 use crate::types::*;
@@ -11,6 +12,8 @@ pub enum Shape {
     Tree,
     Mesh,
     Random,
+    Forest,
+    NearForest,
 }
 
 #[derive(Clone, Copy, PartialEq, Eq, Debug)]
@@ -58,8 +61,9 @@ pub struct Plan {
     pub edges: usize,
 }
 
-pub const KINDS: [&str; 10] = [
+pub const KINDS: [&str; 12] = [
     "uniform", "small", "extreme", "flat", "chain", "ring", "tree", "mesh", "unusable", "border",
+    "forest", "near-forest",
 ];
 
 /// Shape, weights and unusable share of a named kind.
@@ -70,6 +74,8 @@ pub fn kind(name: &str) -> Option<(Shape, Weights, u64)> {
         "extreme" => (Shape::Random, Weights::Extreme, 0),
         "flat" => (Shape::Random, Weights::Flat(9), 0),
         "border" => (Shape::Random, Weights::Border, 0),
+        "forest" => (Shape::Forest, Weights::Small(3), 0),
+        "near-forest" => (Shape::NearForest, Weights::Small(3), 0),
         "chain" => (Shape::Chain, Weights::Interference, 0),
         "ring" => (Shape::Ring, Weights::Interference, 0),
         "tree" => (Shape::Tree, Weights::Interference, 0),
@@ -233,6 +239,8 @@ fn join(random: &mut Random, plan: Plan) -> Vec<(usize, usize)> {
         Shape::Tree => tree(random, plan.variables),
         Shape::Mesh => mesh(random, plan.variables, plan.edges),
         Shape::Random => all_pairs(plan.variables),
+        Shape::Forest => forests::forest(random, plan.variables),
+        Shape::NearForest => forests::near_forest(random, plan.variables),
     };
     if plan.shape == Shape::Random || random.chance(1, 3) {
         random.shuffle(&mut pairs);
@@ -355,6 +363,12 @@ pub fn any_case(random: &mut Random, variables: usize, values: usize, edges: usi
         Shape::Mesh,
         Shape::Random,
     ]);
+    any_of_shape(random, shape, [variables, values, edges])
+}
+
+/// Any kind of case of a shape: so many links, values and pairs at most.
+pub fn any_of_shape(random: &mut Random, shape: Shape, most: [usize; 3]) -> Case {
+    let [variables, values, edges] = most;
     let bars = some_bars(random);
     let small = match bars {
         Bars::None => *random.pick(&[1, 2, 3, 9, 50]),

@@ -1,10 +1,11 @@
-//! The peer: a second reading of document 01 and of changes 1 to 3 of document 02 in plain
+//! The peer: a second reading of document 01 and of changes 1 to 4 of document 02 in plain
 //! Rust, to hold programs, vectors and speed against. See ../README.md.
 
 mod barred_samples;
 mod bench;
 mod calls;
 mod case;
+mod chains;
 mod check;
 mod compare;
 mod counts;
@@ -14,10 +15,13 @@ mod families;
 mod family_calls;
 mod family_samples;
 mod foreign;
+mod forests;
 mod generate;
 mod inputs;
 mod lent;
 mod line;
+mod loop_calls;
+mod loops;
 mod options;
 mod outside;
 mod pair_samples;
@@ -50,6 +54,7 @@ const USAGE: &str = "usage: peer COMMAND [OPTIONS]
                               in, log and settled, limit, void or refused 11 out
   family LINK [--table], slow-family LINK [--table]  case file (or working table) in, the
                               link's lowest value kept, its family and partners out
+  loops                       case file in, no loop or loop out
   view ROUND                  log in, the round's lines out
   score FIRST SECOND          case file in, first or second out (plans like 0,1,0)
   total PLAN                  case file in, the plan's starting total out
@@ -61,7 +66,7 @@ const USAGE: &str = "usage: peer COMMAND [OPTIONS]
   untrimmed [--rounds N]      case file in, a log of untrimmed presses by 1 out
   check [--seconds N | --cases N] [--seed S] [--keep DIR] [--counts]
   compare [--seconds N] [--seed S] [--press PROGRAM] [--replay PROGRAM] [--engine PROGRAM]
-          [--families PROGRAM] [--keep DIR] [--counts]
+          [--families PROGRAM] [--calls PROGRAM] [--keep DIR] [--counts]
   every [--links N] [--values D] [--pairs M] [--weights W] [--part P] [--seed S] [--keep DIR]
                               every table of a small size with weights up to W in size, or
                               one of P of them: its runs with their facts, every void line
@@ -97,6 +102,7 @@ fn run(command: &str, options: &mut Options) -> Result<ExitCode, String> {
         "run-table" => run_table(options),
         "family" => family(options, case::read_alone, families::show),
         "slow-family" => family(options, slow::case::read_alone, slow::families::show),
+        "loops" => loops_of_pairs(options),
         "view" => view_round(options),
         "score" => score_plans(options),
         "total" => total(options),
@@ -187,6 +193,23 @@ fn family(options: &mut Options, read: Reader, show: programs::Show) -> Result<E
     let link: i64 = link.parse().map_err(|_| "LINK is no number")?;
     let read = if options.flag("table") { case::read_table } else { read };
     print_after(options, |input| programs::family(read(input), show, link))
+}
+
+/// Asks both readings; ends with 1 if they differ.
+fn loops_of_pairs(options: &Options) -> Result<ExitCode, String> {
+    options.finish()?;
+    let (case, _) = match case::read_alone(&input()) {
+        Ok(read) => read,
+        Err(refusal) => return output(&programs::refusal_text(refusal)),
+    };
+    match loops::no_loop_both_ways(&case) {
+        [true, true] => output(b"no loop\n"),
+        [false, false] => output(b"loop\n"),
+        [taken, searched] => {
+            eprintln!("peer: no loop by taking links away {taken}, by searching {searched}");
+            Ok(ExitCode::from(1))
+        }
+    }
 }
 
 fn ceiling(input: &[u8]) -> Vec<u8> {

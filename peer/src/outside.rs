@@ -41,14 +41,14 @@ impl Outside {
     }
 
     /// What the program prints, and a note if it did not end well.
-    pub fn answer(&mut self, input: &[u8]) -> (Vec<u8>, String) {
+    pub fn answer(&self, input: &[u8]) -> (Vec<u8>, String) {
         match self.try_answer(input) {
             Ok(answer) => answer,
             Err(error) => (vec![], error.to_string()),
         }
     }
 
-    fn try_answer(&mut self, input: &[u8]) -> std::io::Result<(Vec<u8>, String)> {
+    fn try_answer(&self, input: &[u8]) -> std::io::Result<(Vec<u8>, String)> {
         std::fs::write(&self.input, input)?;
         let mut child = Command::new(&self.path)
             .stdin(File::open(&self.input)?)

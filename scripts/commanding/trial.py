@@ -15,7 +15,8 @@ class Trial:
     def __init__(self, root, paths, folder):
         self.root, self.folder = root, folder
         self.programs = dict(zip(("replay", "press", "peer"), paths))
-        self.programs["families"] = os.path.join(os.path.dirname(paths[0]), "families_vectors")
+        for name in ("families", "calls"):
+            self.programs[name] = os.path.join(os.path.dirname(paths[0]), f"{name}_vectors")
         self.stand_ins = StandIns(folder, self.programs["press"], self.programs["replay"])
         self.command = Command(os.path.join(root, "scripts", "ceiling"), "planning", "CEILING_PROGRAMS", self.stand_ins.folder())
         self.ask, self.run, self.start, self.end = self.command.ask, self.command.run, self.command.start, self.command.end

@@ -41,6 +41,11 @@ class Case:
         """How many combinations of a scope are barred."""
         return self.weights[slice(*self.span(scope))].count(BARRED)
 
+    def used(self, table, plan):
+        """The weight of each scope that a plan uses by this table."""
+        pairs = [plan[low] * self.d + plan[high] for low, high in self.pairs]
+        return [table[self.span(scope)[0] + at] for scope, at in enumerate([*plan, *pairs])]
+
     @property
     def bars(self):
         """Whether anything is barred."""

@@ -1,6 +1,9 @@
 """Why each channel is kept: of each link the channel that it keeps after the log, its largest family and the partners in it."""
 
+import re
+
 from .axes import number
+from .concluding import conclusion
 from .families import channels, first_alike, kept
 
 # Families are folded where a case has more links than this, and a row of one has no more.
@@ -15,9 +18,11 @@ WHAT = (
     "the second. The weights are those at the log\u2019s end."
 )
 NOT_PROVED = (
-    "This part is computed with the page and not proved; the library\u2019s function <code>ceiling_supported_value</code> (docs/LIBRARY.md) is the "
-    "proved one, and <code>ceiling show</code> says the same in words."
+    "This part is computed with the page and not proved; the library\u2019s functions <code>ceiling_supported_value</code> and, for loops, "
+    "<code>ceiling_is_acyclic</code> (docs/LIBRARY.md) are the proved ones, and <code>ceiling show</code> says the same in words."
 )
+
+UNJUDGED = "What follows for plans is said of judged logs only: by <code>ceiling picture</code> and <code>ceiling show</code>."
 
 
 def left(found):
@@ -31,8 +36,8 @@ def left(found):
     return f"{links}: all active channels {'of this link' if len(none) == 1 else 'there'} are refuted, and a press or a void line is left."
 
 
-def section(log):
-    """The part of the page; none where the log is not drawn to its end, or ends with a void line."""
+def section(log, judged):
+    """The part of the page; none where the log is not drawn to its end, or ends with a void line. What follows for plans needs a judged log."""
     if log.stopped or log.void:
         return ""
     found = kept(log.case, log.table)
@@ -44,7 +49,13 @@ def section(log):
             rows.append(row(log, link, one, text if carried >= 0 else ELSEWHERE))
     table = f'<div class="wide">{HEAD}{"".join(rows)}</table></div>' if rows else ""
     too_many = f'<p class="warning">{TOO_MANY}</p>\n' if carried < 0 else ""
-    return f"<h2>Why each channel is kept</h2>\n<p>{left(found)} {WHAT}</p>\n<p>{NOT_PROVED}</p>\n{too_many}{table}"
+    said = follows(log, found) if judged else UNJUDGED
+    return f"<h2>Why each channel is kept</h2>\n<p>{left(found)} {WHAT}</p>\n<p>{said}</p>\n<p>{NOT_PROVED}</p>\n{too_many}{table}"
+
+
+def follows(log, found):
+    """What follows for plans, as the command says it."""
+    return re.sub("`(.*?)`", r"<code>\1</code>", " ".join(conclusion(log, found, number)).replace("'", "\u2019"))
 
 
 ELSEWHERE = "partners: by <code>ceiling show</code>"

@@ -93,7 +93,7 @@ def picture(names, case, log, judgement=None):
         drawings(case, log),
         rounds(case, log),
         void_section(log, carried_rounds(log) > 0),
-        kept_section(log),
+        kept_section(log, judgement is not None),
         reading(case),
         data(case, log),
     ]

@@ -73,8 +73,7 @@ def total(case, plan):
 
 def used(case, plan):
     """The weight that the plan uses of each scope."""
-    links = [case.weights[case.span(link)[0] + channel] for link, channel in enumerate(plan)]
-    return links + [case.weights[case.span(scope)[0] + plan[low] * case.d + plan[high]] for scope, (low, high) in enumerate(case.pairs, case.n)]
+    return case.used(case.weights, plan)
 
 
 def alone(case, plan):

@@ -1,6 +1,7 @@
-"""`ceiling show`: the channel that a link keeps after a log, its largest family and the partners in it."""
+"""`ceiling show`: the channel that a link keeps after a log, its largest family and the partners in it; of all links, what follows for plans."""
 
 from picturing.case import read_case
+from picturing.concluding import conclusion
 from picturing.families import channels, first_alike, kept
 from picturing.kept import left
 
@@ -20,9 +21,9 @@ WHAT = (
     "which is a channel of the family at the other end such that their combination is active. Of these the lowest is shown.",
     "`links 0 and 1: 1 with 0` is channel 1 of link 0 with channel 0 of link 1.",
 )
-NOT_PROVED = (
-    "These words are computed by the command and not proved; the library's function `ceiling_supported_value` (docs/LIBRARY.md) is the proved one."
-)
+COMPUTED = "These words are computed by the command and not proved; the library's"
+NOT_PROVED = f"{COMPUTED} function `ceiling_supported_value` (docs/LIBRARY.md) is the proved one."
+NONE_PROVED = f"{COMPUTED} functions `ceiling_supported_value` and, for loops, `ceiling_is_acyclic` (docs/LIBRARY.md) are the proved ones."
 
 
 def run(options):
@@ -36,7 +37,7 @@ def run(options):
     links = asked(sheet, options.link)
     words = [f"{capital(NO_PLAN)}. There is nothing to show."]
     if verdict.accepted:
-        words = list(shown(read_judged(sheet, log, verdict), links))
+        words = list(shown(read_judged(sheet, log, verdict), links, options.link is None))
         log.same()
     standard.write(verdict.printed)
     standard.write(standard.rows(words))
@@ -53,8 +54,8 @@ def asked(case, link):
     return [link]
 
 
-def shown(log, links):
-    """What is said of these links with the weights after a log."""
+def shown(log, links, whole):
+    """What is said of these links with the weights after a log, and where all are asked for, what follows for plans."""
     found = kept(log.case, log.table)
     weights = f"those after {counted(log.rounds, 'round')}" if log.rounds else "the starting weights"
     yield f"The weights are {weights}, with the ceiling {sum(log.greatest)}."
@@ -65,7 +66,10 @@ def shown(log, links):
         yield ""
         yield from kept_words(log, found, links, link) if found[link] else [none_kept(log, link)]
     yield ""
-    yield NOT_PROVED
+    if whole:
+        yield from conclusion(log, found)
+        yield ""
+    yield NONE_PROVED if whole else NOT_PROVED
 
 
 def active_words(log, link):

@@ -93,8 +93,11 @@ Prints the judgement of `replay` on the log as `check` does, and where it is acc
 channel that the link, or every link, keeps with the weights after the log: its lowest
 active channel that is not refuted with all other scopes raised. Beside it stand its
 largest family, the channels left to each link, and the lowest partner of each of them
-across each pair. Where a link keeps none, a press or a void line of it is left. An empty
-log (/dev/null) shows the starting weights.""",
+across each pair. Where a link keeps none, a press or a void line of it is left. Without
+LINK the end says what follows for plans: where none is left and the pairs form no loop, a
+plan that uses active combinations only, with its totals by the working weights, where it
+meets the ceiling, and by the case sheet. An empty log (/dev/null) shows the starting
+weights.""",
         "0 accepted or void (then nothing is shown), 1 refused, 2 otherwise, or the case has no such link",
         [
             "ceiling show samples/valley.case samples/valley.log",

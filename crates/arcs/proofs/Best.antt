@@ -27,6 +27,7 @@ use Rattle.definitions.specs.Valid.{workingWeight, limitTest, lengthTest, someE
 use Rattle.calls.specs.Calls.{isMarked, isRaised}
 use Rattle.definitions.specs.Consistency.{refuted, allRefuted}
 use Rattle.definitions.specs.Moves.{activeValues}
+use Rattle.theory.proofs.Shape.{ends-below}
 use Rattle.theory.proofs.Validity.{none-applies, Handed}
 use Rattle.theory.proofs.Words.{none-below}
 use Rattle.tables.specs.Scopes.{BestOf}
@@ -132,7 +133,7 @@ module _ (c : Case) (w : List ℤ) (h : Handed (rulesOf c) (workingWeight (rules
   enough = rw (le-ltb (length best) (scopeCount c) (b .enough), le-ltb (length raised) (scopeCount c) room)
 
   ends : someEdge c (endOutside c) ≡ false
-  ends = simp (tests, none-below) (λ e u. (omega (arith, h .shape .ascending e u, h .shape .below-n e u), h .shape .below-n e u))
+  ends = simp (tests, none-below) (ends-below (h .shape))
 
   taken : (i : ℕ) → i < c .n → Outcome.Done ≡ checked c w best raised i
   taken i g = arguments-taken c w best raised i (lengths-taken c w (tooFew c best raised) (limits-true h) (h .long) enough) (rw (lt-ltb i (c .n) g, ends))

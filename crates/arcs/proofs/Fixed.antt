@@ -21,7 +21,7 @@ use Rattle.definitions.specs.Consistency.{allowed, refuted}
 use Rattle.definitions.specs.Families.{largestFamily, familyBytes}
 use Rattle.networks.specs.Network.{Network, largest, networkOf, fixedSets}
 use Rattle.theory.proofs.Words.{none-below}
-use Rattle.theory.proofs.Shape.{Shape}
+use Rattle.theory.proofs.Shape.{Shape, lower-below}
 use Rattle.theory.proofs.Validity.{Handed}
 use Rattle.networks.proofs.Networks.{None, Alike, to-fewer, to-more, case-ends, refuted-none, none-tried, some-tried, largest-in, in-largest}
 use Rattle.networks.proofs.Families.{family-is-largest}
@@ -111,7 +111,7 @@ bytes-well c shape rows edges S len count lowers uppers room =
       ((omega arith, omega arith), omega arith),
       λ e l.
           let u : e < c .m = omega arith in
-          (omega (arith, shape .ascending e u, shape .below-n e u), omega (arith, shape .below-n e u)),
+          (omega (arith, lower-below shape e u), omega (arith, shape .below-n e u)),
     )
 
 module _ (c : Case) (w : List ℤ) (h : Handed (rulesOf c) (workingWeight (rulesOf c)) c w) (R : ℕ → Bool) (i k : ℕ) (rows edges S : List ℕ)

@@ -22,9 +22,10 @@ use Rattle.definitions.specs.Rules.{Rules}
 use Rattle.definitions.specs.Refusals.{Test, _when_, firstOf}
 use Rattle.definitions.specs.Answers.{outcomeOf, unlessRefused}
 use Rattle.definitions.specs.Case.{scopeCount, isVariable, objective, upperBound, active, usesBarred}
-use Rattle.definitions.specs.Valid.{startingWeight, workingWeight, wrongAssignment, valueOut, handedOver}
+use Rattle.definitions.specs.Valid.{startingWeight, workingWeight, wrongAssignment, valueOut, limitTest, edgeTests, handedOver}
 use Rattle.definitions.specs.Consistency.{Family, refuted, others}
 use Rattle.definitions.specs.Families.{supportedValue, largestFamily, familyBytes, partnerBytes}
+use Rattle.definitions.specs.Graph.{isAcyclic}
 use Rattle.definitions.specs.Moves.{Move, shift, activePress, shiftAmount, pressAmount, moved, activeRefuted, leavesRange}
 use Rattle.definitions.specs.Lines.{readLine, lineText, lineLength, lineTooWide, overwritten}
 use Rattle.definitions.specs.CaseFiles.{caseText}
@@ -162,6 +163,11 @@ module _ (r : Rules) where
       familyFound c w i family partners
       (firstOf (handedOver r (workingWeight r) c w (familyShort c family partners) (not (ltb i (c .n)))))
       (supportedValue c w i)
+
+  -- ---- whether the edges form no cycle (document 02, change 4): asked of the case alone
+
+  unfoldable pub isAcyclicAnswer : Case → Verdict
+  isAcyclicAnswer c = verdictOf (firstOf (limitTest r c ∷ edgeTests c false)) (isAcyclic c)
 
   -- ---- moves
 

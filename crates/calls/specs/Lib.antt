@@ -6,3 +6,4 @@ pub mod CallBorders
 pub mod BarredCallBorders
 pub mod FileBorders
 pub mod FamilySamples
+pub mod AcyclicSamples

@@ -1,5 +1,5 @@
-// Calls of figures, consistency, moves, tables, arcs and changes, told by standard input: lines in columns (document 01) with kind, a, b, c and
-// amount.
+// Calls of figures, consistency, graphs, moves, tables, arcs and changes, told by standard input: lines in columns (document 01) with kind, a,
+// b, c and amount.
 // A line not in columns is a title and is printed.
 //
 //  1  the case: n is a, D is b, m is c
@@ -18,10 +18,10 @@
 // 16  objective              26  values_unsupported a b
 // 17  greatest               27  best_values a
 // 18  greatest_weights       28  lowest_partners a b
-// 19  sum_of_best
+// 19  sum_of_best            29  is_acyclic
 //
 // Where a count is meant, a negative number stands for 2^64 - 1; the amounts 999999999999 and -99999999999 stand for 2^63 - 1 and -2^63.
-// The answers in `stdout` were worked out from document 01, those of barred tuples from document 02.
+// The answers in `stdout` were worked out from document 01, those of barred tuples and of loops from document 02.
 use arcs::Closed;
 use arcs::Partner;
 use arcs::Tried;
@@ -103,7 +103,7 @@ fn print_name(kind: usize) -> bool {
     }
     if kind < 34 {
         let names =
-            b"                best_values     lowest_partners                 shift           press           transfer        lower_and_raise ";
+            b"                best_values     lowest_partners is_acyclic      shift           press           transfer        lower_and_raise ";
         return print_slot(names, (kind - 26) * 16);
     }
     false
@@ -391,6 +391,10 @@ fn lowest_partner(call: Call) {
     partner(arcs::lowest_partner(drivers::byte(call.a), drivers::byte(call.b)));
 }
 
+fn acyclic(case: Case) {
+    verdict(graphs::is_acyclic(case));
+}
+
 fn question(call: Call, case: Case, t: &[i64], best: &[i64], bytes: &[u8]) {
     let kind = call.kind;
     match kind {
@@ -408,6 +412,7 @@ fn question(call: Call, case: Case, t: &[i64], best: &[i64], bytes: &[u8]) {
         22 => lowest_partner(call),
         26 => values_unsupported(call, case, t, best, bytes),
         27 => best_values(call, case, t, best),
+        29 => acyclic(case),
         _ => {}
     }
 }

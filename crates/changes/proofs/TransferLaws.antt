@@ -27,7 +27,7 @@ use Rattle.definitions.specs.Moves.{spared, shift, moved, onlyWhere, endVariabl
 use Rattle.calls.specs.Calls.{shiftOut}
 use Rattle.definitions.proofs.CaseLaws.{place-own}
 use Rattle.theory.proofs.Places.{IsTuple, by-tuple, variable-tuple, edge-tuple, place-variable, place-edge, place-apart, tuple-at, plus-is}
-use Rattle.theory.proofs.Shape.{Shape}
+use Rattle.theory.proofs.Shape.{Shape, lower-below}
 use Rattle.theory.proofs.Validity.{Handed}
 use Rattle.tables.specs.Scopes.{BestOf}
 use Rattle.changes.specs.Spaced.{amountWithin, weightWith, staysWith, weightAt, Inside, spacedStay, spacedAdd, transferStays, transferred}
@@ -320,7 +320,7 @@ pub end-inside : {c : Case} → Shape c → (e end : ℕ) → e < c .m → endVa
 end-inside {c} s e end h = go (eqb end 0)
   where
     go : (b : Bool) → (if b then lowerEnd c e else upperEnd c e) < c .n
-    go true = omega (arith, s .ascending e h, s .below-n e h)
+    go true = lower-below s e h
     go false = s .below-n e h
 
 -- arguments that are not out

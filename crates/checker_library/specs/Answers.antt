@@ -12,6 +12,7 @@ use Rattle.checker_library.specs.declared.CeilingRounds.{CeilingRounds}
 use Rattle.checker_library.specs.declared.CeilingSpan.{CeilingSpan}
 use Rattle.checker_library.specs.declared.CeilingChoice.{CeilingChoice}
 use Rattle.checker_library.specs.declared.CeilingValue.{CeilingValue}
+use Rattle.checker_library.specs.declared.CeilingVerdict.{CeilingVerdict}
 
 abbrev pub ceilingSizeOf : Says → CeilingSize
 ceilingSizeOf s = record { number = s .number; n = countAt s 0; d = countAt s 1; m = countAt s 2; table = countAt s 3 }
@@ -38,3 +39,6 @@ choiceOf s = record { number = s .number; choice = countAt s 0 }
 
 abbrev pub valueOf : Says → CeilingValue
 valueOf s = record { number = s .number; value = countAt s 0 }
+
+abbrev pub ceilingVerdictOf : Says → CeilingVerdict
+ceilingVerdictOf s = record { number = s .number; yes = countAt s 0 }

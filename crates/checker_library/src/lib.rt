@@ -1,5 +1,6 @@
 // The checker's functions for programs in other languages: a case file read, totals, the replay of a log, the view of a round, scoring, why a channel
-// was kept. A case and the replay's record cross as bytes (crate encoding). What each function answers is defined in specs/.
+// was kept, whether the pairs form no loop. A case and the replay's record cross as bytes (crate encoding). What each function answers is defined in
+// specs/.
 use checker::Due;
 use checker::Replay;
 use checker::Standing;
@@ -12,6 +13,7 @@ use definitions::FileAnswer;
 use definitions::Outcome;
 use definitions::Refusal;
 use definitions::Span;
+use definitions::Verdict;
 use encoding::CaseArray;
 use encoding::RecordArray;
 ghost use mathlib.Core.Path.{_≡_};
@@ -21,16 +23,16 @@ ghost use lib.Signed.{ltZ};
 ghost use Rattle.definitions.specs.declared.Rulebook.the-variants.{Desk};
 ghost use Rattle.definitions.specs.Rules.{rulesIn, rulesOf};
 ghost use Rattle.definitions.specs.Refusals.{number};
-ghost use Rattle.definitions.specs.Answers.{outcomeSays, figureSays, sizeSays, fileSays, spanSays, choiceSays, valueAt};
+ghost use Rattle.definitions.specs.Answers.{outcomeSays, figureSays, verdictSays, sizeSays, fileSays, spanSays, choiceSays, valueAt};
 ghost use Rattle.definitions.specs.CaseFiles.{caseSize};
-ghost use Rattle.calls.specs.Calls.{upperBoundAnswer, objectiveAnswer};
+ghost use Rattle.calls.specs.Calls.{upperBoundAnswer, objectiveAnswer, isAcyclicAnswer};
 ghost use Rattle.definitions.specs.Views.{roundSpan};
 ghost use Rattle.definitions.specs.Scoring.{betterOf};
 ghost use Rattle.checker.specs.Checker.{standingSays, isVoid, blockReplay};
 ghost use Rattle.encoding.specs.CaseBytes.{caseIn};
 ghost use Rattle.encoding.specs.RecordBytes.{recordBytes};
 ghost use Rattle.encoding.specs.Version.{versionNumber};
-ghost use Rattle.checker_library.specs.Answers.{ceilingSizeOf, linesOf, totalOf, roundsOf, spanOf, choiceOf, valueOf};
+ghost use Rattle.checker_library.specs.Answers.{ceilingSizeOf, linesOf, totalOf, roundsOf, spanOf, choiceOf, valueOf, ceilingVerdictOf};
 ghost use Rattle.checker_library.specs.Calls.{caseAfter, readCall, valueCall, startRecord, blockAnswer, replayCall};
 ghost use Rattle.checker_library.specs.Calls.{notRecord, notRecordAtEnd, endWith, endCall};
 
@@ -86,6 +88,13 @@ pub struct CeilingChoice {
 pub struct CeilingValue {
     pub number: u64,
     pub value: usize,
+}
+
+// 1 is yes, 0 is no.
+#[repr(C)]
+pub struct CeilingVerdict {
+    pub number: u64,
+    pub yes: u64,
 }
 
 // ---- answers as numbers
@@ -239,6 +248,19 @@ fn value_of(figure: Figure) -> CeilingValue
     }
 }
 
+fn verdict_of(verdict: Verdict) -> CeilingVerdict
+    ensures { λ r. ⌜ r ≡ ceilingVerdictOf (verdictSays verdict) ⌝ }
+{
+    match verdict {
+        Verdict::Yes => CeilingVerdict { number: 0, yes: 1 },
+        Verdict::No => CeilingVerdict { number: 0, yes: 0 },
+        Verdict::Refused(refusal) => CeilingVerdict {
+            number: number_of(refusal),
+            yes: 0,
+        },
+    }
+}
+
 // ---- a case that was read
 
 // Its bytes, where it is not refused.
@@ -381,6 +403,14 @@ pub extern "C" fn ceiling_supported_value(
         × (now (partners .exit) ≡ valueCall (now (case .entry)) (now (table .entry)) link (now (family .entry)) (now (partners .entry)) .partners) ⌝ }
 {
     value_of(families::supported_value(encoding::case_of(case), table, link, family, partners))
+}
+
+// Whether the pairs form no loop.
+#[no_mangle]
+pub extern "C" fn ceiling_is_acyclic(case: &CaseArray) -> CeilingVerdict
+    ensures { λ r. ⌜ r ≡ ceilingVerdictOf (verdictSays (isAcyclicAnswer (rulesOf (caseIn (now (case .entry)))) (caseIn (now (case .entry))))) ⌝ }
+{
+    verdict_of(graphs::is_acyclic(encoding::case_of(case)))
 }
 
 #[no_mangle]

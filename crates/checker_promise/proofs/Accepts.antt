@@ -24,6 +24,7 @@ use Rattle.definitions.specs.Replay.{Held, fresh, after, answers, atEnd, keepsR
 use Rattle.checker.specs.declared.Due.{Due}
 use Rattle.checker.specs.Checker.{Between, isVoid, endReplay, afterLines, lineAnswers}
 use Rattle.theory.proofs.Validity.{Handed, handed}
+use Rattle.theory.proofs.ShiftLogs.{lines-kept}
 use Rattle.theory.proofs.Replays.{none-iff, handed-after, case-after, total-kept, bound-sound, rounds-few, void-sound, accepted-iff, keeps-iff}
 use Rattle.checker_promise.specs.Lists.{begun, Accepted, numberSays, ReplayTrusted}
 use Rattle.checker_promise.proofs.Agrees.{dueOf, Agrees}
@@ -106,6 +107,7 @@ module _ {r : Rules} (coherent : Coherent r) (c : Case) (w : List ℤ) (t : T (v
     rounds = rounds-are ts;
     accepted = accepts ts;
     total-least = λ p a. rw (weights-are ts) (total-kept coherent c w t ts p a);
+    total-same = λ n p a. rw (weights-are ts) (lines-kept coherent c w t ts n p a);
     bound-least = λ p a. rw (weights-are ts) (bound-sound coherent c w t ts p a);
     void-due = void-is ts;
     none-lawful = λ e. void-sound coherent c w t ts (void-is ts .0 e);

@@ -3,6 +3,7 @@
 -- Replay::fresh, step and end name: `freshReplay`, `stepReplay` (folded by `lineAnswers` and `afterLines`) and `endReplay`. proofs/Accepts
 -- proves it for every valid case. Assumes nothing.
 use mathlib.Core.Path.{_≡_}
+use mathlib.Core.Bool.{not}
 use mathlib.Core.Logic.{_↔_}
 use mathlib.Core.Option.{Option}
 use mathlib.Core.List.{List, [], _∷_, map}
@@ -17,7 +18,7 @@ use Rattle.definitions.specs.Rules.{Rules}
 use Rattle.definitions.specs.Refusals.{numberOf}
 use Rattle.definitions.specs.Answers.{Says, outcomeSays, figureSays}
 use Rattle.definitions.specs.Case.{objective, upperBound, isLawful}
-use Rattle.definitions.specs.Replay.{fresh, after, answers, atEnd, keepsRules}
+use Rattle.definitions.specs.Replay.{fresh, after, answers, atEnd, keepsRules, somePress}
 use Rattle.calls.specs.Calls.{upperBoundAnswer}
 use Rattle.checker.specs.declared.Due.{Due}
 use Rattle.checker.specs.Checker.{Between, freshReplay, endReplay, afterLines, lineAnswers}
@@ -51,6 +52,8 @@ pub record LinesTrusted (r : Rules) (c : Case) (w : List ℤ) (ts : List (List �
   -- "Accepted or not, after it each plan's working total is at least its starting total," (L4); "what demand 3 says of plans is promised for
   -- lawful plans" (document 02, change 2)
   pub total-least : (p : List ℕ) → T (isLawful c w p) → objective c w p ≤ℤ objective c (b .table) p
+  -- a list of which no line is a press line makes shifts only, and keeps every lawful plan's total (ours, beyond the documents)
+  pub total-same : T (not (somePress r ts)) → (p : List ℕ) → T (isLawful c w p) → objective c (b .table) p ≡ objective c w p
   -- "the ceiling is at least every plan's starting total," (L5)
   pub bound-least : (p : List ℕ) → T (isLawful c w p) → objective c w p ≤ℤ upperBound c (b .table)
   -- "and the rounds number no more than the starting ceiling minus any plan's starting total." (L6)

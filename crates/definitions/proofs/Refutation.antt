@@ -2,7 +2,7 @@
 -- raised scopes and the weights of the case's own tuples. Assumes nothing.
 use mathlib.Core.Path.{_≡_, refl, ap, ap₂, _∙_}
 use mathlib.Core.Bool.{Bool, true, false, not, _&&_}
-use mathlib.Core.Logic.{_↔_, ⊎-elim}
+use mathlib.Core.Logic.{_≢_, _↔_, ⊎-elim}
 use mathlib.Core.List.{List, [], _∷_, map, List·Memᴰ·head, List·Memᴰ·tail}
 use Prim.Native.Nat.{ℕ, _+_, _<_}
 use native.Mathlib.Omega.{arith}
@@ -10,11 +10,11 @@ use lib.IntN.{ℤ, pos}
 use lib.Dec.{T, T-not, not-T, ltb, eqb, nltb→le}
 use lib.ListN.{getD, List·getD-eq-default}
 use Rattle.integers.specs.Words.{below, any, choices, isIn}
-use Rattle.integers.specs.Tests.{tests, same-test, either}
-use Rattle.integers.specs.Lists.{_∈_, any-in, all-below, any-below, in-those, those-in, below-in, isIn-in, choices-tab}
+use Rattle.integers.specs.Tests.{tests, same-test, either, not-eqb-iff}
+use Rattle.integers.specs.Lists.{_∈_, any-in, all-below, any-below, isIn-but-one, choices-tab}
 use Rattle.integers.specs.Tables.{length-tab, getD-tab}
 use Rattle.definitions.specs.declared.Case.{Case}
-use Rattle.definitions.specs.Case.{lowerEnd, upperEnd, scopes, scopeCount, ownLength, active}
+use Rattle.definitions.specs.Case.{lowerEnd, upperEnd, scopeCount, ownLength, active}
 use Rattle.definitions.specs.Consistency.{Family, Supported, Refuted, allowed, supported, families, marks, refuted, others}
 use Rattle.definitions.proofs.CaseLaws.{active-same}
 
@@ -109,8 +109,16 @@ module _ (c : Case) (w : List ℤ) (R : ℕ → Bool) (i k : ℕ) where
 
 pub others-in : (c : Case) (i x : ℕ) → x < scopeCount c → isIn (others c i) x ≡ not (eqb x i)
 others-in c i x h = same-test (isIn (others c i) x) (not (eqb x i))
-    (λ t. in-those (λ x. not (eqb x i)) (scopes c) (isIn-in (others c i) x .0 t) .1)
-    (λ t. isIn-in (others c i) x .1 (those-in (λ x. not (eqb x i)) (below-in h) t))
+    (λ t. not-eqb-iff x i .1 (isIn-but-one (scopeCount c) i x .0 t .1))
+    (λ t. isIn-but-one (scopeCount c) i x .1 (h, not-eqb-iff x i .0 t))
+
+-- a tuple that is allowed with them raised is active
+pub others-active : (c : Case) (w : List ℤ) (i x k l : ℕ) → x < scopeCount c → x ≢ i → T (allowed c w (isIn (others c i)) x k l) → T (active c w x k l)
+others-active c w i x k l h n =
+    raised-active (isIn (others c i) x) (active c w x k l) (isIn-but-one (scopeCount c) i x .1 (h, n))
+  where
+    raised-active : (r a : Bool) → T r → T (not (r && not a)) → T a
+    raised-active true true t s = tt
 
 -- ---- what counts
 

@@ -21,7 +21,7 @@ use Rattle.definitions.specs.Case.{isAssignment}
 use Rattle.definitions.specs.Valid.{valid}
 use Rattle.definitions.specs.Moves.{shift, activePress}
 use Rattle.definitions.specs.Lines.{line, lineText}
-use Rattle.definitions.specs.Replay.{State, step, fresh, after, keepsRules}
+use Rattle.definitions.specs.Replay.{State, step, fresh, after, keepsRules, somePress}
 use Rattle.definitions.specs.Engine.{Next, round, stopped, pressesNext, run}
 use Rattle.definitions.specs.Views.{roundSpan, roundView}
 use Rattle.definitions.specs.Scoring.{betterOf, better}
@@ -156,6 +156,18 @@ logs =
 
 pub logs-hold : map (λ s. answer (s .ask)) logs ≡ map (λ s. s .gives) logs
 logs-hold = refl
+
+-- a press line anywhere, refused or not; raise, bound and void lines are none, nor what is not in columns
+pub press-lines : Hold (
+    somePress standard [] is false
+    ∷ somePress standard (texts log5) is false
+    ∷ somePress standard (texts byTwo) is true
+    ∷ somePress standard (texts (log5 ++ byTwo)) is true
+    ∷ somePress standard (texts (" 2   9   9   9           0\n" ∷ [])) is true
+    ∷ somePress standard (texts (" 5   0   2   0           0\n" ∷ " 3   1   0   0           0\n" ∷ " 2   0   0   0           0" ∷ [])) is false
+    ∷ []
+    )
+press-lines = refl
 
 -- the state keeps the starting weights: after two rounds and a refused line
 pub starting-kept : after standard (fresh (clash .case) (clash .weights)) (texts (twoRounds ++ ("x" ∷ []))) .starting ≡ clash .weights

@@ -1,4 +1,4 @@
--- Document 01 as definitions, in its order, with document 02's changes 1 (PairRounds), 2 (barred tuples, void lines) and 3 (Families); Samples has P1 to P12.
+-- Document 01 as definitions, in its order, with document 02's changes 1 (PairRounds), 2 (barred tuples, void lines), 3 (Families) and 4 (Graph); Samples has P1 to P12.
 pub mod Rules
 pub mod Refusals
 pub mod Answers
@@ -14,6 +14,7 @@ pub mod RoundLines
 pub mod PairRounds
 pub mod Engine
 pub mod Families
+pub mod Graph
 pub mod Views
 pub mod Scoring
 pub mod Programs
@@ -22,3 +23,4 @@ pub mod Borders
 pub mod PairBorders
 pub mod BarredBorders
 pub mod BarredRuns
+pub mod GraphSamples

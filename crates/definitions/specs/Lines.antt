@@ -109,6 +109,11 @@ line kind a b c amount = record { kind = pos kind; a = a; b = b; c = c; amount =
 abbrev pub isKind : ℕ → Line → Bool
 isKind k l = eqZ (l .kind) (pos k)
 
+-- what was read is a line, and of kind k
+abbrev pub hasKind : ℕ → Option Line → Bool
+hasKind k none = false
+hasKind k (some l) = isKind k l
+
 -- unused columns hold 0
 abbrev pub zeroUnless : Bool → ℤ → Bool
 zeroUnless used z = not used ⇒ eqZ z (pos 0)

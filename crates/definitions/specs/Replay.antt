@@ -6,7 +6,7 @@ use Prim.Native.Nat.{ℕ, _+_, _-_}
 use lib.IntN.{ℤ, pos, natAbs}
 use lib.Dec.{leb, ltb, eqb}
 use lib.Signed.{ltZ}
-use Rattle.integers.specs.Words.{if_then_else_, all, last, isIn, withinZ, eqZ, isSome, _⇒_}
+use Rattle.integers.specs.Words.{if_then_else_, all, any, last, isIn, withinZ, eqZ, isSome, _⇒_}
 use Rattle.definitions.specs.declared.Case.{Case}
 use Rattle.definitions.specs.declared.Line.{Line}
 use Rattle.definitions.specs.declared.Refusal.{Refusal}
@@ -27,7 +27,7 @@ use Rattle.definitions.specs.Refusals.{Test, _when_, firstOf}
 use Rattle.definitions.specs.Case.{values, scopes, scopeCount, eachTuple, upperBound, barred}
 use Rattle.definitions.specs.Consistency.{forbidden, allRefuted}
 use Rattle.definitions.specs.Moves.{Move, shift, press, shiftAmount, pressAmount, moved, activeValues, leavesRange}
-use Rattle.definitions.specs.Lines.{readLine, notDue, isKind, outside}
+use Rattle.definitions.specs.Lines.{readLine, notDue, isKind, hasKind, outside}
 
 -- ---- the state
 
@@ -275,3 +275,7 @@ atEnd s =
 -- a list with no number keeps the line rules
 abbrev pub keepsRules : Rules → Case → List ℤ → List (List ℕ) → Bool
 keepsRules r c w ts = not (isSome (atEnd (after r (fresh c w) ts)))
+
+-- some line of the list is a press line
+abbrev pub somePress : Rules → List (List ℕ) → Bool
+somePress r ts = any (λ t. hasKind 2 (readLine (r .amountWidth) t)) ts

@@ -4,7 +4,7 @@
 -- at `engineNext` of the engine's round and run, `runCall` at `pairsNext` of its run of pair rounds only. engine's proofs/Demand3 proves it for
 -- every valid case. Assumes nothing.
 use mathlib.Core.Path.{_≡_}
-use mathlib.Core.Bool.{false}
+use mathlib.Core.Bool.{false, not}
 use mathlib.Core.Option.{none}
 use mathlib.Core.Logic.{_↔_, _⊎_}
 use mathlib.Core.List.{List, []}
@@ -20,16 +20,20 @@ use Rattle.definitions.specs.declared.Refusal.the-variants.{LeavesRange}
 use Rattle.definitions.specs.declared.Round.{Round}
 use Rattle.definitions.specs.declared.RunAnswer.{RunAnswer}
 use Rattle.definitions.specs.Rules.{Rules, rulesOf}
-use Rattle.definitions.specs.Valid.{valid}
+use Rattle.definitions.specs.Refusals.{firstOf}
+use Rattle.definitions.specs.Valid.{workingWeight, handedOver, valid}
 use Rattle.definitions.specs.Answers.{runSays}
 use Rattle.definitions.specs.Case.{objective, upperBound, isLawful}
 use Rattle.definitions.specs.Lines.{linesIn, hasPart}
+use Rattle.definitions.specs.Replay.{somePress}
 use Rattle.definitions.specs.PairRounds.{PairsSettled}
-use Rattle.definitions.specs.Engine.{Settled, Next, engineNext, pairsNext, roundBytes, RunOf, run}
+use Rattle.definitions.specs.Engine.{NoPress, Settled, Next, engineNext, pairsNext, roundBytes, RunOf, run}
+use Rattle.definitions.specs.Graph.{Acyclic}
 use Rattle.calls.specs.EngineCalls.{RunCall, engineRefusal, roundCall, stopRun, stopVoid, endAtLimit, runCall}
 use Rattle.checker.specs.declared.Due.{Due}
 use Rattle.checker.specs.Checker.{afterLines}
 use Rattle.checker_promise.specs.Lists.{begun, Accepted, ReplayTrusted}
+use Rattle.graph_theory.specs.Hilltop.{Meets, Hilltop, Best}
 use Rattle.reach_theory.specs.Most.{mostRounds}
 use Rattle.engine_theory.specs.Runs.{boundLines, VoidNext, callTexts, voidTexts, writtenInTurn, preceded}
 
@@ -126,6 +130,16 @@ pub record PairsKept (c : Case) (v : List ℤ) (u : RunCall) : Type 0 where
   pub unrefused : (u .run .answer ≡ RunAnswer.Settled) ⊎ (u .run .answer ≡ RunAnswer.Limit)
   pub totals : (p : List ℕ) → T (isLawful c v p) → objective c (u .table) p ≡ objective c v p
 
+-- Document 02, change 4, "Hilltop chains", of a run u of the engine that answers settled, from every table that is handed over and not refused
+-- before the first round: "the ceiling equals the greatest working total"
+abbrev pub ChainSettled : Case → RunCall → Type 0
+ChainSettled c u = u .run .answer ≡ RunAnswer.Settled → (p : List ℕ) × Meets c (u .table) p × (u .run .bound ≡ objective c (u .table) p)
+
+-- where only shifts led from the weights w to v, and no press and no void line is left in v: the same plan has the greatest starting total too,
+-- and the ceiling is that total (ours, beyond the documents)
+abbrev pub ChainShifted : Case → List ℤ → List ℤ → ℤ → Type 0
+ChainShifted c w v bound = NoPress c v → (p : List ℕ) × Meets c v p × Best c w p × (bound ≡ objective c w p)
+
 -- demand 3 whole (L11)
 pub record Demand3 (r : Rules) (c : Case) (w : List ℤ) : Type 0 where
   pub any-lines : ReplayTrusted r c w
@@ -144,6 +158,15 @@ pub record Demand3 (r : Rules) (c : Case) (w : List ℤ) : Type 0 where
   pub any-pairs-end : (limit : ℕ) (v : List ℤ) (out : List ℕ) → engineRefusal r pairsNext c v out ≡ none
       → RunEnds r pairsNext (PairsSettled r c) c v limit (runCall r pairsNext c limit v out)
   pub pairs-kept : (limit : ℕ) (v : List ℤ) (out : List ℕ) → engineRefusal r pairsNext c v out ≡ none → PairsKept c v (runCall r pairsNext c limit v out)
+  -- change 4 of document 02, of every state: a table v that is handed over and not refused, reached by whatever moves
+  pub chains : (v : List ℤ) → firstOf (handedOver r (workingWeight r) c v false false) ≡ none → Hilltop c v
+  -- of the engine's run, of a run of pair rounds only, and of any list of lines none of which is a press line, whoever wrote them
+  pub chain-settled : Acyclic c → (limit : ℕ) (v : List ℤ) (out : List ℕ) → engineRefusal r engineNext c v out ≡ none
+      → ChainSettled c (runCall r engineNext c limit v out)
+  pub chain-pairs : Acyclic c → (limit : ℕ) (v : List ℤ) (out : List ℕ) → engineRefusal r pairsNext c v out ≡ none
+      → ChainShifted c v (runCall r pairsNext c limit v out .table) (runCall r pairsNext c limit v out .run .bound)
+  pub chain-lines : Acyclic c → (ts : List (List ℕ)) → T (not (somePress r ts))
+      → ChainShifted c w (afterLines r (begun r c w) ts .table) (upperBound c (afterLines r (begun r c w) ts .table))
 
 -- "For every valid case", by the rules it is under
 abbrev pub Guarantee : Type 0

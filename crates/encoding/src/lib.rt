@@ -442,5 +442,5 @@ pub fn write_record(replay: Replay, out: &mut RecordArray)
 pub fn version() -> u64
     ensures { λ r. ⌜ r ≡ versionNumber ⌝ }
 {
-    10400
+    10500
 }

@@ -1,6 +1,7 @@
 -- Demand 3 holds for every valid case: the replay's half from checker_promise, the run's from engine_theory, over what comes next: the engine's
 -- round, or pair rounds only. Assumes nothing.
 use mathlib.Core.Path.{_≡_, refl, sym, ap, _∙_}
+use mathlib.Core.Bool.{false, not}
 use mathlib.Core.Logic.{_↔_, Iff·trans, _⊎_, inl, inr, ⊎-elim}
 use mathlib.Core.Option.{none}
 use mathlib.Core.List.{List}
@@ -17,28 +18,33 @@ use Rattle.definitions.specs.Answers.{runSays}
 use Rattle.definitions.specs.declared.Case.{Case}
 use Rattle.definitions.specs.Rules.{Rules, Coherent, coherent}
 use Rattle.definitions.specs.Case.{upperBound}
-use Rattle.definitions.specs.Valid.{workingWeight, valid}
+use Rattle.definitions.specs.Refusals.{firstOf}
+use Rattle.definitions.specs.Valid.{workingWeight, handedOver, valid}
 use Rattle.definitions.specs.Lines.{linesIn, hasPart}
-use Rattle.definitions.specs.Replay.{State, fresh, after}
+use Rattle.definitions.specs.Replay.{State, fresh, after, somePress}
 use Rattle.definitions.specs.PairRounds.{PairsSettled}
+use Rattle.definitions.specs.Graph.{Acyclic}
 use Rattle.definitions.specs.Engine.{Settled, nothing, Made, settled, refused, made, voided, engineNext, pairsNext, roundBytes, run}
 use Rattle.calls.specs.EngineCalls.{RoundCall, RunCall, roundMade, engineRefusal, roundCall, runCall}
 use Rattle.definitions.proofs.LineLaws.{no-part}
 use Rattle.theory.proofs.Shape.{Shape}
-use Rattle.theory.proofs.Validity.{Handed, valid-facts, working-handed}
-use Rattle.theory.proofs.Replays.{keeps-iff}
+use Rattle.theory.proofs.Validity.{Handed, handed, valid-facts, working-handed}
+use Rattle.theory.proofs.Replays.{none-iff, keeps-iff, handed-after}
+use Rattle.theory.proofs.ShiftLogs.{lines-kept, lines-lawful}
 use Rattle.theory.proofs.Rounds.{MoveKinds, move-kinds}
+use Rattle.graph_theory.proofs.Plans.{hilltop, kept-best}
 use Rattle.reach_theory.proofs.Counts.{left-most}
-use Rattle.checker_promise.specs.Lists.{ReplayTrusted}
+use Rattle.checker.specs.Checker.{afterLines}
+use Rattle.checker_promise.specs.Lists.{begun, ReplayTrusted}
 use Rattle.checker_promise.proofs.Accepts.{replay-trusted}
 use Rattle.engine_theory.proofs.Runs.{differ, Ends, settles, limits, refuses, voids, Lawful, NeverLeaves, between, ended, run-settled, run-void, run-limit}
-use Rattle.engine_theory.proofs.Runs.{run-log-taken, run-log-ends, run-void-none, run-never-refused, run-settles, run-tallied, run-ends, ends-within}
+use Rattle.engine_theory.proofs.Runs.{run-log-taken, run-log-ends, run-void-none, run-never-refused, run-settles, run-tallied, run-ends, ends-within, run-remains, run-lawful}
 use Rattle.reach_theory.proofs.Next.{pairs-no-void}
 use Rattle.engine_theory.proofs.Engine.{engine-lawful, pairs-lawful, engine-settled, pairs-settled, engine-free, pairs-free, pairs-keep}
 use Rattle.engine_theory.proofs.Engine.{Lessening, run-few, run-unlimited, engine-lessens, pairs-lessen}
 use Rattle.engine_theory.proofs.Calls.{call-has, unmade-table, unmade-output, run-made, run-settled-first, run-refused-first, run-void-first, run-no-round}
 use Rattle.engine_theory.proofs.Calls.{texts-joined, texts-count, taken-iff, same-run, call-lines, call-bound-lines}
-use Rattle.demand3.specs.Demand3.{Follows, RunTrusted, RunIterates, RunEnds, PairsKept, Demand3, Guarantee}
+use Rattle.demand3.specs.Demand3.{Follows, RunTrusted, RunIterates, RunEnds, PairsKept, ChainSettled, ChainShifted, Demand3, Guarantee}
 
 -- what a round that was made hands back
 abbrev statedBound : Round → ℤ
@@ -181,6 +187,33 @@ module _ {r : Rules} (coherent : Coherent r) (c : Case) where
         totals = λ p a. rw (same .table) (pairs-keep coherent limit v h p a);
       }
 
+  -- ---- where the edges form no cycle
+
+  module _ (acyclic : Acyclic c) where
+    module _ (limit : ℕ) (v : List ℤ) (out : List ℕ) where
+      chain-settled : engineRefusal r engineNext c v out ≡ none → ChainSettled c (runCall r engineNext c limit v out)
+      chain-settled taken e =
+          let (h, long) = taken-iff r engineNext c v out .0 taken in
+          let same = same-run coherent (engine-lawful coherent c) limit v out taken in
+          let rest = rw (same .table) at (ends coherent engine-known limit v out taken .rests .0 e) in
+          let (p, meets) = hilltop coherent (run-remains coherent (engine-lawful coherent c) limit v h .handed) acyclic (rest .presses) in
+          rw (same .bound, same .table) (p, meets, sym (meets .total))
+
+      chain-pairs : engineRefusal r pairsNext c v out ≡ none
+          → ChainShifted c v (runCall r pairsNext c limit v out .table) (runCall r pairsNext c limit v out .run .bound)
+      chain-pairs taken rest =
+          let (h, long) = taken-iff r pairsNext c v out .0 taken in
+          let same = same-run coherent (pairs-lawful coherent c) limit v out taken in
+          let met = hilltop coherent (run-remains coherent (pairs-lawful coherent c) limit v h .handed) acyclic (rw (same .table) at rest) in
+          rw (same .bound, same .table) (kept-best (run-lawful coherent (pairs-lawful coherent c) limit v h) (pairs-keep coherent limit v h) met)
+
+    chain-lines : (w : List ℤ) → T (valid r c w) → (ts : List (List ℕ)) → T (not (somePress r ts))
+        → ChainShifted c w (afterLines r (begun r c w) ts .table) (upperBound c (afterLines r (begun r c w) ts .table))
+    chain-lines w t ts n rest =
+        let same = replay-trusted coherent c w t ts .weights in
+        let met = hilltop coherent (handed-after coherent c w t ts) acyclic (rw same at rest) in
+        rw same (kept-best (lines-lawful coherent c w t ts) (lines-kept coherent c w t ts n) met)
+
   pub demand3 : MoveKinds r → (w : List ℤ) → T (valid r c w) → Demand3 r c w
   demand3 kinds w t = record {
     any-lines = replay-trusted coherent c w t;
@@ -191,6 +224,10 @@ module _ {r : Rules} (coherent : Coherent r) (c : Case) where
     any-pairs-table = iterates coherent pairs-known;
     any-pairs-end = ends coherent pairs-known;
     pairs-kept = pairs-kept;
+    chains = λ v e. hilltop coherent (handed r (workingWeight r) c v false false .0 (none-iff (firstOf (handedOver r (workingWeight r) c v false false)) .1 e) .0);
+    chain-settled = chain-settled;
+    chain-pairs = chain-pairs;
+    chain-lines = λ acyclic. chain-lines acyclic w t;
   }
 
 -- for every valid case, by the rules it is under

@@ -26,16 +26,16 @@ use Rattle.definitions.specs.declared.Line.{Line}
 use Rattle.definitions.specs.declared.Refusal.the-variants.{LeavesRange}
 use Rattle.definitions.specs.declared.RunAnswer.{RunAnswer}
 use Rattle.definitions.specs.Rules.{Rules, Coherent}
-use Rattle.definitions.specs.Case.{isLawful, objective, upperBound}
+use Rattle.definitions.specs.Case.{barred, isLawful, objective, upperBound}
 use Rattle.definitions.specs.Valid.{workingWeight, valid}
-use Rattle.definitions.specs.Moves.{Move, shift, press, moved, activeValues, afterMoves}
-use Rattle.definitions.specs.Lines.{lineText, lineLength, lineTooWide, readLine, isKind}
+use Rattle.definitions.specs.Moves.{Move, shift, press, activeValues, afterMoves}
+use Rattle.definitions.specs.Lines.{lineText, lineLength, lineTooWide, readLine, isKind, hasKind}
 use Rattle.definitions.specs.Replay.{State, allBarred, fresh, afterVoid, after, atEnd}
 use Rattle.definitions.specs.Engine.{Next, nothing, round, void, roundBytes, madeOf, makeNext, RunOf, atLimit, onward, runFrom, run}
 use Rattle.definitions.proofs.LineLaws.{line-read, line-length}
 use Rattle.definitions.specs.RoundLines.{raiseLine, moveLines, boundLine, roundLines, roundText, linesOfVoid, voidText}
-use Rattle.engine_theory.specs.Runs.{isBound, boundLines, VoidNext}
-use Rattle.theory.proofs.Shape.{Shape}
+use Rattle.engine_theory.specs.Runs.{boundLines, VoidNext}
+use Rattle.theory.proofs.Places.{IsTuple}
 use Rattle.theory.proofs.Barred.{lawful-same}
 use Rattle.theory.proofs.Presses.{none-lawful}
 use Rattle.theory.proofs.Validity.{Handed, valid-facts, working-handed}
@@ -200,9 +200,9 @@ module _ {r : Rules} {next : Rules → Case → List ℤ → Next} {c : Case} (c
 
     pub round-bound : boundLines r (roundText r c moves v) ≡ lineText (r .amountWidth) (boundLine (upperBound c v)) ∷ []
     round-bound =
-        those-map (λ t. isBound (readLine (r .amountWidth) t)) (lineText (r .amountWidth)) (roundLines c moves v)
+        those-map (λ t. hasKind 4 (readLine (r .amountWidth) t)) (lineText (r .amountWidth)) (roundLines c moves v)
         ∙ ap (map (lineText (r .amountWidth)))
-        (those-cong (roundLines c moves v) (λ l o. ap isBound (line-read (r .amountWidth) l (round-width o)))
+        (those-cong (roundLines c moves v) (λ l o. ap (hasKind 4) (line-read (r .amountWidth) l (round-width o)))
         ∙ those-append (isKind 4) (joined (map moveLines moves)) (boundLine (upperBound c v) ∷ [])
         ∙ ap (λ ls. ls ++ (boundLine (upperBound c v) ∷ [])) (those-none (isKind 4) (joined (map moveLines moves)) (false-is _ (no-bound moves))))
 
@@ -220,9 +220,9 @@ module _ {r : Rules} {next : Rules → Case → List ℤ → Next} {c : Case} (c
 
     void-no-bound : boundLines r (voidText r i raised) ≡ []
     void-no-bound =
-        those-map (λ t. isBound (readLine (r .amountWidth) t)) (lineText (r .amountWidth)) (linesOfVoid i raised)
+        those-map (λ t. hasKind 4 (readLine (r .amountWidth) t)) (lineText (r .amountWidth)) (linesOfVoid i raised)
         ∙ ap (map (lineText (r .amountWidth)))
-        (those-cong (linesOfVoid i raised) (λ l o. ap isBound (line-read (r .amountWidth) l (void-width o)))
+        (those-cong (linesOfVoid i raised) (λ l o. ap (hasKind 4) (line-read (r .amountWidth) l (void-width o)))
         ∙ those-none (isKind 4) (linesOfVoid i raised) (false-is _ (no-raise raised)))
 
     pub void-short : lineLength (r .amountWidth) * length (linesOfVoid i raised) ≤ roundBytes r c
@@ -264,26 +264,29 @@ module _ {r : Rules} {next : Rules → Case → List ℤ → Next} {c : Case} (c
 
 -- ---- a void line means that no assignment is lawful, in any table
 
--- what is lawful stays so
+-- the same tuples are barred, so that the same assignments are lawful
 pub record Remaining (r : Rules) (c : Case) (w₀ w : List ℤ) : Type 0 where
   pub handed : Handed r (workingWeight r) c w
-  pub lawful : (p : List ℕ) → T (isLawful c w₀ p) → T (isLawful c w p)
+  pub bars : (x k l : ℕ) → IsTuple c x k l → barred c w x k l ≡ barred c w₀ x k l
 
-all-lawful : {r : Rules} → Coherent r → {c : Case} {w v : List ℤ} {moves : List Move} → AllAllowed r c w moves v → Shape c → (p : List ℕ) → T (isLawful c w p)
-    → T (isLawful c v p)
-all-lawful coherent no-move s p t = t
-all-lawful coherent {c} {w} (one-more {move} k m) s p t =
-    all-lawful coherent m s p (lawful-same c w (moved c move w) (λ x a b u. allowed-bars coherent c w move k u) s p t)
+all-bars : {r : Rules} → Coherent r → {c : Case} {w v : List ℤ} {moves : List Move} → AllAllowed r c w moves v → {x k l : ℕ} → IsTuple c x k l
+    → barred c v x k l ≡ barred c w x k l
+all-bars coherent no-move u = refl
+all-bars coherent {c} {w} (one-more {move} k m) u = all-bars coherent m u ∙ allowed-bars coherent c w move k u
 
 module _ {r : Rules} {next : Rules → Case → List ℤ → Next} {c : Case} (coherent : Coherent r) (lawful : Lawful r next c) (limit : ℕ) (w₀ : List ℤ)
     (h : Handed r (workingWeight r) c w₀) where
-  run-remains : Remaining r c w₀ (run r next c limit w₀ .weights)
+  pub run-remains : Remaining r c w₀ (run r next c limit w₀ .weights)
   run-remains = run-has r next c (λ done w log. Remaining r c w₀ w) (λ done w v log moves k e f.
       let m : RoundFrom r next c w moves v = record { handed = k .handed; comes = e; leads = f } in
       record {
         handed = handed-on coherent lawful m;
-        lawful = λ p t. all-lawful coherent (lawful .allowed m) (h .shape) p (k .lawful p t);
-      }) limit w₀ (record { handed = h; lawful = λ p t. t }) .kept
+        bars = λ x a b u. all-bars coherent (lawful .allowed m) u ∙ k .bars x a b u;
+      }) limit w₀ (record { handed = h; bars = λ x a b u. refl }) .kept
+
+  -- an assignment that is lawful after the run was so before it
+  pub run-lawful : (p : List ℕ) → T (isLawful c (run r next c limit w₀ .weights) p) → T (isLawful c w₀ p)
+  run-lawful = lawful-same c (run r next c limit w₀ .weights) w₀ (λ x a b u. sym (run-remains .bars x a b u)) (h .shape)
 
   pub run-void-none : run r next c limit w₀ .answer ≡ RunAnswer.Void → (p : List ℕ) → T (isLawful c w₀ p) → ⊥
   run-void-none e p t =
@@ -291,7 +294,7 @@ module _ {r : Rules} {next : Rules → Case → List ℤ → Next} {c : Case} (c
       let k = run-remains in
       let f = lawful .refuting (k .handed) d in
       let w = run r next c limit w₀ .weights in
-      none-lawful (h .shape) p w (k .lawful p t) i (f .variable) (activeValues c w i) raised (f .refutes) (lawful .bars (k .handed) d)
+      none-lawful (h .shape) p w (lawful-same c w₀ w (k .bars) (h .shape) p t) i (f .variable) (activeValues c w i) raised (f .refutes) (lawful .bars (k .handed) d)
 
 -- ---- the log, replayed from starting weights
 

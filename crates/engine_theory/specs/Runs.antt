@@ -1,28 +1,21 @@
 -- Runs round by round: bound lines, what each call wrote, the output after it, a run that goes on after earlier rounds, where a void line comes
 -- next. Assumes nothing.
 use mathlib.Core.Path.{_≡_}
-use mathlib.Core.Bool.{Bool, false}
-use mathlib.Core.Option.{Option, none, some}
 use mathlib.Core.List.{List, [], _∷_, _++_}
 use Prim.Native.Nat.{ℕ, zero, suc, _+_}
 use lib.IntN.{ℤ}
 use Rattle.integers.specs.Words.{joined, those}
 use Rattle.definitions.specs.declared.Case.{Case}
-use Rattle.definitions.specs.declared.Line.{Line}
 use Rattle.definitions.specs.declared.RunAnswer.{RunAnswer}
 use Rattle.definitions.specs.Rules.{Rules}
-use Rattle.definitions.specs.Lines.{readLine, isKind, overwritten}
+use Rattle.definitions.specs.Lines.{readLine, hasKind, overwritten}
 use Rattle.definitions.specs.RoundLines.{voidText}
 use Rattle.definitions.specs.Engine.{Next, nothing, round, void, Made, settled, refused, made, voided, makeNext}
 use Rattle.calls.specs.EngineCalls.{RunCall}
 
 -- the bound lines among these lines
-abbrev pub isBound : Option Line → Bool
-isBound none = false
-isBound (some l) = isKind 4 l
-
 abbrev pub boundLines : Rules → List (List ℕ) → List (List ℕ)
-boundLines r ts = those (λ t. isBound (readLine (r .amountWidth) t)) ts
+boundLines r ts = those (λ t. hasKind 4 (readLine (r .amountWidth) t)) ts
 
 -- a void line comes next
 abbrev pub VoidNext : Rules → (Rules → Case → List ℤ → Next) → Case → List ℤ → Type 0

@@ -32,6 +32,7 @@ use Rattle.definitions.specs.Lines.{overwritten}
 use Rattle.definitions.specs.Families.{supportedValue, largestFamily, allowedAcross, lowestPartner, familyBytes, outside, partnerByte, valueByte, partnerBytes}
 use Rattle.definitions.proofs.Refutation.{others-in}
 use Rattle.calls.specs.Calls.{familyShort, familyFound, FamilyIs, supportedValueCall}
+use Rattle.theory.proofs.Shape.{lower-below}
 use Rattle.theory.proofs.Validity.{Handed}
 use Rattle.tables.proofs.Order.{outcome-done, outcome-refused}
 use Rattle.tables.proofs.Answered.{known, limits-known}
@@ -201,7 +202,7 @@ module _ (c : Case) (w : List ℤ) (h : Handed (rulesOf c) (workingWeight (rules
     end-in e end u = by (eqb end 0)
       where
         by : (b : Bool) → (if b then lowerEnd c e else upperEnd c e) < c .n
-        by true = omega (arith, h .shape .ascending e u, h .shape .below-n e u)
+        by true = lower-below (h .shape) e u
         by false = h .shape .below-n e u
 
     open-partner : (e end v u : ℕ) → e < c .m → end < 2 → v < c .d → u < c .d

@@ -3,7 +3,7 @@
 use mathlib.Core.Path.{_≡_, refl, sym, ap, ap₂, subst, _∙_}
 use mathlib.Core.Bool.{Bool, true, false, not, _&&_, _||_}
 use mathlib.Core.Option.{none, some, Option·none-ne-some, Option·some-ne-none, Option·some-injective}
-use mathlib.Core.Logic.{_↔_, _⊎_, inl, inr}
+use mathlib.Core.Logic.{_≢_, _↔_, _⊎_, inl, inr}
 use mathlib.Core.List.{List, [], _∷_, _++_, map, append-assoc, List·Memᴰ, List·Memᴰ·head}
 use mathlib.Core.List.{List·Memᴰ·tail, List·Memᴰ·not-nil, List·Memᴰ·append-cases, Memᴰ·append-left, Memᴰ·append-right, Memᴰ·map, Memᴰ·of-map, Memᴰ·cast}
 use Prim.Native.Nat.{ℕ, zero, suc, _+_, _≤_, _<_}
@@ -274,6 +274,19 @@ isIn-in xs x = (
   λ t. let (y, m, s) = any-in (λ y. eqb y x) xs .0 t in Memᴰ·cast (sym (eqb→eq y x s)) m,
   λ m. any-in (λ y. eqb y x) xs .1 (x, m, eqb-refl x),
 )
+
+pub isIn-below : (n x : ℕ) → T (isIn (below n) x) ↔ x < n
+isIn-below n x = (λ t. in-below n (isIn-in (below n) x .0 t), λ h. isIn-in (below n) x .1 (below-in h))
+
+-- all numbers below n but one
+pub isIn-but-one : (n i x : ℕ) → T (isIn (those (λ y. not (eqb y i)) (below n)) x) ↔ (x < n) × (x ≢ i)
+isIn-but-one n i x = (
+  λ t. let (m, o) = in-those other (below n) (isIn-in (those other (below n)) x .0 t) in (in-below n m, not-eqb-iff x i .0 o),
+  λ (h, o). isIn-in (those other (below n)) x .1 (those-in other (below-in h) (not-eqb-iff x i .1 o)),
+)
+  where
+    other : ℕ → Bool
+    other y = not (eqb y i)
 
 pub isIn-append : (xs ys : List ℕ) (x : ℕ) → isIn (xs ++ ys) x ≡ (isIn xs x || isIn ys x)
 isIn-append xs ys x = any-append (λ y. eqb y x) xs ys

@@ -18,7 +18,7 @@ use Rattle.definitions.specs.Case.{values}
 use Rattle.definitions.specs.Consistency.{Family, Supported, marks, allowed, refuted}
 use Rattle.definitions.proofs.Refutation.{refuted-sound, refuted-complete}
 use Rattle.networks.specs.Network.{Network, SupportedIn, supportedIn, familiesOf, largest, networkOf, fixedSets}
-use Rattle.theory.proofs.Shape.{Shape}
+use Rattle.theory.proofs.Shape.{Shape, ends-below}
 
 -- the ends of edges are variables
 abbrev pub Ends : Network → Type 0
@@ -264,7 +264,7 @@ module _ {N M : Network} {G H : Family} (ends : Ends N) (same : Alike N M) (sets
 
 module _ (c : Case) (w : List ℤ) (R : ℕ → Bool) where
   pub case-ends : Shape c → Ends (networkOf c w R)
-  case-ends shape e h = (omega (arith, shape .ascending e h, shape .below-n e h), shape .below-n e h)
+  case-ends shape = ends-below shape
 
   module _ (i k : ℕ) (h : i < c .n) where
     pub supported-network : {S : Family} → Supported c w R i k S ↔ SupportedIn (networkOf c w R) (fixedSets c w R i k) S

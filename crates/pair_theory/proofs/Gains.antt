@@ -21,7 +21,7 @@ use Rattle.definitions.specs.Case.{values, lowerEnd, upperEnd, eachTuple, weigh
 use Rattle.definitions.specs.Valid.{workingWeight}
 use Rattle.definitions.specs.PairRounds.{threeAt, threeGreatest, isChoice, someChoice, choiceTotals, bestOfThree, gains, passedOver, lowestPair, Gains}
 use Rattle.definitions.specs.PairRounds.{PairsSettled}
-use Rattle.theory.proofs.Shape.{Shape}
+use Rattle.theory.proofs.Shape.{Shape, lower-below}
 use Rattle.theory.proofs.Places.{IsTuple, variable-tuple, edge-tuple, tuple-in, in-tuples, active-weight}
 use Rattle.theory.proofs.Barred.{active-free}
 use Rattle.theory.proofs.Validity.{Handed}
@@ -30,7 +30,7 @@ use Rattle.pair_theory.specs.Closed.{shifted, bothAt, tupleLowers, pairL
 -- the tuples of the pair's variables
 module _ (c : Case) (shape : Shape c) (e : ℕ) (h : e < c .m) where
   pub lower-tuple : {k : ℕ} → k < c .d → IsTuple c (lowerEnd c e) k 0
-  lower-tuple {k} p = variable-tuple c (lowerEnd c e) k (omega (arith, shape .ascending e h, shape .below-n e h)) p
+  lower-tuple {k} p = variable-tuple c (lowerEnd c e) k (lower-below shape e h) p
 
   pub upper-tuple : {l : ℕ} → l < c .d → IsTuple c (upperEnd c e) l 0
   upper-tuple {l} q = variable-tuple c (upperEnd c e) l (shape .below-n e h) q

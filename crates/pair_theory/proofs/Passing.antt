@@ -27,6 +27,7 @@ use Rattle.definitions.specs.Moves.{Difference, Move, shift, press, plus, spare
 use Rattle.definitions.specs.Moves.{keepsRange, leavesRange, afterMoves}
 use Rattle.definitions.specs.PairRounds.{threeGreatest, isChoice, someChoice, pairGain, gains, wholeShift, endShifts, pairRound, lowersBound, passedOver}
 use Rattle.definitions.specs.RoundLines.{moveLines}
+use Rattle.theory.proofs.Shape.{lower-below}
 use Rattle.theory.proofs.Places.{IsTuple, edge-tuple, weight-most, some-active, active-weight, plus-cong, plus-plus, plus-zero}
 use Rattle.theory.proofs.Words.{none-below}
 use Rattle.theory.proofs.Barred.{active-free, stays-in-range, weight-spared, bars-kept}
@@ -237,7 +238,7 @@ module _ {r : Rules} {c : Case} {w : List ℤ} {e : ℕ} (coherent : Coherent r)
     -- where no sum leaves the range, no table on the way does
     part-stays : T (not (pairLeaves r c w e)) → ((k l : ℕ) → k < c .d → l < q → k < p) → T (not (leavesRange r c w table))
     part-stays n first = part-in-range .1 (by-pair c e (λ x. (k l : ℕ) → IsTuple c x k l → T (keepsRange r (weight c w x k l) (weight c table x k l)))
-        (λ k l t. rw (t .alone (omega (arith, h .shape .ascending e edge, h .shape .below-n e edge)))
+        (λ k l t. rw (t .alone (lower-below (h .shape) e edge))
         (by-part (lower-tuple c (h .shape) e edge (t .one)) (part-lower c w e (h .shape) edge p q k)
         (λ f. own-stays r (ltb k p) (weight c w (lowerEnd c e) k 0) (shifted c w (lowerEnd c e) k) (shifted-free c w (lowerEnd c e) k f))))
         (λ k l t. rw (t .alone (h .shape .below-n e edge))

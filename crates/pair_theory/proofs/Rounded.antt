@@ -18,7 +18,7 @@ use Rattle.definitions.specs.Case.{lowerEnd, upperEnd, scopeCount, scopes, weig
 use Rattle.definitions.specs.Case.{barredWeight, barred, whollyBarred, isLawful}
 use Rattle.definitions.specs.Moves.{Difference, plus, spared, onlyWhere, endVariable, endValue, shiftBy}
 use Rattle.definitions.specs.PairRounds.{threeGreatest}
-use Rattle.theory.proofs.Shape.{Shape}
+use Rattle.theory.proofs.Shape.{Shape, lower-below}
 use Rattle.theory.proofs.Places.{IsTuple, variable-tuple, edge-tuple, each-cong, greatest-there}
 use Rattle.theory.proofs.Totals.{objectiveOf, firstUsed, secondUsed, at-used, objectiveOf-add, objectiveOf-cong, objective-plus}
 use Rattle.theory.proofs.Shifts.{shift-keeps}
@@ -163,7 +163,7 @@ module _ (c : Case) (w : List ℤ) (e : ℕ) where
         ▸ if-true (shifted c w (upperEnd c e) l) (pos 0) (ltb l (c .d)) (simp tests u) ▸ simp flat (omega zs)
 
     pub greatest-lower : T (not (whollyBarred c w (lowerEnd c e))) → greatest c (pairRounded c w e) (lowerEnd c e) ≡ pos 0
-    greatest-lower some = all-spent (omega (arith, shape .ascending e h, shape .below-n e h)) some rounded-lower
+    greatest-lower some = all-spent (lower-below shape e h) some rounded-lower
 
     pub greatest-upper : T (not (whollyBarred c w (upperEnd c e))) → greatest c (pairRounded c w e) (upperEnd c e) ≡ pos 0
     greatest-upper some = all-spent (shape .below-n e h) some rounded-upper

@@ -16,7 +16,7 @@ use Rattle.definitions.specs.Case.{scopeCount, active}
 use Rattle.definitions.specs.Consistency.{Family, Supported, allowed, refuted, allRefuted}
 use Rattle.definitions.specs.Moves.{activeValues}
 use Rattle.definitions.proofs.Refutation.{refuted-sound, refuted-complete, refuted-raised}
-use Rattle.theory.proofs.Shape.{Shape}
+use Rattle.theory.proofs.Shape.{Shape, ends-below}
 
 pub refuted-more : (c : Case) (w : List ℤ) (i : ℕ) (R Q : ℕ → Bool) → ((x : ℕ) → x < scopeCount c → T (R x) → T (Q x))
     → T (allRefuted c w R i (activeValues c w i)) → T (allRefuted c w Q i (activeValues c w i))
@@ -54,7 +54,7 @@ module _ (c : Case) (w : List ℤ) (i : ℕ) (h : i < c .n) where
 
     own-refuted : Shape c → T (refuted c w Q i k) → T (refuted c w R i k)
     own-refuted shape t = refuted-complete c w R i k (record {
-      none-exists = λ S s. refuted-sound c w Q i k (λ e g. (omega (arith, shape .ascending e g, shape .below-n e g), shape .below-n e g)) t .none-exists S
+      none-exists = λ S s. refuted-sound c w Q i k (ends-below shape) t .none-exists S
           (own-supported S s);
     })
 

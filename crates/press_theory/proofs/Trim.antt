@@ -24,7 +24,7 @@ use Rattle.definitions.specs.Consistency.{Family, Supported, allowed, refuted, 
 use Rattle.definitions.specs.Engine.{chosen, NoPress, trimmed, keptScopes}
 use Rattle.definitions.specs.Moves.{activeRefuted}
 use Rattle.definitions.proofs.Refutation.{refuted-sound, not-refuted}
-use Rattle.theory.proofs.Shape.{Shape}
+use Rattle.theory.proofs.Shape.{Shape, ends-below}
 use Rattle.press_theory.proofs.Raised.{refuted-more}
 use Rattle.theory.proofs.Places.{IsTuple, variable-tuple, edge-tuple, some-active-value}
 
@@ -67,7 +67,7 @@ pub no-support : (c : Case) (w : List ℤ) (i : ℕ) (raised : List ℕ) → Sha
     → (k : ℕ) → k < c .d → T (active c w i k 0) → (S : Family) → Supported c w (isIn raised) i k S → ⊥
 no-support c w i raised shape t k h a =
     let r = all-at (λ k. active c w i k 0 ⇒ refuted c w (isIn raised) i k) (c .d) t k h in
-    refuted-sound c w (isIn raised) i k (λ e g. omega (arith, shape .ascending e g, shape .below-n e g)) ((simp tests at r) a) .none-exists
+    refuted-sound c w (isIn raised) i k (ends-below shape) ((simp tests at r) a) .none-exists
 
 -- ---- the variable
 

@@ -25,7 +25,7 @@ use Rattle.definitions.specs.Valid.{workingWeight}
 use Rattle.definitions.specs.Moves.{Move, leavesRange, afterMoves}
 use Rattle.definitions.specs.PairRounds.{gains, passedOver, someChoice, lowestPair}
 use Rattle.definitions.specs.Engine.{chosen, keptScopes, leastGap, round, void, engineNext, pairsNext}
-use Rattle.theory.proofs.Shape.{Shape}
+use Rattle.theory.proofs.Shape.{Shape, lower-below}
 use Rattle.theory.proofs.Places.{IsTuple, by-tuple, variable-tuple, edge-tuple, active-weight, some-active}
 use Rattle.theory.proofs.Barred.{active-free}
 use Rattle.theory.proofs.Validity.{Handed}
@@ -100,7 +100,7 @@ module _ (c : Case) (w v : List ℤ) (shape : Shape c) (level : (i : ℕ) → i 
   edges-left : (e : ℕ) → e < c .m → edgeLeft c v e ≤ edgeLeft c w e
   edges-left e h = unless-mono (bothLevel c w e) (bothLevel c v e) (suc (c .d * c .d)) (λ t.
       and-intro (isLevel c v (lowerEnd c e)) (isLevel c v (upperEnd c e))
-      (level (lowerEnd c e) (omega (arith, shape .ascending e h, shape .below-n e h)) (and-left (isLevel c w (lowerEnd c e)) (isLevel c w (upperEnd c e)) t))
+      (level (lowerEnd c e) (lower-below shape e h) (and-left (isLevel c w (lowerEnd c e)) (isLevel c w (upperEnd c e)) t))
       (level (upperEnd c e) (shape .below-n e h) (and-right (isLevel c w (lowerEnd c e)) (isLevel c w (upperEnd c e)) t)))
 
 -- the active values of variables stay active
@@ -215,7 +215,7 @@ module _ {r : Rules} {c : Case} {w : List ℤ} {e : ℕ} (coherent : Coherent r)
   shape = handed .shape
 
   lower-in : lowerEnd c e < c .n
-  lower-in = omega (arith, shape .ascending e h, shape .below-n e h)
+  lower-in = lower-below shape e h
 
   -- what is shifted of a value of a level variable is no less than its greatest weight
   level-shifted : (i k : ℕ) → k < c .d → T (isLevel c w i) → greatest c w i ≤ℤ shifted c w i k

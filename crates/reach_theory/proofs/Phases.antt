@@ -28,7 +28,7 @@ use Rattle.definitions.specs.Valid.{inWorking, workingWeight}
 use Rattle.definitions.specs.Moves.{Move, activePress, difference, leavesRange, afterMoves}
 use Rattle.definitions.specs.PairRounds.{isChoice, someChoice, gains, passedOver, pairRound, lowestPair}
 use Rattle.definitions.specs.Engine.{chosen, keptScopes, leastGap, round, engineNext}
-use Rattle.theory.proofs.Shape.{Shape}
+use Rattle.theory.proofs.Shape.{Shape, lower-below}
 use Rattle.theory.proofs.Words.{none-below}
 use Rattle.theory.proofs.Places.{IsTuple, by-tuple, variable-tuple, edge-tuple, each-cong, greatest-within, greatest-at, some-active, active-weight}
 use Rattle.theory.proofs.Places.{some-active-value}
@@ -113,7 +113,7 @@ module _ {r : Rules} {c : Case} {w : List ℤ} (coherent : Coherent r) (h : Hand
 
   module _ (early : Early r c w) (e : ℕ) (o : e < c .m) (t : T (pairLowers c w e)) where
     lower-within : (k : ℕ) → k < c .d → Within (r .starting) (shifted c w (lowerEnd c e) k)
-    lower-within k p = early .variables (lowerEnd c e) k (omega (arith, shape .ascending e o, shape .below-n e o)) p
+    lower-within k p = early .variables (lowerEnd c e) k (lower-below shape e o) p
 
     upper-within : (k : ℕ) → k < c .d → Within (r .starting) (shifted c w (upperEnd c e) k)
     upper-within k p = early .variables (upperEnd c e) k (shape .below-n e o) p
@@ -155,7 +155,7 @@ module _ {r : Rules} {c : Case} {w : List ℤ} (coherent : Coherent r) (h : Hand
         go (inr s) (inl near) = inl (other-edge f (r .starting) n (not-eqb-iff f e .0 s) near)
         go (inr s) (inr (zero, far)) = inr (
           λ k p. (
-            zeros-stay (lowerEnd c f) k (omega (arith, shape .ascending f n, shape .below-n f n)) p (zero k p .0),
+            zeros-stay (lowerEnd c f) k (lower-below shape f n) p (zero k p .0),
             zeros-stay (upperEnd c f) k (shape .below-n f n) p (zero k p .1),
           ),
           other-edge f (3 * r .starting) n (not-eqb-iff f e .0 s) far,

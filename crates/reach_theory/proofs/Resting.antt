@@ -1,36 +1,25 @@
 -- Where no press and no void line is left no pair is left either: a supported family with all other scopes raised holds, for the two ends of an
 -- edge, values that are active together with the tuple that they make. So such a state is settled. Assumes nothing.
 use mathlib.Core.Path.{subst}
-use mathlib.Core.Bool.{Bool, true, not, _&&_}
-use mathlib.Core.Logic.{_≢_, _↔_, ⊎-elim}
+use mathlib.Core.Bool.{not}
+use mathlib.Core.Logic.{_↔_, ⊎-elim}
 use mathlib.Core.List.{List}
 use Prim.Native.Nat.{ℕ, _+_, _<_}
 use native.Mathlib.Omega.{arith}
 use lib.IntN.{ℤ}
-use lib.Dec.{T, T-not, eqb}
-use Rattle.integers.specs.Words.{isIn}
-use Rattle.integers.specs.Tests.{either, not-eqb-iff}
-use Rattle.integers.specs.Lists.{below-in, those-in, isIn-in}
+use lib.Dec.{T, T-not}
+use Rattle.integers.specs.Tests.{either}
 use Rattle.definitions.specs.declared.Case.{Case}
 use Rattle.definitions.specs.Rules.{Rules, Coherent}
-use Rattle.definitions.specs.Case.{scopeCount, lowerEnd, upperEnd, active}
+use Rattle.definitions.specs.Case.{lowerEnd, upperEnd}
 use Rattle.definitions.specs.Valid.{workingWeight}
-use Rattle.definitions.specs.Consistency.{allowed, others}
 use Rattle.definitions.specs.PairRounds.{gains, passedOver}
 use Rattle.definitions.specs.Engine.{NoPress, Settled}
+use Rattle.definitions.proofs.Refutation.{others-active}
 use Rattle.theory.proofs.Validity.{Handed}
 use Rattle.pair_theory.proofs.Gains.{taken-choice, gains-iff, active-no-gain}
 
--- allowed in a raised scope
-raised-active : (r a : Bool) → T r → T (not (r && not a)) → T a
-raised-active true true t s = tt
-
 module _ {r : Rules} {c : Case} {w : List ℤ} (coherent : Coherent r) (h : Handed r (workingWeight r) c w) (rest : NoPress c w) where
-  module _ (i x : ℕ) (o : x < scopeCount c) (other : x ≢ i) where
-    other-active : (k l : ℕ) → T (allowed c w (isIn (others c i)) x k l) → T (active c w x k l)
-    other-active k l = raised-active (isIn (others c i) x) (active c w x k l)
-        (isIn-in (others c i) x .1 (those-in (λ y. not (eqb y i)) (below-in o) (not-eqb-iff x i .1 other)))
-
   pub no-press-no-gain : (e : ℕ) → e < c .m → T (not (gains c w e))
   no-press-no-gain e o =
       let i = lowerEnd c e in
@@ -40,8 +29,8 @@ module _ {r : Rules} {c : Case} {w : List ℤ} (coherent : Coherent r) (h : Hand
       let (k, p, a, S, family) = rest i (omega arith) in
       let (v, q, s) = family .non-empty i (omega arith) in
       let (u, g, t, m) = family .partner-above e k o p (subst (λ (v : ℕ). T (S i v)) (family .fixed v q s) s) in
-      active-no-gain coherent h o k u p g a (other-active i j (omega arith) (omega arith) u 0 (family .allowed-only j u in-n g t))
-      (other-active i (c .n + e) (omega arith) (omega arith) k u m)
+      active-no-gain coherent h o k u p g a (others-active c w i j u 0 (omega arith) (omega arith) (family .allowed-only j u in-n g t))
+      (others-active c w i (c .n + e) k u (omega arith) (omega arith) m)
 
 pub settled-iff : {r : Rules} {c : Case} {w : List ℤ} → Coherent r → Handed r (workingWeight r) c w → Settled r c w ↔ NoPress c w
 settled-iff {r} {c} {w} coherent h = (

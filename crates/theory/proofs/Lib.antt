@@ -10,3 +10,4 @@ pub mod Presses
 pub mod Validity
 pub mod Replays
 pub mod Rounds
+pub mod ShiftLogs

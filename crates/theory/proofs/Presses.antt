@@ -19,7 +19,7 @@ use Rattle.definitions.specs.Consistency.{Family, Supported, Refuted, forbidden
 use Rattle.definitions.specs.Moves.{Difference, onlyWhere, pressBy, spared, press, moved}
 use Rattle.definitions.specs.Replay.{allBarred}
 use Rattle.definitions.proofs.Refutation.{refuted-sound}
-use Rattle.theory.proofs.Shape.{Shape}
+use Rattle.theory.proofs.Shape.{Shape, lower-below, ends-below}
 use Rattle.theory.proofs.Words.{sum-above}
 use Rattle.theory.proofs.Totals.{objectiveOf, objectiveOf-one, used-variable, used-edge, objectiveOf-add}
 use Rattle.theory.proofs.Totals.{objective-plus, value-used, used-tuple, at-used, firstUsed, secondUsed}
@@ -28,13 +28,10 @@ use Rattle.theory.proofs.Barred.{each-all, lawful-iff, spared-used}
 allRefuted-sound : {c : Case} → Shape c → (w : List ℤ) (raised : List ℕ) (i : ℕ) (lowered : ℕ → Bool)
     → T (allRefuted c w (isIn raised) i lowered) → (k : ℕ) → k < c .d → T (lowered k) → Refuted c w (isIn raised) i k
 allRefuted-sound {c} s w raised i lowered r k g t =
-    refuted-sound c w (isIn raised) i k (λ e u. (omega (arith, s .ascending e u, s .below-n e u), s .below-n e u))
+    refuted-sound c w (isIn raised) i k (ends-below s)
     (imp-elim (lowered k) (refuted c w (isIn raised) i k) (all-at (λ k. lowered k ⇒ refuted c w (isIn raised) i k) (c .d) r k g) t)
 
 module _ {c : Case} (s : Shape c) (p : List ℕ) (assigned : T (isAssignment c p)) (w : List ℤ) (R : ℕ → Bool) where
-  lower-below : (e : ℕ) → e < c .m → lowerEnd c e < c .n
-  lower-below e h = omega (arith, s .ascending e h, s .below-n e h)
-
   -- an assignment is a family
   abbrev alone : Family
   alone j v = eqb v (valueOf p j)
@@ -53,7 +50,7 @@ module _ {c : Case} (s : Shape c) (p : List ℕ) (assigned : T (isAssignment c p
     );
     partner-below = λ e u h g t. (
       valueOf p (lowerEnd c e),
-      value-used s p assigned (lowerEnd c e) (lower-below e h),
+      value-used s p assigned (lowerEnd c e) (lower-below s e h),
       eqb-refl (valueOf p (lowerEnd c e)),
       rw (eqb→eq u (valueOf p (upperEnd c e)) t) (edge e h),
     );

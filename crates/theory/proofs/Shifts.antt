@@ -12,7 +12,7 @@ use Rattle.integers.specs.Tests.{if-cases}
 use Rattle.definitions.specs.declared.Case.{Case}
 use Rattle.definitions.specs.Case.{valueOf, lowerEnd, upperEnd, isLawful, objective}
 use Rattle.definitions.specs.Moves.{onlyWhere, endVariable, endValue, shiftBy, spared, shift, moved}
-use Rattle.theory.proofs.Shape.{Shape}
+use Rattle.theory.proofs.Shape.{Shape, lower-below}
 use Rattle.theory.proofs.Totals.{objectiveOf, objectiveOf-one, used-variable, used-edge, objectiveOf-add, objective-plus}
 use Rattle.theory.proofs.Barred.{lawful-iff, spared-used}
 
@@ -26,7 +26,7 @@ module _ (c : Case) (e end v : ℕ) (a : ℤ) where
 
   module _ (s : Shape c) (h : e < c .m) where
     end-below : endVariable c e end < c .n
-    end-below = if-cases (λ x. x < c .n) (eqb end 0) (lowerEnd c e) (upperEnd c e) (λ t. omega (arith, s .ascending e h, s .below-n e h)) (λ t. s .below-n e h)
+    end-below = if-cases (λ x. x < c .n) (eqb end 0) (lowerEnd c e) (upperEnd c e) (λ t. lower-below s e h) (λ t. s .below-n e h)
 
     pub shift-keeps : (p : List ℕ) → objectiveOf c (shiftBy c e end v a) p ≡ pos 0
     shift-keeps p =

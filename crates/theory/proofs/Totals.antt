@@ -20,7 +20,7 @@ use Rattle.definitions.specs.declared.Case.{Case}
 use Rattle.definitions.specs.Case.{lowerEnd, upperEnd, scopeCount, scopes, isVariable, edgeOf, weight}
 use Rattle.definitions.specs.Case.{isAssignment, valueOf, atUsed, objective, greatest, upperBound, active}
 use Rattle.definitions.specs.Moves.{Difference, plus, onlyWhere}
-use Rattle.theory.proofs.Shape.{Shape}
+use Rattle.theory.proofs.Shape.{Shape, lower-below}
 use Rattle.theory.proofs.Words.{sum-one}
 use Rattle.theory.proofs.Places.{IsTuple, by-scope, variable-is, edge-is, edge-of, variable-tuple}
 use Rattle.theory.proofs.Places.{edge-tuple, weight-plus, weight-most, active-weight, inactive-less}
@@ -75,7 +75,7 @@ module _ {c : Case} (s : Shape c) (p : List ℕ) (a : T (isAssignment c p)) wher
   used-tuple = by-scope c (λ x. IsTuple c x (firstUsed c p x) (secondUsed c p x))
       (λ i h. rw (used-variable c p (λ k l. k) i h, used-variable c p (λ k l. l) i h) (variable-tuple c i (valueOf p i) h (value-used i h)))
       (λ e h.
-      let o : lowerEnd c e < c .n = omega (arith, s .ascending e h, s .below-n e h) in
+      let o : lowerEnd c e < c .n = lower-below s e h in
       rw (used-edge c p (λ k l. k) e, used-edge c p (λ k l. l) e)
       (edge-tuple c e (valueOf p (lowerEnd c e)) (valueOf p (upperEnd c e)) h (value-used (lowerEnd c e) o) (value-used (upperEnd c e) (s .below-n e h))))
 

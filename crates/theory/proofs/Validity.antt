@@ -21,7 +21,7 @@ use Rattle.definitions.proofs.RulesLaws.{rules-fit}
 use Rattle.definitions.specs.Refusals.{Test, firstOf}
 use Rattle.definitions.specs.Moves.{Difference, plus, spared, leavesRange}
 use Rattle.definitions.specs.Valid.{inStarting, inWorking, startingWeight, workingWeight, wrongAssignment, valueOut, handedOver, valid}
-use Rattle.theory.proofs.Shape.{Shape}
+use Rattle.theory.proofs.Shape.{Shape, ends-below}
 use Rattle.theory.proofs.Words.{none-below}
 use Rattle.theory.proofs.Places.{IsTuple, each-cong, all-weights, plus-length}
 use Rattle.theory.proofs.Barred.{bars-kept, working-kept}
@@ -84,7 +84,7 @@ module _ (r : Rules) (range : ℤ → Bool) (c : Case) (w : List ℤ) (wrong out
           (
             (e, i),
             (
-              (o, λ e u. (omega (arith, s .ascending e u, s .below-n e u), s .below-n e u)),
+              (o, ends-below s),
               (
                 s .ascending,
                 (

@@ -48,6 +48,12 @@ pub struct Value {
     pub value: usize,
 }
 
+#[repr(C)]
+pub struct Verdict {
+    pub number: u64,
+    pub yes: u64,
+}
+
 extern "C" {
     pub fn ceiling_version() -> u64;
     pub fn ceiling_case_size(text: *const u8, n: usize) -> Size;
@@ -73,6 +79,7 @@ extern "C" {
         partners: *mut u8,
         p: usize,
     ) -> Value;
+    pub fn ceiling_is_acyclic(case: *const u8) -> Verdict;
     pub fn ceiling_replay_start(case: *const u8, table: *const i64, t: usize, record: *mut u8) -> u64;
     pub fn ceiling_replay_lines(
         case: *const u8,

@@ -242,6 +242,27 @@ impl Case {
         let r = unsafe { c::ceiling_supported_value(self.0.as_ptr(), table.as_ptr(), table.len(), link, family, f, partners, p) };
         answer(r.number, 0, r.value)
     }
+
+    /// Whether the pairs form no loop. No table is asked for: only the case's limits and its pairs' ends.
+    ///
+    /// ```
+    /// use ceiling::{Case, CASE};
+    ///
+    /// // Three links, one channel, and the pairs (0,1), (1,2) and (0,2), of which at first two count (docs/LIBRARY.md, Layouts).
+    /// let mut bytes = [0; CASE];
+    /// (bytes[0], bytes[8], bytes[16]) = (3, 1, 2);
+    /// bytes[24..27].copy_from_slice(&[0, 1, 0]);
+    /// bytes[120..123].copy_from_slice(&[1, 2, 2]);
+    /// assert_eq!(Case::from_bytes(bytes).is_acyclic(), Ok(true));
+    /// bytes[16] = 3;
+    /// assert_eq!(Case::from_bytes(bytes).is_acyclic(), Ok(false));
+    /// bytes[0] = 2; // link 2 is not there
+    /// assert_eq!(Case::from_bytes(bytes).is_acyclic().unwrap_err().number, 5);
+    /// ```
+    pub fn is_acyclic(&self) -> Result<bool, Refused> {
+        let r = unsafe { c::ceiling_is_acyclic(self.0.as_ptr()) };
+        answer(r.number, 0, r.yes != 0)
+    }
 }
 
 impl Replay {

@@ -1,6 +1,6 @@
 //! Calls every function of the Rust wrapper on accepted and on refused input and compares answers and everything lent with what document 01
-//! says, and document 02 of pair rounds, barred channels and partners. Each call is a test: a line for each that failed, the count as the last line.
-//! vectors.c has more rows; here the wrapper is tried. A case's table of the wrong length (number 4) cannot be handed to `read_case`, which makes
+//! says, and document 02 of pair rounds, barred channels, partners and loops. Each call is a test: a line for each that failed, the count as the last
+//! line. vectors.c has more rows; here the wrapper is tried. A case's table of the wrong length (number 4) cannot be handed to `read_case`, which makes
 //! the table itself.
 
 use ceiling::{case_size, engine_version, read_case, version, view, Case, End, Ending, Refused, Replay, Round, Run, Size};
@@ -315,6 +315,37 @@ fn kept(count: &mut Count) {
     }
 }
 
+/// Whether the pairs form no loop, asked of the case alone: of P1, whose pairs do, 4 and 8 are not answered.
+fn loops(count: &mut Count) {
+    let rows: [(&str, u64, &[[u8; 2]], Result<bool, Refused>); 12] = [
+        ("one link", 1, &[], Ok(true)),
+        ("one pair", 2, &[[0, 1]], Ok(true)),
+        ("a chain from its end", 4, &[[2, 3], [1, 2], [0, 1]], Ok(true)),
+        ("its ends joined", 4, &[[2, 3], [1, 2], [0, 1], [0, 3]], Ok(false)),
+        ("a star", 5, &[[0, 2], [1, 2], [2, 3], [2, 4]], Ok(true)),
+        ("two components", 4, &[[0, 1], [2, 3]], Ok(true)),
+        ("a loop of three", 3, &[[0, 1], [0, 2], [1, 2]], Ok(false)),
+        ("a loop beside a chain", 5, &[[0, 1], [2, 3], [3, 4], [2, 4]], Ok(false)),
+        ("3 before 5", 0, &[[0, 1]], refused(3, 0)),
+        ("5 before 6", 2, &[[1, 0], [0, 2]], refused(5, 0)),
+        ("6 before 7", 2, &[[0, 1], [0, 1], [1, 1]], refused(6, 0)),
+        ("7 before a loop", 3, &[[0, 1], [0, 2], [1, 2], [0, 1]], refused(7, 0)),
+    ];
+    for (name, n, pairs, answer) in rows {
+        count.test("is_acyclic", name, sample(n, 2, pairs, &[]).case().is_acyclic() == answer);
+    }
+    for (name, number, s) in faults(WORKING) {
+        let answer = if number == 4 || number == 8 { Ok(false) } else { refused(number, 0) };
+        count.test("is_acyclic", name, s.case().is_acyclic() == answer);
+    }
+    let last = LINKS as u8 - 1;
+    let mut pairs: Vec<[u8; 2]> = (0..last).map(|i| [i, i + 1]).collect();
+    let longest = |pairs: &[[u8; 2]]| sample(LINKS as u64, CHANNELS as u64, pairs, &[]).case().is_acyclic();
+    count.test("is_acyclic", "the longest chain", longest(&pairs) == Ok(true));
+    pairs.push([0, last]);
+    count.test("is_acyclic", "the longest loop", longest(&pairs) == Ok(false));
+}
+
 const PRESS: [i64; 5] = [2, 0, 2, 0, 2];
 const FIRST: [i64; 5] = [3, 1, 0, 0, 0];
 const LAST: [i64; 5] = [3, 2, 0, 0, 0];
@@ -551,6 +582,7 @@ fn all(count: &mut Count) {
     totals(count);
     barred(count);
     kept(count);
+    loops(count);
     replays(count);
     views(count);
     engine(count);

@@ -94,7 +94,7 @@ fn union_facts(
 }
 
 /// Some pair's links are connected by pairs before it.
-fn has_loop(case: &Case) -> bool {
+pub fn has_loop(case: &Case) -> bool {
     let mut part: Vec<usize> = (0..case.variables).collect();
     case.edges.iter().any(|&(lower, higher)| {
         let [from, to] = [part[lower], part[higher]];

@@ -2,6 +2,7 @@
 //! demand 3 checked by listing every assignment.
 
 mod barred;
+pub mod chains;
 pub mod every;
 mod families;
 mod lists;
@@ -62,12 +63,14 @@ pub struct Figures {
     pub others: u64,
     pub pairs: pairs::PairFigures,
     pub families: families::FamilyFigures,
+    pub chains: chains::ChainFigures,
 }
 
 impl Figures {
     pub fn comparisons(&self) -> u64 {
         let logs = self.lines + self.lists + self.programs;
-        self.refutations + self.runs + logs + self.others + self.families.calls
+        let chains = self.chains.graphs + self.chains.quiet + self.chains.larger;
+        self.refutations + self.runs + logs + self.others + self.families.calls + chains
     }
 }
 
@@ -140,6 +143,7 @@ impl Check {
         self.scores(&mut random, &case)?;
         self.columns(&mut random)?;
         self.families(&mut random, &case)?;
+        self.chains(&mut random)?;
         if index % CALLS_EVERY == 0 {
             self.calls(seed, index)?;
         }

@@ -292,6 +292,9 @@ impl Check {
             holds("no refusal of pairs only", !matches!(run.stop, Stop::Refused(_)), file)?;
             let totals = every_total(table, &figures::starting_weights(table));
             same("totals of pairs only", &every_total(table, &weights), &totals, file)?;
+            self.shifts_end(table, &weights)?;
+        } else {
+            self.run_end(table, run.stop, &weights, chains::has_press(&run.log))?;
         }
         if run.stop == Stop::Settled {
             holds("pairs left are passed over", left.len() == passed.len(), file)?;

@@ -12,7 +12,8 @@ fn all_but(case: &Case, variable: usize) -> Vec<usize> {
         .collect()
 }
 
-fn lowest(case: &Case, weights: &[i64]) -> Option<usize> {
+/// The lowest link that a press or a void line can be made at.
+pub fn lowest(case: &Case, weights: &[i64]) -> Option<usize> {
     (0..case.variables).find(|&i| active_refuted(case, weights, &all_but(case, i), i))
 }
 

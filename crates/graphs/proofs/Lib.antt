@@ -1,0 +1,3 @@
+-- Laws of labels that are written, and of what the check answers.
+pub mod Labels
+pub mod Checked
