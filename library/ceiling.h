@@ -21,7 +21,7 @@ extern "C" {
 #endif
 
 /* The version that this header is of: major * 10000 + minor * 100 + patch. */
-#define CEILING_VERSION 10500
+#define CEILING_VERSION 20000
 
 /* The most links, channels and pairs of a case, and the bytes of a line. */
 #define CEILING_LINKS 48
@@ -29,11 +29,16 @@ extern "C" {
 #define CEILING_PAIRS 96
 #define CEILING_LINE 27
 
+/* The length of every table of a case with so many channels, whatever its links and pairs: that of a case with the most of both. The case's own
+ * weights stand first, and 0 at all places past them. The most is CEILING_TABLE(CEILING_CHANNELS), 6528. */
+#define CEILING_TABLE(channels) (CEILING_LINKS * (channels) + CEILING_PAIRS * (channels) * (channels))
+
 /* What a table holds where a channel, or a pair of channels, is barred. A plan that uses such a place is unlawful: it has no total. */
 #define CEILING_BARRED (-2000000000)
 
-/* A case and the replay's record as bytes. */
-#define CEILING_CASE (24 + 2 * CEILING_PAIRS)
+/* A case and the replay's record as bytes. A case's last eight are its carry, from -20,000,000,000 to 20,000,000,000 (else number 5), which counts
+ * in every ceiling and in no plan's total; a case that was read has carry 0. */
+#define CEILING_CASE (32 + 2 * CEILING_PAIRS)
 #define CEILING_RECORD (52 + CEILING_LINKS + CEILING_PAIRS)
 
 /* Room for the lines of any round: a line for each link and pair, two for each channel and one more. The engine's functions ask for that much by
@@ -63,15 +68,16 @@ struct ceiling_run_answer { uint64_t number, limit, rounds; int64_t bound; uint6
 /* The version of libchecker_library.a. */
 uint64_t ceiling_version(void);
 
-/* What the head of a case file says: links, channels, pairs, and how many weights the case's table has. */
+/* What the head of a case file says: links, channels, pairs, and the length of the table to lend, CEILING_TABLE of the channels. */
 struct ceiling_size_answer ceiling_case_size(const uint8_t *text, size_t text_length);
 
-/* Reads a case file with nothing after it: the case's bytes, its starting weights, and the lines used, or the line that was refused.
- * Refused, the case's bytes stay, and the weights are as after the last good line. */
+/* Reads a case file with nothing after it: the case's bytes, its starting weights and 0 past them, and the lines used, or the line that was refused.
+ * Refused, the case's bytes stay, and the table is as after the last good line: a place whose weight was not read keeps what it held, and so do all
+ * past the case's own. */
 struct ceiling_lines_answer ceiling_read_case(const uint8_t *text, size_t text_length, uint8_t case_bytes[CEILING_CASE],
                                               int64_t *table, size_t table_length);
 
-/* The ceiling: the sum over scopes of the greatest weight. No lawful plan's total is above it. */
+/* The ceiling: the sum over scopes of the greatest weight, and the carry. No lawful plan's total with the carry added is above it. */
 struct ceiling_total_answer ceiling_upper_bound(const uint8_t case_bytes[CEILING_CASE], const int64_t *table, size_t table_length);
 
 /* A plan's total; a plan is one channel, a byte, for each link. An unlawful one is number 5. */
@@ -93,7 +99,7 @@ struct ceiling_value_answer ceiling_supported_value(const uint8_t case_bytes[CEI
                                                     size_t link, uint8_t *family, size_t family_length, uint8_t *partners,
                                                     size_t partners_length);
 
-/* Whether the pairs form no loop: `yes` is 1 if they form none, else 0. No table is asked for: only the case's limits and its pairs' ends. */
+/* Whether the pairs form no loop: `yes` is 1 if they form none, else 0. No table is asked for: only the case's limits, carry and pairs' ends. */
 struct ceiling_verdict_answer ceiling_is_acyclic(const uint8_t case_bytes[CEILING_CASE]);
 
 /* Writes a fresh record for a replay that begins with these starting weights, and answers its number.

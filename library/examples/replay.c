@@ -33,7 +33,7 @@ int main(int count, char **arguments) {
     /* The case: a head, a line for each weight, a line for each pair. */
     struct ceiling_size_answer size = ceiling_case_size(text, length);
     if (size.number) return refused(size.number, 0);
-    size_t own = (1 + size.table + size.m) * CEILING_LINE;
+    size_t own = (1 + size.n * size.d + size.m * (1 + size.d * size.d)) * CEILING_LINE;
     if (own > length) own = length;
     int64_t *table = calloc(size.table, sizeof *table);
     if (!table) return 2;

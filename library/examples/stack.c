@@ -8,7 +8,7 @@
 #include "ceiling.h"
 
 enum { LINKS = CEILING_LINKS, CHANNELS = CEILING_CHANNELS, PAIRS = CEILING_PAIRS };
-enum { TABLE = LINKS * CHANNELS + PAIRS * CHANNELS * CHANNELS, TEXT = (1 + TABLE + PAIRS) * CEILING_LINE, STACK = 1 << 18, PAINT = 0xa5 };
+enum { TABLE = CEILING_TABLE(CHANNELS), TEXT = (1 + TABLE + PAIRS) * CEILING_LINE, STACK = 1 << 18, PAINT = 0xa5 };
 
 static uint8_t text[TEXT], bytes[CEILING_CASE], record[CEILING_RECORD], out[CEILING_ROOM], log_lines[2 * CEILING_ROOM], plan[LINKS];
 static uint8_t family[LINKS], partners[CEILING_PARTNERS];

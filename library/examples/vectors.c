@@ -1,13 +1,19 @@
 /* Calls every function of ceiling.h on accepted and on refused input and compares answers and everything lent with what document 01 says, and
- * document 02 of pair rounds, barred channels, partners and loops. Each call is a test: a line for each that failed, the count as the last line. */
+ * document 02 of pair rounds, barred channels, partners, loops, the length of tables and the carry. Each call is a test: a line for each that failed,
+ * the count as the last line. */
 #include <stdio.h>
 #include <string.h>
 
 #include "ceiling.h"
 
-enum { PLACES = 40, OUT = 320, TEXT = 64 * CEILING_LINE };
+/* The samples' own places at most; a table's length with two channels; room for the longest table lent, with three, and for what lies behind it. */
+enum { OWN = 18, FULL = CEILING_TABLE(2), PLACES = CEILING_TABLE(3) + 16, OUT = 320, TEXT = 64 * CEILING_LINE, CARRY_AT = CEILING_CASE - 8 };
 static const int64_t STARTING = 1000000, WORKING = 500000000;
 #define BAR CEILING_BARRED
+/* The greatest carry, and carries that every call takes. */
+#define CARRY INT64_C(20000000000)
+static const int64_t CARRIES[] = {0, 5, -5, CARRY, -CARRY};
+enum { CARRY_COUNT = sizeof CARRIES / sizeof *CARRIES };
 
 static unsigned passed, failed;
 
@@ -29,6 +35,11 @@ static size_t put_line(uint8_t *text, size_t at, int kind, int a, int b, int c, 
     return at + CEILING_LINE;
 }
 
+/* A row of columns; the bound lines of a case with a carry have it in their ceiling. */
+static size_t put_carried(uint8_t *text, size_t at, const int line[5], int64_t carry) {
+    return put_line(text, at, line[0], line[1], line[2], line[3], line[4] + (line[0] == 4 ? carry : 0));
+}
+
 /* A press of link 0 that raises the scopes from `first` on, and the bound line. */
 static size_t put_round(uint8_t *text, size_t at, int first, int count, long long amount, long long bound) {
     at = put_line(text, at, 2, 0, count, 0, amount);
@@ -36,40 +47,41 @@ static size_t put_round(uint8_t *text, size_t at, int first, int count, long lon
     return put_line(text, at, 4, 0, 0, 0, bound);
 }
 
+/* A case and its table, which holds 0 past the places that are named, and its ceiling without the carry. */
 struct sample {
     size_t n, d, m;
     uint8_t lower[3], higher[3];
     int64_t table[PLACES];
     size_t length;
-    int64_t ceiling;
+    int64_t ceiling, carry;
 };
 
-static const struct sample P1 = {3, 2, 3, {0, 0, 1}, {1, 2, 2}, {0, 0, 0, 0, 0, 0, -1, 0, 0, -1, -1, 0, 0, -1, -1, 0, 0, -1}, 18, 0};
-static const struct sample P4 = {2, 2, 1, {0}, {1}, {2, 0, 2, 0, -3, 0, 0, 0}, 8, 4};
-static const struct sample P10 = {2, 2, 1, {0}, {1}, {3, 4, 6, 2, -2, -4, 1, 1}, 8, 11};
-static const struct sample P11 = {1, 1, 0, {0}, {0}, {-7}, 1, -7};
+static const struct sample P1 = {3, 2, 3, {0, 0, 1}, {1, 2, 2}, {0, 0, 0, 0, 0, 0, -1, 0, 0, -1, -1, 0, 0, -1, -1, 0, 0, -1}, FULL, 0, 0};
+static const struct sample P4 = {2, 2, 1, {0}, {1}, {2, 0, 2, 0, -3, 0, 0, 0}, FULL, 4, 0};
+static const struct sample P10 = {2, 2, 1, {0}, {1}, {3, 4, 6, 2, -2, -4, 1, 1}, FULL, 11, 0};
+static const struct sample P11 = {1, 1, 0, {0}, {0}, {-7}, CEILING_TABLE(1), -7, 0};
 /* A pair round, and then a press. */
-static const struct sample TWO = {3, 2, 2, {0, 1}, {1, 2}, {0, 0, 1, 0, -1, 0, -2, 0, -2, -1, 0, 0, 0, -1}, 14, 1};
+static const struct sample TWO = {3, 2, 2, {0, 1}, {1, 2}, {0, 0, 1, 0, -1, 0, -2, 0, -2, -1, 0, 0, 0, -1}, FULL, 1, 0};
 /* P1 after its round. A chain in which channel 0 of link 1 is not among the best across pair 1. */
-static const struct sample ROUND_1 = {3, 2, 3, {0, 0, 1}, {1, 2, 2}, {-1, -1}, 18, -1};
-static const struct sample CHAIN = {3, 2, 2, {0, 1}, {1, 2}, {0, 0, 0, 0, 0, 0, 0, 0, 0, 0, -1, -1, 0, 0}, 14, 0};
+static const struct sample ROUND_1 = {3, 2, 3, {0, 0, 1}, {1, 2, 2}, {-1, -1}, FULL, -1, 0};
+static const struct sample CHAIN = {3, 2, 2, {0, 1}, {1, 2}, {0, 0, 0, 0, 0, 0, 0, 0, 0, 0, -1, -1, 0, 0}, FULL, 0, 0};
 /* Barred channels. SINGLE: one lawful plan, 0 1. NO_PLAN: none. A_PLAN: one, 0 1 again, but no press that a void line would need.
  * PASSED: again, and link 1's channel 0 is active and refuted. */
-static const struct sample SINGLE = {2, 2, 1, {0}, {1}, {2, BAR, 1, 0, BAR, 0, 0, 3}, 8, 6};
-static const struct sample NO_PLAN = {2, 2, 1, {0}, {1}, {0, BAR, 0, BAR, BAR, 0, 0, 0}, 8, 0};
-static const struct sample A_PLAN = {2, 2, 1, {0}, {1}, {0, BAR, 0, -5, BAR, 0, 0, 0}, 8, 0};
-static const struct sample PASSED = {2, 2, 1, {0}, {1}, {0, BAR, 0, 0, BAR, 0, 0, 0}, 8, 0};
+static const struct sample SINGLE = {2, 2, 1, {0}, {1}, {2, BAR, 1, 0, BAR, 0, 0, 3}, FULL, 6, 0};
+static const struct sample NO_PLAN = {2, 2, 1, {0}, {1}, {0, BAR, 0, BAR, BAR, 0, 0, 0}, FULL, 0, 0};
+static const struct sample A_PLAN = {2, 2, 1, {0}, {1}, {0, BAR, 0, -5, BAR, 0, 0, 0}, FULL, 0, 0};
+static const struct sample PASSED = {2, 2, 1, {0}, {1}, {0, BAR, 0, 0, BAR, 0, 0, 0}, FULL, 0, 0};
 /* No lawful plan, which shows after two presses. EDGE, not starting weights: one lawful plan, and a press that would leave the range. */
-static const struct sample LATE = {2, 2, 1, {0}, {1}, {0, BAR, 4, BAR, BAR, -1, 0, -2}, 8, 4};
-static const struct sample EDGE = {2, 2, 1, {0}, {1}, {-499999999, BAR, 0, -5, BAR, 0, 0, 0}, 8, -499999999};
+static const struct sample LATE = {2, 2, 1, {0}, {1}, {0, BAR, 4, BAR, BAR, -1, 0, -2}, FULL, 4, 0};
+static const struct sample EDGE = {2, 2, 1, {0}, {1}, {-499999999, BAR, 0, -5, BAR, 0, 0, 0}, FULL, -499999999, 0};
 /* Not starting weights, and the pairs (0,1) gain but are passed over. LOW: the first press by 1 takes link 0 to the end of the range, the second
  * is number 11. COMES: after a press the pair's round stays in range. BACK: end 0 would leave the range, and end 1 come back. HIGHER: the pair
  * (1,2) gains too. */
 static const struct sample LOW = {2, 3, 1, {0}, {1},
-    {-499999999, -499999999, -499999999, 2, 1, 0, -3, -3, 0, -3, -3, 0, -3, -3, 0}, 15, -499999997};
-static const struct sample COMES = {2, 2, 1, {0}, {1}, {1, -500000000, 0, 0, -2, -2, 0, -1}, 8, 1};
-static const struct sample BACK = {2, 2, 1, {0}, {1}, {2, -2, -3, 0, 500000000, 0, 0, 0}, 8, 500000002};
-static const struct sample HIGHER = {3, 2, 2, {0, 1}, {1, 2}, {0, 0, -1, 0, 0, 0, 1, 0, -500000000, 0, 0, 1, 0, 0}, 14, 2};
+    {-499999999, -499999999, -499999999, 2, 1, 0, -3, -3, 0, -3, -3, 0, -3, -3, 0}, CEILING_TABLE(3), -499999997, 0};
+static const struct sample COMES = {2, 2, 1, {0}, {1}, {1, -500000000, 0, 0, -2, -2, 0, -1}, FULL, 1, 0};
+static const struct sample BACK = {2, 2, 1, {0}, {1}, {2, -2, -3, 0, 500000000, 0, 0, 0}, FULL, 500000002, 0};
+static const struct sample HIGHER = {3, 2, 2, {0, 1}, {1, 2}, {0, 0, -1, 0, 0, 0, 1, 0, -500000000, 0, 0, 1, 0, 0}, FULL, 2, 0};
 
 static void put_number(uint8_t *at, uint64_t z) {
     for (int i = 0; i < 8; i++) at[i] = (uint8_t)(z >> (8 * i));
@@ -82,6 +94,26 @@ static void case_of(const struct sample *s, uint8_t bytes[CEILING_CASE]) {
     put_number(bytes + 16, s->m);
     memcpy(bytes + 24, s->lower, sizeof s->lower);
     memcpy(bytes + 120, s->higher, sizeof s->higher);
+    put_number(bytes + CARRY_AT, (uint64_t)s->carry);
+}
+
+/* The sample with another carry. */
+static struct sample carrying(const struct sample *s, int64_t carry) {
+    struct sample other = *s;
+    other.carry = carry;
+    return other;
+}
+
+/* A table of two channels: eight places, and 0 past them; and whether it holds just that. */
+static void put_table(int64_t table[FULL], const int64_t own[8]) {
+    memset(table, 0, FULL * sizeof *table);
+    memcpy(table, own, 8 * sizeof *table);
+}
+
+static int holds(const int64_t table[FULL], const int64_t own[8]) {
+    int64_t wanted[FULL];
+    put_table(wanted, own);
+    return !memcmp(table, wanted, sizeof wanted);
 }
 
 /* A weight's line, of kind 11 or 13; barred it is 14 or 15. */
@@ -104,46 +136,82 @@ static size_t put_case(const struct sample *s, uint8_t *text) {
 
 /* ---- what is handed over: P1's case with one thing changed, and the number that every call on a case answers */
 
+/* A weight just outside the range. */
+#define ABOVE INT64_MAX
+#define BELOW INT64_MIN
+
 struct fault {
     const char *name;
-    uint64_t number;
+    uint64_t number, alone; /* the second where no table is lent: 0 if the case is taken */
     size_t n, d, m;
     int longer;
     int pair, lower, higher;
-    int place, sign; /* a weight that is just outside the range, above or below */
+    int place;
+    int64_t weight, carry;
 };
 
 static const struct fault FAULTS[] = {
-    {"no links", 3, 0, 2, 3, 0, 0, 0, 1, 0, 0},
-    {"49 links", 3, 49, 2, 3, 0, 0, 0, 1, 0, 0},
-    {"most links", 3, SIZE_MAX, 2, 3, 0, 0, 0, 1, 0, 0},
-    {"no values", 3, 3, 0, 3, 0, 0, 0, 1, 0, 0},
-    {"9 values", 3, 3, 9, 3, 0, 0, 0, 1, 0, 0},
-    {"97 pairs", 3, 3, 2, 97, 0, 0, 0, 1, 0, 0},
-    {"3 before 4", 3, 49, 2, 3, -1, 0, 0, 1, 0, 0},
-    {"a short table", 4, 3, 2, 3, -1, 0, 0, 1, 0, 0},
-    {"a long table", 4, 3, 2, 3, 1, 0, 0, 1, 0, 0},
-    {"the table of another case", 4, 3, 2, 2, 0, 0, 0, 1, 0, 0},
-    {"4 before 5", 4, 3, 2, 3, -1, 2, 1, 3, 0, 0},
-    {"an end that is no link", 5, 3, 2, 3, 0, 2, 1, 3, 0, 0},
-    {"5 before 6", 5, 3, 2, 3, 0, 0, 3, 0, 0, 0},
-    {"5 before 8", 5, 3, 2, 3, 0, 0, 255, 1, 0, 1},
-    {"descending ends", 6, 3, 2, 3, 0, 1, 2, 0, 0, 0},
-    {"equal ends", 6, 3, 2, 3, 0, 1, 2, 2, 0, 0},
-    {"6 before 7", 6, 3, 2, 3, 0, 2, 1, 0, 0, 0},
-    {"a pair twice", 7, 3, 2, 3, 0, 2, 0, 1, 0, 0},
-    {"7 before 8", 7, 3, 2, 3, 0, 2, 0, 1, 17, -1},
-    {"a weight above", 8, 3, 2, 3, 0, 0, 0, 1, 0, 1},
-    {"a weight below", 8, 3, 2, 3, 0, 0, 0, 1, 17, -1},
+    {"no links", 3, 3, 0, 2, 3, 0, 0, 0, 1, 0, 0, 0},
+    {"49 links", 3, 3, 49, 2, 3, 0, 0, 0, 1, 0, 0, 0},
+    {"most links", 3, 3, SIZE_MAX, 2, 3, 0, 0, 0, 1, 0, 0, 0},
+    {"no values", 3, 3, 3, 0, 3, 0, 0, 0, 1, 0, 0, 0},
+    {"9 values", 3, 3, 3, 9, 3, 0, 0, 0, 1, 0, 0, 0},
+    {"97 pairs", 3, 3, 3, 2, 97, 0, 0, 0, 1, 0, 0, 0},
+    {"3 before 4", 3, 3, 49, 2, 3, -1, 0, 0, 1, 0, 0, 0},
+    {"3 before a carry", 3, 3, 49, 2, 3, 0, 0, 0, 1, 0, 0, CARRY + 1},
+    {"a short table", 4, 0, 3, 2, 3, -1, 0, 0, 1, 0, 0, 0},
+    {"a long table", 4, 0, 3, 2, 3, 1, 0, 0, 1, 0, 0, 0},
+    {"the own places alone", 4, 0, 3, 2, 3, OWN - FULL, 0, 0, 1, 0, 0, 0},
+    {"no places", 4, 0, 3, 2, 3, -FULL, 0, 0, 1, 0, 0, 0},
+    {"the table of more values", 4, 0, 3, 2, 3, CEILING_TABLE(3) - FULL, 0, 0, 1, 0, 0, 0},
+    {"the table of fewer values", 4, 0, 3, 2, 3, CEILING_TABLE(1) - FULL, 0, 0, 1, 0, 0, 0},
+    {"the table of another case", 4, 0, 3, 3, 3, 0, 0, 0, 1, 0, 0, 0},
+    {"4 before 5", 4, 5, 3, 2, 3, -1, 2, 1, 3, 0, 0, 0},
+    {"4 before a carry", 4, 5, 3, 2, 3, -1, 0, 0, 1, 0, 0, CARRY + 1},
+    {"the own places alone before a carry", 4, 5, 3, 2, 3, OWN - FULL, 0, 0, 1, 0, 0, -CARRY - 1},
+    {"4 before 8", 4, 0, 3, 2, 3, 1, 0, 0, 1, FULL, 1, 0},
+    {"an end that is no link", 5, 5, 3, 2, 3, 0, 2, 1, 3, 0, 0, 0},
+    {"5 before 6", 5, 5, 3, 2, 3, 0, 0, 3, 0, 0, 0, 0},
+    {"5 before 8", 5, 5, 3, 2, 3, 0, 0, 255, 1, 0, ABOVE, 0},
+    {"a carry above", 5, 5, 3, 2, 3, 0, 0, 0, 1, 0, 0, CARRY + 1},
+    {"a carry below", 5, 5, 3, 2, 3, 0, 0, 0, 1, 0, 0, -CARRY - 1},
+    {"the greatest number as a carry", 5, 5, 3, 2, 3, 0, 0, 0, 1, 0, 0, INT64_MAX},
+    {"the least number as a carry", 5, 5, 3, 2, 3, 0, 0, 0, 1, 0, 0, INT64_MIN},
+    {"a carry of 32 bits more", 5, 5, 3, 2, 3, 0, 0, 0, 1, 0, 0, CARRY + (INT64_C(1) << 32)},
+    {"a carry in its last byte", 5, 5, 3, 2, 3, 0, 0, 0, 1, 0, 0, INT64_C(1) << 56},
+    {"a carry before 6", 5, 5, 3, 2, 3, 0, 1, 2, 2, 0, 0, CARRY + 1},
+    {"a carry before 7", 5, 5, 3, 2, 3, 0, 2, 0, 1, 0, 0, -CARRY - 1},
+    {"a carry before 8", 5, 5, 3, 2, 3, 0, 0, 0, 1, 17, BELOW, CARRY + 1},
+    {"a carry before 8 past the own places", 5, 5, 3, 2, 3, 0, 0, 0, 1, OWN, 1, CARRY + 1},
+    {"descending ends", 6, 6, 3, 2, 3, 0, 1, 2, 0, 0, 0, 0},
+    {"descending ends, and a carry", 6, 6, 3, 2, 3, 0, 1, 2, 0, 0, 0, CARRY},
+    {"equal ends", 6, 6, 3, 2, 3, 0, 1, 2, 2, 0, 0, 0},
+    {"6 before 7", 6, 6, 3, 2, 3, 0, 2, 1, 0, 0, 0, 0},
+    {"6 before 8", 6, 6, 3, 2, 3, 0, 1, 2, 2, OWN, 1, 0},
+    {"a pair twice", 7, 7, 3, 2, 3, 0, 2, 0, 1, 0, 0, 0},
+    {"7 before 8", 7, 7, 3, 2, 3, 0, 2, 0, 1, 17, BELOW, 0},
+    {"7 before 8 past the own places", 7, 7, 3, 2, 3, 0, 2, 0, 1, FULL - 1, -1, 0},
+    {"a weight above", 8, 0, 3, 2, 3, 0, 0, 0, 1, 0, ABOVE, 0},
+    {"a weight below", 8, 0, 3, 2, 3, 0, 0, 0, 1, 17, BELOW, 0},
+    {"a weight above, and a carry", 8, 0, 3, 2, 3, 0, 0, 0, 1, 0, ABOVE, -CARRY},
+    {"1 past the own places", 8, 0, 3, 2, 3, 0, 0, 0, 1, OWN, 1, 0},
+    {"-1 past the own places", 8, 0, 3, 2, 3, 0, 0, 0, 1, OWN, -1, 0},
+    {"barred past the own places", 8, 0, 3, 2, 3, 0, 0, 0, 1, OWN, BAR, 0},
+    {"1 in the midst of them", 8, 0, 3, 2, 3, 0, 0, 0, 1, FULL / 2, 1, 0},
+    {"1 at the last place", 8, 0, 3, 2, 3, 0, 0, 0, 1, FULL - 1, 1, 0},
+    {"-1 at the last place", 8, 0, 3, 2, 3, 0, 0, 0, 1, FULL - 1, -1, 0},
+    {"barred at the last place", 8, 0, 3, 2, 3, 0, 0, 0, 1, FULL - 1, BAR, 0},
+    {"past the own places, and a carry", 8, 0, 3, 2, 3, 0, 0, 0, 1, OWN, 1, CARRY},
 };
 enum { FAULT_COUNT = sizeof FAULTS / sizeof *FAULTS };
 
 static struct sample faulty(const struct fault *f, int64_t range) {
     struct sample s = P1;
     s.n = f->n, s.d = f->d, s.m = f->m;
-    s.length += (size_t)f->longer;
+    s.length = (size_t)(FULL + f->longer);
     s.lower[f->pair] = (uint8_t)f->lower, s.higher[f->pair] = (uint8_t)f->higher;
-    if (f->sign) s.table[f->place] = f->sign * (range + 1);
+    s.table[f->place] = f->weight == ABOVE ? range + 1 : f->weight == BELOW ? -range - 1 : f->weight;
+    s.carry = f->carry;
     return s;
 }
 
@@ -156,8 +224,11 @@ static void sizes(void) {
         struct ceiling_size_answer answer;
     } rows[] = {
         {"the largest", "10  48   8  96           0\n", 27, {0, 48, 8, 96, 6528}},
-        {"the smallest", "10   1   1   0           0\n", 27, {0, 1, 1, 0, 1}},
-        {"more behind it", "10   2   2   1           0\nx", 28, {0, 2, 2, 1, 8}},
+        {"the smallest", "10   1   1   0           0\n", 27, {0, 1, 1, 0, 144}},
+        {"one link, most values", "10   1   8   0           0\n", 27, {0, 1, 8, 0, 6528}},
+        {"one value, most links and pairs", "10  48   1  96           0\n", 27, {0, 48, 1, 96, 144}},
+        {"three values", "10   2   3   1           0\n", 27, {0, 2, 3, 1, 1008}},
+        {"more behind it", "10   2   2   1           0\nx", 28, {0, 2, 2, 1, 480}},
         {"not in columns", "10   2   2  01           0\n", 27, {1, 0, 0, 0, 0}},
         {"another kind", "11   2   2   1           0\n", 27, {2, 0, 0, 0, 0}},
         {"an amount", "10   2   2   1           1\n", 27, {2, 0, 0, 0, 0}},
@@ -171,17 +242,19 @@ static void sizes(void) {
     for (size_t i = 0; i < sizeof rows / sizeof *rows; i++) {
         struct ceiling_size_answer a = ceiling_case_size((const uint8_t *)rows[i].text, rows[i].length);
         test("ceiling_case_size", rows[i].name, !memcmp(&a, &rows[i].answer, sizeof a));
+        if (!a.number) test("ceiling_case_size", "the header's length", a.table == CEILING_TABLE(a.d));
     }
 }
 
-/* One reading of a sample's file, changed: the answer, the case's bytes, and so many weights read before places that keep what they held. */
+/* One reading of a sample's file, changed: the answer, the case's bytes, and so many weights read. All other places keep what they held, but that a
+ * case which is taken leaves 0 past its own. */
 static void reading_of(const struct sample *s, const char *name, const uint8_t *text, size_t length, size_t lent, uint64_t number, size_t line,
                        size_t weights) {
     uint8_t bytes[CEILING_CASE], wanted[CEILING_CASE];
     int64_t table[PLACES], after[PLACES];
     memset(bytes, 0xa5, sizeof bytes), memset(wanted, 0xa5, sizeof wanted);
     if (!number) case_of(s, wanted);
-    for (size_t i = 0; i < PLACES; i++) table[i] = 77, after[i] = i < weights ? s->table[i] : 77;
+    for (size_t i = 0; i < PLACES; i++) table[i] = 77, after[i] = i < weights ? s->table[i] : !number && i < lent ? 0 : 77;
     struct ceiling_lines_answer a = ceiling_read_case(text, length, bytes, table, lent);
     int same = !memcmp(bytes, wanted, sizeof bytes) && !memcmp(table, after, sizeof table);
     test("ceiling_read_case", name, a.number == number && a.lines == line && same);
@@ -201,7 +274,8 @@ static const struct {
     {"head not in columns", 1, 0, "10   3   2   3          00\n"},
     {"head of another kind", 2, 0, "11   3   2   3           0\n"},
     {"49 links", 3, 0, "10  49   2   3           0\n"},
-    {"another case's length", 4, 0, "10   3   2   2           0\n"},
+    {"another case's length", 4, 0, "10   3   3   3           0\n"},
+    {"a length of fewer values", 4, 0, "10   3   1   3           0\n"},
     {"link weight not in columns", 1, 3, "11   1   0   0           0 "},
     {"link weight of another kind", 2, 6, "12   0   0   1           0\n"},
     {"another link", 5, 1, "11   1   0   0           0\n"},
@@ -237,6 +311,10 @@ static void readings(void) {
     }
     reading("a short table", good, length, P1.length - 1, 4, 0, 0);
     reading("a long table", good, length, P1.length + 1, 4, 0, 0);
+    reading("the own places alone", good, length, OWN, 4, 0, 0);
+    reading("no places", good, length, 0, 4, 0, 0);
+    reading("the table of fewer values", good, length, CEILING_TABLE(1), 4, 0, 0);
+    reading("the table of more values", good, length, CEILING_TABLE(3), 4, 0, 0);
     reading("nothing", good, 0, P1.length, 14, 0, 0);
     reading("26 bytes", good, 26, P1.length, 14, 0, 0);
     reading("the head alone", good, 27, P1.length, 14, 1, 0);
@@ -248,6 +326,46 @@ static void readings(void) {
     reading("a part line behind the case", text, length + 1, P1.length, 14, 22, 18);
     memset(text + length, 'x', CEILING_LINE);
     reading("no line behind the case", text, length + CEILING_LINE, P1.length, 1, 22, 18);
+    /* with a pair less the length is the same, and more places are past the own ones; its lines are then behind the case */
+    struct sample fewer = P1;
+    fewer.m = 2, fewer.lower[2] = fewer.higher[2] = 0;
+    memcpy(text, good, length);
+    put_line(text, 0, 10, 3, 2, 2, 0);
+    reading_of(&fewer, "a pair less", text, 17 * CEILING_LINE, P1.length, 0, 17, 14);
+    reading_of(&fewer, "a pair less, its lines behind it", text, length, P1.length, 2, 17, 14);
+    reading_of(&P4, "P4", text, put_case(&P4, text), P4.length, 0, 10, 8);
+    reading_of(&P11, "P11", text, put_case(&P11, text), P11.length, 0, 2, 1);
+    reading_of(&P11, "P11, its own place alone", text, put_case(&P11, text), 1, 4, 0, 0);
+}
+
+/* The most links and pairs with one channel: no place is past the case's own. With a pair less, one is. */
+static void full_readings(void) {
+    enum { LENGTH = CEILING_TABLE(1), LINES = 1 + CEILING_LINKS + 2 * CEILING_PAIRS };
+    static uint8_t text[LINES * CEILING_LINE];
+    for (int pairs = CEILING_PAIRS - 1; pairs <= CEILING_PAIRS; pairs++) {
+        uint8_t bytes[CEILING_CASE], wanted[CEILING_CASE] = {0};
+        int64_t table[LENGTH + 1], after[LENGTH + 1];
+        size_t at = put_line(text, 0, 10, CEILING_LINKS, 1, pairs, 0);
+        for (int i = 0; i <= LENGTH; i++) table[i] = 77, after[i] = i < CEILING_LINKS + pairs ? i + 1 : i < LENGTH ? 0 : 77;
+        for (int i = 0; i < CEILING_LINKS; i++) at = put_line(text, at, 11, i, 0, 0, i + 1);
+        put_number(wanted, CEILING_LINKS), put_number(wanted + 8, 1), put_number(wanted + 16, (uint64_t)pairs);
+        for (int e = 0; e < pairs; e++) {
+            int lower = e % 24, higher = 24 + (e % 24 + e / 24) % 24;
+            at = put_line(text, at, 12, e, lower, higher, 0);
+            at = put_line(text, at, 13, e, 0, 0, CEILING_LINKS + e + 1);
+            wanted[24 + e] = (uint8_t)lower, wanted[120 + e] = (uint8_t)higher;
+        }
+        memset(bytes, 0xa5, sizeof bytes);
+        struct ceiling_lines_answer a = ceiling_read_case(text, at, bytes, table, LENGTH);
+        int same = !memcmp(bytes, wanted, sizeof bytes) && !memcmp(table, after, sizeof table);
+        test("ceiling_read_case", "most links and pairs", a.number == 0 && a.lines == at / CEILING_LINE && same);
+        struct ceiling_total_answer t = ceiling_upper_bound(bytes, table, LENGTH);
+        int64_t places = CEILING_LINKS + pairs;
+        test("ceiling_upper_bound", "most links and pairs", t.number == 0 && t.total == places * (places + 1) / 2);
+        table[LENGTH - 1] = 1;
+        t = ceiling_upper_bound(bytes, table, LENGTH);
+        test("ceiling_upper_bound", "the last place", t.number == (pairs < CEILING_PAIRS ? 8 : 0));
+    }
 }
 
 /* Cases with barred channels; a scope with nothing else is number 15 at its last line. */
@@ -258,11 +376,11 @@ static void barred_readings(void) {
         uint64_t number;
         size_t line, weights;
     } rows[] = {
-        {"barred channels", {2, 2, 1, {0}, {1}, {2, BAR, 1, 0, BAR, 0, 0, 3}, 8, 0}, 0, 10, 8},
-        {"a link wholly barred", {2, 2, 1, {0}, {1}, {0, 0, BAR, BAR, 0, 0, 0, 0}, 8, 0}, 15, 4, 3},
-        {"a pair wholly barred", {2, 2, 1, {0}, {1}, {0, 0, 0, 0, BAR, BAR, BAR, BAR}, 8, 0}, 15, 9, 7},
-        {"the first of both", {2, 2, 1, {0}, {1}, {BAR, BAR, 0, 0, BAR, BAR, BAR, BAR}, 8, 0}, 15, 2, 1},
-        {"one channel, barred", {1, 1, 0, {0}, {0}, {BAR}, 1, 0}, 15, 1, 0},
+        {"barred channels", {2, 2, 1, {0}, {1}, {2, BAR, 1, 0, BAR, 0, 0, 3}, FULL, 0, 0}, 0, 10, 8},
+        {"a link wholly barred", {2, 2, 1, {0}, {1}, {0, 0, BAR, BAR, 0, 0, 0, 0}, FULL, 0, 0}, 15, 4, 3},
+        {"a pair wholly barred", {2, 2, 1, {0}, {1}, {0, 0, 0, 0, BAR, BAR, BAR, BAR}, FULL, 0, 0}, 15, 9, 7},
+        {"the first of both", {2, 2, 1, {0}, {1}, {BAR, BAR, 0, 0, BAR, BAR, BAR, BAR}, FULL, 0, 0}, 15, 2, 1},
+        {"one channel, barred", {1, 1, 0, {0}, {0}, {BAR}, CEILING_TABLE(1), 0, 0}, 15, 1, 0},
     };
     uint8_t text[TEXT];
     for (size_t i = 0; i < sizeof rows / sizeof *rows; i++) {
@@ -281,6 +399,11 @@ static void ceilings(void) {
         case_of(rows[i], bytes);
         struct ceiling_total_answer a = ceiling_upper_bound(bytes, rows[i]->table, rows[i]->length);
         test("ceiling_upper_bound", "a sample", a.number == 0 && a.total == rows[i]->ceiling);
+        for (size_t k = 0; k < CARRY_COUNT; k++) {
+            put_number(bytes + CARRY_AT, (uint64_t)CARRIES[k]);
+            a = ceiling_upper_bound(bytes, rows[i]->table, rows[i]->length);
+            test("ceiling_upper_bound", "a carry", a.number == 0 && a.total == rows[i]->ceiling + CARRIES[k]);
+        }
     }
     for (size_t i = 0; i < FAULT_COUNT; i++) {
         struct sample s = faulty(&FAULTS[i], WORKING);
@@ -303,9 +426,11 @@ static void totals(void) {
     };
     uint8_t bytes[CEILING_CASE], plan[3] = {0, 1, 0};
     case_of(&P4, bytes);
-    for (size_t i = 0; i < sizeof rows / sizeof *rows; i++) {
-        struct ceiling_total_answer a = ceiling_objective(bytes, P4.table, P4.length, rows[i].plan, rows[i].length);
-        test("ceiling_objective", rows[i].name, a.number == rows[i].number && a.total == rows[i].total);
+    for (size_t i = 0; i < sizeof rows / sizeof *rows * CARRY_COUNT; i++) {
+        size_t row = i / CARRY_COUNT; /* a carry moves no total */
+        put_number(bytes + CARRY_AT, (uint64_t)CARRIES[i % CARRY_COUNT]);
+        struct ceiling_total_answer a = ceiling_objective(bytes, P4.table, P4.length, rows[row].plan, rows[row].length);
+        test("ceiling_objective", rows[row].name, a.number == rows[row].number && a.total == rows[row].total);
     }
     for (size_t i = 0; i < FAULT_COUNT; i++) {
         struct sample s = faulty(&FAULTS[i], WORKING);
@@ -336,10 +461,12 @@ static void choices(void) {
     };
     uint8_t bytes[CEILING_CASE], plan[3] = {0, 1, 0};
     case_of(&P4, bytes);
-    for (size_t i = 0; i < sizeof rows / sizeof *rows; i++) {
-        struct ceiling_choice_answer a = ceiling_better_of(bytes, P4.table, P4.length, rows[i].first, rows[i].first_length, rows[i].second,
-                                                           rows[i].second_length);
-        test("ceiling_better_of", rows[i].name, !memcmp(&a, &rows[i].answer, sizeof a));
+    for (size_t i = 0; i < sizeof rows / sizeof *rows * CARRY_COUNT; i++) {
+        size_t row = i / CARRY_COUNT; /* a carry moves no choice */
+        put_number(bytes + CARRY_AT, (uint64_t)CARRIES[i % CARRY_COUNT]);
+        struct ceiling_choice_answer a = ceiling_better_of(bytes, P4.table, P4.length, rows[row].first, rows[row].first_length, rows[row].second,
+                                                           rows[row].second_length);
+        test("ceiling_better_of", rows[row].name, !memcmp(&a, &rows[row].answer, sizeof a));
     }
     for (size_t i = 0; i < FAULT_COUNT; i++) {
         struct sample s = faulty(&FAULTS[i], STARTING);
@@ -359,10 +486,10 @@ static void unlawful(void) {
     uint8_t bytes[CEILING_CASE];
     case_of(&SINGLE, bytes);
     for (size_t i = 0; i < 4; i++) {
-        struct ceiling_total_answer a = ceiling_objective(bytes, SINGLE.table, 8, rows[i].plan, 2);
+        struct ceiling_total_answer a = ceiling_objective(bytes, SINGLE.table, FULL, rows[i].plan, 2);
         test("ceiling_objective", "barred channels", a.number == rows[i].number && a.total == rows[i].total);
         for (size_t k = 0; k < 4; k++) {
-            struct ceiling_choice_answer c = ceiling_better_of(bytes, SINGLE.table, 8, rows[i].plan, 2, rows[k].plan, 2);
+            struct ceiling_choice_answer c = ceiling_better_of(bytes, SINGLE.table, FULL, rows[i].plan, 2, rows[k].plan, 2);
             test("ceiling_better_of", "barred channels", c.number == 0 && c.choice == (i > 0 && k == 0));
         }
     }
@@ -388,21 +515,21 @@ static void barred_tables(void) {
     put_line(line, 0, 1, 0, 0, 0, 1);
     memset(family, 0xa5, sizeof family), memset(partners, 0xa5, sizeof partners);
     for (size_t i = 0; i < sizeof rows / sizeof *rows; i++) {
-        int64_t table[8];
-        memcpy(table, rows[i].table, sizeof table);
-        test("ceiling_upper_bound", rows[i].name, ceiling_upper_bound(bytes, table, 8).number == rows[i].number);
-        test("ceiling_objective", rows[i].name, ceiling_objective(bytes, table, 8, plan, 2).number == rows[i].total);
-        test("ceiling_better_of", rows[i].name, ceiling_better_of(bytes, table, 8, plan, 2, plan, 2).number == rows[i].number);
-        struct ceiling_value_answer v = ceiling_supported_value(bytes, table, 8, 1, family, 2, partners, 4);
+        int64_t table[FULL];
+        put_table(table, rows[i].table);
+        test("ceiling_upper_bound", rows[i].name, ceiling_upper_bound(bytes, table, FULL).number == rows[i].number);
+        test("ceiling_objective", rows[i].name, ceiling_objective(bytes, table, FULL, plan, 2).number == rows[i].total);
+        test("ceiling_better_of", rows[i].name, ceiling_better_of(bytes, table, FULL, plan, 2, plan, 2).number == rows[i].number);
+        struct ceiling_value_answer v = ceiling_supported_value(bytes, table, FULL, 1, family, 2, partners, 4);
         int same = !memcmp(family, "\xa5\xa5", 2) && !memcmp(partners, "\xa5\xa5\xa5\xa5", 4);
         test("ceiling_supported_value", rows[i].name, v.number == rows[i].number && v.value == 0 && same);
-        uint64_t number = ceiling_replay_start(bytes, table, 8, record);
+        uint64_t number = ceiling_replay_start(bytes, table, FULL, record);
         test("ceiling_replay_start", rows[i].name, number == rows[i].number && record[51] == number);
         test("ceiling_replay_end", rows[i].name, ceiling_replay_end(bytes, record, 0).number == number);
         for (size_t length = 0; length <= CEILING_LINE; length += CEILING_LINE) {
             memset(record, 0, sizeof record);
-            struct ceiling_lines_answer a = ceiling_replay_lines(bytes, table, 8, record, line, length);
-            test("ceiling_replay_lines", rows[i].name, a.number == rows[i].number && record[51] == a.number && !memcmp(table, rows[i].table, sizeof table));
+            struct ceiling_lines_answer a = ceiling_replay_lines(bytes, table, FULL, record, line, length);
+            test("ceiling_replay_lines", rows[i].name, a.number == rows[i].number && record[51] == a.number && holds(table, rows[i].table));
         }
     }
 }
@@ -465,6 +592,12 @@ static void kept_channels(void) {
         size_t n = row->sample->n, p = 2 * row->sample->m * row->sample->d;
         keeping(row, row->name, n, p, row->answer);
         keeping(row, row->name, n + 1, p, row->answer);
+        for (size_t k = 0; k < CARRY_COUNT; k++) { /* a carry moves nothing */
+            struct sample carried = carrying(row->sample, CARRIES[k]);
+            struct kept other = *row;
+            other.sample = &carried;
+            keeping(&other, "a carry", n, p, row->answer);
+        }
         keeping(row, row->name, OUT, OUT, row->answer);
         /* 4 comes before both fives: of a link that is not there, and of one whose channels are refuted */
         keeping(row, "a short family", n - 1, OUT, short_of);
@@ -502,8 +635,14 @@ static void kept_channels(void) {
         struct kept row = {rows[i].name, &s, 0, {rows[i].number, 0}, {0}, {0}};
         keeping(&row, row.name, 2, 4, row.answer);
         row.link = 2;
-        struct ceiling_value_answer five = {5, 0};
+        struct ceiling_value_answer five = {5, 0}, eight = {8, 0};
         keeping(&row, row.name, 2, 4, five);
+        s.table[8] = 1;
+        keeping(&row, "5 before 8 past the own places", 2, 4, five);
+        row.link = 0;
+        keeping(&row, "8 past the own places before 15 and the last 5", 2, 4, eight);
+        s.carry = CARRY + 1;
+        keeping(&row, "a carry before 8 and 15", 2, 4, five);
     }
 }
 
@@ -545,22 +684,24 @@ static void looped(const char *name, const uint8_t bytes[CEILING_CASE], struct c
 static void loops(void) {
     uint8_t bytes[CEILING_CASE];
     for (size_t i = 0; i < sizeof LOOPS / sizeof *LOOPS; i++) {
-        struct sample s = {LOOPS[i].n, LOOPS[i].d, LOOPS[i].m, {0}, {0}, {0}, 0, 0};
+        struct sample s = {LOOPS[i].n, LOOPS[i].d, LOOPS[i].m, {0}, {0}, {0}, 0, 0, 0};
         case_of(&s, bytes);
         for (size_t e = 0; e < 5; e++) bytes[24 + e] = LOOPS[i].pairs[e][0], bytes[120 + e] = LOOPS[i].pairs[e][1];
-        looped(LOOPS[i].name, bytes, LOOPS[i].answer);
+        for (size_t k = 0; k < CARRY_COUNT; k++) { /* a carry moves nothing */
+            put_number(bytes + CARRY_AT, (uint64_t)CARRIES[k]);
+            looped(LOOPS[i].name, bytes, LOOPS[i].answer);
+        }
     }
-    /* P1's pairs are a loop. No table is asked for: number 8 is not answered, and the rows of number 4 are left out. */
+    /* P1's pairs are a loop. No table is asked for: numbers 4 and 8 are not answered. */
     const struct ceiling_verdict_answer yes = {0, 1}, no = {0, 0};
     for (size_t i = 0; i < FAULT_COUNT; i++) {
-        uint64_t number = FAULTS[i].number;
-        struct ceiling_verdict_answer refused = {number, 0};
+        struct ceiling_verdict_answer refused = {FAULTS[i].alone, 0};
         struct sample s = faulty(&FAULTS[i], WORKING);
         case_of(&s, bytes);
-        if (number != 4) looped(FAULTS[i].name, bytes, number == 8 ? no : refused);
+        looped(FAULTS[i].name, bytes, FAULTS[i].alone ? refused : no);
     }
     /* The most links in a chain, and a pair that joins its ends. */
-    struct sample most = {CEILING_LINKS, CEILING_CHANNELS, CEILING_LINKS - 1, {0}, {0}, {0}, 0, 0};
+    struct sample most = {CEILING_LINKS, CEILING_CHANNELS, CEILING_LINKS - 1, {0}, {0}, {0}, 0, 0, 0};
     case_of(&most, bytes);
     for (int e = 0; e < CEILING_LINKS - 1; e++) bytes[24 + e] = (uint8_t)e, bytes[120 + e] = (uint8_t)(e + 1);
     bytes[24 + CEILING_LINKS - 1] = 0, bytes[120 + CEILING_LINKS - 1] = CEILING_LINKS - 1;
@@ -598,6 +739,14 @@ static void starts(void) {
     case_of(&P4, bytes);
     uint64_t number = ceiling_replay_start(bytes, P4.table, P4.length, record);
     test("ceiling_replay_start", "P4", number == 0 && says(record, &FRESH));
+    for (size_t k = 0; k < CARRY_COUNT; k++) {
+        struct record carried = FRESH;
+        carried.ceiling += CARRIES[k];
+        put_number(bytes + CARRY_AT, (uint64_t)CARRIES[k]);
+        memset(record, 0xa5, sizeof record);
+        number = ceiling_replay_start(bytes, P4.table, P4.length, record);
+        test("ceiling_replay_start", "a carry", number == 0 && says(record, &carried));
+    }
     put_line(line, 0, 4, 0, 0, 0, 0);
     for (size_t i = 0; i < FAULT_COUNT; i++) {
         struct sample s = faulty(&FAULTS[i], STARTING), before = s;
@@ -689,24 +838,26 @@ static const struct step A_PLAN_STEPS[] = {
     {"a shift beside a barred pair", {{1, 0, 0, 0, 4}}, 1, 0, 1, {0, 0, 0, 0, 0, 0, 1, 0, 0, 0, {0}}, {4, BAR, 0, -5, BAR, -4, 0, 0}, 14},
 };
 
-/* A row in one block and line by line. */
-static void step(const struct sample *s, const struct step *row, int by_line) {
+/* A row in one block and line by line, with a carry, which every ceiling has in it. */
+static void step(const struct sample *s, const struct step *row, int64_t carry, int by_line) {
     uint8_t bytes[CEILING_CASE], record[CEILING_RECORD], text[TEXT];
-    int64_t table[8];
+    int64_t table[FULL];
     struct ceiling_lines_answer a = {0, 0};
+    struct record after = row->after;
     size_t taken = 0, length = 0;
+    after.ceiling += carry;
     case_of(s, bytes);
+    put_number(bytes + CARRY_AT, (uint64_t)carry);
     memcpy(table, s->table, sizeof table);
-    if (ceiling_replay_start(bytes, table, 8, record)) return test("ceiling_replay_start", row->name, 0);
-    for (size_t i = 0; i < row->count; i++)
-        length = put_line(text, length, row->lines[i][0], row->lines[i][1], row->lines[i][2], row->lines[i][3], row->lines[i][4]);
+    if (ceiling_replay_start(bytes, table, FULL, record)) return test("ceiling_replay_start", row->name, 0);
+    for (size_t i = 0; i < row->count; i++) length = put_carried(text, length, row->lines[i], carry);
     text[length] = ' '; /* a part line, which is not looked at */
     size_t block = by_line ? CEILING_LINE : length + 1;
     for (size_t at = 0; at < length; at += block) {
-        a = ceiling_replay_lines(bytes, table, 8, record, text + at, block);
+        a = ceiling_replay_lines(bytes, table, FULL, record, text + at, block);
         taken += a.lines;
     }
-    int same = says(record, &row->after) && !memcmp(table, row->table, sizeof table);
+    int same = says(record, &after) && holds(table, row->table);
     test("ceiling_replay_lines", row->name, a.number == row->number && taken == row->passed && same);
     struct ceiling_rounds_answer e = ceiling_replay_end(bytes, record, 0), part = ceiling_replay_end(bytes, record, 1);
     uint64_t is_void = !row->end && row->after.due == 3, rounds = row->end || is_void ? 0 : row->after.rounds;
@@ -715,7 +866,39 @@ static void step(const struct sample *s, const struct step *row, int by_line) {
 }
 
 static void steps(const struct sample *s, const struct step *rows, size_t count) {
-    for (size_t i = 0; i < count; i++) step(s, &rows[i], 0), step(s, &rows[i], 1);
+    for (size_t i = 0; i < count * CARRY_COUNT; i++)
+        for (int by_line = 0; by_line < 2; by_line++) step(s, &rows[i / CARRY_COUNT], CARRIES[i % CARRY_COUNT], by_line);
+}
+
+/* A bound line that leaves the carry out is number 12; one that is not lower, with the carry in both, is 13. */
+static void carried_bounds(void) {
+    static const struct {
+        const char *name;
+        int64_t carry;
+        long long bound; /* after the press; with none at once */
+        int press;
+        uint64_t number;
+    } rows[] = {
+        {"the carry left out", 5, 2, 1, 12},         {"the carry left out, below", -5, 2, 1, 12},
+        {"the carry twice", 5, 12, 1, 12},           {"the carry with another sign", 5, -3, 1, 12},
+        {"the carry in it", 5, 7, 1, 0},             {"the carry in it, below", -5, -3, 1, 0},
+        {"not lower, with the carry", 5, 9, 0, 13},  {"not lower, with the carry, below", -5, -1, 0, 13},
+        {"the ceiling without the carry", 5, 4, 0, 12}, {"the ceiling without the carry, below", -5, 4, 0, 12},
+    };
+    uint8_t record[CEILING_RECORD], bytes[CEILING_CASE], text[TEXT];
+    int64_t table[FULL];
+    for (size_t i = 0; i < sizeof rows / sizeof *rows; i++) {
+        struct sample s = carrying(&P4, rows[i].carry);
+        size_t length = rows[i].press ? put_round(text, 0, 1, 2, 2, rows[i].bound) : put_line(text, 0, 4, 0, 0, 0, rows[i].bound);
+        case_of(&s, bytes);
+        memcpy(table, s.table, sizeof table);
+        uint64_t number = ceiling_replay_start(bytes, table, FULL, record);
+        struct ceiling_lines_answer a = ceiling_replay_lines(bytes, table, FULL, record, text, length);
+        struct ceiling_rounds_answer e = ceiling_replay_end(bytes, record, 0);
+        size_t passed = length / CEILING_LINE - (rows[i].number != 0);
+        test("ceiling_replay_lines", rows[i].name, number == 0 && a.number == rows[i].number && a.lines == passed);
+        test("ceiling_replay_end", rows[i].name, e.number == rows[i].number && e.rounds == (rows[i].number ? 0 : 1));
+    }
 }
 
 /* A block without a whole line: the number that stands, else 3 to 8 and 15, else 0. */
@@ -724,13 +907,13 @@ static void no_whole_line(void) {
     for (size_t length = 0; length < CEILING_LINE; length += CEILING_LINE - 1) {
         for (int standing = 0; standing < 17; standing++) {
             struct record wanted = FRESH;
-            int64_t table[8];
+            int64_t table[FULL];
             wanted.standing = (uint8_t)standing;
             case_of(&P4, bytes);
             memcpy(table, P4.table, sizeof table);
-            ceiling_replay_start(bytes, table, 8, record);
+            ceiling_replay_start(bytes, table, FULL, record);
             record[51] = (uint8_t)standing;
-            struct ceiling_lines_answer a = ceiling_replay_lines(bytes, table, 8, record, text, length);
+            struct ceiling_lines_answer a = ceiling_replay_lines(bytes, table, FULL, record, text, length);
             int same = says(record, &wanted) && !memcmp(table, P4.table, sizeof table);
             test("ceiling_replay_lines", "no whole line", a.number == (uint64_t)standing && a.lines == 0 && same);
         }
@@ -762,12 +945,11 @@ static void handed_over(void) {
             int same = says(record, &after) && !memcmp(s.table, before.table, sizeof s.table);
             test("ceiling_replay_lines", FAULTS[i].name, a.number == after.standing && a.lines == 0 && same);
         }
-        uint64_t number = FAULTS[i].number;
-        if (!strcmp(FAULTS[i].name, "4 before 5")) number = 5;
-        if (number == 4 || number == 8) continue; /* the end is lent no table */
+        /* the end is lent no table: where the case is taken, 14 of the byte that is left */
         memset(record, 0, sizeof record);
-        struct ceiling_rounds_answer e = ceiling_replay_end(bytes, record, 1);
-        test("ceiling_replay_end", FAULTS[i].name, e.number == number && e.rounds == 0);
+        struct ceiling_rounds_answer e = ceiling_replay_end(bytes, record, 1), whole = ceiling_replay_end(bytes, record, 0);
+        test("ceiling_replay_end", FAULTS[i].name, e.number == (FAULTS[i].alone ? FAULTS[i].alone : 14) && e.rounds == 0);
+        test("ceiling_replay_end", FAULTS[i].name, whole.number == FAULTS[i].alone && whole.rounds == 0 && whole.is_void == 0);
     }
 }
 
@@ -792,18 +974,18 @@ static void records(void) {
         {"too many rounds", 0, 1000000000000000000, 5, 0},
     };
     uint8_t bytes[CEILING_CASE], record[CEILING_RECORD], before[CEILING_RECORD], line[CEILING_LINE];
-    int64_t table[8];
+    int64_t table[FULL];
     case_of(&P4, bytes);
     for (size_t i = 0; i < sizeof rows / sizeof *rows; i++) {
         int raise = rows[i].byte == 49;
         put_line(line, 0, raise ? 3 : 1, 0, 0, 0, !raise);
         memcpy(table, P4.table, sizeof table);
-        ceiling_replay_start(bytes, table, 8, record);
+        ceiling_replay_start(bytes, table, FULL, record);
         if (rows[i].byte < 48) put_number(record + rows[i].byte, rows[i].value);
         else record[rows[i].byte] = (uint8_t)rows[i].value;
         memcpy(before, record, sizeof before);
         struct ceiling_rounds_answer e = ceiling_replay_end(bytes, record, 0);
-        struct ceiling_lines_answer a = ceiling_replay_lines(bytes, table, 8, record, line, CEILING_LINE);
+        struct ceiling_lines_answer a = ceiling_replay_lines(bytes, table, FULL, record, line, CEILING_LINE);
         if (!rows[i].kept) before[51] = (uint8_t)rows[i].number;
         int same = !memcmp(record, before, sizeof before) && !memcmp(table, P4.table, sizeof table);
         test("ceiling_replay_lines", rows[i].name, a.number == rows[i].number && a.lines == 0 && same);
@@ -814,15 +996,15 @@ static void records(void) {
 /* The count of rounds at its end: a bound line that would pass it is number 5. */
 static void last_round(void) {
     uint8_t bytes[CEILING_CASE], record[CEILING_RECORD], text[TEXT];
-    int64_t table[8];
+    int64_t table[FULL];
     size_t length = put_round(text, 0, 1, 2, 2, 2);
     for (uint64_t rounds = 999999999999999998; rounds < 1000000000000000000; rounds++) {
         int good = rounds == 999999999999999998;
         case_of(&P4, bytes);
         memcpy(table, P4.table, sizeof table);
-        ceiling_replay_start(bytes, table, 8, record);
+        ceiling_replay_start(bytes, table, FULL, record);
         put_number(record, rounds);
-        struct ceiling_lines_answer a = ceiling_replay_lines(bytes, table, 8, record, text, length);
+        struct ceiling_lines_answer a = ceiling_replay_lines(bytes, table, FULL, record, text, length);
         struct ceiling_rounds_answer e = ceiling_replay_end(bytes, record, 0);
         test("ceiling_replay_lines", "the last rounds", a.number == (good ? 0 : 5) && a.lines == (good ? 4 : 3));
         test("ceiling_replay_end", "the last rounds", e.number == (good ? 0 : 5) && e.rounds == (good ? rounds + 1 : 0));
@@ -874,7 +1056,7 @@ struct engine {
     struct ceiling_run_answer answer;
     int lines[5][5];
     size_t count;
-    int64_t table[PLACES];
+    int64_t table[OWN];
 };
 
 /* No line is written; the tables before, and lines and tables after rounds. */
@@ -979,15 +1161,20 @@ static const struct engine PAIR_RUNS[] = {
     {"passed over beside barred", &EDGE, 216, 9, {0, 0, 0, -499999999, 0}, NONE, AS_EDGE},
 };
 
-/* The output must hold the lines and then what it held; so must everything behind what was lent. */
-static int left(const struct engine *row, const uint8_t *out, const int64_t *table) {
+/* The output must hold the lines and then what it held; so must everything behind what was lent. The table holds 0 past the case's own places. */
+static int left(const struct engine *row, int64_t carry, const uint8_t *out, const int64_t *table) {
     uint8_t wanted[OUT];
     int64_t after[PLACES];
     memset(wanted, 0xa5, sizeof wanted);
-    for (size_t i = 0, at = 0; i < row->count; i++)
-        at = put_line(wanted, at, row->lines[i][0], row->lines[i][1], row->lines[i][2], row->lines[i][3], row->lines[i][4]);
-    for (size_t i = 0; i < PLACES; i++) after[i] = i < row->sample->length ? row->table[i] : 77;
+    for (size_t i = 0, at = 0; i < row->count; i++) at = put_carried(wanted, at, row->lines[i], carry);
+    for (size_t i = 0; i < PLACES; i++) after[i] = i < OWN ? row->table[i] : i < row->sample->length ? 0 : 77;
     return !memcmp(out, wanted, OUT) && !memcmp(table, after, sizeof after);
+}
+
+/* What a run answers with a carry: a refusal by 4 says no bound. */
+static struct ceiling_run_answer with_carry(struct ceiling_run_answer answer, int64_t carry) {
+    if (answer.number == 0 || answer.number == 11) answer.bound += carry;
+    return answer;
 }
 
 static void lend(const struct sample *s, uint8_t bytes[CEILING_CASE], int64_t table[PLACES], uint8_t out[OUT]) {
@@ -999,19 +1186,22 @@ static void lend(const struct sample *s, uint8_t bytes[CEILING_CASE], int64_t ta
 static void runs(void) {
     uint8_t bytes[CEILING_CASE], out[OUT];
     int64_t table[PLACES];
-    for (size_t i = 0; i < sizeof RUNS / sizeof *RUNS; i++) {
-        const struct engine *row = &RUNS[i];
-        lend(row->sample, bytes, table, out);
-        struct ceiling_run_answer a = ceiling_run(bytes, table, row->sample->length, out, row->out, row->limit);
-        test("ceiling_run", row->name, !memcmp(&a, &row->answer, sizeof a) && left(row, out, table));
+    for (size_t i = 0; i < sizeof RUNS / sizeof *RUNS * CARRY_COUNT; i++) {
+        const struct engine *row = &RUNS[i / CARRY_COUNT];
+        int64_t carry = CARRIES[i % CARRY_COUNT];
+        struct sample s = carrying(row->sample, carry);
+        lend(&s, bytes, table, out);
+        struct ceiling_run_answer a = ceiling_run(bytes, table, s.length, out, row->out, row->limit), wanted = with_carry(row->answer, carry);
+        test("ceiling_run", row->name, !memcmp(&a, &wanted, sizeof a) && left(row, carry, out, table));
         /* one round alone is the run's first: the rows whose run ended with it, or with a void line at once */
         uint64_t most = !row->answer.number && !row->answer.none_lawful;
         if (row->limit == 0 || row->answer.rounds > most) continue;
-        lend(row->sample, bytes, table, out);
-        struct ceiling_round_answer r = ceiling_round(bytes, table, row->sample->length, out, row->out);
-        int64_t bound = row->count ? row->lines[row->count - 1][4] : 0;
+        lend(&s, bytes, table, out);
+        struct ceiling_round_answer r = ceiling_round(bytes, table, s.length, out, row->out);
+        const int *last = row->count ? row->lines[row->count - 1] : NULL;
+        int64_t bound = last && last[0] == 4 ? last[4] + carry : 0;
         int good = r.number == row->answer.number && r.bytes == row->count * CEILING_LINE && r.bound == bound;
-        test("ceiling_round", row->name, good && r.none_lawful == row->answer.none_lawful && left(row, out, table));
+        test("ceiling_round", row->name, good && r.none_lawful == row->answer.none_lawful && left(row, carry, out, table));
     }
 }
 
@@ -1032,12 +1222,14 @@ static int same_totals(const struct sample *s, const uint8_t bytes[CEILING_CASE]
 static void pair_runs(void) {
     uint8_t bytes[CEILING_CASE], out[OUT];
     int64_t table[PLACES];
-    for (size_t i = 0; i < sizeof PAIR_RUNS / sizeof *PAIR_RUNS; i++) {
-        const struct engine *row = &PAIR_RUNS[i];
-        lend(row->sample, bytes, table, out);
-        struct ceiling_run_answer a = ceiling_run_pairs(bytes, table, row->sample->length, out, row->out, row->limit);
-        int good = !memcmp(&a, &row->answer, sizeof a) && left(row, out, table);
-        test("ceiling_run_pairs", row->name, good && same_totals(row->sample, bytes, table));
+    for (size_t i = 0; i < sizeof PAIR_RUNS / sizeof *PAIR_RUNS * CARRY_COUNT; i++) {
+        const struct engine *row = &PAIR_RUNS[i / CARRY_COUNT];
+        int64_t carry = CARRIES[i % CARRY_COUNT];
+        struct sample s = carrying(row->sample, carry);
+        lend(&s, bytes, table, out);
+        struct ceiling_run_answer a = ceiling_run_pairs(bytes, table, s.length, out, row->out, row->limit), wanted = with_carry(row->answer, carry);
+        int good = !memcmp(&a, &wanted, sizeof a) && left(row, carry, out, table);
+        test("ceiling_run_pairs", row->name, good && same_totals(&s, bytes, table));
     }
 }
 
@@ -1055,12 +1247,15 @@ static void rounds(void) {
     };
     uint8_t bytes[CEILING_CASE], out[OUT];
     int64_t table[PLACES];
-    for (size_t i = 0; i < sizeof rows / sizeof *rows; i++) {
-        const struct engine *after = &rows[i].after;
-        lend(after->sample, bytes, table, out);
+    for (size_t i = 0; i < sizeof rows / sizeof *rows * CARRY_COUNT; i++) {
+        const struct engine *after = &rows[i / CARRY_COUNT].after;
+        int64_t carry = CARRIES[i % CARRY_COUNT];
+        struct sample s = carrying(after->sample, carry);
+        lend(&s, bytes, table, out);
         for (size_t k = 0; k < 3; k++) {
-            struct ceiling_round_answer r = ceiling_round(bytes, table, after->sample->length, out, after->out);
-            test("ceiling_round", after->name, !memcmp(&r, &rows[i].answers[k], sizeof r) && (k < 2 || left(after, out, table)));
+            struct ceiling_round_answer r = ceiling_round(bytes, table, s.length, out, after->out), wanted = rows[i / CARRY_COUNT].answers[k];
+            if (wanted.bytes && !wanted.none_lawful) wanted.bound += carry;
+            test("ceiling_round", after->name, !memcmp(&r, &wanted, sizeof r) && (k < 2 || left(after, carry, out, table)));
         }
     }
 }
@@ -1070,8 +1265,8 @@ static void void_logs(void) {
     static const struct sample *const rows[] = {&NO_PLAN, &LATE};
     uint8_t bytes[CEILING_CASE], out[OUT], record[CEILING_RECORD], log[TEXT];
     int64_t table[PLACES], replayed[PLACES];
-    for (size_t i = 0; i < sizeof rows / sizeof *rows; i++) {
-        const struct sample *s = rows[i];
+    for (size_t i = 0; i < sizeof rows / sizeof *rows * CARRY_COUNT; i++) {
+        struct sample carried = carrying(rows[i / CARRY_COUNT], CARRIES[i % CARRY_COUNT]), *s = &carried;
         struct ceiling_round_answer r = {0, 0, 0, 0};
         size_t length = 0;
         lend(s, bytes, table, out);
@@ -1101,10 +1296,10 @@ static void void_logs(void) {
 /* The largest case, all of its weights 0: settled with room for the longest round, and number 4 with a byte less. The last link keeps channel 0,
  * with which all others go. */
 static void rooms(void) {
-    enum { TABLE = CEILING_LINKS * CEILING_CHANNELS + CEILING_PAIRS * CEILING_CHANNELS * CEILING_CHANNELS };
+    enum { TABLE = CEILING_TABLE(CEILING_CHANNELS) };
     static int64_t table[TABLE];
     uint8_t bytes[CEILING_CASE], out[CEILING_ROOM], family[CEILING_LINKS], partners[CEILING_PARTNERS];
-    put_number(bytes, CEILING_LINKS), put_number(bytes + 8, CEILING_CHANNELS), put_number(bytes + 16, CEILING_PAIRS);
+    put_number(bytes, CEILING_LINKS), put_number(bytes + 8, CEILING_CHANNELS), put_number(bytes + 16, CEILING_PAIRS), put_number(bytes + CARRY_AT, 0);
     for (int e = 0; e < CEILING_PAIRS; e++) {
         bytes[24 + e] = (uint8_t)(e % 24);
         bytes[120 + e] = (uint8_t)(24 + (e % 24 + e / 24) % 24);
@@ -1146,6 +1341,9 @@ static void engine_faults(void) {
         struct ceiling_run_answer a = ceiling_run(bytes, table, s.length, out, OUT, 9), wanted = {FAULTS[i].number, 0, 0, 0, 0};
         same = !memcmp(table, start, sizeof start) && !memcmp(out, before, sizeof out);
         test("ceiling_run", FAULTS[i].name, !memcmp(&a, &wanted, sizeof a) && same);
+        a = ceiling_run(bytes, table, s.length, out, OUT, 0);
+        same = !memcmp(table, start, sizeof start) && !memcmp(out, before, sizeof out);
+        test("ceiling_run", "refused at limit 0", !memcmp(&a, &wanted, sizeof a) && same);
         a = ceiling_run_pairs(bytes, table, s.length, out, OUT, 9);
         same = !memcmp(table, start, sizeof start) && !memcmp(out, before, sizeof out);
         test("ceiling_run_pairs", FAULTS[i].name, !memcmp(&a, &wanted, sizeof a) && same);
@@ -1161,11 +1359,11 @@ static void engine_faults(void) {
     };
     case_of(&P4, bytes);
     for (size_t i = 0; i < sizeof rows / sizeof *rows; i++) {
-        memcpy(table, rows[i].table, sizeof rows[i].table);
-        test("ceiling_round", rows[i].name, ceiling_round(bytes, table, 8, out, OUT).number == rows[i].number);
-        test("ceiling_run", rows[i].name, ceiling_run(bytes, table, 8, out, OUT, 0).number == rows[i].number);
-        test("ceiling_run_pairs", rows[i].name, ceiling_run_pairs(bytes, table, 8, out, OUT, 9).number == rows[i].number);
-        test("ceiling_round", "barred and refused", !memcmp(table, rows[i].table, sizeof rows[i].table) && !memcmp(out, before, sizeof out));
+        put_table(table, rows[i].table);
+        test("ceiling_round", rows[i].name, ceiling_round(bytes, table, FULL, out, OUT).number == rows[i].number);
+        test("ceiling_run", rows[i].name, ceiling_run(bytes, table, FULL, out, OUT, 0).number == rows[i].number);
+        test("ceiling_run_pairs", rows[i].name, ceiling_run_pairs(bytes, table, FULL, out, OUT, 9).number == rows[i].number);
+        test("ceiling_round", "barred and refused", holds(table, rows[i].table) && !memcmp(out, before, sizeof out));
     }
 }
 
@@ -1179,37 +1377,38 @@ static void versions(void) {
 /* A case and a log of no bytes, a table and an output of no elements, a plan of none: answered as what is empty. */
 static void nulls(void) {
     uint8_t bytes[CEILING_CASE], text[TEXT], record[CEILING_RECORD], plan[2] = {0, 0};
-    int64_t table[8];
+    int64_t table[FULL];
     case_of(&P4, bytes);
     memcpy(table, P4.table, sizeof table);
     size_t length = put_case(&P4, text);
     test("ceiling_case_size", "null", ceiling_case_size(NULL, 0).number == 14);
-    test("ceiling_read_case", "null text", ceiling_read_case(NULL, 0, bytes, table, 8).number == 14);
+    test("ceiling_read_case", "null text", ceiling_read_case(NULL, 0, bytes, table, FULL).number == 14);
     test("ceiling_read_case", "null table", ceiling_read_case(text, length, bytes, NULL, 0).number == 4);
     test("ceiling_upper_bound", "null", ceiling_upper_bound(bytes, NULL, 0).number == 4);
     test("ceiling_objective", "null table", ceiling_objective(bytes, NULL, 0, plan, 2).number == 4);
-    test("ceiling_objective", "null plan", ceiling_objective(bytes, table, 8, NULL, 0).number == 4);
+    test("ceiling_objective", "null plan", ceiling_objective(bytes, table, FULL, NULL, 0).number == 4);
     test("ceiling_better_of", "null table", ceiling_better_of(bytes, NULL, 0, plan, 2, plan, 2).number == 4);
-    test("ceiling_better_of", "null plans", ceiling_better_of(bytes, table, 8, NULL, 0, NULL, 0).number == 4);
+    test("ceiling_better_of", "null plans", ceiling_better_of(bytes, table, FULL, NULL, 0, NULL, 0).number == 4);
     test("ceiling_supported_value", "null table", ceiling_supported_value(bytes, NULL, 0, 0, plan, 2, text, 4).number == 4);
-    test("ceiling_supported_value", "null family", ceiling_supported_value(bytes, table, 8, 0, NULL, 0, text, 4).number == 4);
-    test("ceiling_supported_value", "null partners", ceiling_supported_value(bytes, table, 8, 0, plan, 2, NULL, 0).number == 4);
+    test("ceiling_supported_value", "null family", ceiling_supported_value(bytes, table, FULL, 0, NULL, 0, text, 4).number == 4);
+    test("ceiling_supported_value", "null partners", ceiling_supported_value(bytes, table, FULL, 0, plan, 2, NULL, 0).number == 4);
     test("ceiling_replay_start", "null", ceiling_replay_start(bytes, NULL, 0, record) == 4);
-    test("ceiling_replay_start", "a table", ceiling_replay_start(bytes, table, 8, record) == 0);
-    test("ceiling_replay_lines", "null lines", ceiling_replay_lines(bytes, table, 8, record, NULL, 0).number == 0);
+    test("ceiling_replay_start", "a table", ceiling_replay_start(bytes, table, FULL, record) == 0);
+    test("ceiling_replay_lines", "null lines", ceiling_replay_lines(bytes, table, FULL, record, NULL, 0).number == 0);
     test("ceiling_replay_lines", "null table", ceiling_replay_lines(bytes, NULL, 0, record, NULL, 0).number == 4);
     test("ceiling_round_span", "null", ceiling_round_span(NULL, 0, 0).number == 5);
     test("ceiling_round", "null table", ceiling_round(bytes, NULL, 0, text, sizeof text).number == 4);
-    test("ceiling_round", "null output", ceiling_round(bytes, table, 8, NULL, 0).number == 4);
+    test("ceiling_round", "null output", ceiling_round(bytes, table, FULL, NULL, 0).number == 4);
     test("ceiling_run", "null", ceiling_run(bytes, NULL, 0, NULL, 0, 1).number == 4);
     test("ceiling_run_pairs", "null", ceiling_run_pairs(bytes, NULL, 0, NULL, 0, 1).number == 4);
     case_of(&P11, bytes);
-    test("ceiling_supported_value", "null, no pairs", ceiling_supported_value(bytes, P11.table, 1, 0, plan, 1, NULL, 0).number == 0 && plan[0] == 1);
+    struct ceiling_value_answer v = ceiling_supported_value(bytes, P11.table, P11.length, 0, plan, 1, NULL, 0);
+    test("ceiling_supported_value", "null, no pairs", v.number == 0 && plan[0] == 1);
 }
 
 int main(void) {
     versions(), nulls();
-    sizes(), readings(), barred_readings();
+    sizes(), readings(), full_readings(), barred_readings();
     ceilings(), totals(), choices(), unlawful(), barred_tables();
     kept_channels();
     loops();
@@ -1217,6 +1416,7 @@ int main(void) {
     steps(&P4, STEPS, sizeof STEPS / sizeof *STEPS);
     steps(&NO_PLAN, NO_PLAN_STEPS, sizeof NO_PLAN_STEPS / sizeof *NO_PLAN_STEPS);
     steps(&A_PLAN, A_PLAN_STEPS, sizeof A_PLAN_STEPS / sizeof *A_PLAN_STEPS);
+    carried_bounds();
     no_whole_line(), handed_over(), records(), last_round();
     spans();
     runs(), pair_runs(), rounds(), void_logs(), rooms(), engine_faults();

@@ -7,7 +7,7 @@ use crate::counts::Counts;
 use crate::inputs::{input_for, random_for, sized_case, Program};
 use crate::options::Options;
 use crate::outside::Outside;
-use crate::{case, family_calls, loop_calls, programs, samples};
+use crate::{case, family_calls, joins, links, loop_calls, programs, samples};
 use std::path::{Path, PathBuf};
 use std::process::ExitCode;
 use std::time::{Duration, Instant};
@@ -180,7 +180,7 @@ fn slow_figures(check: &Check) -> String {
     format!(
         "slow mode: cases {} and {} large, comparisons {} (refutations {}, runs {}, lines {}, \
          lists {}, programs {}, others {}; rounds with a climb {}, void lists {}; cases barred \
-         {}, without a lawful plan {}), {}, {}, graphs {} (without a loop {}), {}",
+         {}, without a lawful plan {}), {}, {}, graphs {} (without a loop {}), {}, {}",
         figures.cases,
         figures.large,
         figures.comparisons(),
@@ -198,7 +198,22 @@ fn slow_figures(check: &Check) -> String {
         family_figures(check),
         figures.chains.graphs,
         figures.chains.without,
-        chain_figures(check)
+        chain_figures(check),
+        link_figures(check)
+    )
+}
+
+fn link_figures(check: &Check) -> String {
+    let links = check.figures.links;
+    format!(
+        "{}; stretches {}, states with every plan listed {}, quiet states without a loop {} ({} \
+         with a carry), flat links there and back with a carry {}",
+        links.made.text(),
+        links.stretches,
+        links.states,
+        links.quiet,
+        links.carried,
+        links.returned
     )
 }
 
@@ -267,8 +282,10 @@ fn missing(counts: &[&Counts]) -> String {
     let case = [1, 2, 3, 5, 6, 7, 8, 14, 15]
         .into_iter()
         .filter(|number| !met("case", number));
+    let of_joins: &[u8] = if joins::allowed() { &[3, 6, 7, 8, 15] } else { &[] };
     let log = [1, 2, 5, 9, 10, 11, 12, 13, 14, 16]
         .into_iter()
+        .chain(of_joins.iter().copied())
         .filter(|number| !met("log", number));
     let (case, log): (Vec<u8>, Vec<u8>) = (case.collect(), log.collect());
     if case.is_empty() && log.is_empty() {
@@ -351,6 +368,8 @@ struct Programs {
     barred: [u64; 2],
     /// Logs that ended void.
     void: u64,
+    /// Leaves and joins of the logs.
+    links: links::Figures,
     called: [calls::Figures; 3],
     bytes: u64,
     /// What was found on forests.
@@ -369,6 +388,7 @@ impl Programs {
             compared: [0; 2],
             barred: [0; 2],
             void: 0,
+            links: links::Figures::default(),
             called: [calls::Figures::default(); 3],
             bytes: 0,
             forests: Check::new(),
@@ -454,6 +474,9 @@ impl Programs {
         self.compared[program as usize] += 1;
         self.barred[program as usize] += u64::from(barred);
         self.void += u64::from(expected == b"void\n");
+        if let Program::Replay = program {
+            self.links.add(&programs::link_figures(input));
+        }
         self.bytes += input.len() as u64;
         Ok(())
     }
@@ -488,8 +511,9 @@ impl Programs {
         let [press_barred, replay_barred] = self.barred;
         format!(
             "press {press} inputs ({press_barred} barred), replay {replay} inputs ({replay_barred} \
-             barred, {} void), {}, {}, {}, by programs: {}, {} MB in",
+             barred, {} void; {}), {}, {}, {}, by programs: {}, {} MB in",
             self.void,
+            self.links.text(),
             self.call_figures(),
             self.family_figures(),
             self.loop_figures(),

@@ -90,7 +90,7 @@ fn label(input: &[u8], line: usize) -> String {
 fn kind_label(bytes: &[u8]) -> String {
     match line::parse(bytes) {
         None => "bad".into(),
-        Some(line) if matches!(line.kind, 1..=5 | 10..=15) => format!("k{}", line.kind),
+        Some(line) if matches!(line.kind, 1..=5 | 7 | 8 | 10..=15) => format!("k{}", line.kind),
         Some(_) => "other".into(),
     }
 }

@@ -1,8 +1,15 @@
 //! Logs as other engines write them: shifts, whole pair rounds, untrimmed presses by odd amounts,
-//! several moves a round, rounds whose first move raises the ceiling, void lines. A careful
-//! writer's log is accepted; a careless one also writes what must be refused.
+//! several moves a round, rounds whose first move raises the ceiling, void lines, and where
+//! wanted links that join and leave. A careful writer's log is accepted; a careless one also
+//! writes what must be refused.
+
+pub mod directed;
+mod links;
+
+pub use links::spoil;
 
 use crate::engine::{find_press, run_case, write_shifts};
+use crate::joins;
 use crate::line;
 use crate::random::Random;
 use crate::refute::{all_active_refuted, no_active_choice};
@@ -20,51 +27,106 @@ struct Shift {
 
 struct Writer<'a> {
     random: &'a mut Random,
+    /// The case as it stands, with its starting weights.
+    case: Case,
     state: State,
+    carry: i64,
     log: Vec<u8>,
     careless: bool,
+    /// Links may join and leave.
+    links: bool,
+    /// A void line was written.
+    void: bool,
 }
 
 /// A foreign log for the case; `careless` ones may be refused at any number.
 pub fn log(random: &mut Random, case: &Case, careless: bool) -> Vec<u8> {
-    let mut writer = Writer {
-        random,
-        state: State::new(case),
-        log: Vec::new(),
-        careless,
-    };
-    if writer.random.chance(1, 3) {
-        writer.engine_rounds(case);
-    }
-    let rounds = *writer.random.pick(&[0, 0, 1, 1, 2, 2, 3, 5, 8, 8, 20]);
-    for _ in 0..rounds {
-        if !writer.round() {
-            return writer.log;
-        }
-    }
-    if writer.random.chance(1, 2) {
-        writer.some_void();
-    }
+    let mut writer = Writer::new(random, case, careless);
+    writer.write_all();
     writer.log
+}
+
+/// The same, mostly with links that join and leave, where they may.
+pub fn mixed(random: &mut Random, case: &Case, careless: bool) -> Vec<u8> {
+    let links = joins::allowed() && random.chance(2, 3);
+    let mut writer = Writer::new(random, case, careless);
+    writer.links = links;
+    writer.write_all();
+    writer.log
+}
+
+/// The lines of one join that the case can take.
+pub fn one_join(random: &mut Random, case: &Case) -> Vec<Line> {
+    Writer::new(random, case, false).some_join()
+}
+
+/// The same of a link whose scopes are flat.
+pub fn flat_join(random: &mut Random, case: &Case) -> Vec<Line> {
+    let count = random.below(1 + case.variables.min(MAX_EDGES - case.edges.len()));
+    let lower = links::some_lower(random, case.variables, count);
+    let style = links::Style::Flat(random.between(-START_LIMIT, START_LIMIT));
+    links::join_lines(random, case, &lower, style, 0)
 }
 
 /// Tables up to this length begin with many of the engine's rounds now and then.
 const MANY_ROUNDS: usize = 250;
 
-impl Writer<'_> {
-    /// Some of the engine's rounds first, or all, but for its void line.
-    fn engine_rounds(&mut self, case: &Case) {
-        let many = case.weights.len() <= MANY_ROUNDS;
-        let limit = match self.random.below(3) {
-            0 if many => PROGRAM_ROUNDS,
-            _ => self.random.below(30) as u64,
-        };
-        let run = run_case(case, Rounds::All, limit);
-        let is_void = |line: &[u8]| line.starts_with(b" 5");
-        let lines = run.log.chunks(LINE_BYTES).take_while(|line| !is_void(line)).count();
-        self.log.extend(&run.log[..lines * LINE_BYTES]);
+impl<'a> Writer<'a> {
+    fn new(random: &'a mut Random, case: &Case, careless: bool) -> Writer<'a> {
+        Writer {
+            random,
+            case: case.clone(),
+            state: State::new(case),
+            carry: 0,
+            log: Vec::new(),
+            careless,
+            links: false,
+            void: false,
+        }
+    }
+
+    fn write_all(&mut self) {
+        if self.random.chance(1, 3) {
+            let many = self.case.weights.len() <= MANY_ROUNDS;
+            let limit = match self.random.below(3) {
+                0 if many => PROGRAM_ROUNDS,
+                _ => self.random.below(30) as u64,
+            };
+            self.engine_rounds(limit);
+        }
+        let rounds = *self.random.pick(&[0, 0, 1, 1, 2, 2, 3, 5, 8, 8, 20]);
+        for _ in 0..rounds {
+            if self.links && self.random.chance(1, 2) && !self.some_links() {
+                return;
+            }
+            let goes_on = self.links && !self.careless;
+            if !self.round() && (self.void || !goes_on) {
+                return;
+            }
+        }
+        if self.links && !self.some_links() {
+            return;
+        }
+        if self.random.chance(1, 2) {
+            self.some_void();
+        }
+    }
+
+    /// Some of the engine's rounds, but not its void line; bound lines state the carry too.
+    fn engine_rounds(&mut self, limit: u64) {
+        let weights = self.state.weights();
+        let run = run_case(&Case { weights, ..self.case.clone() }, Rounds::All, limit);
+        for bytes in run.log.chunks(LINE_BYTES) {
+            match line::parse(bytes) {
+                Some(line) if line.kind == 5 => break,
+                Some(line) if line.kind == 4 => {
+                    line::write(&mut self.log, 4, 0, 0, 0, line.amount + self.carry);
+                }
+                _ => self.log.extend(bytes),
+            }
+        }
         let weights = run.weights;
-        self.state = State::new(&Case { weights, ..case.clone() });
+        self.state = State::new(&Case { weights, ..self.case.clone() });
     }
 
     /// One round. False if the log ends here.
@@ -86,6 +148,9 @@ impl Writer<'_> {
             } else {
                 self.any_press();
             }
+        }
+        if self.links && self.careless && self.random.chance(1, 12) {
+            self.stray_links();
         }
         for _ in 0..4 {
             if self.state.upper_bound < start {
@@ -130,7 +195,9 @@ impl Writer<'_> {
         } else {
             error
         };
-        line::write(&mut self.log, 4, 0, 0, 0, self.state.upper_bound + error);
+        let forgotten = self.carry != 0 && self.careless && self.random.chance(1, 15);
+        let carry = if forgotten { 0 } else { self.carry };
+        line::write(&mut self.log, 4, 0, 0, 0, self.state.upper_bound + carry + error);
     }
 
     fn some_shift(&mut self) -> Option<Shift> {
@@ -320,6 +387,7 @@ impl Writer<'_> {
     }
 
     fn write_void(&mut self, variable: usize, raised: &Scopes) {
+        self.void = true;
         line::write(&mut self.log, 5, variable as i64, raised.count() as i64, 0, 0);
         self.write_raised(raised);
     }

@@ -5,6 +5,7 @@ use crate::damage::damage;
 use crate::engine;
 use crate::foreign;
 use crate::generate::{any_case, Bars, Plan, Shape, Weights};
+use crate::joins;
 use crate::random::Random;
 use crate::types::*;
 
@@ -82,8 +83,8 @@ pub fn some_log(random: &mut Random, case: &Case) -> Vec<u8> {
     match random.below(5) {
         0 => engine::run_case(case, Rounds::All, random.below(60) as u64).log,
         1 if small => engine::run_case(case, Rounds::All, PROGRAM_ROUNDS).log,
-        2 => foreign::log(random, case, false),
-        _ => foreign::log(random, case, true),
+        2 => foreign::mixed(random, case, false),
+        _ => foreign::mixed(random, case, true),
     }
 }
 
@@ -98,13 +99,22 @@ fn press_input(random: &mut Random, case: &Case) -> Input {
     }
 }
 
+/// The case's file and a log, or another case's with links that join and leave.
+fn case_and_log(random: &mut Random, case: &Case) -> (Vec<u8>, Vec<u8>) {
+    if joins::allowed() && random.chance(1, 3) {
+        let careless = random.chance(1, 2);
+        let (case, log) = foreign::directed::any(random, careless);
+        return (case::write(&case), log);
+    }
+    (case::write(case), some_log(random, case))
+}
+
 /// An input made from the case for one of the two programs.
 pub fn input_for(random: &mut Random, case: &Case) -> Input {
     if random.chance(1, 4) {
         return press_input(random, case);
     }
-    let mut bytes = case::write(case);
-    let mut log = some_log(random, case);
+    let (mut bytes, mut log) = case_and_log(random, case);
     if random.chance(1, 3) {
         log = damage(random, &log);
     }

@@ -1,4 +1,4 @@
-//! The peer: a second reading of document 01 and of changes 1 to 4 of document 02 in plain
+//! The peer: a second reading of document 01 and of changes 1 to 5 of document 02 in plain
 //! Rust, to hold programs, vectors and speed against. See ../README.md.
 
 mod barred_samples;
@@ -18,14 +18,18 @@ mod foreign;
 mod forests;
 mod generate;
 mod inputs;
+mod join_samples;
+mod joins;
 mod lent;
 mod line;
+mod links;
 mod loop_calls;
 mod loops;
 mod options;
 mod outside;
 mod pair_samples;
 mod plain;
+mod plain_links;
 mod plain_replay;
 mod programs;
 mod random;
@@ -62,6 +66,7 @@ const USAGE: &str = "usage: peer COMMAND [OPTIONS]
   generate KIND [--seed S] [--links N] [--values D] [--pairs M] [--unusable PERCENT]
            [--barred PERCENT]
   foreign [--seed S] [--careful]    case file in, case file and a foreign log out
+  directed [--seed S] [--careful]   a case file and a log aimed at leaves and joins out
   damage [--seed S]           any input in, damaged input out
   untrimmed [--rounds N]      case file in, a log of untrimmed presses by 1 out
   check [--seconds N | --cases N] [--seed S] [--keep DIR] [--counts]
@@ -69,9 +74,10 @@ const USAGE: &str = "usage: peer COMMAND [OPTIONS]
           [--families PROGRAM] [--calls PROGRAM] [--keep DIR] [--counts]
   every [--links N] [--values D] [--pairs M] [--weights W] [--part P] [--seed S] [--keep DIR]
                               every table of a small size with weights up to W in size, or
-                              one of P of them: its runs with their facts, every void line
-                              and the family of every link
-  bench [--seconds N]         figures of speed";
+                              one of P of them: its runs with their facts, every void
+                              line and leave, and the family of every link
+  bench [--seconds N]         figures of speed
+With --no-joins every command is as before change 5: kinds 7 and 8 are due nowhere.";
 
 fn main() -> ExitCode {
     let arguments: Vec<String> = std::env::args().skip(1).collect();
@@ -79,6 +85,9 @@ fn main() -> ExitCode {
         return usage("no command");
     };
     match Options::new(command, rest).and_then(|mut options| {
+        if options.flag("no-joins") {
+            joins::forbid();
+        }
         let code = run(command, &mut options)?;
         Ok(code)
     }) {
@@ -110,6 +119,7 @@ fn run(command: &str, options: &mut Options) -> Result<ExitCode, String> {
         "generate" => generate_case(options),
         "foreign" => foreign_log(options),
         "untrimmed" => untrimmed_log(options),
+        "directed" => directed_log(options),
         "damage" => {
             let mut random = Random::new(options.number("seed", 1)?);
             print_after(options, |input| damage::damage(&mut random, input))
@@ -309,7 +319,18 @@ fn foreign_log(options: &mut Options) -> Result<ExitCode, String> {
     let mut random = Random::new(options.number("seed", 1)?);
     let careless = !options.flag("careful");
     print_after(options, |input| match case::read_alone(input) {
-        Ok((case, _)) => [input.to_vec(), foreign::log(&mut random, &case, careless)].concat(),
+        Ok((case, _)) => [input.to_vec(), foreign::mixed(&mut random, &case, careless)].concat(),
         Err(refusal) => programs::refusal_text(refusal),
     })
+}
+
+fn directed_log(options: &mut Options) -> Result<ExitCode, String> {
+    let mut random = Random::new(options.number("seed", 1)?);
+    let careless = !options.flag("careful");
+    options.finish()?;
+    if !joins::allowed() {
+        return Err("directed logs hold leaves and joins".into());
+    }
+    let (case, log) = foreign::directed::any(&mut random, careless);
+    output(&[case::write(&case), log].concat())
 }

@@ -3,8 +3,9 @@
 use crate::case;
 use crate::engine;
 use crate::families::partner_bytes;
+use crate::links;
 use crate::plain_replay;
-use crate::replay::replay_file;
+use crate::replay::{replay_file, Replay};
 use crate::types::*;
 
 pub fn refusal_text(refusal: Refusal) -> Vec<u8> {
@@ -96,8 +97,22 @@ pub fn replay_answer(input: &[u8]) -> Result<Verdict, Refusal> {
     let replay = replay_file(&case, &input[used * LINE_BYTES..], used)?;
     Ok(match replay.void {
         true => Verdict::Void,
-        false => Verdict::Accepted(replay.rounds, replay.state.upper_bound),
+        false => Verdict::Accepted(replay.rounds, replay.ceiling()),
     })
+}
+
+/// What became of the leaves and joins of an input.
+pub fn link_figures(input: &[u8]) -> links::Figures {
+    let Ok((case, used)) = case::read_front(input) else {
+        return links::Figures::default();
+    };
+    let mut replay = Replay::new(&case);
+    for bytes in input[used * LINE_BYTES..].chunks_exact(LINE_BYTES) {
+        if replay.step(bytes).is_some() {
+            break;
+        }
+    }
+    replay.link_figures()
 }
 
 fn judgement(answer: Result<Verdict, Refusal>) -> Vec<u8> {

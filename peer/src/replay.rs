@@ -1,7 +1,9 @@
 //! The replay of log lines, fast. Answers are those of document 01's plain replay, with
-//! document 02's void lines.
+//! document 02's void lines and links that join and leave.
 
+use crate::joins;
 use crate::line;
+use crate::links::{self, Joining};
 use crate::refute::all_active_refuted;
 use crate::scopes::Scopes;
 use crate::state::State;
@@ -26,15 +28,21 @@ struct Held {
 }
 
 pub struct Replay {
+    /// The case as it stands, with its starting weights.
+    pub case: Case,
     pub state: State,
+    pub carry: i64,
     pub rounds: u64,
     /// The number that stands, once a line was refused.
     pub standing: Option<u8>,
     /// A void line is whole: nothing is due any more.
     pub void: bool,
+    /// What became of leaves and joins.
+    pub links: links::Figures,
     round_start: i64,
     open_moves: bool,
     held: Option<Held>,
+    joining: Option<Joining>,
 }
 
 impl Replay {
@@ -42,14 +50,24 @@ impl Replay {
         let state = State::new(case);
         let round_start = state.upper_bound;
         Replay {
+            case: case.clone(),
             state,
+            carry: 0,
             rounds: 0,
             standing: None,
             void: false,
+            links: links::Figures::default(),
             round_start,
             open_moves: false,
             held: None,
+            joining: None,
         }
+    }
+
+    /// The upper bound and the carry.
+    #[inline]
+    pub fn ceiling(&self) -> i64 {
+        self.state.upper_bound + self.carry
     }
 
     /// Takes one line, any bytes; the answer is a number or nothing.
@@ -63,8 +81,19 @@ impl Replay {
 
     /// The answer at the end of the list.
     pub fn end(&self) -> Option<u8> {
-        let unfinished = self.held.is_some() || self.open_moves && !self.void;
+        let held = self.held.is_some() || self.joining.is_some();
+        let unfinished = held || self.open_moves && !self.void;
         self.standing.or(unfinished.then_some(14))
+    }
+
+    /// What became of leaves and joins, at the end of the list.
+    pub fn link_figures(&self) -> links::Figures {
+        let mut figures = self.links;
+        match self.standing {
+            Some(_) => figures.refused += u64::from(self.joining.is_some()),
+            None => figures.cut += u64::from(self.joining.is_some()),
+        }
+        figures
     }
 
     #[inline]
@@ -72,13 +101,58 @@ impl Replay {
         let line = line::parse(bytes).ok_or(1)?;
         match (line.kind, self.held.is_some()) {
             _ if self.void => Err(2),
+            _ if self.joining.is_some() => self.join(line),
             (3, true) => self.raise(line),
             (1, false) => self.shift(line),
             (2, false) => self.press(line),
             (4, false) => self.bound(line),
             (5, false) => self.void(line),
+            (7, false) if self.between_rounds() => self.leave(line),
+            (8, false) if self.between_rounds() => self.begin_join(line),
             _ => Err(2),
         }
+    }
+
+    fn between_rounds(&self) -> bool {
+        joins::allowed() && !self.open_moves
+    }
+
+    fn leave(&mut self, line: Line) -> Result<(), u8> {
+        if (line.b | line.c | line.amount) != 0 {
+            return Err(2);
+        }
+        if self.case.variables == 1 {
+            return Err(3);
+        }
+        let link = below(line.a, self.case.variables)?;
+        let left = links::leave(&self.case, &self.state, self.carry, link);
+        self.links.note(&left);
+        (self.case, self.state, self.carry) = (left.case, left.state, left.carry);
+        self.round_start = self.ceiling();
+        Ok(())
+    }
+
+    fn begin_join(&mut self, line: Line) -> Result<(), u8> {
+        let joining = Joining::begin(&self.case, line);
+        self.links.refused += u64::from(matches!(joining, Err(3 | 5)));
+        self.joining = Some(joining?);
+        Ok(())
+    }
+
+    /// A line of a join; with the last one the join is made.
+    fn join(&mut self, line: Line) -> Result<(), u8> {
+        let Some(joining) = &mut self.joining else {
+            return Err(2);
+        };
+        if joining.take(line)? {
+            let working = joining.joined(&self.case, &self.state.weights());
+            self.case = joining.joined(&self.case, &self.case.weights);
+            self.state = State::new(&working);
+            self.joining = None;
+            self.links.joins += 1;
+            self.round_start = self.ceiling();
+        }
+        Ok(())
     }
 
     fn shift(&mut self, line: Line) -> Result<(), u8> {
@@ -171,7 +245,7 @@ impl Replay {
         if self.rounds >= ROUND_LIMIT {
             return Err(5);
         }
-        if line.amount != self.state.upper_bound {
+        if line.amount != self.ceiling() {
             return Err(12);
         }
         if line.amount >= self.round_start {

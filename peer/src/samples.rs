@@ -3,7 +3,8 @@
 
 use crate::refusals::by_hand;
 use crate::types::*;
-use crate::{barred_samples, case, engine, family_samples, pair_samples, plain, programs, slow};
+use crate::{barred_samples, case, engine, family_samples, join_samples, pair_samples};
+use crate::{plain, programs, slow};
 
 #[derive(Clone)]
 pub struct Sample {
@@ -284,6 +285,7 @@ fn all() -> Vec<Sample> {
     }
     samples.extend(by_hand());
     samples.extend(barred_samples::by_hand());
+    samples.extend(join_samples::by_hand());
     samples
 }
 

@@ -127,7 +127,7 @@ impl State {
 
     /// The scope's places in the table.
     #[inline]
-    fn places(&self, scope: usize) -> std::ops::Range<usize> {
+    pub fn places(&self, scope: usize) -> std::ops::Range<usize> {
         if scope < self.variables {
             return scope * self.values..(scope + 1) * self.values;
         }

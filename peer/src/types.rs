@@ -11,6 +11,7 @@ pub const WORK_LIMIT: i64 = 500_000_000;
 pub const MOVE_LIMIT: i64 = 1_000_000_000;
 pub const ROUND_LIMIT: u64 = 999_999_999_999_999_999;
 pub const PROGRAM_ROUNDS: u64 = 100_000;
+pub const CARRY_LIMIT: i64 = 20_000_000_000;
 /// What a barred combination holds in a table.
 pub const BARRED: i32 = -2_000_000_000;
 /// What a partner byte holds outside the family.

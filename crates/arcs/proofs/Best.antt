@@ -79,7 +79,7 @@ module _ (c : Case) (w best : List ℤ) (raised : List ℕ) where
 
 module _ (c : Case) (w best : List ℤ) (raised : List ℕ) (i : ℕ) where
   abbrev lengths-of : List Test
-  lengths-of = limitTest (rulesOf c) c ∷ lengthTest c w (tooFew c best raised) ∷ []
+  lengths-of = limitTest (rulesOf c) c ∷ lengthTest (rulesOf c) c w (tooFew c best raised) ∷ []
 
   abbrev arguments-of : List Test
   arguments-of = OutOfRange when (not (ltb i (c .n)) || someEdge c (endOutside c)) ∷ []
@@ -115,7 +115,7 @@ module _ (c : Case) (w best : List ℤ) (raised : List ℕ) (i : ℕ) where
     pub best-arguments-known : Sized c w × ((scopeCount c ≤ length best) × (scopeCount c ≤ length raised)) × (i < c .n)
     best-arguments-known =
         let d : bestRefusal (rulesOf c) c w best raised i ≡ none = outcome-done e in
-        let p = simp tests at (none-applies (limitTest (rulesOf c) c ∷ lengthTest c w (tooFew c best raised) ∷ arguments-of) .0 (rw d tt)) in (
+        let p = simp tests at (none-applies (limitTest (rulesOf c) c ∷ lengthTest (rulesOf c) c w (tooFew c best raised) ∷ arguments-of) .0 (rw d tt)) in (
           record {
             limits = limited-by c (p .0 .0 .0 .0) (p .0 .0 .0 .1) (p .0 .0 .1 .0) (p .0 .0 .1 .1) (p .0 .1 .1);
             long = p .1 .0 .0;

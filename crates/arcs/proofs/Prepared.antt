@@ -6,7 +6,7 @@ use mathlib.Core.Option.{none, some}
 use mathlib.Core.List.{List, [], _∷_}
 use Prim.Native.Nat.{ℕ, _+_, _*_, _≤_, _<_}
 use native.Mathlib.Omega.{arith}
-use borrow.Author.Tests.{le-ltb, eq-eqb, ne-eqb}
+use borrow.Author.Tests.{le-ltb, eq-eqb}
 use lib.IntN.{ℤ}
 use lib.Dec.{T}
 use lib.ListN.{length, getD, drop, length-append, length-drop, List·getD-append}
@@ -21,7 +21,7 @@ use Rattle.definitions.specs.Case.{scopeCount, lentLength}
 use Rattle.definitions.specs.Valid.{workingWeight, withinLimits, limitTest, lengthTest}
 use Rattle.definitions.specs.Lines.{overwritten}
 use Rattle.theory.proofs.Validity.{none-applies, Handed}
-use Rattle.tables.specs.Scopes.{BestOf}
+use Rattle.tables.specs.Scopes.{BestOf, isSized}
 use Rattle.tables.proofs.Answered.{limits-true}
 use Rattle.tables.proofs.Order.{limited-by, outcome-done, outcome-refused}
 use Rattle.arcs.specs.Active.{setWhere, rowWhere, hasWeight, hasBest, activeSet, activeRow, Sized}
@@ -38,20 +38,20 @@ module _ (c : Case) (w : List ℤ) (wrong : Bool) where
   limits-refused e = rw e
 
   module _ (e : withinLimits (rulesOf c) (c .n) (c .d) (c .m) ≡ true) where
-    pub table-refused : (length w ≡ lentLength c → ⊥) → Outcome.Refused WrongLength ≡ lengths
-    table-refused ne = rw (e, ne-eqb (length w) (lentLength c) ne)
+    pub table-refused : isSized (rulesOf c) c (length w) ≡ false → Outcome.Refused WrongLength ≡ lengths
+    table-refused z = let n = rw e at z in rw (e, n)
 
-    module _ (long : length w ≡ lentLength c) where
+    module _ (long : length w ≡ lentLength (rulesOf c) c) where
       pub others-refused : wrong ≡ true → Outcome.Refused WrongLength ≡ lengths
-      others-refused t = rw (e, eq-eqb (length w) (lentLength c) long, t)
+      others-refused t = rw (e, eq-eqb (length w) (lentLength (rulesOf c) c) long, t)
 
       pub lengths-taken : wrong ≡ false → Outcome.Done ≡ lengths
-      lengths-taken t = rw (e, eq-eqb (length w) (lentLength c) long, t)
+      lengths-taken t = rw (e, eq-eqb (length w) (lentLength (rulesOf c) c) long, t)
 
   pub lengths-known : Outcome.Done ≡ lengths → Sized c w × T (not wrong)
   lengths-known e =
       let d : lengthRefusal (rulesOf c) c w wrong ≡ none = outcome-done e in
-      let p = simp tests at (none-applies (limitTest (rulesOf c) c ∷ lengthTest c w wrong ∷ []) .0 (rw d tt)) in (
+      let p = simp tests at (none-applies (limitTest (rulesOf c) c ∷ lengthTest (rulesOf c) c w wrong ∷ []) .0 (rw d tt)) in (
         record {
           limits = limited-by c (p .0 .0 .0 .0) (p .0 .0 .0 .1) (p .0 .0 .1 .0) (p .0 .0 .1 .1) (p .0 .1 .1);
           long = p .1 .0 .0;

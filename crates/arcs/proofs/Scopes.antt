@@ -16,7 +16,7 @@ use Rattle.definitions.specs.Rules.{edgePlaces}
 use Rattle.definitions.specs.Case.{scopeCount, place, isVariable}
 use Rattle.theory.proofs.Places.{variable-is, edge-is, place-variable, place-edge}
 use Rattle.tables.specs.Scopes.{sizeOf}
-use Rattle.tables.proofs.Order.{variables-small, values-small, edges-small}
+use Rattle.tables.proofs.Order.{variables-small, values-small, full-variables, full-edges}
 use Rattle.tables.proofs.Parts.{part-own}
 use Rattle.marks.specs.Marks.{mark, byteOf}
 use Rattle.marks.proofs.Laws.{mark-byteOf, byteOf-cong, byte-is, mark-zero}
@@ -39,7 +39,7 @@ module _ (c : Case) (w : List ℤ) (h : Sized c w) where
     variables = variables-small c (h .limits);
     values = values-small c (h .limits);
     one = h .limits .values-few;
-    table = omega (arith, h .long, variables-small c (h .limits), edges-small c (h .limits));
+    table = omega (arith, h .long, full-variables c (h .limits), full-edges c (h .limits));
   }
 
   -- ---- a variable's scope
@@ -54,7 +54,7 @@ module _ (c : Case) (w : List ℤ) (h : Sized c w) where
     first-is = place-variable c j 0 0 u ∙ omega arith
 
     pub variable-room : j * c .d + c .d ≤ length w
-    variable-room = omega (arith, part-own c j scope-in, size-is, first-is, h .long)
+    variable-room = omega (arith, part-own c j scope-in, size-is, first-is, h .long, h .limits .own-lent)
 
     pub variable-with : (best : ℤ) → bestMarks w (j * c .d) (c .d) best ≡ setWhere c (hasWeight c w best) j
     variable-with best =
@@ -77,7 +77,7 @@ module _ (c : Case) (w : List ℤ) (h : Sized c w) where
     edge-place k l = omega (arith, place-edge c e k l)
 
     pub edge-room : firstOfEdge c e + c .d * c .d ≤ length w
-    edge-room = omega (arith, part-own c (c .n + e) edge-in, edge-size, edge-first, h .long)
+    edge-room = omega (arith, part-own c (c .n + e) edge-in, edge-size, edge-first, h .long, h .limits .own-lent)
 
     none-at : (k : ℕ) (f : ℕ → Bool) → c .d ≤ k → 0 ≡ byteOf (λ l. ltb l (c .d) && (ltb k (c .d) && f l))
     none-at k f g = byte-is 0 _ (omega arith) (λ l i. mark-zero l ∙ sym (simp (le-ltb k (c .d) g, and-false)))

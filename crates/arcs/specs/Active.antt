@@ -12,7 +12,7 @@ use Rattle.integers.specs.Words.{if_then_else_, below, joined, eqZ}
 use Rattle.definitions.specs.declared.Case.{Case}
 use Rattle.definitions.specs.declared.Outcome.{Outcome}
 use Rattle.definitions.specs.declared.Refusal.{Refusal}
-use Rattle.definitions.specs.Rules.{Rules}
+use Rattle.definitions.specs.Rules.{Rules, rulesOf}
 use Rattle.definitions.specs.Refusals.{firstOf}
 use Rattle.definitions.specs.Answers.{outcomeOf, unlessRefused}
 use Rattle.definitions.specs.Case.{scopeCount, lentLength, weight, active}
@@ -72,7 +72,7 @@ MarksAre call answer sets rows = (answer ≡ call .answer) × (sets ≡ call .se
 module _ (r : Rules) where
   -- numbers 3 and 4
   abbrev pub lengthRefusal : Case → List ℤ → Bool → Option Refusal
-  lengthRefusal c w wrong = firstOf (limitTest r c ∷ lengthTest c w wrong ∷ [])
+  lengthRefusal c w wrong = firstOf (limitTest r c ∷ lengthTest r c w wrong ∷ [])
 
   abbrev pub marksRefusal : Case → List ℤ → List ℤ → List ℕ → List ℕ → Option Refusal
   marksRefusal c w best sets rows = lengthRefusal c w (tooShort c best sets rows)
@@ -89,7 +89,7 @@ module _ (r : Rules) where
 -- a case within the limits and a table of its length
 pub record Sized (c : Case) (w : List ℤ) : Type 0 where
   pub limits : Limited c
-  pub long : length w ≡ lentLength c
+  pub long : length w ≡ lentLength (rulesOf c) c
 
 -- the tuple has the weight `best`
 abbrev pub hasWeight : Case → List ℤ → ℤ → ℕ → ℕ → ℕ → Bool

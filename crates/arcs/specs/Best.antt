@@ -53,7 +53,7 @@ module _ (r : Rules) where
   -- numbers 3, 4 and 5
   abbrev pub bestRefusal : Case → List ℤ → List ℤ → List ℕ → ℕ → Option Refusal
   bestRefusal c w best raised i =
-      firstOf (limitTest r c ∷ lengthTest c w (tooFew c best raised) ∷ OutOfRange when (not (ltb i (c .n)) || someEdge c (endOutside c)) ∷ [])
+      firstOf (limitTest r c ∷ lengthTest r c w (tooFew c best raised) ∷ OutOfRange when (not (ltb i (c .n)) || someEdge c (endOutside c)) ∷ [])
 
   unfoldable pub valuesUnsupportedAnswer : Case → List ℤ → List ℤ → List ℕ → ℕ → ℕ → Verdict
   valuesUnsupportedAnswer c w best raised i values = verdictOf (bestRefusal c w best raised i) (areUnsupported c w best raised i values)

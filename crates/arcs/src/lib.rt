@@ -13,7 +13,7 @@ ghost use lib.Dec.{T, ltb, eqb};
 ghost use lib.ListN.{length, getD, set, replicate};
 ghost use Rattle.integers.specs.Words.{if_then_else_, below, any, eqZ};
 ghost use Rattle.definitions.specs.Rules.{rulesOf};
-ghost use Rattle.definitions.specs.Case.{scopeCount, lentLength};
+ghost use Rattle.definitions.specs.Case.{scopeCount};
 ghost use Rattle.definitions.specs.Answers.{outcomeOf};
 ghost use Rattle.definitions.specs.Valid.{someEdge, endOutside};
 ghost use Rattle.definitions.specs.Lines.{overwritten};
@@ -616,13 +616,6 @@ fn are_unsupported(
     ))
 }
 
-fn weight_places(case: Case) -> usize
-    requires { ⌜ Limited case ⌝ }
-    ensures { λ r. ⌜ r ≡ lentLength case ⌝ }
-{
-    case.n * case.d + case.m * (case.d * case.d)
-}
-
 // Numbers 3 and 4, other lengths being wrong or not.
 fn check_lengths(case: Case, table: &[i64], wrong: bool) -> Outcome
     ensures { λ r. ⌜ r ≡ outcomeOf (lengthRefusal (rulesOf case) case (now (table .entry)) wrong) ⌝ }
@@ -630,7 +623,7 @@ fn check_lengths(case: Case, table: &[i64], wrong: bool) -> Outcome
     if !tables::within_limits(case) {
         return Outcome::Refused(Refusal::OutsideLimits);
     }
-    if table.len() != weight_places(case) {
+    if !tables::is_sized(case, table.len()) {
         return Outcome::Refused(Refusal::WrongLength);
     }
     if wrong {

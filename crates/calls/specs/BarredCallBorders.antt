@@ -11,7 +11,7 @@ use Rattle.definitions.specs.Rules.{standard}
 use Rattle.definitions.specs.Answers.{Says, outcomeSays, figureSays, verdictSays, writtenSays, roundSays, runSays}
 use Rattle.definitions.specs.Case.{isLawful}
 use Rattle.definitions.specs.Engine.{engineNext, pairsNext}
-use Rattle.definitions.specs.Samples.{Input, given, couple, zeros}
+use Rattle.definitions.specs.Samples.{Input, full, given, ownWeights, couple, zeros}
 use Rattle.definitions.specs.Borders.{_is_, Hold, says, no, value, W, ones, l, ranBy}
 use Rattle.definitions.specs.Programs.{bytesOf}
 use Rattle.definitions.specs.BarredBorders.{B, locked, patchy, voidLines}
@@ -68,14 +68,14 @@ pub moves :
     let shiftIn : Input → ℕ → ℕ → ℕ → ℕ → ℕ × List ℤ = λ i e end v a. told (shiftCall standard (i .case) (i .weights) e end v (pos a)) in
     let same : Input → ℕ → ℕ × List ℤ = λ i n. (n, i .weights) in
     Hold
-    (shiftIn patchy 0 0 1 4 is (0, pos 3 ∷ B ∷ pos 1 ∷ pos 0 ∷ pos 0 ∷ B ∷ minus 2 ∷ pos 1 ∷ [])
-    ∷ shiftIn patchy 0 1 1 4 is (0, pos 3 ∷ B ∷ pos 1 ∷ pos 4 ∷ pos 0 ∷ B ∷ pos 2 ∷ pos 1 ∷ [])
-    ∷ shiftIn patchy 0 0 1 500_000_002 is (0, pos 3 ∷ B ∷ pos 1 ∷ pos 0 ∷ pos 0 ∷ B ∷ minus W ∷ minus 499_999_997 ∷ [])
+    (shiftIn patchy 0 0 1 4 is (0, full 2 (pos 3 ∷ B ∷ pos 1 ∷ pos 0 ∷ pos 0 ∷ B ∷ minus 2 ∷ pos 1 ∷ []))
+    ∷ shiftIn patchy 0 1 1 4 is (0, full 2 (pos 3 ∷ B ∷ pos 1 ∷ pos 4 ∷ pos 0 ∷ B ∷ pos 2 ∷ pos 1 ∷ []))
+    ∷ shiftIn patchy 0 0 1 500_000_002 is (0, full 2 (pos 3 ∷ B ∷ pos 1 ∷ pos 0 ∷ pos 0 ∷ B ∷ minus W ∷ minus 499_999_997 ∷ []))
     ∷ shiftIn patchy 0 0 1 500_000_003 is same patchy 11 ∷ shiftIn closedLink 0 0 0 1 is same closedLink 15
     ∷ shiftIn closedLink 0 0 2 1 is same closedLink 5
-    ∷ pressIn patchy 1 (0 ∷ 2 ∷ []) 1 is (0, pos 3 ∷ B ∷ pos 0 ∷ pos 0 ∷ pos 1 ∷ B ∷ pos 3 ∷ pos 5 ∷ [])
+    ∷ pressIn patchy 1 (0 ∷ 2 ∷ []) 1 is (0, full 2 (pos 3 ∷ B ∷ pos 0 ∷ pos 0 ∷ pos 1 ∷ B ∷ pos 3 ∷ pos 5 ∷ []))
     ∷ pressIn patchy 1 (0 ∷ []) 1 is same patchy 10 ∷ pressIn locked 0 (2 ∷ []) 1 is same locked 10
-    ∷ pressIn locked 0 (1 ∷ 2 ∷ []) 500_000_002 is (0, minus W ∷ B ∷ pos 0 ∷ B ∷ B ∷ zeros 3)
+    ∷ pressIn locked 0 (1 ∷ 2 ∷ []) 500_000_002 is (0, full 2 (minus W ∷ B ∷ pos 0 ∷ B ∷ B ∷ zeros 3))
     ∷ pressIn locked 0 (1 ∷ 2 ∷ []) 500_000_003 is same locked 11
     -- 15 after 5 and before 9
     ∷ pressIn closedLink 1 (2 ∷ 0 ∷ []) 1 is same closedLink 15 ∷ pressIn closedLink 1 (2 ∷ 0 ∷ []) 0 is same closedLink 5
@@ -119,16 +119,16 @@ pub engine :
     let voidText : List ℕ = joined (voidLines 0 (1 ∷ 2 ∷ [])) in
     let voided : Says × ℕ × ℤ × List ℤ × List ℕ × List ℕ = (value (pos 2), 0, pos 2, locked .weights, voidText ++ ones 135, voidText) in
     let pairText : List ℕ = bytesOf " 1   0   0   0          -3\n" ++ bytesOf " 1   0   1   0          -1\n" ++ l 4 0 0 0 5 in
-    let afterPair : List ℤ = pos 0 ∷ B ∷ zeros 2 ++ (pos 4 ∷ B ∷ pos 3 ∷ pos 5 ∷ []) in
+    let afterPair : List ℤ = full 2 (pos 0 ∷ B ∷ zeros 2 ++ (pos 4 ∷ B ∷ pos 3 ∷ pos 5 ∷ [])) in
     let pressText : List ℕ = l 2 0 1 0 1 ++ l 3 2 0 0 0 ++ l 4 0 0 0 4 in
-    let afterPress : List ℤ = minus 1 ∷ B ∷ zeros 2 ++ (pos 5 ∷ B ∷ pos 4 ∷ pos 5 ∷ []) in
+    let afterPress : List ℤ = full 2 (minus 1 ∷ B ∷ zeros 2 ++ (pos 5 ∷ B ∷ pos 4 ∷ pos 5 ∷ [])) in
     let lateVoid : List ℕ = joined (voidLines 0 (2 ∷ 4 ∷ [])) in
     let lastVoid : List ℕ = joined (voidLines 0 (1 ∷ 3 ∷ [])) in
     let lastBound : List ℕ = bytesOf " 4   0   0   0          -5\n" in
     let threeRounds : List ℕ =
     byTwos 1 4 ++ (l 2 0 2 0 1 ++ l 3 3 0 0 0 ++ l 3 4 0 0 0 ++ l 4 0 0 0 3) ++ (l 2 0 2 0 8 ++ l 3 3 0 0 0 ++ l 3 4 0 0 0 ++ lastBound)
     in
-    let afterThree : List ℤ = minus 7 ∷ B ∷ pos 0 ∷ B ∷ zeros 2 ++ (B ∷ zeros 3 ++ (pos 2 ∷ pos 2 ∷ pos 2 ∷ pos 0 ∷ [])) in
+    let afterThree : List ℤ = full 2 (minus 7 ∷ B ∷ pos 0 ∷ B ∷ zeros 2 ++ (B ∷ zeros 3 ++ (pos 2 ∷ pos 2 ∷ pos 2 ∷ pos 0 ∷ []))) in
     let lastly : Says × ℕ × ℤ × List ℤ × List ℕ × List ℕ =
     (value (pos 2), 3, minus 5, afterThree, lastVoid ++ lastBound ++ ones 162, threeRounds ++ lastVoid)
     in
@@ -141,9 +141,9 @@ pub engine :
     ∷ ran locked 0 215 is unmade 4 locked 215
     -- after rounds, from the output's first byte; a pair round that comes first answers limit
     ∷ ran overNoChoice 9 270 is lastly ∷ ran overNoChoice 3 270 is lastly
-    ∷ ran late 1 270 is (value (pos 2), 1, pos 2, afterLate, lateVoid ++ ones 189, byTwos 0 2 ++ lateVoid)
+    ∷ ran late 1 270 is (value (pos 2), 1, pos 2, full 2 afterLate, lateVoid ++ ones 189, byTwos 0 2 ++ lateVoid)
     ∷ ran late 0 270 is (value (pos 1), 0, pos 4, late .weights, ones 270, [])
-    ∷ paired late 5 270 is (value (pos 0), 1, pos 2, afterLate, byTwos 0 2 ++ ones 189, byTwos 0 2)
+    ∷ paired late 5 270 is (value (pos 0), 1, pos 2, full 2 afterLate, byTwos 0 2 ++ ones 189, byTwos 0 2)
     -- 11 on a table with barred tuples
     ∷ ran atBorder 5 216 is (no 11, 0, minus 499_999_995, atBorder .weights, ones 216, [])
     ∷ ran atBorder 0 216 is (value (pos 1), 0, minus 499_999_995, atBorder .weights, ones 216, [])
@@ -161,5 +161,5 @@ engine = (refl, refl)
 pub settled-without-plan :
     let plans : List (List ℕ) = choices 4 (0 ∷ 1 ∷ 2 ∷ []) in
     Hold (any (isLawful (coloured .case) (coloured .weights)) plans is false ∷ [])
-    × Hold (ranBy engineNext coloured 5 is (Settled, 0, coloured .weights, []) ∷ [])
+    × Hold (ranBy engineNext coloured 5 is (Settled, 0, ownWeights coloured, []) ∷ [])
 settled-without-plan = (refl, refl)

@@ -20,7 +20,7 @@ use Rattle.calls.specs.Calls.{TableCall, WriterCall, WriteCall, objectiv
 use Rattle.calls.specs.Calls.{refutedAnswer, shiftCall, pressCall, readLineAnswer, writeLineCall, putLineCall, writeCaseCall}
 use Rattle.calls.specs.EngineCalls.{RoundCall, RunCall, roundCall, runCall}
 use Rattle.definitions.specs.Samples.{Input, answer}
-use Rattle.definitions.specs.Samples.{given, triangle, couple, clash, example2, single, zeros}
+use Rattle.definitions.specs.Samples.{full, given, withTable, ownWeights, triangle, clash, example2, single, zeros}
 use Rattle.definitions.specs.Borders.{_is_, Hold, says, no, value, W, clashFrom, triangleFrom, edges, twoSteps}
 use Rattle.definitions.specs.Borders.{lastRound, afterLast, byOne, ones, l}
 use Rattle.definitions.specs.Borders.{pairStep, afterPair, pressStep, afterPress}
@@ -35,7 +35,7 @@ star =
 
 -- edges (0,1), of zeros, and (2,3), where the variables clash as in P4
 abbrev apart : Input
-apart = given 4 2 2 (0 ∷ 2 ∷ []) (1 ∷ 3 ∷ []) (zeros 4 ++ take 4 (clash .weights) ++ zeros 4 ++ drop 4 (clash .weights))
+apart = given 4 2 2 (0 ∷ 2 ∷ []) (1 ∷ 3 ∷ []) (zeros 4 ++ take 4 (ownWeights clash) ++ zeros 4 ++ drop 4 (ownWeights clash))
 
 pub figures :
     let total : Input → List ℕ → Says = λ i p. figureSays (objectiveAnswer standard (i .case) (i .weights) p) in
@@ -48,7 +48,9 @@ pub figures :
     ∷ total clash (5 ∷ []) is no 4 ∷ total clash (0 ∷ 0 ∷ 0 ∷ []) is no 4 ∷ total (clashFrom (pos (W + 1))) (0 ∷ 2 ∷ []) is no 5
     -- limits, lengths, edges, weights
     ∷ bound (given 0 1 0 [] [] []) is no 3 ∷ bound (given 1 0 0 [] [] []) is no 3 ∷ bound (given 1 8 0 [] [] (zeros 8)) is value (pos 0)
-    ∷ bound (couple (clash .weights ++ zeros 1)) is no 4 ∷ bound (edges 1 0 9 (zeros 1)) is no 4 ∷ bound (edges 1 2 0 (zeros 3)) is no 5
+    ∷ bound (withTable clash (clash .weights ++ zeros 1)) is no 4 ∷ bound (withTable clash (take 479 (clash .weights))) is no 4
+    ∷ bound (withTable clash (ownWeights clash)) is no 4 ∷ bound (withTable (edges 1 0 9 []) (zeros 143)) is no 4
+    ∷ bound (withTable (edges 1 0 9 []) (zeros 3)) is no 4 ∷ bound (edges 1 2 0 (zeros 3)) is no 5
     ∷ bound (edges 2 1 0 (zeros 4)) is no 6 ∷ bound (edges 1 1 0 (pos (W + 1) ∷ zeros 2)) is no 6 ∷ bound (edges 96 0 1 (zeros 98)) is no 7
     ∷ bound (edges 2 0 1 (pos (W + 1) ∷ zeros 3)) is no 7 ∷ bound (given 3 1 3 (0 ∷ 1 ∷ 0 ∷ []) (1 ∷ 2 ∷ 1 ∷ []) (zeros 6)) is no 7
     ∷ bound (given 3 1 2 (0 ∷ 1 ∷ []) (1 ∷ 2 ∷ []) (pos 1 ∷ pos 2 ∷ pos 3 ∷ pos 4 ∷ pos 5 ∷ [])) is value (pos 15)
@@ -80,16 +82,16 @@ pub runs :
     in
     let unmade : RunAnswer → ℤ → Input → ℕ → RunCall = λ a z i room. told a 0 z (i .weights) (ones room) [] in
     Hold
-    (ran twoSteps 1 270 is told Limit 1 (pos 0) afterPair (pairStep ++ ones 216) pairStep
+    (ran twoSteps 1 270 is told Limit 1 (pos 0) (full 2 afterPair) (pairStep ++ ones 216) pairStep
     -- the lines of a round from the output's first byte, the bytes past them kept
-    ∷ ran twoSteps 2 270 is told Settled 2 (minus 1) afterPress (pressStep ++ ones 135) (pairStep ++ pressStep)
+    ∷ ran twoSteps 2 270 is told Settled 2 (minus 1) (full 2 afterPress) (pressStep ++ ones 135) (pairStep ++ pressStep)
     -- pair rounds only: settled though a press is left
-    ∷ paired twoSteps 2 270 is told Settled 1 (pos 0) afterPair (pairStep ++ ones 216) pairStep
+    ∷ paired twoSteps 2 270 is told Settled 1 (pos 0) (full 2 afterPair) (pairStep ++ ones 216) pairStep
     ∷ paired twoSteps 0 270 is unmade Limit (pos 1) twoSteps 270
     -- 11: before the first round, at the limit, and after a round; never with pair rounds only
     ∷ ran (triangleFrom (minus W)) 5 297 is unmade (Refused LeavesRange) (minus W) (triangleFrom (minus W)) 297
     ∷ ran (triangleFrom (minus W)) 0 297 is unmade Limit (minus W) (triangleFrom (minus W)) 297
-    ∷ ran lastRound 5 216 is told (Refused LeavesRange) 1 (minus 499_999_998) afterLast (byOne ++ ones 108) byOne
+    ∷ ran lastRound 5 216 is told (Refused LeavesRange) 1 (minus 499_999_998) (full 2 afterLast) (byOne ++ ones 108) byOne
     ∷ paired lastRound 5 216 is unmade Settled (minus 499_999_997) lastRound 216
     -- 4, also at limit 0 and where settled; 8
     ∷ ran clash 5 215 is unmade (Refused WrongLength) (pos 0) clash 215 ∷ ran clash 0 215 is unmade (Refused WrongLength) (pos 0) clash 215
@@ -104,7 +106,7 @@ pub rounds :
     let told : RoundCall → Says × List ℤ × List ℕ = λ q. (roundSays (q .answer), q .table, q .out) in
     let made : Input → ℕ → Says × List ℤ × List ℕ = λ i room. told (roundCall standard engineNext (i .case) (i .weights) (ones room)) in
     Hold
-    (made twoSteps 270 is (says 0 (pos 54 ∷ pos 0 ∷ []), afterPair, pairStep ++ ones 216)
+    (made twoSteps 270 is (says 0 (pos 54 ∷ pos 0 ∷ []), full 2 afterPair, pairStep ++ ones 216)
     ∷ made single 108 is (says 0 [], single .weights, ones 108) ∷ made single 107 is (no 4, single .weights, ones 107)
     ∷ made (triangleFrom (minus W)) 297 is (no 11, triangleFrom (minus W) .weights, ones 297)
     ∷ [])
@@ -124,11 +126,11 @@ pub moves :
     ∷ pressIn clash 0 (1 ∷ 2 ∷ []) 0 is same 5 ∷ pressIn clash 0 (1 ∷ 2 ∷ []) 1_000_000_001 is same 5
     ∷ pressIn clash 0 (0 ∷ 2 ∷ []) 1 is same 9 ∷ pressIn clash 0 (2 ∷ 2 ∷ []) 1 is same 9 ∷ pressIn clash 0 (1 ∷ []) 1_000_000_000 is same 10
     ∷ pressIn great 0 (2 ∷ 1 ∷ []) 1 is (8, great .weights) ∷ pressIn triangle 0 (3 ∷ 5 ∷ 4 ∷ []) 1 is (9, triangle .weights)
-    ∷ pressIn (clashFrom (pos 1_000_001)) 0 (1 ∷ 2 ∷ []) 1 is (0, pos 1_000_000 ∷ pos 0 ∷ pos 2 ∷ pos 1 ∷ minus 2 ∷ zeros 3)
+    ∷ pressIn (clashFrom (pos 1_000_001)) 0 (1 ∷ 2 ∷ []) 1 is (0, full 2 (pos 1_000_000 ∷ pos 0 ∷ pos 2 ∷ pos 1 ∷ minus 2 ∷ zeros 3))
     ∷ shiftIn clash 1 0 0 1 is same 5 ∷ shiftIn clash 0 2 0 1 is same 5 ∷ shiftIn clash 0 0 2 1 is same 5
     ∷ shiftIn clash 0 0 0 1_000_000_001 is same 5 ∷ shiftIn great 0 0 0 1 is (8, great .weights)
     ∷ shiftIn (clashFrom (pos 1_000_001)) 0 1 0 3 is
-    (0, pos 1_000_001 ∷ pos 0 ∷ pos 5 ∷ pos 0 ∷ minus 6 ∷ pos 0 ∷ minus 3 ∷ pos 0 ∷ [])
+    (0, full 2 (pos 1_000_001 ∷ pos 0 ∷ pos 5 ∷ pos 0 ∷ minus 6 ∷ pos 0 ∷ minus 3 ∷ pos 0 ∷ []))
     ∷ [])
 unfolding pressCall shiftCall
 moves = refl

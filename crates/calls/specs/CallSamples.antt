@@ -26,15 +26,15 @@ use Rattle.calls.specs.Calls.{
 }
 use Rattle.calls.specs.EngineCalls.{RunCall, roundCall, runCall}
 use Rattle.definitions.specs.Samples.{Input, Question, bound-of, run-of, replay-of, all-active, press-on, replay-on, Result, ran, samples, ourSamples}
-use Rattle.definitions.specs.Samples.{answer, given, triangle, clash, example2, single, texts, log1, twoRounds, raising1and2, zeros}
+use Rattle.definitions.specs.Samples.{answer, full, given, own, ownWeights, triangle, clash, example2, single, texts, log1, twoRounds, raising1and2, zeros}
 
 -- ---- the samples of document 01 and ours: a run is answered by the engine's call
 
-abbrev ranBy : RunCall → Result
-ranBy q = ran (q .run .answer) (q .run .rounds) (q .run .bound) (q .table) (linesIn 12 (q .log))
+abbrev ranBy : Input → RunCall → Result
+ranBy i q = ran (q .run .answer) (q .run .rounds) (q .run .bound) (own (i .case) (q .table)) (linesIn 12 (q .log))
 
 abbrev answerByCalls : Question → Result
-answerByCalls (run-of i limit) = ranBy (runCall standard engineNext (i .case) limit (i .weights) (replicate (roundBytes standard (i .case)) 0))
+answerByCalls (run-of i limit) = ranBy i (runCall standard engineNext (i .case) limit (i .weights) (replicate (roundBytes standard (i .case)) 0))
 answerByCalls (bound-of i) = answer (bound-of i)
 answerByCalls (replay-of i ts) = answer (replay-of i ts)
 answerByCalls (all-active i limit) = answer (all-active i limit)
@@ -90,7 +90,7 @@ pub totals :
 unfolding objectiveAnswer upperBoundAnswer
 totals = refl
 
--- numbers 3 to 8 of a case and a table, and their order
+-- numbers 3 to 8 of a case and a table, and their order; with D 1 a table has 144 places, and so many as the case's own are number 4, too
 abbrev joining : ℕ → ℕ → ℕ → ℕ → ℕ → Case
 joining n i j k l = given n 1 2 (i ∷ k ∷ []) (j ∷ l ∷ []) [] .case
 
@@ -102,14 +102,16 @@ pub numbers-3-to-8 :
     ∷ numberOn (given 48 1 0 [] [] [] .case) []
     ∷ numberOn (given 1 9 0 [] [] [] .case) []
     ∷ numberOn (given 1 1 97 [] [] [] .case) []
-    ∷ numberOn (joining 3 0 1 0 2) (zeros 4)
-    ∷ numberOn (joining 3 0 3 0 2) (zeros 5)
-    ∷ numberOn (joining 3 0 1 2 2) (zeros 5)
-    ∷ numberOn (joining 3 0 1 0 1) (zeros 5)
-    ∷ numberOn (joining 3 0 1 0 2) (zeros 4 ++ (pos 500_000_001 ∷ []))
-    ∷ numberOn (joining 3 0 1 0 2) (zeros 4 ++ (minus 500_000_000 ∷ []))
+    ∷ numberOn (joining 3 0 1 0 2) (zeros 143)
+    ∷ numberOn (joining 3 0 1 0 2) (zeros 145)
+    ∷ numberOn (joining 3 0 1 0 2) (zeros 5)
+    ∷ numberOn (joining 3 0 3 0 2) (zeros 144)
+    ∷ numberOn (joining 3 0 1 2 2) (zeros 144)
+    ∷ numberOn (joining 3 0 1 0 1) (zeros 144)
+    ∷ numberOn (joining 3 0 1 0 2) (full 1 (zeros 4 ++ (pos 500_000_001 ∷ [])))
+    ∷ numberOn (joining 3 0 1 0 2) (full 1 (zeros 4 ++ (minus 500_000_000 ∷ [])))
     ∷ []
-    ≡ 3 ∷ 4 ∷ 3 ∷ 3 ∷ 4 ∷ 5 ∷ 6 ∷ 7 ∷ 8 ∷ 0 ∷ []
+    ≡ 3 ∷ 4 ∷ 3 ∷ 3 ∷ 4 ∷ 4 ∷ 4 ∷ 5 ∷ 6 ∷ 7 ∷ 8 ∷ 0 ∷ []
 unfolding upperBoundAnswer
 numbers-3-to-8 = refl
 
@@ -131,8 +133,9 @@ pub questions :
 unfolding refutedAnswer isActiveAnswer
 questions = refl
 
+-- moves in P4's case
 abbrev moveSays : TableCall → ℕ × List ℤ
-moveSays q = (outcomeSays (q .answer) .number, q .table)
+moveSays q = (outcomeSays (q .answer) .number, own (clash .case) (q .table))
 
 pub moves :
     map moveSays
@@ -146,13 +149,13 @@ pub moves :
     ∷ shiftCall standard (clash .case) (clash .weights) 0 1 1 (pos 500_000_001)
     ∷ [])
     ≡ (0, pos 0 ∷ pos 0 ∷ pos 2 ∷ pos 2 ∷ minus 1 ∷ zeros 3)
-    ∷ (9, clash .weights)
-    ∷ (10, clash .weights)
-    ∷ (5, clash .weights)
-    ∷ (11, clash .weights)
+    ∷ (9, ownWeights clash)
+    ∷ (10, ownWeights clash)
+    ∷ (5, ownWeights clash)
+    ∷ (11, ownWeights clash)
     ∷ (0, pos 0 ∷ pos 0 ∷ pos 2 ∷ pos 0 ∷ minus 1 ∷ pos 2 ∷ zeros 2)
-    ∷ (5, clash .weights)
-    ∷ (11, clash .weights)
+    ∷ (5, ownWeights clash)
+    ∷ (11, ownWeights clash)
     ∷ []
 unfolding pressCall shiftCall
 moves = refl

@@ -167,7 +167,7 @@ module _ (r : Rules) where
   -- ---- whether the edges form no cycle (document 02, change 4): asked of the case alone
 
   unfoldable pub isAcyclicAnswer : Case → Verdict
-  isAcyclicAnswer c = verdictOf (firstOf (limitTest r c ∷ edgeTests c false)) (isAcyclic c)
+  isAcyclicAnswer c = verdictOf (firstOf (limitTest r c ∷ edgeTests r c false)) (isAcyclic c)
 
   -- ---- moves
 

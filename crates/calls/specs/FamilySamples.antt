@@ -7,7 +7,7 @@ use lib.ListN.{drop, replicate}
 use Rattle.integers.specs.Words.{minus, bitsOf}
 use Rattle.definitions.specs.Rules.{standard}
 use Rattle.definitions.specs.Answers.{Says, figureSays}
-use Rattle.definitions.specs.Samples.{Input, given, triangle, couple, clash, example2, single, zeros}
+use Rattle.definitions.specs.Samples.{Input, given, withTable, triangle, couple, clash, example2, single, zeros}
 use Rattle.definitions.specs.Borders.{_is_, Hold, no, value, W, triangleFrom}
 use Rattle.definitions.specs.BarredBorders.{B, locked}
 use Rattle.calls.specs.Calls.{FamilyCall, supportedValueCall}
@@ -100,10 +100,11 @@ pub numbers :
     lent triangle 0 3 12 is refused 5 3 12 ∷ lent triangle 1 3 12 is refused 5 3 12 ∷ lent triangle 2 3 12 is refused 5 3 12
     ∷ lent clash 0 2 4 is refused 5 2 4 ∷ lent locked 0 2 4 is refused 5 2 4
     -- 3, before 4
-    ∷ lent (given 0 2 0 [] [] []) 0 1 0 is refused 3 1 0 ∷ lent (given 1 9 0 [] [] (zeros 8)) 0 0 0 is refused 3 0 0
+    ∷ lent (given 0 2 0 [] [] []) 0 1 0 is refused 3 1 0 ∷ lent (withTable (given 1 9 0 [] [] []) (zeros 8)) 0 0 0 is refused 3 0 0
     -- 4, before 5
     ∷ lent settledClash 0 1 4 is refused 4 1 4 ∷ lent settledClash 0 2 3 is refused 4 2 3 ∷ lent settledClash 2 2 3 is refused 4 2 3
-    ∷ lent (couple (zeros 7)) 0 2 4 is refused 4 2 4 ∷ lent (couple (zeros 9)) 0 2 4 is refused 4 2 4
+    ∷ lent (withTable clash (zeros 479)) 0 2 4 is refused 4 2 4 ∷ lent (withTable clash (zeros 481)) 0 2 4 is refused 4 2 4
+    ∷ lent (withTable clash (zeros 8)) 0 2 4 is refused 4 2 4
     -- 5 of the link and of an edge's end, before 6 and before 8
     ∷ lent settledClash 2 2 4 is refused 5 2 4 ∷ lent (given 2 2 1 (1 ∷ []) (0 ∷ []) (zeros 8)) 2 2 4 is refused 5 2 4
     ∷ lent (given 2 2 1 (0 ∷ []) (2 ∷ []) (zeros 8)) 0 2 4 is refused 5 2 4 ∷ lent (great (pos (W + 1))) 2 2 4 is refused 5 2 4

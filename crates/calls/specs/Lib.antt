@@ -7,3 +7,4 @@ pub mod BarredCallBorders
 pub mod FileBorders
 pub mod FamilySamples
 pub mod AcyclicSamples
+pub mod LengthCallBorders

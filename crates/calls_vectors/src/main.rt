@@ -2,12 +2,13 @@
 // b, c and amount.
 // A line not in columns is a title and is printed.
 //
-//  1  the case: n is a, D is b, m is c
+//  1  the case: n is a, D is b, m is c, the carry is the amount
 //  2  pair a joins links b and c
 //  3  c lower and c upper ends of pairs are lent (closure, none_supported)
 //  4 to 8  from place a on, b places hold the amount, and c places are lent. 4: weights; 5: a number for each scope;
 //          6: a plan, marks of raised scopes, or a list of at most four; 7: sets and 8: rows, as closure takes them;
-//          lowest_partners writes to 7
+//          lowest_partners writes to 7. Where as many weights are lent as the case has places, the table of a full case is, with 0 past them
+//          (document 02, change 5)
 //
 // 10  check_starting a b     20  refuted a b             30  shift a b c amount
 // 11  check_working a b      21  best_unsupported a      31  press a amount
@@ -32,6 +33,7 @@ use definitions::Line;
 use definitions::Outcome;
 use definitions::Refusal;
 use definitions::Rulebook;
+use definitions::TABLE_PLACES;
 use definitions::Verdict;
 ghost use Prim.Native.Nat.{_≤_};
 ghost use lib.ListN.{length};
@@ -129,8 +131,10 @@ fn print_weights(label: &[u8], weights: &[i64]) {
     drivers::print(b"\n");
 }
 
-fn print_table(t: &[i64]) {
-    print_weights(b"    table", t);
+fn print_table(t: &[i64], shown: usize) {
+    drivers::print(b"    table");
+    drivers::print_table(t, shown);
+    drivers::print(b"\n");
 }
 
 fn print_best(best: &[i64]) {
@@ -250,9 +254,9 @@ fn least(n: usize, most: usize) -> usize
     if n < most { n } else { most }
 }
 
-fn fill_weights(list: &mut [i64; 160], from: usize, n: usize, value: i64) {
-    let mut i = least(from, 160);
-    let to = i + least(n, 160 - i);
+fn fill_weights(list: &mut [i64; TABLE_PLACES], from: usize, n: usize, value: i64) {
+    let mut i = least(from, TABLE_PLACES);
+    let to = i + least(n, TABLE_PLACES - i);
     while i < to {
         list[i] = value;
         i += 1;
@@ -268,7 +272,7 @@ fn fill_bytes(list: &mut [u8; 160], from: usize, n: usize, value: u8) {
     }
 }
 
-fn put_weights(call: Call, t: &mut [i64; 160], best: &mut [i64; 160]) {
+fn put_weights(call: Call, t: &mut [i64; TABLE_PLACES], best: &mut [i64; TABLE_PLACES]) {
     let kind = call.kind;
     match kind {
         4 => fill_weights(t, call.a, call.b, call.amount),
@@ -310,6 +314,7 @@ fn sized(call: Call, case: Case) -> Case {
     c.n = call.a;
     c.d = call.b;
     c.m = call.c;
+    c.carry = call.amount;
     c
 }
 
@@ -424,9 +429,9 @@ fn greatest_weights(case: Case, t: &[i64], best: &mut [i64]) {
     print_best(best);
 }
 
-fn shift(call: Call, case: Case, t: &mut [i64]) {
+fn shift(call: Call, case: Case, t: &mut [i64], shown: usize) {
     outcome(moves::shift(case, t, call.a, call.b, call.c, call.amount));
-    print_table(t);
+    print_table(t, shown);
 }
 
 fn wide(x: u8) -> u16 {
@@ -437,12 +442,12 @@ fn scope_at(list: &[u8], i: usize) -> u16 {
     if i < list.len() { wide(list[i]) } else { 0 }
 }
 
-fn press_list(call: Call, case: Case, t: &mut [i64], list: &[u16]) {
+fn press_list(call: Call, case: Case, t: &mut [i64], shown: usize, list: &[u16]) {
     outcome(moves::press(case, t, call.a, list, call.amount));
-    print_table(t);
+    print_table(t, shown);
 }
 
-fn press(call: Call, case: Case, t: &mut [i64], raised: &[u8]) {
+fn press(call: Call, case: Case, t: &mut [i64], shown: usize, raised: &[u8]) {
     let n = least(raised.len(), 4);
     let list = [
         scope_at(raised, 0),
@@ -450,33 +455,40 @@ fn press(call: Call, case: Case, t: &mut [i64], raised: &[u8]) {
         scope_at(raised, 2),
         scope_at(raised, 3),
     ];
-    press_list(call, case, t, &list[0..n]);
+    press_list(call, case, t, shown, &list[0..n]);
 }
 
-fn print_both(t: &[i64], best: &[i64]) {
-    print_table(t);
+fn print_both(t: &[i64], shown: usize, best: &[i64]) {
+    print_table(t, shown);
     print_best(best);
 }
 
-fn transfer(call: Call, case: Case, t: &mut [i64], best: &mut [i64]) {
+fn transfer(call: Call, case: Case, t: &mut [i64], shown: usize, best: &mut [i64]) {
     outcome(changes::transfer(case, t, best, call.a, call.b, call.c, call.amount));
-    print_both(t, best);
+    print_both(t, shown, best);
 }
 
-fn lower_and_raise(call: Call, case: Case, t: &mut [i64], best: &mut [i64], raised: &[u8]) {
+fn lower_and_raise(
+    call: Call,
+    case: Case,
+    t: &mut [i64],
+    shown: usize,
+    best: &mut [i64],
+    raised: &[u8],
+) {
     let values = drivers::byte(call.b);
     outcome(changes::lower_and_raise(case, t, best, raised, call.a, values, call.amount));
-    print_both(t, best);
+    print_both(t, shown, best);
 }
 
-fn weighed(call: Call, case: Case, t: &mut [i64], best: &mut [i64], bytes: &[u8]) {
+fn weighed(call: Call, case: Case, t: &mut [i64], shown: usize, best: &mut [i64], bytes: &[u8]) {
     let kind = call.kind;
     match kind {
         18 => greatest_weights(case, t, best),
-        30 => shift(call, case, t),
-        31 => press(call, case, t, bytes),
-        32 => transfer(call, case, t, best),
-        33 => lower_and_raise(call, case, t, best, bytes),
+        30 => shift(call, case, t, shown),
+        31 => press(call, case, t, shown, bytes),
+        32 => transfer(call, case, t, shown, best),
+        33 => lower_and_raise(call, case, t, shown, best, bytes),
         _ => question(call, case, t, best, bytes),
     }
 }
@@ -543,6 +555,15 @@ fn lowest_partners(call: Call, rows: &[u8], partners: &mut [u8]) {
 
 // ---- the calls on as much of each list as is lent
 
+// `greatest` is lent what is told.
+fn lent(kind: usize, case: Case, told: usize) -> usize {
+    if kind == 17 {
+        told
+    } else {
+        drivers::lent(case, told)
+    }
+}
+
 fn weigh(
     call: Call,
     case: Case,
@@ -551,13 +572,16 @@ fn weigh(
     best: &mut [i64],
     bytes: &[u8],
 ) {
-    let t_to = length_of(lengths, 4, t.len());
+    let shown = length_of(lengths, 4, t.len());
+    let t_to = least(lent(call.kind, case, shown), t.len());
     let best_to = length_of(lengths, 5, best.len());
     let bytes_to = length_of(lengths, 6, bytes.len());
+    tables::zero_from(&mut t[0..t_to], shown);
     weighed(
         call,
         case,
         &mut t[0..t_to],
+        shown,
         &mut best[0..best_to],
         &bytes[0..bytes_to],
     );
@@ -566,12 +590,14 @@ fn weigh(
 fn mark(
     case: Case,
     lengths: &[usize; 9],
-    t: &[i64],
+    t: &mut [i64],
     best: &[i64],
     sets: &mut [u8],
     rows: &mut [u8],
 ) {
-    let t_to = length_of(lengths, 4, t.len());
+    let told = length_of(lengths, 4, t.len());
+    let t_to = least(drivers::lent(case, told), t.len());
+    tables::zero_from(&mut t[0..t_to], told);
     let best_to = length_of(lengths, 5, best.len());
     let sets_to = length_of(lengths, 7, sets.len());
     let rows_to = length_of(lengths, 8, rows.len());
@@ -618,8 +644,8 @@ fn call_weights(
     call: Call,
     case: Case,
     lengths: &[usize; 9],
-    t: &mut [i64; 160],
-    best: &mut [i64; 160],
+    t: &mut [i64; TABLE_PLACES],
+    best: &mut [i64; TABLE_PLACES],
     bytes: &[u8; 160],
 ) {
     if 9 < call.kind {
@@ -631,8 +657,8 @@ fn call_marks(
     call: Call,
     case: Case,
     lengths: &[usize; 9],
-    t: &[i64; 160],
-    best: &[i64; 160],
+    t: &mut [i64; TABLE_PLACES],
+    best: &[i64; TABLE_PLACES],
     bytes: &[u8; 160],
     sets: &mut [u8; 160],
     rows: &mut [u8; 160],
@@ -653,14 +679,15 @@ fn no_case() -> Case {
         m: 0,
         lower: [0u8; EDGE_PLACES],
         upper: [0u8; EDGE_PLACES],
+        carry: 0,
         rulebook: Rulebook::Desk,
     }
 }
 
 fn vectors(input: &[u8]) {
     let mut lengths = [0usize; 9];
-    let mut t = [0i64; 160];
-    let mut best = [0i64; 160];
+    let mut t = [0i64; TABLE_PLACES];
+    let mut best = [0i64; TABLE_PLACES];
     let mut bytes = [0u8; 160];
     let mut sets = [0u8; 160];
     let mut rows = [0u8; 160];
@@ -678,7 +705,7 @@ fn vectors(input: &[u8]) {
             call,
             case,
             &lengths,
-            &t,
+            &mut t,
             &best,
             &bytes,
             &mut sets,
@@ -689,7 +716,7 @@ fn vectors(input: &[u8]) {
 }
 
 fn main() {
-    let mut input = [0u8; 40000];
+    let mut input = [0u8; 48000];
     let n = io::read_full(0, &mut input);
     vectors(&input[..n]);
 }

@@ -3,6 +3,7 @@ use mathlib.Core.Bool.{Bool, _&&_}
 use mathlib.Core.List.{List}
 use Prim.Native.Nat.{ℕ, _+_, _*_, _-_, _/_, _%_, _≤_, _<_}
 use mathlib.Core.Path.{_≡_}
+use lib.IntN.{pos}
 use lib.Dec.{ltb, leb, eqb}
 use Rattle.integers.specs.Words.{if_then_else_}
 use Rattle.definitions.specs.declared.Rulebook.{Rulebook}
@@ -18,9 +19,9 @@ use Rattle.case_lines.specs.declared.Awaited.the-variants.{VariableWeigh
 abbrev pub bytesOfLine : Rulebook → ℕ
 bytesOfLine b = lineLength (rulesIn b .amountWidth)
 
--- the case of these sizes that has these ends
+-- the case of these sizes that has these ends, and carry 0
 abbrev pub caseWith : Sizes → List ℕ → List ℕ → Case
-caseWith s lower upper = record { n = s .n; d = s .d; m = s .m; lower = lower; upper = upper; rulebook = s .rulebook }
+caseWith s lower upper = record { n = s .n; d = s .d; m = s .m; lower = lower; upper = upper; carry = pos 0; rulebook = s .rulebook }
 
 -- sizes within the limits of their rules, and so within plain bounds
 pub record SizesLimited (s : Sizes) : Type 0 where

@@ -9,7 +9,7 @@ use native.Mathlib.Nat.{mul-le-mul-right}
 use native.Mathlib.Omega.{arith}
 use lib.IntN.{ℤ, pos, natAbs}
 use lib.Dec.{T, eqb, ltb, ltb→lt, nltb→le}
-use lib.ListN.{length, getD, set, length-set, List·getD-eq-default}
+use lib.ListN.{length, getD, set, length-set}
 use lib.Seq.{getD-set-same, getD-set-other, ext-getD}
 use Rattle.integers.specs.Words.{if_then_else_, from, below, joined}
 use Rattle.integers.specs.Tests.{either}
@@ -18,13 +18,15 @@ use Rattle.integers.specs.Lists.{_∈_, below-in, joined-in, map-append, map-jo
 use Rattle.definitions.specs.declared.Rulebook.{Rulebook}
 use Rattle.definitions.specs.declared.Case.{Case}
 use Rattle.definitions.specs.declared.Line.{Line}
-use Rattle.definitions.specs.Rules.{edgePlaces}
+use Rattle.definitions.specs.Rules.{rulesIn, edgePlaces, fullLength}
 use Rattle.definitions.specs.Case.{values, lowerEnd, upperEnd, place, weight, barredWeight, isBarred}
+use Rattle.definitions.specs.Valid.{zerosFrom}
 use Rattle.definitions.specs.Lines.{line}
 use Rattle.definitions.specs.CaseFiles.{headLine, weightLine, caseLines, CaseDue, variable-weight, edge-ends, edge-weight, dues, Reading, took}
-use Rattle.definitions.specs.CaseFiles.{weightIn}
+use Rattle.definitions.specs.CaseFiles.{weightIn, zeroedFrom}
 use Rattle.definitions.proofs.CaseLaws.{place-own}
 use Rattle.theory.proofs.Places.{IsTuple, variable-tuple, edge-tuple, each-variable, each-edge, place-apart, by-tuple, same-table}
+use Rattle.case_theory.proofs.Zeroed.{zeroed-length, zeroed-before, zeroed-past, zeros-at}
 
 -- ---- the line that is due
 
@@ -174,7 +176,7 @@ pub record State : Type 0 where
 
 module _ (book : Rulebook) (n d m : ℕ) where
   abbrev pub caseAt : State → Case
-  caseAt s = record { n = n; d = d; m = m; lower = s .lower; upper = s .upper; rulebook = book }
+  caseAt s = record { n = n; d = d; m = m; lower = s .lower; upper = s .upper; carry = pos 0; rulebook = book }
 
   abbrev pub reading : State → Reading
   reading s = record { case = caseAt s; table = s .table }
@@ -197,7 +199,8 @@ module _ (book : Rulebook) (n d m : ℕ) where
 
   -- the lists have their lengths, and 0 past the edges
   pub record Sized (s : State) : Type 0 where
-    pub long : length (s .table) ≡ n * d + m * (d * d)
+    pub long : length (s .table) ≡ fullLength (rulesIn book) d
+    pub own-fits : n * d + m * (d * d) ≤ length (s .table)
     pub lower-long : length (s .lower) ≡ edgePlaces
     pub upper-long : length (s .upper) ≡ edgePlaces
     pub lower-past : (e : ℕ) → m ≤ e → getD (s .lower) e 0 ≡ 0
@@ -206,6 +209,7 @@ module _ (book : Rulebook) (n d m : ℕ) where
   stored-sized : {s : State} → Sized s → (x k l : ℕ) (z : ℤ) → Sized (stored s x k l z)
   stored-sized {s} h x k l z = record {
     long = length-set (s .table) (place (caseAt s) x k l) z ∙ h .long;
+    own-fits = omega (arith, length-set (s .table) (place (caseAt s) x k l) z, h .own-fits);
     lower-long = h .lower-long;
     upper-long = h .upper-long;
     lower-past = h .lower-past;
@@ -217,6 +221,7 @@ module _ (book : Rulebook) (n d m : ℕ) where
   next-sized h (edge-weight e k l) u t = stored-sized h (n + e) k l (weightIn t)
   next-sized {s} h (edge-ends e) u t = record {
     long = h .long;
+    own-fits = h .own-fits;
     lower-long = length-set (s .lower) e (natAbs (t .b)) ∙ h .lower-long;
     upper-long = length-set (s .upper) e (natAbs (t .c)) ∙ h .upper-long;
     lower-past = λ f g. getD-set-other (s .lower) e f (natAbs (t .b)) 0 (λ q. omega arith) ∙ h .lower-past f g;
@@ -224,7 +229,7 @@ module _ (book : Rulebook) (n d m : ℕ) where
   }
 
   module _ (s : State) where
-    stored-there : {x k l : ℕ} → length (s .table) ≡ n * d + m * (d * d) → IsTuple (caseAt s) x k l → (z : ℤ)
+    stored-there : {x k l : ℕ} → n * d + m * (d * d) ≤ length (s .table) → IsTuple (caseAt s) x k l → (z : ℤ)
         → weight (caseAt s) (set (s .table) (place (caseAt s) x k l) z) x k l ≡ z
     stored-there {x} {k} {l} e t z = getD-set-same (s .table) (place (caseAt s) x k l) z (pos 0)
         (omega (arith, place-own (caseAt s) x k l (t .scope) (t .one) (t .two)))
@@ -237,9 +242,9 @@ module _ (book : Rulebook) (n d m : ℕ) where
 
     pub next-there : m ≤ edgePlaces → Sized s → (due : CaseDue) → IsDue n d m due → (t : Line) → lineAt (next s due t) due ≡ lineFor due t
     next-there few h (variable-weight i k) (u, v) t =
-        ap (weightLine 11 14 (pos i) (pos k) (pos 0)) (stored-there (h .long) (variable-tuple (caseAt s) i k u v) (weightIn t))
+        ap (weightLine 11 14 (pos i) (pos k) (pos 0)) (stored-there (h .own-fits) (variable-tuple (caseAt s) i k u v) (weightIn t))
     next-there few h (edge-weight e k l) (u, v, q) t =
-        ap (weightLine 13 15 (pos e) (pos k) (pos l)) (stored-there (h .long) (edge-tuple (caseAt s) e k l u v q) (weightIn t))
+        ap (weightLine 13 15 (pos e) (pos k) (pos l)) (stored-there (h .own-fits) (edge-tuple (caseAt s) e k l u v q) (weightIn t))
     next-there few h (edge-ends e) u t = ap₂ (λ (i j : ℕ). line 12 (pos e) (pos i) (pos j) (pos 0))
         (getD-set-same (s .lower) e (natAbs (t .b)) 0 (omega (arith, h .lower-long)))
         (getD-set-same (s .upper) e (natAbs (t .c)) 0 (omega (arith, h .upper-long)))
@@ -289,19 +294,41 @@ module _ (book : Rulebook) (n d m : ℕ) where
       sym (weight-back 13 15 refl refl (pos e) (pos k) (pos l) (weight (caseAt s) (s .table) (n + e) k l)) ∙ ap weightIn q
       ∙ weight-back 13 15 refl refl (pos e) (pos k) (pos l) (weight (caseAt f) (f .table) (n + e) k l)
 
-  -- lines at all dues are the whole state
-  pub same-state : {s f : State} → Sized s → Sized f → Agree (n * d + m * suc (d * d)) s f → s ≡ f
-  same-state {s} {f} h g agree =
+  -- ---- 0 past the own places
+  abbrev pub zeroed : State → State
+  zeroed s = record { lower = s .lower; upper = s .upper; table = zeroedFrom (n * d + m * (d * d)) (s .table) }
+
+  pub zeroed-sized : {s : State} → Sized s → Sized (zeroed s)
+  zeroed-sized {s} h = record {
+    long = zeroed-length (n * d + m * (d * d)) (s .table) ∙ h .long;
+    own-fits = omega (arith, zeroed-length (n * d + m * (d * d)) (s .table), h .own-fits);
+    lower-long = h .lower-long;
+    upper-long = h .upper-long;
+    lower-past = h .lower-past;
+    upper-past = h .upper-past;
+  }
+
+  zeroed-weight : (s : State) {x k l : ℕ} → IsTuple (caseAt s) x k l → weight (caseAt s) (s .table) x k l ≡ weight (caseAt s) (zeroed s .table) x k l
+  zeroed-weight s {x} {k} {l} t =
+      sym (zeroed-before (n * d + m * (d * d)) (s .table) (place (caseAt s) x k l) (place-own (caseAt s) x k l (t .scope) (t .one) (t .two)))
+
+  pub zeroed-lines : (s : State) (due : CaseDue) → IsDue n d m due → lineAt s due ≡ lineAt (zeroed s) due
+  zeroed-lines s (variable-weight i k) (u, v) = ap (weightLine 11 14 (pos i) (pos k) (pos 0)) (zeroed-weight s (variable-tuple (caseAt s) i k u v))
+  zeroed-lines s (edge-ends e) u = refl
+  zeroed-lines s (edge-weight e k l) (u, v, h) = ap (weightLine 13 15 (pos e) (pos k) (pos l)) (zeroed-weight s (edge-tuple (caseAt s) e k l u v h))
+
+  -- lines at all dues are the whole state, with 0 past the own places
+  pub same-state : {s f : State} → Sized s → Sized f → T (zerosFrom (n * d + m * (d * d)) (f .table)) → Agree (n * d + m * suc (d * d)) s f → zeroed s ≡ f
+  same-state {s} {f} h g zeros agree =
       let lower = same-ends m (s .lower) (f .lower) (h .lower-long ∙ sym (g .lower-long)) (λ e u. same-lower s f e (lines (edge-ends e) u))
       (λ e u. h .lower-past e u ∙ sym (g .lower-past e u)) in
       let upper = same-ends m (s .upper) (f .upper) (h .upper-long ∙ sym (g .upper-long)) (λ e u. same-upper s f e (lines (edge-ends e) u))
       (λ e u. h .upper-past e u ∙ sym (g .upper-past e u)) in
-      let table = same-table (caseAt s) (s .table) (f .table) (h .long ∙ sym (g .long))
-      (λ x k l. by-tuple (caseAt s) (λ x k l. weight (caseAt s) (s .table) x k l ≡ weight (caseAt f) (f .table) x k l)
-      (λ i k u v. same-variable s f i k (lines (variable-weight i k) (u, v))) (λ e k l u v p. same-edge s f e k l (lines (edge-weight e k l) (u, v, p))))
-      (λ p u. List·getD-eq-default (s .table) (pos 0) {n = p} (omega (arith, h .long))
-      ∙ sym (List·getD-eq-default (f .table) (pos 0) {n = p} (omega (arith, g .long)))) in
-      let z : _≡_ {A = State} (record { lower = s .lower; upper = s .upper; table = s .table })
+      let table = same-table (caseAt s) (zeroed s .table) (f .table) (zeroed-sized h .long ∙ sym (g .long))
+      (λ x k l t. sym (zeroed-weight s t) ∙ by-tuple (caseAt s) (λ x k l. weight (caseAt s) (s .table) x k l ≡ weight (caseAt f) (f .table) x k l)
+      (λ i k u v. same-variable s f i k (lines (variable-weight i k) (u, v))) (λ e k l u v p. same-edge s f e k l (lines (edge-weight e k l) (u, v, p))) t)
+      (λ p u. zeroed-past (n * d + m * (d * d)) (s .table) p u ∙ sym (zeros-at (n * d + m * (d * d)) (f .table) zeros p u)) in
+      let z : _≡_ {A = State} (record { lower = s .lower; upper = s .upper; table = zeroed s .table })
       (record { lower = f .lower; upper = f .upper; table = f .table }) = cc in
       z
     where

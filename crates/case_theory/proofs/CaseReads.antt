@@ -19,21 +19,35 @@ use Rattle.integers.specs.Options.{none-some}
 use Rattle.definitions.specs.declared.Rulebook.{Rulebook}
 use Rattle.definitions.specs.declared.Line.{Line}
 use Rattle.definitions.specs.declared.FileAnswer.{FileAnswer}
+use Rattle.definitions.specs.declared.CaseRead.{CaseRead}
 use Rattle.definitions.specs.declared.Refusal.{Refusal}
 use Rattle.definitions.specs.declared.Refusal.the-variants.{WrongLength, CutShort}
 use Rattle.definitions.specs.Rules.{Rules, rulesIn, edgePlaces, Kind}
 use Rattle.definitions.specs.Refusals.{firstOf}
 use Rattle.definitions.specs.Case.{lentLength, weight, isBarred, whollyBarred}
+use Rattle.definitions.specs.Valid.{zerosFrom}
 use Rattle.definitions.specs.Lines.{isKind, notDue, unusedZero, lineLength, lineText, lineTooWide}
 use Rattle.definitions.specs.CaseFiles.{CaseDue, variable-weight, edge-ends, edge-weight, dues, dueTests, Reading, took}
 use Rattle.definitions.specs.CaseFiles.{headTests, headed, CaseCall, caseRefused, caseTaken, isCut, firstLine, afterFirst}
-use Rattle.definitions.specs.CaseFiles.{readDues, readCase, endTests, restRefusal, nothingAfter, readCaseAlone}
+use Rattle.definitions.specs.CaseFiles.{readDues, readLines, readCase, endTests, restRefusal, nothingAfter, zeroedPast, readLinesAlone, readCaseAlone}
 use Rattle.definitions.proofs.LineLaws.{line-read, line-written, line-length}
 use Rattle.theory.proofs.Places.{IsTuple, each-cong}
+use Rattle.case_theory.proofs.Zeroed.{zeroed-zeros}
 use Rattle.case_theory.proofs.CaseDues.{IsDue, rank, stop, step, rank-apart, lineFor, line-for, caseAt, reading, lineAt, next, took-next}
 use Rattle.case_theory.proofs.CaseDues.{next-sized, next-there, next-other, Agree, same-lower, same-upper, same-variable, same-edge}
-use Rattle.case_theory.proofs.CaseDues.{same-state, Run, State, Sized}
+use Rattle.case_theory.proofs.CaseDues.{zeroed, zeroed-sized, zeroed-lines, same-state, Run, State, Sized}
 use Rattle.case_theory.proofs.CaseTests.{passes, Good, passed, good-passes, CaseKinds}
+
+-- ---- a call with 0 past the own places of a case that is taken
+abbrev pub zeroedCall : CaseCall → CaseCall
+zeroedCall call = zeroedPast call (call .read .answer)
+
+pub zeroed-read : (call : CaseCall) → zeroedCall call .read ≡ call .read
+zeroed-read call = go (call .read .answer)
+  where
+    go : (x : FileAnswer) → zeroedPast call x .read ≡ call .read
+    go (FileAnswer.Refused x at) = refl
+    go (FileAnswer.Read lines) = refl
 
 -- ---- one line at the front
 module _ (r : Rules) where
@@ -136,24 +150,24 @@ module _ (book : Rulebook) where
         ]
 
     lentWell : Option Line → Bool
-    lentWell o = eqb (length u) (lentLength (headed book o))
+    lentWell o = eqb (length u) (lentLength (rulesIn book) (headed book o))
 
-    opens : readCase book t u ≡ opened (isCut (rulesIn book) t) (firstLine (rulesIn book) t) (firstOf (headTests (rulesIn book) (firstLine (rulesIn book) t)))
+    opens : readLines book t u ≡ opened (isCut (rulesIn book) t) (firstLine (rulesIn book) t) (firstOf (headTests (rulesIn book) (firstLine (rulesIn book) t)))
         (lentWell (firstLine (rulesIn book) t))
     unfolding opened lentWell
     opens = refl
 
     pub take-head : {l : Line} → isCut (rulesIn book) t ≡ false → firstLine (rulesIn book) t ≡ some l → firstOf (headTests (rulesIn book) (some l)) ≡ none
-        → length u ≡ lentLength (headed book (some l))
-        → readCase book t u ≡ readDues book (record { case = headed book (some l); table = u }) 1 (dues (headed book (some l))) (afterFirst (rulesIn book) t)
+        → length u ≡ lentLength (rulesIn book) (headed book (some l))
+        → readLines book t u ≡ readDues book (record { case = headed book (some l); table = u }) 1 (dues (headed book (some l))) (afterFirst (rulesIn book) t)
     unfolding opened lentWell
     take-head {l} p q o e =
         opens ∙ ap₂ (λ (b : Bool) (f : Option Line). opened b f (firstOf (headTests (rulesIn book) f)) (lentWell f)) p q
-        ∙ ap₂ (opened false (some l)) o (eq-eqb (length u) (lentLength (headed book (some l))) e)
+        ∙ ap₂ (opened false (some l)) o (eq-eqb (length u) (lentLength (rulesIn book) (headed book (some l))) e)
 
-    pub head-taken : {lines : ℕ} → readCase book t u .read .answer ≡ FileAnswer.Read lines
+    pub head-taken : {lines : ℕ} → readLines book t u .read .answer ≡ FileAnswer.Read lines
         → (isCut (rulesIn book) t ≡ false) × (l : Line) × (firstLine (rulesIn book) t ≡ some l) × (firstOf (headTests (rulesIn book) (some l)) ≡ none)
-        × (length u ≡ lentLength (headed book (some l)))
+        × (length u ≡ lentLength (rulesIn book) (headed book (some l)))
     unfolding opened lentWell
     head-taken {lines} h =
         go (isCut (rulesIn book) t) refl (firstLine (rulesIn book) t) refl (firstOf (headTests (rulesIn book) (firstLine (rulesIn book) t))) refl
@@ -164,12 +178,12 @@ module _ (book : Rulebook) where
             → firstOf (headTests (rulesIn book) o) ≡ x → (long : Bool) → lentWell o ≡ long
             → opened b o x long .read .answer ≡ FileAnswer.Read lines
             → (isCut (rulesIn book) t ≡ false) × (l : Line) × (firstLine (rulesIn book) t ≡ some l) × (firstOf (headTests (rulesIn book) (some l)) ≡ none)
-            × (length u ≡ lentLength (headed book (some l)))
+            × (length u ≡ lentLength (rulesIn book) (headed book (some l)))
         go true p o q x e long k h = absurd (never (rulesIn book) h)
         go false p none q none e long k h = absurd (none-some (sym e))
         go false p o q (some x) e long k h = absurd (never (rulesIn book) h)
         go false p (some l) q none e false k h = absurd (never (rulesIn book) h)
-        go false p (some l) q none e true k h = (p, l, q, e, eqb-true (length u) (lentLength (headed book (some l))) k)
+        go false p (some l) q none e true k h = (p, l, q, e, eqb-true (length u) (lentLength (rulesIn book) (headed book (some l))) k)
 
   -- ---- the case that is read is under the reader's rulebook
   took-rulebook : (g : Reading) (due : CaseDue) (l : Line) → took g due (some l) .case .rulebook ≡ g .case .rulebook
@@ -194,9 +208,9 @@ module _ (book : Rulebook) where
       go more false o (some x) = refl
       go more false o none = more o
 
-  pub read-rulebook : (t : List ℕ) (u : List ℤ) → readCase book t u .read .case .rulebook ≡ book
+  lines-rulebook : (t : List ℕ) (u : List ℤ) → readLines book t u .read .case .rulebook ≡ book
   unfolding opened lentWell
-  read-rulebook t u = go (isCut (rulesIn book) t) (firstLine (rulesIn book) t) (firstOf (headTests (rulesIn book) (firstLine (rulesIn book) t)))
+  lines-rulebook t u = go (isCut (rulesIn book) t) (firstLine (rulesIn book) t) (firstOf (headTests (rulesIn book) (firstLine (rulesIn book) t)))
       (lentWell t u (firstLine (rulesIn book) t))
     where
       go : (b : Bool) (o : Option Line) (x : Option Refusal) (long : Bool) → opened t u b o x long .read .case .rulebook ≡ book
@@ -206,6 +220,9 @@ module _ (book : Rulebook) where
       go false none none true = dues-rulebook (record { case = headed book none; table = u }) refl 1 (dues (headed book none)) (afterFirst (rulesIn book) t)
       go false (some l) none true = dues-rulebook (record { case = headed book (some l); table = u }) refl 1 (dues (headed book (some l)))
           (afterFirst (rulesIn book) t)
+
+  pub read-rulebook : (t : List ℕ) (u : List ℤ) → readCase book t u .read .case .rulebook ≡ book
+  read-rulebook t u = ap (λ (x : CaseRead). x .case .rulebook) (zeroed-read (readLines book t u)) ∙ lines-rulebook t u
 
   -- ---- the end of a case that is read alone
   module _ (t : List ℕ) (call : CaseCall) (lines : ℕ) where
@@ -228,7 +245,10 @@ module _ (book : Rulebook) where
   pub alone-taken : (t : List ℕ) (u : List ℤ) {lines : ℕ} → readCaseAlone book t u .read .answer ≡ FileAnswer.Read lines
       → (readCaseAlone book t u ≡ readCase book t u) × (drop (lines * lineLength (rulesIn book .amountWidth)) t ≡ [])
   unfolding after
-  alone-taken t u {lines} = go (readCase book t u) (readCase book t u .read .answer) refl
+  alone-taken t u {lines} p =
+      let (same, z) = go (readLines book t u) (readLines book t u .read .answer) refl
+      (sym (ap (λ (x : CaseRead). x .answer) (zeroed-read (readLinesAlone book t u))) ∙ p) in
+      (ap zeroedCall same, z)
     where
       go : (call : CaseCall) (x : FileAnswer) → call .read .answer ≡ x → nothingAfter book t call x .read .answer ≡ FileAnswer.Read lines
           → (nothingAfter book t call x ≡ call) × (drop (lines * lineLength (rulesIn book .amountWidth)) t ≡ [])
@@ -244,7 +264,9 @@ module _ (book : Rulebook) where
 
   pub alone-rulebook : (t : List ℕ) (u : List ℤ) → readCaseAlone book t u .read .case .rulebook ≡ book
   unfolding after
-  alone-rulebook t u = go (readCase book t u) (readCase book t u .read .answer) (read-rulebook t u)
+  alone-rulebook t u =
+      ap (λ (x : CaseRead). x .case .rulebook) (zeroed-read (readLinesAlone book t u))
+      ∙ go (readLines book t u) (readLines book t u .read .answer) (lines-rulebook t u)
     where
       left : (call : CaseCall) (k : ℕ) → call .read .case .rulebook ≡ book → (x : Option Refusal) → after t call k x .read .case .rulebook ≡ book
       left call k e none = e
@@ -267,7 +289,8 @@ textAt book n d m f ds = joined (map (λ due. lineText (rulesIn book .amountWidt
 pub record Taken (book : Rulebook) (n d m : ℕ) (a at : ℕ) (s : State) (ds : List CaseDue) (t : List ℕ) : Type 0 where
   pub final : State
   pub sized : Sized book n d m final
-  pub result : readDues book (reading book n d m s) at ds t ≡ caseTaken (reading book n d m final) (at + length ds)
+  pub zeros : T (zerosFrom (n * d + m * (d * d)) (final .table))
+  pub result : zeroedCall (readDues book (reading book n d m s) at ds t) ≡ caseTaken (reading book n d m final) (at + length ds)
   pub agree : Agree book n d m a s final
   pub good : (due : CaseDue) → due ∈ ds → Good (rulesIn book) (reading book n d m final) due (lineAt book n d m final due)
   pub text : textAt book n d m final ds ≡ take (length ds * lineLength (rulesIn book .amountWidth)) t
@@ -311,26 +334,26 @@ module _ {book : Rulebook} (kinds : CaseKinds (rulesIn book)) (n d m : ℕ) (few
       (either (eqb (rank n d m other) (rank n d m due)))
 
   -- written and read
-  module _ {f : State} (size : Sized book n d m f) (good : (due : CaseDue) → IsDue n d m due
+  module _ {f : State} (size : Sized book n d m f) (zeros : T (zerosFrom (n * d + m * (d * d)) (f .table))) (good : (due : CaseDue) → IsDue n d m due
       → Good (rulesIn book) (reading book n d m f) due (lineAt book n d m f due))
       (fits : (due : CaseDue) → IsDue n d m due → lineTooWide (rulesIn book .amountWidth) (lineAt book n d m f due) ≡ false) where
     pub dues-written : {a : ℕ} {ds : List CaseDue} → Run n d m a ds (n * d + m * suc (d * d)) → {s : State} → Sized book n d m s → Agree book n d m a s f
         → (at : ℕ) (rest : List ℕ)
-        → readDues book (reading book n d m s) at ds (textAt book n d m f ds ++ rest) ≡ caseTaken (reading book n d m f) (at + length ds)
+        → zeroedCall (readDues book (reading book n d m s) at ds (textAt book n d m f ds ++ rest)) ≡ caseTaken (reading book n d m f) (at + length ds)
     dues-written (stop e) {s} h agree at rest = ap₂ (caseTaken) (ap (reading book n d m)
-        (same-state book n d m h size (λ due u l. agree due u (omega arith)))) (omega arith)
+        (same-state book n d m h size zeros (λ due u l. agree due u (omega arith)))) (omega arith)
     dues-written (step {due = due} {ds = ds} u e run) {s} h agree at rest =
         let l : Line = lineAt book n d m f due in
         let after = next-agrees s f h due u l (line-for (caseAt book n d m f) (f .table) due) (λ other v q. agree other v (omega arith)) in
         let p = good-passes kinds (reading book n d m s) (caseAt book n d m f) (f .table) due
         (subst (λ (g : Reading). Good (rulesIn book) g due l) (sym (took-next book n d m s due l))
         (good-same f (next book n d m s due l) due u (λ other v q. sym (after other v q)) l (good due u))) in
-        ap (readDues book (reading book n d m s) at (due ∷ ds)) (append-assoc (lineText (rulesIn book .amountWidth) l) (textAt book n d m f ds) rest)
+        ap zeroedCall (ap (readDues book (reading book n d m s) at (due ∷ ds)) (append-assoc (lineText (rulesIn book .amountWidth) l) (textAt book n d m f ds) rest)
         ∙ take-due book (reading book n d m s) at due ds (lineText (rulesIn book .amountWidth) l ++ (textAt book n d m f ds ++ rest))
         (front-whole (rulesIn book) l (fits due u) (textAt book n d m f ds ++ rest))
         (front-line (rulesIn book) l (fits due u) (textAt book n d m f ds ++ rest)) p
         ∙ ap₂ (λ (g : Reading) (t : List ℕ). readDues book g (at + 1) ds t) (took-next book n d m s due l)
-        (front-after (rulesIn book) l (fits due u) (textAt book n d m f ds ++ rest))
+        (front-after (rulesIn book) l (fits due u) (textAt book n d m f ds ++ rest)))
         ∙ dues-written run (next-sized book n d m h due u l) (λ other v q. after other v (omega arith)) (at + 1) rest
         ∙ ap (caseTaken (reading book n d m f)) (omega arith)
 
@@ -338,10 +361,11 @@ module _ {book : Rulebook} (kinds : CaseKinds (rulesIn book)) (n d m : ℕ) (few
   pub dues-read : {a b : ℕ} {ds : List CaseDue} → Run n d m a ds b → {s : State} → Sized book n d m s → (at : ℕ) (t : List ℕ) {lines : ℕ}
       → readDues book (reading book n d m s) at ds t .read .answer ≡ FileAnswer.Read lines → Taken book n d m a at s ds t
   dues-read (stop e) {s} h at t p = record {
-    final = s;
-    sized = h;
-    result = ap (caseTaken (reading book n d m s)) (omega arith);
-    agree = λ due u l. refl;
+    final = zeroed book n d m s;
+    sized = zeroed-sized book n d m h;
+    zeros = zeroed-zeros (n * d + m * (d * d)) (s .table);
+    result = ap (caseTaken (reading book n d m (zeroed book n d m s))) (omega arith);
+    agree = λ due u l. zeroed-lines book n d m s due u;
     good = λ due i. absurd (List·Memᴰ·not-nil i);
     text = rw zero-mul;
   }
@@ -356,7 +380,8 @@ module _ {book : Rulebook} (kinds : CaseKinds (rulesIn book)) (n d m : ℕ) (few
       record {
         final = o .final;
         sized = o .sized;
-        result = next-read ∙ o .result ∙ ap (caseTaken (reading book n d m (o .final))) (omega arith);
+        zeros = o .zeros;
+        result = ap zeroedCall next-read ∙ o .result ∙ ap (caseTaken (reading book n d m (o .final))) (omega arith);
         agree = λ other v i. sym (next-other book n d m s due u l other v (λ z. omega arith)) ∙ o .agree other v (omega arith);
         good = in-cons (λ x. Good (rulesIn book) (reading book n d m (o .final)) x (lineAt book n d m (o .final) x))
             (rw is (good-same (next book n d m s due l) (o .final) due u (λ other v i. o .agree other v (omega arith)) l

@@ -9,9 +9,9 @@ use native.Mathlib.Omega.{arith}
 use lib.IntN.{ℤ, pos, negsuc, natAbs}
 use lib.Dec.{T, T-not, eqb, eqb-refl, ltb→lt, leb→le}
 use lib.Signed.{leZ, ltZ}
-use lib.ListN.{length}
+use lib.ListN.{length, getD}
 use lib.Seq.{getD-set-other}
-use Rattle.integers.specs.Words.{if_then_else_, all, isSome, eqZ}
+use Rattle.integers.specs.Words.{if_then_else_, all, isSome, eqZ, withinZ, minus}
 use Rattle.integers.specs.Tests.{tests, if-false, if-cases, and-intro, or-left, or-right, or-cases, not-not-iff}
 use Rattle.integers.specs.Linear.{flat, zs, _▸_, T-eq}
 use Rattle.integers.specs.Options.{none-some}
@@ -20,13 +20,13 @@ use Rattle.definitions.specs.declared.Line.{Line}
 use Rattle.definitions.specs.Rules.{Rules, Coherent}
 use Rattle.definitions.proofs.RulesLaws.{rules-fit}
 use Rattle.definitions.specs.Refusals.{Test, firstOf}
-use Rattle.definitions.specs.Case.{lowerEnd, upperEnd, weight, lentLength, isBarred, whollyBarred}
-use Rattle.definitions.specs.Valid.{inStarting, startingWeight}
+use Rattle.definitions.specs.Case.{lowerEnd, upperEnd, weight, ownLength, lentLength, isBarred, whollyBarred}
+use Rattle.definitions.specs.Valid.{inStarting, startingWeight, zerosFrom}
 use Rattle.definitions.specs.Lines.{line, isKind, notDue, lineTooWide}
 use Rattle.definitions.specs.CaseFiles.{headLine, CaseDue, variable-weight, edge-ends, edge-weight, dueTests, headTests}
 use Rattle.definitions.specs.CaseFiles.{Reading, took, weightLine, bars, weightIn}
 use Rattle.theory.proofs.Words.{none-below}
-use Rattle.theory.proofs.Validity.{none-applies, not-and-iff, Valid}
+use Rattle.theory.proofs.Validity.{none-applies, not-and-iff, own-lent, Valid}
 use Rattle.theory.proofs.Places.{variable-tuple, edge-tuple, by-scope, by-tuple}
 use Rattle.theory.proofs.Barred.{in-range-free}
 use Rattle.theory.proofs.Rounds.{within-most, line-fits}
@@ -209,13 +209,16 @@ module _ {r : Rules} {c : Case} {w : List ℤ} where
     λ q. v .some-free (c .n + e) (omega arith),
   )
 
-  pub good-valid : Limited r (c .n) (c .d) (c .m) → length w ≡ lentLength c
+  pub good-valid : Limited r (c .n) (c .d) (c .m) → length w ≡ lentLength r c → T (withinZ (minus (r .carried)) (pos (r .carried)) (c .carry))
+      → T (zerosFrom (ownLength c) w)
       → ((due : CaseDue) → IsDue (c .n) (c .d) (c .m) due → Good r (record { case = c; table = w }) due (lineOf c w due)) → Valid r c w
-  good-valid h long good = record {
+  good-valid h long carry zeros good = record {
     variables-most = h .variables-most;
     values-most = h .values-most;
     edges-most = h .edges-most;
     long = long;
+    own-fits = omega (arith, own-lent r c (h .variables-most) (h .edges-most));
+    carry-in = carry;
     shape = record {
       some-variable = h .some-variable;
       some-value = h .some-value;
@@ -227,6 +230,7 @@ module _ {r : Rules} {c : Case} {w : List ℤ} where
     in-range = λ x k l. by-tuple c (λ x k l. T (startingWeight r (weight c w x k l)))
         (λ i k u v. subst T (weight-range 11 14 refl refl r (pos i) (pos k) (pos 0) (weight c w i k 0)) (good (variable-weight i k) (u, v) .0))
         (λ e k l u v q. subst T (weight-range 13 15 refl refl r (pos e) (pos k) (pos l) (weight c w (c .n + e) k l)) (good (edge-weight e k l) (u, v, q) .0));
+    past = zeros;
     some-free = by-scope c (λ x. T (not (whollyBarred c w x)))
         (λ i u. good (variable-weight i (c .d - 1)) (u, omega (arith, h .some-value)) .1 (omega (arith, h .some-value)))
         (λ e u. let l : c .d - 1 < c .d = omega (arith, h .some-value) in let o : c .d - 1 + 1 ≡ c .d = omega (arith, h .some-value) in
@@ -261,6 +265,30 @@ module _ {r : Rules} {c : Case} {w : List ℤ} where
 
     pub head-fits : lineTooWide (r .amountWidth) (headLine c) ≡ false
     head-fits = line-fits coherent 10 (c .n) (c .d) (c .m) (pos 0) (omega arith) (omega arith) (omega arith) (omega arith) (omega arith)
+
+-- ---- a case with other ends past its edges, and another carry
+
+abbrev pub remade : Case → List ℕ → List ℕ → ℤ → Case
+remade c lower upper carry = record { n = c .n; d = c .d; m = c .m; lower = lower; upper = upper; carry = carry; rulebook = c .rulebook }
+
+pub zero-carried : (r : Rules) → T (withinZ (minus (r .carried)) (pos (r .carried)) (pos 0))
+zero-carried r = simp flat (omega zs)
+
+pub valid-remade : {r : Rules} {c : Case} {w : List ℤ} → Valid r c w → (lower upper : List ℕ) {carry : ℤ}
+    → ((e : ℕ) → e < c .m → getD lower e 0 ≡ lowerEnd c e) → ((e : ℕ) → e < c .m → getD upper e 0 ≡ upperEnd c e)
+    → T (withinZ (minus (r .carried)) (pos (r .carried)) carry) → Valid r (remade c lower upper carry) w
+valid-remade {r} {c} {w} v lower upper {carry} x y carried = good-valid (valid-limits v) (v .long) carried (v .past) good
+  where
+    good : (due : CaseDue) → IsDue (c .n) (c .d) (c .m) due
+        → Good r (record { case = remade c lower upper carry; table = w }) due (lineOf (remade c lower upper carry) w due)
+    good (variable-weight i j) h = valid-good v (variable-weight i j) h
+    good (edge-weight e j l) h = valid-good v (edge-weight e j l) h
+    good (edge-ends e) h =
+        let (a, b, o) = valid-good v (edge-ends e) h in (
+          omega (arith, a, x e h, y e h),
+          omega (arith, b, y e h),
+          λ f u p q. o f u (sym (x f (omega arith)) ∙ p ∙ x e h) (sym (y f (omega arith)) ∙ q ∙ y e h),
+        )
 
 -- ---- which lines pass the tests of the head
 within-nat : (low high : ℕ) (z : ℤ) → T (leZ (pos low) z) → T (leZ z (pos high)) → (z ≡ pos (natAbs z)) × (low ≤ natAbs z) × (natAbs z ≤ high)

@@ -1,11 +1,11 @@
--- Case files: what is written of a valid case is read back, what is read is a valid case whose text was read, and how long the text is.
+-- Case files: what is written of a case is read back, with carry 0, what is read is a valid case whose text was read, and how long the text is.
 -- Assumes nothing.
 use mathlib.Core.Path.{_≡_, refl, sym, ap, ap₂, subst, _∙_}
 use mathlib.Core.Bool.{false}
 use mathlib.Core.Logic.{⊎-elim}
 use mathlib.Core.Option.{some}
 use mathlib.Core.List.{List, [], _∷_, _++_, map, List·Memᴰ·head, List·Memᴰ·tail, append-assoc, append-nil, Memᴰ·of-map}
-use Prim.Native.Nat.{ℕ, zero, suc, _+_, _*_, _≤_, _<_}
+use Prim.Native.Nat.{ℕ, _+_, _*_, _≤_, _<_}
 use native.Mathlib.Nat.{mul-comm}
 use native.Mathlib.Omega.{arith}
 use lib.IntN.{ℤ, pos}
@@ -20,27 +20,30 @@ use Rattle.definitions.specs.declared.Rulebook.{Rulebook}
 use Rattle.definitions.specs.declared.Case.{Case}
 use Rattle.definitions.specs.declared.Line.{Line}
 use Rattle.definitions.specs.declared.FileAnswer.{FileAnswer}
-use Rattle.definitions.specs.Rules.{Rules, rulesIn, rulesOf, edgePlaces, Coherent, coherent}
+use Rattle.definitions.specs.declared.CaseRead.{CaseRead}
+use Rattle.definitions.specs.Rules.{Rules, rulesIn, rulesOf, edgePlaces, fullLength, Coherent, coherent}
 use Rattle.definitions.specs.Case.{lowerEnd, upperEnd, weight, eachTuple, lentLength}
 use Rattle.definitions.specs.Valid.{valid}
 use Rattle.definitions.specs.Lines.{line, lineLength, lineText, lineTooWide}
-use Rattle.definitions.specs.CaseFiles.{headLine, weightLine, variableLines, caseLines, CaseDue, variable-weight, edge-ends, edge-weight, dues}
-use Rattle.definitions.specs.CaseFiles.{Reading, caseText, headed, CaseCall, caseTaken, firstLine, afterFirst, readDues, readCase, nothingAfter, readCaseAlone}
+use Rattle.definitions.specs.CaseFiles.{headLine, weightLine, variableLines, caseLines, CaseDue, dues}
+use Rattle.definitions.specs.CaseFiles.{Reading, caseText, headed, CaseCall, caseTaken, firstLine, afterFirst, readDues, readLines, readCase, nothingAfter}
+use Rattle.definitions.specs.CaseFiles.{readCaseAlone}
 use Rattle.calls.specs.Calls.{fileBytes}
 use Rattle.definitions.proofs.LineLaws.{line-length}
-use Rattle.theory.proofs.Validity.{Valid, valid-facts, facts-valid}
-use Rattle.case_theory.proofs.CaseDues.{lineOf, case-lines, IsDue, run-length, dues-run, due-in, in-dues, same-ends, caseAt, reading, State, Sized}
-use Rattle.case_theory.proofs.CaseTests.{Good, valid-limits, valid-good, good-valid, due-fits, head-fits}
+use Rattle.theory.proofs.Validity.{Valid, own-lent, facts-valid}
+use Rattle.case_theory.proofs.Zeroed.{all-same}
+use Rattle.case_theory.proofs.CaseDues.{lineOf, case-lines, run-length, dues-run, due-in, in-dues, same-ends, caseAt, reading, State, Sized}
+use Rattle.case_theory.proofs.CaseTests.{valid-limits, valid-good, good-valid, due-fits, head-fits, remade, zero-carried, valid-remade}
 use Rattle.case_theory.proofs.CaseTests.{head-passed, head-passes, CaseKinds, case-kinds, Limited}
-use Rattle.case_theory.proofs.CaseReads.{front-whole, front-line, front-after, line-front, read-same, take-head}
+use Rattle.case_theory.proofs.CaseReads.{zeroedCall, zeroed-read, front-whole, front-line, front-after, line-front, read-same, take-head}
 use Rattle.case_theory.proofs.CaseReads.{head-taken, ended, alone-taken, dues-written, dues-read, Taken}
 
--- ---- a case with 0 at the places that belong to no edge
+-- ---- a case as its file says it: with 0 at the places that belong to no edge, and carry 0
 abbrev trim : ℕ → List ℕ → List ℕ
 trim m xs = map (λ e. if ltb e m then getD xs e 0 else 0) (below edgePlaces)
 
 abbrev pub tidied : Case → Case
-tidied c = record { n = c .n; d = c .d; m = c .m; lower = trim (c .m) (c .lower); upper = trim (c .m) (c .upper); rulebook = c .rulebook }
+tidied c = remade c (trim (c .m) (c .lower)) (trim (c .m) (c .upper)) (pos 0)
 
 module _ (m : ℕ) (xs : List ℕ) where
   trim-long : length (trim m xs) ≡ edgePlaces
@@ -68,10 +71,11 @@ pub tidied-past : (c : Case) (e : ℕ) → c .m ≤ e → (lowerEnd (tidied c) e
 tidied-past c e h = (trim-past (c .m) (c .lower) e h, trim-past (c .m) (c .upper) e h)
 
 pub tidied-is : (c : Case) → c .m ≤ edgePlaces → length (c .lower) ≡ edgePlaces → length (c .upper) ≡ edgePlaces
-    → ((e : ℕ) → c .m ≤ e → (lowerEnd c e ≡ 0) × (upperEnd c e ≡ 0)) → tidied c ≡ c
-tidied-is c few p q past =
-    ap₂ (λ (x y : List ℕ). record { n = c .n; d = c .d; m = c .m; lower = x; upper = y; rulebook = c .rulebook })
+    → ((e : ℕ) → c .m ≤ e → (lowerEnd c e ≡ 0) × (upperEnd c e ≡ 0)) → c .carry ≡ pos 0 → tidied c ≡ c
+tidied-is c few p q past none =
+    ap₂ (λ (x y : List ℕ). remade c x y (pos 0))
     (trim-is (c .m) (c .lower) few p (λ e h. past e h .0)) (trim-is (c .m) (c .upper) few q (λ e h. past e h .1))
+    ∙ ap (remade c (c .lower) (c .upper)) (sym none)
 
 module _ (c : Case) (w : List ℤ) (few : c .m ≤ edgePlaces) where
   tidied-lines : caseLines (tidied c) w ≡ caseLines c w
@@ -79,21 +83,6 @@ module _ (c : Case) (w : List ℤ) (few : c .m ≤ edgePlaces) where
       (map-same (c .m) (λ e h. ap₂ (λ (i j : ℕ). line 12 (pos e) (pos i) (pos j) (pos 0)
       ∷ eachTuple c (c .n + e) (λ k l. weightLine 13 15 (pos e) (pos k) (pos l) (weight c w (c .n + e) k l)))
       (tidied-lower c few e h) (tidied-upper c few e h)))
-
-  tidied-valid : {r : Rules} → Valid r c w → Valid r (tidied c) w
-  tidied-valid {r} v = good-valid (valid-limits v) (v .long) good
-    where
-      good : (due : CaseDue) → IsDue (c .n) (c .d) (c .m) due → Good r (record { case = tidied c; table = w }) due (lineOf (tidied c) w due)
-      good (variable-weight i k) h = valid-good v (variable-weight i k) h
-      good (edge-weight e k l) h = valid-good v (edge-weight e k l) h
-      good (edge-ends e) h =
-          let (a, b, o) = valid-good v (edge-ends e) h in
-          let x = tidied-lower c few in
-          let y = tidied-upper c few in (
-            omega (arith, a, x e h, y e h),
-            omega (arith, b, y e h),
-            λ f u p q. o f u (sym (x f (omega arith)) ∙ p ∙ x e h) (sym (y f (omega arith)) ∙ q ∙ y e h),
-          )
 
 -- ---- how many lines, and how long
 abbrev pub lineCount : Case → ℕ
@@ -111,14 +100,11 @@ case-text r c w =
     ap (λ (ls : List Line). joined (map (lineText (r .amountWidth)) ls)) (case-lines c w)
     ∙ ap (λ (ts : List (List ℕ)). lineText (r .amountWidth) (headLine c) ++ joined ts) (map-map (lineText (r .amountWidth)) (lineOf c w) (dues c))
 
-module _ {r : Rules} (coherent : Coherent r) (c : Case) (w : List ℤ) (t : T (valid r c w)) where
+module _ {r : Rules} (coherent : Coherent r) (c : Case) (w : List ℤ) (v : Valid r c w) where
   -- every line fits its columns
   pub lines-fit : (l : Line) → l ∈ caseLines c w → lineTooWide (r .amountWidth) l ≡ false
   lines-fit l i = go (subst (λ (ls : List Line). l ∈ ls) (case-lines c w) i)
     where
-      v : Valid r c w
-      v = valid-facts r c w t
-
       go : l ∈ (headLine c ∷ map (lineOf c w) (dues c)) → lineTooWide (r .amountWidth) l ≡ false
       go (List·Memᴰ·head e) = rw e (head-fits coherent v)
       go (List·Memᴰ·tail j) = let (due, k, e) = Memᴰ·of-map (lineOf c w) (dues c) j in rw (← e) (due-fits coherent v due (in-dues c k))
@@ -132,7 +118,7 @@ module _ {r : Rules} (coherent : Coherent r) (c : Case) (w : List ℤ) (t : T (v
       length-joined (lineLength (r .amountWidth)) (map (lineText (r .amountWidth)) (caseLines c w)) line-parts
       ∙ rw (length-map, case-count c w) (mul-comm (lineCount c) (lineLength (r .amountWidth)))
 
--- t is the text of a valid case, of so many lines, with 0 at the places that belong to no edge
+-- t is the text of a valid case, of so many lines, as its file says it
 pub record IsText (c : Case) (w : List ℤ) (lines : ℕ) (t : List ℕ) : Type 0 where
   pub accepted : T (valid (rulesOf c) c w)
   pub same-text : caseText (rulesOf c) c w ≡ t
@@ -143,19 +129,16 @@ pub record IsText (c : Case) (w : List ℤ) (lines : ℕ) (t : List ℕ) : Type 
 abbrev start : List ℤ → State
 start u = record { lower = replicate edgePlaces 0; upper = replicate edgePlaces 0; table = u }
 
-zeros : (k e : ℕ) → _≡_ {A = ℕ} (getD (replicate k 0) e 0) 0
-zeros zero e = refl
-zeros (suc k) zero = refl
-zeros (suc k) (suc e) = zeros k e
-
-start-sized : (book : Rulebook) (n d m : ℕ) (u : List ℤ) → length u ≡ n * d + m * (d * d) → Sized book n d m (start u)
-start-sized book n d m u long = record {
+start-sized : (book : Rulebook) (n d m : ℕ) (u : List ℤ) → Limited (rulesIn book) n d m → length u ≡ fullLength (rulesIn book) d
+    → Sized book n d m (start u)
+start-sized book n d m u h long = record {
   long = long;
+  own-fits = omega (arith, own-lent (rulesIn book) (caseAt book n d m (start u)) (h .variables-most) (h .edges-most));
   lower-long = refl;
   upper-long = refl;
-  lower-past = λ e h. zeros edgePlaces e;
+  lower-past = λ e h. all-same edgePlaces e 0;
   upper-past =
-      λ e h. zeros edgePlaces e;
+      λ e h. all-same edgePlaces e 0;
 }
 
 module _ (book : Rulebook) where
@@ -174,12 +157,12 @@ module _ (book : Rulebook) where
       let tail : List ℕ = joined (map (λ due. lineText (rules .amountWidth) (lineOf c (f .table) due)) (dues c)) ++ rest in
       ap (λ (t : List ℕ). readCase book t u) (ap (λ (t : List ℕ). t ++ rest) (case-text rules c (f .table))
       ∙ append-assoc (lineText (rules .amountWidth) (headLine c)) _ rest)
-      ∙ take-head book (lineText (rules .amountWidth) (headLine c) ++ tail) u (front-whole rules (headLine c) (head-fits (coherent book) v) tail)
+      ∙ ap zeroedCall (take-head book (lineText (rules .amountWidth) (headLine c) ++ tail) u (front-whole rules (headLine c) (head-fits (coherent book) v) tail)
       (front-line rules (headLine c) (head-fits (coherent book) v) tail)
       (head-passes kinds c (valid-limits v)) (long ∙ v .long)
-      ∙ ap (readDues book (reading book n d m (start u)) 1 (dues c)) (front-after rules (headLine c) (head-fits (coherent book) v) tail)
-      ∙ dues-written kinds n d m (omega (arith, v .edges-most, coherent book .edges-placed)) size (valid-good v) (due-fits (coherent book) v) (dues-run c)
-      (start-sized book n d m u (long ∙ v .long)) (λ due h l. absurd (omega arith)) 1 rest
+      ∙ ap (readDues book (reading book n d m (start u)) 1 (dues c)) (front-after rules (headLine c) (head-fits (coherent book) v) tail))
+      ∙ dues-written kinds n d m (omega (arith, v .edges-most, coherent book .edges-placed)) size (v .past) (valid-good v) (due-fits (coherent book) v) (dues-run c)
+      (start-sized book n d m u (valid-limits v) (long ∙ v .long)) (λ due h l. absurd (omega arith)) 1 rest
       ∙ ap (caseTaken (reading book n d m f)) (dues-count c)
 
   -- ---- read and written
@@ -192,24 +175,26 @@ module _ (book : Rulebook) where
       let c : Case = caseAt book n d m (o .final) in
       let w : List ℤ = o .final .table in
       record {
-        accepted = facts-valid rules c w (good-valid limits (o .sized .long) (λ due h. o .good due (rw e (due-in c due h))));
+        accepted = facts-valid rules c w (good-valid limits (o .sized .long) (zero-carried rules) (o .zeros)
+            (λ due h. o .good due (rw e (due-in c due h)))) refl;
         same-text = case-text rules c w ∙ line-front rules t first (length ds) _ (rw (← e) (o .text))
             ∙ ap (λ (i : ℕ). take (i * lineLength (rules .amountWidth)) t) (omega arith);
         same-count = rw e (dues-count c);
-        plain = tidied-is c few (o .sized .lower-long) (o .sized .upper-long) (λ e h. (o .sized .lower-past e h, o .sized .upper-past e h));
+        plain = tidied-is c few (o .sized .lower-long) (o .sized .upper-long) (λ e h. (o .sized .lower-past e h, o .sized .upper-past e h)) refl;
       }
 
   pub written-read : (t : List ℕ) (u : List ℤ) {lines : ℕ} → readCase book t u .read .answer ≡ FileAnswer.Read lines
       → IsText (readCase book t u .read .case) (readCase book t u .table) lines (take (lines * lineLength (rules .amountWidth)) t)
   written-read t u {lines} p =
-      let (whole, l, first, q, long) = head-taken book t u p in
+      let r = sym (ap (λ (x : CaseRead). x .answer) (zeroed-read (readLines book t u))) ∙ p in
+      let (whole, l, first, q, long) = head-taken book t u r in
       let (shape, limits) = head-passed kinds l q in
       let c : Case = headed book (some l) in
       let few : c .m ≤ edgePlaces = omega (arith, limits .edges-most, coherent book .edges-placed) in
       let begun = take-head book t u whole first q long in
-      let o = dues-read kinds (c .n) (c .d) (c .m) few (dues-run c) (start-sized book (c .n) (c .d) (c .m) u long) 1 (afterFirst rules t)
-      (sym (ap (λ (x : CaseCall). x .read .answer) begun) ∙ p) in
-      go (readCase book t u) _ (begun ∙ o .result) p (taken-text t u (c .n) (c .d) (c .m) (first ∙ ap some shape) limits few (dues c) refl o)
+      let o = dues-read kinds (c .n) (c .d) (c .m) few (dues-run c) (start-sized book (c .n) (c .d) (c .m) u limits long) 1 (afterFirst rules t)
+      (sym (ap (λ (x : CaseCall). x .read .answer) begun) ∙ r) in
+      go (readCase book t u) _ (ap zeroedCall begun ∙ o .result) p (taken-text t u (c .n) (c .d) (c .m) (first ∙ ap some shape) limits few (dues c) refl o)
     where
       go : (call : CaseCall) {g : Reading} (k : ℕ) → call ≡ caseTaken g k → call .read .answer ≡ FileAnswer.Read lines
           → IsText (g .case) (g .table) k (take (k * lineLength (rules .amountWidth)) t)
@@ -228,28 +213,33 @@ module _ (book : Rulebook) where
       (subst (IsText (readCase book t u .read .case) (readCase book t u .table) lines) all
       (written-read t u (sym (ap (λ (x : CaseCall). x .read .answer) same) ∙ p)))
 
--- ---- written and read, of any case
-module _ (c : Case) (w : List ℤ) (t : T (valid (rulesOf c) c w)) where
-  pub read-written : (rest : List ℕ) (u : List ℤ) → length u ≡ lentLength c
+-- ---- written and read, of any case to which no number applies
+module _ (c : Case) (w : List ℤ) (v : Valid (rulesOf c) c w) where
+  pub read-written : (rest : List ℕ) (u : List ℤ) → length u ≡ lentLength (rulesOf c) c
       → readCase (c .rulebook) (caseText (rulesOf c) c w ++ rest) u ≡ caseTaken (record { case = tidied c; table = w }) (lineCount c)
   read-written rest u long =
-      let v = valid-facts (rulesOf c) c w t in
       let few : c .m ≤ edgePlaces = omega (arith, v .edges-most, coherent (c .rulebook) .edges-placed) in
-      let size : Sized (c .rulebook) (c .n) (c .d) (c .m) (record { lower = trim (c .m) (c .lower); upper = trim (c .m) (c .upper); table = w }) = record {
+      let f : State = record { lower = trim (c .m) (c .lower); upper = trim (c .m) (c .upper); table = w } in
+      let size : Sized (c .rulebook) (c .n) (c .d) (c .m) f = record {
         long = v .long;
+        own-fits = v .own-fits;
         lower-long = trim-long (c .m) (c .lower);
         upper-long = trim-long (c .m) (c .upper);
         lower-past = trim-past (c .m) (c .lower);
         upper-past = trim-past (c .m) (c .upper);
       } in
       ap (λ (ls : List Line). readCase (c .rulebook) (joined (map (lineText (rulesOf c .amountWidth)) ls) ++ rest) u) (sym (tidied-lines c w few))
-      ∙ read-state (c .rulebook) (c .n) (c .d) (c .m) _ size (tidied-valid c w few v) rest u (long ∙ sym (v .long))
+      ∙ read-state (c .rulebook) (c .n) (c .d) (c .m) f size
+      (valid-remade v (f .lower) (f .upper) (tidied-lower c few) (tidied-upper c few) (zero-carried (rulesOf c))) rest u (long ∙ sym (v .long))
 
-  pub read-written-alone : (u : List ℤ) → length u ≡ lentLength c
+  pub read-written-alone : (u : List ℤ) → length u ≡ lentLength (rulesOf c) c
       → readCaseAlone (c .rulebook) (caseText (rulesOf c) c w) u ≡ caseTaken (record { case = tidied c; table = w }) (lineCount c)
   read-written-alone u long =
       let end : length (caseText (rulesOf c) c w) ≤ lineCount c * lineLength (rulesOf c .amountWidth) =
-      omega (arith, text-length (coherent (c .rulebook)) c w t, mul-comm (lineCount c) (lineLength (rulesOf c .amountWidth))) in
-      ap (λ (x : CaseCall). nothingAfter (c .rulebook) (caseText (rulesOf c) c w) x (x .read .answer)) (rw append-nil at (read-written [] u long))
-      ∙ ended (c .rulebook) (caseText (rulesOf c) c w) (caseTaken (record { case = tidied c; table = w }) (lineCount c)) (lineCount c)
-      (drop-of-length-le (caseText (rulesOf c) c w) end)
+      omega (arith, text-length (coherent (c .rulebook)) c w v, mul-comm (lineCount c) (lineLength (rulesOf c .amountWidth))) in
+      let call : CaseCall = readLines (c .rulebook) (caseText (rulesOf c) c w) u in
+      let read : zeroedCall call ≡ caseTaken (record { case = tidied c; table = w }) (lineCount c) = rw append-nil at (read-written [] u long) in
+      ap (λ (x : FileAnswer). zeroedCall (nothingAfter (c .rulebook) (caseText (rulesOf c) c w) call x))
+      (sym (ap (λ (x : CaseRead). x .answer) (zeroed-read call)) ∙ ap (λ (x : CaseCall). x .read .answer) read)
+      ∙ ap zeroedCall (ended (c .rulebook) (caseText (rulesOf c) c w) call (lineCount c) (drop-of-length-le (caseText (rulesOf c) c w) end))
+      ∙ read

@@ -1,6 +1,6 @@
 -- A case file written line by line. Assumes nothing.
 use Rattle.case_lines.specs.Dues.{bytesOfLine}
-use mathlib.Core.Path.{_≡_, sym, ap, ap₂, subst, _∙_}
+use mathlib.Core.Path.{_≡_, refl, sym, ap, ap₂, subst, _∙_}
 use mathlib.Core.Bool.{true, false}
 use mathlib.Core.Option.{Option, none, some}
 use mathlib.Core.List.{List, [], _∷_, _++_, map, append-assoc, append-nil}
@@ -30,7 +30,7 @@ use Rattle.definitions.specs.CaseFiles.{CaseDue, edge-ends, headLine, caseText}
 use Rattle.definitions.proofs.LineLaws.{line-length}
 use Rattle.theory.proofs.Validity.{Valid, handed}
 use Rattle.case_theory.proofs.CaseDues.{lineOf, case-lines, in-dues}
-use Rattle.case_theory.proofs.CaseTests.{due-fits, head-fits}
+use Rattle.case_theory.proofs.CaseTests.{due-fits, head-fits, zero-carried, valid-remade}
 use Rattle.tables.proofs.Order.{limited, outcome-done, outcome-refused}
 use Rattle.lines.proofs.Stores.{column-next}
 use Rattle.case_lines.specs.declared.Sizes.{Sizes}
@@ -171,12 +171,13 @@ module _ (c : Case) (w : List ℤ) (out : List ℕ) where
   write-refused h = let e = refused-is (outcome-refused h) in (sym (ap (λ c. c .answer) e), sym (ap (λ c. c .out) e))
 
   module _ (h : Outcome.Done ≡ outcomeOf writeAsked) where
-    pub write-valid : Valid (rulesOf c) c w × (bytesOfLine (c .rulebook) * (linesDue sizesOf + 1) ≤ length out)
+    -- the carry is not written
+    pub write-valid : Valid (rulesOf c) (caseWith sizesOf (c .lower) (c .upper)) w × (bytesOfLine (c .rulebook) * (linesDue sizesOf + 1) ≤ length out)
     write-valid =
         let d : writeAsked ≡ none = outcome-done h in
         let (v, short, o) = handed (rulesOf c) (startingWeight (rulesOf c)) c w (ltb (length out) (bytesOfLine (c .rulebook) * (linesDue sizesOf + 1))) false .0
         (rw d tt) in
-        (v, nltb→le (length out) (bytesOfLine (c .rulebook) * (linesDue sizesOf + 1)) short)
+        (valid-remade v (c .lower) (c .upper) (λ e h. refl) (λ e h. refl) (zero-carried (rulesOf c)), nltb→le (length out) (bytesOfLine (c .rulebook) * (linesDue sizesOf + 1)) short)
 
     pub write-done-is : {n : ℕ} {u : List ℕ} → n ≡ bytesOfLine (c .rulebook) * (linesDue sizesOf + 1) → u ≡ overwritten (caseText (rulesOf c) c w) out
         → (Written.Bytes n ≡ writeCaseCall (rulesOf c) c w out .answer) × (u ≡ writeCaseCall (rulesOf c) c w out .out)

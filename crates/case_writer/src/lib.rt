@@ -63,7 +63,7 @@ fn line_after<'a>(
 ) -> Line
     requires { ⌜ SizesLimited sizes ⌝ }
     requires { ⌜ InCase sizes due ⌝ }
-    requires { ⌜ length (now table) ≡ placesOf sizes ⌝ }
+    requires { ⌜ placesOf sizes ≤ length (now table) ⌝ }
     ensures { λ r. ⌜ r ≡ lineOf (caseWith sizes (now (lower .entry)) (now (upper .entry))) (now (table .entry)) (dueAwaited due) ⌝ }
 {
     let place = case_lines::place_of(sizes, due);
@@ -129,7 +129,7 @@ fn file_bytes(sizes: Sizes) -> usize
 
 // ---- the call
 
-// Writes the case and its starting weights at out's first bytes.
+// Writes the case and its starting weights at out's first bytes. The carry is in no file.
 pub fn write_case(case: Case, table: &[i64], out: &mut [u8]) -> Written
     ensures { λ r. ⌜ (r ≡ writeCaseCall (rulesOf case) case (now (table .entry)) (now (out .entry)) .answer)
         × (now (out .exit) ≡ writeCaseCall (rulesOf case) case (now (table .entry)) (now (out .entry)) .out) ⌝ }

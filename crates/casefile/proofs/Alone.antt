@@ -18,7 +18,7 @@ use Rattle.definitions.specs.declared.Refusal.{Refusal}
 use Rattle.definitions.specs.declared.Refusal.the-variants.{NotDue, CutShort}
 use Rattle.definitions.specs.Rules.{rulesIn}
 use Rattle.definitions.specs.Refusals.{firstOf}
-use Rattle.definitions.specs.CaseFiles.{CaseCall, caseRefused, isCut, firstLine, endTests, restRefusal, nothingAfter, readCase, readCaseAlone}
+use Rattle.definitions.specs.CaseFiles.{CaseCall, caseRefused, isCut, firstLine, endTests, restRefusal, nothingAfter, readLines, readLinesAlone}
 use Rattle.casefile.proofs.Tests.{due-none}
 use Rattle.casefile.proofs.Heads.{Front, cut, bad, good}
 
@@ -54,12 +54,12 @@ restCall b none call lines = call
 restCall b (some x) call lines = caseRefused b x lines (call .table)
 
 module _ (b : Rulebook) (t : List ℕ) (w : List ℤ) where
-  pub alone-refused : {x : Refusal} {at : ℕ} → readCase b t w .read .answer ≡ FileAnswer.Refused x at → readCaseAlone b t w ≡ readCase b t w
-  alone-refused e = ap (nothingAfter b t (readCase b t w)) e
+  pub alone-refused : {x : Refusal} {at : ℕ} → readLines b t w .read .answer ≡ FileAnswer.Refused x at → readLinesAlone b t w ≡ readLines b t w
+  alone-refused e = ap (nothingAfter b t (readLines b t w)) e
 
-  module _ (lines : ℕ) (e : readCase b t w .read .answer ≡ FileAnswer.Read lines) where
-    alone-is : readCaseAlone b t w ≡ restCall b (restRefusal (rulesIn b) (drop (lines * bytesOfLine b) t)) (readCase b t w) lines
-    alone-is = ap (nothingAfter b t (readCase b t w)) e ∙ go (restRefusal (rulesIn b) (drop (lines * bytesOfLine b) t)) (readCase b t w)
+  module _ (lines : ℕ) (e : readLines b t w .read .answer ≡ FileAnswer.Read lines) where
+    alone-is : readLinesAlone b t w ≡ restCall b (restRefusal (rulesIn b) (drop (lines * bytesOfLine b) t)) (readLines b t w) lines
+    alone-is = ap (nothingAfter b t (readLines b t w)) e ∙ go (restRefusal (rulesIn b) (drop (lines * bytesOfLine b) t)) (readLines b t w)
       where
         go : (o : Option Refusal) (call : CaseCall) → (elim o [
           | none ↦ call
@@ -68,9 +68,9 @@ module _ (b : Rulebook) (t : List ℕ) (w : List ℤ) where
         go none call = refl
         go (some x) call = refl
 
-    pub alone-good : restRefusal (rulesIn b) (drop (lines * bytesOfLine b) t) ≡ none → readCaseAlone b t w ≡ readCase b t w
-    alone-good h = alone-is ∙ ap (λ o. restCall b o (readCase b t w) lines) h
+    pub alone-good : restRefusal (rulesIn b) (drop (lines * bytesOfLine b) t) ≡ none → readLinesAlone b t w ≡ readLines b t w
+    alone-good h = alone-is ∙ ap (λ o. restCall b o (readLines b t w) lines) h
 
     pub alone-more : {x : Refusal} → restRefusal (rulesIn b) (drop (lines * bytesOfLine b) t) ≡ some x
-        → readCaseAlone b t w ≡ caseRefused b x lines (readCase b t w .table)
-    alone-more h = alone-is ∙ ap (λ o. restCall b o (readCase b t w) lines) h
+        → readLinesAlone b t w ≡ caseRefused b x lines (readLines b t w .table)
+    alone-more h = alone-is ∙ ap (λ o. restCall b o (readLines b t w) lines) h

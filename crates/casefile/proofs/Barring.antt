@@ -2,7 +2,7 @@
 use mathlib.Core.Path.{_≡_, refl, sym, ap, _∙_}
 use mathlib.Core.Bool.{Bool, true, false, _&&_, and-true}
 use mathlib.Core.List.{List, [], _∷_, _++_}
-use Prim.Native.Nat.{ℕ, suc, _+_, _*_, _-_, _<_}
+use Prim.Native.Nat.{ℕ, suc, _+_, _*_, _-_, _≤_, _<_}
 use native.Mathlib.Omega.{arith}
 use lib.IntN.{ℤ}
 use lib.Dec.{T, eqb, eqb→eq}
@@ -25,7 +25,7 @@ all-last f (x ∷ xs) z = go (f x) (all-last f xs z)
     go true e = e
     go false e = refl
 
-module _ (c : Case) (w : List ℤ) (long : length w ≡ ownLength c) where
+module _ (c : Case) (w : List ℤ) (long : ownLength c ≤ length w) where
   last-stored : (x k j others : ℕ) {at : ℕ} → x < scopeCount c → place c x k j ≡ at → at ≡ place c x 0 0 + others → (lastOne : Bool)
       → (T lastOne → sizeOf c x ≡ suc others) → (z : ℤ)
       → (lastOne && whollyBarred c (set w (place c x k j) z) x) ≡ (othersBarred lastOne others at w && isBarred z)

@@ -20,13 +20,13 @@ use Rattle.definitions.specs.declared.CaseRead.{CaseRead}
 use Rattle.definitions.specs.declared.CaseSize.{CaseSize}
 use Rattle.definitions.specs.declared.Refusal.{Refusal}
 use Rattle.definitions.specs.declared.Refusal.the-variants.{WrongLength, CutShort}
-use Rattle.definitions.specs.Rules.{rulesIn}
+use Rattle.definitions.specs.Rules.{rulesIn, fullLength}
 use Rattle.definitions.specs.Refusals.{firstOf}
 use Rattle.definitions.specs.Lines.{notDue}
 use Rattle.definitions.specs.Case.{lentLength}
 use Rattle.definitions.specs.CaseFiles.{CaseCall, Reading, caseOf, headed, headTests, headRefusal, isCut, firstLine, afterFirst, dues, readDues, caseRefused}
-use Rattle.definitions.specs.CaseFiles.{caseTaken, readCase, caseSize}
-use Rattle.theory.proofs.Validity.{none-applies}
+use Rattle.definitions.specs.CaseFiles.{caseTaken, readLines, caseSize}
+use Rattle.theory.proofs.Validity.{none-applies, own-lent}
 use Rattle.case_lines.specs.declared.Sizes.{Sizes}
 use Rattle.case_lines.specs.Dues.{SizesLimited, placesOf}
 use Rattle.casefile.specs.Steps.{readingOf, leftFrom, noEnds, callWith}
@@ -52,22 +52,22 @@ handed-same e (p, q) = (p ∙ sym (ap (λ c. c .read) e), q ∙ sym (ap (λ c. c
 
 -- ---- by the refusal of the head, and the case that it names
 
-sizeBy : Option Refusal → Case → CaseSize
-sizeBy o c = elim o [
-  | none ↦ CaseSize.Size (c .n) (c .d) (c .m) (lentLength c)
+sizeBy : Rulebook → Option Refusal → Case → CaseSize
+sizeBy b o c = elim o [
+  | none ↦ CaseSize.Size (c .n) (c .d) (c .m) (lentLength (rulesIn b) c)
   | some x ↦ CaseSize.Refused x
 ]
 
-size-none : (o : Option Refusal) (c : Case) {n d m long : ℕ} → sizeBy o c ≡ CaseSize.Size n d m long → (o ≡ none) × (c .n ≡ n) × (c .d ≡ d) × (c .m ≡ m)
-    × (lentLength c ≡ long)
+size-none : (b : Rulebook) (o : Option Refusal) (c : Case) {n d m long : ℕ} → sizeBy b o c ≡ CaseSize.Size n d m long
+    → (o ≡ none) × (c .n ≡ n) × (c .d ≡ d) × (c .m ≡ m) × (lentLength (rulesIn b) c ≡ long)
 unfolding sizeBy
-size-none none c e = (refl, (cc), (cc), (cc), (cc))
-size-none (some x) c e = ((cc), (cc), (cc), (cc), (cc))
+size-none b none c e = (refl, (cc), (cc), (cc), (cc))
+size-none b (some x) c e = ((cc), (cc), (cc), (cc), (cc))
 
-size-some : (o : Option Refusal) (c : Case) {x : Refusal} → sizeBy o c ≡ CaseSize.Refused x → o ≡ some x
+size-some : (b : Rulebook) (o : Option Refusal) (c : Case) {x : Refusal} → sizeBy b o c ≡ CaseSize.Refused x → o ≡ some x
 unfolding sizeBy
-size-some none c e = cc
-size-some (some y) c e = cc
+size-some b none c e = cc
+size-some b (some y) c e = cc
 
 headed-is : (b : Rulebook) (o : Option Line) → headed b o ≡ caseOf b (headed b o .n) (headed b o .d) (headed b o .m)
 headed-is b none = refl
@@ -77,48 +77,45 @@ module _ (b : Rulebook) (t : List ℕ) (w : List ℤ) where
   caseBy : Option Refusal → Case → CaseCall
   caseBy o c = elim o [
     | none ↦
-        if eqb (length w) (lentLength c)
+        if eqb (length w) (lentLength (rulesIn b) c)
         then readDues b (record { case = c; table = w }) 1 (dues c) (afterFirst (rulesIn b) t)
         else caseRefused b WrongLength 0 w
     | some x ↦ caseRefused b x 0 w
   ]
 
-  case-is : readCase b t w ≡ caseBy (headRefusal (rulesIn b) t) (headed b (firstLine (rulesIn b) t))
+  case-is : readLines b t w ≡ caseBy (headRefusal (rulesIn b) t) (headed b (firstLine (rulesIn b) t))
   unfolding caseBy
   case-is = refl
 
-  size-is : caseSize b t ≡ sizeBy (headRefusal (rulesIn b) t) (headed b (firstLine (rulesIn b) t))
+  size-is : caseSize b t ≡ sizeBy b (headRefusal (rulesIn b) t) (headed b (firstLine (rulesIn b) t))
   unfolding sizeBy
   size-is = refl
 
-  pub case-refused : {x : Refusal} → caseSize b t ≡ CaseSize.Refused x → readCase b t w ≡ caseRefused b x 0 w
+  pub case-refused : {x : Refusal} → caseSize b t ≡ CaseSize.Refused x → readLines b t w ≡ caseRefused b x 0 w
   unfolding caseBy
   case-refused {x} e =
-      let o : headRefusal (rulesIn b) t ≡ some x = size-some (headRefusal (rulesIn b) t) (headed b (firstLine (rulesIn b) t)) (sym size-is ∙ e) in
+      let o : headRefusal (rulesIn b) t ≡ some x = size-some b (headRefusal (rulesIn b) t) (headed b (firstLine (rulesIn b) t)) (sym size-is ∙ e) in
       case-is ∙ ap (λ o. caseBy o (headed b (firstLine (rulesIn b) t))) o
 
   module _ (n d m : ℕ) {long : ℕ} (e : caseSize b t ≡ CaseSize.Size n d m long) where
     abbrev s : Sizes
     s = record { n = n; d = d; m = m; rulebook = b }
 
-    named : (headRefusal (rulesIn b) t ≡ none) × (headed b (firstLine (rulesIn b) t) ≡ caseOf b (s .n) (s .d) (s .m)) × (placesOf s ≡ long)
+    named : (headRefusal (rulesIn b) t ≡ none) × (headed b (firstLine (rulesIn b) t) ≡ caseOf b (s .n) (s .d) (s .m)) × (fullLength (rulesIn b) d ≡ long)
     named =
-        let (o, n, d, m, l) = size-none (headRefusal (rulesIn b) t) (headed b (firstLine (rulesIn b) t)) (sym size-is ∙ e) in
+        let (o, n, d, m, l) = size-none b (headRefusal (rulesIn b) t) (headed b (firstLine (rulesIn b) t)) (sym size-is ∙ e) in
         (o, headed-is b (firstLine (rulesIn b) t) ∙ cc, cc)
 
-    case-none : readCase b t w ≡ caseBy none (caseOf b (s .n) (s .d) (s .m))
+    case-none : readLines b t w ≡ caseBy none (caseOf b (s .n) (s .d) (s .m))
     case-none = case-is ∙ ap₂ caseBy (named .0) (named .1)
 
-    pub case-wrong : length w ≢ long → readCase b t w ≡ caseRefused b WrongLength 0 w
+    pub case-wrong : length w ≢ long → readLines b t w ≡ caseRefused b WrongLength 0 w
     unfolding caseBy
-    case-wrong h = case-none ∙ rw (ne-eqb (length w) (placesOf s) (λ q. h (q ∙ named .2)))
+    case-wrong h = case-none ∙ rw (ne-eqb (length w) (fullLength (rulesIn b) d) (λ q. h (q ∙ named .2)))
 
-    pub case-right : length w ≡ long → readCase b t w ≡ leftFrom s (readingOf s noEnds noEnds w) 0 t
+    pub case-right : length w ≡ long → readLines b t w ≡ leftFrom s (readingOf s noEnds noEnds w) 0 t
     unfolding caseBy
-    case-right h = case-none ∙ rw (eq-eqb (length w) (placesOf s) (h ∙ sym (named .2))) (sym (left-first s (readingOf s noEnds noEnds w) t))
-
-    pub case-length : length w ≡ long → length w ≡ placesOf s
-    case-length h = h ∙ sym (named .2)
+    case-right h = case-none ∙ rw (eq-eqb (length w) (fullLength (rulesIn b) d) (h ∙ sym (named .2))) (sym (left-first s (readingOf s noEnds noEnds w) t))
 
     refusal-parts : (short : Bool) (o : Option Refusal) → (if short then some CutShort else o) ≡ none → (short ≡ false) × (o ≡ none)
     refusal-parts true o p = ((cc), (cc))
@@ -147,6 +144,9 @@ module _ (b : Rulebook) (t : List ℕ) (w : List ℤ) where
             (omega (arith, ap (λ c. c .d) q, d .2))
             (omega (arith, ap (λ c. c .m) q, m .2))
 
+    pub case-length : length w ≡ long → placesOf s ≤ length w
+    case-length h = omega (arith, named .2, own-lent (rulesIn b) (caseOf b n d m) (sizes-limited .variables) (sizes-limited .edges))
+
 -- ---- a case that was read has all its lines
 
 module _ (b : Rulebook) (t : List ℕ) (w : List ℤ) {lines : ℕ} where
@@ -160,9 +160,9 @@ module _ (b : Rulebook) (t : List ℕ) (w : List ℤ) {lines : ℕ} where
       → caseBy b t w (if short then some CutShort else o) c .read .answer ≡ FileAnswer.Read lines → lines * bytesOfLine b ≤ length t
   unfolding caseBy
   whole-by true o d c e = let z : _≡_ {A = ℕ} 0 1 = cc in omega arith
-  whole-by false none d c e = whole-length (eqb (length w) (lentLength c)) c (nltb→le (length t) (bytesOfLine b) (false-is (isCut (rulesIn b) t) d)) e
+  whole-by false none d c e = whole-length (eqb (length w) (lentLength (rulesIn b) c)) c (nltb→le (length t) (bytesOfLine b) (false-is (isCut (rulesIn b) t) d)) e
   whole-by false (some x) d c e = let z : _≡_ {A = ℕ} 0 1 = cc in omega arith
 
-  pub read-whole : readCase b t w .read .answer ≡ FileAnswer.Read lines → lines * bytesOfLine b ≤ length t
+  pub read-whole : readLines b t w .read .answer ≡ FileAnswer.Read lines → lines * bytesOfLine b ≤ length t
   read-whole e = whole-by (isCut (rulesIn b) t) (firstOf (headTests (rulesIn b) (firstLine (rulesIn b) t))) refl (headed b (firstLine (rulesIn b) t))
       (sym (ap (λ c. c .read .answer) (case-is b t w)) ∙ e)

@@ -55,15 +55,15 @@ front b t = go (isCut (rulesIn b) t) (firstLine (rulesIn b) t) refl refl
 -- ---- the head
 
 module _ (b : Rulebook) (l : Line) where
-  pub head-kind : isOfKind (pos 10) true false l ≡ false → CaseSize.Refused NotDue ≡ headAnswer (firstOf (headTests (rulesIn b) (some l))) l
+  pub head-kind : isOfKind (pos 10) true false l ≡ false → CaseSize.Refused NotDue ≡ headAnswer b (firstOf (headTests (rulesIn b) (some l))) l
   head-kind h = rw (due-10 b l, h)
 
   pub head-limits : isOfKind (pos 10) true false l ≡ true → limitsZ b (l .a) (l .b) (l .c) ≡ false
-      → CaseSize.Refused OutsideLimits ≡ headAnswer (firstOf (headTests (rulesIn b) (some l))) l
+      → CaseSize.Refused OutsideLimits ≡ headAnswer b (firstOf (headTests (rulesIn b) (some l))) l
   head-limits h k = rw (due-10 b l, h, k)
 
   pub head-good : isOfKind (pos 10) true false l ≡ true → limitsZ b (l .a) (l .b) (l .c) ≡ true
-      → headAnswer none l ≡ headAnswer (firstOf (headTests (rulesIn b) (some l))) l
+      → headAnswer b none l ≡ headAnswer b (firstOf (headTests (rulesIn b) (some l))) l
   head-good h k = rw (due-10 b l, h, k)
 
 -- what limits say of the sizes
@@ -89,7 +89,7 @@ limits-few b n d m t =
 -- by whether the bytes are cut short, and the line
 headSize : Rulebook → Bool → Option Line → CaseSize
 headSize b short o = elim (if short then some CutShort else firstOf (headTests (rulesIn b) o)) [
-  | none ↦ CaseSize.Size (headed b o .n) (headed b o .d) (headed b o .m) (lentLength (headed b o))
+  | none ↦ CaseSize.Size (headed b o .n) (headed b o .d) (headed b o .m) (lentLength (rulesIn b) (headed b o))
   | some x ↦ CaseSize.Refused x
 ]
 
@@ -97,12 +97,12 @@ size-is : (b : Rulebook) (t : List ℕ) → headSize b (isCut (rulesIn b) t) (fi
 unfolding headSize
 size-is b t = refl
 
-size-some : (b : Rulebook) (l : Line) → headAnswer (firstOf (headTests (rulesIn b) (some l))) l ≡ headSize b false (some l)
+size-some : (b : Rulebook) (l : Line) → headAnswer b (firstOf (headTests (rulesIn b) (some l))) l ≡ headSize b false (some l)
 unfolding headSize
 size-some b l = go (firstOf (headTests (rulesIn b) (some l)))
   where
-    go : (o : Option Refusal) → headAnswer o l ≡ elim o [
-      | none ↦ CaseSize.Size (headed b (some l) .n) (headed b (some l) .d) (headed b (some l) .m) (lentLength (headed b (some l)))
+    go : (o : Option Refusal) → headAnswer b o l ≡ elim o [
+      | none ↦ CaseSize.Size (headed b (some l) .n) (headed b (some l) .d) (headed b (some l) .m) (lentLength (rulesIn b) (headed b (some l)))
       | some x ↦ CaseSize.Refused x
     ]
     go none = refl
@@ -115,7 +115,7 @@ head-refused b t (bad e f) p = (cc) ∙ ap₂ (headSize b) (sym e) (sym f) ∙ s
 head-refused b t (good e f) p = cc
 
 pub size-read : (b : Rulebook) (t : List ℕ) {f : LineRead} {l : Line} → Front b t f → f ≡ LineRead.Read l
-    → headAnswer (firstOf (headTests (rulesIn b) (some l))) l ≡ caseSize b t
+    → headAnswer b (firstOf (headTests (rulesIn b) (some l))) l ≡ caseSize b t
 size-read b t (cut e) p = cc
 size-read b t (bad e f) p = cc
 size-read b t {l} (good {l = k} e f) p =

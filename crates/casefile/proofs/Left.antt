@@ -22,7 +22,7 @@ use Rattle.definitions.specs.Refusals.{firstOf}
 use Rattle.definitions.specs.CaseFiles.{CaseDue, variable-weight, edge-ends, edge-weight, dueTests, took, Reading, CaseCall, caseRefused, caseTaken, isCut}
 use Rattle.definitions.specs.CaseFiles.{firstLine, readDues}
 use Rattle.case_lines.specs.declared.Sizes.{Sizes}
-use Rattle.case_lines.specs.Dues.{dueAt, linesDue, placesOf}
+use Rattle.case_lines.specs.Dues.{dueAt, linesDue}
 use Rattle.casefile.specs.Steps.{readingOf, dueRefusal, SteppedAt, leftFrom}
 use Rattle.tables.proofs.Order.{outcome-done, outcome-refused}
 use Rattle.casefile.proofs.Taken.{kept, table-changed, ends-whole}
@@ -101,10 +101,10 @@ module _ (s : Sizes) (lower upper : List ℕ) (w : List ℤ) (q : ℕ) (t : List
   abbrev refusal : Option Refusal
   refusal = dueRefusal (s .rulebook) (readingOf s lower upper w) (dueAt s q) (drop (bytesOfLine (s .rulebook) * (q + 1)) t)
 
-  pub line-taken : r ≡ Outcome.Done → length w ≡ placesOf s → bytesOfLine (s .rulebook) * (q + 1) ≤ length t
-      → (bytesOfLine (s .rulebook) * (q + 1 + 1) ≤ length t) × (length (g .table) ≡ placesOf s)
+  pub line-taken : r ≡ Outcome.Done → bytesOfLine (s .rulebook) * (q + 1) ≤ length t
+      → (bytesOfLine (s .rulebook) * (q + 1 + 1) ≤ length t) × (length (g .table) ≡ length w)
       × (leftFrom s (readingOf s lower upper w) q t ≡ leftFrom s g (q + 1) t)
-  line-taken e n m =
+  line-taken e m =
       let d : refusal ≡ none = outcome-done (sym e ∙ step .answer) in
       let u : g ≡ took (readingOf s lower upper w) (dueAt s q) (firstLine (rulesIn (s .rulebook)) (drop (bytesOfLine (s .rulebook) * (q + 1)) t)) = step .left
       ∙ sym (table-changed refusal (took (readingOf s lower upper w) (dueAt s q)
@@ -116,7 +116,7 @@ module _ (s : Sizes) (lower upper : List ℕ) (w : List ℤ) (q : ℕ) (t : List
               (bytesOfLine (s .rulebook) * (q + 1)) t,
         ),
         ap (λ g. length (g .table)) u ∙ took-length (readingOf s lower upper w) (dueAt s q)
-            (firstLine (rulesIn (s .rulebook)) (drop (bytesOfLine (s .rulebook) * (q + 1)) t)) ∙ n,
+            (firstLine (rulesIn (s .rulebook)) (drop (bytesOfLine (s .rulebook) * (q + 1)) t)),
         left-taken s (readingOf s lower upper w) q t h d u,
       )
 

@@ -6,3 +6,4 @@ pub mod Taken
 pub mod Left
 pub mod Cases
 pub mod Alone
+pub mod Zeroing

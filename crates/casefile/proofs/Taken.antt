@@ -111,7 +111,7 @@ module _ (s : Sizes) (lower upper : List ℕ) (w : List ℤ) (l : Line) where
   unfolding lineRefusal
   ends-barred o e = rw (not-ends (s .rulebook) l o)
 
-  module _ (long : length w ≡ placesOf s) where
+  module _ (long : placesOf s ≤ length w) where
     variable-tests : bars l ≡ false → (i k : ℕ) → i < s .n
         → refused (variable-weight i k) ≡ firstOf (plainTests (s .rulebook) (isOfKind (pos 11) false true l) i k 0 l)
     unfolding lineRefusal
@@ -176,7 +176,7 @@ module _ (s : Sizes) (lower upper : List ℕ) (w : List ℤ) (l : Line) {r : Out
   edge-store e k j {o = o} g t (p, q) = by-table o p (edge-weight e k j) t q
       (ap₂ (λ a z. readingOf s lower upper (set w a z)) (sym (place-edge (caseWith s lower upper) e k j)) (sym g))
 
-  module _ (long : length w ≡ placesOf s) (e : bars l ≡ false) where
+  module _ (long : placesOf s ≤ length w) (e : bars l ≡ false) where
     pub variable-step : (i k : ℕ) {v : List ℤ} → i < s .n → let o = firstOf (plainTests (s .rulebook) (isOfKind (pos 11) false true l) i k 0 l) in
         (r ≡ outcomeOf o) × (v ≡ unlessRefused o (set w (i * s .d + k) (l .amount)) w)
         → Stepped s lower upper w l (variable-weight i k) r (readingOf s lower upper v)
@@ -187,7 +187,7 @@ module _ (s : Sizes) (lower upper : List ℕ) (w : List ℤ) (l : Line) {r : Out
         → Stepped s lower upper w l (edge-weight y k j) r (readingOf s lower upper v)
     edge-step y k j h = edge-store y k j (rw e) (edge-tests s lower upper w l long e y k j h)
 
-  module _ (long : length w ≡ placesOf s) (e : bars l ≡ true) where
+  module _ (long : placesOf s ≤ length w) (e : bars l ≡ true) where
     pub variable-bar-step : (i k : ℕ) {v : List ℤ} → i < s .n → let o = firstOf (barTests (isOfKind (pos 14) false false l) (variableOthers s w i k) i k 0 l) in
         (r ≡ outcomeOf o) × (v ≡ unlessRefused o (set w (i * s .d + k) barredWeight) w)
         → Stepped s lower upper w l (variable-weight i k) r (readingOf s lower upper v)

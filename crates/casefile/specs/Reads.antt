@@ -3,7 +3,7 @@ use mathlib.Core.Path.{_≡_}
 use mathlib.Core.Bool.{Bool, false, _&&_}
 use mathlib.Core.Option.{Option, none, some}
 use mathlib.Core.List.{List}
-use Prim.Native.Nat.{ℕ, _+_, _*_, _≤_}
+use Prim.Native.Nat.{ℕ, _≤_}
 use lib.IntN.{ℤ, pos, natAbs}
 use lib.Signed.{ltZ}
 use lib.ListN.{take}
@@ -14,7 +14,7 @@ use Rattle.definitions.specs.declared.LineRead.{LineRead}
 use Rattle.definitions.specs.declared.CaseSize.{CaseSize}
 use Rattle.definitions.specs.declared.Refusal.{Refusal}
 use Rattle.definitions.specs.declared.Refusal.the-variants.{CutShort}
-use Rattle.definitions.specs.Rules.{rulesIn}
+use Rattle.definitions.specs.Rules.{rulesIn, fullLength}
 use Rattle.definitions.specs.Lines.{zeroUnless}
 use Rattle.case_lines.specs.Dues.{bytesOfLine}
 use Rattle.definitions.specs.CaseFiles.{isCut}
@@ -35,10 +35,6 @@ abbrev pub Few : ℕ → ℤ → Type 0
 Few most z = (ltZ z (pos 0) ≡ false) × (natAbs z ≤ most)
 
 -- the sizes in a head that is not refused
-abbrev pub headAnswer : Option Refusal → Line → CaseSize
-headAnswer none l =
-    let n = natAbs (l .a) in
-    let d = natAbs (l .b) in
-    let m = natAbs (l .c) in
-    CaseSize.Size n d m (n * d + m * (d * d))
-headAnswer (some x) l = CaseSize.Refused x
+abbrev pub headAnswer : Rulebook → Option Refusal → Line → CaseSize
+headAnswer b none l = CaseSize.Size (natAbs (l .a)) (natAbs (l .b)) (natAbs (l .c)) (fullLength (rulesIn b) (natAbs (l .b)))
+headAnswer b (some x) l = CaseSize.Refused x

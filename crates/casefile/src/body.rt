@@ -37,7 +37,7 @@ pub(crate) fn line_at(rulebook: Rulebook, bytes: &[u8], from: usize) -> LineRead
 // Takes a line that bars, where `due` is due.
 fn take_bar(line: Line, sizes: Sizes, due: Awaited, table: &mut [i64]) -> Outcome
     requires { ⌜ SizesLimited sizes × InCase sizes due ⌝ }
-    requires { ⌜ length (now table) ≡ placesOf sizes ⌝ }
+    requires { ⌜ placesOf sizes ≤ length (now table) ⌝ }
     requires { ⌜ bars line ≡ true ⌝ }
     ensures { λ r. ⌜ ((lower upper : List ℕ) → Stepped sizes lower upper (now (table .entry)) line (dueAwaited due) r
         (readingOf sizes lower upper (now (table .exit)))) ⌝ }
@@ -79,7 +79,7 @@ fn take_plain(
     table: &mut [i64],
 ) -> Outcome
     requires { ⌜ SizesLimited sizes × InCase sizes due ⌝ }
-    requires { ⌜ length (now table) ≡ placesOf sizes ⌝ }
+    requires { ⌜ placesOf sizes ≤ length (now table) ⌝ }
     requires { ⌜ bars line ≡ false ⌝ }
     ensures { λ r. ⌜ Stepped sizes (now (lower .entry)) (now (upper .entry)) (now (table .entry)) line (dueAwaited due) r
         (readingOf sizes (now (lower .exit)) (now (upper .exit)) (now (table .exit))) ⌝ }
@@ -120,7 +120,7 @@ fn take(
     table: &mut [i64],
 ) -> Outcome
     requires { ⌜ SizesLimited sizes × InCase sizes due ⌝ }
-    requires { ⌜ length (now table) ≡ placesOf sizes ⌝ }
+    requires { ⌜ placesOf sizes ≤ length (now table) ⌝ }
     ensures { λ r. ⌜ Stepped sizes (now (lower .entry)) (now (upper .entry)) (now (table .entry)) line (dueAwaited due) r
         (readingOf sizes (now (lower .exit)) (now (upper .exit)) (now (table .exit))) ⌝ }
 {
@@ -141,7 +141,7 @@ fn take_at(
 ) -> Outcome
     requires { ⌜ SizesLimited sizes ⌝ }
     requires { ⌜ (q < linesDue sizes) × (bytesOfLine (sizes .rulebook) * (q + 1) ≤ length (now bytes)) × InCase sizes due ⌝ }
-    requires { ⌜ length (now table) ≡ placesOf sizes ⌝ }
+    requires { ⌜ placesOf sizes ≤ length (now table) ⌝ }
     ensures { λ r. ⌜ SteppedAt sizes (now (lower .entry)) (now (upper .entry)) (now (table .entry))
         (drop (bytesOfLine (sizes .rulebook) * (q + 1)) (now (bytes .entry))) (dueAwaited due) r
         (readingOf sizes (now (lower .exit)) (now (upper .exit)) (now (table .exit))) ⌝ }
@@ -164,7 +164,7 @@ pub(crate) fn read_lines(
 ) -> FileAnswer
     requires { ⌜ SizesLimited sizes ⌝ }
     requires { ⌜ bytesOfLine (sizes .rulebook) ≤ length (now bytes) ⌝ }
-    requires { ⌜ length (now table) ≡ placesOf sizes ⌝ }
+    requires { ⌜ placesOf sizes ≤ length (now table) ⌝ }
     ensures { λ r. ⌜ callWith (sizes .rulebook) r (readingOf sizes (now (lower .exit)) (now (upper .exit)) (now (table .exit))) ≡ leftFrom sizes
         (readingOf sizes (now (lower .entry)) (now (upper .entry)) (now (table .entry))) 0 (now (bytes .entry)) ⌝ }
 {

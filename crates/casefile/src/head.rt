@@ -9,7 +9,7 @@ ghost use mathlib.Core.Option.{none, some};
 ghost use Prim.Native.Nat.{_+_, _*_, _≤_, _<_};
 ghost use lib.IntN.{pos};
 ghost use Rattle.integers.specs.Words.{withinZ};
-ghost use Rattle.definitions.specs.Rules.{rulesIn, edgePlaces};
+ghost use Rattle.definitions.specs.Rules.{rulesIn, edgePlaces, fullLength};
 ghost use Rattle.definitions.specs.Refusals.{firstOf};
 ghost use Rattle.definitions.specs.CaseFiles.{headTests};
 ghost use Rattle.casefile.specs.Reads.{limitsZ, Few, headAnswer};
@@ -29,31 +29,34 @@ fn head_limited(rulebook: Rulebook, line: Line) -> bool
         & in_limit(line.c, 0, rules::edges(rulebook))
 }
 
-fn sized(n: usize, d: usize, m: usize) -> CaseSize
+// The places of n variables and m edges with d values.
+pub(crate) fn places(n: usize, d: usize, m: usize) -> usize
     requires { ⌜ (n ≤ 256) × (d ≤ 8) × (m ≤ edgePlaces) ⌝ }
-    ensures { λ r. ⌜ r ≡ CaseSize.Size n d m (n * d + m * (d * d)) ⌝ }
+    ensures { λ r. ⌜ r ≡ n * d + m * (d * d) ⌝ }
 {
-    CaseSize::Size {
-        n,
-        d,
-        m,
-        table: n * d + m * (d * d),
-    }
+    n * d + m * (d * d)
 }
 
-fn head_size(line: Line) -> CaseSize
-    requires { ⌜ Few 256 (line .a) × Few 8 (line .b) × Few edgePlaces (line .c) ⌝ }
-    ensures { λ r. ⌜ r ≡ headAnswer none line ⌝ }
+fn full_length(rulebook: Rulebook, d: usize) -> usize
+    requires { ⌜ d ≤ 8 ⌝ }
+    ensures { λ r. ⌜ r ≡ fullLength (rulesIn rulebook) d ⌝ }
 {
-    sized(
-        columns::count_of(line.a),
-        columns::count_of(line.b),
-        columns::count_of(line.c),
-    )
+    places(rules::variables(rulebook), d, rules::edges(rulebook))
+}
+
+fn head_size(rulebook: Rulebook, line: Line) -> CaseSize
+    requires { ⌜ Few 256 (line .a) × Few 8 (line .b) × Few edgePlaces (line .c) ⌝ }
+    ensures { λ r. ⌜ r ≡ headAnswer rulebook none line ⌝ }
+{
+    let n = columns::count_of(line.a);
+    let d = columns::count_of(line.b);
+    let m = columns::count_of(line.c);
+    let table = full_length(rulebook, d);
+    CaseSize::Size { n, d, m, table }
 }
 
 pub(crate) fn head_answer(rulebook: Rulebook, line: Line) -> CaseSize
-    ensures { λ r. ⌜ r ≡ headAnswer (firstOf (headTests (rulesIn rulebook) (some line))) line ⌝ }
+    ensures { λ r. ⌜ r ≡ headAnswer rulebook (firstOf (headTests (rulesIn rulebook) (some line))) line ⌝ }
 {
     if !columns::is_of_kind(line, 10, true, false) {
         return CaseSize::Refused(Refusal::NotDue);
@@ -61,5 +64,5 @@ pub(crate) fn head_answer(rulebook: Rulebook, line: Line) -> CaseSize
     if !head_limited(rulebook, line) {
         return CaseSize::Refused(Refusal::OutsideLimits);
     }
-    head_size(line)
+    head_size(rulebook, line)
 }

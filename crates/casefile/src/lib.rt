@@ -1,8 +1,9 @@
-// Case files read into a lent table (document 01, "Lines").
+// Case files read into a lent table (document 01, "Lines"), with 0 past the places of the case (document 02, change 5).
 mod body;
 mod columns;
 mod edges;
 mod head;
+mod past;
 mod weights;
 
 use case_lines::Sizes;
@@ -23,7 +24,7 @@ ghost use lib.ListN.{length, drop};
 ghost use Rattle.definitions.specs.declared.Rulebook.the-variants.{Desk};
 ghost use Rattle.definitions.specs.Rules.{rulesIn};
 ghost use Rattle.definitions.specs.Answers.{outcomeOf};
-ghost use Rattle.definitions.specs.CaseFiles.{caseSize, caseRefused, caseTaken, readCase, readCaseAlone, restRefusal};
+ghost use Rattle.definitions.specs.CaseFiles.{caseSize, caseRefused, caseTaken, readLines, readCase, readLinesAlone, readCaseAlone, restRefusal};
 ghost use Rattle.case_lines.specs.Dues.{bytesOfLine, SizesLimited, placesOf};
 ghost use Rattle.casefile.specs.Steps.{readingOf, leftFrom, noEnds};
 
@@ -41,6 +42,7 @@ fn file_refused(rulebook: Rulebook, refusal: Refusal, line: usize) -> CaseRead
         m: 0,
         lower,
         upper,
+        carry: 0,
         rulebook,
     };
     CaseRead { answer, case }
@@ -62,6 +64,7 @@ fn file_accepted(
         m: sizes.m,
         lower,
         upper,
+        carry: 0,
         rulebook,
     };
     CaseRead { answer, case }
@@ -70,7 +73,7 @@ fn file_accepted(
 fn read_body(bytes: &[u8], sizes: Sizes, table: &mut [i64]) -> CaseRead
     requires { ⌜ SizesLimited sizes ⌝ }
     requires { ⌜ bytesOfLine (sizes .rulebook) ≤ length (now bytes) ⌝ }
-    requires { ⌜ length (now table) ≡ placesOf sizes ⌝ }
+    requires { ⌜ placesOf sizes ≤ length (now table) ⌝ }
     ensures { λ r. ⌜ (r ≡ leftFrom sizes (readingOf sizes noEnds noEnds (now (table .entry))) 0 (now (bytes .entry)) .read)
         × (now (table .exit) ≡ leftFrom sizes (readingOf sizes noEnds noEnds (now (table .entry))) 0 (now (bytes .entry)) .table) ⌝ }
 {
@@ -113,9 +116,10 @@ fn case_size_in(rulebook: Rulebook, bytes: &[u8]) -> CaseSize
     }
 }
 
-fn read_case_in(rulebook: Rulebook, bytes: &[u8], table: &mut [i64]) -> CaseRead
-    ensures { λ r. ⌜ (r ≡ readCase rulebook (now (bytes .entry)) (now (table .entry)) .read)
-        × (now (table .exit) ≡ readCase rulebook (now (bytes .entry)) (now (table .entry)) .table) ⌝ }
+// The table past the places of the case is left.
+fn read_lines_in(rulebook: Rulebook, bytes: &[u8], table: &mut [i64]) -> CaseRead
+    ensures { λ r. ⌜ (r ≡ readLines rulebook (now (bytes .entry)) (now (table .entry)) .read)
+        × (now (table .exit) ≡ readLines rulebook (now (bytes .entry)) (now (table .entry)) .table) ⌝ }
 {
     let size = case_size_in(rulebook, bytes);
     match size {
@@ -135,11 +139,11 @@ fn read_case_in(rulebook: Rulebook, bytes: &[u8], table: &mut [i64]) -> CaseRead
     }
 }
 
-fn read_case_alone_in(rulebook: Rulebook, bytes: &[u8], table: &mut [i64]) -> CaseRead
-    ensures { λ r. ⌜ (r ≡ readCaseAlone rulebook (now (bytes .entry)) (now (table .entry)) .read)
-        × (now (table .exit) ≡ readCaseAlone rulebook (now (bytes .entry)) (now (table .entry)) .table) ⌝ }
+fn read_lines_alone_in(rulebook: Rulebook, bytes: &[u8], table: &mut [i64]) -> CaseRead
+    ensures { λ r. ⌜ (r ≡ readLinesAlone rulebook (now (bytes .entry)) (now (table .entry)) .read)
+        × (now (table .exit) ≡ readLinesAlone rulebook (now (bytes .entry)) (now (table .entry)) .table) ⌝ }
 {
-    let read = read_case_in(rulebook, bytes, table);
+    let read = read_lines_in(rulebook, bytes, table);
     let answer = read.answer;
     match answer {
         FileAnswer::Refused {
@@ -154,6 +158,24 @@ fn read_case_alone_in(rulebook: Rulebook, bytes: &[u8], table: &mut [i64]) -> Ca
             }
         }
     }
+}
+
+fn read_case_in(rulebook: Rulebook, bytes: &[u8], table: &mut [i64]) -> CaseRead
+    ensures { λ r. ⌜ (r ≡ readCase rulebook (now (bytes .entry)) (now (table .entry)) .read)
+        × (now (table .exit) ≡ readCase rulebook (now (bytes .entry)) (now (table .entry)) .table) ⌝ }
+{
+    let read = read_lines_in(rulebook, bytes, table);
+    past::zero_past(read, table);
+    read
+}
+
+fn read_case_alone_in(rulebook: Rulebook, bytes: &[u8], table: &mut [i64]) -> CaseRead
+    ensures { λ r. ⌜ (r ≡ readCaseAlone rulebook (now (bytes .entry)) (now (table .entry)) .read)
+        × (now (table .exit) ≡ readCaseAlone rulebook (now (bytes .entry)) (now (table .entry)) .table) ⌝ }
+{
+    let read = read_lines_alone_in(rulebook, bytes, table);
+    past::zero_past(read, table);
+    read
 }
 
 // ---- the standard calls

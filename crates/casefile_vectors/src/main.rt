@@ -4,6 +4,8 @@
 // was read alone is written again.
 // Kind 1: a case of a links, one value and b pairs is written to c dots, with weights 1, 2, 3, 4 and one more; the bytes are a line with
 // the ends of pair 0, the ends of pair 1 and that weight.
+// Kind 2: a case of three links in a row is written to c dots, from a table of a places with weights 1, 2, 3, 4 and 5; the bytes are a line
+// with 0, a place, what it is to hold, 0 and the carry.
 // After them the largest case goes there and back. The file `stdout` was worked out from documents 01 and 02; on files whose table has the
 // right length the peer gives the same number and line.
 use definitions::Case;
@@ -18,9 +20,33 @@ ghost use Prim.Native.Nat.{_<_};
 
 // ---- what is printed
 
+// Where the numbers at the end that are all z begin.
+fn run_from(table: &[i64], z: i64) -> usize {
+    let mut from: usize = table.len();
+    while 0 < from {
+        if table[from - 1] != z {
+            return from;
+        }
+        from -= 1;
+    }
+    from
+}
+
+// The table, of which equal numbers at the end are counted.
 fn print_weights(table: &[i64]) {
+    let n = table.len();
     drivers::print(b":");
-    drivers::print_numbers(table);
+    if 0 < n {
+        let z = table[n - 1];
+        let from = run_from(table, z);
+        if from <= n {
+            drivers::print_numbers(&table[0..from]);
+            drivers::print(b" and");
+            drivers::print_count((n - from) as u64);
+            drivers::print(b" of");
+            drivers::print_number(z);
+        }
+    }
     drivers::print(b"\n");
 }
 
@@ -110,10 +136,10 @@ fn alone(bytes: &[u8], table: &mut [i64]) {
 
 fn read(bytes: &[u8], places: usize) {
     size(bytes);
-    if places <= 20 {
-        let mut one = [7i64; 20];
+    if places <= 480 {
+        let mut one = [7i64; 480];
         front(bytes, &mut one[0..places]);
-        let mut other = [7i64; 20];
+        let mut other = [7i64; 480];
         alone(bytes, &mut other[0..places]);
     }
 }
@@ -128,7 +154,8 @@ fn byte(z: i64) -> u8 {
     drivers::byte(count(z))
 }
 
-fn two(n: usize, m: usize, line: Line) -> Case {
+// The case with the ends of two pairs in the line.
+fn two(n: usize, m: usize, line: Line, carry: i64) -> Case {
     let mut lower = [0u8; EDGE_PLACES];
     let mut upper = [0u8; EDGE_PLACES];
     lower[0] = byte(line.kind);
@@ -141,16 +168,54 @@ fn two(n: usize, m: usize, line: Line) -> Case {
         m: m,
         lower: lower,
         upper: upper,
+        carry: carry,
         rulebook: Rulebook::Desk,
     }
 }
 
-fn put(n: usize, m: usize, line: Line, room: usize) {
-    let table = [1, 2, 3, 4, line.amount];
+fn put(case: Case, table: &[i64], room: usize) {
     if room <= 500 {
         let mut out = [46u8; 500];
         drivers::print(b" ");
-        write(two(n, m, line), &table, &mut out[0..room]);
+        write(case, table, &mut out[0..room]);
+    }
+}
+
+// Weights 1, 2, 3, 4 and z, and 0 past them.
+fn five(z: i64) -> [i64; 145] {
+    let mut table = [0i64; 145];
+    table[0] = 1;
+    table[1] = 2;
+    table[2] = 3;
+    table[3] = 4;
+    table[4] = z;
+    table
+}
+
+fn put_two(n: usize, m: usize, line: Line, room: usize) {
+    let table = five(line.amount);
+    put(two(n, m, line, 0), &table[0..144], room);
+}
+
+fn holding(table: [i64; 145], at: usize, held: i64) -> [i64; 145] {
+    let mut after = table;
+    if at < 145 {
+        after[at] = held;
+    }
+    after
+}
+
+fn put_past(places: usize, line: Line, room: usize) {
+    let table = holding(five(5), count(line.a), line.b);
+    let ends = Line {
+        kind: 0,
+        a: 1,
+        b: 1,
+        c: 2,
+        amount: 0,
+    };
+    if places <= 145 {
+        put(two(3, 2, ends, line.amount), &table[0..places], room);
     }
 }
 
@@ -159,9 +224,12 @@ fn put(n: usize, m: usize, line: Line, room: usize) {
 fn run(control: Line, bytes: &[u8]) {
     if control.kind == 0 {
         read(bytes, count(control.a));
-    } else {
+    } else if control.kind == 1 {
         let ends = drivers::line_of(bytes);
-        put(count(control.a), count(control.b), ends, count(control.c));
+        put_two(count(control.a), count(control.b), ends, count(control.c));
+    } else {
+        let given = drivers::line_of(bytes);
+        put_past(count(control.a), given, count(control.c));
     }
 }
 
@@ -230,6 +298,7 @@ fn full() -> Case {
         m: 96,
         lower: lower,
         upper: upper,
+        carry: 0,
         rulebook: Rulebook::Desk,
     }
 }

@@ -122,10 +122,10 @@ module _ (c : Case) (w best : List ℤ) (m : Change) (wrong out : Bool) where
   kept-limits-refused e = (rw e, rw e, rw e)
 
   module _ (e : withinLimits (rulesOf c) (c .n) (c .d) (c .m) ≡ true) where
-    pub wrong-length : (not (eqb (length w) (lentLength c)) || wrong) ≡ true → Gives call (Outcome.Refused WrongLength) w best
+    pub wrong-length : (not (eqb (length w) (lentLength (rulesOf c) c)) || wrong) ≡ true → Gives call (Outcome.Refused WrongLength) w best
     wrong-length d = (rw (e, d), rw (e, d), rw (e, d))
 
-    module _ (d : (not (eqb (length w) (lentLength c)) || wrong) ≡ false) where
+    module _ (d : (not (eqb (length w) (lentLength (rulesOf c) c)) || wrong) ≡ false) where
       pub out-of-range : out ≡ true → Gives call (Outcome.Refused OutOfRange) w best
       out-of-range f = (rw (e, d, f), rw (e, d, f), rw (e, d, f))
 
@@ -140,11 +140,11 @@ module _ (c : Case) (w best : List ℤ) (m : Change) (wrong out : Bool) where
       )
 
 -- lengths that are not wrong
-pub kept-lengths-right : (c : Case) (w best : List ℤ) → (not (eqb (length w) (lentLength c)) || ltb (length best) (scopeCount c)) ≡ false
-    → (length w ≡ lentLength c) × (scopeCount c ≤ length best)
+pub kept-lengths-right : (c : Case) (w best : List ℤ) → (not (eqb (length w) (lentLength (rulesOf c) c)) || ltb (length best) (scopeCount c)) ≡ false
+    → (length w ≡ lentLength (rulesOf c) c) × (scopeCount c ≤ length best)
 kept-lengths-right c w best e =
-    let (s, t) = not-or-iff (not (eqb (length w) (lentLength c))) (ltb (length best) (scopeCount c)) .0 (false-is _ e) in
-    (eqb→eq (length w) (lentLength c) (not-not-iff (eqb (length w) (lentLength c)) .0 s), nltb→le (length best) (scopeCount c) t)
+    let (s, t) = not-or-iff (not (eqb (length w) (lentLength (rulesOf c) c))) (ltb (length best) (scopeCount c)) .0 (false-is _ e) in
+    (eqb→eq (length w) (lentLength (rulesOf c) c) (not-not-iff (eqb (length w) (lentLength (rulesOf c) c)) .0 s), nltb→le (length best) (scopeCount c) t)
 
 pub or-left-three : (a b c : Bool) → (a || b) ≡ true → (a || (b || c)) ≡ true
 or-left-three true b c e = refl
@@ -196,7 +196,7 @@ module _ {c : Case} {w best : List ℤ} (h : Handed (rulesOf c) (workingWeight (
 
   pub left-to-ask : firstOf (keptTests (rulesOf c) c w m wrong out) ≡ leaves
   left-to-ask =
-      in-order c w best m wrong out (limits-true h) (rw (eq-eqb (length w) (lentLength c) (h .long), right)) inside
+      in-order c w best m wrong out (limits-true h) (rw (eq-eqb (length w) (lentLength (rulesOf c) c) (h .long), right)) inside
       ∙ ap (λ (b : Bool). firstOf (LeavesRange when b ∷ []))
       (leaves-is (rulesOf c) c w m (h .in-range) still ∙ ap (leavesRange (rulesOf c) c w) after)
 

@@ -22,7 +22,7 @@ use Rattle.definitions.specs.declared.Refusal.the-variants.{LeavesRange}
 use Rattle.definitions.specs.Rules.{Rules, rulesOf}
 use Rattle.definitions.specs.Refusals.{_when_, firstOf}
 use Rattle.definitions.specs.Answers.{outcomeOf, unlessRefused}
-use Rattle.definitions.specs.Case.{scopeCount, ownLength, lentLength, weight, greatest}
+use Rattle.definitions.specs.Case.{scopeCount, ownLength, weight, greatest}
 use Rattle.definitions.specs.Valid.{workingWeight}
 use Rattle.definitions.specs.Moves.{Difference, spared, plus, onlyWhere, pressBy, pressAmount, leavesRange}
 use Rattle.calls.specs.Calls.{isRaised}
@@ -72,7 +72,7 @@ rest-split false true a = refl
 rest-split false false a = refl
 
 -- a scope that is not touched stays
-module _ (c : Case) (w : List ℤ) (long : length w ≡ ownLength c) (i values x mark : ℕ) (a best : ℤ) (e : isTouched i x mark ≡ false) where
+module _ (c : Case) (w : List ℤ) (long : ownLength c ≤ length w) (i values x mark : ℕ) (a best : ℤ) (e : isTouched i x mark ≡ false) where
   pub untouched : plus c (scopeBy c w x (scopeGets i values a x mark best)) w ≡ w
   untouched =
       let (s, u) = not-or-iff (eqb x i) (not (eqb mark 0)) .0 (false-is (isTouched i x mark) e) in
@@ -122,7 +122,7 @@ module _ (c : Case) (w best : List ℤ) (raised : List ℕ) (i values : ℕ) (a 
   abbrev lets : ℕ → Bool
   lets x = scopeLets (rulesOf c) c w i values a x (getD raised x 0) (bestAt best x)
 
-  pub lets-is : length w ≡ ownLength c → loweringLets (rulesOf c) c w best raised i values a ≡ staysWorking (rulesOf c) c w m
+  pub lets-is : ownLength c ≤ length w → loweringLets (rulesOf c) c w best raised i values a ≡ staysWorking (rulesOf c) c w m
   lets-is long = same-test (loweringLets (rulesOf c) c w best raised i values a) (staysWorking (rulesOf c) c w m)
       (λ s. stays-iff (rulesOf c) c w m .1 (λ x k l t u.
       let p = imp-elim (isTouched i x (getD raised x 0)) _ (all-at lets (scopeCount c) s x (t .scope)) u in
@@ -133,7 +133,7 @@ module _ (c : Case) (w best : List ℤ) (raised : List ℕ) (i values : ℕ) (a 
       subst (λ (z : ℤ). T (staysWith (rulesOf c) (weight c w x k l) z)) (added-at x k l t) (stays-iff (rulesOf c) c w m .0 s x k l t u)))))
 
   -- ---- one scope after the other
-  pub lowering-none : length w ≡ ownLength c → plus c (upTo 0 δ) w ≡ w
+  pub lowering-none : ownLength c ≤ length w → plus c (upTo 0 δ) w ≡ w
   lowering-none long = plus-zero c (upTo 0 δ) w (omega arith) (λ y k l t. only-false (ltb y 0) (δ y k l) (le-ltb y 0 (omega arith)))
 
   pub lowering-all : plus c (upTo (scopeCount c) δ) w ≡ plus c δ w
@@ -184,7 +184,7 @@ pub record Lowered (c : Case) (w best : List ℤ) (raised : List ℕ) (i values 
       ≡ (if (eqb y i || isRaised raised y) then greatest c (tableAfter c w (loweringChange c w best raised i (isMarked values) a)) y else bestAt best y)
   pub due : (y : ℕ) → x ≤ y → bestAt kept y ≡ bestAt best y
 
-module _ (c : Case) (w best : List ℤ) (raised : List ℕ) (i values : ℕ) (a : ℤ) (variable : i < c .n) (long : length w ≡ lentLength c)
+module _ (c : Case) (w best : List ℤ) (raised : List ℕ) (i values : ℕ) (a : ℤ) (variable : i < c .n) (long : ownLength c ≤ length w)
     (room : scopeCount c ≤ length best) where
   abbrev added : Difference
   added = spared c w (loweringChange c w best raised i (isMarked values) a .adds)
@@ -209,8 +209,8 @@ module _ (c : Case) (w best : List ℤ) (raised : List ℕ) (i values : ℕ) (a 
   )
 
   module _ {t b : List ℤ} {x : ℕ} (p : Lowered c w best raised i values a x t b) where
-    pub lowered-long : length t ≡ lentLength c
-    lowered-long = ap length (p .table-is) ∙ plus-length c (upTo x added) w (omega arith) ∙ long
+    pub lowered-long : length t ≡ length w
+    lowered-long = ap length (p .table-is) ∙ plus-length c (upTo x added) w long
 
     module _ (h : x < scopeCount c) where
       pub lowered-lets : T (loweringLets (rulesOf c) c w best raised i values a)

@@ -181,7 +181,7 @@ module _ (c : Case) where
       let (q, r, y, z, g) = in-row (c .d) (c .d) i (rw (size-edge e) at u) in
       (q, r, edge-tuple c e q r h y z, omega (arith, place-edge c e q r, place-edge c e 0 0), place-in-edge e q r ∙ g))
 
-  module _ (w : List ℤ) (long : length w ≡ ownLength c) (x : ℕ) (h : x < scopeCount c) where
+  module _ (w : List ℤ) (long : ownLength c ≤ length w) (x : ℕ) (h : x < scopeCount c) where
     pub best-known : greatestOf (scopePart c w x) ≡ greatest c w x
     best-known = ap greatestOf (sym (scope-part c w (omega arith) x h))
 
@@ -258,7 +258,7 @@ module _ (c : Case) where
     pub same-greatest : greatest c (plus c δ w) x ≡ greatest c w x
     same-greatest = ap greatestOf (each-cong c x h same-weight)
 
-    pub same-part : length w ≡ ownLength c → scopePart c (plus c δ w) x ≡ scopePart c w x
+    pub same-part : ownLength c ≤ length w → scopePart c (plus c δ w) x ≡ scopePart c w x
     same-part long =
         let n : length (plus c δ w) ≡ length w = plus-length c δ w (omega arith) in
         sym (scope-part c (plus c δ w) (omega arith) x h) ∙ each-cong c x h same-weight ∙ scope-part c w (omega arith) x h

@@ -21,7 +21,7 @@ use Rattle.definitions.specs.declared.Refusal.the-variants.{LeavesRange}
 use Rattle.definitions.specs.Rules.{Rules, rulesOf}
 use Rattle.definitions.specs.Refusals.{_when_, firstOf}
 use Rattle.definitions.specs.Answers.{outcomeOf, unlessRefused}
-use Rattle.definitions.specs.Case.{scopeCount, lowerEnd, upperEnd, place, ownLength, lentLength, weight, greatest}
+use Rattle.definitions.specs.Case.{scopeCount, lowerEnd, upperEnd, place, ownLength, weight, greatest}
 use Rattle.definitions.specs.Valid.{workingWeight}
 use Rattle.definitions.specs.Moves.{spared, shift, moved, onlyWhere, endVariable, endValue, shiftBy, leavesRange}
 use Rattle.calls.specs.Calls.{shiftOut}
@@ -49,7 +49,7 @@ module _ (r : Rules) (c : Case) (w : List ℤ) (m : Change) (own start step : �
     (touched : (x k l : ℕ) → IsTuple c x k l → Touched c m own start step a x k l)
     (some : 0 < step)
     (apart : (j : ℕ) → j < c .d → start + j * step ≡ own → ⊥)
-    (long : length w ≡ ownLength c)
+    (long : ownLength c ≤ length w)
     (own-place-in : own < ownLength c)
     (used-in : (j : ℕ) → j < c .d → start + j * step < ownLength c) where
   first : List ℤ
@@ -266,8 +266,8 @@ module _ (c : Case) (e end v own start : ℕ) (edge : e < c .m) (value : v < c .
         used-at = λ j h. omega (arith, place-edge c e j v);
       }
 
--- ---- on any table of the case's length
-module _ (c : Case) (w : List ℤ) (long : length w ≡ lentLength c) (e end v own start step : ℕ) (a : ℤ)
+-- ---- on any table with the case's own places
+module _ (c : Case) (w : List ℤ) (long : ownLength c ≤ length w) (e end v own start step : ℕ) (a : ℤ)
     (edge : e < c .m) (value : v < c .d) (p : TransferPlaces c e end v own start step) where
   pub transfer-inside : Inside w own 1 1 × Inside w start step (c .d)
   transfer-inside = (

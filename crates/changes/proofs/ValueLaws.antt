@@ -54,11 +54,11 @@ values-of c w best i h =
 
 -- the call on arguments that are taken
 pub values-taken : (c : Case) (w best : List ℤ) (i : ℕ) → withinLimits (rulesOf c) (c .n) (c .d) (c .m) ≡ true
-    → (not (eqb (length w) (lentLength c)) || ltb (length best) (scopeCount c)) ≡ false → i < c .n
+    → (not (eqb (length w) (lentLength (rulesOf c) c)) || ltb (length best) (scopeCount c)) ≡ false → i < c .n
     → bestValues (rulesOf c) c w best i ≡ byteOf (λ k. ltb k (c .d) && isBest c w best i k 0)
 unfolding bestValues
 values-taken c w best i limits lens h =
-    let e : firstOf (limitTest (rulesOf c) c ∷ lengthTest c w (ltb (length best) (scopeCount c)) ∷ OutOfRange when (not (ltb i (c .n))) ∷ []) ≡ none =
+    let e : firstOf (limitTest (rulesOf c) c ∷ lengthTest (rulesOf c) c w (ltb (length best) (scopeCount c)) ∷ OutOfRange when (not (ltb i (c .n))) ∷ []) ≡ none =
     rw (limits, lens, lt-ltb i (c .n) h) in
     ap (λ o. unlessRefused o (byteOf (λ k. ltb k (c .d) && isBest c w best i k 0)) 0) e
 
@@ -66,7 +66,7 @@ values-taken c w best i limits lens h =
 module _ {c : Case} {w best : List ℤ} (h : Handed (rulesOf c) (workingWeight (rulesOf c)) c w) (b : BestOf c w best) (i : ℕ) (variable : i < c .n) where
   pub best-values-are : bestValues (rulesOf c) c w best i ≡ byteOf (λ k. ltb k (c .d) && isBest c w best i k 0)
   best-values-are =
-      values-taken c w best i (limits-true h) (rw (eq-eqb (length w) (lentLength c) (h .long), le-ltb (length best) (scopeCount c) (b .enough))) variable
+      values-taken c w best i (limits-true h) (rw (eq-eqb (length w) (lentLength (rulesOf c) c) (h .long), le-ltb (length best) (scopeCount c) (b .enough))) variable
 
   pub best-values-active : MarksOf c (activeValues c w i) (bestValues (rulesOf c) c w best i)
   best-values-active k u =

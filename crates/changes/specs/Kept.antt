@@ -105,7 +105,7 @@ module _ (r : Rules) where
   -- numbers 3, 4, 5 and 11
   abbrev pub keptTests : Case → List ℤ → Change → Bool → Bool → List Test
   keptTests c w m wrong out =
-      limitTest r c ∷ lengthTest c w wrong ∷ OutOfRange when out ∷ LeavesRange when (not (staysWorking r c w m)) ∷ []
+      limitTest r c ∷ lengthTest r c w wrong ∷ OutOfRange when out ∷ LeavesRange when (not (staysWorking r c w m)) ∷ []
 
   unfoldable pub transferCall : Case → List ℤ → List ℤ → ℕ → ℕ → ℕ → ℤ → KeptCall
   transferCall c w best e end v a =
@@ -121,7 +121,7 @@ module _ (r : Rules) where
   unfoldable pub bestValues : Case → List ℤ → List ℤ → ℕ → ℕ
   bestValues c w best i =
       unlessRefused
-      (firstOf (limitTest r c ∷ lengthTest c w (ltb (length best) (scopeCount c)) ∷ OutOfRange when (not (ltb i (c .n))) ∷ []))
+      (firstOf (limitTest r c ∷ lengthTest r c w (ltb (length best) (scopeCount c)) ∷ OutOfRange when (not (ltb i (c .n))) ∷ []))
       (byteOf (λ k. ltb k (c .d) && isBest c w best i k 0)) 0
 
   unfoldable pub lowerAndRaiseCall : Case → List ℤ → List ℤ → List ℕ → ℕ → ℕ → ℤ → KeptCall

@@ -12,7 +12,7 @@ use mir.Syntax.{w64}
 use mir.Val.{SFits}
 use Rattle.integers.specs.Words.{if_then_else_, _⇒_, below, all, minus, eqZ, withinZ}
 use Rattle.definitions.specs.declared.Case.{Case}
-use Rattle.definitions.specs.Rules.{Rules}
+use Rattle.definitions.specs.Rules.{Rules, rulesOf}
 use Rattle.definitions.specs.Case.{scopeCount, scopes, isVariable, lentLength, weight}
 use Rattle.definitions.specs.Moves.{Difference, onlyWhere}
 use Rattle.tables.specs.Scopes.{Limited, scopePart, bestAt}
@@ -59,7 +59,7 @@ partAfter by part = map (weightAfter by part) (below (length part))
 -- scope x of a table of the case's length
 pub record InScope (c : Case) (w : List ℤ) (x : ℕ) : Type 0 where
   pub limited : Limited c
-  pub long : length w ≡ lentLength c
+  pub long : length w ≡ lentLength (rulesOf c) c
   pub scope : x < scopeCount c
 
 -- the place of a tuple in its scope

@@ -140,7 +140,7 @@ fn transfer_checked(
     value: usize,
     amount: i64,
 ) -> Outcome
-    requires { ⌜ Limited case × (length (now table) ≡ lentLength case) ⌝ }
+    requires { ⌜ Limited case × (length (now table) ≡ lentLength (rulesOf case) case) ⌝ }
     requires { ⌜ (edge < case .m) × (end < 2) × (value < case .d) × (endVariable case edge end < case .n) ⌝ }
     requires { ⌜ T (amountWithin (rulesOf case) amount) ⌝ }
     ensures { λ r. ⌜ r ≡ (if staysWorking (rulesOf case) case (now (table .entry)) (transferChange case edge end value amount)
@@ -497,7 +497,7 @@ fn lowering_stays(
     values: u8,
     amount: i64,
 ) -> bool
-    requires { ⌜ Limited case × (length (now table) ≡ lentLength case) ⌝ }
+    requires { ⌜ Limited case × (length (now table) ≡ lentLength (rulesOf case) case) ⌝ }
     requires { ⌜ (scopeCount case ≤ length (now best)) × (scopeCount case ≤ length (now raised)) ⌝ }
     requires { ⌜ T (pressAmount (rulesOf case) amount) ⌝ }
     ensures { λ r. ⌜ r ≡ loweringLets (rulesOf case) case (now (table .entry)) (now (best .entry)) (now (raised .entry)) variable values amount ⌝ }
@@ -548,7 +548,7 @@ fn lower_scopes(
     values: u8,
     amount: i64,
 )
-    requires { ⌜ Limited case × (length (now table) ≡ lentLength case) ⌝ }
+    requires { ⌜ Limited case × (length (now table) ≡ lentLength (rulesOf case) case) ⌝ }
     requires { ⌜ (scopeCount case ≤ length (now best)) × (scopeCount case ≤ length (now raised)) ⌝ }
     requires { ⌜ (variable < case .n) × T (pressAmount (rulesOf case) amount) ⌝ }
     requires { ⌜ T (loweringLets (rulesOf case) case (now table) (now best) (now raised) variable values amount) ⌝ }
@@ -579,9 +579,9 @@ fn lower_scopes(
 
 fn lengths_wrong(case: Case, table: usize, best: usize) -> bool
     requires { ⌜ Limited case ⌝ }
-    ensures { λ r. ⌜ r ≡ (not (eqb table (lentLength case)) || ltb best (scopeCount case)) ⌝ }
+    ensures { λ r. ⌜ r ≡ (not (eqb table (lentLength (rulesOf case) case)) || ltb best (scopeCount case)) ⌝ }
 {
-    if table != case.n * case.d + case.m * (case.d * case.d) {
+    if !tables::is_sized(case, table) {
         return true;
     }
     best < case.n + case.m
@@ -597,7 +597,7 @@ fn transfer_kept(
     value: usize,
     amount: i64,
 ) -> Outcome
-    requires { ⌜ Limited case × (length (now table) ≡ lentLength case) × (scopeCount case ≤ length (now best)) ⌝ }
+    requires { ⌜ Limited case × (length (now table) ≡ lentLength (rulesOf case) case) × (scopeCount case ≤ length (now best)) ⌝ }
     requires { ⌜ (edge < case .m) × (end < 2) × (value < case .d) × (endVariable case edge end < case .n) ⌝ }
     requires { ⌜ T (amountWithin (rulesOf case) amount) ⌝ }
     ensures { λ r. ⌜ KeptBy (rulesOf case) case (now (table .entry)) (now (best .entry)) (transferChange case edge end value amount)
@@ -623,7 +623,7 @@ fn lowering_kept(
     values: u8,
     amount: i64,
 ) -> Outcome
-    requires { ⌜ Limited case × (length (now table) ≡ lentLength case) ⌝ }
+    requires { ⌜ Limited case × (length (now table) ≡ lentLength (rulesOf case) case) ⌝ }
     requires { ⌜ (scopeCount case ≤ length (now best)) × (scopeCount case ≤ length (now raised)) ⌝ }
     requires { ⌜ (variable < case .n) × T (pressAmount (rulesOf case) amount) ⌝ }
     ensures { λ r. ⌜ KeptBy (rulesOf case) case (now (table .entry)) (now (best .entry))

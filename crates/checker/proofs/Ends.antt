@@ -49,15 +49,15 @@ module _ (c : Case) (w : List ℤ) where
 -- ---- the end
 
 module _ (c : Case) (p : Replay) {out : Bool} {r : Outcome} (o : out ≡ recordOut (rulesOf c) c p)
-    (e : r ≡ outcomeOf (firstOf (limitTest (rulesOf c) c ∷ edgeTests c out))) where
+    (e : r ≡ outcomeOf (firstOf (limitTest (rulesOf c) c ∷ edgeTests (rulesOf c) c out))) where
   abbrev front : List Test
-  front = limitTest (rulesOf c) c ∷ edgeTests c (recordOut (rulesOf c) c p)
+  front = limitTest (rulesOf c) c ∷ edgeTests (rulesOf c) c (recordOut (rulesOf c) c p)
 
   abbrev cut : List Test
   cut = CutShort when (isShort (p .due) (p .moved)) ∷ []
 
   answered : r ≡ outcomeOf (firstOf front)
-  answered = e ∙ ap (λ (b : Bool). outcomeOf (firstOf (limitTest (rulesOf c) c ∷ edgeTests c b))) o
+  answered = e ∙ ap (λ (b : Bool). outcomeOf (firstOf (limitTest (rulesOf c) c ∷ edgeTests (rulesOf c) c b))) o
 
   pub end-stopped : {x : Refusal} → r ≡ Outcome.Refused x → Outcome.Refused x ≡ outcomeOf (firstOf (endingTests (rulesOf c) c p))
   end-stopped d = ap outcomeOf (sym (first-stops cut front (outcome-refused (sym d ∙ answered))))

@@ -1,7 +1,7 @@
 -- Numbers 2 to 8 and 15 of a line, and what is left of a step where none of them applies. Assumes nothing.
 use mathlib.Core.Path.{_≡_, refl, sym, ap, _∙_}
 use mathlib.Core.Logic.{_≢_}
-use mathlib.Core.Bool.{Bool, true, false, not, _||_}
+use mathlib.Core.Bool.{Bool, true, false, not, _&&_, _||_}
 use mathlib.Core.Option.{Option, none, some}
 use mathlib.Core.List.{List, [], _∷_}
 use Prim.Native.Nat.{ℕ}
@@ -20,8 +20,8 @@ use Rattle.definitions.specs.declared.Refusal.the-variants.{NotDue, OutsideLimi
 use Rattle.definitions.specs.declared.Refusal.the-variants.{WeightOutOfRange, ScopeBarred}
 use Rattle.definitions.specs.Rules.{Rules, rulesOf}
 use Rattle.definitions.specs.Refusals.{number, numberOf, _when_, firstOf}
-use Rattle.definitions.specs.Case.{scopes, lowerEnd, upperEnd, lentLength, whollyBarred}
-use Rattle.definitions.specs.Valid.{workingWeight, allWeights, withinLimits, someEdge, endOutside, sameEnds, handedOver}
+use Rattle.definitions.specs.Case.{scopes, lowerEnd, upperEnd, ownLength, lentLength, whollyBarred}
+use Rattle.definitions.specs.Valid.{workingWeight, allWeights, zerosFrom, carryOut, withinLimits, someEdge, endOutside, sameEnds, handedOver}
 use Rattle.definitions.specs.Lines.{notDue}
 use Rattle.theory.proofs.Validity.{Handed, handed}
 use Rattle.theory.proofs.Replays.{none-iff}
@@ -60,10 +60,10 @@ good-known c w p = go (p .standing) refl
         (h, d, o)
 
 -- numbers 3 to 8 and 15 by what each asks, and where 5 is asked of more
-abbrev numbers : Bool → Bool → Bool → Bool → Bool → Bool → Bool → Bool → Option Refusal
-numbers limits long out ends order again weights scopes =
+abbrev numbers : Bool → Bool → Bool → Bool → Bool → Bool → Bool → Bool → Bool → Option Refusal
+numbers limits long out carry ends order again weights scopes =
     firstOf (
-    OutsideLimits when limits ∷ WrongLength when long ∷ OutOfRange when (out || ends) ∷ EndsNotAscending when order
+    OutsideLimits when limits ∷ WrongLength when long ∷ OutOfRange when (out || carry || ends) ∷ EndsNotAscending when order
     ∷ EdgeRepeated when again ∷ WeightOutOfRange when weights ∷ ScopeBarred when scopes ∷ []
     )
 
@@ -71,26 +71,28 @@ module _ {x : Refusal} where
   never-some : (n : ℕ) (o : Option Refusal) → numberOf o ≡ n → o ≡ some x → number x ≢ n → ⊥
   never-some n o d e h = h (sym (ap numberOf e) ∙ d)
 
-  numbers-long : (a b o l e k s w z : Bool) → numbers a b o e k s w z ≡ some x → x ≡ WrongLength → numbers a b (o || l) e k s w z ≡ some x
-  numbers-long true b o l e k s w z d n = d
-  numbers-long false true o l e k s w z d n = d
-  numbers-long false false true l e k s w z d n = absurd (never-some 5 (some OutOfRange) refl d (λ m. let f = ap number n in omega arith))
-  numbers-long false false false l true k s w z d n = absurd (never-some 5 (some OutOfRange) refl d (λ m. let f = ap number n in omega arith))
-  numbers-long false false false l false true s w z d n = absurd (never-some 6 (some EndsNotAscending) refl d (λ m. let f = ap number n in omega arith))
-  numbers-long false false false l false false true w z d n = absurd (never-some 7 (some EdgeRepeated) refl d (λ m. let f = ap number n in omega arith))
-  numbers-long false false false l false false false true z d n = absurd (never-some 8 (some WeightOutOfRange) refl d (λ m. let f = ap number n in omega arith))
-  numbers-long false false false l false false false false true d n = absurd (never-some 15 (some ScopeBarred) refl d (λ m. let f = ap number n in omega arith))
-  numbers-long false false false l false false false false false d n = absurd (none-some d)
+  numbers-long : (a b o l y e k s w z : Bool) → numbers a b o y e k s w z ≡ some x → x ≡ WrongLength → numbers a b (o || l) y e k s w z ≡ some x
+  numbers-long true b o l y e k s w z d n = d
+  numbers-long false true o l y e k s w z d n = d
+  numbers-long false false true l y e k s w z d n = absurd (never-some 5 (some OutOfRange) refl d (λ m. let f = ap number n in omega arith))
+  numbers-long false false false l true e k s w z d n = absurd (never-some 5 (some OutOfRange) refl d (λ m. let f = ap number n in omega arith))
+  numbers-long false false false l false true k s w z d n = absurd (never-some 5 (some OutOfRange) refl d (λ m. let f = ap number n in omega arith))
+  numbers-long false false false l false false true s w z d n = absurd (never-some 6 (some EndsNotAscending) refl d (λ m. let f = ap number n in omega arith))
+  numbers-long false false false l false false false true w z d n = absurd (never-some 7 (some EdgeRepeated) refl d (λ m. let f = ap number n in omega arith))
+  numbers-long false false false l false false false false true z d n = absurd (never-some 8 (some WeightOutOfRange) refl d (λ m. let f = ap number n in omega arith))
+  numbers-long false false false l false false false false false true d n = absurd (never-some 15 (some ScopeBarred) refl d (λ m. let f = ap number n in omega arith))
+  numbers-long false false false l false false false false false false d n = absurd (none-some d)
 
-  numbers-out : (a b o e k s w z : Bool) → numbers a b o e k s w z ≡ some x → a ≡ false → x ≢ WrongLength → numbers a b (o || true) e k s w z ≡ some OutOfRange
-  numbers-out true b o e k s w z d f n = cc
-  numbers-out false true o e k s w z d f n = absurd (n (sym (some-inj d)))
-  numbers-out false false true e k s w z d f n = refl
-  numbers-out false false false e k s w z d f n = refl
+  numbers-out : (a b o y e k s w z : Bool) → numbers a b o y e k s w z ≡ some x → a ≡ false → x ≢ WrongLength
+      → numbers a b (o || true) y e k s w z ≡ some OutOfRange
+  numbers-out true b o y e k s w z d f n = cc
+  numbers-out false true o y e k s w z d f n = absurd (n (sym (some-inj d)))
+  numbers-out false false true y e k s w z d f n = refl
+  numbers-out false false false y e k s w z d f n = refl
 
-  numbers-in : (a b o e k s w z : Bool) → numbers a b o e k s w z ≡ some x → numbers a b (o || false) e k s w z ≡ some x
-  numbers-in a b true e k s w z d = d
-  numbers-in a b false e k s w z d = d
+  numbers-in : (a b o y e k s w z : Bool) → numbers a b o y e k s w z ≡ some x → numbers a b (o || false) y e k s w z ≡ some x
+  numbers-in a b true y e k s w z d = d
+  numbers-in a b false y e k s w z d = d
 
 module _ (c : Case) (w : List ℤ) (p : Replay) (t : Line) where
   abbrev asked : Asked
@@ -104,7 +106,10 @@ module _ (c : Case) (w : List ℤ) (p : Replay) (t : Line) where
   unlimited = not (withinLimits (rulesOf c) (c .n) (c .d) (c .m))
 
   abbrev unequal : Bool
-  unequal = not (eqb (length w) (lentLength c)) || false
+  unequal = not (eqb (length w) (lentLength (rulesOf c) c)) || false
+
+  abbrev carry : Bool
+  carry = carryOut (rulesOf c) c
 
   abbrev ends : Bool
   ends = someEdge c (endOutside c)
@@ -116,7 +121,7 @@ module _ (c : Case) (w : List ℤ) (p : Replay) (t : Line) where
   again = someEdge c (λ e. any (sameEnds c e) (below e))
 
   abbrev weights : Bool
-  weights = not (allWeights (workingWeight (rulesOf c)) c w)
+  weights = not (allWeights (workingWeight (rulesOf c)) c w && zerosFrom (ownLength c) w)
 
   abbrev shut : Bool
   shut = any (whollyBarred c w) (scopes c)
@@ -144,23 +149,23 @@ module _ (c : Case) (w : List ℤ) (p : Replay) (t : Line) where
     -- where number x applies to what was handed over
     module _ {x : Refusal} (e : asked-of (recordOut (rulesOf c) c p) ≡ some x) where
       pub lent-length : x ≡ WrongLength → front ≡ some x
-      lent-length n = due-front ∙ numbers-long unlimited unequal (recordOut (rulesOf c) c p) (asked .out) ends order again weights shut e n
+      lent-length n = due-front ∙ numbers-long unlimited unequal (recordOut (rulesOf c) c p) (asked .out) carry ends order again weights shut e n
 
       pub lent-out : withinLimits (rulesOf c) (c .n) (c .d) (c .m) ≡ true → x ≢ WrongLength → asked .out ≡ true → front ≡ some OutOfRange
       lent-out l n o =
           due-front ∙ ap (λ (b : Bool). asked-of (recordOut (rulesOf c) c p || b)) o
-          ∙ numbers-out unlimited unequal (recordOut (rulesOf c) c p) ends order again weights shut e (ap not l) n
+          ∙ numbers-out unlimited unequal (recordOut (rulesOf c) c p) carry ends order again weights shut e (ap not l) n
 
       pub lent-first : asked .out ≡ false → front ≡ some x
       lent-first o =
           due-front ∙ ap (λ (b : Bool). asked-of (recordOut (rulesOf c) c p || b)) o
-          ∙ numbers-in unlimited unequal (recordOut (rulesOf c) c p) ends order again weights shut e
+          ∙ numbers-in unlimited unequal (recordOut (rulesOf c) c p) carry ends order again weights shut e
 
   -- a record that is in range, on what was checked before
   module _ (h : Handed (rulesOf c) (workingWeight (rulesOf c)) c w) (r : T (not (recordOut (rulesOf c) c p)))
       (d : notDue (rulesOf c) (dueKinds (p .due)) t ≡ false) where
     line-out : asked .out ≡ true → front ≡ some OutOfRange
-    line-out e = rw (d, is-false (recordOut (rulesOf c) c p) r, e, limits-true h, eq-eqb (length w) (lentLength c) (h .long))
+    line-out e = rw (d, is-false (recordOut (rulesOf c) c p) r, e, limits-true h, eq-eqb (length w) (lentLength (rulesOf c) c) (h .long))
 
     line-in : asked .out ≡ false → front ≡ none
     line-in e = rw (d, is-false (recordOut (rulesOf c) c p) r, e)

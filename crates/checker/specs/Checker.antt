@@ -337,7 +337,7 @@ module _ (r : Rules) where
   -- whole void line there is no 14
 
   abbrev pub endingTests : Case → Replay → List Test
-  endingTests c p = limitTest r c ∷ edgeTests c (recordOut c p) ++ (CutShort when (isShort (p .due) (p .moved)) ∷ [])
+  endingTests c p = limitTest r c ∷ edgeTests r c (recordOut c p) ++ (CutShort when (isShort (p .due) (p .moved)) ∷ [])
 
   abbrev pub endStanding : Case → Replay → Standing → Outcome
   endStanding c p (Standing.Refused x) = Outcome.Refused x

@@ -5,7 +5,7 @@ use mathlib.Core.List.{List, [], _∷_, _++_, map}
 use Prim.Native.Nat.{ℕ, _+_, _-_}
 use Prim.Native.String.{String}
 use lib.IntN.{ℤ, pos}
-use lib.ListN.{length, replicate}
+use lib.ListN.{length, set, replicate}
 use Rattle.integers.specs.Words.{joined, minus}
 use Rattle.definitions.specs.declared.Case.{Case}
 use Rattle.definitions.specs.declared.Rulebook.the-variants.{Desk}
@@ -15,7 +15,7 @@ use Rattle.definitions.specs.Rules.{rulesIn}
 use Rattle.definitions.specs.Answers.{outcomeSays}
 use Rattle.definitions.specs.Case.{upperBound}
 use Rattle.definitions.specs.Programs.{bytesOf}
-use Rattle.definitions.specs.Samples.{Input, given, Question, bound-of, run-of, replay-of, all-active, press-on, replay-on, Result}
+use Rattle.definitions.specs.Samples.{Input, given, full, own, Question, bound-of, run-of, replay-of, all-active, press-on, replay-on, Result}
 use Rattle.definitions.specs.Samples.{replayed, samples, ourSamples, answer, triangle, clash, texts, log1, log6, zeros}
 use Rattle.checker.specs.declared.LastRaised.{LastRaised}
 use Rattle.checker.specs.declared.Target.{Target}
@@ -43,7 +43,8 @@ start i = record { case = i .case; table = i .weights; replay = freshReplay (rul
 
 abbrev checked : Between → List ℕ → Result
 checked b numbers =
-    replayed numbers (outcomeSays (endReplay (rulesIn Desk) (b .case) (b .replay)) .number) (b .replay .rounds) (upperBound (b .case) (b .table)) (b .table)
+    replayed numbers (outcomeSays (endReplay (rulesIn Desk) (b .case) (b .replay)) .number) (b .replay .rounds) (upperBound (b .case) (b .table))
+    (own (b .case) (b .table))
 
 abbrev answerByRecord : Question → Result
 answerByRecord (replay-of i ts) =
@@ -152,7 +153,7 @@ pub press-made : onClash (inside 0 (pos 1) 1 (LastRaised.Scope 1) (0 ∷ 1 ∷ [
         };
         answer = Outcome.Done;
       };
-      table = pos 1 ∷ pos 0 ∷ pos 2 ∷ pos 1 ∷ minus 2 ∷ zeros 3;
+      table = full 2 (pos 1 ∷ pos 0 ∷ pos 2 ∷ pos 1 ∷ minus 2 ∷ []);
     }
 unfolding stepReplay
 press-made = refl
@@ -160,7 +161,7 @@ press-made = refl
 -- ---- fresh and end: number 8 stands, and is answered before anything else is looked at
 
 abbrev tooHigh : Replay
-tooHigh = freshReplay (rulesIn Desk) (clash .case) (pos 1_000_001 ∷ zeros 7)
+tooHigh = freshReplay (rulesIn Desk) (clash .case) (full 2 (pos 1_000_001 ∷ []))
 
 pub fresh-refused :
     _≡_ {A = ℤ × ℕ × ℕ} (tooHigh .start, standingSays (tooHigh .standing) .number, numberOf (onClash tooHigh "x")) (pos 0, 8, 8)
@@ -213,6 +214,10 @@ without c w p part =
     let q = blockReplay (rulesIn Desk) c w p (bytesOf part) in
     (outcomeSays (q .block .answer) .number, standingSays (q .block .replay .standing) .number)
 
+-- the clash with a carry
+abbrev carrying : ℤ → Case
+carrying z = let c = clash .case in record { n = c .n; d = c .d; m = c .m; lower = c .lower; upper = c .upper; carry = z; rulebook = c .rulebook }
+
 pub no-lines :
     without (clash .case) (clash .weights) (between 0) ""
     ∷ without (clash .case) (clash .weights) (inside 0 (pos 1) 1 LastRaised.Nothing []) "x"
@@ -221,19 +226,23 @@ pub no-lines :
     ∷ without (paired 49 0 1) [] tooHigh "x"
     -- 3, 4, 5 of the record, 6, 8, each with later ones behind it
     ∷ without (paired 49 0 1) [] (between (most + 1)) ""
-    ∷ without (paired 2 1 0) (zeros 7) (between (most + 1)) ""
-    ∷ without (paired 2 1 0) (pos 500_000_001 ∷ zeros 7) (between (most + 1)) ""
-    ∷ without (paired 2 1 0) (pos 500_000_001 ∷ zeros 7) (inside 2 (pos 1) 1 LastRaised.Nothing []) "x"
-    ∷ without (paired 2 1 0) (pos 500_000_001 ∷ zeros 7) (between 0) ""
-    ∷ without (clash .case) (pos 500_000_001 ∷ zeros 7) (between 0) ""
-    ∷ without (clash .case) (pos 500_000_000 ∷ zeros 7) (between most) ""
+    ∷ without (paired 2 1 0) (zeros 8) (between (most + 1)) ""
+    ∷ without (paired 2 1 0) (full 2 (pos 500_000_001 ∷ [])) (between (most + 1)) ""
+    ∷ without (paired 2 1 0) (full 2 (pos 500_000_001 ∷ [])) (inside 2 (pos 1) 1 LastRaised.Nothing []) "x"
+    ∷ without (paired 2 1 0) (full 2 (pos 500_000_001 ∷ [])) (between 0) ""
+    ∷ without (clash .case) (full 2 (pos 500_000_001 ∷ [])) (between 0) ""
+    ∷ without (clash .case) (full 2 (pos 500_000_000 ∷ [])) (between most) ""
+    -- 1 past the own places; the carry's range
+    ∷ without (clash .case) (set (clash .weights) 8 (pos 1)) (between 0) ""
+    ∷ without (carrying (pos 20_000_000_000)) (clash .weights) (between 0) ""
+    ∷ without (carrying (minus 20_000_000_001)) (set (clash .weights) 8 (pos 1)) (between 0) ""
     ∷ []
-    ≡ (0, 0) ∷ (0, 0) ∷ (8, 8) ∷ (8, 8) ∷ (3, 3) ∷ (4, 4) ∷ (5, 5) ∷ (5, 5) ∷ (6, 6) ∷ (8, 8) ∷ (0, 0) ∷ []
+    ≡ (0, 0) ∷ (0, 0) ∷ (8, 8) ∷ (8, 8) ∷ (3, 3) ∷ (4, 4) ∷ (5, 5) ∷ (5, 5) ∷ (6, 6) ∷ (8, 8) ∷ (0, 0) ∷ (8, 8) ∷ (0, 0) ∷ (5, 5) ∷ []
 unfolding freshReplay foldReplay blockReplay
 no-lines = refl
 
 -- refused, the standing changes alone
-pub no-line-keeps : blockReplay (rulesIn Desk) (clash .case) (zeros 7) (inside 0 (pos 1) 2 (LastRaised.Scope 2) (0 ∷ 0 ∷ 1 ∷ [])) (bytesOf "x")
+pub no-line-keeps : blockReplay (rulesIn Desk) (clash .case) (zeros 8) (inside 0 (pos 1) 2 (LastRaised.Scope 2) (0 ∷ 0 ∷ 1 ∷ [])) (bytesOf "x")
     ≡ record {
       block = record {
         replay = record {
@@ -247,7 +256,7 @@ pub no-line-keeps : blockReplay (rulesIn Desk) (clash .case) (zeros 7) (inside 0
         lines = 0;
         answer = Outcome.Refused WrongLength;
       };
-      table = zeros 7;
+      table = zeros 8;
     }
 unfolding foldReplay blockReplay
 no-line-keeps = refl

@@ -79,7 +79,7 @@ abbrev pub notRecord : Case → List ℤ → ℕ
 notRecord c w = outcomeSays (outcomeOf (firstOf (handedOver (rulesOf c) (workingWeight (rulesOf c)) c w false true))) .number
 
 abbrev pub notRecordAtEnd : Case → ℕ
-notRecordAtEnd c = outcomeSays (outcomeOf (firstOf (limitTest (rulesOf c) c ∷ edgeTests c true))) .number
+notRecordAtEnd c = outcomeSays (outcomeOf (firstOf (limitTest (rulesOf c) c ∷ edgeTests (rulesOf c) c true))) .number
 
 -- the first refusal, and how many lines got no number
 abbrev pub blockAnswer : Block → CeilingLines

@@ -15,26 +15,25 @@ use Rattle.definitions.specs.declared.Refusal.{Refusal}
 use Rattle.definitions.specs.declared.Outcome.{Outcome}
 use Rattle.definitions.specs.declared.Figure.{Figure}
 use Rattle.definitions.specs.Rules.{Rules, Coherent, coherent, rulesOf}
-use Rattle.definitions.specs.Refusals.{firstOf}
 use Rattle.definitions.specs.Answers.{outcomeOf, outcomeSays, figureSays}
 use Rattle.definitions.specs.Case.{upperBound}
-use Rattle.definitions.specs.Valid.{workingWeight, handedOver, valid}
+use Rattle.definitions.specs.Valid.{workingWeight, valid}
 use Rattle.calls.specs.Calls.{figureOf, upperBoundAnswer}
 use Rattle.definitions.specs.Replay.{Held, fresh, after, answers, atEnd, keepsRules}
 use Rattle.checker.specs.declared.Due.{Due}
 use Rattle.checker.specs.Checker.{Between, isVoid, endReplay, afterLines, lineAnswers}
-use Rattle.theory.proofs.Validity.{Handed, handed}
+use Rattle.theory.proofs.Validity.{Handed}
 use Rattle.theory.proofs.ShiftLogs.{lines-kept}
-use Rattle.theory.proofs.Replays.{none-iff, handed-after, case-after, total-kept, bound-sound, rounds-few, void-sound, accepted-iff, keeps-iff}
+use Rattle.theory.proofs.Replays.{handed-after, case-after, total-kept, bound-sound, rounds-few, void-sound, accepted-iff, keeps-iff}
 use Rattle.checker_promise.specs.Lists.{begun, Accepted, numberSays, ReplayTrusted}
 use Rattle.checker_promise.proofs.Agrees.{dueOf, Agrees}
-use Rattle.checker_promise.proofs.Folds.{agrees-fresh, fold-agrees, answers-agree, end-agrees}
+use Rattle.checker_promise.proofs.Folds.{handed-unrefused, agrees-fresh, fold-agrees, answers-agree, end-agrees}
 
 -- the library's upper bound of a table that every call takes
 bound-answered : {r : Rules} (c : Case) (v : List ℤ) → Handed r (workingWeight r) c v → upperBoundAnswer r c v ≡ Figure.Value (upperBound c v)
 unfolding upperBoundAnswer
 bound-answered {r} c v h = ap (λ (o : Option Refusal). figureOf o (upperBound c v))
-    (none-iff (firstOf (handedOver r (workingWeight r) c v false false)) .0 (handed r (workingWeight r) c v false false .1 (h, tt, tt)))
+    (handed-unrefused h)
 
 outcome-says : (o : Option Refusal) → outcomeSays (outcomeOf o) ≡ numberSays o
 outcome-says none = refl

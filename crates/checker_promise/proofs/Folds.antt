@@ -23,7 +23,7 @@ use Rattle.definitions.specs.Rules.{Rules, Coherent, scopesAtMost, scopePlaces}
 use Rattle.definitions.specs.Refusals.{Test, _when_, firstOf}
 use Rattle.definitions.specs.Answers.{outcomeOf}
 use Rattle.definitions.specs.Case.{scopeCount}
-use Rattle.definitions.specs.Valid.{workingWeight, startingWeight, limitTest, lengthTest, edgeTests, weightTest, scopeTest, handedOver, valid}
+use Rattle.definitions.specs.Valid.{workingWeight, limitTest, lengthTest, edgeTests, weightTest, scopeTest, handedOver, valid}
 use Rattle.definitions.specs.Moves.{pressAmount, leavesRange}
 use Rattle.calls.specs.Calls.{isRaised}
 use Rattle.definitions.specs.Lines.{readLine, notDue, isKind, unusedZero, outside}
@@ -36,7 +36,7 @@ use Rattle.checker.specs.Checker.{Between, StepCall, standingOf, Asked, dueKind
 use Rattle.checker.specs.Checker.{recordOut, freshReplay, ofShift, ofBegin, ofBound, targetTable, lastTests, ofDue, stepBy, stepTests}
 use Rattle.checker.specs.Taken.{stepTaken}
 use Rattle.checker.specs.Checker.{stepLine, stepStanding, stepReplay, endStanding, endReplay, stepBetween, afterLines, lineAnswers}
-use Rattle.theory.proofs.Validity.{none-applies, Handed, handed}
+use Rattle.theory.proofs.Validity.{none-applies, Handed, handed, valid-facts}
 use Rattle.theory.proofs.Replays.{TargetSound, inside, Quiet, Sound, sound-step, sound-fresh, case-after, handed-step, handed-after, none-iff}
 use Rattle.checker_promise.specs.Lists.{begun}
 use Rattle.checker_promise.proofs.Agrees.{targetOf, dueOf, recordOf, callOf, Marked, MarkedIn, Agrees}
@@ -52,15 +52,18 @@ module _ {r : Rules} {range : ℤ → Bool} {c : Case} {w : List ℤ} (h : Hande
   handed-quiet : Quiet (handedOver r range c w false false)
   handed-quiet = none-applies (handedOver r range c w false false) .0 (handed r range c w false false .1 (h, tt, tt))
 
+  pub handed-unrefused : firstOf (handedOver r range c w false false) ≡ none
+  handed-unrefused = none-iff (firstOf (handedOver r range c w false false)) .0 (handed r range c w false false .1 (h, tt, tt))
+
   -- but number 5 of the line itself
   handed-first : (out : Bool) (later : List Test) → firstOf (handedOver r range c w false out ++ later) ≡ firstOf (OutOfRange when out ∷ later)
   handed-first true later =
       let p = simp and-iff at handed-quiet in
-      quiet-skip (limitTest r c ∷ lengthTest c w false ∷ []) (edgeTests c true ++ (weightTest range c w ∷ scopeTest c w ∷ []) ++ later)
+      quiet-skip (limitTest r c ∷ lengthTest r c w false ∷ []) (edgeTests r c true ++ (weightTest range c w ∷ scopeTest c w ∷ []) ++ later)
       (simp and-iff (p .0, (p .1 .0, tt)))
   handed-first false later = quiet-skip (handedOver r range c w false false) later handed-quiet
 
-  edges-quiet : Quiet (limitTest r c ∷ edgeTests c false)
+  edges-quiet : Quiet (limitTest r c ∷ edgeTests r c false)
   edges-quiet = let p = simp and-iff at handed-quiet in simp and-iff (p .0, (p .1 .1 .0, (p .1 .1 .1 .0, (p .1 .1 .1 .1 .0, tt))))
 
 counted : (m : ℕ) (z : ℤ) → T (not (not (withinZ (pos 1) (pos m) z))) → (1 ≤ natAbs z) × (natAbs z ≤ m)
@@ -323,7 +326,7 @@ module _ {r : Rules} {s : State} {b : Between} (a : Agrees r s b) where
             is-false (recordOut r (s .case) (recordOf s (a .bytes))) (record-in (a .placed) (a .sound) (a .handed) (a .marked)),
             short-alike (s .void) (s .held) (s .moving),
           )
-          (ap outcomeOf (quiet-skip (limitTest r (s .case) ∷ edgeTests (s .case) false) (CutShort when (not (s .void) && (isSome (s .held) || s .moving)) ∷ [])
+          (ap outcomeOf (quiet-skip (limitTest r (s .case) ∷ edgeTests r (s .case) false) (CutShort when (not (s .void) && (isSome (s .held) || s .moving)) ∷ [])
           (edges-quiet (a .handed))))
 
 -- ---- lists of lines
@@ -341,7 +344,7 @@ module _ {r : Rules} (coherent : Coherent r) (c : Case) (w : List ℤ) (t : T (v
   unfolding freshReplay
   agrees-fresh = record {
     bytes = noneRaised;
-    same = rw (none-iff (firstOf (handedOver r (startingWeight r) c w false false)) .0 t);
+    same = rw (handed-unrefused (valid-facts r c w t));
     marked = λ h e. absurd (none-some e);
     sound = sound-fresh coherent c w t;
     handed = handed-after coherent c w t [];

@@ -2,7 +2,7 @@
 -- line, the end's answer, and so the judgement that the program `replay` prints. With Blocks the same holds of a log cut into blocks. Assumes
 -- nothing.
 use mathlib.Core.Path.{_≡_, refl, sym, ap, ap₂, _∙_}
-use mathlib.Core.Bool.{Bool, false}
+use mathlib.Core.Bool.{Bool}
 use mathlib.Core.Option.{Option, none, some}
 use mathlib.Core.List.{List, [], _∷_, map}
 use Prim.Native.Nat.{ℕ, _+_}
@@ -18,15 +18,16 @@ use Rattle.definitions.specs.declared.Outcome.{Outcome}
 use Rattle.definitions.specs.Rules.{Rules, Coherent, coherent, rulesOf}
 use Rattle.definitions.specs.Answers.{outcomeOf}
 use Rattle.definitions.specs.Case.{upperBound}
-use Rattle.definitions.specs.Refusals.{firstOf}
-use Rattle.definitions.specs.Valid.{startingWeight, handedOver, valid}
+use Rattle.definitions.specs.Valid.{valid}
 use Rattle.definitions.specs.Lines.{linesIn, hasPart}
 use Rattle.definitions.specs.Replay.{State, fresh, after, answers, atEnd}
 use Rattle.checker.specs.Checker.{BlockCall, isVoid, goodIn, freshOf, freshReplay, takenLines, firstRefused, endReplay, foldReplay}
 use Rattle.definitions.specs.declared.Judgement.{Judgement}
 use Rattle.definitions.specs.Programs.{firstNumber, goodJudgement, judgeLog}
 use Rattle.integers.specs.Tests.{tests}
-use Rattle.theory.proofs.Replays.{none-iff, handed-after}
+use Rattle.theory.proofs.Validity.{valid-facts}
+use Rattle.theory.proofs.Replays.{handed-after}
+use Rattle.checker_promise.proofs.Folds.{handed-unrefused}
 use Rattle.checker_promise.proofs.Blocks.{Lent, lent-handed}
 use Rattle.checker_promise.proofs.Accepts.{answers-are, end-is, weights-are, rounds-are, void-told}
 
@@ -60,7 +61,7 @@ module _ {r : Rules} (coherent : Coherent r) (c : Case) (w : List ℤ) (t : T (v
   -- no number applies to a valid case, its weights and a fresh record
   pub fresh-lent : Lent r c w (freshReplay r c w)
   unfolding freshReplay
-  fresh-lent = rw (none-iff (firstOf (handedOver r (startingWeight r) c w false false)) .0 t)
+  fresh-lent = rw (handed-unrefused (valid-facts r c w t))
       (lent-handed r c w (freshOf none (upperBound c w)) refl (handed-after coherent c w t []) (simp tests (omega arith)))
 
   pub log-table : logFold r c w log .table ≡ logState r c w log .weights

@@ -1,6 +1,6 @@
 // Logs replayed line by line and as one block. Standard input holds vectors: a line that names what is tried, a line in columns whose amount is
-// the number of bytes that follow, and these bytes, a case file and then a log. The first line in columns also gives the table's places (a), and
-// whether its first two are barred once the case is read (c).
+// the number of bytes that follow, and these bytes, a case file and then a log. The first line in columns also gives the table's places (a; where
+// the case has as many, a full case's are lent, with 0 past them), and whether its first two are barred once the case is read (c).
 // Each is printed with the number of every line, the number at the end, the rounds, the weights, and what the log is as one block.
 // Where b is 2, two lines before the log tell the record that is handed over in place of a fresh one: the press begun, if its kind is 3, or the
 // void line begun, if its kind is 5 (variable, lines left, last scope or -1, amount), or, if its kind is 6, that a void line is whole; the number
@@ -18,6 +18,7 @@ use definitions::Line;
 use definitions::Outcome;
 use definitions::Refusal;
 use definitions::SCOPE_PLACES;
+use definitions::TABLE_PLACES;
 ghost use Prim.Native.Nat.{_≤_, _<_};
 
 // 0 where there is none.
@@ -34,8 +35,8 @@ fn print(text: &[u8]) {
     drivers::print(text);
 }
 
-fn print_weights(table: &[i64]) {
-    drivers::print_numbers(table);
+fn print_weights(table: &[i64], shown: usize) {
+    drivers::print_table(table, shown);
     print(b"\n");
 }
 
@@ -242,25 +243,25 @@ fn by_lines(replay: Replay, case: Case, table: &mut [i64], log: &[u8]) -> Replay
 }
 
 // The number at the end, the rounds, the weights, and a record handed over as it is now.
-fn finish(given: &[u8], after: Replay, case: Case, table: &[i64]) {
+fn finish(given: &[u8], after: Replay, case: Case, table: &[i64], shown: usize) {
     print(b" end");
     drivers::print_count(number(after.end(case)));
     print(b" rounds");
     drivers::print_count(after.rounds);
     print(b" weights");
-    print_weights(table);
+    print_weights(table, shown);
     print_record(given, after);
 }
 
-fn single(case: Case, table: &mut [i64], given: &[u8], log: &[u8]) {
+fn single(case: Case, table: &mut [i64], shown: usize, given: &[u8], log: &[u8]) {
     let before = begun(Replay::fresh(case, table), given);
     print_given(given, before, case);
     print(b"  lines");
     let after = by_lines(before, case, table, log);
-    finish(given, after, case, table);
+    finish(given, after, case, table, shown);
 }
 
-fn whole(case: Case, table: &mut [i64], given: &[u8], log: &[u8]) {
+fn whole(case: Case, table: &mut [i64], shown: usize, given: &[u8], log: &[u8]) {
     print(b"  block");
     let before = begun(Replay::fresh(case, table), given);
     let block = before.lines(case, table, log);
@@ -268,7 +269,7 @@ fn whole(case: Case, table: &mut [i64], given: &[u8], log: &[u8]) {
     let answer = block.answer;
     drivers::print_count(number(answer));
     let after = block.replay;
-    finish(given, after, case, table);
+    finish(given, after, case, table, shown);
 }
 
 // ---- the vectors
@@ -313,7 +314,7 @@ fn bar(table: &mut [i64], barred: bool) {
     }
 }
 
-fn line_by_line(bytes: &[u8], table: &mut [i64], told: usize, barred: bool) {
+fn line_by_line(bytes: &[u8], table: &mut [i64], shown: usize, told: usize, barred: bool) {
     let read = casefile::read_case(bytes, table);
     bar(table, barred);
     let answer = read.answer;
@@ -321,12 +322,13 @@ fn line_by_line(bytes: &[u8], table: &mut [i64], told: usize, barred: bool) {
     single(
         read.case,
         table,
+        shown,
         first_lines(rest, told),
         log_after(rest, told),
     );
 }
 
-fn as_a_block(bytes: &[u8], table: &mut [i64], told: usize, barred: bool) {
+fn as_a_block(bytes: &[u8], table: &mut [i64], shown: usize, told: usize, barred: bool) {
     let read = casefile::read_case(bytes, table);
     bar(table, barred);
     let answer = read.answer;
@@ -334,17 +336,19 @@ fn as_a_block(bytes: &[u8], table: &mut [i64], told: usize, barred: bool) {
     whole(
         read.case,
         table,
+        shown,
         first_lines(rest, told),
         log_after(rest, told),
     );
 }
 
 fn replay(bytes: &[u8], places: usize, told: usize, barred: bool) {
-    if places <= 20 {
-        let mut one = [0i64; 20];
-        line_by_line(bytes, &mut one[0..places], told, barred);
-        let mut other = [0i64; 20];
-        as_a_block(bytes, &mut other[0..places], told, barred);
+    let lent = drivers::lent_for(bytes, places);
+    if lent <= TABLE_PLACES {
+        let mut one = [0i64; TABLE_PLACES];
+        line_by_line(bytes, &mut one[0..lent], places, told, barred);
+        let mut other = [0i64; TABLE_PLACES];
+        as_a_block(bytes, &mut other[0..lent], places, told, barred);
     }
 }
 

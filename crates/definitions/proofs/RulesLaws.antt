@@ -8,7 +8,7 @@ pub record Fits (r : Rules) : Type 0 where
   pub starting : r .starting ≤ r .working
   pub working : r .working < 10 ^ 17
   pub moving : r .moving < 10 ^ 17
-  pub sums : scopesAtMost r * r .working < 10 ^ 17
+  pub sums : scopesAtMost r * r .working + r .carried < 10 ^ 17
 
 pub rules-fit : {r : Rules} → Coherent r → Fits r
 rules-fit {r} coherent =

@@ -9,7 +9,7 @@ use lib.ListN.{length, take, drop, set, replicate}
 use Rattle.integers.specs.Words.{joined, minus}
 use Rattle.definitions.specs.declared.Rulebook.the-variants.{Desk}
 use Rattle.definitions.specs.declared.Case.{Case}
-use Rattle.definitions.specs.Rules.{Rules, standard, edgePlaces}
+use Rattle.definitions.specs.Rules.{Rules, standard, edgePlaces, fullLength}
 use Rattle.definitions.specs.Refusals.{numberOf, firstOf}
 use Rattle.definitions.specs.Answers.{Says, fileSays, spanSays, choiceSays}
 use Rattle.definitions.specs.Case.{active, isLawful}
@@ -21,7 +21,7 @@ use Rattle.definitions.specs.Replay.{State, step, fresh, after, answers,
 use Rattle.definitions.specs.Views.{roundSpan, roundView}
 use Rattle.definitions.specs.Scoring.{betterOf, better}
 use Rattle.definitions.specs.Programs.{bytesOf, pressPrints, replayPrints}
-use Rattle.definitions.specs.Samples.{Input, given, triangle, couple, clash, zeros}
+use Rattle.definitions.specs.Samples.{Input, full, given, own, ownWeights, triangle, couple, clash, zeros}
 use Rattle.definitions.specs.Borders.{_is_, Hold, says, value, W, edges, l}
 
 -- ---- cases
@@ -105,7 +105,7 @@ Told = List ℕ × ℕ × ℕ × Bool × List ℤ
 abbrev told : Input → List (List ℕ) → Told
 told i ts =
     let s = after standard (fresh (i .case) (i .weights)) ts in
-    (map numberOf (answers standard (fresh (i .case) (i .weights)) ts), numberOf (atEnd s), s .rounds, s .void, s .weights)
+    (map numberOf (answers standard (fresh (i .case) (i .weights)) ts), numberOf (atEnd s), s .rounds, s .void, own (i .case) (s .weights))
 
 abbrev fine : ℕ → List ℕ
 fine n = replicate n 0
@@ -115,7 +115,7 @@ pub moves :
     let by : Input → List (List ℕ) → List ℕ × List ℤ =
     λ i ts. let q = told i ts in (q .0, q .4)
     in
-    let stay : Input → List ℕ → List ℕ × List ℤ = λ i numbers. (numbers, i .weights) in
+    let stay : Input → List ℕ → List ℕ × List ℤ = λ i numbers. (numbers, ownWeights i) in
     let toRight : ℕ → ℕ → List (List ℕ) = λ v a. l 1 0 0 v a ∷ [] in
     let empty : Input = couple (pos 0 ∷ B ∷ zeros 4 ++ (B ∷ B ∷ [])) in
     Hold
@@ -152,6 +152,7 @@ farther = record {
   starting = 1_000_000;
   working = W;
   moving = 3_000_000_000;
+  carried = 20_000_000_000;
   rounds = 9;
   amountWidth = 12;
   kinds = standard .kinds;
@@ -170,7 +171,7 @@ never-becomes-barred = (refl, refl, refl)
 
 -- void lines: on fresh cases, after moves without a bound line, after rounds
 pub voids :
-    let stay : Input → List ℕ → ℕ → Bool → Told = λ i numbers end whole. (numbers, end, 0, whole, i .weights) in
+    let stay : Input → List ℕ → ℕ → Bool → Told = λ i numbers end whole. (numbers, end, 0, whole, ownWeights i) in
     let both : List (List ℕ) = voidLines 0 (1 ∷ 2 ∷ []) in
     let other : ℤ → ℤ → ℤ → Input = λ a b c. couple (pos 2 ∷ a ∷ pos 0 ∷ b ∷ B ∷ pos 0 ∷ pos 0 ∷ c ∷ []) in
     Hold
@@ -254,23 +255,24 @@ patchyLines =
 -- written, and read back into a table of bars
 pub written-and-read :
     let rest : List ℕ = replicate (edgePlaces - 1) 0 in
-    let back : Input → CaseCall = λ i. readCase Desk (caseText standard (i .case) (i .weights)) (replicate 8 B) in
+    let back : Input → CaseCall = λ i. readCase Desk (caseText standard (i .case) (i .weights)) (replicate (fullLength standard 2) B) in
     let whole : Input → CaseCall = λ i. caseTaken (record { case = given 2 2 1 (0 ∷ rest) (1 ∷ rest) [] .case; table = i .weights }) 10 in
     Hold (caseText standard (patchy .case) (patchy .weights) is joined patchyLines ∷ [])
     × Hold (back patchy is whole patchy ∷ back locked is whole locked ∷ back (noPartner B) is whole (noPartner B) ∷ [])
 written-and-read = (refl, refl)
 
--- The number and the line, and the table, which held sevens. `put` has another line in the place of one; `own` a barred value 0 of link 0
+-- The number and the line, and the table, which held sevens. `put` has another line in the place of one; `link` a barred value 0 of link 0
 -- before it, and `three` a pair of which three tuples are barred.
 pub files :
     let told : CaseCall → Says × List ℤ = λ q. (fileSays (q .read .answer), q .table) in
-    let read : List (List ℕ) → Says × List ℤ = λ ts. told (readCase Desk (joined ts) (replicate 8 (pos 7))) in
+    let sevens : ℕ → List ℤ = λ n. replicate n (pos 7) in
+    let read : List (List ℕ) → Says × List ℤ = λ ts. told (readCase Desk (joined ts) (sevens (fullLength standard 2))) in
     let put : ℕ → List ℕ → Says × List ℤ = λ at t. read (set patchyLines at t) in
-    let own : List ℕ → Says × List ℤ = λ t. read (set (set patchyLines 1 (l 14 0 0 0 0)) 2 t) in
+    let link : List ℕ → Says × List ℤ = λ t. read (set (set patchyLines 1 (l 14 0 0 0 0)) 2 t) in
     let three : List ℕ → Says × List ℤ = λ t. read (set (set (set patchyLines 6 (l 15 0 0 0 0)) 8 (l 15 0 1 0 0)) 9 t) in
-    let refusedAt : ℕ → List ℤ → ℕ → Says × List ℤ = λ at good n. (says n (pos at ∷ []), good ++ replicate (8 - length good) (pos 7)) in
+    let refusedAt : ℕ → List ℤ → ℕ → Says × List ℤ = λ at good n. (says n (pos at ∷ []), good ++ sevens (fullLength standard 2 - length good)) in
     let good : ℕ → List ℤ = λ n. take n (patchy .weights) in
-    let whole : List ℤ → Says × List ℤ = λ w. (value (pos 10), w) in
+    let whole : List ℤ → Says × List ℤ = λ w. (value (pos 10), full 2 w) in
     let barredBy : ℕ → ℤ → List ℤ = λ at z. set (patchy .weights) at z in
     let one : List (List ℕ) → List ℤ → Says × List ℤ = λ ts w. told (readCase Desk (joined ts) w) in
     Hold
@@ -285,19 +287,19 @@ pub files :
     ∷ put 7 (l 15 0 1 1 0) is refusedAt 7 (good 5) 5 ∷ put 7 (l 15 0 0 0 0) is refusedAt 7 (good 5) 5
     ∷ put 7 (bytesOf "13   0   0   1 -2000000000\n") is refusedAt 7 (good 5) 8 ∷ put 7 (bytesOf "13   0   0   1 -1999999999\n") is refusedAt 7 (good 5) 8
     -- 15 at a scope's last line, not before it, and after 2, 5 and 8 of that line
-    ∷ own (l 14 0 1 0 0) is refusedAt 2 (B ∷ []) 15 ∷ own (l 14 0 1 0 1) is refusedAt 2 (B ∷ []) 2 ∷ own (l 14 0 0 0 0) is refusedAt 2 (B ∷ []) 5
-    ∷ own (bytesOf "11   0   1   0 -2000000000\n") is refusedAt 2 (B ∷ []) 8
-    ∷ own (l 11 0 1 0 4) is whole (B ∷ pos 4 ∷ pos 1 ∷ pos 0 ∷ pos 0 ∷ B ∷ pos 2 ∷ pos 5 ∷ [])
+    ∷ link (l 14 0 1 0 0) is refusedAt 2 (B ∷ []) 15 ∷ link (l 14 0 1 0 1) is refusedAt 2 (B ∷ []) 2 ∷ link (l 14 0 0 0 0) is refusedAt 2 (B ∷ []) 5
+    ∷ link (bytesOf "11   0   1   0 -2000000000\n") is refusedAt 2 (B ∷ []) 8
+    ∷ link (l 11 0 1 0 4) is whole (B ∷ pos 4 ∷ pos 1 ∷ pos 0 ∷ pos 0 ∷ B ∷ pos 2 ∷ pos 5 ∷ [])
     ∷ put 3 (l 14 1 0 0 0) is whole (barredBy 2 B) ∷ put 4 (l 14 1 1 0 0) is whole (barredBy 3 B)
     ∷ three (l 15 0 1 1 0) is refusedAt 9 (good 4 ++ (B ∷ B ∷ B ∷ [])) 15 ∷ three (l 15 0 1 0 0) is refusedAt 9 (good 4 ++ (B ∷ B ∷ B ∷ [])) 5
     ∷ three (bytesOf "13   0   1   1 -2000000000\n") is refusedAt 9 (good 4 ++ (B ∷ B ∷ B ∷ [])) 8
     ∷ three (l 13 0 1 1 5) is whole (good 4 ++ (B ∷ B ∷ B ∷ pos 5 ∷ []))
     -- with D 1
-    ∷ one (l 10 1 1 0 0 ∷ l 14 0 0 0 0 ∷ []) (pos 7 ∷ []) is (says 15 (pos 1 ∷ []), pos 7 ∷ [])
-    ∷ one (l 10 2 1 1 0 ∷ l 11 0 0 0 3 ∷ l 11 1 0 0 4 ∷ l 12 0 0 1 0 ∷ l 15 0 0 0 0 ∷ []) (replicate 3 (pos 7)) is
-    (says 15 (pos 4 ∷ []), pos 3 ∷ pos 4 ∷ pos 7 ∷ [])
+    ∷ one (l 10 1 1 0 0 ∷ l 14 0 0 0 0 ∷ []) (sevens 144) is (says 15 (pos 1 ∷ []), sevens 144)
+    ∷ one (l 10 2 1 1 0 ∷ l 11 0 0 0 3 ∷ l 11 1 0 0 4 ∷ l 12 0 0 1 0 ∷ l 15 0 0 0 0 ∷ []) (sevens 144) is
+    (says 15 (pos 4 ∷ []), pos 3 ∷ pos 4 ∷ sevens 142)
     -- nothing is due after it
-    ∷ told (readCaseAlone Desk (joined (patchyLines ++ (l 14 0 0 0 0 ∷ []))) (replicate 8 (pos 7))) is (says 2 (pos 10 ∷ []), patchy .weights)
+    ∷ told (readCaseAlone Desk (joined (patchyLines ++ (l 14 0 0 0 0 ∷ []))) (sevens (fullLength standard 2))) is refusedAt 10 (good 8) 2
     ∷ [])
 files = refl
 

@@ -15,7 +15,7 @@ use Rattle.definitions.specs.PairRounds.{someChoice, pairGain, gains, pa
 use Rattle.definitions.specs.Lines.{line, lineText}
 use Rattle.definitions.specs.Engine.{engineNext, pairsNext, pressesNext}
 use Rattle.definitions.specs.Programs.{bytesOf}
-use Rattle.definitions.specs.Samples.{Input, given, couple, example2, zeros}
+use Rattle.definitions.specs.Samples.{Input, given, ownWeights, couple, example2, zeros}
 use Rattle.definitions.specs.Borders.{_is_, Hold, W, l, pressed, ranBy}
 use Rattle.definitions.specs.BarredBorders.{B, locked, patchy, noPartner, voidLines}
 
@@ -138,22 +138,22 @@ pub runs :
       pairOne ++ pressed (l 2 0 1 0 1) (2 ∷ []) " 4   0   0   0           4\n",
     )
     ∷ ran patchy 1 is (Limit, 1, afterOne, pairOne) ∷ paired patchy 5 is (Settled, 1, afterOne, pairOne)
-    ∷ ran patchy 0 is (Limit, 0, patchy .weights, [])
+    ∷ ran patchy 0 is (Limit, 0, ownWeights patchy, [])
     -- a void line: no round, at any limit; the weights stay; runs of pair rounds only write none
-    ∷ ran locked 5 is (Void, 0, locked .weights, voidOf 0 (1 ∷ 2 ∷ []))
-    ∷ ran locked 1 is (Void, 0, locked .weights, voidOf 0 (1 ∷ 2 ∷ []))
-    ∷ ran locked 0 is (Void, 0, locked .weights, voidOf 0 (1 ∷ 2 ∷ []))
-    ∷ paired locked 5 is (Settled, 0, locked .weights, []) ∷ paired locked 0 is (Settled, 0, locked .weights, [])
-    ∷ ran strict 0 is (Void, 0, strict .weights, voidOf 0 (3 ∷ 4 ∷ 5 ∷ []))
+    ∷ ran locked 5 is (Void, 0, ownWeights locked, voidOf 0 (1 ∷ 2 ∷ []))
+    ∷ ran locked 1 is (Void, 0, ownWeights locked, voidOf 0 (1 ∷ 2 ∷ []))
+    ∷ ran locked 0 is (Void, 0, ownWeights locked, voidOf 0 (1 ∷ 2 ∷ []))
+    ∷ paired locked 5 is (Settled, 0, ownWeights locked, []) ∷ paired locked 0 is (Settled, 0, ownWeights locked, [])
+    ∷ ran strict 0 is (Void, 0, ownWeights strict, voidOf 0 (3 ∷ 4 ∷ 5 ∷ []))
     -- of the lowest link that is refuted
-    ∷ ran fourStrict 5 is (Void, 0, fourStrict .weights, voidOf 1 (4 ∷ 5 ∷ 6 ∷ []))
+    ∷ ran fourStrict 5 is (Void, 0, ownWeights fourStrict, voidOf 1 (4 ∷ 5 ∷ 6 ∷ []))
     -- Link 1 is dropped, also where it has a barred value or one that sets a gap. In `locked` it is kept: its barred value is allowed without.
-    ∷ ran (noPartner (pos 0)) 1 is (Void, 0, noPartner (pos 0) .weights, voidOf 0 (2 ∷ []))
-    ∷ ran (noPartner B) 1 is (Void, 0, noPartner B .weights, voidOf 0 (2 ∷ []))
-    ∷ ran (noPartner (minus 1)) 1 is (Void, 0, noPartner (minus 1) .weights, voidOf 0 (2 ∷ []))
+    ∷ ran (noPartner (pos 0)) 1 is (Void, 0, ownWeights (noPartner (pos 0)), voidOf 0 (2 ∷ []))
+    ∷ ran (noPartner B) 1 is (Void, 0, ownWeights (noPartner B), voidOf 0 (2 ∷ []))
+    ∷ ran (noPartner (minus 1)) 1 is (Void, 0, ownWeights (noPartner (minus 1)), voidOf 0 (2 ∷ []))
     -- no choice, and the round would lower the upper bound
-    ∷ ran noChoice 5 is (Void, 0, noChoice .weights, voidOf 0 (1 ∷ 2 ∷ [])) ∷ paired noChoice 5 is (Settled, 0, noChoice .weights, [])
-    ∷ ran noneBelow 5 is (Void, 0, noneBelow .weights, voidOf 0 (1 ∷ 2 ∷ [])) ∷ paired noneBelow 5 is (Settled, 0, noneBelow .weights, [])
+    ∷ ran noChoice 5 is (Void, 0, ownWeights noChoice, voidOf 0 (1 ∷ 2 ∷ [])) ∷ paired noChoice 5 is (Settled, 0, ownWeights noChoice, [])
+    ∷ ran noneBelow 5 is (Void, 0, ownWeights noneBelow, voidOf 0 (1 ∷ 2 ∷ [])) ∷ paired noneBelow 5 is (Settled, 0, ownWeights noneBelow, [])
     -- the round would not lower the upper bound, and then a press
     ∷ ran notLower 5 is (
       Settled,
@@ -161,13 +161,13 @@ pub runs :
       minus 3 ∷ B ∷ pos 1 ∷ B ∷ replicate 4 (pos 4),
       pressed (l 2 0 1 0 3) (2 ∷ []) " 4   0   0   0           2\n",
     )
-    ∷ paired notLower 5 is (Settled, 0, notLower .weights, []) ∷ paired rises 5 is (Settled, 0, rises .weights, [])
+    ∷ paired notLower 5 is (Settled, 0, ownWeights notLower, []) ∷ paired rises 5 is (Settled, 0, ownWeights rises, [])
     ∷ ran rises 5 is (Settled, 1, minus 7 ∷ B ∷ zeros 2 ++ replicate 4 (pos 4), pressed (l 2 0 1 0 4) (2 ∷ []) " 4   0   0   0          -3\n")
     -- 11; at the limit it is not met
-    ∷ ran atBorder 5 is (Refused LeavesRange, 0, atBorder .weights, []) ∷ ran atBorder 0 is (Limit, 0, atBorder .weights, [])
-    ∷ paired atBorder 5 is (Settled, 0, atBorder .weights, [])
+    ∷ ran atBorder 5 is (Refused LeavesRange, 0, ownWeights atBorder, []) ∷ ran atBorder 0 is (Limit, 0, ownWeights atBorder, [])
+    ∷ paired atBorder 5 is (Settled, 0, ownWeights atBorder, [])
     -- the pair leaves the range
-    ∷ ran apart 5 is (Refused LeavesRange, 0, apart .weights, []) ∷ paired apart 5 is (Settled, 0, apart .weights, [])
+    ∷ ran apart 5 is (Refused LeavesRange, 0, ownWeights apart, []) ∷ paired apart 5 is (Settled, 0, ownWeights apart, [])
     ∷ [])
 runs = refl
 
@@ -182,10 +182,10 @@ pub late-voids :
     let higher : List ℕ = bytesOf " 1   1   1   0          -2\n" ++ l 4 0 0 0 4 in
     Hold
     (ran late 5 is (Void, 1, afterLate, byTwos 0 2 ++ voidOf 0 (2 ∷ 4 ∷ [])) ∷ ran late 1 is (Void, 1, afterLate, byTwos 0 2 ++ voidOf 0 (2 ∷ 4 ∷ []))
-    ∷ ran late 0 is (Limit, 0, late .weights, []) ∷ paired late 5 is (Settled, 1, afterLate, byTwos 0 2) ∷ paired late 1 is (Settled, 1, afterLate, byTwos 0 2)
+    ∷ ran late 0 is (Limit, 0, ownWeights late, []) ∷ paired late 5 is (Settled, 1, afterLate, byTwos 0 2) ∷ paired late 1 is (Settled, 1, afterLate, byTwos 0 2)
     ∷ ran waiting 5 is (Void, 1, afterWaiting, byTwos 0 2 ++ voidOf 0 (4 ∷ [])) ∷ ran waiting 1 is (Void, 1, afterWaiting, byTwos 0 2 ++ voidOf 0 (4 ∷ []))
-    ∷ ran waiting 0 is (Limit, 0, waiting .weights, []) ∷ paired waiting 5 is (Settled, 1, afterWaiting, byTwos 0 2)
-    ∷ ranBy pressesNext waiting 0 is (Void, 0, waiting .weights, voidOf 0 (4 ∷ []))
+    ∷ ran waiting 0 is (Limit, 0, ownWeights waiting, []) ∷ paired waiting 5 is (Settled, 1, afterWaiting, byTwos 0 2)
+    ∷ ranBy pressesNext waiting 0 is (Void, 0, ownWeights waiting, voidOf 0 (4 ∷ []))
     -- The pair (0,1) is passed over, and then a higher pair. Of the presses scope 1 is dropped, though value 1 of link 1 is barred; of the void
     -- line it is kept: the higher pair no longer closes that value, which is allowed where scope 1 is not raised.
     ∷ ran overNoChoice 5 is (
@@ -214,7 +214,7 @@ pub gaps :
     λ a z. given 2 3 1 (0 ∷ []) (1 ∷ []) (replicate 3 a ++ (pos 5 ∷ B ∷ pos z ∷ joined (replicate 3 (B ∷ zeros 2))))
     in
     Hold
-    (ran (ownGap 5) 5 is (Settled, 1, ownGap 3 .weights, pressed (l 2 0 1 0 2) (2 ∷ []) " 4   0   0   0           3\n")
-    ∷ ran (keptGap (pos 0) 3) 5 is (Settled, 1, keptGap (minus 2) 5 .weights, pressed (l 2 0 2 0 2) (1 ∷ 2 ∷ []) " 4   0   0   0           3\n")
+    (ran (ownGap 5) 5 is (Settled, 1, ownWeights (ownGap 3), pressed (l 2 0 1 0 2) (2 ∷ []) " 4   0   0   0           3\n")
+    ∷ ran (keptGap (pos 0) 3) 5 is (Settled, 1, ownWeights (keptGap (minus 2) 5), pressed (l 2 0 2 0 2) (1 ∷ 2 ∷ []) " 4   0   0   0           3\n")
     ∷ [])
 gaps = refl

@@ -27,7 +27,7 @@ use Rattle.definitions.specs.Views.{roundSpan, roundView}
 use Rattle.definitions.specs.Scoring.{betterOf, better}
 use Rattle.definitions.specs.Programs.{pressLimit, bytesOf}
 use Rattle.definitions.specs.Samples.{Input, Question, replay-of, Result, replayed, Sample, answer}
-use Rattle.definitions.specs.Samples.{given, triangle, couple, clash, texts, log5, byTwo, log8, twoRounds, zeros}
+use Rattle.definitions.specs.Samples.{full, given, own, ownWeights, triangle, couple, clash, texts, log5, byTwo, log8, twoRounds, zeros}
 
 -- ---- questions and answers
 
@@ -60,7 +60,7 @@ W = 500_000_000
 
 -- P4's case with another first weight, and P1's with another variable 0
 abbrev pub clashFrom : ℤ → Input
-clashFrom z = couple (z ∷ drop 1 (clash .weights))
+clashFrom z = couple (z ∷ drop 1 (ownWeights clash))
 
 abbrev pub triangleFrom : ℤ → Input
 triangleFrom z = record { case = triangle .case; weights = z ∷ z ∷ drop 2 (triangle .weights) }
@@ -135,7 +135,7 @@ q gives a = record { ask = q; gives = a }
 
 -- each line's number and the end's; nothing is changed
 abbrev turned : List ℕ → ℕ → Result
-turned numbers end = replayed numbers end 0 (pos 4) (clash .weights)
+turned numbers end = replayed numbers end 0 (pos 4) (ownWeights clash)
 
 -- logs, in the form of the sample cases
 abbrev pub logs : List Sample
@@ -148,10 +148,10 @@ logs =
     -- shifts of end 1 and of other edges
     ∷ replay-of triangle (" 1   2   1   0           5\n" ∷ []) gives
     replayed (0 ∷ []) 14 0 (pos 5)
-    (zeros 4 ++ (pos 5 ∷ pos 0 ∷ take 8 (drop 6 (triangle .weights))) ++ (minus 6 ∷ pos 0 ∷ minus 5 ∷ minus 1 ∷ []))
+    (zeros 4 ++ (pos 5 ∷ pos 0 ∷ take 8 (drop 6 (ownWeights triangle))) ++ (minus 6 ∷ pos 0 ∷ minus 5 ∷ minus 1 ∷ []))
     ∷ replay-of triangle (" 1   1   0   1          -4\n" ∷ []) gives
     replayed (0 ∷ []) 14 0 (pos 4)
-    (pos 0 ∷ minus 4 ∷ take 8 (drop 2 (triangle .weights)) ++ (minus 1 ∷ pos 0 ∷ pos 4 ∷ pos 3 ∷ drop 14 (triangle .weights)))
+    (pos 0 ∷ minus 4 ∷ take 8 (drop 2 (ownWeights triangle)) ++ (minus 1 ∷ pos 0 ∷ pos 4 ∷ pos 3 ∷ drop 14 (ownWeights triangle)))
     ∷ []
 
 pub logs-hold : map (λ s. answer (s .ask)) logs ≡ map (λ s. s .gives) logs
@@ -244,7 +244,7 @@ ToldRun = RunAnswer × ℕ × List ℤ × List ℕ
 abbrev pub ranBy : (Rules → Case → List ℤ → Next) → Input → ℕ → ToldRun
 ranBy next i limit =
     let q = run standard next (i .case) limit (i .weights) in
-    (q .answer, q .rounds, q .weights, joined (q .log))
+    (q .answer, q .rounds, own (i .case) (q .weights), joined (q .log))
 
 -- Presses alone: answer, rounds, weights and log. `three` has D 3 and no partner for value 0 of variable 0; in `two` variable 0 clashes
 -- with 1 and with 2, and the first reason is dropped; in `four` P1's triangle lies over variables 1 to 3, and variable 0 is not refuted.
@@ -263,8 +263,8 @@ pub press-runs :
     in
     Hold
     (ran twoSteps 1 is (Limit, 1, afterOne, step1) ∷ ran twoSteps 5 is (Settled, 2, afterTwo, step1 ++ step2)
-    ∷ ran (triangleFrom (minus W)) 5 is (Refused LeavesRange, 0, triangleFrom (minus W) .weights, [])
-    ∷ ran (triangleFrom (minus W)) 0 is (Limit, 0, triangleFrom (minus W) .weights, [])
+    ∷ ran (triangleFrom (minus W)) 5 is (Refused LeavesRange, 0, ownWeights (triangleFrom (minus W)), [])
+    ∷ ran (triangleFrom (minus W)) 0 is (Limit, 0, ownWeights (triangleFrom (minus W)), [])
     ∷ ran lastRound 5 is (Refused LeavesRange, 1, afterLast, byOne)
     -- P5 as it was before change 1: one round of amount 2, raising scopes 1 and 2
     ∷ ran clash 5 is (Settled, 1, pos 0 ∷ pos 0 ∷ pos 2 ∷ pos 2 ∷ minus 1 ∷ zeros 3, joined (texts byTwo))
@@ -277,9 +277,9 @@ pub press-runs :
       pressed (l 2 0 2 0 2) (2 ∷ 4 ∷ []) " 4   0   0   0           4\n",
     )
     -- the gap of a scope is to its greatest inactive weight; a dropped scope's does not count; the lowest variable refuted is pressed
-    ∷ ran (three 5 9) 5 is (Settled, 1, three 3 7 .weights, pressed (l 2 0 1 0 2) (2 ∷ []) " 4   0   0   0           3\n")
-    ∷ ran (two 2 0 3) 5 is (Settled, 1, two 0 2 1 .weights, pressed (l 2 0 2 0 2) (2 ∷ 4 ∷ []) " 4   0   0   0           4\n")
-    ∷ ran (four 0 1) 5 is (Settled, 1, four 1 0 .weights, pressed (l 2 1 3 0 1) (4 ∷ 5 ∷ 6 ∷ []) " 4   0   0   0          -1\n")
+    ∷ ran (three 5 9) 5 is (Settled, 1, ownWeights (three 3 7), pressed (l 2 0 1 0 2) (2 ∷ []) " 4   0   0   0           3\n")
+    ∷ ran (two 2 0 3) 5 is (Settled, 1, ownWeights (two 0 2 1), pressed (l 2 0 2 0 2) (2 ∷ 4 ∷ []) " 4   0   0   0           4\n")
+    ∷ ran (four 0 1) 5 is (Settled, 1, ownWeights (four 1 0), pressed (l 2 1 3 0 1) (4 ∷ 5 ∷ 6 ∷ []) " 4   0   0   0          -1\n")
     ∷ [])
 press-runs = refl
 
@@ -289,7 +289,7 @@ detour r c w = round (shift 0 1 0 (pos 3) ∷ shift 0 1 0 (minus 3) ∷ activePr
 
 pub detours :
     run standard detour (clash .case) 1 (clash .weights)
-    ≡ stopped Limit 1 (pos 0 ∷ pos 0 ∷ pos 2 ∷ pos 2 ∷ minus 1 ∷ zeros 3)
+    ≡ stopped Limit 1 (full 2 (pos 0 ∷ pos 0 ∷ pos 2 ∷ pos 2 ∷ minus 1 ∷ zeros 3))
     (texts (" 1   0   1   0           3\n" ∷ " 1   0   1   0          -3\n" ∷ byTwo))
 detours = refl
 

@@ -1,14 +1,14 @@
 -- Document 01, "Links, scopes and totals": scopes, the table, totals and ceilings; document 02, change 2: barred tuples and lawful
--- assignments. Assumes nothing.
+-- assignments; change 5: the carry and the length of lent tables. Assumes nothing.
 use mathlib.Core.Bool.{Bool, not, _&&_}
 use mathlib.Core.List.{List, map}
 use Prim.Native.Nat.{ℕ, _+_, _*_, _-_}
-use lib.IntN.{ℤ, pos}
+use lib.IntN.{ℤ, pos, _+ℤ_}
 use lib.Dec.{ltb, eqb}
 use lib.ListN.{length, getD}
 use Rattle.integers.specs.Words.{if_then_else_, below, all, any, joined, sum, minus, greatestOf, eqZ}
 use Rattle.definitions.specs.declared.Case.{Case}
-use Rattle.definitions.specs.Rules.{barring}
+use Rattle.definitions.specs.Rules.{Rules, fullLength, barring}
 
 -- the values (channels) of a variable
 abbrev pub values : Case → List ℕ
@@ -50,12 +50,12 @@ place c x k l =
     then x * c .d + k
     else c .n * c .d + edgeOf c x * (c .d * c .d) + (k * c .d + l)
 
--- the case's own places in a table, and the length that a lent table must have
+-- the case's own places in a table, and the length that a lent table must have: that of a full case with as many values (document 02, change 5)
 abbrev pub ownLength : Case → ℕ
 ownLength c = c .n * c .d + c .m * (c .d * c .d)
 
-abbrev pub lentLength : Case → ℕ
-lentLength c = ownLength c
+abbrev pub lentLength : Rules → Case → ℕ
+lentLength r c = fullLength r (c .d)
 
 abbrev pub weight : Case → List ℤ → ℕ → ℕ → ℕ → ℤ
 weight c w x k l = getD w (place c x k l) (pos 0)
@@ -82,9 +82,13 @@ objective c w p = sum (map (λ x. atUsed c p x (weight c w x)) (scopes c))
 abbrev pub greatest : Case → List ℤ → ℕ → ℤ
 greatest c w x = greatestOf (eachTuple c x (weight c w x))
 
--- equation 7, the upper bound (the ceiling): the sum over scopes of the greatest weight
+-- equation 7: the sum over scopes of the greatest weight
+abbrev pub sumOfGreatest : Case → List ℤ → ℤ
+sumOfGreatest c w = sum (map (greatest c w) (scopes c))
+
+-- the upper bound (the ceiling), in which the carry counts (document 02, change 5)
 abbrev pub upperBound : Case → List ℤ → ℤ
-upperBound c w = sum (map (greatest c w) (scopes c))
+upperBound c w = sumOfGreatest c w +ℤ c .carry
 
 -- equation 8: a tuple is active if it has its scope's greatest weight
 abbrev pub active : Case → List ℤ → ℕ → ℕ → ℕ → Bool

@@ -1,8 +1,9 @@
--- Document 01, "Lines": case files, written and read into a lent table, with barred tuples (document 02, change 2). Assumes nothing.
+-- Document 01, "Lines": case files, written and read into a lent table, with barred tuples (document 02, change 2) and zeros past the case's own
+-- places (change 5). Assumes nothing.
 use mathlib.Core.Bool.{Bool, true, false, not, _&&_, _||_}
 use mathlib.Core.Option.{Option, none, some}
 use mathlib.Core.List.{List, [], _∷_, _++_, map}
-use Prim.Native.Nat.{ℕ, _+_, _*_}
+use Prim.Native.Nat.{ℕ, _+_, _*_, _-_}
 use lib.IntN.{ℤ, pos, natAbs}
 use lib.Dec.{ltb, eqb}
 use lib.Signed.{ltZ}
@@ -29,7 +30,7 @@ use Rattle.definitions.specs.declared.Refusal.the-variants.{
 }
 use Rattle.definitions.specs.Rules.{Rules, rulesIn, edgePlaces}
 use Rattle.definitions.specs.Refusals.{Test, _when_, firstOf}
-use Rattle.definitions.specs.Case.{values, lowerEnd, upperEnd, eachTuple, weight, place, lentLength, barredWeight, isBarred, whollyBarred}
+use Rattle.definitions.specs.Case.{values, lowerEnd, upperEnd, eachTuple, weight, place, ownLength, lentLength, barredWeight, isBarred, whollyBarred}
 use Rattle.definitions.specs.Valid.{inStarting}
 use Rattle.definitions.specs.Lines.{line, lineText, lineLength, readLine, notDue, isKind, outside}
 
@@ -65,10 +66,14 @@ pub data CaseDue : Type 0 where
   edge-ends : ℕ → CaseDue
   edge-weight : ℕ → ℕ → ℕ → CaseDue
 
+abbrev pub variableDues : Case → ℕ → List CaseDue
+variableDues c i = map (variable-weight i) (values c)
+
+abbrev pub edgeDues : Case → ℕ → List CaseDue
+edgeDues c e = edge-ends e ∷ joined (map (λ k. map (edge-weight e k) (values c)) (values c))
+
 abbrev pub dues : Case → List CaseDue
-dues c =
-    joined (map (λ i. map (variable-weight i) (values c)) (below (c .n)))
-    ++ joined (map (λ e. edge-ends e ∷ joined (map (λ k. map (edge-weight e k) (values c)) (values c))) (below (c .m)))
+dues c = joined (map (variableDues c) (below (c .n))) ++ joined (map (edgeDues c) (below (c .m)))
 
 -- a column names a place
 abbrev pub names : ℕ → ℤ → Bool
@@ -91,9 +96,9 @@ pub record Reading : Type 0 where
   pub case : Case
   pub table : List ℤ
 
--- a case file does not say its rules: whoever reads it names the rulebook
+-- a case file does not say its rules: whoever reads it names the rulebook; the carry is in no file, and 0 at first
 abbrev pub caseOf : Rulebook → ℕ → ℕ → ℕ → Case
-caseOf b n d m = record { n = n; d = d; m = m; lower = replicate edgePlaces 0; upper = replicate edgePlaces 0; rulebook = b }
+caseOf b n d m = record { n = n; d = d; m = m; lower = replicate edgePlaces 0; upper = replicate edgePlaces 0; carry = pos 0; rulebook = b }
 
 abbrev pub headed : Rulebook → Option Line → Case
 headed b none = caseOf b 0 0 0
@@ -103,7 +108,15 @@ abbrev pub withWeight : Reading → ℕ → ℕ → ℕ → ℤ → Reading
 withWeight g x k l z = record { case = g .case; table = set (g .table) (place (g .case) x k l) z }
 
 abbrev pub withEnds : Case → ℕ → ℕ → ℕ → Case
-withEnds c e i j = record { n = c .n; d = c .d; m = c .m; lower = set (c .lower) e i; upper = set (c .upper) e j; rulebook = c .rulebook }
+withEnds c e i j = record {
+  n = c .n;
+  d = c .d;
+  m = c .m;
+  lower = set (c .lower) e i;
+  upper = set (c .upper) e j;
+  carry = c .carry;
+  rulebook = c .rulebook;
+}
 
 -- kinds 14 and 15 bar the tuple
 abbrev pub bars : Line → Bool
@@ -125,6 +138,15 @@ weightTests r after x lastOne t =
     ∷ ScopeBarred when (lastOne && whollyBarred (after .case) (after .table) x)
     ∷ []
 
+-- the numbers of an edge's line, where `out` says that its upper variable is outside its range
+abbrev pub endsTests : Rules → Reading → ℕ → Bool → Line → List Test
+endsTests r g e out t =
+    NotDue when (notDue r (12 ∷ []) t)
+    ∷ OutOfRange when (not (names e (t .a)) || outside (g .case .n) (t .b) || out)
+    ∷ EndsNotAscending when (not (ltZ (t .b) (t .c)))
+    ∷ EdgeRepeated when (alreadyJoined (g .case) e (natAbs (t .b)) (natAbs (t .c)))
+    ∷ []
+
 -- g holds the edges and weights read so far
 abbrev pub dueTests : Rules → Reading → CaseDue → Option Line → List Test
 dueTests r g due none = NotInColumns when true ∷ []
@@ -132,12 +154,7 @@ dueTests r g (variable-weight i k) (some t) =
     NotDue when (notDue r (11 ∷ 14 ∷ []) t)
     ∷ OutOfRange when (not (names i (t .a) && names k (t .b)))
     ∷ weightTests r (took g (variable-weight i k) (some t)) i (eqb (k + 1) (g .case .d)) t
-dueTests r g (edge-ends e) (some t) =
-    NotDue when (notDue r (12 ∷ []) t)
-    ∷ OutOfRange when (not (names e (t .a)) || outside (g .case .n) (t .b) || outside (g .case .n) (t .c))
-    ∷ EndsNotAscending when (not (ltZ (t .b) (t .c)))
-    ∷ EdgeRepeated when (alreadyJoined (g .case) e (natAbs (t .b)) (natAbs (t .c)))
-    ∷ []
+dueTests r g (edge-ends e) (some t) = endsTests r g e (outside (g .case .n) (t .c)) t
 dueTests r g (edge-weight e k l) (some t) =
     NotDue when (notDue r (13 ∷ 15 ∷ []) t)
     ∷ OutOfRange when (not (names e (t .a) && names k (t .b) && names l (t .c)))
@@ -177,6 +194,15 @@ module _ (r : Rules) where
 abbrev pub caseTaken : Reading → ℕ → CaseCall
 caseTaken g at = record { read = record { answer = FileAnswer.Read at; case = g .case }; table = g .table }
 
+-- the table with 0 from place p on
+abbrev pub zeroedFrom : ℕ → List ℤ → List ℤ
+zeroedFrom p w = take p w ++ replicate (length w - p) (pos 0)
+
+-- a reader writes 0 past the own places of a case that it takes
+abbrev pub zeroedPast : CaseCall → FileAnswer → CaseCall
+zeroedPast call (FileAnswer.Refused x at) = call
+zeroedPast call (FileAnswer.Read lines) = record { read = call .read; table = zeroedFrom (ownLength (call .read .case)) (call .table) }
+
 module _ (b : Rulebook) where
   abbrev pub caseRefused : Refusal → ℕ → List ℤ → CaseCall
   caseRefused x at w = record { read = record { answer = FileAnswer.Refused x at; case = caseOf b 0 0 0 }; table = w }
@@ -194,13 +220,13 @@ module _ (b : Rulebook) where
             ]
       ]
 
-  -- a case as the front of a longer input; number 4 belongs to the head's line
-  abbrev pub readCase : List ℕ → List ℤ → CaseCall
-  readCase t w =
+  -- number 4 belongs to the head's line
+  abbrev pub readLines : List ℕ → List ℤ → CaseCall
+  readLines t w =
       elim (headRefusal (rulesIn b) t) [
         | none ↦
             let c = headed b (firstLine (rulesIn b) t) in
-            if eqb (length w) (lentLength c)
+            if eqb (length w) (lentLength (rulesIn b) c)
             then readDues (record { case = c; table = w }) 1 (dues c) (afterFirst (rulesIn b) t)
             else caseRefused WrongLength 0 w
         | some x ↦ caseRefused x 0 w
@@ -214,8 +240,15 @@ module _ (b : Rulebook) where
         | some x ↦ caseRefused x lines (call .table)
       ]
 
+  -- a case as the front of a longer input
+  abbrev pub readCase : List ℕ → List ℤ → CaseCall
+  readCase t w = zeroedPast (readLines t w) (readLines t w .read .answer)
+
+  abbrev pub readLinesAlone : List ℕ → List ℤ → CaseCall
+  readLinesAlone t w = nothingAfter t (readLines t w) (readLines t w .read .answer)
+
   abbrev pub readCaseAlone : List ℕ → List ℤ → CaseCall
-  readCaseAlone t w = nothingAfter t (readCase t w) (readCase t w .read .answer)
+  readCaseAlone t w = zeroedPast (readLinesAlone t w) (readLinesAlone t w .read .answer)
 
   -- what the head says, with the length of the table to lend
   abbrev pub caseSize : List ℕ → CaseSize
@@ -223,6 +256,6 @@ module _ (b : Rulebook) where
       elim (headRefusal (rulesIn b) t) [
         | none ↦
             let c = headed b (firstLine (rulesIn b) t) in
-            CaseSize.Size (c .n) (c .d) (c .m) (lentLength c)
+            CaseSize.Size (c .n) (c .d) (c .m) (lentLength (rulesIn b) c)
         | some x ↦ CaseSize.Refused x
       ]

@@ -12,7 +12,7 @@ use Rattle.definitions.specs.Moves.{shift}
 use Rattle.definitions.specs.PairRounds.{pairGain, pairRound, passedOver}
 use Rattle.definitions.specs.Engine.{engineNext, pairsNext}
 use Rattle.definitions.specs.Programs.{bytesOf}
-use Rattle.definitions.specs.Samples.{Input, given, triangle, couple, clash, example2, single, zeros}
+use Rattle.definitions.specs.Samples.{Input, given, ownWeights, triangle, couple, clash, example2, single, zeros}
 use Rattle.definitions.specs.Borders.{_is_, Hold, W, l, clashFrom, pressed, twoSteps, pairStep, afterPair, pressStep, afterPress}
 use Rattle.definitions.specs.Borders.{lastRound, afterLast, byOne, ranBy}
 
@@ -51,7 +51,7 @@ pub pair-runs :
     -- a pair round, then a press; with limit 1; pairs alone
     (ran twoSteps 5 is (Settled, 2, afterPress, pairStep ++ pressStep) ∷ ran twoSteps 1 is (Limit, 1, afterPair, pairStep)
     ∷ paired twoSteps 5 is (Settled, 1, afterPair, pairStep) ∷ paired twoSteps 1 is (Settled, 1, afterPair, pairStep)
-    ∷ paired twoSteps 0 is (Limit, 0, twoSteps .weights, [])
+    ∷ paired twoSteps 0 is (Limit, 0, ownWeights twoSteps, [])
     -- the lowest pair that gains, whatever the gains; values upwards at both ends
     ∷ ran threeGain 5 is (
       Settled,
@@ -61,7 +61,7 @@ pub pair-runs :
           ++ l 1 1 1 0 1 ++ bytesOf " 1   1   1   1          -2\n" ++ bytesOf " 4   0   0   0          -1\n",
     )
     -- a press is left, and no pair
-    ∷ paired triangle 5 is (Settled, 0, triangle .weights, [])
+    ∷ paired triangle 5 is (Settled, 0, ownWeights triangle, [])
     -- the range is asked at each shift
     ∷ ran backAgain 5 is (
       Settled,
@@ -69,7 +69,7 @@ pub pair-runs :
       minus 1 ∷ minus 2 ∷ pos 0 ∷ pos 0 ∷ pos W ∷ pos 3 ∷ pos 3 ∷ pos 3 ∷ [],
       pressed (l 2 0 2 0 3) (1 ∷ 2 ∷ []) " 4   0   0   0   499999999\n",
     )
-    ∷ paired backAgain 5 is (Settled, 0, backAgain .weights, [])
+    ∷ paired backAgain 5 is (Settled, 0, ownWeights backAgain, [])
     -- passed over, and then a higher pair
     ∷ ran higherPair 5 is (
       Settled,
@@ -90,9 +90,9 @@ pub pair-runs :
       pos 0 ∷ minus W ∷ pos 0 ∷ pos 0 ∷ minus 1 ∷ minus 1 ∷ pos 0 ∷ pos 0 ∷ [],
       pressed (l 2 0 1 0 1) (2 ∷ []) " 4   0   0   0           0\n",
     )
-    ∷ paired comesBack 5 is (Settled, 0, comesBack .weights, [])
+    ∷ paired comesBack 5 is (Settled, 0, ownWeights comesBack, [])
     -- passed over, a press, and then a press that leaves the range
-    ∷ ran lastRound 5 is (Refused LeavesRange, 1, afterLast, byOne) ∷ paired lastRound 5 is (Settled, 0, lastRound .weights, [])
+    ∷ ran lastRound 5 is (Refused LeavesRange, 1, afterLast, byOne) ∷ paired lastRound 5 is (Settled, 0, ownWeights lastRound, [])
     -- exactly at the range's border is inside
     ∷ ran (clashFrom (pos W)) 5 is (
       Settled,
@@ -108,7 +108,7 @@ pub pair-runs :
       bytesOf " 1   0   0   1          -4\n" ++ l 1 0 0 2 1 ++ bytesOf " 1   0   1   0          -5\n" ++ l 4 0 0 0 6,
     )
     -- nothing gains
-    ∷ ran one 5 is (Settled, 0, one .weights, []) ∷ ran example2 5 is (Settled, 0, example2 .weights, []) ∷ paired single 5 is (Settled, 0, single .weights, [])
+    ∷ ran one 5 is (Settled, 0, ownWeights one, []) ∷ ran example2 5 is (Settled, 0, ownWeights example2, []) ∷ paired single 5 is (Settled, 0, ownWeights single, [])
     ∷ [])
 pair-runs = refl
 

@@ -3,7 +3,7 @@ use Prim.Native.Nat.{ℕ, _+_, _*_, _≤_}
 use lib.Dec.{lit≤}
 use Rattle.definitions.specs.declared.Rulebook.{Rulebook}
 use Rattle.definitions.specs.declared.Rulebook.the-variants.{Desk}
-use Rattle.definitions.specs.Rules.{Rules, rulesIn, scopesAtMost, variablePlaces, edgePlaces}
+use Rattle.definitions.specs.Rules.{Rules, rulesIn, scopesAtMost, fullLength, variablePlaces, edgePlaces}
 use Rattle.definitions.specs.Lines.{lineLength}
 
 -- the lines of the longest case, its bytes, and its table
@@ -14,7 +14,7 @@ abbrev pub longestCase : Rules → ℕ
 longestCase r = lineLength (r .amountWidth) * longestLines r
 
 abbrev pub longestTable : Rules → ℕ
-longestTable r = r .variables * r .values + r .edges * (r .values * r .values)
+longestTable r = fullLength r (r .values)
 
 -- no round has more bytes
 abbrev pub longestRound : Rules → ℕ

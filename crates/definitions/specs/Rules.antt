@@ -29,6 +29,8 @@ pub record Rules : Type 0 where
   pub starting : ℕ
   pub working : ℕ
   pub moving : ℕ
+  -- the greatest carry, on either side of 0 (document 02, change 5)
+  pub carried : ℕ
   -- the greatest count of rounds in a record
   pub rounds : ℕ
   -- the width of the amount column, and the kinds of lines
@@ -74,6 +76,7 @@ standard = record {
   starting = 1_000_000;
   working = 500_000_000;
   moving = 1_000_000_000;
+  carried = 20_000_000_000;
   rounds = 999_999_999_999_999_999;
   amountWidth = 12;
   kinds = lineKinds;
@@ -99,6 +102,10 @@ scopePlaces = variablePlaces + edgePlaces
 abbrev pub scopesAtMost : Rules → ℕ
 scopesAtMost r = r .variables + r .edges
 
+-- the length of a full case's table with d values
+abbrev pub fullLength : Rules → ℕ → ℕ
+fullLength r d = r .variables * d + r .edges * (d * d)
+
 -- what proofs use in place of the numbers
 pub record Coherent (r : Rules) : Type 0 where
   -- a value set fits a byte, and so does the number of a variable; the number of a scope fits its column; the arrays have places for all
@@ -117,11 +124,11 @@ pub record Coherent (r : Rules) : Type 0 where
   -- amounts of moves and upper bounds fit the amount column with a minus, and a number of that column fits 64 bits
   pub amount-some : 0 < r .amountWidth
   pub moving-fits : r .moving < 10 ^ (r .amountWidth - 1)
-  pub bound-fits : scopesAtMost r * r .working < 10 ^ (r .amountWidth - 1)
+  pub bound-fits : scopesAtMost r * r .working + r .carried < 10 ^ (r .amountWidth - 1)
   pub amount-fits : r .amountWidth ≤ 18
-  -- a count of rounds fits 64 bits, and is never used up by rounds that each lower the upper bound of working weights
+  -- a count of rounds fits 64 bits, and is never used up by a run's rounds, which each lower the upper bound of working weights
   pub rounds-fit : r .rounds < 2 ^ 63
-  pub rounds-enough : 2 * (scopesAtMost r * r .working) ≤ r .rounds
+  pub rounds-enough : 2 * (scopesAtMost r * r .working + r .carried) ≤ r .rounds
   -- the kinds are these
   pub known-kinds : r .kinds ≡ lineKinds
 

@@ -1,21 +1,21 @@
 -- Document 01, "Sample cases": P1 to P12 as one table of questions with the answers that the document gives, and one theorem over it.
 -- Assumes nothing.
 use mathlib.Core.Path.{_≡_, refl}
-use mathlib.Core.Bool.{Bool, true}
+use mathlib.Core.Bool.{Bool, true, _&&_}
 use mathlib.Core.List.{List, [], _∷_, _++_, map}
-use Prim.Native.Nat.{ℕ}
+use Prim.Native.Nat.{ℕ, _-_}
 use Prim.Native.String.{String}
 use lib.IntN.{ℤ, pos}
-use lib.Dec.{T}
-use lib.ListN.{take, replicate}
-use Rattle.integers.specs.Words.{all, joined, minus}
+use lib.Dec.{T, eqb}
+use lib.ListN.{length, take, replicate}
+use Rattle.integers.specs.Words.{if_then_else_, all, joined, minus}
 use Rattle.definitions.specs.declared.Rulebook.the-variants.{Desk}
 use Rattle.definitions.specs.declared.Case.{Case}
 use Rattle.definitions.specs.declared.RunAnswer.{RunAnswer}
-use Rattle.definitions.specs.Rules.{standard, edgePlaces}
+use Rattle.definitions.specs.Rules.{standard, edgePlaces, fullLength}
 use Rattle.definitions.specs.Refusals.{numberOf}
-use Rattle.definitions.specs.Case.{scopes, eachTuple, active, upperBound}
-use Rattle.definitions.specs.Valid.{valid}
+use Rattle.definitions.specs.Case.{scopes, eachTuple, ownLength, lentLength, active, upperBound}
+use Rattle.definitions.specs.Valid.{zerosFrom, valid}
 use Rattle.definitions.specs.CaseFiles.{caseText}
 use Rattle.definitions.specs.Replay.{State, fresh, after, answers, atEnd}
 use Rattle.definitions.specs.Engine.{RunOf, engineNext, run}
@@ -29,12 +29,29 @@ pub record Input : Type 0 where
   pub weights : List ℤ
 
 -- A case as a caller hands it over: its record has edgePlaces places for the ends of edges, and those from m on hold what is no variable of any case.
--- Every sample is over such a record.
+-- Its table is as long as number 4 asks, with 0 past the weights that are given. Every sample is over such a record.
 abbrev padded : List ℕ → List ℕ
 padded ends = take edgePlaces (ends ++ replicate edgePlaces 200)
 
+abbrev pub full : ℕ → List ℤ → List ℤ
+full d w = w ++ replicate (fullLength standard d - length w) (pos 0)
+
 abbrev pub given : ℕ → ℕ → ℕ → List ℕ → List ℕ → List ℤ → Input
-given n d m lower upper w = record { case = record { n = n; d = d; m = m; lower = padded lower; upper = padded upper; rulebook = Desk }; weights = w }
+given n d m lower upper w = record {
+  case = record { n = n; d = d; m = m; lower = padded lower; upper = padded upper; carry = pos 0; rulebook = Desk };
+  weights = full d w;
+}
+
+-- the same case with a table that is lent as it stands
+abbrev pub withTable : Input → List ℤ → Input
+withTable i w = record { case = i .case; weights = w }
+
+-- the weights at a case's own places; none where a table has not the length that number 4 asks, or something else than 0 past them
+abbrev pub own : Case → List ℤ → List ℤ
+own c w = if eqb (length w) (lentLength standard c) && zerosFrom (ownLength c) w then take (ownLength c) w else []
+
+abbrev pub ownWeights : Input → List ℤ
+ownWeights i = own (i .case) (i .weights)
 
 abbrev unequal : List ℤ
 unequal = minus 1 ∷ pos 0 ∷ pos 0 ∷ minus 1 ∷ []
@@ -89,10 +106,10 @@ abbrev runOn : Input → ℕ → RunOf
 runOn i limit = run standard engineNext (i .case) limit (i .weights)
 
 abbrev ranTo : Input → RunOf → Result
-ranTo i q = ran (q .answer) (q .rounds) (upperBound (i .case) (q .weights)) (q .weights) (q .log)
+ranTo i q = ran (q .answer) (q .rounds) (upperBound (i .case) (q .weights)) (own (i .case) (q .weights)) (q .log)
 
 abbrev replayedTo : Input → List ℕ → State → Result
-replayedTo i numbers s = replayed numbers (numberOf (atEnd s)) (s .rounds) (upperBound (i .case) (s .weights)) (s .weights)
+replayedTo i numbers s = replayed numbers (numberOf (atEnd s)) (s .rounds) (upperBound (i .case) (s .weights)) (own (i .case) (s .weights))
 
 abbrev allActive : Case → List ℤ → Bool
 allActive c w = all (λ x. all (λ b. b) (eachTuple c x (active c w x))) (scopes c)
@@ -214,7 +231,7 @@ samples =
     ∷ replay-of triangle log1 gives replayed (0 ∷ none4) 0 1 (minus 1) (minus 1 ∷ minus 1 ∷ zeros 16)
     ∷ replay-on (caseFile ++ log1) gives prints (bytesOf "accepted 1 -1\n")
     -- P3: the same press without scope 5
-    ∷ replay-of triangle log3 gives replayed (0 ∷ 0 ∷ 10 ∷ []) 10 0 (pos 0) (triangle .weights)
+    ∷ replay-of triangle log3 gives replayed (0 ∷ 0 ∷ 10 ∷ []) 10 0 (pos 0) (ownWeights triangle)
     ∷ replay-on (caseFile ++ log3) gives prints (bytesOf "refused 10 24\n")
     -- P4, P5: ceiling 4; "the engine now makes one pair round of two shifts by −2, again to ceiling 2", settled
     ∷ bound-of clash gives bound (pos 4)
@@ -229,12 +246,12 @@ samples =
     ∷ replay-of clash log9 gives replayed (0 ∷ 13 ∷ []) 13 0 (pos 4) (pos 0 ∷ pos 0 ∷ pos 2 ∷ pos 0 ∷ minus 1 ∷ pos 2 ∷ zeros 2)
     -- P10: ceiling 11, settled
     ∷ bound-of example2 gives bound (pos 11)
-    ∷ run-of example2 100_000 gives ran RunAnswer.Settled 0 (pos 11) (example2 .weights) []
+    ∷ run-of example2 100_000 gives ran RunAnswer.Settled 0 (pos 11) (ownWeights example2) []
     -- P11, P12: ceiling −7, settled; limit 0 here answers settled; on P1, limit
     ∷ bound-of single gives bound (minus 7)
-    ∷ run-of single 100_000 gives ran RunAnswer.Settled 0 (minus 7) (single .weights) []
-    ∷ run-of single 0 gives ran RunAnswer.Settled 0 (minus 7) (single .weights) []
-    ∷ run-of triangle 0 gives ran RunAnswer.Limit 0 (pos 0) (triangle .weights) []
+    ∷ run-of single 100_000 gives ran RunAnswer.Settled 0 (minus 7) (ownWeights single) []
+    ∷ run-of single 0 gives ran RunAnswer.Settled 0 (minus 7) (ownWeights single) []
+    ∷ run-of triangle 0 gives ran RunAnswer.Limit 0 (pos 0) (ownWeights triangle) []
     ∷ []
 
 -- each question has the answer that the table gives
@@ -286,7 +303,7 @@ ourSamples =
     replayed none4 0 1 (pos 3) (pos 0 ∷ minus 1 ∷ pos 3 ∷ pos 2 ∷ zeros 4)
     ∷ replay-of clash upFirst gives
     replayed (0 ∷ 0 ∷ none4) 0 1 (pos 3) (pos 1 ∷ pos 0 ∷ pos 2 ∷ pos 1 ∷ minus 2 ∷ zeros 3)
-    ∷ replay-of clash upAndBack gives replayed (0 ∷ 0 ∷ 13 ∷ []) 13 0 (pos 4) (clash .weights)
+    ∷ replay-of clash upAndBack gives replayed (0 ∷ 0 ∷ 13 ∷ []) 13 0 (pos 4) (ownWeights clash)
     ∷ replay-of clash stillAfterPress gives
     replayed (0 ∷ none4) 0 1 (pos 3) (pos 0 ∷ pos 0 ∷ pos 2 ∷ pos 1 ∷ minus 1 ∷ pos 1 ∷ zeros 2)
     ∷ replay-of clash boundAgain gives
@@ -297,14 +314,14 @@ ourSamples =
     ∷ replay-on ("10  49   1   0           0\n" ∷ []) gives prints (bytesOf "refused 3 0\n")
     -- number 9: the scope just raised, and the own scope; number 11: a press of 1,000,000,000 and a shift out of the range
     ∷ replay-of clash (" 2   0   2   0           1\n" ∷ " 3   2   0   0           0\n" ∷ " 3   2   0   0           0\n" ∷ []) gives
-    replayed (0 ∷ 0 ∷ 9 ∷ []) 9 0 (pos 4) (clash .weights)
-    ∷ replay-of clash (" 2   0   2   0           1\n" ∷ " 3   0   0   0           0\n" ∷ []) gives replayed (0 ∷ 9 ∷ []) 9 0 (pos 4) (clash .weights)
+    replayed (0 ∷ 0 ∷ 9 ∷ []) 9 0 (pos 4) (ownWeights clash)
+    ∷ replay-of clash (" 2   0   2   0           1\n" ∷ " 3   0   0   0           0\n" ∷ []) gives replayed (0 ∷ 9 ∷ []) 9 0 (pos 4) (ownWeights clash)
     ∷ replay-of clash (raising1and2 " 2   0   2   0  1000000000\n" " 4   0   0   0           3\n") gives
-    replayed (0 ∷ 0 ∷ 11 ∷ 11 ∷ []) 11 0 (pos 4) (clash .weights)
-    ∷ replay-of clash (" 1   0   1   1   500000001\n" ∷ []) gives replayed (11 ∷ []) 11 0 (pos 4) (clash .weights)
+    replayed (0 ∷ 0 ∷ 11 ∷ 11 ∷ []) 11 0 (pos 4) (ownWeights clash)
+    ∷ replay-of clash (" 1   0   1   1   500000001\n" ∷ []) gives replayed (11 ∷ []) 11 0 (pos 4) (ownWeights clash)
     -- a log of no lines is accepted; a log cut inside a press, inside a round and inside a line is number 14
-    ∷ replay-of clash [] gives replayed [] 0 0 (pos 4) (clash .weights)
-    ∷ replay-of clash (" 2   0   2   0           1\n" ∷ []) gives replayed (0 ∷ []) 14 0 (pos 4) (clash .weights)
+    ∷ replay-of clash [] gives replayed [] 0 0 (pos 4) (ownWeights clash)
+    ∷ replay-of clash (" 2   0   2   0           1\n" ∷ []) gives replayed (0 ∷ []) 14 0 (pos 4) (ownWeights clash)
     ∷ replay-on (caseFile ++ (" 1   0   0   0           1\n" ∷ [])) gives prints (bytesOf "refused 14 23\n")
     ∷ replay-on (caseFile ++ (" 4" ∷ [])) gives prints (bytesOf "refused 14 22\n")
     -- nothing is due after a case that is read alone

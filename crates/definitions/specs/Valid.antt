@@ -1,11 +1,12 @@
--- Document 01: the limits and ranges of a case and its table, numbers 3 to 8 and 15, and which cases are valid. Assumes nothing.
+-- Document 01: the limits and ranges of a case and its table, numbers 3 to 8 and 15, and which cases are valid; document 02, change 5: the carry's
+-- range, and what lies past the case's own places. Assumes nothing.
 use mathlib.Core.Bool.{Bool, false, not, _&&_, _||_}
 use mathlib.Core.List.{List, [], _∷_, _++_}
 use Prim.Native.Nat.{ℕ}
 use lib.IntN.{ℤ, pos}
 use lib.Dec.{ltb, eqb}
-use lib.ListN.{length, take}
-use Rattle.integers.specs.Words.{below, all, any, within, withinZ, minus, isSome}
+use lib.ListN.{length, getD, take, drop}
+use Rattle.integers.specs.Words.{below, all, any, within, withinZ, minus, eqZ, isSome, _⇒_}
 use Rattle.definitions.specs.declared.Case.{Case}
 use Rattle.definitions.specs.declared.Refusal.the-variants.{
   OutsideLimits,
@@ -38,6 +39,14 @@ workingWeight r z = isBarred z || inWorking r z
 abbrev pub allWeights : (ℤ → Bool) → Case → List ℤ → Bool
 allWeights range c w = all range (take (ownLength c) w)
 
+-- the table holds 0 from place p on
+abbrev pub zerosFrom : ℕ → List ℤ → Bool
+zerosFrom p w = all (λ z. eqZ z (pos 0)) (drop p w)
+
+-- the carry is outside its range
+abbrev pub carryOut : Rules → Case → Bool
+carryOut r c = not (withinZ (minus (r .carried)) (pos (r .carried)) (c .carry))
+
 -- how many variables, values and edges a case may have
 abbrev pub withinLimits : Rules → ℕ → ℕ → ℕ → Bool
 withinLimits r n d m = within 1 (r .variables) n && within 1 (r .values) d && within 0 (r .edges) m
@@ -63,26 +72,45 @@ valueOut c p = any (λ k. not (ltb k (c .d))) p
 abbrev pub limitTest : Rules → Case → Test
 limitTest r c = OutsideLimits when (not (withinLimits r (c .n) (c .d) (c .m)))
 
-abbrev pub lengthTest : Case → List ℤ → Bool → Test
-lengthTest c w wrong = WrongLength when (not (eqb (length w) (lentLength c)) || wrong)
+abbrev pub lengthTest : Rules → Case → List ℤ → Bool → Test
+lengthTest r c w wrong = WrongLength when (not (eqb (length w) (lentLength r c)) || wrong)
 
-abbrev pub edgeTests : Case → Bool → List Test
-edgeTests c out =
-    OutOfRange when (out || someEdge c (endOutside c))
+abbrev pub edgeTests : Rules → Case → Bool → List Test
+edgeTests r c out =
+    OutOfRange when (out || carryOut r c || someEdge c (endOutside c))
     ∷ EndsNotAscending when (someEdge c (λ e. not (ltb (lowerEnd c e) (upperEnd c e))))
     ∷ EdgeRepeated when (someEdge c (λ e. any (sameEnds c e) (below e)))
     ∷ []
 
 abbrev pub weightTest : (ℤ → Bool) → Case → List ℤ → Test
-weightTest range c w = WeightOutOfRange when (not (allWeights range c w))
+weightTest range c w = WeightOutOfRange when (not (allWeights range c w && zerosFrom (ownLength c) w))
 
 -- number 15, after 8
 abbrev pub scopeTest : Case → List ℤ → Test
 scopeTest c w = ScopeBarred when (any (whollyBarred c w) (scopes c))
 
 abbrev pub handedOver : Rules → (ℤ → Bool) → Case → List ℤ → Bool → Bool → List Test
-handedOver r range c w wrong out = limitTest r c ∷ lengthTest c w wrong ∷ edgeTests c out ++ (weightTest range c w ∷ scopeTest c w ∷ [])
+handedOver r range c w wrong out = limitTest r c ∷ lengthTest r c w wrong ∷ edgeTests r c out ++ (weightTest range c w ∷ scopeTest c w ∷ [])
 
--- a case and its starting weights are valid if no number applies
+-- ---- a case, its starting weights w₀ and its working weights w, which are lent together (document 02, change 5)
+
+-- the same tuples are barred in both tables
+abbrev pub sameBars : Case → List ℤ → List ℤ → Bool
+sameBars c w₀ w =
+    let bar : List ℤ → ℕ → Bool = λ u p. isBarred (getD u p (pos 0)) in
+    all (λ p. (bar w₀ p ⇒ bar w p) && (bar w p ⇒ bar w₀ p)) (below (ownLength c))
+
+-- number 8: "not 0 there, or barred in one table only", where no weight of a join waits
+abbrev pub bothWeights : Rules → Case → List ℤ → List ℤ → Bool
+bothWeights r c w₀ w =
+    allWeights (startingWeight r) c w₀ && zerosFrom (ownLength c) w₀ && allWeights (workingWeight r) c w && zerosFrom (ownLength c) w && sameBars c w₀ w
+
+-- a scope that is wholly barred is so in both tables
+abbrev pub bothHandedOver : Rules → Case → List ℤ → List ℤ → Bool → List Test
+bothHandedOver r c w₀ w out =
+    limitTest r c ∷ lengthTest r c w (not (eqb (length w₀) (lentLength r c)))
+    ∷ edgeTests r c out ++ (WeightOutOfRange when (not (bothWeights r c w₀ w)) ∷ scopeTest c w ∷ [])
+
+-- a case and its starting weights are valid, as a case file has them, if no number applies, and the carry, which is in no file, is 0
 abbrev pub valid : Rules → Case → List ℤ → Bool
-valid r c w = not (isSome (firstOf (handedOver r (startingWeight r) c w false false)))
+valid r c w = not (isSome (firstOf (handedOver r (startingWeight r) c w false false))) && eqZ (c .carry) (pos 0)

@@ -20,13 +20,15 @@ pub enum Rulebook {
 }
 
 // A case (document 01): n variables (links), d values (channels) for each, m edges (pairs).
-// Edge e joins variables lower[e] and upper[e]; places from m on are never asked.
+// Edge e joins variables lower[e] and upper[e]; places from m on are never asked. The carry, 0 at first, counts in the upper bound (document 02,
+// change 5).
 pub struct Case {
     pub n: usize,
     pub d: usize,
     pub m: usize,
     pub lower: [u8; EDGE_PLACES],
     pub upper: [u8; EDGE_PLACES],
+    pub carry: i64,
     pub rulebook: Rulebook,
 }
 

@@ -9,7 +9,7 @@ use mathlib.Core.Option.{none}
 use mathlib.Core.Logic.{_↔_, _⊎_}
 use mathlib.Core.List.{List, []}
 use Prim.Native.Nat.{ℕ, suc, _+_, _≤_}
-use lib.IntN.{ℤ, pos, _-ℤ_}
+use lib.IntN.{ℤ, pos, _+ℤ_, _-ℤ_}
 use lib.Dec.{T}
 use lib.Signed.{_≤ℤ_}
 use lib.ListN.{length, take}
@@ -131,14 +131,14 @@ pub record PairsKept (c : Case) (v : List ℤ) (u : RunCall) : Type 0 where
   pub totals : (p : List ℕ) → T (isLawful c v p) → objective c (u .table) p ≡ objective c v p
 
 -- Document 02, change 4, "Hilltop chains", of a run u of the engine that answers settled, from every table that is handed over and not refused
--- before the first round: "the ceiling equals the greatest working total"
+-- before the first round: "the ceiling equals the greatest working total", to which the carry is added (change 5)
 abbrev pub ChainSettled : Case → RunCall → Type 0
-ChainSettled c u = u .run .answer ≡ RunAnswer.Settled → (p : List ℕ) × Meets c (u .table) p × (u .run .bound ≡ objective c (u .table) p)
+ChainSettled c u = u .run .answer ≡ RunAnswer.Settled → (p : List ℕ) × Meets c (u .table) p × (u .run .bound ≡ objective c (u .table) p +ℤ c .carry)
 
 -- where only shifts led from the weights w to v, and no press and no void line is left in v: the same plan has the greatest starting total too,
--- and the ceiling is that total (ours, beyond the documents)
+-- and the ceiling is that total and the carry (ours, beyond the documents)
 abbrev pub ChainShifted : Case → List ℤ → List ℤ → ℤ → Type 0
-ChainShifted c w v bound = NoPress c v → (p : List ℕ) × Meets c v p × Best c w p × (bound ≡ objective c w p)
+ChainShifted c w v bound = NoPress c v → (p : List ℕ) × Meets c v p × Best c w p × (bound ≡ objective c w p +ℤ c .carry)
 
 -- demand 3 whole (L11)
 pub record Demand3 (r : Rules) (c : Case) (w : List ℤ) : Type 0 where

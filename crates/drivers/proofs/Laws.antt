@@ -1,8 +1,9 @@
 -- Counts, a checksum's next byte, and the lines of a case. Assumes nothing.
 use mathlib.Core.Path.{_≡_, refl, sym, ap}
-use mathlib.Core.Bool.{true, false}
+use mathlib.Core.Bool.{Bool, true, false}
 use mathlib.Core.List.{List, [], _∷_}
 use Prim.Native.Nat.{ℕ, zero, suc, _+_, _*_, _%_, _<_, _≤_}
+use native.Mathlib.Nat.{add-zero}
 use native.Mathlib.Numerals.{add-one}
 use native.Mathlib.Omega.{arith}
 use borrow.Author.Tests.{lt-ltb, le-ltb}
@@ -10,14 +11,15 @@ use lib.IntN.{ℤ, pos, negsuc, natAbs}
 use lib.Signed.{ltZ}
 use lib.ListN.{length, drop, getD, set, drop-of-length-le}
 use lib.Seq.{drop-cons}
+use Rattle.integers.specs.Words.{if_then_else_, eqZ}
 use Rattle.integers.specs.Linear.{zs}
 use Rattle.definitions.specs.declared.Case.{Case}
 use Rattle.definitions.specs.declared.Line.{Line}
 use Rattle.definitions.specs.Lines.{isKind}
-use Rattle.definitions.specs.CaseFiles.{withEnds}
+use Rattle.definitions.specs.CaseFiles.{withEnds, zeroedFrom}
 use Rattle.drivers.specs.Drivers.{countOr, digestFrom}
 use Rattle.drivers.specs.declared.Held.{Held}
-use Rattle.drivers.specs.Taken.{headedBy, joinedBy, placesAfter, takenCall}
+use Rattle.drivers.specs.Taken.{headedBy, joinedBy, placesAfter, takenCall, notZero}
 
 pub count-below : (other : ℕ) (z : ℤ) → ltZ z (pos 0) ≡ true → countOr other z ≡ other
 count-below other (pos n) h = absurd (omega zs)
@@ -53,15 +55,35 @@ set-past (x ∷ xs) (suc i) a h = ap (λ t. x ∷ t) (set-past xs i a (omega ari
 pub ends-past : (c : Case) (e i j : ℕ) → length (c .lower) ≤ e → length (c .upper) ≤ e → withEnds c e i j ≡ c
 ends-past c e i j low high = rw (set-past (c .lower) e i low, set-past (c .upper) e j high) refl
 
+-- ---- weights that are not 0
+
+pub not-zero-next : (w : List ℤ) (i : ℕ) → i < length w → notZero (drop i w) ≡ notZero (getD w i (pos 0) ∷ []) + notZero (drop (i + 1) w)
+unfolding notZero
+not-zero-next w i h = rw (add-one, drop-cons w i (pos 0), add-zero)
+
+pub not-zero-ends : (w : List ℤ) (i : ℕ) → length w ≤ i → notZero (drop i w) ≡ 0
+unfolding notZero
+not-zero-ends w i h = rw (drop-of-length-le w {i = i} h)
+
+pub not-zero-few : (w : List ℤ) → notZero w ≤ length w
+unfolding notZero
+not-zero-few [] = omega arith
+not-zero-few (z ∷ w) = omega (arith, one-most (eqZ z (pos 0)), not-zero-few w)
+  where
+    one-most : (b : Bool) → (if b then 0 else 1) ≤ 1
+    one-most true = omega arith
+    one-most false = omega arith
+
 -- ---- a line taken, by its kind
 
 module _ (h : Held) (w : List ℤ) (l : Line) where
   abbrev Takes : Held → List ℤ → Type 0
   Takes held table = (held ≡ takenCall h w l .held) × (table ≡ takenCall h w l .table)
 
-  pub takes-head : {c : Case} → true ≡ isKind 10 l → c ≡ headedBy l → Takes (record { case = c; places = 0 }) w
+  pub takes-head : {c : Case} {table : List ℤ} → true ≡ isKind 10 l → c ≡ headedBy l → table ≡ zeroedFrom 0 w
+      → Takes (record { case = c; places = 0 }) table
   unfolding takenCall
-  takes-head k e = rw (sym k, e) (refl, refl)
+  takes-head k e t = rw (sym k, e, t) (refl, refl)
 
   pub takes-ends : {c : Case} → false ≡ isKind 10 l → true ≡ isKind 12 l → c ≡ joinedBy (h .case) l → Takes (record { case = c; places = h .places }) w
   unfolding takenCall

@@ -8,17 +8,18 @@ use definitions::Refusal;
 use definitions::Rulebook;
 use definitions::Written;
 ghost use mathlib.Core.Path.{_≡_};
-ghost use Prim.Native.Nat.{_<_, _%_, min};
-ghost use lib.ListN.{length, set};
+ghost use mathlib.Core.List.{[], _∷_};
+ghost use Prim.Native.Nat.{_+_, _*_, _≤_, _<_, _%_, min};
+ghost use lib.ListN.{length, drop, set};
 ghost use Rattle.definitions.specs.Refusals.{number};
 ghost use Rattle.definitions.specs.declared.Rulebook.the-variants.{Desk};
-ghost use Rattle.definitions.specs.Rules.{rulesIn};
+ghost use Rattle.definitions.specs.Rules.{rulesIn, edgePlaces};
 ghost use Rattle.calls.specs.Calls.{readLineAnswer};
 ghost use Rattle.definitions.specs.CaseFiles.{caseOf, withEnds};
 ghost use Rattle.drivers.specs.Drivers.{lineTold, countOr, digestFrom};
-ghost use Rattle.drivers.specs.Taken.{placesAfter, headedBy, joinedBy, nothingHeld, takenCall};
+ghost use Rattle.drivers.specs.Taken.{placesAfter, headedBy, joinedBy, nothingHeld, takenCall, lentPlaces, lentFor, notZero};
 
-// A case that is taken line by line, and how many weights of its table there are.
+// A case that is taken line by line, and how many weights of its table are told.
 pub struct Held {
     pub case: Case,
     pub places: usize,
@@ -31,6 +32,22 @@ fn print_first(text: &[u8], n: usize) {
 }
 
 // ---- a line of a case
+
+// Zeros where there is none.
+fn told_line(read: LineRead) -> Line
+    ensures { λ r. ⌜ r ≡ lineTold read ⌝ }
+{
+    match read {
+        LineRead::Read(line) => line,
+        LineRead::Refused(_) => Line {
+            kind: 0,
+            a: 0,
+            b: 0,
+            c: 0,
+            amount: 0,
+        },
+    }
+}
 
 fn count(z: i64) -> usize
     ensures { λ r. ⌜ r ≡ countOr 0 z ⌝ }
@@ -47,6 +64,7 @@ fn sized(n: usize, d: usize, m: usize) -> Case
         m,
         lower: [0; EDGE_PLACES],
         upper: [0; EDGE_PLACES],
+        carry: 0,
         rulebook: Rulebook::Desk,
     }
 }
@@ -69,6 +87,7 @@ fn with_ends(case: Case, e: usize, i: u8, j: u8) -> Case
         m: case.m,
         lower,
         upper,
+        carry: case.carry,
         rulebook,
     }
 }
@@ -76,7 +95,9 @@ fn with_ends(case: Case, e: usize, i: u8, j: u8) -> Case
 fn headed(line: Line) -> Case
     ensures { λ r. ⌜ r ≡ headedBy line ⌝ }
 {
-    sized(count(line.a), count(line.b), count(line.c))
+    let mut case = sized(count(line.a), count(line.b), count(line.c));
+    case.carry = line.amount;
+    case
 }
 
 fn joined(case: Case, line: Line) -> Case
@@ -102,6 +123,36 @@ fn put(table: &mut [i64], places: usize, z: i64) -> usize
     }
 }
 
+// ---- a table
+
+// The places of so many links and pairs.
+fn places_of(n: usize, d: usize, m: usize) -> usize
+    requires { ⌜ (n ≤ 256) × (d ≤ 8) × (m ≤ edgePlaces) ⌝ }
+    ensures { λ r. ⌜ r ≡ n * d + m * (d * d) ⌝ }
+{
+    n * d + m * (d * d)
+}
+
+// 0 for 0, else 1.
+fn counted(weight: i64) -> usize
+    ensures { λ r. ⌜ r ≡ notZero (weight ∷ []) ⌝ }
+{
+    if weight == 0 { 0 } else { 1 }
+}
+
+// How many are not 0.
+fn not_zero(weights: &[i64]) -> usize
+    ensures { λ r. ⌜ r ≡ notZero (now (weights .entry)) ⌝ }
+{
+    let mut n: usize = 0;
+    let mut i: usize = 0;
+    while i < weights.len() {
+        n += counted(weights[i]);
+        i += 1;
+    }
+    n
+}
+
 // ---- the calls
 
 // The number of document 01 or 02.
@@ -116,19 +167,10 @@ pub fn line_of(text: &[u8]) -> Line
     ensures { λ r. ⌜ r ≡ lineTold (readLineAnswer (rulesIn Desk) (now (text .entry))) ⌝ }
 {
     let read = lines::read_line(text);
-    match read {
-        LineRead::Read(line) => line,
-        LineRead::Refused(_) => {
-            io::write_all(1, text);
-            Line {
-                kind: 0,
-                a: 0,
-                b: 0,
-                c: 0,
-                amount: 0,
-            }
-        }
+    if let LineRead::Refused(_) = read {
+        io::write_all(1, text);
     }
+    told_line(read)
 }
 
 // A number that is meant as a count, or `other` where it is negative.
@@ -155,14 +197,41 @@ pub fn empty() -> Held
     }
 }
 
-// Takes a line of a case as it stands: kind 10 is its head, kind 12 the ends of an edge, any other a weight, which goes to the next place of the
-// table. None of its numbers is asked.
+// How many places of a table are lent: those of a full case where as many weights are told as the case has places; else as many as are told, a
+// wrong length.
+pub fn lent(case: Case, told: usize) -> usize
+    ensures { λ r. ⌜ r ≡ lentPlaces case told ⌝ }
+{
+    if !tables::within_limits(case) {
+        return told;
+    }
+    if told != places_of(case.n, case.d, case.m) {
+        return told;
+    }
+    let rulebook = case.rulebook;
+    let variables = rules::variables(rulebook);
+    places_of(variables, case.d, rules::edges(rulebook))
+}
+
+// The same of the case whose head begins the text; as many as are told where none does.
+pub fn lent_for(text: &[u8], told: usize) -> usize
+    ensures { λ r. ⌜ r ≡ lentFor (now (text .entry)) told ⌝ }
+{
+    if text.len() < 27 {
+        return told;
+    }
+    lent(headed(told_line(lines::read_line(&text[..27]))), told)
+}
+
+// Takes a line of a case as it stands: kind 10 is its head, its amount the carry, and the table holds 0 then; kind 12 is the ends of an edge, any
+// other a weight, which goes to the next place of the table. None of its numbers is asked.
 pub fn taken(held: Held, table: &mut [i64], line: Line) -> Held
     ensures { λ r. ⌜ (r ≡ takenCall held (now (table .entry)) line .held) × (now (table .exit) ≡ takenCall held (now (table .entry)) line .table) ⌝ }
 {
     let case = held.case;
     let kind = line.kind;
     if kind == 10 {
+        tables::zero_from(table, 0);
         Held {
             case: headed(line),
             places: 0,
@@ -241,6 +310,23 @@ pub fn print_numbers(numbers: &[i64]) -> usize
         i += 1;
     }
     i
+}
+
+// Prints the first weights of a table; where weights past them are not 0, how many they are. Answers that.
+pub fn print_table(table: &[i64], shown: usize) -> usize
+    ensures { λ r. ⌜ r ≡ notZero (drop shown (now (table .entry))) ⌝ }
+{
+    if table.len() <= shown {
+        print_numbers(table);
+        return 0;
+    }
+    print_numbers(&table[..shown]);
+    let past = not_zero(&table[shown..]);
+    if 0 < past {
+        io::write_all(1, b" past");
+        print_count(past as u64);
+    }
+    past
 }
 
 // Prints the number of each byte after a space, and answers how many.

@@ -1,12 +1,12 @@
 -- What was written is read back, for every case and every record that the types can hold. Assumes nothing.
 use mathlib.Core.Path.{_≡_, refl, ap, _∙_}
 use mathlib.Core.Bool.{Bool, true, false}
-use mathlib.Core.List.{List}
+use mathlib.Core.List.{List, _++_, append-assoc}
 use Prim.Native.Nat.{ℕ, _+_, _^_, _<_}
 use native.Mathlib.Omega.{arith}
 use lib.Dec.{leb, eqb}
 use lib.IntN.{ℤ}
-use lib.ListN.{length, take, drop, getD}
+use lib.ListN.{length, take, drop, getD, length-append}
 use lib.Seq.{take-at, drop-at, take-all}
 use mir.Syntax.{w64}
 use mir.Val.{SFits}
@@ -21,7 +21,7 @@ use Rattle.checker.specs.declared.Standing.{Standing}
 use Rattle.checker.specs.declared.Replay.{Replay}
 use Rattle.checker.specs.Checker.{standingSays, standingOf}
 use Rattle.encoding.specs.declared.Begun.{Begun}
-use Rattle.encoding.specs.Numbers.{numberBytes, numberAt, wordOf, signedOf}
+use Rattle.encoding.specs.Numbers.{valueOfBytes, numberBytes, numberAt, wordOf, signedOf}
 use Rattle.encoding.specs.CaseBytes.{bytesOfCase, caseIn}
 use Rattle.encoding.specs.RecordBytes.{
   lastRecorded,
@@ -47,6 +47,7 @@ pub record CaseHeld (c : Case) : Type 0 where
   pub m : c .m < 2 ^ 64
   pub lower : length (c .lower) ≡ edgePlaces
   pub upper : length (c .upper) ≡ edgePlaces
+  pub carry : SFits w64 (c .carry)
   pub desk : c .rulebook ≡ Desk
 
 module _ (c : Case) (h : CaseHeld c) where
@@ -62,17 +63,29 @@ module _ (c : Case) (h : CaseHeld c) where
   unfolding numberAt numberBytes bytesOfCase
   m-is = number-back (c .m) (h .m)
 
+  abbrev carried : List ℕ
+  carried = numberBytes (wordOf (c .carry))
+
   lower-is : take edgePlaces (drop 24 (bytesOfCase c)) ≡ c .lower
   unfolding numberBytes bytesOfCase
-  lower-is = take-at (c .lower) (c .upper) edgePlaces (h .lower)
+  lower-is = ap (take edgePlaces) (append-assoc (c .lower) (c .upper) carried) ∙ take-at (c .lower) (c .upper ++ carried) edgePlaces (h .lower)
 
   upper-is : take edgePlaces (drop (24 + edgePlaces) (bytesOfCase c)) ≡ c .upper
   unfolding numberBytes bytesOfCase
-  upper-is = ap (take edgePlaces) (drop-at (c .lower) (c .upper) edgePlaces (h .lower)) ∙ take-all edgePlaces (c .upper) (omega (arith, h .upper))
+  upper-is =
+      ap (λ (l : List ℕ). take edgePlaces (drop edgePlaces l)) (append-assoc (c .lower) (c .upper) carried)
+      ∙ ap (take edgePlaces) (drop-at (c .lower) (c .upper ++ carried) edgePlaces (h .lower)) ∙ take-at (c .upper) carried edgePlaces (h .upper)
+
+  carry-is : numberAt (bytesOfCase c) (24 + (edgePlaces + edgePlaces)) ≡ wordOf (c .carry)
+  unfolding numberAt numberBytes bytesOfCase
+  carry-is =
+      let k : length (c .lower ++ c .upper) ≡ edgePlaces + edgePlaces = rw (length-append, h .lower, h .upper) in
+      ap (λ (l : List ℕ). valueOfBytes (take 8 l)) (drop-at (c .lower ++ c .upper) carried (edgePlaces + edgePlaces) k)
+      ∙ number-back (wordOf (c .carry)) (bits-fit (c .carry) (h .carry))
 
   pub case-back : caseIn (bytesOfCase c) ≡ c
   unfolding caseIn
-  case-back = rw (n-is, d-is, m-is, lower-is, upper-is, ← h .desk)
+  case-back = rw (n-is, d-is, m-is, lower-is, upper-is, carry-is, signed-back (c .carry) (h .carry), ← h .desk)
 
 -- ---- what is due and what stands
 

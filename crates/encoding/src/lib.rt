@@ -25,12 +25,14 @@ ghost use Rattle.encoding.specs.RecordBytes.{raiseRecorded, dueRecorded,
 ghost use Rattle.encoding.specs.RecordBytes.{recordBytes, isRecord, recordIn};
 
 // The bytes of a case, and those of the replay's record.
-pub type CaseArray = [u8; 24 + 2 * EDGE_PLACES];
+pub type CaseArray = [u8; 32 + 2 * EDGE_PLACES];
 
 pub type RecordArray = [u8; 52 + SCOPE_PLACES];
 
-// Where the upper ends of a case begin.
+// Where the upper ends of a case begin, and its carry.
 const UPPER: usize = 24 + EDGE_PLACES;
+
+const CARRY: usize = UPPER + EDGE_PLACES;
 
 // The greatest number of eight bytes, and the least that says a number below 0.
 const GREATEST: u64 = 18_446_744_073_709_551_615;
@@ -377,12 +379,14 @@ pub fn case_of(bytes: &CaseArray) -> Case
     let m = number_at(bytes, 16);
     let lower = ends_at(bytes, 24);
     let upper = ends_at(bytes, UPPER);
+    let carry = signed_of(number_at(bytes, CARRY));
     Case {
         n: n as usize,
         d: d as usize,
         m: m as usize,
         lower,
         upper,
+        carry,
         rulebook: Rulebook::Desk,
     }
 }
@@ -396,6 +400,7 @@ pub fn write_case_bytes(case: Case, out: &mut CaseArray)
     put_word(out, 16, case.m as u64);
     put_ends(out, 24, &case.lower);
     put_ends(out, UPPER, &case.upper);
+    put_word(out, CARRY, bits_of(case.carry));
 }
 
 // Whether the bytes say a record.
@@ -442,5 +447,5 @@ pub fn write_record(replay: Replay, out: &mut RecordArray)
 pub fn version() -> u64
     ensures { λ r. ⌜ r ≡ versionNumber ⌝ }
 {
-    10500
+    20000
 }

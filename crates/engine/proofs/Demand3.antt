@@ -197,7 +197,7 @@ module _ {r : Rules} (coherent : Coherent r) (c : Case) where
           let same = same-run coherent (engine-lawful coherent c) limit v out taken in
           let rest = rw (same .table) at (ends coherent engine-known limit v out taken .rests .0 e) in
           let (p, meets) = hilltop coherent (run-remains coherent (engine-lawful coherent c) limit v h .handed) acyclic (rest .presses) in
-          rw (same .bound, same .table) (p, meets, sym (meets .total))
+          rw (same .bound, same .table) (p, meets, meets .total)
 
       chain-pairs : engineRefusal r pairsNext c v out ≡ none
           → ChainShifted c v (runCall r pairsNext c limit v out .table) (runCall r pairsNext c limit v out .run .bound)

@@ -1,11 +1,12 @@
 // Rounds and runs of the engine. Standard input holds lines of 27 bytes. One that is not in columns names what is tried and is printed. Kinds 10
 // to 13 are a case, taken as it stands: none of its numbers is asked, and each weight goes to the next place of the table,
-// -2000000000 where it is barred.
+// -2000000000 where it is barred; the amount of kind 10 is the carry. Where as many weights are told as the case has places, the table of a full
+// case is lent, with 0 past them (document 02, change 5).
 // Kind 20: a run with limit amount; kind 24: one of pair rounds only; kind 21: one round; all with an output of a dots, which is printed after it.
 // Kind 22: amount rounds with an output of a dots; the bound after them and a checksum of their log are printed.
-// Kind 23: the table's first a weights are printed.
+// Kind 23: the table's first a weights are printed. Kind 26: place a of the table holds amount.
 // The file `stdout` was worked out from documents 01 and 02 by a small engine of its own; the peer writes the same log of each case that a case file can
-// hold. The largest case's log is the peer's.
+// hold. The largest case's log is the peer's. What a carry and kind 26 change was worked out by hand from P1's.
 use definitions::Case;
 use definitions::Line;
 use definitions::Round;
@@ -169,10 +170,16 @@ fn command(case: Case, table: &mut [i64], line: Line) {
 }
 
 fn execute(held: Held, table: &mut [i64], line: Line) {
-    let places = held.places;
     let case = held.case;
+    let places = drivers::lent(case, held.places);
     if places <= table.len() {
         command(case, &mut table[0..places], line);
+    }
+}
+
+fn put_at(table: &mut [i64], place: usize, weight: i64) {
+    if place < table.len() {
+        table[place] = weight;
     }
 }
 
@@ -181,6 +188,9 @@ fn step(held: Held, table: &mut [i64], line: Line) -> Held {
         held
     } else if line.kind < 20 {
         drivers::taken(held, table, line)
+    } else if line.kind == 26 {
+        put_at(table, count(line.a), line.amount);
+        held
     } else {
         execute(held, table, line);
         held
@@ -198,7 +208,7 @@ fn vectors(input: &[u8], table: &mut [i64]) {
 }
 
 fn main() {
-    let mut input = [0u8; 300000];
+    let mut input = [0u8; 320000];
     let mut table = [0i64; 6528];
     let n = io::read_full(0, &mut input);
     vectors(&input[..n], &mut table);

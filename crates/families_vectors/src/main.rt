@@ -1,6 +1,7 @@
 // Why values were kept (document 02, change 3), told by standard input: lines of 27 bytes. One that is not in columns names what is tried and is
 // printed. Kinds 10 to 13 are a case, taken as it stands: none of its numbers is asked, and each weight goes to the next place of the table,
-// -2000000000 where it is barred.
+// -2000000000 where it is barred. Where as many weights are told as the case has places, the table of a full case is lent, with 0 past them
+// (document 02, change 5).
 // Kind 20: supported_value of link a, with the weights read so far; b bytes are lent for the family and c for the partners, of which each holds
 // 46. A negative a stands for 2^64 - 1. The answer is printed, then the bytes after the call. Where b is above 64 or c above 1600, nothing is.
 // The file `stdout` was worked out from documents 01 and 02 by a small script of its own, which deletes values without a partner and, where the
@@ -69,8 +70,8 @@ fn count(z: i64) -> usize {
 }
 
 fn execute(held: Held, table: &[i64], line: Line) {
-    let places = held.places;
     let case = held.case;
+    let places = drivers::lent(case, held.places);
     if places <= table.len() {
         lend(
             case,

@@ -29,7 +29,7 @@ use Rattle.press_theory.proofs.Trim.{chosen-some}
 use Rattle.press_theory.proofs.Gaps.{no-gap, amount-reached, amount-room, amount-most}
 use Rattle.tables.specs.Scopes.{BestOf, bestAt, scopePart}
 use Rattle.tables.proofs.Parts.{scope-part}
-use Rattle.tables.proofs.Answered.{limits-true, greatest-working}
+use Rattle.tables.proofs.Answered.{limits-true, carry-known, greatest-working}
 use Rattle.tables.proofs.Search.{not-found}
 use Rattle.gaps.specs.Gaps.{noGap, elseNoGap, limits, setsGap, lessGaps, gapBelow, leastGapAnswer}
 use Rattle.gaps.proofs.Lesser.{less-room, Least, least-is}
@@ -123,7 +123,7 @@ module _ {c : Case} {w best : List ℤ} (h : Handed (rulesOf c) (workingWeight (
   -- a scope's gaps, by its greatest weight and its tuples
   scope-least : (x : ℕ) → x < scopeCount c → (r : ℤ) → Least (greatest c w x) r (eachTuple c x (weight c w x)) (lessGaps (bestAt best x) (scopePart c w x) r)
   scope-least x g r =
-      let e = scope-part c w (omega (arith, h .long)) x g in
+      let e = scope-part c w (h .own-fits) x g in
       rw (b .holds x g, ← e) (least-is (greatest c w x) (eachTuple c x (weight c w x)) r)
 
   least-below : (x : ℕ) → x ≤ scopeCount c → LeastBelow x (gapBelow c w best raised i x)
@@ -175,10 +175,11 @@ module _ {c : Case} {w best : List ℤ} (h : Handed (rulesOf c) (workingWeight (
     answered room =
         rw (
           limits-true h,
-          eq-eqb (length w) (lentLength c) (h .long),
+          eq-eqb (length w) (lentLength (rulesOf c) c) (h .long),
           le-ltb (length best) (scopeCount c) (b .enough),
           le-ltb (length raised) (scopeCount c) room,
           lt-ltb i (c .n) (chosen-some c w which .0),
+          carry-known h,
           ← none-outside,
         )
       where

@@ -15,9 +15,9 @@ use Rattle.definitions.specs.declared.Refusal.the-variants.{OutOfRange}
 use Rattle.definitions.specs.Rules.{Rules}
 use Rattle.definitions.specs.Refusals.{_when_, firstOf}
 use Rattle.definitions.specs.Case.{scopeCount, barredWeight}
-use Rattle.definitions.specs.Valid.{inWorking, limitTest, lengthTest}
+use Rattle.definitions.specs.Valid.{inWorking, carryOut, limitTest, lengthTest}
 use Rattle.calls.specs.Calls.{figureOf}
-use Rattle.tables.specs.Scopes.{scopePart, bestAt, rangeTest}
+use Rattle.tables.specs.Scopes.{scopePart, bestAt, rangeTest, carryTest}
 
 -- more than any gap of working weights; the answer where no gap is less
 abbrev pub noGap : ℕ
@@ -71,16 +71,16 @@ module _ (r : Rules) where
   AllWorking c best = (x : ℕ) → x < scopeCount c → T (inWorking r (bestAt best x))
 
   abbrev pub gapInRange : Case → List ℤ → List ℤ → List ℕ → ℕ → Figure
-  gapInRange c w best raised i = figureOf (firstOf (rangeTest r c (bestAt best) ∷ [])) (gapBelow c w best raised i (scopeCount c))
+  gapInRange c w best raised i = figureOf (firstOf (carryTest r c ∷ rangeTest r c (bestAt best) ∷ [])) (gapBelow c w best raised i (scopeCount c))
 
-  -- numbers 3, 4, 5 of the arguments and 8 of the numbers in `best`
+  -- numbers 3, 4, 5 of the arguments and the carry, and 8 of the numbers in `best`
   unfoldable pub leastGapAnswer : Case → List ℤ → List ℤ → List ℕ → ℕ → Figure
   leastGapAnswer c w best raised i =
       figureOf
       (firstOf (
       limitTest r c
-      ∷ lengthTest c w (ltb (length best) (scopeCount c) || ltb (length raised) (scopeCount c))
-      ∷ OutOfRange when (not (ltb i (c .n)))
+      ∷ lengthTest r c w (ltb (length best) (scopeCount c) || ltb (length raised) (scopeCount c))
+      ∷ OutOfRange when (not (ltb i (c .n)) || carryOut r c)
       ∷ rangeTest r c (bestAt best)
       ∷ []
       ))

@@ -63,7 +63,7 @@ fn gap_in(part: &[i64], best: i64, limit: i64) -> i64
 }
 
 fn scope_gap(case: Case, table: &[i64], x: usize, best: i64, least: i64) -> i64
-    requires { ⌜ Limited case × (length (now table) ≡ lentLength case) × (x < scopeCount case) ⌝ }
+    requires { ⌜ Limited case × (length (now table) ≡ lentLength (rulesOf case) case) × (x < scopeCount case) ⌝ }
     requires { ⌜ T (smallWeight best) × IsGap least ⌝ }
     ensures { λ r. ⌜ r ≡ lessGaps best (scopePart case (now (table .entry)) x) least ⌝ }
 {
@@ -88,7 +88,7 @@ fn limited_gap(
     variable: usize,
     least: i64,
 ) -> i64
-    requires { ⌜ Limited case × (length (now table) ≡ lentLength case) × (x < scopeCount case) ⌝ }
+    requires { ⌜ Limited case × (length (now table) ≡ lentLength (rulesOf case) case) × (x < scopeCount case) ⌝ }
     requires { ⌜ T (smallWeight best) × IsGap least ⌝ }
     ensures { λ r. ⌜ r ≡ (if limitsBy mark variable x then lessGaps best (scopePart case (now (table .entry)) x) least else least) ⌝ }
 {
@@ -99,7 +99,7 @@ fn limited_gap(
 }
 
 fn gap_of_scopes(case: Case, table: &[i64], best: &[i64], raised: &[u8], variable: usize) -> i64
-    requires { ⌜ Limited case × (length (now table) ≡ lentLength case) ⌝ }
+    requires { ⌜ Limited case × (length (now table) ≡ lentLength (rulesOf case) case) ⌝ }
     requires { ⌜ (scopeCount case ≤ length (now best)) × (scopeCount case ≤ length (now raised)) ⌝ }
     requires { ⌜ AllWorking (rulesOf case) case (now best) ⌝ }
     ensures { λ r. ⌜ r ≡ gapBelow case (now (table .entry)) (now (best .entry)) (now (raised .entry)) variable (scopeCount case) ⌝ }
@@ -114,9 +114,9 @@ fn gap_of_scopes(case: Case, table: &[i64], best: &[i64], raised: &[u8], variabl
     least
 }
 
-// The sum of `best` is refused where a number is outside the range of working weights.
+// The sum of `best` is refused where a number is outside the range of working weights or the carry outside its own.
 fn gap_in_range(case: Case, table: &[i64], best: &[i64], raised: &[u8], variable: usize) -> Figure
-    requires { ⌜ Limited case × (length (now table) ≡ lentLength case) ⌝ }
+    requires { ⌜ Limited case × (length (now table) ≡ lentLength (rulesOf case) case) ⌝ }
     requires { ⌜ (scopeCount case ≤ length (now best)) × (scopeCount case ≤ length (now raised)) ⌝ }
     ensures { λ r. ⌜ r ≡ gapInRange (rulesOf case) case (now (table .entry)) (now (best .entry)) (now (raised .entry)) variable ⌝ }
 {
@@ -129,9 +129,9 @@ fn gap_in_range(case: Case, table: &[i64], best: &[i64], raised: &[u8], variable
 
 fn lengths_wrong(case: Case, table: usize, best: usize, raised: usize) -> bool
     requires { ⌜ Limited case ⌝ }
-    ensures { λ r. ⌜ r ≡ (not (eqb table (lentLength case)) || (ltb best (scopeCount case) || ltb raised (scopeCount case))) ⌝ }
+    ensures { λ r. ⌜ r ≡ (not (eqb table (lentLength (rulesOf case) case)) || (ltb best (scopeCount case) || ltb raised (scopeCount case))) ⌝ }
 {
-    if table != case.n * case.d + case.m * (case.d * case.d) {
+    if !tables::is_sized(case, table) {
         return true;
     }
     if best < case.n + case.m {
@@ -141,7 +141,7 @@ fn lengths_wrong(case: Case, table: usize, best: usize, raised: usize) -> bool
 }
 
 // The least of NO_GAP and the gaps in the scope of `variable` and in each scope x whose byte in `raised` is not 0: how far a weight lies below
-// best[x], barred weights left out. Asks 3, 4, 5 of the arguments, and 8 of the first n + m numbers in `best`.
+// best[x], barred weights left out. Asks 3, 4, 5 of the arguments and the carry, and 8 of the first n + m numbers in `best`.
 pub fn least_gap(case: Case, table: &[i64], best: &[i64], raised: &[u8], variable: usize) -> Figure
     ensures { λ r. ⌜ r ≡ leastGapAnswer (rulesOf case) case (now (table .entry)) (now (best .entry)) (now (raised .entry)) variable ⌝ }
 {

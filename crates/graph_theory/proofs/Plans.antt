@@ -1,12 +1,13 @@
 -- Where the edges form no cycle, values with partners across every edge can be chosen together: edge after edge, the value of one variable
 -- given. So in a state with no press and no void line left some assignment uses active tuples only (`hilltop`). Assumes nothing.
-use mathlib.Core.Path.{_≡_, refl, sym, subst, _∙_}
+use mathlib.Core.Path.{_≡_, refl, sym, subst, _∙_, ap}
 use mathlib.Core.Bool.{Bool, true, false}
 use mathlib.Core.Logic.{_↔_, ⊎-elim}
 use mathlib.Core.List.{List, map}
 use Prim.Native.Nat.{ℕ, zero, suc, _+_, _≤_, _<_}
 use native.Mathlib.Omega.{arith}
-use lib.IntN.{ℤ}
+use lib.IntN.{ℤ, _+ℤ_}
+use Rattle.integers.specs.Linear.{flat, zs, _▸_}
 use lib.Dec.{T, T-not, not-T, eqb, ltb, eqb→eq, ltb→lt, lt→ltb, nltb→le}
 use lib.ListN.{length}
 use Rattle.integers.specs.Words.{if_then_else_, below, all, isIn}
@@ -193,12 +194,12 @@ module _ {r : Rules} (coherent : Coherent r) {c : Case} {w : List ℤ} (handed :
   pub hilltop : Hilltop c w
   hilltop acyclic rest =
       let (p, a, f) = active-plan (handed .shape) w acyclic rest in
-      let met : objective c w p ≡ upperBound c w = bound-met (handed .shape) p a w .1 f in (
+      let met : objective c w p +ℤ c .carry ≡ upperBound c w = bound-met (handed .shape) p a w .1 f in (
         p,
         record {
           active-only = f;
-          total = met;
-          none-greater = λ q b. rw met (bound-above (handed .shape) q b w);
+          total = sym met;
+          none-greater = λ q b. met ▸ bound-above (handed .shape) q b w ▸ simp flat (omega zs);
           lawful = active-lawful p a f;
         },
       )
@@ -206,7 +207,7 @@ module _ {r : Rules} (coherent : Coherent r) {c : Case} {w : List ℤ} (handed :
 -- an assignment that meets the bound of v has the greatest objective in w too, if the lawful assignments of w and v and their objectives are the same
 pub kept-best : {c : Case} {w v : List ℤ} → ((p : List ℕ) → T (isLawful c v p) → T (isLawful c w p))
     → ((p : List ℕ) → T (isLawful c w p) → objective c v p ≡ objective c w p) → (p : List ℕ) × Meets c v p
-    → (p : List ℕ) × Meets c v p × Best c w p × (upperBound c v ≡ objective c w p)
+    → (p : List ℕ) × Meets c v p × Best c w p × (upperBound c v ≡ objective c w p +ℤ c .carry)
 kept-best {c} {w} {v} back same (p, meets) =
     let t = back p (meets .lawful) in (
       p,
@@ -215,5 +216,5 @@ kept-best {c} {w} {v} back same (p, meets) =
         lawful = t;
         none-greater = λ q s. rw (← (same q s), ← (same p t)) (meets .none-greater q (lawful-iff c w q .0 s .0));
       },
-      sym (meets .total) ∙ same p t,
+      meets .total ∙ ap (λ (z : ℤ). z +ℤ c .carry) (same p t),
     )

@@ -2,7 +2,7 @@
 use mathlib.Core.Path.{_≡_}
 use mathlib.Core.List.{List}
 use Prim.Native.Nat.{ℕ, _<_}
-use lib.IntN.{ℤ}
+use lib.IntN.{ℤ, _+ℤ_}
 use lib.Dec.{T}
 use lib.Signed.{_≤ℤ_}
 use Rattle.definitions.specs.declared.Case.{Case}
@@ -14,8 +14,8 @@ use Rattle.definitions.specs.Engine.{NoPress}
 pub record Meets (c : Case) (w : List ℤ) (p : List ℕ) : Type 0 where
   -- it "uses active combinations only,"
   pub active-only : (x : ℕ) → x < scopeCount c → T (atUsed c p x (active c w x))
-  -- "so the ceiling equals the greatest working total."
-  pub total : objective c w p ≡ upperBound c w
+  -- "so the ceiling equals the greatest working total", to which the carry is added (document 02, change 5)
+  pub total : upperBound c w ≡ objective c w p +ℤ c .carry
   pub none-greater : (q : List ℕ) → T (isAssignment c q) → objective c w q ≤ℤ objective c w p
   -- "It holds with barred channels too, and such a plan is lawful."
   pub lawful : T (isLawful c w p)

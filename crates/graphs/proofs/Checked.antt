@@ -26,7 +26,7 @@ use Rattle.tables.proofs.Order.{limited-by, outcome-done, outcome-refused}
 
 module _ (c : Case) where
   abbrev asked : Option Refusal
-  asked = firstOf (limitTest (rulesOf c) c ∷ edgeTests c false)
+  asked = firstOf (limitTest (rulesOf c) c ∷ edgeTests (rulesOf c) c false)
 
   pub acyclic-refused : {x : Refusal} → Outcome.Refused x ≡ outcomeOf asked → Verdict.Refused x ≡ isAcyclicAnswer (rulesOf c) c
   unfolding isAcyclicAnswer
@@ -40,7 +40,7 @@ module _ (c : Case) where
     pub checked : Shape c × Limited c
     checked =
         let d : asked ≡ none = outcome-done e in
-        let p = simp (tests, not-and-iff, none-below) at (none-applies (limitTest (rulesOf c) c ∷ edgeTests c false) .0 (rw d tt)) in (
+        let p = simp (tests, not-and-iff, none-below) at (none-applies (limitTest (rulesOf c) c ∷ edgeTests (rulesOf c) c false) .0 (rw d tt)) in (
           record {
             some-variable = p .0 .0 .0 .0;
             some-value = p .0 .0 .1 .0;

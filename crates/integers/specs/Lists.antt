@@ -95,6 +95,14 @@ module _ {A : Type 0} where
         go true t r = absurd t
         go false t r = r t
 
+    pub those-few : (xs : List A) → length (those f xs) ≤ length xs
+    those-few [] = omega arith
+    those-few (x ∷ xs) = go (f x) (those-few xs)
+      where
+        go : (b : Bool) → length (those f xs) ≤ length xs → length (if b then x ∷ those f xs else those f xs) ≤ suc (length xs)
+        go true h = omega arith
+        go false h = omega arith
+
     -- the first of them
     pub first-those : {x : A} (xs : List A) → first (those f xs) ≡ some x → x ∈ xs × T (f x)
     first-those xs e = in-those xs (go (those f xs) e)

@@ -9,7 +9,7 @@ use mathlib.Core.List.{List·Memᴰ·not-nil, Memᴰ·cast, Memᴰ·append-left,
 use Prim.Native.Nat.{_+_, min, max}
 use lib.IntN.{ℤ}
 use lib.Signed.{leZ, _≤ℤ_}
-use Rattle.integers.specs.Words.{if_then_else_, _>>=_, maxZ, minZ, greatestOf, leastOf}
+use Rattle.integers.specs.Words.{if_then_else_, _>>=_, maxZ, minZ, greatestOf, smallestOf, leastOf}
 use Rattle.integers.specs.Linear.{up, dn, zs, ≤ℤ-of-eq, ≤ℤ-trans, ≤ℤ-antisym}
 use Rattle.integers.specs.Lists.{_∈_}
 
@@ -72,6 +72,13 @@ greatest-of z (y ∷ l) = let (i, u) = greatest-of y l in (has (max-cases z (gre
 pub greatest-above : {z : ℤ} (l : List ℤ) → z ∈ l → z ≤ℤ greatestOf l
 greatest-above [] m = absurd (List·Memᴰ·not-nil m)
 greatest-above {z} (y ∷ l) m = greatest-of y l .1 z m
+
+pub smallest-below : {z : ℤ} (l : List ℤ) → z ∈ l → smallestOf l ≤ℤ z
+smallest-below [] m = absurd (List·Memᴰ·not-nil m)
+smallest-below (y ∷ []) (List·Memᴰ·head e) = ≤ℤ-of-eq (sym e)
+smallest-below (y ∷ []) (List·Memᴰ·tail m) = absurd (List·Memᴰ·not-nil m)
+smallest-below (y ∷ x ∷ l) (List·Memᴰ·head e) = ≤ℤ-trans (min-left y (smallestOf (x ∷ l))) (≤ℤ-of-eq (sym e))
+smallest-below (y ∷ x ∷ l) (List·Memᴰ·tail m) = ≤ℤ-trans (min-right y (smallestOf (x ∷ l))) (smallest-below (x ∷ l) m)
 
 pub greatest-attained : {z : ℤ} (l : List ℤ) → z ∈ l → greatestOf l ∈ l
 greatest-attained [] m = absurd (List·Memᴰ·not-nil m)

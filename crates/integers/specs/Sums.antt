@@ -1,19 +1,20 @@
 -- Sums: over the elements of a list (`sum-…`), and over the n numbers from a (`Σ-…`). Assumes nothing.
 use mathlib.Core.Path.{_≡_, refl, sym, ap, ap₂, _∙_}
-use mathlib.Core.Bool.{not}
+use mathlib.Core.Bool.{Bool, true, false, not}
 use mathlib.Core.Logic.{_≢_, _⊎_, inl, inr}
 use mathlib.Core.List.{List, [], _∷_, _++_, map, List·Memᴰ·head, List·Memᴰ·tail}
 use Prim.Native.Nat.{ℕ, zero, suc, _+_, _*_, _≤_, _<_}
 use native.Mathlib.Numerals.{add-one}
+use native.Mathlib.Nat.{add-comm}
 use native.Mathlib.Omega.{arith}
 use lib.IntN.{ℤ, pos, _+ℤ_, _-ℤ_, +ℤ-idl, +ℤ-assoc}
 use lib.Dec.{T, eqb, eqb→eq}
 use lib.Signed.{_≤ℤ_, _<ℤ_}
-use lib.ListN.{length}
-use Rattle.integers.specs.Words.{if_then_else_, from, sum, minus}
+use lib.ListN.{length, getD}
+use Rattle.integers.specs.Words.{if_then_else_, from, those, sum, minus}
 use Rattle.integers.specs.Tests.{either, if-true, if-false, not-eqb-iff}
 use Rattle.integers.specs.Linear.{flat, zs, _▸_}
-use Rattle.integers.specs.Lists.{_∈_, in-from, from-split, length-from, map-append, map-cong}
+use Rattle.integers.specs.Lists.{_∈_, in-from, from-split, from-shift, length-from, map-append, map-map, map-same, map-cong}
 
 -- ---- one step of a sum
 module _ (a b s t : ℤ) where
@@ -133,3 +134,31 @@ pub Σ-change : (f g : ℕ → ℤ) (a n : ℕ) {i : ℕ} → a ≤ i → i < a 
     go : (x : ℕ) → a ≤ x → x < a + n → T (eqb x i) ⊎ T (not (eqb x i)) → g x ≡ f x +ℤ only i (g i -ℤ f i) x
     go x p q (inl t) = if-true (g i -ℤ f i) (pos 0) (eqb x i) t ▸ ap g (eqb→eq x i t) ▸ ap f (eqb→eq x i t) ▸ simp flat (omega zs)
     go x p q (inr t) = h x p q (not-eqb-iff x i .0 t) ▸ if-false (g i -ℤ f i) (pos 0) (eqb x i) t ▸ simp flat (omega zs)
+
+-- ---- parts of a sum
+
+-- where a test passes, and where it does not
+pub sum-those : {A : Type 0} (f : A → ℤ) (test : A → Bool) (xs : List A)
+    → sum (map f xs) ≡ sum (map f (those (λ x. not (test x)) xs)) +ℤ sum (map f (those test xs))
+sum-those f test [] = refl
+sum-those f test (x ∷ xs) = go (test x) (sum-those f test xs)
+  where
+    go : (b : Bool) → sum (map f xs) ≡ sum (map f (those (λ x. not (test x)) xs)) +ℤ sum (map f (those test xs))
+        → f x +ℤ sum (map f xs)
+        ≡ sum (map f (if not b then x ∷ those (λ x. not (test x)) xs else those (λ x. not (test x)) xs))
+        +ℤ sum (map f (if b then x ∷ those test xs else those test xs))
+    go true e = e ▸ simp flat (omega zs)
+    go false e = e ▸ simp flat (omega zs)
+
+-- over the elements of a list, by their places
+pub Σ-list : (f : ℕ → ℤ) (xs : List ℕ) → Σ (λ q. f (getD xs q 0)) 0 (length xs) ≡ sum (map f xs)
+Σ-list f [] = refl
+Σ-list f (x ∷ xs) =
+    ap (λ (z : ℤ). f x +ℤ z) (ap sum (ap (map (λ q. f (getD (x ∷ xs) q 0))) (from-shift 1 0 (length xs))
+    ∙ map-map (λ q. f (getD (x ∷ xs) q 0)) (λ q. 1 + q) (from 0 (length xs)) ∙ map-same (length xs) (λ q h. rw (add-comm 1 q, add-one)))
+    ∙ Σ-list f xs)
+
+pub Σ-shift : (f : ℕ → ℤ) (a n : ℕ) → Σ f a n ≡ Σ (λ x. f (a + x)) 0 n
+Σ-shift f a n =
+    let e : a ≡ a + 0 = omega arith in
+    ap (λ (b : ℕ). Σ f b n) e ∙ ap (λ (l : List ℕ). sum (map f l)) (from-shift a 0 n) ∙ ap sum (map-map f (λ x. a + x) (from 0 n))

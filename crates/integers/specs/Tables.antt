@@ -1,6 +1,6 @@
 -- Lists read by index: the element at a place, tables of a function, and lists of equal parts, one after the other. Assumes nothing.
 use mathlib.Core.Path.{_≡_, refl, sym, ap, _∙_}
-use mathlib.Core.Bool.{Bool}
+use mathlib.Core.Bool.{Bool, true, false}
 use mathlib.Core.Logic.{_↔_}
 use mathlib.Core.List.{List, [], _∷_, map, List·Memᴰ·head, List·Memᴰ·tail, Memᴰ·of-map}
 use Prim.Native.Nat.{ℕ, zero, suc, _+_, _*_, _-_, _/_, _%_, _≤_, _<_}
@@ -9,8 +9,8 @@ use native.Mathlib.Omega.{arith}
 use lib.Dec.{T}
 use lib.ListN.{length, getD, take, drop, length-append, length-map, List·getD-append}
 use lib.Seq.{drop-append-add, getD-append-add, take-at}
-use Rattle.integers.specs.Words.{from, below, all, any, joined}
-use Rattle.integers.specs.Lists.{_∈_, all-in, any-in, length-from, in-below}
+use Rattle.integers.specs.Words.{if_then_else_, from, below, all, any, those, joined}
+use Rattle.integers.specs.Lists.{_∈_, all-in, any-in, in-those, length-from, in-from, in-below}
 
 -- ---- the element at a place
 module _ {A : Type 0} where
@@ -118,3 +118,23 @@ module _ {A : Type 0} (f : ℕ → List A) (n d : ℕ) (size : (x : ℕ) → x <
   getD-rows-at j z h =
       let p : 0 < d = some-wide n d h in
       ap (λ i. getD (joined (map f (below n))) i z) (sym (div-add-mod' j d)) ∙ getD-rows (j / d) (j % d) z (div-lt-iff-lt-mul p .1 h) (mod-lt j p)
+
+-- those of the numbers from a upwards rise
+module _ (f : ℕ → Bool) where
+  those-above : (n a : ℕ) {q : ℕ} → q < length (those f (from a n)) → a ≤ getD (those f (from a n)) q 0
+  those-above n a g = in-from a n (in-those f (from a n) (getD-in (those f (from a n)) 0 g) .0) .0
+
+  pub those-rising : (n a p q : ℕ) → p < q → q < length (those f (from a n)) → getD (those f (from a n)) p 0 < getD (those f (from a n)) q 0
+  those-rising zero a p q h g = absurd (omega arith)
+  those-rising (suc n) a p q h g = go (those-rising n (suc a)) (f a) p q h g
+    where
+      next : List ℕ
+      next = those f (from (suc a) n)
+
+      go : ((p q : ℕ) → p < q → q < length next → getD next p 0 < getD next q 0)
+          → (b : Bool) (p q : ℕ) → p < q → q < length (if b then a ∷ next else next)
+          → getD (if b then a ∷ next else next) p 0 < getD (if b then a ∷ next else next) q 0
+      go rest true p zero h g = absurd (omega arith)
+      go rest true zero (suc q) h g = omega (arith, those-above n (suc a) {q = q} (omega arith))
+      go rest true (suc p) (suc q) h g = rest p q (omega arith) (omega arith)
+      go rest false p q h g = rest p q h g

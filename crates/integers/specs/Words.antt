@@ -119,6 +119,12 @@ greatestOf [] = pos 0
 greatestOf (z ∷ []) = z
 greatestOf (z ∷ y ∷ zs) = maxZ z (greatestOf (y ∷ zs))
 
+-- the lowest of a list that is not empty
+abbrev pub smallestOf : List ℤ → ℤ
+smallestOf [] = pos 0
+smallestOf (z ∷ []) = z
+smallestOf (z ∷ y ∷ zs) = minZ z (smallestOf (y ∷ zs))
+
 -- the least of a list, which may have none
 abbrev pub leastOf : List ℤ → Option ℤ
 leastOf [] = none

@@ -19,18 +19,19 @@ use Rattle.definitions.specs.Rules.{Rules, rulesOf}
 use Rattle.definitions.specs.Refusals.{Test, _when_, firstOf}
 use Rattle.definitions.specs.Answers.{outcomeOf}
 use Rattle.definitions.specs.Case.{lentLength, lowerEnd, upperEnd}
-use Rattle.definitions.specs.Valid.{workingWeight, withinLimits, someEdge, endOutside, sameEnds, weightTest, scopeTest, handedOver}
+use Rattle.definitions.specs.Valid.{workingWeight, carryOut, withinLimits, someEdge, endOutside, sameEnds, weightTest, scopeTest, handedOver}
 use Rattle.definitions.specs.declared.Judgement.{Judgement}
 use Rattle.theory.proofs.Validity.{Handed, handed}
 use Rattle.theory.proofs.Replays.{none-iff}
 use Rattle.checker.specs.declared.Replay.{Replay}
 use Rattle.checker.specs.declared.Standing.{Standing}
 use Rattle.checker.specs.Checker.{isShort, recordOut, endingTests, endStanding, endReplay}
+use Rattle.checker_promise.proofs.Folds.{handed-unrefused}
 use Rattle.checker_promise.proofs.Logs.{logJudged}
 use Rattle.tables.proofs.Order.{outcome-done, outcome-refused, first-next, first-stops}
 use Rattle.judging.specs.Judging.{endJudged, finishTests, finishStanding}
 
--- ---- the tests by what each says: the limits, the length, the record or an end out of range, 6, 7, and those that follow, us; the end's, with 14
+-- ---- the tests by what each says: the limits, the length, the record, the carry or an end out of range, 6, 7, and those that follow, us; the end's, with 14
 
 abbrev lent : Bool → Bool → Bool → Bool → Bool → List Test → List Test
 lent l n k x y us = OutsideLimits when l ∷ WrongLength when n ∷ OutOfRange when k ∷ EndsNotAscending when x ∷ EdgeRepeated when y ∷ us
@@ -49,19 +50,20 @@ later-not false false true e = let z : _≡_ {A = ℕ} 0 1 = cc in omega arith
 later-not false false false e = let z : _≡_ {A = ℕ} 0 1 = cc in omega arith
 
 -- b: the end's number is 5
-module _ (b o e : Bool) where
-  out-same : (x y z : Bool) → (T b ↔ (outcomeOf (firstOf (ended false (o || e) x y z)) ≡ Outcome.Refused OutOfRange)) → (b || e) ≡ (o || e)
-  out-same x y z i = go b o e i
+module _ (b o k e : Bool) where
+  out-same : (x y z : Bool) → (T b ↔ (outcomeOf (firstOf (ended false (o || k || e) x y z)) ≡ Outcome.Refused OutOfRange)) → (b || k || e) ≡ (o || k || e)
+  out-same x y z i = go b o k e i
     where
-      go : (b o e : Bool) → (T b ↔ (outcomeOf (firstOf (ended false (o || e) x y z)) ≡ Outcome.Refused OutOfRange)) → (b || e) ≡ (o || e)
-      go true true e i = refl
-      go true false true i = refl
-      go true false false i = absurd (later-not x y z (i .0 tt))
-      go false true e i = absurd (i .1 refl)
-      go false false e i = refl
+      go : (b o k e : Bool) → (T b ↔ (outcomeOf (firstOf (ended false (o || k || e) x y z)) ≡ Outcome.Refused OutOfRange)) → (b || k || e) ≡ (o || k || e)
+      go true true k e i = refl
+      go true false true e i = refl
+      go true false false true i = refl
+      go true false false false i = absurd (later-not x y z (i .0 tt))
+      go false true k e i = absurd (i .1 refl)
+      go false false k e i = refl
 
-  lent-same : (l n x y z : Bool) (us : List Test) → (T b ↔ (outcomeOf (firstOf (ended l (o || e) x y z)) ≡ Outcome.Refused OutOfRange))
-      → firstOf (lent l n (b || e) x y us) ≡ firstOf (lent l n (o || e) x y us)
+  lent-same : (l n x y z : Bool) (us : List Test) → (T b ↔ (outcomeOf (firstOf (ended l (o || k || e) x y z)) ≡ Outcome.Refused OutOfRange))
+      → firstOf (lent l n (b || k || e) x y us) ≡ firstOf (lent l n (o || k || e) x y us)
   lent-same true n x y z us i = refl
   lent-same false true x y z us i = refl
   lent-same false false x y z us i = ap (λ (k : Bool). firstOf (lent false false k x y us)) (out-same x y z i)
@@ -86,16 +88,17 @@ module _ (at : ℕ) (good : Judgement) (z part : Bool) where
       go false true = refl
       go false false = refl
 
-  alike : (l n o e x y : Bool) (us : List Test) → firstOf (lent l n e x y us) ≡ none
-      → endJudged at (outcomeOf (firstOf (lent l n (o || e) x y us ++ short (z || part)))) good
-      ≡ logJudged at Outcome.Done (outcomeOf (firstOf (ended l (o || e) x y z))) part good
-  alike true n o e x y us i = absurd (none-some (sym i))
-  alike false true o e x y us i = absurd (none-some (sym i))
-  alike false false true e x y us i = refl
-  alike false false false true x y us i = absurd (none-some (sym i))
-  alike false false false false true y us i = absurd (none-some (sym i))
-  alike false false false false false true us i = absurd (none-some (sym i))
-  alike false false false false false false us i =
+  alike : (l n o k e x y : Bool) (us : List Test) → firstOf (lent l n (k || e) x y us) ≡ none
+      → endJudged at (outcomeOf (firstOf (lent l n (o || k || e) x y us ++ short (z || part)))) good
+      ≡ logJudged at Outcome.Done (outcomeOf (firstOf (ended l (o || k || e) x y z))) part good
+  alike true n o k e x y us i = absurd (none-some (sym i))
+  alike false true o k e x y us i = absurd (none-some (sym i))
+  alike false false true k e x y us i = refl
+  alike false false false true e x y us i = absurd (none-some (sym i))
+  alike false false false false true x y us i = absurd (none-some (sym i))
+  alike false false false false false true y us i = absurd (none-some (sym i))
+  alike false false false false false false true us i = absurd (none-some (sym i))
+  alike false false false false false false false us i =
       ap (λ (k : Option Refusal). endJudged at (outcomeOf k) good) (first-next (short (z || part)) us i) ∙ part-left
 
 -- ---- the same of a case, a table and a record
@@ -108,7 +111,10 @@ module _ (c : Case) (w : List ℤ) (p : Replay) where
   limit = not (withinLimits r (c .n) (c .d) (c .m))
 
   abbrev long : Bool
-  long = not (eqb (length w) (lentLength c)) || false
+  long = not (eqb (length w) (lentLength (rulesOf c) c)) || false
+
+  abbrev carried : Bool
+  carried = carryOut r c
 
   abbrev outside : Bool
   outside = someEdge c (endOutside c)
@@ -129,7 +135,7 @@ module _ (c : Case) (w : List ℤ) (p : Replay) where
   -- what is checked with the end's 5 is checked with the record's
   out-checked : (b : Bool) → (T b ↔ (outcomeOf (firstOf (endingTests r c p)) ≡ Outcome.Refused OutOfRange))
       → firstOf (handedOver r (workingWeight r) c w false b) ≡ firstOf (handedOver r (workingWeight r) c w false (recordOut r c p))
-  out-checked b i = lent-same b (recordOut r c p) outside limit long descending repeated isCut ofWeights i
+  out-checked b i = lent-same b (recordOut r c p) carried outside limit long descending repeated isCut ofWeights i
 
   abbrev checks : List Test
   checks = handedOver r (workingWeight r) c w false (recordOut r c p)
@@ -163,7 +169,7 @@ module _ (c : Case) (w : List ℤ) (p : Replay) where
       pub end-none : part ≡ false → e ≡ outcomeOf (firstOf (finishTests c w p part))
       end-none t =
           end-is
-          ∙ ap outcomeOf (ended-left limit long (recordOut r c p || outside) descending repeated isCut ofWeights passed
+          ∙ ap outcomeOf (ended-left limit long (recordOut r c p || carried || outside) descending repeated isCut ofWeights passed
           ∙ sym (left ∙ ap (λ (b : Bool). firstOf (short (isCut || b))) t ∙ ap (λ (b : Bool). firstOf (short b)) (or-false isCut)))
 
   -- a table that a call takes
@@ -172,8 +178,7 @@ module _ (c : Case) (w : List ℤ) (p : Replay) where
   unfolding endReplay
   finish-judged h at part good (Standing.Refused x) e = rw e
   finish-judged h at part good Standing.Good e =
-      let i = none-iff (firstOf (handedOver r (workingWeight r) c w false false)) .0 (handed r (workingWeight r) c w false false .1 (h, tt, tt)) in
-      rw e (alike at good isCut part limit long (recordOut r c p) outside descending repeated ofWeights i)
+      rw e (alike at good isCut part limit long (recordOut r c p) carried outside descending repeated ofWeights (handed-unrefused h))
 
   -- no number is left
   pub finish-done : (part : Bool) (s : Standing) → Outcome.Done ≡ finishStanding c w p part s → Handed r (workingWeight r) c w

@@ -19,6 +19,7 @@ use Rattle.definitions.specs.declared.Case.{Case}
 use Rattle.definitions.specs.declared.Rulebook.{Rulebook}
 use Rattle.definitions.specs.declared.Line.{Line}
 use Rattle.definitions.specs.declared.FileAnswer.{FileAnswer}
+use Rattle.definitions.specs.declared.CaseRead.{CaseRead}
 use Rattle.definitions.specs.declared.CaseSize.{CaseSize}
 use Rattle.definitions.specs.declared.Refusal.{Refusal}
 use Rattle.definitions.specs.declared.Refusal.the-variants.{WrongLength, CutShort}
@@ -27,11 +28,12 @@ use Rattle.definitions.specs.Refusals.{firstOf}
 use Rattle.definitions.specs.Case.{lentLength}
 use Rattle.definitions.specs.Lines.{lineLength}
 use Rattle.definitions.specs.CaseFiles.{CaseDue, dues, dueTests, Reading, took, headTests, headed, CaseCall, caseRefused, isCut, firstLine, afterFirst}
-use Rattle.definitions.specs.CaseFiles.{readDues, headRefusal, readCase, endTests, restRefusal, nothingAfter, readCaseAlone, caseSize}
+use Rattle.definitions.specs.CaseFiles.{readDues, headRefusal, readLines, readCase, endTests, restRefusal, nothingAfter, readCaseAlone, caseSize}
 use Rattle.definitions.specs.Places.{longestLines, longestCase}
 use Rattle.definitions.specs.Programs.{tableFor, pressRead, pressPrints}
 use Rattle.case_theory.proofs.CaseDues.{run-length, dues-run}
 use Rattle.case_theory.proofs.CaseTests.{CaseKinds, case-kinds, head-passed}
+use Rattle.case_theory.proofs.CaseReads.{zeroedCall, zeroed-read}
 
 -- the line of a refusal, or the lines used
 abbrev pub frontLine : FileAnswer → ℕ
@@ -119,13 +121,13 @@ module _ (book : Rulebook) where
     opened o l s =
         elim o [
           | none ↦
-              if eqb (length w) (lentLength (headed book l))
+              if eqb (length w) (lentLength r (headed book l))
               then readDues book (record { case = headed book l; table = w }) 1 (dues (headed book l)) s
               else caseRefused book WrongLength 0 w
           | some x ↦ caseRefused book x 0 w
         ]
 
-    opens : (t : List ℕ) → readCase book t w ≡ opened (headRefusal r t) (firstLine r t) (afterFirst r t)
+    opens : (t : List ℕ) → readLines book t w ≡ opened (headRefusal r t) (firstLine r t) (afterFirst r t)
     unfolding opened
     opens t = refl
 
@@ -133,11 +135,11 @@ module _ (book : Rulebook) where
         (record { case = headed book l; table = w }) 1 (dues (headed book l)) t
         → opened none l s ≡ opened none l t
     unfolding opened
-    opened-same l s t e = ap (λ (x : CaseCall). if eqb (length w) (lentLength (headed book l)) then x else caseRefused book WrongLength 0 w) e
+    opened-same l s t e = ap (λ (x : CaseCall). if eqb (length w) (lentLength r (headed book l)) then x else caseRefused book WrongLength 0 w) e
 
     opened-line : (l : Option Line) (s : List ℕ) (k : ℕ) → 1 + length (dues (headed book l)) ≤ k → frontLine (opened none l s .read .answer) ≤ k
     unfolding opened
-    opened-line l s k h = go (eqb (length w) (lentLength (headed book l)))
+    opened-line l s k h = go (eqb (length w) (lentLength r (headed book l)))
       where
         g : Reading
         g = record { case = headed book l; table = w }
@@ -158,7 +160,7 @@ module _ (book : Rulebook) where
 unfoldable pub front-sized : Rulebook → Option Refusal → Option Line → CaseSize
 front-sized b o l =
     elim o [
-      | none ↦ CaseSize.Size (headed b l .n) (headed b l .d) (headed b l .m) (lentLength (headed b l))
+      | none ↦ CaseSize.Size (headed b l .n) (headed b l .d) (headed b l .m) (lentLength (rulesIn b) (headed b l))
       | some x ↦ CaseSize.Refused x
     ]
 
@@ -185,13 +187,16 @@ module _ (book : Rulebook) where
       let k = run-length (dues-run c) in
       omega (arith, ap (λ (i : ℕ). c .m * i) v)
 
-  pub case-line : (t : List ℕ) (w : List ℤ) → frontLine (readCase book t w .read .answer) ≤ longestLines rules
-  case-line t w = rw (opens book w t) (go (headRefusal rules t) refl)
+  pub lines-line : (t : List ℕ) (w : List ℤ) → frontLine (readLines book t w .read .answer) ≤ longestLines rules
+  lines-line t w = rw (opens book w t) (go (headRefusal rules t) refl)
     where
       go : (o : Option Refusal) → headRefusal rules t ≡ o → frontLine
           (opened book w o (firstLine rules t) (afterFirst rules t) .read .answer) ≤ longestLines rules
       go none e = opened-line book w (firstLine rules t) (afterFirst rules t) (longestLines rules) (head-lines (isCut rules t) (firstLine rules t) e)
       go (some x) e = omega (arith, refused-line book w x (firstLine rules t) (afterFirst rules t))
+
+  pub case-line : (t : List ℕ) (w : List ℤ) → frontLine (readCase book t w .read .answer) ≤ longestLines rules
+  case-line t w = omega (arith, ap (λ (x : CaseRead). frontLine (x .answer)) (zeroed-read (readLines book t w)), lines-line t w)
 
   -- a front that holds the longest case
   module _ (front rest : List ℕ) (h : longestCase rules ≤ length front) where
@@ -209,7 +214,7 @@ module _ (book : Rulebook) where
         let e : (1 + k) * l ≡ l + k * l = omega arith in
         rw length-drop (omega (arith, mul-comm (longestLines rules) l))
 
-    long-front : (w : List ℤ) → readCase book (front ++ rest) w ≡ readCase book front w
+    long-front : (w : List ℤ) → readLines book (front ++ rest) w ≡ readLines book front w
     long-front w =
         opens book w (front ++ rest)
         ∙ ap₂ (λ (o : Option Refusal) (l : Option Line). opened book w o l (afterFirst rules (front ++ rest))) head-front (line-front rules front rest long)
@@ -233,7 +238,7 @@ module _ (book : Rulebook) where
   -- a front that holds the longest case or the whole input
   pub case-front : (front rest : List ℕ) → (longestCase rules ≤ length front) ⊎ (rest ≡ [])
       → (caseSize book (front ++ rest) ≡ caseSize book front) × ((w : List ℤ) → readCase book (front ++ rest) w ≡ readCase book front w)
-  case-front front rest (inl h) = (size-front front rest h, long-front front rest h)
+  case-front front rest (inl h) = (size-front front rest h, λ w. ap zeroedCall (long-front front rest h w))
   case-front front rest (inr e) =
       let n : front ++ rest ≡ front = rw e (append-nil front) in
       (ap (caseSize book) n, λ w. ap (λ (t : List ℕ). readCase book t w) n)
@@ -280,8 +285,8 @@ module _ (book : Rulebook) (front rest : List ℕ) (h : longestCase (rulesIn boo
   pub alone-front : (w : List ℤ) → readCaseAlone book (front ++ rest) w ≡ readCaseAlone book front w
   alone-front w =
       let long : longestCase under ≤ length front = omega arith in
-      ap (λ (k : CaseCall). nothingAfter book (front ++ rest) k (k .read .answer)) (long-front book front rest long w)
-      ∙ ends-front (readCase book front w) (readCase book front w .read .answer) (case-line book front w)
+      ap zeroedCall (ap (λ (k : CaseCall). nothingAfter book (front ++ rest) k (k .read .answer)) (long-front book front rest long w)
+      ∙ ends-front (readLines book front w) (readLines book front w .read .answer) (lines-line book front w))
 
 -- a front that holds the longest case and a line more, or the whole input, is printed as the whole input is
 pub press-front : (book : Rulebook) (front rest : List ℕ) → (longestCase (rulesIn book) + lineLength (rulesIn book .amountWidth) ≤ length front) ⊎ (rest ≡ [])

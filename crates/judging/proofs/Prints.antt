@@ -26,7 +26,7 @@ use Rattle.definitions.specs.CaseFiles.{CaseCall, readCase, caseSize}
 use Rattle.definitions.specs.declared.Judgement.{Judgement}
 use Rattle.definitions.specs.Programs.{judgementText, tableFor, judgeLog, judgeRead, judge, replayPrints}
 use Rattle.checker.specs.Checker.{BlockCall, isVoid, goodIn, freshReplay, endReplay, foldReplay}
-use Rattle.theory.proofs.Validity.{Handed}
+use Rattle.theory.proofs.Validity.{Handed, valid-facts}
 use Rattle.theory.proofs.Replays.{sound-fresh, sound-after, handed-after}
 use Rattle.case_theory.proofs.CaseReads.{read-rulebook}
 use Rattle.case_theory.proofs.CaseTexts.{IsText, written-read, text-length, lineCount}
@@ -82,7 +82,7 @@ lines-within book front w {lines} e =
     let width : lineLength (rulesOf c .amountWidth) ≡ k = ap (λ (b : Rulebook). lineLength (rulesIn b .amountWidth)) (read-rulebook book front w) in
     let same : lines * k ≡ length (take (lines * k) front) =
     ap (λ (n : ℕ). n * k) (text .same-count) ∙ mul-comm (lineCount c) k ∙ sym (ap (λ (n : ℕ). n * lineCount c) width)
-    ∙ sym (text-length (coherent (c .rulebook)) c (readCase book front w .table) (text .accepted)) ∙ ap length (text .same-text) in
+    ∙ sym (text-length (coherent (c .rulebook)) c (readCase book front w .table) (valid-facts (rulesOf c) c (readCase book front w .table) (text .accepted))) ∙ ap length (text .same-text) in
     omega (arith, length-take (lines * k) front)
 
 -- ---- the text of a judgement

@@ -4,7 +4,7 @@ use mathlib.Core.Bool.{Bool, true, false}
 use mathlib.Core.Option.{Option, none, some}
 use mathlib.Core.List.{List, _∷_}
 use Prim.Native.Nat.{ℕ, zero, suc, _*_, _≤_}
-use native.Mathlib.Nat.{mul-le-mul}
+use native.Mathlib.Nat.{mul-le-mul, mul-le-mul-left}
 use native.Mathlib.Omega.{arith}
 use lib.IntN.{ℤ, pos}
 use lib.ListN.{length, take, replicate, length-replicate}
@@ -30,15 +30,15 @@ module _ (book : Rulebook) where
   r = rulesIn book
 
   -- a head that is taken asks for no longer one
-  head-long : (b : Bool) (l : Option Line) → (if b then some CutShort else firstOf (headTests r l)) ≡ none → lentLength (headed book l) ≤ longestTable r
+  head-long : (b : Bool) (l : Option Line) → (if b then some CutShort else firstOf (headTests r l)) ≡ none → lentLength r (headed book l) ≤ longestTable r
   head-long true l e = absurd (none-some (sym e))
   head-long false none e = absurd (none-some (sym e))
   head-long false (some l) e =
       let (same, limits) = head-passed (case-kinds (coherent book)) l e in
-      let c : Case = headed book (some l) in
-      let p : c .n * c .d ≤ r .variables * r .values = mul-le-mul (limits .variables-most) (limits .values-most) in
-      let q : c .d * c .d ≤ r .values * r .values = mul-le-mul (limits .values-most) (limits .values-most) in
-      let u : c .m * (c .d * c .d) ≤ r .edges * (r .values * r .values) = mul-le-mul {m₁ = c .d * c .d} (limits .edges-most) q in
+      let d : ℕ = headed book (some l) .d in
+      let p : r .variables * d ≤ r .variables * r .values = mul-le-mul-left (r .variables) (limits .values-most) in
+      let q : d * d ≤ r .values * r .values = mul-le-mul (limits .values-most) (limits .values-most) in
+      let u : r .edges * (d * d) ≤ r .edges * (r .values * r .values) = mul-le-mul-left (r .edges) q in
       omega arith
 
   table-long : (t : List ℕ) → length (tableFor (caseSize book t)) ≤ longestTable r
@@ -46,7 +46,7 @@ module _ (book : Rulebook) where
   table-long t = go (headRefusal r t) refl
     where
       go : (o : Option Refusal) → headRefusal r t ≡ o → length (tableFor (front-sized book o (firstLine r t))) ≤ longestTable r
-      go none e = let c : Case = headed book (firstLine r t) in omega (arith, length-replicate (lentLength c) (pos 0), head-long (isCut r t) (firstLine r t) e)
+      go none e = let c : Case = headed book (firstLine r t) in omega (arith, length-replicate (lentLength r c) (pos 0), head-long (isCut r t) (firstLine r t) e)
       go (some x) e = omega arith
 
   -- the programs' tables have places for it

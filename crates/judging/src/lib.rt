@@ -95,7 +95,7 @@ fn is_out(ended: Outcome) -> bool
     }
 }
 
-// A record that is good. The end asks 5 of the record and of the edges, which are asked here again with the table.
+// A record that is good. The end asks 5 of the record, the carry and the edges, which are asked here again with the table.
 fn finish_good(case: Case, table: &[i64], replay: Replay, part: bool) -> Outcome
     requires { ⌜ replay .standing ≡ Standing.Good ⌝ }
     ensures { λ r. ⌜ r ≡ outcomeOf (firstOf (finishTests case (now (table .entry)) replay part)) ⌝ }

@@ -1,13 +1,15 @@
 // What the programs print, by the calls that they are made of. Standard input holds lines of 27 bytes. One that is not in columns names what is
-// tried and is printed. Of kinds 20 and 21, a is the table's places, c the output's bytes and amount the number of bytes that follow and are the
-// program's input. Kind 20: judged by `judging`, the log in blocks of b lines, and printed. Kind 22: the same, and the judgement printed as numbers:
-// the rounds and the bound, or void, or the number and its line. Kind 21: pressed by `pressing`, each call's text printed, and then the calls of
-// `next` and the rounds that may still follow; where b is not 0, one more call is lent the output's first b bytes, and its answer is printed.
+// tried and is printed. Of kinds 20 and 21, a is the table's places (where the case has as many, a full case's are lent), c the output's bytes
+// and amount the number of bytes that follow and are the program's input. Kind 20: judged by `judging`, the log in blocks of b lines, and printed.
+// Kind 22: the same, and the judgement printed as numbers: the rounds and the bound, or void, or the number and its line. Kind 21: pressed by
+// `pressing`, each call's text printed, and then the calls of `next` and the rounds that may still follow; where b is not 0, one more call is lent
+// the output's first b bytes, and its answer is printed.
 // The file `stdout` has what the peer's programs print of these inputs; where a table or an output is too short it was worked out from documents 01
 // and 02.
 use definitions::FileAnswer;
 use definitions::Judgement;
 use definitions::Line;
+use definitions::TABLE_PLACES;
 use definitions::Written;
 use judging::Judging;
 use pressing::Pressing;
@@ -195,13 +197,13 @@ fn call(input: &[u8], table: &mut [i64], out: &mut [u8], line: Line) {
 }
 
 fn lend(input: &[u8], line: Line) {
-    let places = count(line.a);
+    let lent = drivers::lent_for(input, count(line.a));
     let room = count(line.c);
-    let mut table = [0i64; 64];
+    let mut table = [0i64; TABLE_PLACES];
     let mut out = [46u8; 320];
-    if places <= 64 {
+    if lent <= TABLE_PLACES {
         if room <= 320 {
-            call(input, &mut table[0..places], &mut out[0..room], line);
+            call(input, &mut table[0..lent], &mut out[0..room], line);
         }
     }
 }

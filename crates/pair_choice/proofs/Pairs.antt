@@ -26,14 +26,14 @@ use Rattle.theory.proofs.Validity.{Handed}
 use Rattle.pair_theory.specs.Closed.{lowerAt, bothAt, tupleLeaves, pairLeaves, tupleLowers, pairLowers}
 use Rattle.pair_theory.proofs.Gains.{lower-tuple, upper-tuple, active-not-lower}
 use Rattle.pair_theory.proofs.Passing.{ready-is}
-use Rattle.tables.specs.Scopes.{BestOf}
+use Rattle.tables.specs.Scopes.{BestOf, isSized}
 use Rattle.tables.proofs.Answered.{limits-true, greatest-working}
 use Rattle.marks.specs.Marks.{mark}
 use Rattle.marks.proofs.Laws.{mark-byteOf}
 use Rattle.arcs.specs.Active.{activeSet, activeRow}
 use Rattle.arcs.specs.Partners.{hasPartner, isPartner}
 use Rattle.pair_choice.specs.declared.Asked.{Asked}
-use Rattle.pair_choice.specs.PairChoice.{shiftedOf, tuplePasses, tuplesHave, roundLeaves, isSized, leavesBy, pairedOf, hasChoice, activeChoice}
+use Rattle.pair_choice.specs.PairChoice.{shiftedOf, tuplePasses, tuplesHave, roundLeaves, leavesBy, pairedOf, hasChoice, activeChoice}
 use Rattle.pair_choice.specs.PairChoice.{allWorking, mostLeft, takesRound, takesPair, lowestPairAnswer}
 
 -- what is shifted of a weight that a table may hold is in the range
@@ -46,7 +46,7 @@ shifted-works r z t = go (isBarred z) refl
 
 module _ {c : Case} {w : List ℤ} (h : Handed (rulesOf c) (workingWeight (rulesOf c)) c w) where
   sized : isSized (rulesOf c) c (length w) ≡ true
-  sized = rw (limits-true h, eq-eqb (length w) (lentLength c) (h .long))
+  sized = rw (limits-true h, eq-eqb (length w) (lentLength (rulesOf c) c) (h .long))
 
   -- ---- one pair
   module _ (e : ℕ) (edge : e < c .m) where

@@ -17,10 +17,11 @@ use Rattle.definitions.proofs.RulesLaws.{rules-fit}
 use Rattle.definitions.specs.Case.{lowerEnd, upperEnd}
 use Rattle.definitions.specs.Valid.{endOutside}
 use Rattle.theory.proofs.Places.{place-variable, place-edge}
-use Rattle.tables.proofs.Order.{limited-by}
+use Rattle.tables.specs.Scopes.{isSized}
+use Rattle.tables.proofs.Order.{sized}
 use Rattle.arcs.specs.Active.{Sized}
 use Rattle.pair_choice.specs.declared.Asked.{Asked}
-use Rattle.pair_choice.specs.PairChoice.{allWorking, tuplesHave, rowsHave, isSized}
+use Rattle.pair_choice.specs.PairChoice.{allWorking, tuplesHave, rowsHave}
 
 -- ---- sums
 module _ {r : Rules} (limits : Coherent r) (a b z : ℤ) (t : allWorking r a b z ≡ true) where
@@ -54,6 +55,4 @@ module _ (r : Rules) (c : Case) (w : List ℤ) (asked : Asked) (e : ℕ) (inside
 
 -- ---- a table of the case's length
 pub sized-known : (c : Case) (w : List ℤ) → isSized (rulesOf c) c (length w) ≡ true → Sized c w
-sized-known c w t =
-    let ((((p, q), (s, u)), (v, x)), long) = simp tests at t in
-    record { limits = limited-by c p q s u x; long = long }
+sized-known c w t = let (l, e) = sized c (length w) t in record { limits = l; long = e }

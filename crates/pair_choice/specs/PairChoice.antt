@@ -5,16 +5,16 @@ use mathlib.Core.Option.{Option, none, some}
 use mathlib.Core.List.{List}
 use Prim.Native.Nat.{ℕ, _+_, _*_, _≤_, _<_}
 use lib.IntN.{ℤ, pos, _+ℤ_, _-ℤ_}
-use lib.Dec.{eqb, ltb}
+use lib.Dec.{ltb}
 use lib.Signed.{leZ}
 use lib.ListN.{length, getD}
 use Rattle.integers.specs.Words.{if_then_else_, below, any, those, first}
 use Rattle.definitions.specs.declared.Case.{Case}
 use Rattle.definitions.specs.Rules.{Rules}
-use Rattle.definitions.specs.Case.{values, lowerEnd, upperEnd, scopeCount, lentLength, weight, barredWeight, isBarred}
-use Rattle.definitions.specs.Valid.{inWorking, withinLimits, endOutside}
+use Rattle.definitions.specs.Case.{values, lowerEnd, upperEnd, scopeCount, weight, barredWeight, isBarred}
+use Rattle.definitions.specs.Valid.{inWorking, endOutside}
 use Rattle.marks.specs.Marks.{mark}
-use Rattle.tables.specs.Scopes.{bestAt}
+use Rattle.tables.specs.Scopes.{bestAt, isSized}
 use Rattle.arcs.specs.Partners.{hasPartner}
 use Rattle.pair_choice.specs.declared.Asked.{Asked}
 use Rattle.pair_choice.specs.declared.Paired.{Paired}
@@ -56,10 +56,6 @@ tuplesHave r c w e asked =
 -- where an end is no variable, there is no round
 abbrev pub roundLeaves : Rules → Case → List ℤ → ℕ → Bool
 roundLeaves r c w e = endOutside c e || tuplesHave r c w e (Asked.Passes (pos (r .working)))
-
--- numbers 3 and 4 apply neither to the case nor to a table of this length
-abbrev pub isSized : Rules → Case → ℕ → Bool
-isSized r c long = withinLimits r (c .n) (c .d) (c .m) && eqb long (lentLength c)
 
 -- the round of edge e leaves the range, or there is none
 unfoldable pub leavesBy : Rules → Case → List ℤ → ℕ → Bool

@@ -13,7 +13,7 @@ ghost use Rattle.definitions.specs.Case.{scopeCount};
 ghost use Rattle.definitions.specs.Valid.{inWorking, endOutside};
 ghost use Rattle.arcs.specs.Active.{Sized};
 ghost use Rattle.pair_choice.specs.PairChoice.{shiftedOf, allWorking, tupleStays, tuplePasses, isFree, isAsked, rowHas, rowsHave, tuplesHave};
-ghost use Rattle.pair_choice.specs.PairChoice.{roundLeaves, isSized, leavesBy, pairedOf, hasChoice, lessOne, mostLeft, takesRound, takesPair};
+ghost use Rattle.pair_choice.specs.PairChoice.{roundLeaves, leavesBy, pairedOf, hasChoice, lessOne, mostLeft, takesRound, takesPair};
 ghost use Rattle.pair_choice.specs.PairChoice.{NextCandidate, marksShort, lowestPairAnswer};
 
 // The pair to take, if there is one.
@@ -207,16 +207,6 @@ fn round_leaves(case: Case, table: &[i64], edge: usize) -> bool
     tuples_have(case, table, Asked::Passes(most), edge)
 }
 
-// Numbers 3 and 4 do not apply to a table of this length.
-fn is_sized(case: Case, length: usize) -> bool
-    ensures { λ r. ⌜ r ≡ isSized (rulesOf case) case length ⌝ }
-{
-    if !tables::within_limits(case) {
-        return false;
-    }
-    length == case.n * case.d + case.m * (case.d * case.d)
-}
-
 // ---- the pair
 
 // 0 from the slice's end on.
@@ -330,7 +320,7 @@ fn marks_short(case: Case, acts: usize, rows: usize) -> bool
 pub fn leaves_range(case: Case, table: &[i64], edge: usize) -> bool
     ensures { λ r. ⌜ r ≡ leavesBy (rulesOf case) case (now (table .entry)) edge ⌝ }
 {
-    if !is_sized(case, table.len()) {
+    if !tables::is_sized(case, table.len()) {
         return true;
     }
     if case.m <= edge {
@@ -344,7 +334,7 @@ pub fn leaves_range(case: Case, table: &[i64], edge: usize) -> bool
 pub fn lowest_pair(case: Case, table: &[i64], best: &[i64], acts: &[u8], rows: &[u8]) -> Paired
     ensures { λ r. ⌜ r ≡ lowestPairAnswer (rulesOf case) case (now (table .entry)) (now (best .entry)) (now (acts .entry)) (now (rows .entry)) ⌝ }
 {
-    if !is_sized(case, table.len()) {
+    if !tables::is_sized(case, table.len()) {
         return Paired::Nothing;
     }
     if best.len() < case.n + case.m {

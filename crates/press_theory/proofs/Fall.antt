@@ -17,7 +17,7 @@ use Rattle.integers.specs.Linear.{flat, zs, _▸_, ≤ℤ-antisym, T-eq}
 use Rattle.integers.specs.Lists.{_∈_, isIn-in}
 use Rattle.integers.specs.Sums.{Σ-cong, Σ-sub, Σ-only, only}
 use Rattle.definitions.specs.declared.Case.{Case}
-use Rattle.definitions.specs.Case.{scopeCount, weight, greatest, upperBound, active, barred, barredWeight}
+use Rattle.definitions.specs.Case.{scopeCount, weight, greatest, sumOfGreatest, upperBound, active, barred, barredWeight}
 use Rattle.definitions.specs.Rules.{Rules, Coherent, barring}
 use Rattle.definitions.specs.Valid.{inWorking, workingWeight}
 use Rattle.definitions.specs.Moves.{Difference, onlyWhere, activePress, moved, pressBy, activeValues, leavesRange, afterMoves}
@@ -128,6 +128,8 @@ module _ (c : Case) (w : List ℤ) {i : ℕ} {a : ℤ} (shape : Shape c) (which 
 
     pub fall : upperBound c (enginePressed c w i a) ≡ upperBound c w -ℤ a
     fall =
+        let e : sumOfGreatest c (enginePressed c w i a) ≡ sumOfGreatest c w -ℤ a =
         Σ-cong (greatest c (enginePressed c w i a)) (λ x. greatest c w x -ℤ only i a x) 0 (scopeCount c) (λ x l u. greatest-pressed x (omega arith))
         ∙ Σ-sub (greatest c w) (only i a) 0 (scopeCount c)
-        ∙ ap (λ (z : ℤ). upperBound c w -ℤ z) (Σ-only i a 0 (scopeCount c) (omega arith) (omega (arith, chosen-some c w which .0)))
+        ∙ ap (λ (z : ℤ). sumOfGreatest c w -ℤ z) (Σ-only i a 0 (scopeCount c) (omega arith) (omega (arith, chosen-some c w which .0))) in
+        e ▸ simp flat (omega zs)

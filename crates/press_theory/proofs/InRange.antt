@@ -77,8 +77,8 @@ module _ {c : Case} {w₀ : List ℤ} (shape : Shape c) where
         (press-moves shape p w (free-lawful c w free shape p assigned) i h (activeValues c w i) (keptScopes c w i) (kept-refuted c w i t) a
         (above-zero a (amount-some c w shape e g)))
 
-    pub reached-bound : {w : List ℤ} → Reached c w₀ w → objective c w₀ p ≤ℤ upperBound c w
-    reached-bound {w} r = ≤ℤ-trans (reached-objective r) (bound-above shape p assigned w)
+    pub reached-bound : {w : List ℤ} → Reached c w₀ w → (objective c w₀ p +ℤ c .carry) ≤ℤ upperBound c w
+    reached-bound {w} r = reached-objective r ▸ bound-above shape p assigned w ▸ simp flat (omega zs)
 
 -- ---- from starting weights
 
@@ -112,7 +112,8 @@ module _ {r : Rules} {c : Case} {w₀ : List ℤ} (coherent : Coherent r) (valid
   start-greatest x h = greatest-within c w₀ (first-tuple c (shape .some-value) x h) (λ k l t. free-weight t .1)
 
   -- what lies above every objective lies at most 2·s·U below the upper bound
-  pub bound-spread : (z : ℤ) → ((p : List ℕ) → T (isAssignment c p) → objective c w₀ p ≤ℤ z) → upperBound c w₀ ≤ℤ (pos (2 * (scopeCount c * r .starting)) +ℤ z)
+  pub bound-spread : (z : ℤ) → ((p : List ℕ) → T (isAssignment c p) → (objective c w₀ p +ℤ c .carry) ≤ℤ z)
+      → upperBound c w₀ ≤ℤ (pos (2 * (scopeCount c * r .starting)) +ℤ z)
   bound-spread z above =
       Σ-most (greatest c w₀) (r .starting) 0 (scopeCount c) (λ x l u. start-greatest x (omega arith))
       ▸ Σ-least (λ x. atUsed c (zeros c) x (weight c w₀ x)) (r .starting) 0 (scopeCount c)

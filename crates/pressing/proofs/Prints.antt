@@ -15,6 +15,7 @@ use Rattle.integers.specs.Words.{if_then_else_, joined}
 use Rattle.integers.specs.Lists.{joined-append}
 use Rattle.definitions.specs.declared.Rulebook.{Rulebook}
 use Rattle.definitions.specs.declared.Case.{Case}
+use Rattle.definitions.specs.declared.CaseRead.{CaseRead}
 use Rattle.definitions.specs.declared.FileAnswer.{FileAnswer}
 use Rattle.definitions.specs.declared.Refusal.{Refusal}
 use Rattle.definitions.specs.declared.Refusal.the-variants.{LeavesRange}
@@ -24,7 +25,7 @@ use Rattle.calls.specs.Calls.{WriteCall, writtenOf}
 use Rattle.definitions.specs.Valid.{workingWeight}
 use Rattle.definitions.specs.Moves.{Move, afterMoves}
 use Rattle.definitions.specs.Lines.{lineLength, overwritten}
-use Rattle.definitions.specs.CaseFiles.{CaseCall, caseOf, caseRefused, caseSize, restRefusal, nothingAfter, readCase, readCaseAlone}
+use Rattle.definitions.specs.CaseFiles.{CaseCall, caseOf, caseRefused, caseSize, restRefusal, nothingAfter, readLines, readLinesAlone, readCaseAlone}
 use Rattle.definitions.specs.Engine.{Next, nothing, round, void, Made, engineNext, roundBytes, madeOf, makeNext, atLimit, onward, runFrom}
 use Rattle.calls.specs.EngineCalls.{RoundCall, roundMade, engineRefusal, roundCall}
 use Rattle.definitions.specs.Places.{longestLines, longestRound, placed}
@@ -33,14 +34,14 @@ use Rattle.definitions.specs.RoundLines.{roundText, voidText}
 use Rattle.reach_theory.proofs.Counts.{roundsLeft, left-most, left-less, void-left-some}
 use Rattle.pressing.proofs.Unlimited.{most-few}
 use Rattle.theory.proofs.Validity.{Handed, valid-facts, working-handed}
-use Rattle.case_theory.proofs.CaseReads.{alone-rulebook}
+use Rattle.case_theory.proofs.CaseReads.{zeroed-read, alone-rulebook}
 use Rattle.case_theory.proofs.CaseTexts.{written-read-alone}
 use Rattle.engine_theory.proofs.Runs.{RoundFrom, handed-on}
 use Rattle.engine_theory.proofs.Engine.{engine-lawful}
 use Rattle.engine_theory.proofs.Calls.{taken-iff, call-taken, round-short}
 use Rattle.texts.specs.Texts.{textRoom, greatestCount, writeRefusedCall}
 use Rattle.texts.proofs.Answers.{text-done}
-use Rattle.judging.proofs.Fronts.{frontLine, case-line, press-front}
+use Rattle.judging.proofs.Fronts.{frontLine, lines-line, press-front}
 use Rattle.judging.proofs.Prints.{few-lines}
 use Rattle.pressing.specs.Pressing.{PressingCall, afterText, afterRound, headOrShort, afterCase, startPressing, roundNext, nextPressing}
 use Rattle.pressing.specs.Prints.{printedBytes, textOf, called, afterCalls, printedOf, Over, Printed, PressPrinted}
@@ -86,23 +87,28 @@ module _ (book : Rulebook) (t : List ℕ) (w : List ℤ) where
   -- what is left after the case, by its refusal
   rest : ℕ → Option Refusal → CaseCall
   rest lines o = elim o [
-    | none ↦ readCase book t w
-    | some x ↦ caseRefused book x lines (readCase book t w .table)
+    | none ↦ readLines book t w
+    | some x ↦ caseRefused book x lines (readLines book t w .table)
   ]
 
-  rest-line : (lines : ℕ) (o : Option Refusal) → readCase book t w .read .answer ≡ FileAnswer.Read lines
+  rest-line : (lines : ℕ) (o : Option Refusal) → readLines book t w .read .answer ≡ FileAnswer.Read lines
       → frontLine (rest lines o .read .answer) ≤ longestLines (rulesIn book)
   unfolding rest
-  rest-line lines none e = case-line book t w
-  rest-line lines (some x) e = omega (arith, case-line book t w, ap frontLine e)
+  rest-line lines none e = lines-line book t w
+  rest-line lines (some x) e = omega (arith, lines-line book t w, ap frontLine e)
 
   alone-line : frontLine (readCaseAlone book t w .read .answer) ≤ longestLines (rulesIn book)
   unfolding rest
-  alone-line = go (readCase book t w .read .answer) refl
+  alone-line =
+      omega (
+        arith,
+        ap (λ (x : CaseRead). frontLine (x .answer)) (zeroed-read (readLinesAlone book t w)),
+        go (readLines book t w .read .answer) refl,
+      )
     where
-      go : (a : FileAnswer) → readCase book t w .read .answer ≡ a
-          → frontLine (nothingAfter book t (readCase book t w) a .read .answer) ≤ longestLines (rulesIn book)
-      go (FileAnswer.Refused x at) e = case-line book t w
+      go : (a : FileAnswer) → readLines book t w .read .answer ≡ a
+          → frontLine (nothingAfter book t (readLines book t w) a .read .answer) ≤ longestLines (rulesIn book)
+      go (FileAnswer.Refused x at) e = lines-line book t w
       go (FileAnswer.Read lines) e = rest-line lines (restRefusal (rulesIn book) (drop (lines * lineLength (rulesIn book .amountWidth)) t)) e
 
 -- ---- rounds

@@ -58,6 +58,7 @@ fn no_case() -> Case
         m: 0,
         lower,
         upper,
+        carry: 0,
         rulebook: Rulebook::Desk,
     }
 }

@@ -83,6 +83,22 @@ pub fn most_moving(rulebook: Rulebook) -> i64
     }
 }
 
+pub fn least_carried(rulebook: Rulebook) -> i64
+    ensures { λ r. ⌜ r ≡ minus (rulesIn rulebook .carried) ⌝ }
+{
+    match rulebook {
+        Rulebook::Desk => -20_000_000_000,
+    }
+}
+
+pub fn most_carried(rulebook: Rulebook) -> i64
+    ensures { λ r. ⌜ r ≡ pos (rulesIn rulebook .carried) ⌝ }
+{
+    match rulebook {
+        Rulebook::Desk => 20_000_000_000,
+    }
+}
+
 pub fn most_rounds(rulebook: Rulebook) -> u64
     ensures { λ r. ⌜ r ≡ rulesIn rulebook .rounds ⌝ }
 {

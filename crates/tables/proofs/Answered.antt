@@ -1,16 +1,16 @@
 -- The answer to a check: what is answered where a number applies, and what is known where none does. Assumes nothing.
 use mathlib.Core.Path.{_≡_, sym}
-use mathlib.Core.Bool.{Bool, true, not}
+use mathlib.Core.Bool.{Bool, true, false, not}
 use mathlib.Core.Option.{Option, none, some}
 use mathlib.Core.List.{List}
 use Prim.Native.Nat.{ℕ, _<_}
 use native.Mathlib.Omega.{arith}
-use lib.IntN.{ℤ}
+use lib.IntN.{ℤ, pos}
 use lib.Dec.{T}
 use lib.ListN.{length}
 use borrow.Author.Tests.{eq-eqb, lt-ltb}
-use Rattle.integers.specs.Words.{if_then_else_}
-use Rattle.integers.specs.Tests.{tests}
+use Rattle.integers.specs.Words.{if_then_else_, withinZ, minus}
+use Rattle.integers.specs.Tests.{tests, is-true}
 use Rattle.definitions.specs.declared.Case.{Case}
 use Rattle.definitions.specs.declared.Refusal.{Refusal}
 use Rattle.definitions.specs.declared.Outcome.{Outcome}
@@ -20,7 +20,7 @@ use Rattle.definitions.specs.Rules.{rulesOf, coherent}
 use Rattle.definitions.specs.Refusals.{firstOf}
 use Rattle.definitions.specs.Answers.{outcomeOf}
 use Rattle.definitions.specs.Case.{scopeCount, lentLength, greatest, upperBound}
-use Rattle.definitions.specs.Valid.{inWorking, workingWeight, withinLimits, handedOver}
+use Rattle.definitions.specs.Valid.{inWorking, workingWeight, carryOut, withinLimits, handedOver}
 use Rattle.calls.specs.Calls.{figureOf, verdictOf}
 use Rattle.theory.proofs.Barred.{greatest-in-range}
 use Rattle.theory.proofs.Validity.{Handed, handed}
@@ -65,11 +65,14 @@ module _ {c : Case} {w : List ℤ} (h : Handed (rulesOf c) (workingWeight (rules
   pub greatest-working : (x : ℕ) → x < scopeCount c → T (inWorking (rulesOf c) (greatest c w x))
   greatest-working x l = greatest-in-range c (coherent (c .rulebook)) w (h .in-range) x l (h .some-free x l)
 
+  pub carry-known : carryOut (rulesOf c) c ≡ false
+  carry-known = let k = is-true (withinZ (minus (rulesOf c .carried)) (pos (rulesOf c .carried)) (c .carry)) (h .carry-in) in rw k
+
   -- on a table that was checked the sum of the greatest weights is the upper bound
   pub greatest-sum-known : greatestSum (rulesOf c) c w ≡ Figure.Value (upperBound c w)
   unfolding greatestSum
-  greatest-sum-known = rw (limits-true, eq-eqb (length w) (lentLength c) (h .long)) (sym (sum-given c (greatest c w) greatest-working))
+  greatest-sum-known = rw (limits-true, eq-eqb (length w) (lentLength (rulesOf c) c) (h .long)) (sym (sum-given c (greatest c w) carry-known greatest-working))
 
   pub scope-weights-known : (x : ℕ) → x < scopeCount c → scopeWeights (rulesOf c) c w x ≡ scopePart c w x
   unfolding scopeWeights
-  scope-weights-known x l = rw (limits-true, eq-eqb (length w) (lentLength c) (h .long), lt-ltb x (scopeCount c) l)
+  scope-weights-known x l = rw (limits-true, eq-eqb (length w) (lentLength (rulesOf c) c) (h .long), lt-ltb x (scopeCount c) l)

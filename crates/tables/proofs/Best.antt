@@ -23,7 +23,7 @@ use Rattle.definitions.specs.Valid.{workingWeight, withinLimits}
 use Rattle.theory.proofs.Validity.{Handed}
 use Rattle.tables.specs.Scopes.{bestAt, BestOf, writtenOver, greatestCall, sumInRange, bestSum}
 use Rattle.tables.proofs.Bounds.{sum-given, sum-same}
-use Rattle.tables.proofs.Answered.{limits-true, greatest-working}
+use Rattle.tables.proofs.Answered.{limits-true, carry-known, greatest-working}
 
 -- n numbers written over the first places
 module _ (f : ℕ → ℤ) (n : ℕ) (out : List ℤ) (room : n ≤ length out) where
@@ -64,7 +64,7 @@ pub best-sum-known : {c : Case} {w best : List ℤ} → Handed (rulesOf c) (work
 unfolding bestSum
 best-sum-known {c} {w} {best} h b =
     rw (limits-true h, le-ltb (length best) (scopeCount c) (b .enough))
-    (sum-same c (bestAt best) (greatest c w) (b .holds) ∙ sym (sum-given c (greatest c w) (greatest-working h)))
+    (sum-same c (bestAt best) (greatest c w) (b .holds) ∙ sym (sum-given c (greatest c w) (carry-known h) (greatest-working h)))
 
 pub sum-written : (c : Case) (w out best : List ℤ) → scopeCount c ≤ length out → best ≡ writtenOver (map (greatest c w) (scopes c)) out
     → sumInRange (rulesOf c) c (bestAt best) ≡ sumInRange (rulesOf c) c (greatest c w)
@@ -82,20 +82,20 @@ module _ (c : Case) (w best : List ℤ) where
   greatest-outside e = (rw e, rw e)
 
   module _ (e : withinLimits (rulesOf c) (c .n) (c .d) (c .m) ≡ true) where
-    pub greatest-other-length : (length w ≡ lentLength c → ⊥) → Gives (Outcome.Refused WrongLength) best
+    pub greatest-other-length : (length w ≡ lentLength (rulesOf c) c → ⊥) → Gives (Outcome.Refused WrongLength) best
     unfolding greatestCall
-    greatest-other-length n = (rw (e, ne-eqb (length w) (lentLength c) n), rw (e, ne-eqb (length w) (lentLength c) n))
+    greatest-other-length n = (rw (e, ne-eqb (length w) (lentLength (rulesOf c) c) n), rw (e, ne-eqb (length w) (lentLength (rulesOf c) c) n))
 
-    module _ (long : length w ≡ lentLength c) where
+    module _ (long : length w ≡ lentLength (rulesOf c) c) where
       pub greatest-short : length best < scopeCount c → Gives (Outcome.Refused WrongLength) best
       unfolding greatestCall
       greatest-short h =
-          let d = lt-ltb (length best) (scopeCount c) h in (rw (e, eq-eqb (length w) (lentLength c) long, d), rw (e, eq-eqb (length w) (lentLength c) long, d))
+          let d = lt-ltb (length best) (scopeCount c) h in (rw (e, eq-eqb (length w) (lentLength (rulesOf c) c) long, d), rw (e, eq-eqb (length w) (lentLength (rulesOf c) c) long, d))
 
       pub greatest-done : scopeCount c ≤ length best → Gives Outcome.Done (writtenOver (map (greatest c w) (scopes c)) best)
       unfolding greatestCall
       greatest-done h =
-          let d = le-ltb (length best) (scopeCount c) h in (rw (e, eq-eqb (length w) (lentLength c) long, d), rw (e, eq-eqb (length w) (lentLength c) long, d))
+          let d = le-ltb (length best) (scopeCount c) h in (rw (e, eq-eqb (length w) (lentLength (rulesOf c) c) long, d), rw (e, eq-eqb (length w) (lentLength (rulesOf c) c) long, d))
 
 -- on a table that was checked the call is done, and `best` holds the greatest weights
 pub greatest-known : {c : Case} {w : List ℤ} (best : List ℤ) → Handed (rulesOf c) (workingWeight (rulesOf c)) c w → scopeCount c ≤ length best

@@ -41,10 +41,10 @@ part-tab w a n h =
     getD-tab (λ i. getD w (a + i) (pos 0)) n i (pos 0) h ∙ sym (getD-take n (drop a w) i (pos 0) h ∙ getD-drop a w i (pos 0)))
 
 module _ (c : Case) where
-  size-variable : (i : ℕ) → i < c .n → sizeOf c i ≡ c .d
+  pub size-variable : (i : ℕ) → i < c .n → sizeOf c i ≡ c .d
   size-variable i h = if-true _ _ (isVariable c i) (variable-is c h)
 
-  size-edge : (e : ℕ) → sizeOf c (c .n + e) ≡ c .d * c .d
+  pub size-edge : (e : ℕ) → sizeOf c (c .n + e) ≡ c .d * c .d
   size-edge e = if-false _ _ (isVariable c (c .n + e)) (edge-is c e)
 
   -- a scope's part ends within the own places

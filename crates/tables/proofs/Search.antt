@@ -8,7 +8,7 @@ use lib.Dec.{not-T}
 use lib.ListN.{length, getD}
 use Rattle.integers.specs.Words.{from, below, any, all}
 use Rattle.integers.specs.Tests.{is-true, true-is, is-false}
-use Rattle.integers.specs.Lists.{any-append, any-at, any-of, from-split}
+use Rattle.integers.specs.Lists.{any-append, any-at, any-of, all-at, all-of, from-split}
 use Rattle.integers.specs.Tables.{all-getD, any-getD}
 
 module _ (a b : Bool) where
@@ -41,6 +41,12 @@ module _ (f : ℕ → Bool) (n : ℕ) where
   pub not-found : ((k : ℕ) → k < n → f k ≡ false) → false ≡ any f (below n)
   not-found h = sym (is-false (any f (below n)) (not-T (any f (below n)) (λ t. let (k, l, s) = any-at f n t in rw (h k l) at s)))
 
+  pub all-pass : ((k : ℕ) → k < n → f k ≡ true) → true ≡ all f (below n)
+  all-pass h = sym (is-true (all f (below n)) (all-of f n (λ k l. true-is (f k) (h k l))))
+
+  pub some-fails : (k : ℕ) → k < n → f k ≡ false → false ≡ all f (below n)
+  some-fails k l e = sym (is-false (all f (below n)) (not-T (all f (below n)) (λ t. rw e at (all-at f n t k l))))
+
 module _ {A : Type 0} (f : A → Bool) (xs : List A) (d : A) where
   pub found-at : (k : ℕ) → k < length xs → f (getD xs k d) ≡ true → true ≡ any f xs
   found-at k l e = sym (is-true (any f xs) (any-getD f xs d .1 (k, l, true-is (f (getD xs k d)) e)))
@@ -53,3 +59,11 @@ module _ {A : Type 0} (f : A → Bool) (xs : List A) (d : A) where
 
   pub fails : (k : ℕ) → k < length xs → f (getD xs k d) ≡ false → false ≡ all f xs
   fails k l e = sym (is-false (all f xs) (not-T (all f xs) (λ t. rw e at (all-getD f xs d .0 t k l))))
+
+pub and-true : (b : Bool) → (b && true) ≡ b
+and-true true = refl
+and-true false = refl
+
+pub and-false : (b : Bool) → (b && false) ≡ false
+and-false true = refl
+and-false false = refl

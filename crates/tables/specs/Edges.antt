@@ -3,6 +3,7 @@ use mathlib.Core.Path.{_≡_, refl}
 use mathlib.Core.Bool.{Bool, not}
 use mathlib.Core.List.{List}
 use Prim.Native.Nat.{ℕ}
+use lib.IntN.{pos}
 use lib.Dec.{ltb}
 use Rattle.integers.specs.Words.{any, below}
 use Rattle.definitions.specs.declared.Rulebook.the-variants.{Desk}
@@ -14,7 +15,7 @@ use Rattle.tables.specs.declared.Fault.the-variants.{Outside, NotAscendi
 
 -- a case of n variables with these ends of edges, as far as edges are asked
 abbrev pub withEdges : ℕ → List ℕ → List ℕ → Case
-withEdges n lower upper = record { n = n; d = 0; m = 0; lower = lower; upper = upper; rulebook = Desk }
+withEdges n lower upper = record { n = n; d = 0; m = 0; lower = lower; upper = upper; carry = pos 0; rulebook = Desk }
 
 abbrev pub faulty : Case → Fault → ℕ → Bool
 faulty c Outside e = endOutside c e

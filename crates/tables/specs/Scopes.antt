@@ -5,7 +5,7 @@ use mathlib.Core.Bool.{Bool, false, not, _&&_, _||_}
 use mathlib.Core.Option.{Option}
 use mathlib.Core.List.{List, [], _∷_, _++_, map}
 use Prim.Native.Nat.{ℕ, _+_, _*_, _≤_, _<_}
-use lib.IntN.{ℤ, pos}
+use lib.IntN.{ℤ, pos, _+ℤ_}
 use lib.Dec.{eqb, ltb}
 use lib.ListN.{length, getD, take, drop}
 use Rattle.integers.specs.Words.{if_then_else_, any, all, sum, withinZ}
@@ -14,12 +14,12 @@ use Rattle.definitions.specs.declared.Case.{Case}
 use Rattle.definitions.specs.declared.Outcome.{Outcome}
 use Rattle.definitions.specs.declared.Figure.{Figure}
 use Rattle.definitions.specs.declared.Refusal.{Refusal}
-use Rattle.definitions.specs.declared.Refusal.the-variants.{WrongLength, WeightOutOfRange}
+use Rattle.definitions.specs.declared.Refusal.the-variants.{WrongLength, OutOfRange, WeightOutOfRange}
 use Rattle.definitions.specs.Rules.{Rules, rulesOf, variablePlaces, edgePlaces, scopePlaces}
 use Rattle.definitions.specs.Refusals.{Test, _when_, firstOf}
 use Rattle.definitions.specs.Answers.{outcomeOf, unlessRefused}
-use Rattle.definitions.specs.Case.{scopeCount, scopes, isVariable, place, lentLength, greatest, upperBound, isBarred}
-use Rattle.definitions.specs.Valid.{inWorking, withinLimits, limitTest, lengthTest, scopeTest}
+use Rattle.definitions.specs.Case.{scopeCount, scopes, isVariable, place, ownLength, lentLength, greatest, upperBound, isBarred}
+use Rattle.definitions.specs.Valid.{inWorking, allWeights, withinLimits, carryOut, limitTest, lengthTest, edgeTests, weightTest, scopeTest}
 use Rattle.calls.specs.Calls.{figureOf}
 
 -- the case is within its rules' limits, and so within plain bounds
@@ -34,10 +34,11 @@ pub record Limited (c : Case) : Type 0 where
   pub variables-placed : c .n ≤ variablePlaces
   pub edges-placed : c .m ≤ edgePlaces
   pub scopes-placed : c .n + c .m ≤ scopePlaces
+  pub own-lent : ownLength c ≤ lentLength (rulesOf c) c
 
 -- a case of n variables with d values, as far as places are asked
 abbrev pub ofSize : ℕ → ℕ → Case
-ofSize n d = record { n = n; d = d; m = 0; lower = []; upper = []; rulebook = Desk }
+ofSize n d = record { n = n; d = d; m = 0; lower = []; upper = []; carry = pos 0; rulebook = Desk }
 
 -- how many tuples scope x has
 abbrev pub sizeOf : Case → ℕ → ℕ
@@ -47,9 +48,16 @@ sizeOf c x = if isVariable c x then c .d else c .d * c .d
 abbrev pub holdable : ℤ → ℤ → ℤ → Bool
 holdable low high z = isBarred z || withinZ low high z
 
--- what is asked of the weights of a table of the right length: 8 and 15
+-- what is asked before the weights, of a table of this length: 3 to 7
+abbrev pub frontTests : Rules → Case → ℕ → Bool → Bool → List Test
+frontTests r c long wrong out = limitTest r c ∷ WrongLength when (not (eqb long (lentLength r c)) || wrong) ∷ edgeTests r c out
+
+-- what is asked of the weights of a table of the right length: 8 and 15; of those at the own places
+abbrev pub ownTests : Case → List ℤ → ℤ → ℤ → List Test
+ownTests c w low high = WeightOutOfRange when (not (allWeights (holdable low high) c w)) ∷ scopeTest c w ∷ []
+
 abbrev pub tupleTests : Case → List ℤ → ℤ → ℤ → List Test
-tupleTests c w low high = WeightOutOfRange when (not (all (holdable low high) w)) ∷ scopeTest c w ∷ []
+tupleTests c w low high = weightTest (holdable low high) c w ∷ scopeTest c w ∷ []
 
 -- the weights of scope x
 abbrev pub scopePart : Case → List ℤ → ℕ → List ℤ
@@ -76,7 +84,7 @@ pub record BestCall : Type 0 where
 module _ (r : Rules) where
   -- numbers 3 and 4
   abbrev pub greatestRefusal : Case → List ℤ → List ℤ → Option Refusal
-  greatestRefusal c w best = firstOf (limitTest r c ∷ lengthTest c w (ltb (length best) (scopeCount c)) ∷ [])
+  greatestRefusal c w best = firstOf (limitTest r c ∷ lengthTest r c w (ltb (length best) (scopeCount c)) ∷ [])
 
   unfoldable pub greatestCall : Case → List ℤ → List ℤ → BestCall
   greatestCall c w best = record {
@@ -84,10 +92,13 @@ module _ (r : Rules) where
     best = unlessRefused (greatestRefusal c w best) (writtenOver (map (greatest c w) (scopes c)) best) best;
   }
 
+  -- numbers 3 and 4 do not apply to a table of this length
+  abbrev pub isSized : Case → ℕ → Bool
+  isSized c long = withinLimits r (c .n) (c .d) (c .m) && eqb long (lentLength r c)
+
   -- the weights of scope x; none where the limits or the table's length are wrong or there is no such scope
   unfoldable pub scopeWeights : Case → List ℤ → ℕ → List ℤ
-  scopeWeights c w x =
-      if withinLimits r (c .n) (c .d) (c .m) && eqb (length w) (lentLength c) && ltb x (scopeCount c) then scopePart c w x else []
+  scopeWeights c w x = if isSized c (length w) && ltb x (scopeCount c) then scopePart c w x else []
 
   -- ---- sums over scopes
 
@@ -95,17 +106,21 @@ module _ (r : Rules) where
   abbrev pub rangeTest : Case → (ℕ → ℤ) → Test
   rangeTest c f = WeightOutOfRange when (any (λ x. not (inWorking r (f x))) (scopes c))
 
-  -- the sum of each scope's number, if all are in that range
+  -- number 5: the carry is outside its range
+  abbrev pub carryTest : Case → Test
+  carryTest c = OutOfRange when (carryOut r c)
+
+  -- the sum of each scope's number and the carry, if all are in their ranges
   abbrev pub sumInRange : Case → (ℕ → ℤ) → Figure
-  sumInRange c f = figureOf (firstOf (rangeTest c f ∷ [])) (sum (map f (scopes c)))
+  sumInRange c f = figureOf (firstOf (carryTest c ∷ rangeTest c f ∷ [])) (sum (map f (scopes c)) +ℤ c .carry)
 
-  -- of each scope's greatest weight: numbers 3, 4 and 8
+  -- of each scope's greatest weight: numbers 3, 4, 5 and 8
   unfoldable pub greatestSum : Case → List ℤ → Figure
-  greatestSum c w = figureOf (firstOf (limitTest r c ∷ lengthTest c w false ∷ rangeTest c (greatest c w) ∷ [])) (upperBound c w)
+  greatestSum c w = figureOf (firstOf (limitTest r c ∷ lengthTest r c w false ∷ carryTest c ∷ rangeTest c (greatest c w) ∷ [])) (upperBound c w)
 
-  -- of the first s numbers in `best`: numbers 3, 4 and 8
+  -- of the first s numbers in `best`: numbers 3, 4, 5 and 8
   unfoldable pub bestSum : Case → List ℤ → Figure
   bestSum c best =
       figureOf
-      (firstOf (limitTest r c ∷ WrongLength when (ltb (length best) (scopeCount c)) ∷ rangeTest c (bestAt best) ∷ []))
-      (sum (map (bestAt best) (scopes c)))
+      (firstOf (limitTest r c ∷ WrongLength when (ltb (length best) (scopeCount c)) ∷ carryTest c ∷ rangeTest c (bestAt best) ∷ []))
+      (sum (map (bestAt best) (scopes c)) +ℤ c .carry)

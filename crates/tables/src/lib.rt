@@ -1,4 +1,6 @@
 // Inner functions of a case and its table: the check of what is handed over, a scope's weights, and sums over scopes.
+mod both;
+
 use definitions::Case;
 use definitions::EDGE_PLACES;
 use definitions::Figure;
@@ -7,19 +9,21 @@ use definitions::Refusal;
 use definitions::Rulebook;
 use definitions::SCOPE_PLACES;
 ghost use mathlib.Core.Path.{_≡_};
-ghost use mathlib.Core.Bool.{not, _&&_};
-ghost use lib.Dec.{eqb, ltb};
+ghost use mathlib.Core.Bool.{not, _&&_, _||_};
+ghost use lib.Dec.{ltb};
 ghost use mathlib.Core.List.{_∷_, map};
 ghost use Prim.Native.Nat.{_+_, _*_, _≤_, _<_};
 ghost use lib.Signed.{_<ℤ_};
-ghost use lib.ListN.{length};
-ghost use Rattle.integers.specs.Words.{below, any, all, within, withinZ, greatestOf};
+ghost use lib.ListN.{length, take};
+ghost use lib.IntN.{pos};
+ghost use Rattle.integers.specs.Words.{below, any, all, within, withinZ, minus, eqZ, greatestOf, smallestOf};
 ghost use Rattle.definitions.specs.Rules.{rulesIn, rulesOf, edgePlaces};
 ghost use Rattle.definitions.specs.Refusals.{firstOf};
 ghost use Rattle.definitions.specs.Answers.{outcomeOf};
-ghost use Rattle.definitions.specs.Case.{place, greatest as greatestWeight, scopeCount, scopes, lentLength, barredWeight, isBarred, whollyBarred};
-ghost use Rattle.definitions.specs.Valid.{inWorking, startingWeight, workingWeight, withinLimits, someEdge, sameEnds, limitTest, edgeTests, handedOver};
-ghost use Rattle.tables.specs.Scopes.{Limited, ofSize, sizeOf, holdable, tupleTests, scopePart, scopeWeights, bestAt};
+ghost use Rattle.definitions.specs.Case.{place, greatest as greatestWeight, scopeCount, scopes, ownLength, lentLength, barredWeight, isBarred, whollyBarred};
+ghost use Rattle.definitions.specs.Valid.{inWorking, startingWeight, workingWeight, carryOut, withinLimits, someEdge, endOutside, sameEnds, limitTest, edgeTests, handedOver, bothHandedOver};
+ghost use Rattle.definitions.specs.CaseFiles.{zeroedFrom};
+ghost use Rattle.tables.specs.Scopes.{Limited, ofSize, sizeOf, holdable, frontTests, ownTests, tupleTests, scopePart, isSized, scopeWeights, bestAt};
 ghost use Rattle.tables.specs.Scopes.{writtenOver, greatestCall, sumInRange, greatestSum, bestSum};
 ghost use Rattle.tables.specs.Edges.{faulty, withEdges};
 
@@ -169,7 +173,7 @@ fn all_holdable(weights: &[i64], low: i64, high: i64) -> bool
 
 fn scope_barred(case: Case, table: &[i64], x: usize) -> bool
     requires { ⌜ Limited case ⌝ }
-    requires { ⌜ length (now table) ≡ lentLength case ⌝ }
+    requires { ⌜ length (now table) ≡ lentLength (rulesOf case) case ⌝ }
     requires { ⌜ x < case .n + case .m ⌝ }
     ensures { λ r. ⌜ r ≡ whollyBarred case (now (table .entry)) x ⌝ }
 {
@@ -178,7 +182,7 @@ fn scope_barred(case: Case, table: &[i64], x: usize) -> bool
 
 fn some_scope_barred(case: Case, table: &[i64]) -> bool
     requires { ⌜ Limited case ⌝ }
-    requires { ⌜ length (now table) ≡ lentLength case ⌝ }
+    requires { ⌜ length (now table) ≡ lentLength (rulesOf case) case ⌝ }
     ensures { λ r. ⌜ r ≡ any (whollyBarred case (now (table .entry))) (scopes case) ⌝ }
 {
     let scopes = scope_count(case);
@@ -192,17 +196,34 @@ fn some_scope_barred(case: Case, table: &[i64]) -> bool
     false
 }
 
-// Numbers 8 and 15. Where all are in the range nothing applies, and no more is looked at.
-fn weight_outcome(case: Case, table: &[i64], low: i64, high: i64) -> Outcome
-    requires { ⌜ Limited case ⌝ }
-    requires { ⌜ length (now table) ≡ lentLength case ⌝ }
-    requires { ⌜ barredWeight <ℤ low ⌝ }
-    ensures { λ r. ⌜ r ≡ outcomeOf (firstOf (tupleTests case (now (table .entry)) low high)) ⌝ }
+// All bits are looked at, so that many weights are at once.
+fn all_zero(weights: &[i64]) -> bool
+    ensures { λ r. ⌜ r ≡ all (λ z. eqZ z (pos 0)) (now (weights .entry)) ⌝ }
 {
-    if all_within(table, low, high) {
+    let mut bits: i64 = 0;
+    let mut i: usize = 0;
+    while i < weights.len() {
+        bits |= weights[i];
+        i += 1;
+    }
+    if bits == 0 {
+        return true;
+    }
+    false
+}
+
+// Numbers 8 and 15 of the own places. Where all are in the range nothing applies, and no more is looked at.
+fn own_outcome<'a>(case: Case, table: &'a [i64], own: &'a [i64], low: i64, high: i64) -> Outcome
+    requires { ⌜ Limited case ⌝ }
+    requires { ⌜ length (now table) ≡ lentLength (rulesOf case) case ⌝ }
+    requires { ⌜ now own ≡ take (ownLength case) (now table) ⌝ }
+    requires { ⌜ barredWeight <ℤ low ⌝ }
+    ensures { λ r. ⌜ r ≡ outcomeOf (firstOf (ownTests case (now (table .entry)) low high)) ⌝ }
+{
+    if all_within(own, low, high) {
         return Outcome::Done;
     }
-    if !all_holdable(table, low, high) {
+    if !all_holdable(own, low, high) {
         return Outcome::Refused(Refusal::WeightOutOfRange);
     }
     if some_scope_barred(case, table) {
@@ -211,11 +232,46 @@ fn weight_outcome(case: Case, table: &[i64], low: i64, high: i64) -> Outcome
     Outcome::Done
 }
 
-fn table_length(case: Case) -> usize
+// Numbers 8 and 15.
+fn weight_outcome(case: Case, table: &[i64], low: i64, high: i64) -> Outcome
     requires { ⌜ Limited case ⌝ }
-    ensures { λ r. ⌜ r ≡ lentLength case ⌝ }
+    requires { ⌜ length (now table) ≡ lentLength (rulesOf case) case ⌝ }
+    requires { ⌜ barredWeight <ℤ low ⌝ }
+    ensures { λ r. ⌜ r ≡ outcomeOf (firstOf (tupleTests case (now (table .entry)) low high)) ⌝ }
+{
+    let own = own_length(case);
+    if all_zero(&table[own..]) {
+        own_outcome(case, table, &table[..own], low, high)
+    } else {
+        Outcome::Refused(Refusal::WeightOutOfRange)
+    }
+}
+
+fn own_length(case: Case) -> usize
+    requires { ⌜ Limited case ⌝ }
+    ensures { λ r. ⌜ r ≡ ownLength case ⌝ }
 {
     case.n * case.d + case.m * (case.d * case.d)
+}
+
+fn table_length(case: Case) -> usize
+    requires { ⌜ Limited case ⌝ }
+    ensures { λ r. ⌜ r ≡ lentLength (rulesOf case) case ⌝ }
+{
+    let rulebook = case.rulebook;
+    let variables = rules::variables(rulebook);
+    let edges = rules::edges(rulebook);
+    variables * case.d + edges * (case.d * case.d)
+}
+
+fn is_carried(rulebook: Rulebook, carry: i64) -> bool
+    ensures { λ r. ⌜ r ≡ withinZ (minus (rulesIn rulebook .carried)) (pos (rulesIn rulebook .carried)) carry ⌝ }
+{
+    is_within(
+        carry,
+        rules::least_carried(rulebook),
+        rules::most_carried(rulebook),
+    )
 }
 
 fn has_fault(case: Case, fault: Fault) -> bool
@@ -225,11 +281,25 @@ fn has_fault(case: Case, fault: Fault) -> bool
     some_faulty(case.n, case.m, &case.lower, &case.upper, fault)
 }
 
+// Number 5: an argument, the carry or the end of an edge is outside its range.
+fn some_outside(case: Case, out: bool) -> bool
+    requires { ⌜ case .m ≤ edgePlaces ⌝ }
+    ensures { λ r. ⌜ r ≡ (out || carryOut (rulesOf case) case || someEdge case (endOutside case)) ⌝ }
+{
+    if out {
+        return true;
+    }
+    if carry_out(case) {
+        return true;
+    }
+    has_fault(case, Fault::Outside)
+}
+
 fn edge_outcome(case: Case, out: bool) -> Outcome
     requires { ⌜ case .m ≤ edgePlaces ⌝ }
-    ensures { λ r. ⌜ r ≡ outcomeOf (firstOf (edgeTests case out)) ⌝ }
+    ensures { λ r. ⌜ r ≡ outcomeOf (firstOf (edgeTests (rulesOf case) case out)) ⌝ }
 {
-    if out || has_fault(case, Fault::Outside) {
+    if some_outside(case, out) {
         return Outcome::Refused(Refusal::OutOfRange);
     }
     if has_fault(case, Fault::NotAscending) {
@@ -241,18 +311,25 @@ fn edge_outcome(case: Case, out: bool) -> Outcome
     Outcome::Done
 }
 
-fn check(case: Case, table: &[i64], wrong: bool, out: bool, low: i64, high: i64) -> Outcome
-    requires { ⌜ barredWeight <ℤ low ⌝ }
-    ensures { λ r. ⌜ r ≡ outcomeOf (firstOf (handedOver (rulesOf case) (holdable low high) case (now (table .entry)) wrong out)) ⌝ }
+// Numbers 3 to 7, of a table of this length.
+fn front_outcome(case: Case, length: usize, wrong: bool, out: bool) -> Outcome
+    ensures { λ r. ⌜ r ≡ outcomeOf (firstOf (frontTests (rulesOf case) case length wrong out)) ⌝ }
 {
     if !within_limits(case) {
         return Outcome::Refused(Refusal::OutsideLimits);
     }
-    if table.len() != table_length(case) || wrong {
+    if length != table_length(case) || wrong {
         return Outcome::Refused(Refusal::WrongLength);
     }
-    let edges = edge_outcome(case, out);
-    match edges {
+    edge_outcome(case, out)
+}
+
+fn check(case: Case, table: &[i64], wrong: bool, out: bool, low: i64, high: i64) -> Outcome
+    requires { ⌜ barredWeight <ℤ low ⌝ }
+    ensures { λ r. ⌜ r ≡ outcomeOf (firstOf (handedOver (rulesOf case) (holdable low high) case (now (table .entry)) wrong out)) ⌝ }
+{
+    let front = front_outcome(case, table.len(), wrong, out);
+    match front {
         Outcome::Refused(refusal) => Outcome::Refused(refusal),
         Outcome::Done => weight_outcome(case, table, low, high),
     }
@@ -286,17 +363,17 @@ fn size_of(n: usize, d: usize, x: usize) -> usize
 }
 
 fn has_scope(case: Case, length: usize, x: usize) -> bool
-    ensures { λ r. ⌜ r ≡ (withinLimits (rulesOf case) (case .n) (case .d) (case .m) && eqb length (lentLength case) && ltb x (scopeCount case)) ⌝ }
+    ensures { λ r. ⌜ r ≡ (isSized (rulesOf case) case length && ltb x (scopeCount case)) ⌝ }
 {
-    if !within_limits(case) {
+    if !is_sized(case, length) {
         return false;
     }
-    length == table_length(case) && x < scope_count(case)
+    x < scope_count(case)
 }
 
 fn scope_part(case: Case, table: &[i64], x: usize) -> &[i64]
     requires { ⌜ Limited case ⌝ }
-    requires { ⌜ length (now table) ≡ lentLength case ⌝ }
+    requires { ⌜ length (now table) ≡ lentLength (rulesOf case) case ⌝ }
     requires { ⌜ x < case .n + case .m ⌝ }
     ensures { λ r. ⌜ now r ≡ scopePart case (now (table .entry)) x ⌝ }
 {
@@ -307,7 +384,7 @@ fn scope_part(case: Case, table: &[i64], x: usize) -> &[i64]
 
 fn scope_greatest(case: Case, table: &[i64], x: usize) -> i64
     requires { ⌜ Limited case ⌝ }
-    requires { ⌜ length (now table) ≡ lentLength case ⌝ }
+    requires { ⌜ length (now table) ≡ lentLength (rulesOf case) case ⌝ }
     requires { ⌜ x < case .n + case .m ⌝ }
     ensures { λ r. ⌜ r ≡ greatestWeight case (now (table .entry)) x ⌝ }
 {
@@ -318,7 +395,7 @@ fn scope_greatest(case: Case, table: &[i64], x: usize) -> i64
 
 fn write_greatest(case: Case, table: &[i64], best: &mut [i64])
     requires { ⌜ Limited case ⌝ }
-    requires { ⌜ length (now table) ≡ lentLength case ⌝ }
+    requires { ⌜ length (now table) ≡ lentLength (rulesOf case) case ⌝ }
     requires { ⌜ scopeCount case ≤ length (now best) ⌝ }
     ensures { λ _. ⌜ now (best .exit) ≡ writtenOver (map (greatestWeight case (now (table .entry))) (scopes case)) (now (best .entry)) ⌝ }
 {
@@ -331,7 +408,7 @@ fn write_greatest(case: Case, table: &[i64], best: &mut [i64])
     }
 }
 
-// The numbers are added only while they are in the range, so that the sum fits.
+// The numbers are added to the carry only while they are in the range, so that the sum fits.
 fn sum_in_range(case: Case, best: &[i64]) -> Figure
     requires { ⌜ Limited case ⌝ }
     requires { ⌜ scopeCount case ≤ length (now best) ⌝ }
@@ -339,7 +416,10 @@ fn sum_in_range(case: Case, best: &[i64]) -> Figure
 {
     let scopes = scope_count(case);
     let rulebook = case.rulebook;
-    let mut sum: i64 = 0;
+    if carry_out(case) {
+        return Figure::Refused(Refusal::OutOfRange);
+    }
+    let mut sum: i64 = case.carry;
     let mut x: usize = 0;
     while x < scopes {
         let weight = best[x];
@@ -354,7 +434,7 @@ fn sum_in_range(case: Case, best: &[i64]) -> Figure
 
 fn add_greatest(case: Case, table: &[i64]) -> Figure
     requires { ⌜ Limited case ⌝ }
-    requires { ⌜ length (now table) ≡ lentLength case ⌝ }
+    requires { ⌜ length (now table) ≡ lentLength (rulesOf case) case ⌝ }
     ensures { λ r. ⌜ r ≡ sumInRange (rulesOf case) case (greatestWeight case (now (table .entry))) ⌝ }
 {
     let mut best = [0i64; SCOPE_PLACES];
@@ -369,6 +449,24 @@ pub fn within_limits(case: Case) -> bool
 {
     let rulebook = case.rulebook;
     are_limited(rulebook, case.n, case.d, case.m)
+}
+
+// The carry is outside its range.
+pub fn carry_out(case: Case) -> bool
+    ensures { λ r. ⌜ r ≡ carryOut (rulesOf case) case ⌝ }
+{
+    let rulebook = case.rulebook;
+    !is_carried(rulebook, case.carry)
+}
+
+// Numbers 3 and 4 do not apply to a table of this length.
+pub fn is_sized(case: Case, length: usize) -> bool
+    ensures { λ r. ⌜ r ≡ isSized (rulesOf case) case length ⌝ }
+{
+    if !within_limits(case) {
+        return false;
+    }
+    length == table_length(case)
 }
 
 pub fn check_starting(case: Case, table: &[i64], wrong: bool, out: bool) -> Outcome
@@ -399,9 +497,21 @@ pub fn check_working(case: Case, table: &[i64], wrong: bool, out: bool) -> Outco
     )
 }
 
+// Starting weights and working weights that are lent together.
+pub fn check_both<'a>(case: Case, starting: &'a [i64], table: &'a [i64], out: bool) -> Outcome
+    ensures { λ r. ⌜ r ≡ outcomeOf (firstOf (bothHandedOver (rulesOf case) case (now (starting .entry)) (now (table .entry)) out)) ⌝ }
+{
+    let wrong = starting.len() != table.len();
+    let front = front_outcome(case, table.len(), wrong, out);
+    match front {
+        Outcome::Refused(refusal) => Outcome::Refused(refusal),
+        Outcome::Done => both::both_outcome(case, starting, table),
+    }
+}
+
 // What is asked where no table is lent.
 pub fn check_edges(case: Case, out: bool) -> Outcome
-    ensures { λ r. ⌜ r ≡ outcomeOf (firstOf (limitTest (rulesOf case) case ∷ edgeTests case out)) ⌝ }
+    ensures { λ r. ⌜ r ≡ outcomeOf (firstOf (limitTest (rulesOf case) case ∷ edgeTests (rulesOf case) case out)) ⌝ }
 {
     if within_limits(case) {
         edge_outcome(case, out)
@@ -429,6 +539,25 @@ pub fn greatest(weights: &[i64]) -> i64
     best
 }
 
+// 0 where there is none.
+pub fn least(weights: &[i64]) -> i64
+    ensures { λ r. ⌜ r ≡ smallestOf (now (weights .entry)) ⌝ }
+{
+    if weights.len() == 0 {
+        return 0;
+    }
+    let mut lowest = weights[0];
+    let mut i: usize = 1;
+    while i < weights.len() {
+        let w = weights[i];
+        if w < lowest {
+            lowest = w;
+        }
+        i += 1;
+    }
+    lowest
+}
+
 // Writes each scope's greatest weight to the first n + m places of `best`.
 pub fn greatest_weights(case: Case, table: &[i64], best: &mut [i64]) -> Outcome
     ensures { λ r. ⌜ (r ≡ greatestCall (rulesOf case) case (now (table .entry)) (now (best .entry)) .answer)
@@ -447,7 +576,7 @@ pub fn greatest_weights(case: Case, table: &[i64], best: &mut [i64]) -> Outcome
     Outcome::Done
 }
 
-// The sum of the first n + m numbers of `best`; a number outside the range of working weights is refused.
+// The sum of the first n + m numbers of `best` and the carry; a number outside the range of working weights is refused.
 pub fn sum_of_best(case: Case, best: &[i64]) -> Figure
     ensures { λ r. ⌜ r ≡ bestSum (rulesOf case) case (now (best .entry)) ⌝ }
 {
@@ -474,6 +603,17 @@ pub fn all_barred(weights: &[i64]) -> bool
     true
 }
 
+// Writes 0 from place `from` on.
+pub fn zero_from(table: &mut [i64], from: usize)
+    ensures { λ _. ⌜ now (table .exit) ≡ zeroedFrom from (now (table .entry)) ⌝ }
+{
+    let mut i = from;
+    while i < table.len() {
+        table[i] = 0;
+        i += 1;
+    }
+}
+
 // Some value is d or more.
 pub fn some_beyond(values: &[u8], d: usize) -> bool
     ensures { λ r. ⌜ r ≡ any (λ k. not (ltb k d)) (now (values .entry)) ⌝ }
@@ -488,7 +628,7 @@ pub fn some_beyond(values: &[u8], d: usize) -> bool
     false
 }
 
-// The sum of each scope's greatest weight; one outside the range of working weights is refused.
+// The sum of each scope's greatest weight and the carry; a weight outside the range of working weights is refused.
 pub fn sum_of_greatest(case: Case, table: &[i64]) -> Figure
     ensures { λ r. ⌜ r ≡ greatestSum (rulesOf case) case (now (table .entry)) ⌝ }
 {

@@ -8,6 +8,9 @@ pub mod Own
 pub mod Shifts
 pub mod Presses
 pub mod Validity
+pub mod Full
+pub mod Leave
+pub mod Join
 pub mod Replays
 pub mod Rounds
 pub mod ShiftLogs

@@ -37,7 +37,8 @@ module _ (c : Case) (w u : List ℤ) (own : (p : ℕ) → p < ownLength c → ge
   objective-same s p a = objectiveOf-cong s p a (weight c w) (weight c u) (own-places c w u .1 own)
 
   pub upperBound-same : upperBound c w ≡ upperBound c u
-  upperBound-same = sum-cong (greatest c w) (greatest c u) (scopes c) (λ x m. greatest-same c w u own x (in-below (scopeCount c) m))
+  upperBound-same = ap (λ (z : ℤ). z +ℤ c .carry)
+      (sum-cong (greatest c w) (greatest c u) (scopes c) (λ x m. greatest-same c w u own x (in-below (scopeCount c) m)))
 
   pub activeRefuted-same : (i : ℕ) → i < c .n → (raised : List ℕ) → activeRefuted c w i raised ≡ activeRefuted c u i raised
   activeRefuted-same i h raised = all-same (c .d) (λ k g.

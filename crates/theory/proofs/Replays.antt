@@ -41,7 +41,7 @@ use Rattle.theory.proofs.Totals.{bound-above}
 use Rattle.theory.proofs.Shifts.{shift-moves}
 use Rattle.theory.proofs.Barred.{bars-kept, lawful-iff, lawful-same}
 use Rattle.theory.proofs.Presses.{press-moves, none-lawful}
-use Rattle.theory.proofs.Validity.{none-applies, Handed, valid-facts, working-handed, handed-spared}
+use Rattle.theory.proofs.Validity.{none-applies, Handed, valid-facts, valid-carry, working-handed, handed-spared}
 
 -- ---- moves that are allowed
 
@@ -263,7 +263,8 @@ pub record Sound (r : Rules) (s : State) : Type 0 where
   pub own : ownLength (s .case) ≤ length (s .starting)
   pub long : length (s .weights) ≡ length (s .starting)
   pub bars : (x k l : ℕ) → IsTuple (s .case) x k l → barred (s .case) (s .weights) x k l ≡ barred (s .case) (s .starting) x k l
-  pub kept : (p : List ℕ) → T (isLawful (s .case) (s .starting) p) → objective (s .case) (s .starting) p ≤ℤ objective (s .case) (s .weights) p
+  pub kept : (p : List ℕ) → T (isLawful (s .case) (s .starting) p)
+      → objective (s .case) (s .starting) p ≤ℤ (objective (s .case) (s .weights) p +ℤ s .case .carry)
   pub under : (p : List ℕ) → T (isLawful (s .case) (s .starting) p) → objective (s .case) (s .starting) p ≤ℤ s .start
   pub few : s .rounds ≤ r .rounds
   pub press-held : (h : Held) → s .held ≡ some h → HeldSound r (s .case) h
@@ -330,7 +331,7 @@ module _ {r : Rules} {s : State} (v : Sound r s) where
         plus-length (s .case) (spared (s .case) (s .weights) (difference (s .case) (s .weights) move)) (s .weights) (omega (arith, v .own, v .long))
         ∙ v .long;
     bars = λ x a b u. allowed-bars (v .rules) (s .case) (s .weights) move k u ∙ v .bars x a b u;
-    kept = λ p a. ≤ℤ-trans (v .kept p a) (up p (lawful-now p a));
+    kept = λ p a. v .kept p a ▸ up p (lawful-now p a) ▸ simp flat (omega zs);
     under = v .under;
     few = v .few;
     press-held = λ h e. absurd (none-some e);
@@ -460,8 +461,8 @@ module _ {r : Rules} (coherent : Coherent r) (c : Case) (w : List ℤ) (t : T (v
         own = omega arith;
         long = refl;
         bars = λ x k l u. refl;
-        kept = λ p a. ≤ℤ-of-eq refl;
-        under = λ p a. bound-above (h .shape) p (lawful-iff c w p .0 a .0) w;
+        kept = λ p a. valid-carry r c w t ▸ simp flat (omega zs);
+        under = λ p a. valid-carry r c w t ▸ bound-above (h .shape) p (lawful-iff c w p .0 a .0) w ▸ simp flat (omega zs);
         few = omega arith;
         press-held = λ h e. absurd (none-some e);
         none-lawful = λ f. absurd f;
@@ -469,12 +470,13 @@ module _ {r : Rules} (coherent : Coherent r) (c : Case) (w : List ℤ) (t : T (v
 
   module _ (ts : List (List ℕ)) where
     pub total-kept : (p : List ℕ) → T (isLawful c w p) → objective c w p ≤ℤ objective c (after r (fresh c w) ts .weights) p
-    total-kept p a = rw (case-after r (fresh c w) ts, starting-after r (fresh c w) ts) at
-        (sound-after r (fresh c w) ts sound-fresh .kept p (rw (case-after r (fresh c w) ts, starting-after r (fresh c w) ts) a))
+    total-kept p a = valid-carry r c w t ▸ (rw (case-after r (fresh c w) ts, starting-after r (fresh c w) ts) at
+        (sound-after r (fresh c w) ts sound-fresh .kept p (rw (case-after r (fresh c w) ts, starting-after r (fresh c w) ts) a))) ▸ simp flat (omega zs)
 
     pub bound-sound : (p : List ℕ) → T (isLawful c w p) → objective c w p ≤ℤ upperBound c (after r (fresh c w) ts .weights)
-    bound-sound p a = ≤ℤ-trans (total-kept p a)
-        (bound-above (valid-facts r c w t .shape) p (lawful-iff c w p .0 a .0) (after r (fresh c w) ts .weights))
+    bound-sound p a =
+        valid-carry r c w t ▸ total-kept p a
+        ▸ bound-above (valid-facts r c w t .shape) p (lawful-iff c w p .0 a .0) (after r (fresh c w) ts .weights) ▸ simp flat (omega zs)
 
     pub rounds-few : (p : List ℕ) → T (isLawful c w p) → (pos (after r (fresh c w) ts .rounds) +ℤ objective c w p) ≤ℤ upperBound c w
     rounds-few p a = rounds-from r (fresh c w) ts sound-fresh p a ▸ simp flat (omega zs)

@@ -157,16 +157,17 @@ module _ {r : Rules} (coherent : Coherent r) where
         (q ▸ simp flat (omega zs), q ▸ simp flat (omega zs))
 
     -- an upper bound of working weights fits the amount column
-    pub bound-within : (minus (scopesAtMost r * r .working) ≤ℤ upperBound c w) × (upperBound c w ≤ℤ pos (scopesAtMost r * r .working))
+    pub bound-within : (minus (scopesAtMost r * r .working + r .carried) ≤ℤ upperBound c w)
+        × (upperBound c w ≤ℤ pos (scopesAtMost r * r .working + r .carried))
     bound-within =
         let m = mul-le-mul-right {m = scopeCount c} {n = scopesAtMost r} (r .working) (omega (arith, h .variables-most, h .edges-most)) in (
-          Σ-least (greatest c w) (r .working) 0 (scopeCount c) (λ x l u. greatest-working x (omega arith) .0) ▸ simp flat (omega zs),
-          Σ-most (greatest c w) (r .working) 0 (scopeCount c) (λ x l u. greatest-working x (omega arith) .1) ▸ simp flat (omega zs),
+          h .carry-in ▸ Σ-least (greatest c w) (r .working) 0 (scopeCount c) (λ x l u. greatest-working x (omega arith) .0) ▸ simp flat (omega zs),
+          h .carry-in ▸ Σ-most (greatest c w) (r .working) 0 (scopeCount c) (λ x l u. greatest-working x (omega arith) .1) ▸ simp flat (omega zs),
         )
 
     bound-small : natAbs (upperBound c w) < 10 ^ (r .amountWidth - 1)
     bound-small =
-        omega (arith, coherent .bound-fits, within-most (scopesAtMost r * r .working) (upperBound c w) (bound-within .0) (bound-within .1))
+        omega (arith, coherent .bound-fits, within-most (scopesAtMost r * r .working + r .carried) (upperBound c w) (bound-within .0) (bound-within .1))
 
     shift-fits : {e end v : ℕ} {a : ℤ} → AllowedShift r c w e end v a → lineTooWide (r .amountWidth) (line 1 (pos e) (pos end) (pos v) a) ≡ false
     shift-fits {e} {end} {v} {a} k = line-fits 1 e end v a (lit< tt) (omega (arith, k .edge, scopes-small)) (omega (arith, k .side, values-small))

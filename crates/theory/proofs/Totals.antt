@@ -12,13 +12,13 @@ use lib.Signed.{_≤ℤ_, _<ℤ_}
 use lib.ListN.{length}
 use Rattle.integers.specs.Words.{if_then_else_, all, sum}
 use Rattle.integers.specs.Tests.{is-true, is-false, eqb-iff, not-eqb-iff, either, if-true, if-false, and-left, and-right}
-use Rattle.integers.specs.Linear.{zs}
+use Rattle.integers.specs.Linear.{flat, _▸_, zs}
 use Rattle.integers.specs.Lists.{below-in, in-below}
 use Rattle.integers.specs.Tables.{all-getD}
 use Rattle.integers.specs.Sums.{sum-cong, sum-mono, sum-strict, sum-add}
 use Rattle.definitions.specs.declared.Case.{Case}
 use Rattle.definitions.specs.Case.{lowerEnd, upperEnd, scopeCount, scopes, isVariable, edgeOf, weight}
-use Rattle.definitions.specs.Case.{isAssignment, valueOf, atUsed, objective, greatest, upperBound, active}
+use Rattle.definitions.specs.Case.{isAssignment, valueOf, atUsed, objective, greatest, sumOfGreatest, upperBound, active}
 use Rattle.definitions.specs.Moves.{Difference, plus, onlyWhere}
 use Rattle.theory.proofs.Shape.{Shape, lower-below}
 use Rattle.theory.proofs.Words.{sum-one}
@@ -100,19 +100,21 @@ module _ {c : Case} (s : Shape c) (p : List ℕ) (a : T (isAssignment c p)) wher
     used-most : (x : ℕ) → x < scopeCount c → atUsed c p x (weight c w x) ≤ℤ greatest c w x
     used-most x h = at-used-holds (λ z. z ≤ℤ greatest c w x) x h (weight c w x) (λ k l t. weight-most c w t)
 
-    pub bound-above : objective c w p ≤ℤ upperBound c w
-    bound-above = sum-mono (λ x. atUsed c p x (weight c w x)) (greatest c w) (scopes c) (λ x m. used-most x (in-below (scopeCount c) m))
+    pub bound-above : (objective c w p +ℤ c .carry) ≤ℤ upperBound c w
+    bound-above =
+        sum-mono (λ x. atUsed c p x (weight c w x)) (greatest c w) (scopes c) (λ x m. used-most x (in-below (scopeCount c) m))
+        ▸ simp flat (omega zs)
 
     used-less : (x : ℕ) → x < scopeCount c → T (not (atUsed c p x (active c w x))) → atUsed c p x (weight c w x) <ℤ greatest c w x
     used-less x h t = rw (at-used c p (weight c w x) x) (inactive-less c w (used-tuple x h) (rw (at-used c p (active c w x) x) at t))
 
-    pub bound-met : objective c w p ≡ upperBound c w ↔ ((x : ℕ) → x < scopeCount c → T (atUsed c p x (active c w x)))
+    pub bound-met : objective c w p +ℤ c .carry ≡ upperBound c w ↔ ((x : ℕ) → x < scopeCount c → T (atUsed c p x (active c w x)))
     bound-met = (
       λ e x h. ⊎-elim (λ t. t) (λ t.
-          let l : objective c w p <ℤ upperBound c w = sum-strict (λ x. atUsed c p x (weight c w x)) (greatest c w) (below-in h) (used-less x h t)
+          let l : objective c w p <ℤ sumOfGreatest c w = sum-strict (λ x. atUsed c p x (weight c w x)) (greatest c w) (below-in h) (used-less x h t)
           (λ x m. used-most x (in-below (scopeCount c) m)) in
-          absurd (omega zs)) (either (atUsed c p x (active c w x))),
-      λ f. sum-cong (λ x. atUsed c p x (weight c w x)) (greatest c w) (scopes c) (λ x m.
+          absurd (l ▸ e ▸ simp flat (omega zs))) (either (atUsed c p x (active c w x))),
+      λ f. ap (λ (z : ℤ). z +ℤ c .carry) (sum-cong (λ x. atUsed c p x (weight c w x)) (greatest c w) (scopes c) (λ x m.
           at-used c p (weight c w x) x ∙ active-weight c w x (firstUsed c p x) (secondUsed c p x) .0
-          (rw (at-used c p (active c w x) x) at (f x (in-below (scopeCount c) m)))),
+          (rw (at-used c p (active c w x) x) at (f x (in-below (scopeCount c) m))))),
     )

@@ -199,6 +199,9 @@ fn short_logs() {
 
 // ---- scoring, on the case of P4: two links, two channels, one pair
 
+// The places of a full case with two values.
+const LENT: usize = 480;
+
 fn clash(n: usize, lower: u8, upper: u8) -> Case {
     let mut c = Case {
         n,
@@ -206,11 +209,22 @@ fn clash(n: usize, lower: u8, upper: u8) -> Case {
         m: 1,
         lower: [0u8; EDGE_PLACES],
         upper: [0u8; EDGE_PLACES],
+        carry: 0,
         rulebook: Rulebook::Desk,
     };
     c.lower[0] = lower;
     c.upper[0] = upper;
     c
+}
+
+// The table of a full case, with `weight` at the last place of this one.
+fn full(weight: i64) -> [i64; LENT] {
+    let mut table = [0i64; LENT];
+    table[0] = 2;
+    table[2] = 2;
+    table[4] = -3;
+    table[7] = weight;
+    table
 }
 
 fn print_choice(choice: Choice) {
@@ -239,9 +253,9 @@ fn compare<'a>(case: Case, table: &[i64], first: &'a [u8], second: &'a [u8]) {
     print(b"\n");
 }
 
-// Plans a b and c d, with `weight` in the table's last place, in a case of n links and the pair of these ends.
+// Plans a b and c d, with `weight` in the case's last place, in a case of n links and the pair of these ends.
 fn score_in(n: usize, lower: u8, upper: u8, weight: i64, a: u8, b: u8, c: u8, d: u8) {
-    let table = [2, 0, 2, 0, -3, 0, 0, weight];
+    let table = full(weight);
     let first = [a, b];
     let second = [c, d];
     print_plan(&first);
@@ -287,7 +301,7 @@ fn cases() {
 
 // Plans of one and three values.
 fn lengths() {
-    let table = [2, 0, 2, 0, -3, 0, 0, 0];
+    let table = full(0);
     let one = [0u8];
     let two = [0u8, 1];
     let three = [0u8, 1, 2];
@@ -305,9 +319,10 @@ fn repeated() {
         m: 2,
         lower: [0u8; EDGE_PLACES],
         upper: [1u8; EDGE_PLACES],
+        carry: 0,
         rulebook: Rulebook::Desk,
     };
-    let table = [0i64; 12];
+    let table = [0i64; LENT];
     let first = [0u8, 0];
     let second = [0u8, 1];
     print(b"twice");

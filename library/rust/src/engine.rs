@@ -154,7 +154,7 @@ impl Case {
     /// let mut out = vec![0; ceiling::ROOM];
     /// let run = case.run_pairs(&mut table, &mut out, 100);
     /// assert_eq!((run.ending, run.rounds, run.bound), (ceiling::Ending::Settled, 1, 2));
-    /// assert_eq!(table, [0, 0, 0, 0, 1, 2, 2, 0]);
+    /// assert_eq!(table[..8], [0, 0, 0, 0, 1, 2, 2, 0]);
     /// # Ok::<(), ceiling::Refused>(())
     /// ```
     pub fn run_pairs(&self, table: &mut [i64], out: &mut [u8], limit: u64) -> Run {

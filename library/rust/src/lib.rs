@@ -5,6 +5,9 @@
 //! checker replays such logs, whoever wrote them. docs/LIBRARY.md tells what each call answers, docs/RULES.md how case files and logs are written
 //! and judged.
 //!
+//! Every table has the length of a full case with as many channels ([`table_length`]), whatever the case's links and pairs: its own weights stand
+//! first, and 0 at all places past them. [`read_case`] makes such a table; of another length a call answers number 4, of another number there 8.
+//!
 //! The functions called are proved; this wrapper is not. It hands over whole slices and arrays of the right size, borrowed for the call alone:
 //! that is all that the library asks. Nothing is kept between calls, so that calls on different tables may run at once on different threads.
 //!
@@ -73,12 +76,22 @@ pub const OUTSIDE: u8 = 255;
 pub const PARTNERS: usize = 2 * PAIRS * CHANNELS;
 
 /// The bytes of a case.
-pub const CASE: usize = 24 + 2 * PAIRS;
+pub const CASE: usize = 32 + 2 * PAIRS;
 
 /// The bytes of a replay's record.
 pub const RECORD: usize = 52 + LINKS + PAIRS;
 
-/// A case as the library reads it. The calls ask its limits: any bytes may be handed over.
+/// The length of every table of a case with so many channels, whatever its links and pairs: that of a case with the most of both.
+///
+/// ```
+/// assert_eq!([1, 2, 8].map(ceiling::table_length), [144, 480, 6528]);
+/// ```
+pub const fn table_length(channels: usize) -> usize {
+    LINKS * channels + PAIRS * channels * channels
+}
+
+/// A case as the library reads it. The calls ask its limits: any bytes may be handed over. The last eight are its carry, from −20,000,000,000 to
+/// 20,000,000,000 (else number 5), which counts in every ceiling and in no plan's total; a case that was read has carry 0.
 #[derive(Clone, Debug, PartialEq, Eq)]
 pub struct Case([u8; CASE]);
 
@@ -122,7 +135,7 @@ pub struct Size {
     pub d: usize,
     /// Pairs.
     pub m: usize,
-    /// How many weights the case's table has.
+    /// The length of the case's table, [`table_length`] of its channels.
     pub table: usize,
 }
 
@@ -133,7 +146,7 @@ fn answer<T>(number: u64, line: usize, value: T) -> Result<T, Refused> {
 /// The library's version: major times 10,000, minor times 100, patch.
 ///
 /// ```
-/// assert_eq!(ceiling::version() / 10000, 1);
+/// assert_eq!(ceiling::version() / 10000, 2);
 /// ```
 pub fn version() -> u64 {
     unsafe { c::ceiling_version() }
@@ -143,7 +156,7 @@ pub fn version() -> u64 {
 ///
 /// ```
 /// let size = ceiling::case_size(b"10   3   2   3           0\n")?;
-/// assert_eq!((size.n, size.d, size.m, size.table), (3, 2, 3, 18));
+/// assert_eq!((size.n, size.d, size.m, size.table), (3, 2, 3, 480));
 /// assert_eq!(ceiling::case_size(b"10  49   2   3           0\n").unwrap_err().number, 3);
 /// # Ok::<(), ceiling::Refused>(())
 /// ```
@@ -152,7 +165,17 @@ pub fn case_size(text: &[u8]) -> Result<Size, Refused> {
     answer(r.number, 0, Size { n: r.n, d: r.d, m: r.m, table: r.table })
 }
 
-/// A case file with nothing after it: the case and its starting weights.
+/// A case file with nothing after it: the case, and a table with its starting weights and 0 past them.
+///
+/// ```
+/// // One link on one channel.
+/// let (case, table) = ceiling::read_case(b"10   1   1   0           0\n11   0   0   0           9\n")?;
+/// assert_eq!((table.len(), table[0]), (144, 9));
+/// assert!(table[1..].iter().all(|&weight| weight == 0));
+/// assert_eq!(case.upper_bound(&table)?, 9);
+/// assert_eq!(case.upper_bound(&table[..1]).unwrap_err().number, 4);
+/// # Ok::<(), ceiling::Refused>(())
+/// ```
 pub fn read_case(text: &[u8]) -> Result<(Case, Vec<i64>), Refused> {
     let mut case = Case([0; CASE]);
     let mut table = vec![0; case_size(text)?.table];
@@ -183,7 +206,18 @@ impl Case {
         &self.0
     }
 
-    /// The ceiling: the sum over scopes of the greatest weight. No lawful plan's total is above it.
+    /// The ceiling: the sum over scopes of the greatest weight, and the carry. No lawful plan's total with the carry added is above it.
+    ///
+    /// ```
+    /// use ceiling::{read_case, Case, CASE};
+    ///
+    /// let (case, table) = read_case(b"10   1   1   0           0\n11   0   0   0           9\n")?;
+    /// let mut bytes = *case.bytes();
+    /// bytes[CASE - 8..].copy_from_slice(&5_i64.to_le_bytes());
+    /// let case = Case::from_bytes(bytes);
+    /// assert_eq!((case.upper_bound(&table)?, case.objective(&table, &[0])?), (14, 9));
+    /// # Ok::<(), ceiling::Refused>(())
+    /// ```
     pub fn upper_bound(&self, table: &[i64]) -> Result<i64, Refused> {
         let r = unsafe { c::ceiling_upper_bound(self.0.as_ptr(), table.as_ptr(), table.len()) };
         answer(r.number, 0, r.total)
@@ -243,7 +277,7 @@ impl Case {
         answer(r.number, 0, r.value)
     }
 
-    /// Whether the pairs form no loop. No table is asked for: only the case's limits and its pairs' ends.
+    /// Whether the pairs form no loop. No table is asked for: only the case's limits, carry and pairs' ends.
     ///
     /// ```
     /// use ceiling::{Case, CASE};
@@ -313,7 +347,7 @@ impl Replay {
     /// let log = [" 5   0   2   0           0\n", " 3   1   0   0           0\n", " 3   2   0   0           0\n"].concat();
     ///
     /// let (case, mut table) = read_case(text)?;
-    /// assert_eq!(table, [0, BARRED, 0, BARRED, BARRED, 0, 0, 0]);
+    /// assert_eq!(table[..8], [0, BARRED, 0, BARRED, BARRED, 0, 0, 0]);
     /// let mut replay = Replay::start(&case, &table)?;
     /// replay.lines(&case, &mut table, log.as_bytes())?;
     /// assert_eq!(replay.end(&case, 0)?, End::Void);

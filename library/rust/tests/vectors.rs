@@ -1,13 +1,17 @@
 //! Calls every function of the Rust wrapper on accepted and on refused input and compares answers and everything lent with what document 01
-//! says, and document 02 of pair rounds, barred channels, partners and loops. Each call is a test: a line for each that failed, the count as the last
-//! line. vectors.c has more rows; here the wrapper is tried. A case's table of the wrong length (number 4) cannot be handed to `read_case`, which makes
-//! the table itself.
+//! says, and document 02 of pair rounds, barred channels, partners, loops, the length of tables and the carry. Each call is a test: a line for each
+//! that failed, the count as the last line. vectors.c has more rows; here the wrapper is tried. A case's table of the wrong length (number 4) cannot
+//! be handed to `read_case`, which makes the table itself.
 
-use ceiling::{case_size, engine_version, read_case, version, view, Case, End, Ending, Refused, Replay, Round, Run, Size};
+use ceiling::{case_size, engine_version, read_case, table_length, version, view, Case, End, Ending, Refused, Replay, Round, Run, Size};
 use ceiling::{BARRED, CASE, CHANNELS, LINE, LINKS, OUTSIDE, PAIRS, PARTNERS, RECORD, ROOM};
 
 const STARTING: i64 = 1_000_000;
 const WORKING: i64 = 500_000_000;
+const CARRY: i64 = 20_000_000_000;
+
+/// Carries that every call takes.
+const CARRIES: [i64; 5] = [0, 5, -5, CARRY, -CARRY];
 
 #[derive(Default)]
 struct Count {
@@ -31,7 +35,12 @@ fn line(kind: i64, a: i64, b: i64, c: i64, amount: i64) -> Vec<u8> {
 }
 
 fn lines(rows: &[[i64; 5]]) -> Vec<u8> {
-    rows.iter().flat_map(|r| line(r[0], r[1], r[2], r[3], r[4])).collect()
+    carried(rows, 0)
+}
+
+/// Lines of a case with a carry, which every bound line has in its ceiling.
+fn carried(rows: &[[i64; 5]], carry: i64) -> Vec<u8> {
+    rows.iter().flat_map(|r| line(r[0], r[1], r[2], r[3], r[4] + if r[0] == 4 { carry } else { 0 })).collect()
 }
 
 fn refused<T>(number: u64, line: usize) -> Result<T, Refused> {
@@ -45,10 +54,18 @@ struct Sample {
     m: u64,
     pairs: Vec<[u8; 2]>,
     table: Vec<i64>,
+    carry: i64,
 }
 
-fn sample(n: u64, d: u64, pairs: &[[u8; 2]], table: &[i64]) -> Sample {
-    Sample { n, d, m: pairs.len() as u64, pairs: pairs.to_vec(), table: table.to_vec() }
+/// A table of a full case's length: these weights, and 0 past them.
+fn full(d: u64, own: &[i64]) -> Vec<i64> {
+    let mut table = own.to_vec();
+    table.resize(table_length(d as usize), 0);
+    table
+}
+
+fn sample(n: u64, d: u64, pairs: &[[u8; 2]], own: &[i64]) -> Sample {
+    Sample { n, d, m: pairs.len() as u64, pairs: pairs.to_vec(), table: full(d, own), carry: 0 }
 }
 
 fn p1() -> Sample {
@@ -123,7 +140,12 @@ impl Sample {
             bytes[24 + e] = pair[0];
             bytes[120 + e] = pair[1];
         }
+        bytes[CASE - 8..].copy_from_slice(&self.carry.to_le_bytes());
         Case::from_bytes(bytes)
+    }
+
+    fn carrying(&self, carry: i64) -> Sample {
+        Sample { carry, ..self.clone() }
     }
 
     fn text(&self) -> Vec<u8> {
@@ -158,21 +180,44 @@ fn faults(range: i64) -> Vec<(&'static str, u64, Sample)> {
         ("49 links", 3, of(&|s| s.n = 49)),
         ("9 values", 3, of(&|s| s.d = 9)),
         ("97 pairs", 3, of(&|s| s.m = 97)),
-        ("a short table", 4, of(&|s| s.table.truncate(17))),
+        ("3 before a carry", 3, of(&|s| (s.n, s.carry) = (49, CARRY + 1))),
+        ("a short table", 4, of(&|s| s.table.truncate(479))),
         ("a long table", 4, of(&|s| s.table.push(0))),
+        ("the own places alone", 4, of(&|s| s.table.truncate(18))),
+        ("no places", 4, of(&|s| s.table.clear())),
+        ("the table of more values", 4, of(&|s| s.table.resize(table_length(3), 0))),
         ("an end that is no link", 5, of(&|s| s.pairs[2] = [1, 3])),
+        ("a carry above", 5, of(&|s| s.carry = CARRY + 1)),
+        ("a carry below", 5, of(&|s| s.carry = -CARRY - 1)),
+        ("the greatest number as a carry", 5, of(&|s| s.carry = i64::MAX)),
+        ("the least number as a carry", 5, of(&|s| s.carry = i64::MIN)),
+        ("a carry before 6", 5, of(&|s| (s.pairs[1], s.carry) = ([2, 2], CARRY + 1))),
+        ("a carry before 8", 5, of(&|s| (s.table[18], s.carry) = (1, CARRY + 1))),
         ("equal ends", 6, of(&|s| s.pairs[1] = [2, 2])),
         ("a pair twice", 7, of(&|s| s.pairs[2] = [0, 1])),
+        ("7 before 8 past the own places", 7, of(&|s| (s.pairs[2], s.table[18]) = ([0, 1], 1))),
         ("a weight above", 8, of(&|s| s.table[0] = range + 1)),
         ("a weight below", 8, of(&|s| s.table[17] = -range - 1)),
         ("a weight below barred", 8, of(&|s| s.table[1] = BARRED - 1)),
+        ("1 past the own places", 8, of(&|s| s.table[18] = 1)),
+        ("-1 past the own places", 8, of(&|s| s.table[18] = -1)),
+        ("barred past the own places", 8, of(&|s| s.table[18] = BARRED)),
+        ("1 at the last place", 8, of(&|s| s.table[479] = 1)),
+        ("-1 at the last place", 8, of(&|s| s.table[479] = -1)),
+        ("barred at the last place", 8, of(&|s| s.table[479] = BARRED)),
+        ("past the own places, and a carry", 8, of(&|s| (s.table[18], s.carry) = (1, -CARRY))),
     ]
 }
 
 fn files(count: &mut Count) {
     let good = p1().text();
-    let size = Size { n: 3, d: 2, m: 3, table: 18 };
+    let size = Size { n: 3, d: 2, m: 3, table: 480 };
     count.test("case_size", "P1", case_size(&good) == Ok(size));
+    for (n, d, m, table) in [(1, 1, 0, 144), (48, 1, 96, 144), (1, 8, 0, 6528), (2, 3, 1, 1008), (48, 8, 96, 6528)] {
+        let size = case_size(&line(10, n, d, m, 0));
+        count.test("case_size", "a head", size == Ok(Size { n: n as usize, d: d as usize, m: m as usize, table }));
+        count.test("case_size", "the package's length", table == table_length(d as usize));
+    }
     let (case, table) = (p1().case(), p1().table);
     count.test("read_case", "P1", matches!(read_case(&good), Ok((c, t)) if c == case && t == table));
     let rows: [(&str, u64, usize, Vec<u8>); 9] = [
@@ -195,6 +240,10 @@ fn files(count: &mut Count) {
     }
     let s = single();
     count.test("read_case", "barred channels", matches!(read_case(&s.text()), Ok((c, t)) if c == s.case() && t == s.table));
+    let s = p11();
+    count.test("read_case", "one link", matches!(read_case(&s.text()), Ok((c, t)) if c == s.case() && t == s.table && t.len() == 144));
+    let fewer = Sample { m: 2, pairs: p1().pairs[..2].to_vec(), table: full(2, &p1().table[..14]), ..p1() };
+    count.test("read_case", "a pair less", matches!(read_case(&fewer.text()), Ok((c, t)) if c == fewer.case() && t == fewer.table));
     let barred = sample(2, 2, &[[0, 1]], &[0, 0, BARRED, BARRED, 0, 0, 0, 0]);
     count.test("read_case", "a link wholly barred", matches!(read_case(&barred.text()), Err(Refused { number: 15, line: 4 })));
     let cut = read_case(&good[..9 * LINE + 5]);
@@ -204,6 +253,12 @@ fn files(count: &mut Count) {
 fn totals(count: &mut Count) {
     let (case, table) = (p4().case(), p4().table);
     count.test("upper_bound", "P4", case.upper_bound(&table) == Ok(4));
+    for carry in CARRIES {
+        let carried = p4().carrying(carry).case();
+        count.test("upper_bound", "a carry", carried.upper_bound(&table) == Ok(4 + carry));
+        count.test("objective", "a carry", carried.objective(&table, &[0, 0]) == Ok(1));
+        count.test("better", "a carry", carried.better(&table, &[0, 0], &[0, 1]) == Ok(&[0, 1]));
+    }
     for (plan, answer) in [
         (&[0, 0][..], Ok(1)),
         (&[0, 1], Ok(2)),
@@ -244,11 +299,12 @@ fn barred(count: &mut Count) {
         let choice = case.better(&table, &first, &second);
         count.test("better", "barred channels", choice == Ok([&first[..], &second][better]));
     }
-    for (name, number, mut table) in [
+    for (name, number, own) in [
         ("a link wholly barred", 15, [BARRED, BARRED, 0, 0, 0, 0, 0, 0]),
         ("a pair wholly barred", 15, [0, 0, 0, 0, BARRED, BARRED, BARRED, BARRED]),
         ("8 before 15", 8, [BARRED, BARRED, 0, 0, 0, 0, 0, WORKING + 1]),
     ] {
+        let mut table = full(2, &own);
         count.test("upper_bound", name, case.upper_bound(&table) == refused(number, 0));
         count.test("objective", name, case.objective(&table, &[0, 0]) == refused(5, 0));
         count.test("better", name, case.better(&table, &[0, 0], &[0, 1]) == refused(number, 0));
@@ -292,6 +348,10 @@ fn kept(count: &mut Count) {
         let (n, p) = (row.1.n as usize, 2 * row.1.pairs.len() * row.1.d as usize);
         for room in [[n, p], [n + 1, p], [LINKS, PARTNERS]] {
             keeping(count, row, room, row.3);
+        }
+        for carry in CARRIES {
+            let (name, s, link, answer, family, partners) = row;
+            keeping(count, &(name, s.carrying(carry), *link, *answer, family, partners), [n, p], row.3);
         }
         keeping(count, row, [n - 1, PARTNERS], refused(4, 0));
         keeping(count, row, [0, 0], refused(4, 0));
@@ -337,6 +397,10 @@ fn loops(count: &mut Count) {
     for (name, number, s) in faults(WORKING) {
         let answer = if number == 4 || number == 8 { Ok(false) } else { refused(number, 0) };
         count.test("is_acyclic", name, s.case().is_acyclic() == answer);
+    }
+    for carry in CARRIES {
+        count.test("is_acyclic", "a carry", p1().carrying(carry).case().is_acyclic() == Ok(false));
+        count.test("is_acyclic", "a carry, a chain", chain().carrying(carry).case().is_acyclic() == Ok(true));
     }
     let last = LINKS as u8 - 1;
     let mut pairs: Vec<[u8; 2]> = (0..last).map(|i| [i, i + 1]).collect();
@@ -403,15 +467,15 @@ fn in_blocks(replay: &mut Replay, case: &Case, table: &mut [i64], lines: &[u8], 
 
 /// A row line by line, and in one block.
 fn replayed(count: &mut Count, s: &Sample, row: &Row) {
-    let &(name, rows, answer, after, end) = row;
-    let case = s.case();
+    let &(name, rows, answer, own, end) = row;
+    let (case, after, log) = (s.case(), full(2, &own), carried(rows, s.carry));
     for size in [LINE, 5 * LINE] {
         let mut table = s.table.clone();
         let Ok(mut replay) = Replay::start(&case, &table) else {
             count.test("start", name, false);
             continue;
         };
-        let answered = in_blocks(&mut replay, &case, &mut table, &lines(rows), size);
+        let answered = in_blocks(&mut replay, &case, &mut table, &log, size);
         count.test("lines", name, answered == answer && table == after);
         let kept = Replay::from_bytes(*replay.bytes());
         count.test("end", name, kept.end(&case, 0) == end.map_err(|number| Refused { number, line: 0 }));
@@ -426,8 +490,14 @@ fn replayed(count: &mut Count, s: &Sample, row: &Row) {
 
 fn replays(count: &mut Count) {
     for (s, rows) in [(p4(), ROWS), (no_plan(), NO_PLAN_ROWS), (a_plan(), A_PLAN_ROWS)] {
-        rows.iter().for_each(|row| replayed(count, &s, row));
+        for carry in CARRIES {
+            rows.iter().for_each(|row| replayed(count, &s.carrying(carry), row));
+        }
     }
+    let (case, mut table) = (p4().carrying(5).case(), p4().table);
+    let mut replay = Replay::start(&case, &table).expect("a fresh record");
+    let answer = replay.lines(&case, &mut table, &lines(&[PRESS, FIRST, LAST, BOUND]));
+    count.test("lines", "the carry left out", answer == refused(12, 3) && replay.end(&case, 0) == refused(12, 0));
     for (name, number, mut s) in faults(WORKING) {
         let (case, before) = (s.case(), s.table.clone());
         let mut replay = Replay::from_bytes([0; RECORD]);
@@ -461,63 +531,71 @@ fn views(count: &mut Count) {
 }
 
 /// A run's answer, and that the output begins with these lines and keeps what it held behind them.
-type RunRow<'a> = (&'static str, Sample, u64, usize, Run, &'a [u8]);
+type RunRow<'a> = (&'static str, Sample, u64, usize, Run, &'a [[i64; 5]]);
 
+/// With each carry, which the bound lines and the answer's bound have in them; refused by 4, no bound is said.
 fn ran(count: &mut Count, function: &str, row: RunRow, call: fn(&Case, &mut [i64], &mut [u8], u64) -> Run) {
-    let (name, s, limit, room, answer, wrote) = row;
-    let (mut table, mut out) = (s.table.clone(), vec![0xa5; room]);
-    let run = call(&s.case(), &mut table, &mut out, limit);
-    let kept = out[wrote.len()..].iter().all(|&byte| byte == 0xa5);
-    count.test(function, name, run == answer && out.starts_with(wrote) && kept && (run.rounds > 0) == (table != s.table));
+    let (name, s, limit, room, answer, rows) = row;
+    let own = (s.n * s.d + s.m * s.d * s.d) as usize;
+    for carry in CARRIES {
+        let (mut table, mut out, wrote) = (s.table.clone(), vec![0xa5; room], carried(rows, carry));
+        let run = call(&s.carrying(carry).case(), &mut table, &mut out, limit);
+        let bound = if answer.ending == Ending::Refused(4) { 0 } else { answer.bound + carry };
+        let kept = out[wrote.len()..].iter().all(|&byte| byte == 0xa5) && table[own..].iter().all(|&weight| weight == 0);
+        count.test(function, name, run == Run { bound, ..answer } && out.starts_with(&wrote) && kept && (run.rounds > 0) == (table != s.table));
+    }
 }
 
 fn engine(count: &mut Count) {
     let made = |ending, rounds, bound| Run { ending, rounds, bound };
-    let one = lines(&[[2, 0, 3, 0, 1], [3, 3, 0, 0, 0], [3, 4, 0, 0, 0], [3, 5, 0, 0, 0], [4, 0, 0, 0, -1]]);
-    let pair = lines(&[SHIFTS[0], SHIFTS[1], BOUND]);
-    let first = lines(&[[1, 0, 1, 0, -1], [4, 0, 0, 0, 0]]);
-    let second = lines(&[[2, 0, 3, 0, 1], LAST, [3, 3, 0, 0, 0], [3, 4, 0, 0, 0], [4, 0, 0, 0, -1]]);
-    let lowest = lines(&[[2, 0, 2, 0, 1], FIRST, LAST, [4, 0, 0, 0, -499_999_998]]);
-    let void = lines(&[VOID, FIRST, LAST]);
-    let void_after = lines(&[VOID, FIRST, LAST, BOUND]);
-    let unbarred = lines(&[[1, 0, 0, 0, -2], [1, 0, 1, 0, -1], [4, 0, 0, 0, 3]]);
+    let one = [[2, 0, 3, 0, 1], [3, 3, 0, 0, 0], [3, 4, 0, 0, 0], [3, 5, 0, 0, 0], [4, 0, 0, 0, -1]];
+    let pair = [SHIFTS[0], SHIFTS[1], BOUND];
+    let first = [[1, 0, 1, 0, -1], [4, 0, 0, 0, 0]];
+    let second = [[2, 0, 3, 0, 1], LAST, [3, 3, 0, 0, 0], [3, 4, 0, 0, 0], [4, 0, 0, 0, -1]];
+    let lowest = [[2, 0, 2, 0, 1], FIRST, LAST, [4, 0, 0, 0, -499_999_998]];
+    let void = [VOID, FIRST, LAST];
+    let void_after = [VOID, FIRST, LAST, BOUND];
+    let unbarred = [[1, 0, 0, 0, -2], [1, 0, 1, 0, -1], [4, 0, 0, 0, 3]];
     for row in [
-        ("P1, limit 0", p1(), 0, 297, made(Ending::Limit, 0, 0), &b""[..]),
+        ("P1, limit 0", p1(), 0, 297, made(Ending::Limit, 0, 0), &[][..]),
         ("P1, limit 1", p1(), 1, 297, made(Ending::Settled, 1, -1), &one),
-        ("P1, a short output", p1(), 1, 296, made(Ending::Refused(4), 0, 0), b""),
+        ("P1, a short output", p1(), 1, 296, made(Ending::Refused(4), 0, 0), &[]),
         ("P5", p4(), 9, 216, made(Ending::Settled, 1, 2), &pair),
-        ("P10", p10(), 0, 216, made(Ending::Settled, 0, 11), b""),
+        ("P10", p10(), 0, 216, made(Ending::Settled, 0, 11), &[]),
         ("a pair, limit 1", two(), 1, 270, made(Ending::Limit, 1, 0), &first),
         ("a pair, then a press", two(), 9, 270, made(Ending::Settled, 2, -1), &second),
         ("out of range", low(), 9, 270, made(Ending::Refused(11), 1, -499_999_998), &lowest),
         ("void, limit 0", no_plan(), 0, 216, made(Ending::Void, 0, 0), &void),
         ("void, limit 9", no_plan(), 9, 216, made(Ending::Void, 0, 0), &void),
-        ("void, a short output", no_plan(), 0, 215, made(Ending::Refused(4), 0, 0), b""),
-        ("before void, limit 0", late(), 0, 216, made(Ending::Limit, 0, 4), b""),
+        ("void, a short output", no_plan(), 0, 215, made(Ending::Refused(4), 0, 0), &[]),
+        ("before void, limit 0", late(), 0, 216, made(Ending::Limit, 0, 4), &[]),
         ("void at the limit", late(), 2, 216, made(Ending::Void, 2, 2), &void_after),
         ("barred values left out", single(), 1, 216, made(Ending::Limit, 1, 3), &unbarred),
     ] {
         ran(count, "run", row, Case::run);
     }
     for row in [
-        ("P1, a press is left", p1(), 9, 297, made(Ending::Settled, 0, 0), &b""[..]),
-        ("P1, a short output", p1(), 9, 296, made(Ending::Refused(4), 0, 0), b""),
+        ("P1, a press is left", p1(), 9, 297, made(Ending::Settled, 0, 0), &[][..]),
+        ("P1, a short output", p1(), 9, 296, made(Ending::Refused(4), 0, 0), &[]),
         ("P5", p4(), 9, 216, made(Ending::Settled, 1, 2), &pair),
-        ("P5, limit 0", p4(), 0, 216, made(Ending::Limit, 0, 4), b""),
+        ("P5, limit 0", p4(), 0, 216, made(Ending::Limit, 0, 4), &[]),
         ("a pair, and a press is left", two(), 9, 270, made(Ending::Settled, 1, 0), &first),
-        ("passed over, before 11", low(), 9, 270, made(Ending::Settled, 0, -499_999_997), b""),
-        ("no choice, a void line is left", no_plan(), 9, 216, made(Ending::Settled, 0, 0), b""),
+        ("passed over, before 11", low(), 9, 270, made(Ending::Settled, 0, -499_999_997), &[]),
+        ("no choice, a void line is left", no_plan(), 9, 216, made(Ending::Settled, 0, 0), &[]),
         ("barred values left out", single(), 9, 216, made(Ending::Settled, 1, 3), &unbarred),
-        ("not lower", a_plan(), 9, 216, made(Ending::Settled, 0, 0), b""),
+        ("not lower", a_plan(), 9, 216, made(Ending::Settled, 0, 0), &[]),
     ] {
         ran(count, "run_pairs", row, Case::run_pairs);
     }
-    let (mut table, mut out) = (p4().table, vec![0xa5; 217]);
-    let round = p4().case().round(&mut table, &mut out);
-    let kept = out[81..].iter().all(|&byte| byte == 0xa5);
-    count.test("round", "P5", round == Ok(Round::Made { bytes: 81, bound: 2 }) && out.starts_with(&pair) && kept && table == SHIFTED);
-    count.test("round", "settled", p4().case().round(&mut table, &mut out) == Ok(Round::Settled) && table == SHIFTED);
-    count.test("round", "a short output", p4().case().round(&mut table, &mut out[..215]) == refused(4, 0) && table == SHIFTED);
+    for carry in CARRIES {
+        let (case, shifted) = (p4().carrying(carry).case(), full(2, &SHIFTED));
+        let (mut table, mut out) = (p4().table, vec![0xa5; 217]);
+        let round = case.round(&mut table, &mut out);
+        let wrote = out.starts_with(&carried(&pair, carry)) && out[81..].iter().all(|&byte| byte == 0xa5);
+        count.test("round", "P5", round == Ok(Round::Made { bytes: 81, bound: 2 + carry }) && wrote && table == shifted);
+        count.test("round", "settled", case.round(&mut table, &mut out) == Ok(Round::Settled) && table == shifted);
+        count.test("round", "a short output", case.round(&mut table, &mut out[..215]) == refused(4, 0) && table == shifted);
+    }
     for (name, number, s) in faults(WORKING) {
         let (mut table, mut out) = (s.table.clone(), vec![0xa5; 320]);
         let same = |table: &[i64], out: &[u8]| table == s.table && out == [0xa5; 320];
@@ -529,7 +607,7 @@ fn engine(count: &mut Count) {
 
 /// The engine's void logs in the checker's calls: void at the end, and the record says that nothing is due.
 fn void_logs(count: &mut Count) {
-    for s in [no_plan(), late()] {
+    for s in CARRIES.iter().flat_map(|&carry| [no_plan().carrying(carry), late().carrying(carry)]) {
         let (case, mut table, mut out, mut log) = (s.case(), s.table.clone(), vec![0; ROOM], Vec::new());
         while let Ok(Round::Made { bytes, .. }) = case.round(&mut table, &mut out) {
             log.extend_from_slice(&out[..bytes]);
@@ -542,7 +620,7 @@ fn void_logs(count: &mut Count) {
         count.test("lines", "a void log", replay.lines(&case, &mut replayed, &log) == Ok(log.len() / LINE) && replayed == table);
         count.test("end", "a void log", replay.end(&case, 0) == Ok(End::Void) && replay.bytes()[49] == 3);
     }
-    let (case, mut table) = (single().case(), [BARRED, BARRED, 0, 0, 0, 0, 0, 0]);
+    let (case, mut table) = (single().case(), full(2, &[BARRED, BARRED]));
     count.test("round", "a link wholly barred", case.round(&mut table, &mut [0; 216]) == refused(15, 0));
     count.test("run", "a link wholly barred", case.run(&mut table, &mut [0; 216], 0).ending == Ending::Refused(15));
     table[1] = BARRED + 1;
@@ -552,8 +630,7 @@ fn void_logs(count: &mut Count) {
 /// The largest case, all of its weights 0: settled with room for the longest round, and number 4 with a byte less.
 fn room(count: &mut Count) {
     let pairs: Vec<[u8; 2]> = (0..PAIRS as u8).map(|e| [e % 24, 24 + (e % 24 + e / 24) % 24]).collect();
-    let places = LINKS * CHANNELS + PAIRS * CHANNELS * CHANNELS;
-    let s = sample(LINKS as u64, CHANNELS as u64, &pairs, &vec![0; places]);
+    let s = sample(LINKS as u64, CHANNELS as u64, &pairs, &[]);
     let (case, mut table, mut out) = (s.case(), s.table, vec![0; ROOM]);
     count.test("round", "the longest round", case.round(&mut table, &mut out) == Ok(Round::Settled));
     count.test("round", "a byte less", case.round(&mut table, &mut out[1..]) == refused(4, 0));

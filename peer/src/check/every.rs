@@ -1,7 +1,8 @@
-//! Every table of a small size: all runs with their facts, every void line, and the family
-//! of every link.
+//! Every table of a small size: all runs with their facts, every void line, the leave of
+//! every link after each round, and the family of every link.
 
 use super::*;
+use crate::joins;
 use crate::lent::wholly_barred;
 
 /// Links, values, and the pairs 0–1, 0–2, 1–2, 0–3 and so on, as many as asked for.
@@ -51,6 +52,7 @@ impl Check {
         self.from_start(case)?;
         for link in 0..case.variables {
             self.every_void(case, link)?;
+            self.every_leave(case, link)?;
         }
         self.families_of(case)?;
         self.figures.cases += 1;
@@ -69,6 +71,24 @@ impl Check {
                 line::write(&mut log, 3, scope as i64, 0, 0, 0);
             }
             self.list(case, &cut(&log))?;
+        }
+        Ok(())
+    }
+
+    /// The link leaves after each number of the engine's rounds.
+    fn every_leave(&mut self, case: &Case, link: usize) -> Result<(), Difference> {
+        if !joins::allowed() {
+            return Ok(());
+        }
+        let run = engine::run_case(case, Rounds::All, PROGRAM_ROUNDS);
+        for limit in 0..=run.rounds {
+            let lines = engine::run_case(case, Rounds::All, limit).log;
+            let mut log = cut(&lines);
+            log.truncate(log.iter().take_while(|line| !line.starts_with(b" 5")).count());
+            let mut leave = Vec::new();
+            line::write(&mut leave, 7, link as i64, 0, 0, 0);
+            log.push(leave);
+            self.list(case, &log)?;
         }
         Ok(())
     }

@@ -1,5 +1,6 @@
 //! Logs as lists of lines, and what holds after every list.
 
+use super::links::{has_links, Stretch};
 use super::*;
 
 impl Check {
@@ -30,7 +31,7 @@ impl Check {
             }
         };
         let careless = random.chance(2, 3);
-        let log = foreign::log(random, &table, careless);
+        let log = foreign::mixed(random, &table, careless);
         self.list(&table, &cut(&log))
     }
 
@@ -38,18 +39,21 @@ impl Check {
         let input = [case::write(case), lines.concat()].concat();
         let mut fast = Replay::new(case);
         let mut slow = PlainReplay::new(case);
-        let mut climb = Climb::new(fast.state.upper_bound);
+        let mut climb = Climb::new(fast.ceiling());
         for (at, bytes) in lines.iter().enumerate() {
             let answer = slow.feed(bytes);
             let what = format!("line {at} of the log");
-            let before = fast.standing;
+            let before = (fast.standing, fast.case.variables);
             same(&what, &fast.step(bytes), &answer, &input)?;
-            same(&what, &fast.state.weights(), &narrow(&slow.weights), &input)?;
-            same(&what, &fast.rounds, &slow.rounds, &input)?;
-            if let (None, Some(number)) = (before, answer) {
+            same_state(&what, &fast, &slow, &input)?;
+            if let (None, Some(number)) = (before.0, answer) {
                 self.counts.note_line(number, bytes);
             }
-            self.figures.climbs += climb.note(fast.state.upper_bound, fast.rounds);
+            if fast.case.variables != before.1 {
+                climb = Climb::new(fast.ceiling());
+                climb.rounds = fast.rounds;
+            }
+            self.figures.climbs += climb.note(fast.ceiling(), fast.rounds);
             self.figures.lines += 1;
         }
         same("end of the log", &fast.end(), &slow.end(), &input)?;
@@ -58,55 +62,27 @@ impl Check {
         if fast.end() == Some(14) {
             self.counts.note("list", 14, "end".into());
         }
-        let bound = figures::upper_bound(case, &slow.weights);
-        same(
-            "ceiling of the log",
-            &fast.state.upper_bound,
-            &bound,
-            &input,
-        )?;
+        same("ceiling of the log", &fast.ceiling(), &slow.ceiling(), &input)?;
         self.figures.lists += 1;
-        if case.values.saturating_pow(case.variables as u32) > MOST_PLANS {
-            return Ok(());
+        self.figures.links.made.add(&fast.link_figures());
+        if has_links(lines) {
+            return self.stretches(case, lines);
         }
-        if slow.void {
-            holds("void without a lawful plan", !has_lawful(case), &input)?;
-        }
-        self.trusted(case, &slow.weights, slow.rounds, &input)
+        self.promised(&slow, &Stretch::new(&PlainReplay::new(case)), &input)
     }
+}
 
-    /// What a planner trusts of lawful plans, after any list of lines, and that bars stay.
-    pub fn trusted(
-        &mut self,
-        case: &Case,
-        weights: &[i64],
-        rounds: u64,
-        input: &[u8],
-    ) -> Result<(), Difference> {
-        let starting = figures::starting_weights(case);
-        let start = figures::upper_bound(case, &starting);
-        let bound = figures::upper_bound(case, weights);
-        let both = starting.iter().zip(weights);
-        let stay = |(old, new): (&i64, &i64)| (*old == figures::BARRED) == (*new == figures::BARRED);
-        holds("bars stay", both.into_iter().all(stay), input)?;
-        for assignment in figures::assignments(case) {
-            let total = figures::objective(case, &starting, &assignment);
-            let working = figures::objective(case, weights, &assignment);
-            holds(
-                "working total not below starting total",
-                working >= total,
-                input,
-            )?;
-            let Some(total) = total else { continue };
-            holds("ceiling not below starting total", bound >= total, input)?;
-            holds(
-                "rounds within the difference",
-                rounds as i64 <= start - total,
-                input,
-            )?;
-        }
-        Ok(())
-    }
+/// Case, weights, carry and rounds of both readings.
+fn same_state(
+    what: &str,
+    fast: &Replay,
+    slow: &PlainReplay,
+    input: &[u8],
+) -> Result<(), Difference> {
+    same(what, &fast.case, &slow.case, input)?;
+    same(what, &fast.state.weights(), &narrow(&slow.weights), input)?;
+    same(what, &fast.carry, &slow.carry, input)?;
+    same(what, &fast.rounds, &slow.rounds, input)
 }
 
 /// Counts the rounds made in which the ceiling rose before it fell.

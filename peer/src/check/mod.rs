@@ -5,6 +5,7 @@ mod barred;
 pub mod chains;
 pub mod every;
 mod families;
+mod links;
 mod lists;
 mod outputs;
 mod pairs;
@@ -64,6 +65,7 @@ pub struct Figures {
     pub pairs: pairs::PairFigures,
     pub families: families::FamilyFigures,
     pub chains: chains::ChainFigures,
+    pub links: links::LinkFigures,
 }
 
 impl Figures {
@@ -144,6 +146,7 @@ impl Check {
         self.columns(&mut random)?;
         self.families(&mut random, &case)?;
         self.chains(&mut random)?;
+        self.links(&mut random)?;
         if index % CALLS_EVERY == 0 {
             self.calls(seed, index)?;
         }
@@ -176,7 +179,7 @@ impl Check {
         self.against_plain(&table, Rounds::All, 40)?;
         self.whole_run(&table)?;
         let careless = random.chance(1, 2);
-        let log = foreign::log(random, &case, careless);
+        let log = foreign::mixed(random, &case, careless);
         self.list(&case, &cut(&log))?;
         self.programs(random, &case)?;
         self.large_families(random, &[case, later, table])?;

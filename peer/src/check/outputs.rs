@@ -5,7 +5,7 @@ use super::*;
 impl Check {
     /// A careful foreign log is accepted by both readings.
     pub fn careful(&mut self, random: &mut Random, case: &Case) -> Result<(), Difference> {
-        let input = [case::write(case), foreign::log(random, case, false)].concat();
+        let input = [case::write(case), foreign::mixed(random, case, false)].concat();
         let answer = programs::replay(&input);
         holds(
             "careful foreign log",

@@ -2,10 +2,13 @@
 
 mod bytes;
 mod file;
+mod links;
 mod numbers;
 
+use crate::joins;
 use crate::random::Random;
 use bytes::*;
+use links::bad_links;
 use numbers::*;
 
 /// One to three damages, one after another.
@@ -18,7 +21,8 @@ pub fn damage(random: &mut Random, input: &[u8]) -> Vec<u8> {
 }
 
 fn once(random: &mut Random, file: &mut Vec<u8>) {
-    match random.below(24) {
+    let ways = if joins::allowed() { 28 } else { 24 };
+    match random.below(ways) {
         0 => change_byte(random, file),
         1 => insert_or_delete_byte(random, file),
         2 | 3 => cut_short(random, file),
@@ -35,6 +39,7 @@ fn once(random: &mut Random, file: &mut Vec<u8>) {
         19 => bad_weight(random, file),
         20 => same_edge(random, file),
         21 | 22 => bad_bar(random, file),
-        _ => wrong_bound(random, file),
+        23 => wrong_bound(random, file),
+        _ => bad_links(random, file),
     }
 }

@@ -2,22 +2,28 @@
 
 use super::line;
 use crate::types::{Case, Line, Refusal};
+use std::ops::Range;
 
 #[derive(Clone, Copy)]
-enum Due {
+pub enum Due {
     Unary(usize, usize),
     Edge(usize),
     Pair(usize, usize, usize),
 }
 
 fn due_lines(variables: usize, values: usize, edges: usize) -> Vec<Due> {
+    due_of(0..variables, values, 0..edges)
+}
+
+/// The lines of some links and then of some pairs.
+pub fn due_of(links: Range<usize>, values: usize, edges: Range<usize>) -> Vec<Due> {
     let mut due = Vec::new();
-    for i in 0..variables {
+    for i in links {
         for k in 0..values {
             due.push(Due::Unary(i, k));
         }
     }
-    for e in 0..edges {
+    for e in edges {
         due.push(Due::Edge(e));
         for k in 0..values {
             for l in 0..values {
@@ -49,7 +55,8 @@ fn head(line: Line) -> Result<(usize, usize, usize), u8> {
     Ok((line.a as usize, line.b as usize, line.c as usize))
 }
 
-fn take(case: &mut Case, due: Due, line: Line) -> Result<(), u8> {
+/// Takes a line that is due; edges and weights are added to what the case holds.
+pub fn take(case: &mut Case, due: Due, line: Line) -> Result<(), u8> {
     let barred = [14, 15].contains(&line.kind);
     let (kinds, unused): (&[i64], Vec<i64>) = match due {
         Due::Unary(..) if barred => (&[14], vec![line.c, line.amount]),

@@ -2,7 +2,6 @@
 
 use super::case;
 use super::engine;
-use super::figures::upper_bound;
 use super::line;
 use super::replay::PlainReplay;
 use crate::types::{Refusal, Rounds, Run, Stop};
@@ -61,6 +60,6 @@ fn replay_text(input: &[u8]) -> Result<String, Refusal> {
     Ok(format!(
         "accepted {} {}\n",
         replay.rounds,
-        upper_bound(&case, &replay.weights)
+        replay.ceiling()
     ))
 }

@@ -1,9 +1,12 @@
-//! Document 01's plain replay with document 02's void lines, word for word.
+//! Document 01's plain replay with document 02's void lines and links that join and leave,
+//! word for word.
 
 use super::figures::*;
 use super::line;
+use super::links::{self, HeldJoin};
 use super::moves;
 use super::refute::active_refuted;
+use crate::joins;
 use crate::types::{Case, Line};
 
 /// A press, or a void line held like a press.
@@ -15,32 +18,41 @@ struct HeldPress {
     left: i64,
 }
 
-pub struct PlainReplay<'a> {
-    case: &'a Case,
+pub struct PlainReplay {
+    /// The case as it stands, with its starting weights.
+    pub case: Case,
     pub weights: Vec<i64>,
+    pub carry: i64,
     pub rounds: u64,
     pub number: Option<u8>,
     round_start: i64,
     press: Option<HeldPress>,
+    join: Option<HeldJoin>,
     moves_without_bound: bool,
     /// A void line is whole.
     pub void: bool,
 }
 
-impl<'a> PlainReplay<'a> {
-    pub fn new(case: &'a Case) -> PlainReplay<'a> {
+impl PlainReplay {
+    pub fn new(case: &Case) -> PlainReplay {
         let weights = starting_weights(case);
         let round_start = upper_bound(case, &weights);
         PlainReplay {
-            case,
+            case: case.clone(),
             weights,
+            carry: 0,
             rounds: 0,
             number: None,
             round_start,
             press: None,
+            join: None,
             moves_without_bound: false,
             void: false,
         }
+    }
+
+    pub fn ceiling(&self) -> i64 {
+        upper_bound(&self.case, &self.weights) + self.carry
     }
 
     pub fn feed(&mut self, bytes: &[u8]) -> Option<u8> {
@@ -55,6 +67,7 @@ impl<'a> PlainReplay<'a> {
             Some(number) => Some(number),
             None if self.void => None,
             None if self.press.is_some() || self.moves_without_bound => Some(14),
+            None if self.join.is_some() => Some(14),
             None => None,
         }
     }
@@ -63,15 +76,23 @@ impl<'a> PlainReplay<'a> {
         let Some(line) = line::parse(bytes) else {
             return Err(1);
         };
+        if self.join.is_some() {
+            return self.join_line(line);
+        }
         let due: &[i64] = if self.void {
             &[]
         } else if self.press.is_some() {
             &[3]
-        } else {
+        } else if self.moves_without_bound || !joins::allowed() {
             &[1, 2, 4, 5]
+        } else {
+            &[1, 2, 4, 5, 7, 8]
         };
         if !due.contains(&line.kind) || unused(&line).iter().any(|&column| column != 0) {
             return Err(2);
+        }
+        if !self.sizes_good(&line) {
+            return Err(3);
         }
         if !self.ranges_good(&line) {
             return Err(5);
@@ -80,13 +101,49 @@ impl<'a> PlainReplay<'a> {
             1 => self.make_shift(&line),
             2 | 5 => self.hold_press(&line),
             3 => self.raise(&line),
+            7 => self.leave(&line),
+            8 => self.begin_join(&line),
             _ => self.bound(&line),
         }
     }
 
+    /// The case that a leave or a join would give has at least one link and passes no limit.
+    fn sizes_good(&self, line: &Line) -> bool {
+        let (links, pairs) = (self.case.variables as i64, self.case.edges.len() as i64);
+        match line.kind {
+            7 => links - 1 >= 1,
+            8 => links + 1 <= 48 && pairs + line.a <= 96,
+            _ => true,
+        }
+    }
+
+    fn leave(&mut self, line: &Line) -> Result<(), u8> {
+        let link = line.a as usize;
+        let left = links::leave(&self.case, &self.weights, self.carry, link);
+        (self.case, self.weights, self.carry) = left;
+        self.round_start = self.ceiling();
+        Ok(())
+    }
+
+    fn begin_join(&mut self, line: &Line) -> Result<(), u8> {
+        self.join = Some(HeldJoin::new(&self.case, line.a as usize));
+        Ok(())
+    }
+
+    fn join_line(&mut self, line: Line) -> Result<(), u8> {
+        let join = self.join.as_mut().unwrap();
+        join.take(line)?;
+        if join.is_whole() {
+            (self.case, self.weights) = join.made(&self.case, &self.weights);
+            self.join = None;
+            self.round_start = self.ceiling();
+        }
+        Ok(())
+    }
+
     fn ranges_good(&self, line: &Line) -> bool {
         let within = |number: i64, count: usize| number >= 0 && number < count as i64;
-        let scopes = scope_count(self.case);
+        let scopes = scope_count(&self.case);
         let amount = line.amount;
         match line.kind {
             1 => {
@@ -106,13 +163,15 @@ impl<'a> PlainReplay<'a> {
             5 => {
                 within(line.a, self.case.variables) && line.b >= 1 && line.b <= scopes as i64 - 1
             }
+            7 => within(line.a, self.case.variables),
+            8 => line.a >= 0 && line.a <= self.case.variables as i64,
             _ => self.rounds < 999_999_999_999_999_999,
         }
     }
 
     fn make_shift(&mut self, line: &Line) -> Result<(), u8> {
         let (edge, end, value) = (line.a as usize, line.b as usize, line.c as usize);
-        self.weights = moves::shift(self.case, &self.weights, edge, end, value, line.amount)?;
+        self.weights = moves::shift(&self.case, &self.weights, edge, end, value, line.amount)?;
         self.moves_without_bound = true;
         Ok(())
     }
@@ -138,7 +197,7 @@ impl<'a> PlainReplay<'a> {
         let mut raised = press.raised.clone();
         raised.push(scope);
         if press.left == 1 {
-            if !active_refuted(self.case, &self.weights, &raised, press.variable) {
+            if !active_refuted(&self.case, &self.weights, &raised, press.variable) {
                 return Err(10);
             }
             if press.is_void {
@@ -150,7 +209,7 @@ impl<'a> PlainReplay<'a> {
                 return Ok(());
             }
             let (variable, amount) = (press.variable, press.amount);
-            self.weights = moves::press(self.case, &self.weights, variable, &raised, amount)?;
+            self.weights = moves::press(&self.case, &self.weights, variable, &raised, amount)?;
             self.press = None;
             self.moves_without_bound = true;
             return Ok(());
@@ -164,17 +223,17 @@ impl<'a> PlainReplay<'a> {
     /// All values of the link but the active ones are barred, and so are all closed
     /// combinations.
     fn barring_holds(&self, variable: usize, raised: &[usize]) -> bool {
-        let active = active_values(self.case, &self.weights, variable);
+        let active = active_values(&self.case, &self.weights, variable);
         for value in 0..self.case.values {
-            let barred = is_barred(self.case, &self.weights, variable, &[value]);
+            let barred = is_barred(&self.case, &self.weights, variable, &[value]);
             if !active.contains(&value) && !barred {
                 return false;
             }
         }
         for &scope in raised {
-            for tuple in tuples(self.case, scope) {
-                let closed = !is_active(self.case, &self.weights, scope, &tuple);
-                if closed && !is_barred(self.case, &self.weights, scope, &tuple) {
+            for tuple in tuples(&self.case, scope) {
+                let closed = !is_active(&self.case, &self.weights, scope, &tuple);
+                if closed && !is_barred(&self.case, &self.weights, scope, &tuple) {
                     return false;
                 }
             }
@@ -183,7 +242,7 @@ impl<'a> PlainReplay<'a> {
     }
 
     fn bound(&mut self, line: &Line) -> Result<(), u8> {
-        let ceiling = upper_bound(self.case, &self.weights);
+        let ceiling = self.ceiling();
         if line.amount != ceiling {
             return Err(12);
         }
@@ -203,6 +262,7 @@ fn unused(line: &Line) -> Vec<i64> {
         3 => vec![line.b, line.c, line.amount],
         4 => vec![line.a, line.b, line.c],
         5 => vec![line.c, line.amount],
+        7 | 8 => vec![line.b, line.c, line.amount],
         _ => vec![],
     }
 }

@@ -24,6 +24,9 @@ sets-of c = c .before .before .before
 rows-room : (s : tie.Start) → 16 * s .args .case .m ≤ rowPlaces
 rows-room s = omega (arith, s .pre .0 .limits .edges-placed)
 
+lower-places : (s : tie.Start) → length (s .args .case .lower) ≡ edgePlaces
+lower-places s = search needs
+
 upper-places : (s : tie.Start) → length (s .args .case .upper) ≡ edgePlaces
 upper-places s = search needs
 
@@ -46,7 +49,7 @@ prepare-rows-requires : tie.Need-prepare-rows-requires
 prepare-rows-requires c κs = let s = entry (c .before .before) in (s .pre .0, ((s .pre .1 .0, s .pre .1 .1, rows-room s), zeros-at rowPlaces))
 
 slice-aggregate-none-supported : tie.Need-slice-aggregate-none-supported
-slice-aggregate-none-supported c = search needs
+slice-aggregate-none-supported c = search (needs, lower-places (entry (sets-of (c .before .before))))
 
 slice-aggregate-none-supported-2 : tie.Need-slice-aggregate-none-supported-2
 slice-aggregate-none-supported-2 c = search (needs, upper-places (entry (sets-of (c .before .before .before))))

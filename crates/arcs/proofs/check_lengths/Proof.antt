@@ -3,9 +3,11 @@ use mathlib.Core.Path.{_≡_, sym, _∙_}
 use mathlib.Core.Bool.{true}
 use borrow.Author.Tests.{not-true, not-false}
 use denote.Ref.{now}
+use lib.ListN.{length}
 use Rattle.definitions.specs.Rules.{rulesOf}
+use Rattle.definitions.specs.Case.{lentLength}
 use Rattle.definitions.specs.Valid.{withinLimits}
-use Rattle.tables.proofs.Order.{limited}
+use Rattle.tables.proofs.Order.{sized}
 use Rattle.arcs.proofs.Prepared.{limits-refused, table-refused, others-refused, lengths-taken}
 use borrow.Author.Needs.{needs}
 use Rattle.arcs.proofs.check_lengths.Statement.{statement}
@@ -23,26 +25,30 @@ returns c =
     let a = c .before .before .args in
     limits-refused (a .case) (now (a .table)) (a .wrong) (sym (c .before .within-limits .ensures) ∙ not-true _ (c .if1 .taken))
 
-weight-places-requires : tie.Need-weight-places-requires
-weight-places-requires c κs = limited _ (within c)
+is-sized-requires : tie.Need-is-sized-requires
+is-sized-requires c κs = search needs
 
 returns-2 : tie.Need-returns-2
 returns-2 c =
     let e = c .before .before in
     let a = e .before .before .args in
-    table-refused (a .case) (now (a .table)) (a .wrong) (within e) (λ q. c .if2 .taken (q ∙ sym (c .before .weight-places .ensures)))
+    table-refused (a .case) (now (a .table)) (a .wrong) (within e) (sym (c .before .is-sized .ensures) ∙ not-true _ (c .if2 .taken))
+
+-- the table's length is right
+long : (c : tie.Else2) → let a = c .before .before .before .before .args in length (now (a .table)) ≡ lentLength (rulesOf (a .case)) (a .case)
+long c = sized (c .before .before .before .before .args .case) _ (sym (c .before .is-sized .ensures) ∙ not-false _ (c .if2 .left)) .1
 
 returns-3 : tie.Need-returns-3
 returns-3 c =
     let e = c .before .before .before in
     let a = e .before .before .args in
-    others-refused (a .case) (now (a .table)) (a .wrong) (within e) (c .before .if2 .left ∙ c .before .before .weight-places .ensures) (c .if3 .taken)
+    others-refused (a .case) (now (a .table)) (a .wrong) (within e) (long (c .before)) (c .if3 .taken)
 
 returns-4 : tie.Need-returns-4
 returns-4 c =
     let e = c .before .before .before in
     let a = e .before .before .args in
-    lengths-taken (a .case) (now (a .table)) (a .wrong) (within e) (c .before .if2 .left ∙ c .before .before .weight-places .ensures) (c .if3 .left)
+    lengths-taken (a .case) (now (a .table)) (a .wrong) (within e) (long (c .before)) (c .if3 .left)
 
 pub check-lengths-spec : {M : Type 1} → statement M
 check-lengths-spec =
@@ -50,7 +56,7 @@ check-lengths-spec =
     (tie.spec
     within-limits-requires
     returns
-    weight-places-requires
+    is-sized-requires
     returns-2
     returns-3
     returns-4)

@@ -1,10 +1,11 @@
 use Prim.Native.Nat.{_≤_, _-_}
 use borrow.Author.Needs.{needs}
+use Rattle.definitions.specs.Places.{tablePlaces}
 use Rattle.calls_vectors.proofs.fill_weights.Statement.{statement}
 use Rattle.calls_vectors.proofs.fill_weights.Tie as tie
 
 abbrev Inv-loop : tie.InvT-loop
-Inv-loop list₀ from n value i₀ to list i = to ≤ 160
+Inv-loop list₀ from n value i₀ to list i = to ≤ tablePlaces
 
 abbrev μ-loop : tie.MeasureT-loop
 μ-loop list₀ from n value i₀ to list i = to - i

@@ -119,7 +119,7 @@ loop-holds c =
 line-after-requires : tie.Need-line-after-requires Inv-loop μ-loop
 line-after-requires c κs =
     let a = start-loop (c .before) in
-    (limited a, (known c .1, a .pre .0 .long))
+    (limited a, (known c .1, a .pre .0 .own-fits))
 
 add-put-at : tie.Need-add-put-at Inv-loop μ-loop
 add-put-at c = omega (arith, room (c .before .before))

@@ -1,81 +1,29 @@
-use mathlib.Core.Path.{refl, sym, _∙_}
-use mathlib.Core.List.{[]}
 use denote.Ref.{now}
-use Rattle.casefile.proofs.Cases.{handed-same, case-wrong, case-right, case-length, case-refused, head-whole, sizes-limited}
+use Rattle.definitions.specs.CaseFiles.{readLines}
+use Rattle.casefile.proofs.Zeroing.{handed-past, lines-few}
 use borrow.Author.Needs.{needs}
 use Rattle.casefile.proofs.read_case_in.Statement.{statement}
 use Rattle.casefile.proofs.read_case_in.Tie as tie
 
-case-size-in-requires : tie.Need-case-size-in-requires
-case-size-in-requires c κs = search needs
+read-lines-in-requires : tie.Need-read-lines-in-requires
+read-lines-in-requires c κs = search needs
 
-enum-known-size : tie.Need-enum-known-size
-enum-known-size c = search needs
-
-file-refused-requires : tie.Need-file-refused-requires
-file-refused-requires c κs = search needs
-
-enum-known-size-2 : tie.Need-enum-known-size-2
-enum-known-size-2 c = search needs
-
-file-refused-requires-2 : tie.Need-file-refused-requires-2
-file-refused-requires-2 c κs = search needs
-
-returns : tie.Need-returns
-returns c =
-    let z = c .before .before .before in
-    let x = z .size2 .given .0 in
-    let k = z .before .before in
-    let a = k .before .before .args in
-    handed-same (case-wrong (a .rulebook) (now (a .bytes)) (now (a .table)) (x .0) (x .1 .0) (x .1 .1 .0)
-    (sym (k .case-size-in .ensures) ∙ z .size2 .given .1) (c .before .if1 .taken)) (c .file-refused2 .ensures [], refl)
-
-read-body-requires : tie.Need-read-body-requires
-read-body-requires c κs =
-    let z = c .before .before .before in
-    let x = z .size2 .given .0 in
-    let k = z .before .before in
-    let a = k .before .before .args in
-    let e = sym (k .case-size-in .ensures) ∙ z .size2 .given .1 in (
-      sizes-limited (a .rulebook) (now (a .bytes)) (now (a .table)) (x .0) (x .1 .0) (x .1 .1 .0) e,
-      (
-        head-whole (a .rulebook) (now (a .bytes)) (now (a .table)) (x .0) (x .1 .0) (x .1 .1 .0) e,
-        case-length (a .rulebook) (now (a .bytes))
-            (now (a .table)) (x .0) (x .1 .0) (x .1 .1 .0) e (c .before .if1 .left),
-      ),
-    )
-
-returns-2 : tie.Need-returns-2
-returns-2 c =
-    let z = c .before .before in
-    let k = z .before .before in
-    let a = k .before .before .args in
-    handed-same (case-refused (a .rulebook) (now (a .bytes)) (now (a .table)) (sym (k .case-size-in .ensures) ∙ z .size .given .1))
-    (c .file-refused .ensures [], refl)
+zero-past-requires : tie.Need-zero-past-requires
+zero-past-requires c κs =
+    let k = c .before .before in
+    let a = k .before .before .before .args in
+    lines-few (a .rulebook) (now (a .bytes)) (now (a .table)) (k .read-lines-in .ensures .0)
 
 same-length : tie.Need-same-length
 same-length c = search needs
 
-returns-3 : tie.Need-returns-3
-returns-3 c =
-    let z = c .before .before .before .before .before in
-    let x = z .size2 .given .0 in
-    let k = z .before .before in
-    let a = k .before .before .args in
-    handed-same (case-right (a .rulebook) (now (a .bytes)) (now (a .table)) (x .0) (x .1 .0) (x .1 .1 .0)
-    (sym (k .case-size-in .ensures) ∙ z .size2 .given .1) (c .before .before .before .if1 .left)) (c .before .read-body .ensures)
+returns : tie.Need-returns
+returns c =
+    let z = c .before in
+    let k = z .before .before .before in
+    let a = k .before .before .before .args in
+    handed-past (readLines (a .rulebook) (now (a .bytes)) (now (a .table))) (k .read-lines-in .ensures) (z .zero-past .ensures)
 
 pub read-case-in-spec : {M : Type 1} → statement M
 read-case-in-spec =
-    tie.close
-    (tie.spec
-    case-size-in-requires
-    enum-known-size
-    file-refused-requires
-    enum-known-size-2
-    file-refused-requires-2
-    returns
-    read-body-requires
-    returns-2
-    same-length
-    returns-3)
+    tie.close (tie.spec read-lines-in-requires zero-past-requires same-length returns)

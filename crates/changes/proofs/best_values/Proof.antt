@@ -35,7 +35,7 @@ module _ (c : tie.Else1) where
   right = sym (c .before .within-limits .ensures) ∙ not-false _ (c .if1 .left)
 
   abbrev wrong : Bool
-  wrong = let a = start .args in not (eqb (length (a .table .now)) (lentLength (a .case))) || ltb (length (a .best .now)) (scopeCount (a .case))
+  wrong = let a = start .args in not (eqb (length (a .table .now)) (lentLength (rulesOf (a .case)) (a .case))) || ltb (length (a .best .now)) (scopeCount (a .case))
 
 lengths-wrong-requires : tie.Need-lengths-wrong-requires
 lengths-wrong-requires c κs = limited (start c .args .case) (right c)
@@ -77,8 +77,9 @@ module _ (c : tie.Else3) where
       let l = kept-lengths-right (a .case) (a .table .now) (a .best .now) (lens lengths-passed) in
       let h : a .variable + 1 ≤ a .case .n = omega (arith, c .if3 .left) in
       let m = mul-le-mul-right {m = a .variable + 1} {n = a .case .n} (a .case .d) h in
-      let s = variables-small (a .case) (limited (a .case) (right (limits-passed lengths-passed))) in
-      (omega (arith, m, l .0), omega (arith, m, s), omega (arith, h, l .1))
+      let known = limited (a .case) (right (limits-passed lengths-passed)) in
+      let s = variables-small (a .case) known in
+      (omega (arith, m, l .0, known .own-lent), omega (arith, m, s), omega (arith, h, l .1))
 
 mul-values-with : tie.Need-mul-values-with
 mul-values-with c = omega (arith, inside (c .before))

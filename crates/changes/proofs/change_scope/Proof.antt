@@ -11,6 +11,7 @@ use Rattle.definitions.specs.Case.{place}
 use Rattle.tables.specs.Scopes.{sizeOf, scopePart}
 use Rattle.tables.proofs.Parts.{part-own}
 use Rattle.changes.specs.Scopes.{loweredBy, partAfter}
+use Rattle.tables.proofs.Order.{own-places}
 use Rattle.changes.proofs.SpacedLaws.{amount-fits}
 use Rattle.changes.proofs.ScopeLaws.{part-fits, scope-changed}
 use Rattle.changes.proofs.change_scope.Statement.{statement}
@@ -85,7 +86,7 @@ returns c =
     rw (toZ-ofZ (f .best), toZ-ofZ (f .rest), toZ-ofZ (f .amount)) at (c .before .change-part .ensures) in
     ap (λ (l : List ℤ). take first w ++ (l ++ drop n (drop first w))) e
     ∙ ap₂ (λ (p n : ℕ). take p w ++ (partAfter by (take n (drop p w)) ++ drop n (drop p w))) (part-at z .0) (part-at z .1)
-    ∙ sym (scope-changed (a .case) w (s .pre .0 .long) (a .x) (s .pre .0 .scope) by)
+    ∙ sym (scope-changed (a .case) w (own-places (a .case) (s .pre .0 .limited) w (s .pre .0 .long)) (a .x) (s .pre .0 .scope) by)
 
 pub change-scope-spec : {M : Type 1} → statement M
 change-scope-spec =

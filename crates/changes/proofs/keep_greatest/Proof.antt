@@ -8,6 +8,7 @@ use Rattle.integers.specs.Linear.{read-back}
 use Rattle.definitions.specs.Case.{place, greatest}
 use Rattle.tables.specs.Scopes.{sizeOf, scopePart}
 use Rattle.tables.proofs.Parts.{part-own}
+use Rattle.tables.proofs.Order.{own-places}
 use Rattle.changes.proofs.ScopeLaws.{best-known}
 use borrow.Author.Needs.{needs}
 use Rattle.changes.proofs.keep_greatest.Statement.{statement}
@@ -69,7 +70,7 @@ returns : tie.Need-returns
 returns c = let s = c .before .before .before .before in
     let a = s .args in
     ap (set (a .best .now) (a .x)) (read-back w64 (c .greatest .result) (c .greatest .ok) ∙ c .greatest .ensures ∙ ap greatestOf (part-is (c .before .before))
-    ∙ best-known (a .case) (a .table .now) (s .pre .0 .long) (a .x) (s .pre .0 .scope))
+    ∙ best-known (a .case) (a .table .now) (own-places (a .case) (s .pre .0 .limited) (a .table .now) (s .pre .0 .long)) (a .x) (s .pre .0 .scope))
 
 pub keep-greatest-spec : {M : Type 1} → statement M
 keep-greatest-spec =

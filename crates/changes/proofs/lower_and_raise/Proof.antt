@@ -24,7 +24,7 @@ module _ (z : tie.Start) where
   change = let a = z .args in loweringChange (a .case) (a .table .now) (a .best .now) (a .raised .now) (a .variable) (mark (a .values)) (a .amount)
 
   abbrev other : Bool
-  other = not (eqb (length (z .args .table .now)) (lentLength (z .args .case)))
+  other = not (eqb (length (z .args .table .now)) (lentLength (rulesOf (z .args .case)) (z .args .case)))
 
   abbrev few : Bool
   few = ltb (length (z .args .best .now)) (scopeCount (z .args .case))

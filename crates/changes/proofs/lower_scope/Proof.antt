@@ -9,6 +9,7 @@ use Rattle.integers.specs.Tests.{true-is, imp-elim}
 use Rattle.integers.specs.Linear.{read-back}
 use Rattle.definitions.specs.Rules.{rulesOf}
 use Rattle.changes.specs.Scopes.{restOf, isTouched}
+use Rattle.tables.proofs.Order.{own-places}
 use Rattle.changes.proofs.LoweringLaws.{lowering-amounts, untouched}
 use borrow.Author.Needs.{needs}
 use Rattle.changes.proofs.lower_scope.Statement.{statement}
@@ -68,7 +69,7 @@ returns-2 c =
     let s = c .before .before in
     let a = s .args in
     let e = sym (c .before .is-touched .ensures) ∙ c .if1 .left in (
-      sym (untouched (a .case) (a .table .now) (s .pre .0 .0 .long) (a .variable) (a .values) (a .x) (a .mark) (a .amount) (a .held) e),
+      sym (untouched (a .case) (a .table .now) (own-places (a .case) (s .pre .0 .0 .limited) (a .table .now) (s .pre .0 .0 .long)) (a .variable) (a .values) (a .x) (a .mark) (a .amount) (a .held) e),
       rw e (sym (set-getD (a .best .now) (a .x) (pos 0))),
     )
 

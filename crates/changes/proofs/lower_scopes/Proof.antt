@@ -1,11 +1,13 @@
-use mathlib.Core.Path.{_≡_, sym, subst, _∙_}
+use mathlib.Core.Path.{_≡_, subst, _∙_}
 use Prim.Native.Nat.{ℕ, _-_, _≤_, _<_}
 use native.Mathlib.Omega.{arith}
 use mir.Syntax.{w64}
 use mir.Val.{toZ, ofZ}
 use mir.Facts.{toZ-ofZ}
 use Rattle.integers.specs.Linear.{read-back}
-use Rattle.definitions.specs.Case.{scopeCount}
+use lib.ListN.{length}
+use Rattle.definitions.specs.Case.{scopeCount, ownLength}
+use Rattle.tables.proofs.Order.{own-places}
 use Rattle.tables.specs.Scopes.{bestAt}
 use Rattle.changes.proofs.LoweringLaws.{Lowered, lowered-none, lowered-all, lowered-long, lowered-lets, lowered-next}
 use Rattle.changes.proofs.lower_scopes.Statement.{statement}
@@ -18,6 +20,10 @@ Inv-loop case table₀ best₀ raised variable values amount scopes x₀ table b
 abbrev μ-loop : tie.MeasureT-loop
 μ-loop case table₀ best₀ raised variable values amount scopes x₀ table best x = scopes - x
 
+-- the table has the case's own places
+own-in : (s : tie.Start Inv-loop μ-loop) → ownLength (s .args .case) ≤ length (s .args .table .now)
+own-in s = own-places (s .args .case) (s .pre .0 .0) (s .args .table .now) (s .pre .0 .1)
+
 add-scopes : tie.Need-add-scopes Inv-loop μ-loop
 add-scopes c = omega arith
 
@@ -28,7 +34,7 @@ loop-holds c =
     let p = z .pre in (
       omega arith,
       lowered-none (a .case) (a .table .now) (a .best .now) (a .raised .now) (a .variable) (a .values) (toZ w64 (ofZ w64 (a .amount)))
-          (p .1 .1 .0 .0) (p .0 .1) (p .1 .0 .0),
+          (p .1 .1 .0 .0) (own-in z) (p .1 .0 .0),
     )
 
 mul-held : tie.Need-mul-held Inv-loop μ-loop
@@ -59,9 +65,9 @@ lower-scope-requires c κs =
     let p = z .pre in
     let h : l .x < scopeCount (a .case) = omega arith in
     let long = lowered-long (a .case) (a .table .now) (a .best .now) (a .raised .now) (a .variable) (a .values) (toZ w64 (ofZ w64 (a .amount)))
-    (p .1 .1 .0 .0) (p .0 .1) (p .1 .0 .0) (l .inv .1) in
+    (p .1 .1 .0 .0) (own-in z) (p .1 .0 .0) (l .inv .1) ∙ p .0 .1 in
     let lets = lowered-lets (a .case) (a .table .now) (a .best .now) (a .raised .now) (a .variable) (a .values) (toZ w64 (ofZ w64 (a .amount)))
-    (p .1 .1 .0 .0) (p .0 .1) (p .1 .0 .0) (l .inv .1) h (rw (toZ-ofZ (z .fits .amount)) (p .1 .1 .1)) in (
+    (p .1 .1 .0 .0) (own-in z) (p .1 .0 .0) (l .inv .1) h (rw (toZ-ofZ (z .fits .amount)) (p .1 .1 .1)) in (
       (record { limited = p .0 .0; long = long; scope = h }, omega (arith, l .inv .1 .same-long, p .1 .0 .0)),
       (rw (held-is q) lets, rw (toZ-ofZ (z .fits .amount)) (p .1 .1 .0 .1)),
     )
@@ -83,7 +89,7 @@ loop-again c =
     let h : l .x < scopeCount (a .case) = omega (arith, q .before .loop-test .taken) in (
       omega (arith, h),
       lowered-next (a .case) (a .table .now) (a .best .now) (a .raised .now) (a .variable) (a .values) (toZ w64 (ofZ w64 (a .amount)))
-          (p .1 .1 .0 .0) (p .0 .1) (p .1 .0 .0) (l .inv .1) h (rw (held-is q) at (d .lower-scope .ensures .0)) (d .lower-scope .ensures .1),
+          (p .1 .1 .0 .0) (own-in z) (p .1 .0 .0) (l .inv .1) h (rw (held-is q) at (d .lower-scope .ensures .0)) (d .lower-scope .ensures .1),
     )
 
 same-length : tie.Need-same-length Inv-loop μ-loop
@@ -92,7 +98,7 @@ same-length c =
     let a = z .args in
     let p = z .pre in
     lowered-long (a .case) (a .table .now) (a .best .now) (a .raised .now) (a .variable) (a .values) (toZ w64 (ofZ w64 (a .amount)))
-    (p .1 .1 .0 .0) (p .0 .1) (p .1 .0 .0) (c .before .loop .inv .1) ∙ sym (p .0 .1)
+    (p .1 .1 .0 .0) (own-in z) (p .1 .0 .0) (c .before .loop .inv .1)
 
 same-length-2 : tie.Need-same-length-2 Inv-loop μ-loop
 same-length-2 c = c .before .loop .inv .1 .same-long
@@ -107,7 +113,7 @@ returns c =
     let done = subst (λ (x : ℕ). Lowered (a .case) (a .table .now) (a .best .now) (a .raised .now) (a .variable) (a .values)
     (toZ w64 (ofZ w64 (a .amount))) x (l .table) (l .best)) e (l .inv .1) in
     rw (toZ-ofZ (z .fits .amount)) at (lowered-all (a .case) (a .table .now) (a .best .now) (a .raised .now) (a .variable) (a .values)
-    (toZ w64 (ofZ w64 (a .amount))) (p .1 .1 .0 .0) (p .0 .1) (p .1 .0 .0) done)
+    (toZ w64 (ofZ w64 (a .amount))) (p .1 .1 .0 .0) (own-in z) (p .1 .0 .0) done)
 
 pub lower-scopes-spec : {M : Type 1} → statement M
 lower-scopes-spec =

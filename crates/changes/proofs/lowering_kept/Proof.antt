@@ -7,6 +7,7 @@ use Rattle.definitions.specs.Rules.{rulesOf}
 use Rattle.marks.specs.Marks.{mark}
 use Rattle.changes.specs.Scopes.{loweringLets}
 use Rattle.changes.specs.Kept.{Change, loweringChange, staysWorking}
+use Rattle.tables.proofs.Order.{own-places}
 use Rattle.changes.proofs.LoweringLaws.{lets-is}
 use Rattle.changes.proofs.KeptLaws.{kept-left, kept-made}
 use borrow.Author.Needs.{needs}
@@ -37,7 +38,8 @@ module _ (s : tie.Start) where
   same : lets ≡ stays
   same =
       let a = s .args in
-      lets-is (a .case) (a .table .now) (a .best .now) (a .raised .now) (a .variable) (a .values) (a .amount) (s .pre .1 .1 .0) (s .pre .0 .1)
+      lets-is (a .case) (a .table .now) (a .best .now) (a .raised .now) (a .variable) (a .values) (a .amount) (s .pre .1 .1 .0)
+      (own-places (a .case) (s .pre .0 .0) (a .table .now) (s .pre .0 .1))
 
 returns : tie.Need-returns
 returns c =

@@ -26,7 +26,7 @@ module _ (z : tie.Start) where
   change = let a = z .args in transferChange (a .case) (a .edge) (a .end) (a .value) (a .amount)
 
   abbrev wrong : Bool
-  wrong = not (eqb (length (z .args .table .now)) (lentLength (z .args .case)))
+  wrong = not (eqb (length (z .args .table .now)) (lentLength (rulesOf (z .args .case)) (z .args .case)))
 
   abbrev few : Bool
   few = ltb (length (z .args .best .now)) (scopeCount (z .args .case))

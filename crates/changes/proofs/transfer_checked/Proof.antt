@@ -9,7 +9,7 @@ use Rattle.integers.specs.Words.{if_then_else_}
 use Rattle.definitions.specs.declared.Outcome.{Outcome}
 use Rattle.definitions.specs.declared.Refusal.the-variants.{LeavesRange}
 use Rattle.definitions.specs.Rules.{edgePlaces}
-use Rattle.tables.proofs.Order.{variables-small, values-small, times-most}
+use Rattle.tables.proofs.Order.{own-places, variables-small, values-small, times-most}
 use Rattle.changes.proofs.TransferLaws.{TransferPlaces, row-places, column-places, used-in, transfer-inside, transfer-separate, transfer-is}
 use Rattle.changes.proofs.TransferLaws.{transfer-made}
 use borrow.Author.Needs.{needs}
@@ -90,6 +90,7 @@ mul-transfer-by : tie.Need-mul-transfer-by
 mul-transfer-by c = let s = c .before .before .before .before in let a = s .args in omega (
   arith,
   s .pre .0 .1,
+  s .pre .0 .0 .own-lent,
   used-in (a .case) (a .edge) (a .end) (a .value) _ _ _ (a .amount) (s .pre .1 .0 .0) (s .pre .1 .0 .2) (row (c .before)) 0
       (omega (arith, s .pre .0 .0 .some-value)),
 )
@@ -98,6 +99,7 @@ add-transfer-by : tie.Need-add-transfer-by
 add-transfer-by c = let s = c .before .before .before .before in let a = s .args in omega (
   arith,
   s .pre .0 .1,
+  s .pre .0 .0 .own-lent,
   used-in (a .case) (a .edge) (a .end) (a .value) _ _ _ (a .amount) (s .pre .1 .0 .0) (s .pre .1 .0 .2) (row (c .before)) 0
       (omega (arith, s .pre .0 .0 .some-value)),
 )
@@ -106,13 +108,13 @@ transfer-by-requires : tie.Need-transfer-by-requires
 transfer-by-requires c κs = let s = c .before .before .before .before in
     let a = s .args in
     let p = row (c .before) in
-    let k = transfer-inside (a .case) (a .table .now) (s .pre .0 .1) (a .edge) (a .end) (a .value) _ _ _ (a .amount) (s .pre .1 .0 .0) (s .pre .1 .0 .2) p in (
+    let k = transfer-inside (a .case) (a .table .now) (own-places (a .case) (s .pre .0 .0) (a .table .now) (s .pre .0 .1)) (a .edge) (a .end) (a .value) _ _ _ (a .amount) (s .pre .1 .0 .0) (s .pre .1 .0 .2) p in (
       k .0,
       (
         k .1,
         (
           (rw (toZ-ofZ (s .fits .amount)) (s .pre .1 .1), p .spread),
-          transfer-separate (a .case) (a .table .now) (s .pre .0 .1) (a .edge) (a .end)
+          transfer-separate (a .case) (a .table .now) (own-places (a .case) (s .pre .0 .0) (a .table .now) (s .pre .0 .1)) (a .edge) (a .end)
               (a .value) _ _ _ (a .amount) (s .pre .1 .0 .0) (s .pre .1 .0 .2) p,
         ),
       ),
@@ -122,6 +124,7 @@ add-transfer-by-2 : tie.Need-add-transfer-by-2
 add-transfer-by-2 c = let s = c .before .before .before .before in let a = s .args in omega (
   arith,
   s .pre .0 .1,
+  s .pre .0 .0 .own-lent,
   used-in (a .case) (a .edge) (a .end) (a .value) _ _ _ (a .amount) (s .pre .1 .0 .0) (s .pre .1 .0 .2) (column (c .before)) 0
       (omega (arith, s .pre .0 .0 .some-value)),
 )
@@ -130,13 +133,13 @@ transfer-by-requires-2 : tie.Need-transfer-by-requires-2
 transfer-by-requires-2 c κs = let s = c .before .before .before .before in
     let a = s .args in
     let p = column (c .before) in
-    let k = transfer-inside (a .case) (a .table .now) (s .pre .0 .1) (a .edge) (a .end) (a .value) _ _ _ (a .amount) (s .pre .1 .0 .0) (s .pre .1 .0 .2) p in (
+    let k = transfer-inside (a .case) (a .table .now) (own-places (a .case) (s .pre .0 .0) (a .table .now) (s .pre .0 .1)) (a .edge) (a .end) (a .value) _ _ _ (a .amount) (s .pre .1 .0 .0) (s .pre .1 .0 .2) p in (
       k .0,
       (
         k .1,
         (
           (rw (toZ-ofZ (s .fits .amount)) (s .pre .1 .1), p .spread),
-          transfer-separate (a .case) (a .table .now) (s .pre .0 .1) (a .edge) (a .end)
+          transfer-separate (a .case) (a .table .now) (own-places (a .case) (s .pre .0 .0) (a .table .now) (s .pre .0 .1)) (a .edge) (a .end)
               (a .value) _ _ _ (a .amount) (s .pre .1 .0 .0) (s .pre .1 .0 .2) p,
         ),
       ),
@@ -152,11 +155,11 @@ returns c = let s = c .before .before .before .before .before .before in
     let r = c .before .transfer-by in (
       (rw (toZ-ofZ (s .fits .amount)) at (r .ensures .0))
           ∙ ap (λ (b : Bool). if b then Outcome.Done else Outcome.Refused LeavesRange)
-          (transfer-is (a .case) (a .table .now) (s .pre .0 .1) (a .edge) (a .end) (a .value) _ _ _ (a .amount) (s .pre .1 .0 .0) (s .pre .1 .0 .2) p),
+          (transfer-is (a .case) (a .table .now) (own-places (a .case) (s .pre .0 .0) (a .table .now) (s .pre .0 .1)) (a .edge) (a .end) (a .value) _ _ _ (a .amount) (s .pre .1 .0 .0) (s .pre .1 .0 .2) p),
       (rw (toZ-ofZ (s .fits .amount)) at (r .ensures .1))
           ∙ ap₂ (λ (b : Bool) (t : List ℤ). if b then t else a .table .now)
-          (transfer-is (a .case) (a .table .now) (s .pre .0 .1) (a .edge) (a .end) (a .value) _ _ _ (a .amount) (s .pre .1 .0 .0) (s .pre .1 .0 .2) p)
-          (transfer-made (a .case) (a .table .now) (s .pre .0 .1) (a .edge) (a .end) (a .value) _ _ _ (a .amount) (s .pre .1 .0 .0) (s .pre .1 .0 .2) p),
+          (transfer-is (a .case) (a .table .now) (own-places (a .case) (s .pre .0 .0) (a .table .now) (s .pre .0 .1)) (a .edge) (a .end) (a .value) _ _ _ (a .amount) (s .pre .1 .0 .0) (s .pre .1 .0 .2) p)
+          (transfer-made (a .case) (a .table .now) (own-places (a .case) (s .pre .0 .0) (a .table .now) (s .pre .0 .1)) (a .edge) (a .end) (a .value) _ _ _ (a .amount) (s .pre .1 .0 .0) (s .pre .1 .0 .2) p),
     )
 
 same-length-2 : tie.Need-same-length-2
@@ -169,11 +172,11 @@ returns-2 c = let s = c .before .before .before .before .before .before in
     let r = c .before .transfer-by2 in (
       (rw (toZ-ofZ (s .fits .amount)) at (r .ensures .0))
           ∙ ap (λ (b : Bool). if b then Outcome.Done else Outcome.Refused LeavesRange)
-          (transfer-is (a .case) (a .table .now) (s .pre .0 .1) (a .edge) (a .end) (a .value) _ _ _ (a .amount) (s .pre .1 .0 .0) (s .pre .1 .0 .2) p),
+          (transfer-is (a .case) (a .table .now) (own-places (a .case) (s .pre .0 .0) (a .table .now) (s .pre .0 .1)) (a .edge) (a .end) (a .value) _ _ _ (a .amount) (s .pre .1 .0 .0) (s .pre .1 .0 .2) p),
       (rw (toZ-ofZ (s .fits .amount)) at (r .ensures .1))
           ∙ ap₂ (λ (b : Bool) (t : List ℤ). if b then t else a .table .now)
-          (transfer-is (a .case) (a .table .now) (s .pre .0 .1) (a .edge) (a .end) (a .value) _ _ _ (a .amount) (s .pre .1 .0 .0) (s .pre .1 .0 .2) p)
-          (transfer-made (a .case) (a .table .now) (s .pre .0 .1) (a .edge) (a .end) (a .value) _ _ _ (a .amount) (s .pre .1 .0 .0) (s .pre .1 .0 .2) p),
+          (transfer-is (a .case) (a .table .now) (own-places (a .case) (s .pre .0 .0) (a .table .now) (s .pre .0 .1)) (a .edge) (a .end) (a .value) _ _ _ (a .amount) (s .pre .1 .0 .0) (s .pre .1 .0 .2) p)
+          (transfer-made (a .case) (a .table .now) (own-places (a .case) (s .pre .0 .0) (a .table .now) (s .pre .0 .1)) (a .edge) (a .end) (a .value) _ _ _ (a .amount) (s .pre .1 .0 .0) (s .pre .1 .0 .2) p),
     )
 
 pub transfer-checked-spec : {M : Type 1} → statement M

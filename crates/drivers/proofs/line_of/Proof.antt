@@ -1,4 +1,4 @@
-use mathlib.Core.Path.{sym, ap, _∙_}
+use mathlib.Core.Path.{ap, _∙_}
 use borrow.Author.Needs.{needs}
 use Rattle.drivers.specs.Drivers.{lineTold}
 use Rattle.drivers.proofs.line_of.Statement.{statement}
@@ -7,22 +7,28 @@ use Rattle.drivers.proofs.line_of.Tie as tie
 read-line-requires : tie.Need-read-line-requires
 read-line-requires c κs = search needs
 
-enum-known-read : tie.Need-enum-known-read
-enum-known-read c = search needs
-
 enum-told : tie.Need-enum-told
 enum-told c = search needs
 
 write-all-requires : tie.Need-write-all-requires
 write-all-requires c κs = search needs
 
-returns : tie.Need-returns
-returns c = ap lineTold (sym (c .before .read .given .1) ∙ c .before .before .before .read-line .ensures)
+enum-told-2 : tie.Need-enum-told-2
+enum-told-2 c = search needs
 
-returns-2 : tie.Need-returns-2
-returns-2 c = ap lineTold (sym (c .before .enum-told .given .1) ∙ c .before .before .before .read-line .ensures)
+told-line-requires : tie.Need-told-line-requires
+told-line-requires c κs = search needs
+
+returns : tie.Need-returns
+returns c = c .told-line .ensures ∙ ap lineTold (c .before .before .read-line .ensures)
 
 pub line-of-spec : {M : Type 1} → statement M
 line-of-spec =
     tie.close
-    (tie.spec read-line-requires enum-known-read enum-told write-all-requires returns returns-2)
+    (tie.spec
+    read-line-requires
+    enum-told
+    write-all-requires
+    enum-told-2
+    told-line-requires
+    returns)

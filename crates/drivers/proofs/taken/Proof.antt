@@ -8,6 +8,9 @@ use borrow.Author.Needs.{needs}
 use Rattle.drivers.proofs.taken.Statement.{statement}
 use Rattle.drivers.proofs.taken.Tie as tie
 
+zero-from-requires : tie.Need-zero-from-requires
+zero-from-requires c κs = search needs
+
 headed-requires : tie.Need-headed-requires
 headed-requires c κs = search needs
 
@@ -17,12 +20,17 @@ joined-requires c κs = search needs
 put-requires : tie.Need-put-requires
 put-requires c κs = search needs
 
+same-length : tie.Need-same-length
+same-length c = search needs
+
 returns : tie.Need-returns
 returns c =
-    let t = c .before .before in
+    let z = c .before .before in
+    let h = z .before .before in
+    let t = h .before in
     let a = t .before .before .args in
-    takes-head (a .held) (now (a .table)) (a .line) (same-bits (a .line .kind) (pos 10) (t .struct-told .given .0 .1) (lit< tt) (c .before .if1 .taken))
-    (c .headed .ensures)
+    takes-head (a .held) (now (a .table)) (a .line) (same-bits (a .line .kind) (pos 10) (t .struct-told .given .0 .1) (lit< tt) (h .if1 .taken))
+    (c .headed .ensures) (z .zero-from .ensures)
 
 returns-2 : tie.Need-returns-2
 returns-2 c =
@@ -33,8 +41,8 @@ returns-2 c =
     takes-ends (a .held) (now (a .table)) (a .line) (other-bits (a .line .kind) (pos 10) s (lit< tt) (e .if1 .left))
     (same-bits (a .line .kind) (pos 12) s (lit< tt) (c .before .if2 .taken)) (c .joined .ensures)
 
-same-length : tie.Need-same-length
-same-length c = search needs
+same-length-2 : tie.Need-same-length-2
+same-length-2 c = search needs
 
 returns-3 : tie.Need-returns-3
 returns-3 c =
@@ -51,4 +59,13 @@ returns-3 c =
 pub taken-spec : {M : Type 1} → statement M
 taken-spec =
     tie.close
-    (tie.spec headed-requires joined-requires put-requires returns returns-2 same-length returns-3)
+    (tie.spec
+    zero-from-requires
+    headed-requires
+    joined-requires
+    put-requires
+    same-length
+    returns
+    returns-2
+    same-length-2
+    returns-3)

@@ -33,7 +33,7 @@ returns-2 c = let s = c .before in rw (right (s .before), sym (s .lengths-wrong 
 
 -- the lengths are right
 long : (c : tie.Else2) → let a = c .before .before .before .before .before .args in
-    (not (eqb (length (a .table .now)) (lentLength (a .case)))
+    (not (eqb (length (a .table .now)) (lentLength (rulesOf (a .case)) (a .case)))
     || (ltb (length (a .best .now)) (scopeCount (a .case)) || ltb (length (a .raised .now)) (scopeCount (a .case)))) ≡ false
 long c = sym (c .before .lengths-wrong .ensures) ∙ c .if2 .left
 

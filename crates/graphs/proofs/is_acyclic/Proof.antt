@@ -20,7 +20,7 @@ entry c = c .before .before .before
 
 -- no number applies
 done : (c : tie.After-enum-told) → let a = entry c .args in
-    Outcome.Done ≡ outcomeOf (firstOf (limitTest (rulesOf (a .case)) (a .case) ∷ edgeTests (a .case) false))
+    Outcome.Done ≡ outcomeOf (firstOf (limitTest (rulesOf (a .case)) (a .case) ∷ edgeTests (rulesOf (a .case)) (a .case) false))
 done c = sym (c .enum-told .given .1) ∙ c .before .before .check-edges .ensures
 
 known : (c : tie.After-enum-told) → let a = entry c .args in Shape (a .case) × Limited (a .case)

@@ -4,7 +4,8 @@ use lib.ListN.{length}
 use borrow.Author.Needs.{needs}
 use borrow.Author.Tests.{lt-ltb, le-ltb, not-true, not-false}
 use Rattle.definitions.specs.Rules.{rulesOf}
-use Rattle.pair_choice.specs.PairChoice.{isSized, leavesBy}
+use Rattle.tables.specs.Scopes.{isSized}
+use Rattle.pair_choice.specs.PairChoice.{leavesBy}
 use Rattle.pair_choice.proofs.Ranges.{sized-known}
 use Rattle.pair_choice.proofs.leaves_range.Statement.{statement}
 use Rattle.pair_choice.proofs.leaves_range.Tie as tie

@@ -7,7 +7,8 @@ use borrow.Author.Tests.{lt-ltb, le-ltb, not-true, not-false}
 use Rattle.integers.specs.Tests.{tests}
 use Rattle.definitions.specs.Rules.{rulesOf}
 use Rattle.definitions.specs.Case.{scopeCount}
-use Rattle.pair_choice.specs.PairChoice.{isSized, marksShort, lowestPairAnswer}
+use Rattle.tables.specs.Scopes.{isSized}
+use Rattle.pair_choice.specs.PairChoice.{marksShort, lowestPairAnswer}
 use Rattle.pair_choice.proofs.Ranges.{sized-known}
 use borrow.Author.Needs.{needs}
 use Rattle.pair_choice.proofs.lowest_pair.Statement.{statement}

@@ -7,7 +7,7 @@ use Prim.Native.Nat.{_+_, _*_, _-_, _≤_}
 use native.Mathlib.Omega.{arith}
 use borrow.Author.Needs.{needs}
 use lib.ListN.{length}
-use Rattle.case_lines.specs.Dues.{dueAwaited, InCase, AtLine, dueAt, linesDue, placesOf}
+use Rattle.case_lines.specs.Dues.{dueAwaited, InCase, AtLine, dueAt, linesDue}
 use Rattle.casefile.specs.Steps.{readingOf, leftFrom}
 use Rattle.case_lines.proofs.Dues.{due-known, count-is, first-at, next-at}
 use Rattle.casefile.proofs.Taken.{same-due-at}
@@ -16,7 +16,7 @@ use Rattle.casefile.proofs.body.read_lines.Tie as tie
 
 abbrev Inv-loop : tie.InvT-loop
 Inv-loop bytes sizes lower₀ upper₀ table₀ total q₀ due₀ lower upper table q due =
-    (q ≤ linesDue sizes) × (bytesOfLine (sizes .rulebook) * (q + 1) ≤ length bytes) × (length table ≡ placesOf sizes)
+    (q ≤ linesDue sizes) × (bytesOfLine (sizes .rulebook) * (q + 1) ≤ length bytes) × (length table ≡ length table₀)
     × (leftFrom sizes (readingOf sizes lower upper table) q bytes ≡ leftFrom sizes (readingOf sizes lower₀ upper₀ table₀) 0 bytes)
     × (q < linesDue sizes → AtLine sizes q due)
 
@@ -47,13 +47,13 @@ loop-holds : tie.Need-loop-holds Inv-loop μ-loop
 loop-holds c =
     let a = c .before .before .before in
     let s = a .args .sizes in
-    (omega arith, omega arith, a .pre .1 .1, refl, λ h. subst (AtLine s 0) (sym (c .first-due .ensures)) (first-at s (a .pre .0) h))
+    (omega arith, omega arith, refl, refl, λ h. subst (AtLine s 0) (sym (c .first-due .ensures)) (first-at s (a .pre .0) h))
 
 take-at-requires : tie.Need-take-at-requires Inv-loop μ-loop
 take-at-requires c κs =
     let i = c .before .before .before in
     let l = i .before in
-    (start l .pre .0, ((due-here i, l .loop .inv .1, known i .1), l .loop .inv .2))
+    (start l .pre .0, ((due-here i, l .loop .inv .1, known i .1), omega (arith, start l .pre .1 .1)))
 
 enum-known-taken : tie.Need-enum-known-taken Inv-loop μ-loop
 enum-known-taken c = search needs
@@ -94,11 +94,11 @@ loop-again c =
     let a = start l .args in
     let h = due-here i in
     let (p, n, e) = line-taken (a .sizes) (l .loop .lower) (l .loop .upper) (l .loop .table) (l .loop .q) (now (a .bytes)) h
-    (same-due-at (known i .0) (k .take-at .ensures)) (c .before .enum-told .given .1) (l .loop .inv .2) (l .loop .inv .1) in
+    (same-due-at (known i .0) (k .take-at .ensures)) (c .before .enum-told .given .1) (l .loop .inv .1) in
     let due : l .loop .q + 1 < linesDue (a .sizes) → AtLine (a .sizes) (l .loop .q + 1) (c .next-due .result) =
     λ f. subst (AtLine (a .sizes) (l .loop .q + 1)) (sym (c .next-due .ensures))
     (next-at (a .sizes) (start l .pre .0) (l .loop .due) (l .loop .q) (l .loop .inv .4 h) f) in
-    (omega (arith, h), p, n, sym e ∙ l .loop .inv .3, due)
+    (omega (arith, h), p, n ∙ l .loop .inv .2, sym e ∙ l .loop .inv .3, due)
 
 add-t17 : tie.Need-add-t17 Inv-loop μ-loop
 add-t17 c = search needs

@@ -25,11 +25,16 @@ allow-requires c κs = search needs
 array-write-sets : tie.Need-array-write-sets
 array-write-sets c = search needs
 
+ends : (c : tie.Start) → (length (c .args .case .lower) ≡ edgePlaces) × (length (c .args .case .upper) ≡ edgePlaces)
+ends c = (search needs, search needs)
+
 slice-aggregate-note-strikes : tie.Need-slice-aggregate-note-strikes
 slice-aggregate-note-strikes c = search needs
 
 slice-aggregate-note-strikes-2 : tie.Need-slice-aggregate-note-strikes-2
-slice-aggregate-note-strikes-2 c = search needs
+slice-aggregate-note-strikes-2 c =
+    let m = c .before .before .before .before .before in
+    sym (ends (m .before .before .before .before .before .before .before .before .before) .1)
 
 sub-note-strikes : tie.Need-sub-note-strikes
 sub-note-strikes c = search needs
@@ -45,9 +50,6 @@ slice-aggregate-note-strikes-3 c = search needs
 
 slice-aggregate-note-strikes-4 : tie.Need-slice-aggregate-note-strikes-4
 slice-aggregate-note-strikes-4 c = search needs
-
-ends : (c : tie.Start) → (length (c .args .case .lower) ≡ edgePlaces) × (length (c .args .case .upper) ≡ edgePlaces)
-ends c = (search needs, search needs)
 
 note-strikes-requires : tie.Need-note-strikes-requires
 note-strikes-requires c κs =
