@@ -24,11 +24,12 @@ use Rattle.definitions.specs.Rules.{coherent, rulesOf, edgePlaces}
 use Rattle.definitions.specs.Refusals.{firstOf}
 use Rattle.definitions.specs.Case.{lowerEnd, upperEnd, scopeCount, place, ownLength, weight, whollyBarred, isBarred, barred}
 use Rattle.definitions.specs.Valid.{inStarting, zerosFrom}
-use Rattle.definitions.specs.CaseFiles.{CaseDue, variable-weight, edge-ends, edge-weight, Reading, took, weightLine, bars, weightIn, dueTests, caseOf}
+use Rattle.definitions.specs.CaseFiles.{CaseDue, variable-weight, edge-ends, edge-weight, Reading, took, weightLine, bars, weightIn, dueTests}
 use Rattle.definitions.specs.Lines.{line}
 use Rattle.definitions.specs.Moves.{Difference}
-use Rattle.definitions.specs.Leave.{inPlaces}
-use Rattle.definitions.specs.Join.{grownCase, isNew, scopeUngrown, joinLineTests, begunJoin}
+use Rattle.logs.specs.Leave.{inPlaces}
+use Rattle.logs.specs.Waiting.{smallCase, renumbered}
+use Rattle.logs.specs.Join.{grownCase, isNew, scopeUngrown, joinLineTests, begunJoin}
 use Rattle.theory.proofs.Full.{full-weight, full-long, full-past}
 use Rattle.theory.proofs.Places.{IsTuple, by-tuple, variable-tuple, edge-tuple, each-variable, each-edge, place-apart}
 use Rattle.theory.proofs.Validity.{own-lent, Valid, not-and-iff}
@@ -38,14 +39,12 @@ use Rattle.case_theory.proofs.CaseTests.{CaseKinds, Good, passes, passe
 use Rattle.case_theory.proofs.Zeroed.{all-same, zeros-at, zeros-by}
 use Rattle.definitions.proofs.CaseLaws.{place-own}
 
--- The lines of a join are those of a case of one variable and p edges, with the numbers that these will have.
-abbrev renumbered : Case → CaseDue → CaseDue
-renumbered c (variable-weight i k) = variable-weight (c .n + i) k
-renumbered c (edge-ends e) = edge-ends (c .m + e)
-renumbered c (edge-weight e k l) = edge-weight (c .m + e) k l
-
 module _ (c : Case) (p : ℕ) where
-  abbrev grownAt : State → Case
+  -- there are so many
+  abbrev pub joinLines : ℕ
+  joinLines = c .d + p * suc (c .d * c .d)
+
+  abbrev pub grownAt : State → Case
   grownAt s = record {
     n = c .n + 1;
     d = c .d;
@@ -56,13 +55,13 @@ module _ (c : Case) (p : ℕ) where
     rulebook = c .rulebook;
   }
 
-  abbrev grownReading : State → Reading
+  abbrev pub grownReading : State → Reading
   grownReading s = record { case = grownAt s; table = s .table }
 
   abbrev after : State → CaseDue → Line → State
   after s due t = next (c .rulebook) (c .n + 1) (c .d) (c .m + p) s due t
 
-  took-after : (s : State) (due : CaseDue) (t : Line) → took (grownReading s) due (some t) ≡ grownReading (after s due t)
+  pub took-after : (s : State) (due : CaseDue) (t : Line) → took (grownReading s) due (some t) ≡ grownReading (after s due t)
   took-after s (variable-weight i k) t = refl
   took-after s (edge-ends e) t = refl
   took-after s (edge-weight e k l) t = refl
@@ -282,9 +281,6 @@ module _ (c : Case) (w₀ : List ℤ) (p : ℕ) where
               (λ i j y z. stays (edge-weight e i j) (a, y, z) (omega (arith, edge-before c p e i j y z))))) (w (d, g)),
         )
 
-    abbrev small : Case
-    small = caseOf (c .rulebook) 1 (c .d) p
-
     -- the next line
     pub join-next : (q : ℕ) (s : State) (x : CaseDue) (t : Line) → JoinRead q s → IsDue 1 (c .d) p x → rank 1 (c .d) p x ≡ q
         → firstOf (joinLineTests (rulesOf c) (grownReading c p s) (renumbered c x) t) ≡ none
@@ -301,7 +297,7 @@ module _ (c : Case) (w₀ : List ℤ) (p : ℕ) where
           good = λ y w l. ⊎-elim
               (λ b. good-stays s x t u y w (omega (arith, ltb→lt (rank 1 (c .d) p y) q b)) (h .good y w (ltb→lt (rank 1 (c .d) p y) q b)))
               (λ b.
-              let d : x ≡ y = rank-apart small x y u w (omega (arith, nltb→le (rank 1 (c .d) p y) q b)) in
+              let d : x ≡ y = rank-apart (smallCase c p) x y u w (omega (arith, nltb→le (rank 1 (c .d) p y) q b)) in
               let there = any-carry c p (after c p s (renumbered c x) t) (renumbered c x)
               ∙ next-there (c .rulebook) (c .n + 1) (c .d) (c .m + p) s few (h .sized) (renumbered c x) v t ∙ sym shape in
               subst (λ (y : CaseDue). Good (rulesOf c) (grownReading c p (after c p s (renumbered c x) t)) (renumbered c y)
@@ -320,6 +316,10 @@ module _ (c : Case) (w₀ : List ℤ) (p : ℕ) (v : Valid (rulesOf c) c w₀) (
   pub begun : State
   begun = let g : Case = grownCase c p in
       record { lower = g .lower; upper = g .upper; table = begunJoin c w₀ p .reading .table }
+
+  pub begun-reading : begunJoin c w₀ p .reading ≡ grownReading c p begun
+  unfolding begun
+  begun-reading = refl
 
   -- m ends, and 0 past them
   ends-long : (f : ℕ → ℕ) → length (inPlaces (map f (below (c .m)))) ≡ edgePlaces
@@ -367,7 +367,7 @@ module _ (c : Case) (w₀ : List ℤ) (p : ℕ) (v : Valid (rulesOf c) c w₀) (
 
   -- ---- after the last line
 
-  module _ (s : State) (h : JoinRead c w₀ p (c .d + p * suc (c .d * c .d)) s) where
+  module _ (s : State) (h : JoinRead c w₀ p (joinLines c p) s) where
     abbrev g : Case
     g = grownAt c p s
 

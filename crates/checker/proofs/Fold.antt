@@ -72,16 +72,16 @@ ended n p o w = ap (λ (k : ℕ). block k p o w) (omega arith)
 -- ---- lines
 
 module _ (width : ℕ) (t : List ℕ) where
-  no-line : length t < lineLength width → wholeLines width t ≡ 0
+  pub no-line : length t < lineLength width → wholeLines width t ≡ 0
   no-line h = div-eq-of-lt h
 
-  some-line : lineLength width ≤ length t → wholeLines width t ≡ suc (wholeLines width (drop (lineLength width) t))
+  pub some-line : lineLength width ≤ length t → wholeLines width t ≡ suc (wholeLines width (drop (lineLength width) t))
   some-line h =
       let k : ℕ = lineLength width in
       let e : length t ≡ k + (length t - k) = omega arith in
       ap (λ (n : ℕ). n / k) e ∙ add-div-left (length t - k) {k = k} (omega arith) ∙ rw (length-drop k t) (add-one ((length t - k) / k))
 
-  first-line : lineLength width ≤ length t → linesIn width t ≡ take (lineLength width) t ∷ linesIn width (drop (lineLength width) t)
+  pub first-line : lineLength width ≤ length t → linesIn width t ≡ take (lineLength width) t ∷ linesIn width (drop (lineLength width) t)
   first-line h = rw (some-line h)
 
 -- ---- a record that stands refused answers every line by the same refusal
@@ -109,7 +109,7 @@ module _ (c : Case) (w : List ℤ) (p : Replay) where
   block-none t h = rw (no-line (rulesOf c .amountWidth) t h)
 
 module _ (c : Case) (w : List ℤ) (p : Replay) (t : List ℕ) where
-  fold-none : length t < bytesPerLine c
+  pub fold-none : length t < bytesPerLine c
       → foldReplay (rulesOf c) c w p t ≡ record { block = record { replay = p; lines = 0; answer = Outcome.Done }; table = w }
   unfolding foldReplay
   fold-none h = rw (no-line (rulesOf c .amountWidth) t h)
@@ -195,7 +195,7 @@ module _ (c : Case) (w : List ℤ) (p : Replay) (t : List ℕ) (h : bytesPerLine
       → (moreBy n (foldReplay (rulesOf c) c w p t) ≡ moreBy (n + 1) (foldReplay (rulesOf c) c v (goodReplay (k .progress) raised) (drop (bytesPerLine c) t)))
       × Handed (rulesOf c) (workingWeight (rulesOf c)) c v × T (not (recordOut (rulesOf c) c (goodReplay (k .progress) raised)))
   turn-done n e =
-      let l = subst (Left (rulesOf c) c) (sym s)
+      let l = subst (Left (rulesOf c) c w) (sym s)
       (step-leaves (coherent (c .rulebook)) c w p (take (bytesPerLine c) t) (ap (λ (x : StepCall). x .stepped .answer) (sym s) ∙ e)) in
       let g = ap standingAfter e in (
         ap (moreBy n)

@@ -1,4 +1,5 @@
--- What a line that is done leaves: a checked case and table, and a record in range. It holds of every record, case and table. Assumes nothing.
+-- What a line that is done leaves: a checked case and table, the same tuples barred, and a record in range. It holds of every record, case and
+-- table. Assumes nothing.
 use mathlib.Core.Path.{_≡_, refl, ap, _∙_}
 use mathlib.Core.Bool.{Bool, true, false, not, _&&_, _||_}
 use mathlib.Core.Logic.{⊎-elim}
@@ -20,13 +21,15 @@ use Rattle.definitions.specs.declared.Refusal.{Refusal}
 use Rattle.definitions.specs.declared.Refusal.the-variants.{NotDue, RaiseNotAscending, NotRefuted, LeavesRange}
 use Rattle.definitions.specs.Rules.{Rules, Coherent, scopePlaces}
 use Rattle.definitions.specs.Refusals.{Test, _when_, firstOf}
-use Rattle.definitions.specs.Case.{scopeCount}
+use Rattle.definitions.specs.Case.{scopeCount, barred}
 use Rattle.definitions.specs.Valid.{workingWeight, handedOver}
 use Rattle.definitions.specs.Consistency.{allRefuted}
 use Rattle.definitions.specs.Moves.{shiftBy, pressBy, activeValues, leavesRange}
 use Rattle.definitions.specs.Replay.{beginOut}
 use Rattle.definitions.specs.Lines.{readLine, notDue, isKind, outside}
 use Rattle.calls.specs.Calls.{isRaised}
+use Rattle.theory.proofs.Places.{IsTuple}
+use Rattle.theory.proofs.Barred.{bars-kept}
 use Rattle.theory.proofs.Validity.{Handed, handed-spared}
 use Rattle.theory.proofs.Replays.{inside}
 use Rattle.checker.specs.declared.LastRaised.{LastRaised}
@@ -53,8 +56,9 @@ none-both (t ∷ ts) us e =
     (if-false (some (t .refusal)) (firstOf ts) (t .applies) n ∙ g, l)
 
 -- what stands after it
-pub record Left (r : Rules) (c : Case) (call : StepCall) : Type 0 where
+pub record Left (r : Rules) (c : Case) (w : List ℤ) (call : StepCall) : Type 0 where
   pub handed-over : Handed r (workingWeight r) c (call .table)
+  pub bars : (x k l : ℕ) → IsTuple c x k l → barred c (call .table) x k l ≡ barred c w x k l
   pub record-in : T (not (recordOut r c (call .stepped .replay)))
   pub good : call .stepped .replay .standing ≡ Standing.Good
 
@@ -72,12 +76,14 @@ module _ {r : Rules} (coherent : Coherent r) (c : Case) (w : List ℤ) (p : Repl
       ) tt)
 
   abbrev After : Asked → Type 0
-  After a = T (not (a .out)) → firstOf (a .later) ≡ none → Left r c (stepBy w p a none)
+  After a = T (not (a .out)) → firstOf (a .later) ≡ none → Left r c w (stepBy w p a none)
 
   after-shift : (t : Line) → After (ofShift r c w p t)
   after-shift t o e = record {
     handed-over = handed-spared coherent (shiftBy c (natAbs (t .a)) (natAbs (t .b)) (natAbs (t .c)) (t .amount)) h
         (neither (leavesRange r c w (ofShift r c w p t .table)) LeavesRange none e .0);
+    bars = λ x k l u. bars-kept c w (shiftBy c (natAbs (t .a)) (natAbs (t .b)) (natAbs (t .c)) (t .amount)) coherent
+        (neither (leavesRange r c w (ofShift r c w p t .table)) LeavesRange none e .0) u;
     record-in = not-or-iff (ltb (r .rounds) (p .rounds)) false .1 (few, tt);
     good = refl;
   }
@@ -89,6 +95,7 @@ module _ {r : Rules} (coherent : Coherent r) (c : Case) (w : List ℤ) (p : Repl
       let (from-0, least, most) = count-in-range (scopeCount c - 1) (t .b) (not-not-iff (withinZ (pos 1) (pos (scopeCount c - 1)) (t .b)) .0 b) in
       record {
         handed-over = h;
+        bars = λ x k l u. refl;
         record-in = simp (not-or-iff, not-not-iff) (
           few,
           ((((lt→ltb (natAbs (t .a)) (c .n) (inside (c .n) (t .a) a), m), simp tests (least, most)), tt), none-past),
@@ -99,6 +106,7 @@ module _ {r : Rules} (coherent : Coherent r) (c : Case) (w : List ℤ) (p : Repl
   after-bound : (t : Line) → After (ofBound r c w p t)
   after-bound t o e = record {
     handed-over = h;
+    bars = λ x k l u. refl;
     record-in = not-or-iff (ltb (r .rounds) (p .rounds + 1)) false .1
         (simp tests (omega (arith, ltb→lt (p .rounds) (r .rounds) (not-not-iff (ltb (p .rounds) (r .rounds)) .0 o))), tt);
     good = refl;
@@ -116,15 +124,22 @@ module _ {r : Rules} (coherent : Coherent r) (c : Case) (w : List ℤ) (p : Repl
 
     -- with its last raise line
     after-target : (raised : List ℕ) (target : Target) → firstOf (lastTests r c w i raised target) ≡ none
-        → Left r c (stepTaken (afterTarget p target) (targetTable r c w i raised target))
+        → Left r c w (stepTaken (afterTarget p target) (targetTable r c w i raised target))
     after-target raised (Target.Press a) e = record {
       handed-over = handed-spared coherent (pressBy c w i (activeValues c w i) (isRaised raised) a) h
           (neither (leavesRange r c w (targetTable r c w i raised (Target.Press a))) LeavesRange none e .0);
+      bars = λ x k l u. bars-kept c w (pressBy c w i (activeValues c w i) (isRaised raised) a) coherent
+          (neither (leavesRange r c w (targetTable r c w i raised (Target.Press a))) LeavesRange none e .0) u;
       record-in = not-or-iff (ltb (r .rounds) (p .rounds)) false .1 (few, tt);
       good = refl;
     }
     after-target raised Target.Void e =
-        record { handed-over = h; record-in = not-or-iff (ltb (r .rounds) (p .rounds)) false .1 (few, tt); good = refl }
+        record {
+          handed-over = h;
+          bars = λ x k l u. refl;
+          record-in = not-or-iff (ltb (r .rounds) (p .rounds)) false .1 (few, tt);
+          good = refl;
+        }
 
     after-raise : (t : Line) → After (ofRaise r c w p i target left lastOne t)
     after-raise t o e = ⊎-elim
@@ -134,6 +149,7 @@ module _ {r : Rules} (coherent : Coherent r) (c : Case) (w : List ℤ) (p : Repl
         let below = inside (scopeCount c) (t .a) o in
         record {
           handed-over = h;
+          bars = λ x k l u. refl;
           record-in = simp (not-or-iff, not-not-iff) (
             few,
             (
@@ -169,14 +185,14 @@ module _ {r : Rules} (coherent : Coherent r) (c : Case) (w : List ℤ) (p : Repl
 
 -- a line of any bytes that is done
 module _ {r : Rules} (coherent : Coherent r) (c : Case) (w : List ℤ) (p : Replay) where
-  line-leaves : (t : Option Line) → stepLine r c w p t .stepped .answer ≡ Outcome.Done → Left r c (stepLine r c w p t)
+  line-leaves : (t : Option Line) → stepLine r c w p t .stepped .answer ≡ Outcome.Done → Left r c w (stepLine r c w p t)
   line-leaves none e = absurd (never e)
   line-leaves (some t) e = go (firstOf (stepTests r c w p t asked)) refl e
     where
       asked : Asked
       asked = ofDue r c w p (p .due) t
 
-      go : (o : Option Refusal) → firstOf (stepTests r c w p t asked) ≡ o → stepBy w p asked o .stepped .answer ≡ Outcome.Done → Left r c (stepBy w p asked o)
+      go : (o : Option Refusal) → firstOf (stepTests r c w p t asked) ≡ o → stepBy w p asked o .stepped .answer ≡ Outcome.Done → Left r c w (stepBy w p asked o)
       go (some x) d e = absurd (never e)
       go none d e =
           let (f, l) = none-both
@@ -187,10 +203,10 @@ module _ {r : Rules} (coherent : Coherent r) (c : Case) (w : List ℤ) (p : Repl
           let (h, k, o) = lent-known r c w p (asked .out) g in
           after-kind coherent c w p h k (p .due) refl t (is-false (notDue r (dueKinds (p .due)) t) u) o l
 
-  pub step-leaves : (t : List ℕ) → stepReplay r c w p t .stepped .answer ≡ Outcome.Done → Left r c (stepReplay r c w p t)
+  pub step-leaves : (t : List ℕ) → stepReplay r c w p t .stepped .answer ≡ Outcome.Done → Left r c w (stepReplay r c w p t)
   unfolding stepReplay
   step-leaves t = go (p .standing)
     where
-      go : (s : Standing) → stepStanding r c w p t s .stepped .answer ≡ Outcome.Done → Left r c (stepStanding r c w p t s)
+      go : (s : Standing) → stepStanding r c w p t s .stepped .answer ≡ Outcome.Done → Left r c w (stepStanding r c w p t s)
       go (Standing.Refused x) e = absurd (never e)
       go Standing.Good e = line-leaves (readLine (r .amountWidth) t) e

@@ -56,7 +56,7 @@ module _ {r : Rules} {range : ℤ → Bool} {c : Case} {w : List ℤ} (h : Hande
   handed-unrefused = none-iff (firstOf (handedOver r range c w false false)) .0 (handed r range c w false false .1 (h, tt, tt))
 
   -- but number 5 of the line itself
-  handed-first : (out : Bool) (later : List Test) → firstOf (handedOver r range c w false out ++ later) ≡ firstOf (OutOfRange when out ∷ later)
+  pub handed-first : (out : Bool) (later : List Test) → firstOf (handedOver r range c w false out ++ later) ≡ firstOf (OutOfRange when out ∷ later)
   handed-first true later =
       let p = simp and-iff at handed-quiet in
       quiet-skip (limitTest r c ∷ lengthTest r c w false ∷ []) (edgeTests r c true ++ (weightTest range c w ∷ scopeTest c w ∷ []) ++ later)
@@ -75,7 +75,7 @@ due-alike true h = refl
 due-alike false none = refl
 due-alike false (some h) = refl
 
-short-alike : (v : Bool) (h : Option Held) (m : Bool) → isShort (dueOf v h) m ≡ (not v && (isSome h || m))
+pub short-alike : (v : Bool) (h : Option Held) (m : Bool) → isShort (dueOf v h) m ≡ (not v && (isSome h || m))
 short-alike true h m = refl
 short-alike false none m = refl
 short-alike false (some h) m = refl
@@ -101,7 +101,7 @@ module _ {r : Rules} {s : State} {bytes : List ℕ} (placed : scopesAtMost r ≤
   target-in (pressing a) t = not-not-iff (pressAmount r a) .1 t
   target-in voiding t = tt
 
-  record-in : T (not (recordOut r (s .case) (recordOf s bytes)))
+  pub record-in : T (not (recordOut r (s .case) (recordOf s bytes)))
   record-in = simp not-or-iff (simp tests (omega (arith, v .few)), due-in (s .void) (s .held) refl)
     where
       due-in : (v : Bool) (h : Option Held) → s .held ≡ h → T (not (dueOut r (s .case) bytes (dueOf v h)))
@@ -235,7 +235,7 @@ module _ {r : Rules} {s : State} {bytes : List ℕ} (placed : scopesAtMost r ≤
         ))
         (either (isLast h))
 
-  line-reaches : (t : Option Line) → Reaches r (stepLine r (s .case) (s .weights) (recordOf s bytes) t) (stepUnrefused r s t)
+  pub line-reaches : (t : Option Line) → Reaches r (stepLine r (s .case) (s .weights) (recordOf s bytes) t) (stepUnrefused r s t)
   line-reaches none = (bytes, refl, k)
   line-reaches (some t) = go (s .void) refl
     where

@@ -1,4 +1,4 @@
--- Document 01 as definitions, in its order, with document 02's changes 1 (PairRounds), 2 (barred tuples, void lines), 3 (Families), 4 (Graph) and 5 (full tables, the carry, Leave, Join); Samples has P1 to P12.
+-- Document 01 as definitions, in its order, with document 02's changes 1 (PairRounds), 2 (barred tuples, void lines), 3 (Families), 4 (Graph) and 5 (full tables, the carry); Samples has P1 to P12.
 pub mod Rules
 pub mod Refusals
 pub mod Answers
@@ -9,8 +9,6 @@ pub mod Moves
 pub mod Lines
 pub mod Places
 pub mod CaseFiles
-pub mod Leave
-pub mod Join
 pub mod Replay
 pub mod RoundLines
 pub mod PairRounds
@@ -27,5 +25,3 @@ pub mod BarredBorders
 pub mod BarredRuns
 pub mod GraphSamples
 pub mod LengthBorders
-pub mod LeaveSamples
-pub mod JoinSamples

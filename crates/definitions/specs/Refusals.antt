@@ -3,6 +3,7 @@ use mathlib.Core.Bool.{Bool}
 use mathlib.Core.Option.{Option, none, some}
 use mathlib.Core.List.{List, [], _∷_}
 use Prim.Native.Nat.{ℕ}
+use lib.Dec.{ltb}
 use Rattle.integers.specs.Words.{if_then_else_}
 use Rattle.definitions.specs.declared.Refusal.{Refusal}
 use Rattle.definitions.specs.declared.Refusal.the-variants.{
@@ -61,3 +62,28 @@ x when b = record { refusal = x; applies = b }
 abbrev pub firstOf : List Test → Option Refusal
 firstOf [] = none
 firstOf (t ∷ ts) = if t .applies then some (t .refusal) else firstOf ts
+
+-- its turn in the checking order
+abbrev pub turn : Refusal → ℕ
+turn NotInColumns = 1
+turn NotDue = 2
+turn OutsideLimits = 3
+turn WrongLength = 4
+turn OutOfRange = 5
+turn EndsNotAscending = 6
+turn EdgeRepeated = 7
+turn WeightOutOfRange = 8
+turn ScopeBarred = 9
+turn RaiseNotAscending = 10
+turn NotRefuted = 11
+turn NotAllBarred = 12
+turn LeavesRange = 13
+turn OtherBound = 14
+turn BoundNotLower = 15
+turn CutShort = 16
+
+-- of two lists of tests, each in the checking order, the number that is asked first
+abbrev pub sooner : Option Refusal → Option Refusal → Option Refusal
+sooner none y = y
+sooner (some x) none = some x
+sooner (some x) (some y) = if ltb (turn y) (turn x) then some y else some x

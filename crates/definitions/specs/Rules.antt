@@ -37,7 +37,7 @@ pub record Rules : Type 0 where
   pub amountWidth : ℕ
   pub kinds : List Kind
 
--- the kinds of document 01, and those of document 02's change 2
+-- the kinds of document 01, and those of document 02, changes 2 and 5
 abbrev pub lineKinds : List Kind
 lineKinds =
     -- shift: edge, end, value, amount
@@ -50,6 +50,9 @@ lineKinds =
     ∷ uses 4 false false false true
     -- void: variable, count of raise lines
     ∷ uses 5 true true false false
+    -- leave: variable; join: count of edges
+    ∷ uses 7 true false false false
+    ∷ uses 8 true false false false
     -- head of a case: n, D, m
     ∷ uses 10 true true true false
     -- variable's weight: variable, value, weight

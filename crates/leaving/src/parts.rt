@@ -7,7 +7,7 @@ ghost use lib.ListN.{length, take, drop};
 ghost use lib.Seq.{paste};
 ghost use Rattle.definitions.specs.Rules.{rulesOf};
 ghost use Rattle.definitions.specs.Case.{scopeCount, lentLength};
-ghost use Rattle.definitions.specs.Leave.{tableWithout};
+ghost use Rattle.logs.specs.Leave.{tableWithout};
 ghost use Rattle.theory.proofs.Shape.{Shape};
 ghost use Rattle.tables.specs.Scopes.{Limited, sizeOf};
 ghost use Rattle.leaving.specs.Scopes.{stays as staysIn, keptTo, KeptPart};

@@ -234,20 +234,20 @@ after-keeps r P one s [] p = p
 after-keeps r P one s (t ∷ ts) p = after-keeps r P one (step r s t) ts (one s t p)
 
 -- the case and its starting weights
+pub stepped-same : {r : Rules} {s u : State} → Stepped r s u → (u .case ≡ s .case) × (u .starting ≡ s .starting)
+stepped-same stays = (refl, refl)
+stepped-same (refuses x) = (refl, refl)
+stepped-same (shifts e end v a h) = (refl, refl)
+stepped-same (holds h k) = (refl, refl)
+stepped-same (raises h x left e n) = (refl, refl)
+stepped-same (presses h a x e d n f i) = (refl, refl)
+stepped-same (voids h x e f b) = (refl, refl)
+stepped-same (bounds z h e l) = (refl, refl)
+
 module _ (r : Rules) (s : State) (ts : List (List ℕ)) where
   same-case : (after r s ts .case ≡ s .case) × (after r s ts .starting ≡ s .starting)
   same-case = after-keeps r (λ u. (u .case ≡ s .case) × (u .starting ≡ s .starting))
-      (λ u t e. (one (stepped r u t) .0 ∙ e .0, one (stepped r u t) .1 ∙ e .1)) s ts (refl, refl)
-    where
-      one : {u v : State} → Stepped r u v → (v .case ≡ u .case) × (v .starting ≡ u .starting)
-      one stays = (refl, refl)
-      one (refuses x) = (refl, refl)
-      one (shifts e end v a h) = (refl, refl)
-      one (holds h k) = (refl, refl)
-      one (raises h x left e n) = (refl, refl)
-      one (presses h a x e d n f i) = (refl, refl)
-      one (voids h x e f b) = (refl, refl)
-      one (bounds z h e l) = (refl, refl)
+      (λ u t e. let d = stepped-same (stepped r u t) in (d .0 ∙ e .0, d .1 ∙ e .1)) s ts (refl, refl)
 
   pub case-after : after r s ts .case ≡ s .case
   case-after = same-case .0
@@ -412,7 +412,7 @@ sound-after r = after-keeps r (Sound r) (sound-step r)
 
 -- ---- the count of rounds and the upper bound at the round's start together never rise
 module _ (r : Rules) where
-  counted : {s u : State} → Stepped r s u → (pos (u .rounds) +ℤ u .start) ≤ℤ (pos (s .rounds) +ℤ s .start)
+  pub counted : {s u : State} → Stepped r s u → (pos (u .rounds) +ℤ u .start) ≤ℤ (pos (s .rounds) +ℤ s .start)
   counted stays = simp flat (omega zs)
   counted (refuses x) = simp flat (omega zs)
   counted (shifts e end v a h) = simp flat (omega zs)

@@ -3,7 +3,7 @@ use mathlib.Core.Path.{_≡_, sym, ap, _∙_}
 use mir.Syntax.{w64}
 use Rattle.integers.specs.Linear.{read-back}
 use Rattle.definitions.specs.Rules.{rulesOf}
-use Rattle.definitions.specs.Leave.{caseWithout, carriedCase, freshCase, tableWithout, restarts as restartsIn, WeightedCase}
+use Rattle.logs.specs.Leave.{caseWithout, carriedCase, freshCase, tableWithout, restarts as restartsIn, WeightedCase}
 use Rattle.tables.proofs.Answered.{limits-known}
 use Rattle.leaving.proofs.Restart.{left-fresh, left-carried, restarts-by, fresh-handed, carried-handed, same-long}
 use borrow.Author.Needs.{needs}

@@ -7,16 +7,16 @@ use Prim.Native.Nat.{ℕ, _-_}
 use lib.IntN.{ℤ, pos}
 use lib.ListN.{length, take, replicate}
 use Rattle.integers.specs.Words.{from, joined, minus}
 use Rattle.definitions.specs.declared.Case.{Case}
 use Rattle.definitions.specs.Rules.{standard}
 use Rattle.definitions.specs.Refusals.{numberOf, firstOf}
 use Rattle.definitions.specs.Valid.{bothHandedOver}
 use Rattle.definitions.specs.Lines.{line}
-use Rattle.definitions.specs.Leave.{caseWithout, tableWithout, carryAfter, restarts, leaveTests, WeightedCase, leftBy}
+use Rattle.logs.specs.Leave.{caseWithout, tableWithout, carryAfter, restarts, leaveTests, WeightedCase, leftBy}
 use Rattle.definitions.specs.Samples.{Input, full, given, withTable, own, ownWeights, triangle, couple, clash, single, zeros}
 use Rattle.definitions.specs.Borders.{_is_, Hold, W, edges}
 use Rattle.definitions.specs.BarredBorders.{B}
 use Rattle.definitions.specs.LengthBorders.{putAt, carrying, C, C1, small, crowd}
 
 -- ---- what is told of a case and its tables
 

@@ -6,24 +6,24 @@ use Prim.Native.Nat.{ℕ, _+_}
 use lib.IntN.{ℤ, pos}
 use lib.ListN.{take, replicate}
 use Rattle.integers.specs.Words.{from, minus}
 use Rattle.definitions.specs.declared.Line.{Line}
 use Rattle.definitions.specs.Rules.{standard}
 use Rattle.definitions.specs.Refusals.{number, numberOf, firstOf}
 use Rattle.definitions.specs.Case.{upperBound}
 use Rattle.definitions.specs.Lines.{line}
 use Rattle.definitions.specs.CaseFiles.{CaseDue, variable-weight, edge-ends, edge-weight, Reading, took}
-use Rattle.definitions.specs.Leave.{WeightedCase, leftBy}
-use Rattle.definitions.specs.Join.{joinDues, begunJoin, joinTests, joinLineTests, grownBy}
+use Rattle.logs.specs.Leave.{WeightedCase, leftBy}
+use Rattle.logs.specs.Join.{joinDues, begunJoin, joinTests, joinLineTests, grownBy}
 use Rattle.definitions.specs.Samples.{Input, full, given, clash, single, zeros}
 use Rattle.definitions.specs.Borders.{_is_, Hold}
 use Rattle.definitions.specs.BarredBorders.{B}
 use Rattle.definitions.specs.LengthBorders.{carrying, C, small, crowd}
-use Rattle.definitions.specs.LeaveSamples.{paired, Told, told}
+use Rattle.logs.specs.LeaveSamples.{paired, Told, told}
 
 -- ---- numbers of kind 8: 3 before 5
 
 -- 47 links, D 1, and so many of 96 pairs: of neighbours, of every second link, and five more; weights 0, 1, 2, .. in the order of the table
-abbrev nearlyFull : ℕ → Input
+abbrev pub nearlyFull : ℕ → Input
 nearlyFull m =
     given 47 1 m (take m (from 0 46 ++ from 0 45 ++ from 0 5)) (take m (from 1 46 ++ from 2 45 ++ from 3 5)) (map pos (from 0 (47 + m)))
 

@@ -7,16 +7,16 @@ use lib.IntN.{ℤ, pos, _+ℤ_}
 use lib.Dec.{leb, ltb, eqb}
 use lib.Signed.{ltZ}
 use Rattle.integers.specs.Words.{if_then_else_, from, below, joined}
 use Rattle.definitions.specs.declared.Case.{Case}
 use Rattle.definitions.specs.declared.Line.{Line}
 use Rattle.definitions.specs.declared.Refusal.the-variants.{OutsideLimits, OutOfRange}
 use Rattle.definitions.specs.Rules.{Rules}
 use Rattle.definitions.specs.Refusals.{Test, _when_}
 use Rattle.definitions.specs.Case.{lowerEnd, upperEnd, weight}
 use Rattle.definitions.specs.Moves.{Difference}
 use Rattle.definitions.specs.Lines.{outside}
 use Rattle.definitions.specs.CaseFiles.{CaseDue, variable-weight, edge-ends, edge-weight, variableDues, edgeDues, names, Reading, endsTests, dueTests}
-use Rattle.definitions.specs.Leave.{inPlaces, WeightedCase, fullTable}
+use Rattle.logs.specs.Leave.{inPlaces, WeightedCase, fullTable}
 
 -- ---- the case as it will be: one variable more, n, and p edges more, which come last and whose ends are still to be read
 
