@@ -1,5 +1,7 @@
 // Arc consistency over bytes and marks: the search for partners, the closure of given sets, values tried one by one, and the marks of a
 // table. Inner functions, for other crates: each asks only what is said at it. Document 01's refutation is `consistency::refuted`.
+#![tactic(auto)]
+
 ghost use Rattle.std.specs.Prelude.{◌≡◌, not, ◌&&◌, ◌||◌, ℕ, ◌+◌, ◌*◌, ◌≤◌, ◌<◌, T, ltb, eqb, length, get_or, set, replicate};
 ghost use Rattle.integers.specs.Words.{if◌then◌else◌, below, any, eq_z};
 ghost use Rattle.definitions.specs.Rules.{rules_of};

@@ -1,5 +1,7 @@
 // Whether all is barred that a void line asks to be (document 02, change 2), on a table that was checked before, by each scope's greatest weight,
 // kept beside it. An inner function, for the checker.
+#![tactic(auto)]
+
 ghost use Rattle.std.specs.Prelude.{◌≡◌, not, ◌&&◌, ◌||◌, ◌+◌, ◌≤◌, ◌<◌, eqb, length};
 ghost use Rattle.integers.specs.Words.{any};
 ghost use Rattle.definitions.specs.Rules.{rules_of};

@@ -1,1 +1,3 @@
 // The library's calls on all input: see specs/. There is no code here.
+#![tactic(auto)]
+

@@ -23,6 +23,8 @@
 //
 // Where a count is meant, a negative number stands for 2^64 - 1; the amounts 999999999999 and -99999999999 stand for 2^63 - 1 and -2^63.
 // The answers in `stdout` were worked out from document 01, those of barred tuples and of loops from document 02.
+#![tactic(auto)]
+
 ghost use Rattle.std.specs.Prelude.{◌≤◌, length};
 
 use arcs::{Closed, Partner, Tried};

@@ -1,4 +1,6 @@
 // The lines of a case after its head: how many, what is due at each, and where its weight lies (document 01, "Lines").
+#![tactic(auto)]
+
 ghost use Rattle.std.specs.Prelude.{◌≡◌, ◌+◌, ltb};
 ghost use Rattle.case_lines.specs.Dues.{is_plain, first_due, next_variable, next_tuple, next_due, has_value, has_tuple, value_place, tuple_place, weight_place};
 ghost use Rattle.case_lines.specs.Dues.{count_due};

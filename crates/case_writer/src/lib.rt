@@ -1,4 +1,6 @@
 // A case and its starting weights written as a case file (document 01, "Lines").
+#![tactic(auto)]
+
 ghost use Rattle.std.specs.Prelude.{◌≡◌, false, ◌+◌, ◌*◌, ◌≤◌, ◌<◌, ◌++◌, pos, length, take, drop};
 ghost use Rattle.definitions.specs.Rules.{rules_in, rules_of};
 ghost use Rattle.definitions.specs.Lines.{line, line_text, line_too_wide, overwritten};

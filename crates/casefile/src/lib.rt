@@ -1,4 +1,6 @@
 // Case files read into a lent table (document 01, "Lines"), with 0 past the places of the case (document 02, change 5).
+#![tactic(auto)]
+
 mod body;
 mod columns;
 mod edges;

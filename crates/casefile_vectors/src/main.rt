@@ -8,6 +8,8 @@
 // with 0, a place, what it is to hold, 0 and the carry.
 // After them the largest case goes there and back. The file `stdout` was worked out from documents 01 and 02; on files whose table has the
 // right length the peer gives the same number and line.
+#![tactic(auto)]
+
 ghost use Rattle.std.specs.Prelude.{◌<◌};
 
 use definitions::{Case, CaseRead, CaseSize, EDGE_PLACES, FileAnswer, Line, Rulebook, Written};

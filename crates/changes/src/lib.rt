@@ -1,6 +1,8 @@
 // Weights changed on a table that was checked before, with a number for each scope, its greatest weight, kept in step. Barred tuples stay as they
 // are. Inner functions, for other crates: each asks only what is said at it, and none asks 6 to 10. Document 01's moves are `moves::shift` and
 // `moves::press`.
+#![tactic(auto)]
+
 ghost use Rattle.std.specs.Prelude.{◌≡◌, not, ◌||◌, ℕ, ◌+◌, ◌*◌, ◌≤◌, ◌<◌, T, ltb, eqb, length, set, pos};
 ghost use Rattle.std.specs.Int.{w64};
 ghost use Rattle.std.proofs.Common.{SFits};

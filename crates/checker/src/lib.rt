@@ -1,5 +1,7 @@
 // The replay's record, by value: the next record comes back with the answer (document 01, "The replay's record says what is due").
 // What its calls answer is defined in specs/.
+#![tactic(auto)]
+
 mod blocks;
 mod columns;
 mod due_lines;

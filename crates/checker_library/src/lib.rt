@@ -1,6 +1,8 @@
 // The checker's functions for programs in other languages: a case file read, totals, the replay of a log, the view of a round, scoring, why a channel
 // was kept, whether the pairs form no loop. A case and the replay's record cross as bytes (crate encoding). What each function answers is defined in
 // specs/.
+#![tactic(auto)]
+
 ghost use Rattle.std.specs.Prelude.{◌≡◌, false, pos};
 ghost use Rattle.std.specs.Int.Signed.{lt_z};
 ghost use Rattle.definitions.specs.declared.Rulebook.TheVariants.{Desk};

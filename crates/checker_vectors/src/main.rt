@@ -7,6 +7,8 @@
 // that stands, a scope that is marked or -1, whether a move has no bound line after it, and the rounds (c: 0, 1 for the greatest count, 2 for one
 // more). Then the number at its end and the record after it are printed too.
 // The file `stdout` was worked out from documents 01 and 02; the peer gives each log the same answer.
+#![tactic(auto)]
+
 ghost use Rattle.std.specs.Prelude.{◌≤◌, ◌<◌};
 
 use checker::{Due, LastRaised, Replay, Standing, Target};

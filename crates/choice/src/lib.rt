@@ -1,4 +1,6 @@
 // The lowest variable whose values have no supported family, over value sets as bytes: the one that the engine presses.
+#![tactic(auto)]
+
 ghost use Rattle.std.specs.Prelude.{◌≡◌, get_or};
 ghost use Rattle.arcs.specs.Closure.{closure_sets};
 ghost use Rattle.choice.specs.Choice.{says_unsupported, chosen_of, lowest_unsupported};

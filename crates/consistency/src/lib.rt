@@ -1,4 +1,6 @@
 // Refutation (document 01, "Refutation"), asked of everything that is handed over: numbers 3 to 8.
+#![tactic(auto)]
+
 ghost use Rattle.std.specs.Prelude.{◌≡◌, not, ◌+◌, ltb, eqb};
 ghost use Rattle.integers.specs.Words.{any};
 ghost use Rattle.definitions.specs.Rules.{rules_of};

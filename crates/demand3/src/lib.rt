@@ -1,1 +1,3 @@
 // Demand 3 of the tender as one statement: see specs/. Its proof is engine's proofs/Demand3.
+#![tactic(auto)]
+

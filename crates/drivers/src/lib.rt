@@ -1,5 +1,7 @@
 // What the programs that execute vectors share: numbers and cases of their input, and what they print. A function that prints answers what it
 // was handed, or how many; no contract can say what is written.
+#![tactic(auto)]
+
 ghost use Rattle.std.specs.Prelude.{◌≡◌, [], ◌∷◌, ◌+◌, ◌*◌, ◌≤◌, ◌<◌, ◌%◌, min, length, drop, set};
 ghost use Rattle.definitions.specs.Refusals.{number};
 ghost use Rattle.definitions.specs.declared.Rulebook.TheVariants.{Desk};

@@ -1,5 +1,7 @@
 // The case and the replay's record as bytes of fixed size, in which they cross to other languages, and the version of the functions that take
 // them. What each byte says is defined in specs/.
+#![tactic(auto)]
+
 ghost use Rattle.std.specs.Prelude.{◌≡◌, ◌+◌, ◌%◌, ◌≤◌, ◌<◌, length, take, drop};
 ghost use Rattle.definitions.specs.Rules.{edge_places, scope_places};
 ghost use Rattle.definitions.specs.Lines.{overwritten};

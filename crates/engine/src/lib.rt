@@ -1,5 +1,7 @@
 // The engine (document 01, "The engine's round"; document 02, changes 1 and 2): one round or a void line, and the run that makes rounds one after
 // another, or pair rounds only.
+#![tactic(auto)]
+
 mod choosing;
 mod guess;
 mod trim;

@@ -1,5 +1,7 @@
 // The engine's functions for programs in other languages. A case crosses as bytes (crate encoding). What each function answers is defined in
 // specs/.
+#![tactic(auto)]
+
 ghost use Rattle.std.specs.Prelude.{◌≡◌};
 ghost use Rattle.definitions.specs.Rules.{rules_of};
 ghost use Rattle.definitions.specs.Refusals.{number};

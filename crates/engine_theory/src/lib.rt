@@ -1,1 +1,3 @@
 // The engine's runs as mathematics. No code.
+#![tactic(auto)]
+

@@ -7,6 +7,8 @@
 // Kind 23: the table's first a weights are printed. Kind 26: place a of the table holds amount.
 // The file `stdout` was worked out from documents 01 and 02 by a small engine of its own; the peer writes the same log of each case that a case file can
 // hold. The largest case's log is the peer's. What a carry and kind 26 change was worked out by hand from P1's.
+#![tactic(auto)]
+
 use definitions::{Case, Line, Round, Run, RunAnswer};
 use drivers::Held;
 

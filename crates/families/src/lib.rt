@@ -1,5 +1,7 @@
 // Why a value was kept (document 02, change 3), asked of everything that is handed over: numbers 3 to 8 and 15, and last 5 where there is no such
 // value.
+#![tactic(auto)]
+
 ghost use Rattle.std.specs.Prelude.{◌≡◌, not, ◌||◌, ℕ, ◌+◌, ◌*◌, ◌≤◌, ◌<◌, pos, ltb, length, get_or, take, replicate};
 ghost use Rattle.std.proofs.Math.Option.{none};
 ghost use Rattle.definitions.specs.Rules.{rules_of};

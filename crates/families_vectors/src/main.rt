@@ -6,6 +6,8 @@
 // 46. A negative a stands for 2^64 - 1. The answer is printed, then the bytes after the call. Where b is above 64 or c above 1600, nothing is.
 // The file `stdout` was worked out from documents 01 and 02 by a small script of its own, which deletes values without a partner and, where the
 // case is small, lists every family too.
+#![tactic(auto)]
+
 use definitions::{Case, Figure, Line, TABLE_PLACES};
 use drivers::Held;
 

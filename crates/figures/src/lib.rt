@@ -1,5 +1,7 @@
 // Entry points for totals, ceilings and activity (document 01, "Links, scopes and totals"): each refuses by the numbered list. An unlawful plan
 // has no total (document 02, change 2).
+#![tactic(auto)]
+
 ghost use Rattle.std.specs.Prelude.{◌≡◌, T, ◌+◌, ◌≤◌, ◌<◌};
 ghost use Rattle.integers.specs.Words.{if◌then◌else◌};
 ghost use Rattle.definitions.specs.Rules.{rules_of, edge_places};

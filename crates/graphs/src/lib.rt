@@ -1,4 +1,6 @@
 // Whether the pairs form no loop (document 02, change 4), asked of a case alone: numbers 3, 5, 6 and 7.
+#![tactic(auto)]
+
 ghost use Rattle.std.specs.Prelude.{◌≡◌, map, ◌≤◌, length};
 ghost use Rattle.integers.specs.Words.{below};
 ghost use Rattle.definitions.specs.Rules.{rules_of};

@@ -1,4 +1,6 @@
 // A link joins (document 02, change 5): what a join that is complete makes of a case and of both its tables. Inner functions, for other crates.
+#![tactic(auto)]
+
 mod ends;
 mod parts;
 

@@ -1,4 +1,6 @@
 // Whole numbers, sums and maxima for definitions and proofs: see specs/. Here a byte is made a wider number, which `as` would ask a proof for.
+#![tactic(auto)]
+
 ghost use Rattle.std.specs.Prelude.{◌≡◌, ◌<◌};
 
 pub fn wide(x: u8) -> u64

@@ -1,5 +1,7 @@
 // The program `replay` as a start, a block and a finish (document 01, on `replay`): each block of an input is handed over once, and what stands
 // between blocks is a record by value and the lent table.
+#![tactic(auto)]
+
 ghost use Rattle.std.specs.Prelude.{◌≡◌, ◌↔◌, ◌≤◌, T, length};
 ghost use Rattle.definitions.specs.declared.Rulebook.TheVariants.{Desk};
 ghost use Rattle.definitions.specs.Rules.{rules_of};

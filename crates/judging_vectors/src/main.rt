@@ -6,6 +6,8 @@
 // the output's first b bytes, and its answer is printed.
 // The file `stdout` has what the peer's programs print of these inputs; where a table or an output is too short it was worked out from documents 01
 // and 02.
+#![tactic(auto)]
+
 ghost use Rattle.std.specs.Prelude.{◌-◌, ◌≤◌, ◌<◌, length};
 
 use definitions::{FileAnswer, Judgement, Line, TABLE_PLACES, Written};

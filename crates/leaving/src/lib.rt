@@ -1,4 +1,6 @@
 // A link leaves (document 02, change 5): what is left of a case and of both its tables. Inner functions, for other crates.
+#![tactic(auto)]
+
 mod carry;
 mod ends;
 mod parts;

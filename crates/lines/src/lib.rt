@@ -1,5 +1,7 @@
 // Lines: five numbers in columns and a line feed, read and written (document 01, "Lines"). The width of the amount column is an argument;
 // `read_line` and `write_line` are at the desk's.
+#![tactic(auto)]
+
 ghost use Rattle.std.specs.Prelude.{◌≡◌, true, false, [], ◌∷◌, ◌++◌, ℕ, ◌+◌, ◌-◌, ◌≤◌, ◌<◌, ◌^◌, ltb, pos, nat_abs, length, take, drop, replicate};
 ghost use Rattle.std.proofs.Math.Option.{some};
 ghost use Rattle.integers.specs.Words.{within};

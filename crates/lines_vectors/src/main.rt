@@ -10,6 +10,8 @@
 // bytes that are no digits, and numbers that are not right-justified; other lengths, and other last bytes. Then lines are written whose numbers
 // just fit, with one byte of room more or less, and lines with a number that is one character too wide, or far too wide.
 // The file `stdout` is what document 01 says.
+#![tactic(auto)]
+
 use definitions::{Line, LineRead, Outcome, Written};
 
 // ---- what is printed

@@ -1,5 +1,7 @@
 // The replay of a log, with links that leave and join. Its record goes by value: the next record comes back with the answer (document 01, "The
 // replay's record says what is due"). What its calls answer is defined in specs/.
+#![tactic(auto)]
+
 use case_lines::Awaited;
 use checker::Replay;
 use definitions::{Case, EDGE_PLACES, Outcome};

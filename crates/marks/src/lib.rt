@@ -1,4 +1,6 @@
 // Sets of at most eight values, as marks in a byte: value k is in the set where bit k is set.
+#![tactic(auto)]
+
 ghost use Rattle.std.specs.Prelude.{◌≡◌};
 ghost use Rattle.marks.specs.Marks.{mark, lowest_of, is_single, without, added, pushed, only_of, full_of, in_both};
 

@@ -1,4 +1,6 @@
 // Moves (document 01, "Moves"): shifts and presses, asked of everything that is handed over: numbers 3 to 8 and 15, and 9, 10 and 11.
+#![tactic(auto)]
+
 ghost use Rattle.std.specs.Prelude.{◌≡◌, not, ◌<◌, T, ltb, length};
 ghost use Rattle.integers.specs.Words.{all, any, is_in};
 ghost use Rattle.definitions.specs.Rules.{rules_of};

@@ -1,6 +1,8 @@
 // The pair whose round the engine makes (document 02, changes 1 and 2): the lowest that gains and is not passed over. A pair with values of its
 // ends that are active together with the tuple that they make does not gain. Any other is taken if it has a choice, and if its round stays in the
 // working range and lowers the upper bound: then it gains.
+#![tactic(auto)]
+
 ghost use Rattle.std.specs.Prelude.{◌≡◌, false, ◌+◌, ◌*◌, ◌≤◌, ◌<◌, length, get_or};
 ghost use Rattle.integers.specs.Words.{within_z, below, those, first};
 ghost use Rattle.definitions.specs.Rules.{rules_in, rules_of, edge_places};

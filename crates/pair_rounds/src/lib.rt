@@ -1,4 +1,6 @@
 // The round of one pair (document 02, changes 1 and 2), made on a lent table, with its lines in a lent output.
+#![tactic(auto)]
+
 ghost use Rattle.std.specs.Prelude.{◌≡◌, false, not, List, [], ◌∷◌, ◌+◌, ◌*◌, ◌^◌, ◌≤◌, ◌<◌, T, ℤ, pos, length};
 ghost use Rattle.definitions.specs.Rules.{rules_of};
 ghost use Rattle.definitions.specs.Case.{weight};

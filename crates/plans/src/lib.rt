@@ -1,5 +1,7 @@
 // Scoring: of two lent assignments (plans), the one with the greater objective under starting weights (document 01, "Lines"). Unlawful ones have
 // none, and are all level, below the lawful (document 02, change 2).
+#![tactic(auto)]
+
 ghost use Rattle.std.specs.Prelude.{◌≡◌};
 ghost use Rattle.std.proofs.Math.Option.{some};
 ghost use Rattle.std.specs.Int.Signed.{lt_z};

@@ -2,6 +2,8 @@
 // by `pressing` on slices. Of an input that is longer than a case and a line more, only the front is read, and it is printed as the whole is
 // (pressing, Prints.press-printed). Where a read failed nothing is printed; the rounds end where a write fails. Both are told on standard error, since
 // a settled case prints nothing either.
+#![tactic(auto)]
+
 ghost use Rattle.std.specs.Prelude.{◌≡◌, ◌⊎◌, ◌+◌, ◌≤◌, ◌<◌, ◌^◌, pos, T, length, replicate};
 ghost use Rattle.definitions.specs.declared.Rulebook.TheVariants.{Desk};
 ghost use Rattle.definitions.specs.Places.{input_places, table_places, round_places};

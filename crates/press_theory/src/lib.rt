@@ -1,1 +1,3 @@
 // The engine's press as mathematics. No code.
+#![tactic(auto)]
+

@@ -1,5 +1,7 @@
 // The program `press` as a start and rounds one after another (document 01, on `press`): the case is handed over once, each call writes what is
 // to be printed next to a lent output, and what stands between the calls is a record by value and the lent table.
+#![tactic(auto)]
+
 ghost use Rattle.std.specs.Prelude.{◌≡◌, false, ◌<◌, length};
 ghost use Rattle.definitions.specs.declared.Rulebook.TheVariants.{Desk};
 ghost use Rattle.definitions.specs.Rules.{rules_of};

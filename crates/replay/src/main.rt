@@ -1,6 +1,8 @@
 // The program `replay`: a case and its log on standard input, the judgement on standard output (document 01). The work is done by `judging` on
 // slices; here the input is cut into blocks of whole lines, and a part line is carried over to the next block. The input ends where a read brings
 // nothing; where a read failed nothing is printed, since what was read is not the input, and standard error tells it.
+#![tactic(auto)]
+
 ghost use Rattle.std.specs.Prelude.{◌≡◌, ◌⊎◌, ◌-◌, ◌%◌, ◌≤◌, ◌<◌, pos, T, length, take, drop, replicate};
 ghost use Rattle.definitions.specs.declared.Rulebook.TheVariants.{Desk};
 ghost use Rattle.definitions.specs.declared.FileAnswer.{FileAnswer};

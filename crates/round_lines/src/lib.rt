@@ -1,5 +1,7 @@
 // What a round of the engine is asked before it is made, and the lines of a round of one press (document 01, "The engine's round") and of a void
 // line (document 02, change 2), written from an output's first byte.
+#![tactic(auto)]
+
 ghost use Rattle.std.specs.Prelude.{◌≡◌, false, not, ◌+◌, ◌*◌, ◌^◌, ◌≤◌, ◌<◌, T, ltb, pos, length};
 ghost use Rattle.integers.specs.Words.{any};
 ghost use Rattle.definitions.specs.Rules.{rules_of};

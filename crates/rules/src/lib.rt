@@ -1,4 +1,6 @@
 // The numbers of each rulebook, once: what code asks of them. Proofs use the definitions' names (definitions, specs/Rules).
+#![tactic(auto)]
+
 ghost use Rattle.std.specs.Prelude.{◌≡◌, pos};
 ghost use Rattle.integers.specs.Words.{minus};
 ghost use Rattle.definitions.specs.Rules.{rules_in};

@@ -1,4 +1,6 @@
 // Standard input to a lent buffer, and the part of an output that is to be printed: what the two programs share.
+#![tactic(auto)]
+
 ghost use Rattle.std.specs.Prelude.{◌≡◌, ◌+◌, ◌-◌, ◌≤◌, pos, length, take, replicate};
 ghost use Rattle.io.specs.Counts.{clamp_len};
 ghost use Rattle.definitions.specs.Places.{input_places, table_places};

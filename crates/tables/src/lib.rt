@@ -1,4 +1,6 @@
 // Inner functions of a case and its table: the check of what is handed over, a scope's weights, and sums over scopes.
+#![tactic(auto)]
+
 mod both;
 
 ghost use Rattle.std.specs.Prelude.{◌≡◌, not, ◌&&◌, ◌||◌, ltb, ◌∷◌, map, ◌+◌, ◌*◌, ◌≤◌, ◌<◌, ◌<ℤ◌, length, take, pos};

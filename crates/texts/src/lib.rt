@@ -1,4 +1,6 @@
 // The lines that the programs print, written to a lent output (document 01, on `press` and `replay`).
+#![tactic(auto)]
+
 ghost use Rattle.std.specs.Prelude.{◌≡◌, ◌+◌, ◌≤◌, pos, length};
 ghost use Rattle.definitions.specs.Refusals.{number};
 ghost use Rattle.definitions.specs.Lines.{number_text, overwritten};

@@ -1,1 +1,3 @@
 // Laws of the definitions: see proofs/. There is no code here.
+#![tactic(auto)]
+

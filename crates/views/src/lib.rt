@@ -1,5 +1,7 @@
 // The view of a round: the stretch of a lent log from the line after the bound line before it through its own bound line (document 01,
 // "Lines").
+#![tactic(auto)]
+
 ghost use Rattle.std.specs.Prelude.{◌≡◌, false, ℕ, ◌+◌, ◌*◌, ◌<◌, ◌≤◌, length, take, drop};
 ghost use Rattle.integers.specs.Words.{if◌then◌else◌};
 ghost use Rattle.definitions.specs.declared.Rulebook.TheVariants.{Desk};

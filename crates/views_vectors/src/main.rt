@@ -1,4 +1,6 @@
 // Executes the log writer, the view of a round and the scoring of two plans at the borders of their numbers: a line for each call.
+#![tactic(auto)]
+
 use definitions::{Case, Choice, EDGE_PLACES, Line, Outcome, Refusal, Rulebook, Span};
 use log_writer::Put;
 
