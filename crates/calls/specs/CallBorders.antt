@@ -1,5 +1,5 @@
 -- Samples of the calls at the borders, in tables as those of Borders. Assumes nothing.
-use Rattle.std.specs.Prelude.{refl, List, [], ◌∷◌, ◌++◌, ℕ, ◌+◌, ◌-◌, ℤ, pos, take, drop}
+use Rattle.std.specs.Prelude.{refl, List, [], ◌∷◌, ◌++◌, ℕ, ◌+◌, ℤ, pos, take, drop}
 use Prim.Native.String.{String}
 use Rattle.integers.specs.Words.{minus}
 use Rattle.definitions.specs.declared.Refusal.TheVariants.{WrongLength, WeightOutOfRange, LeavesRange}
@@ -15,7 +15,7 @@ use Rattle.definitions.specs.Programs.{bytes_of}
 use Rattle.calls.specs.Calls.{TableCall, WriterCall, WriteCall, objective_answer, upper_bound_answer, is_active_answer}
 use Rattle.calls.specs.Calls.{refuted_answer, shift_call, press_call, read_line_answer, write_line_call, put_line_call, write_case_call}
 use Rattle.calls.specs.EngineCalls.{RoundCall, RunCall, round_call, run_call}
-use Rattle.definitions.specs.Samples.{Input, answer}
+use Rattle.definitions.specs.Samples.{Input}
 use Rattle.definitions.specs.Samples.{full, given, with_table, own_weights, triangle, clash, example2, single, zeros}
 use Rattle.definitions.specs.Borders.{◌is◌, Hold, says, no, value, W, clash_from, triangle_from, edges, two_steps}
 use Rattle.definitions.specs.Borders.{last_round, after_last, by_one, ones, l}

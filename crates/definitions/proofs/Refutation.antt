@@ -120,6 +120,8 @@ others-active c w i x k l h n =
   where
     raised-active : (r a : Bool) → T r → T (not (r && not a)) → T a
     raised-active true true t s = tt
+    raised-active false a t s = elim t [ ]
+    raised-active true false t s = elim s [ ]
 
 -- ---- what counts
 

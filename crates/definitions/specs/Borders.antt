@@ -1,6 +1,6 @@
 -- Samples at the borders: the rules of document 01 just inside and just outside, in tables of questions with the answers that the document
 -- gives, one theorem over each table. They rule out wrong definitions that the samples of document 01 leave alive. Assumes nothing.
-use Rattle.std.specs.Prelude.{◌≡◌, refl, Bool, true, false, List, [], ◌∷◌, ◌++◌, map, ℕ, ◌+◌, ◌-◌, ℤ, pos, take, drop, replicate}
+use Rattle.std.specs.Prelude.{◌≡◌, refl, Bool, true, false, List, [], ◌∷◌, ◌++◌, map, ℕ, ℤ, pos, take, drop, replicate}
 use Rattle.std.proofs.Math.Option.{none}
 use Prim.Native.String.{String}
 use Rattle.integers.specs.Words.{joined, minus}

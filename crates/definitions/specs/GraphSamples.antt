@@ -86,6 +86,8 @@ ring-found none = none 2 (lit≤ tt) (Connected.down 0 tt (Connected.up 1 tt Con
 -- a pair alone is no loop: there is no walk over no pair
 nowhere : {c : Case} {i j : ℕ} → Connected c [] i j → T (eqb i j)
 nowhere (Connected.here {i = i}) = eqb_refl i
+nowhere (Connected.up e m w) = elim m [ ]
+nowhere (Connected.down e m w) = elim m [ ]
 
 pub pair-alone : Acyclic (net 2 (0 ∷ []) (1 ∷ []))
 pair-alone zero h w = nowhere w

@@ -1,7 +1,6 @@
 // The types that cross the library's border. What each function answers is defined in the crates calls and checker.
 #![tactic(auto)]
 
-
 // Places in arrays, which hold what the greatest rules ask (specs/Rules, specs/Places): variables, edges and scopes of a case; and in the
 // programs its table, the input and the output of a round.
 pub const VARIABLE_PLACES: usize = 48;
