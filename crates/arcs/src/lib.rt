@@ -23,14 +23,14 @@ ghost use Rattle.arcs.specs.Best.{are_unsupported, best_refusal, values_unsuppor
 
 use definitions::{Case, EDGE_PLACES, Outcome, Refusal, VARIABLE_PLACES, Verdict};
 
-#[derive(Drop)]
+#[derive(Clone, Copy)]
 pub enum Partner {
     At(u8),
     Nothing,
 }
 
 // What is left of the given sets: a supported family, or none.
-#[derive(Drop)]
+#[derive(Clone, Copy)]
 pub enum Closed {
     Family,
     Empty,
@@ -38,7 +38,7 @@ pub enum Closed {
 }
 
 // What is left where each of some values is fixed alone: no family for any of them, or a family for one.
-#[derive(Drop)]
+#[derive(Clone, Copy)]
 pub enum Tried {
     Unsupported,
     Supported,
@@ -89,7 +89,7 @@ fn partner_byte(found: Partner) -> u8
 // ---- the closure
 
 // What was done to the sets: nothing, a value was struck, a set is empty.
-#[derive(Drop)]
+#[derive(Clone, Copy)]
 enum Change {
     Still,
     Struck,

@@ -33,7 +33,7 @@ use definitions::{
 };
 
 // A line's kind, its numbers as counts, and its amount as a weight.
-#[derive(Drop)]
+#[derive(Clone, Copy)]
 struct Call {
     kind: usize,
     a: usize,

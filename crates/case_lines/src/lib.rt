@@ -8,7 +8,7 @@ ghost use Rattle.case_lines.specs.Dues.{count_due};
 use definitions::{EDGE_PLACES, Rulebook};
 
 // How many variables, values and edges a case has, and the rules it is under.
-#[derive(Drop)]
+#[derive(Clone, Copy)]
 pub struct Sizes {
     pub n: usize,
     pub d: usize,
@@ -17,7 +17,7 @@ pub struct Sizes {
 }
 
 // What is due at a line after the head.
-#[derive(Drop)]
+#[derive(Clone, Copy)]
 pub enum Awaited {
     VariableWeight { variable: usize, value: usize },
     EdgeEnds(usize),

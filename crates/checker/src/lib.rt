@@ -25,14 +25,14 @@ use lent::{first_number, lent_answer, refuse, refused_lines};
 use ranges::record_out;
 
 // The last scope that a press or a void line has raised.
-#[derive(Drop)]
+#[derive(Clone, Copy)]
 pub enum LastRaised {
     Nothing,
     Scope(usize),
 }
 
 // What the last raise line completes: a press by an amount, or a void line.
-#[derive(Drop)]
+#[derive(Clone, Copy)]
 pub enum Target {
     Press(i64),
     Void,
@@ -40,7 +40,7 @@ pub enum Target {
 
 // What the replay's record says is due: a move, a bound line or a void line; a raise line of a press or a void line begun; after a whole void
 // line nothing.
-#[derive(Drop)]
+#[derive(Clone, Copy)]
 pub enum Due {
     MoveOrBound,
     Raise {
@@ -53,14 +53,14 @@ pub enum Due {
 }
 
 // Whether a number has been given to a line yet.
-#[derive(Drop)]
+#[derive(Clone, Copy)]
 pub enum Standing {
     Good,
     Refused(Refusal),
 }
 
 // The replay's record. `raised` has a byte for each scope, 0 where the press or void line begun has not raised it.
-#[derive(Drop)]
+#[derive(Clone, Copy)]
 pub struct Replay {
     pub rounds: u64,
     pub start: i64,
@@ -71,14 +71,14 @@ pub struct Replay {
 }
 
 // The next record with the answer to the line.
-#[derive(Drop)]
+#[derive(Clone, Copy)]
 pub struct Stepped {
     pub replay: Replay,
     pub answer: Outcome,
 }
 
 // The record after a block of lines, how many lines got no number, and the first refusal.
-#[derive(Drop)]
+#[derive(Clone, Copy)]
 pub struct Block {
     pub replay: Replay,
     pub lines: usize,
@@ -86,7 +86,7 @@ pub struct Block {
 }
 
 // What the record holds beside the raised scopes and the standing.
-#[derive(Drop)]
+#[derive(Clone, Copy)]
 struct Progress {
     rounds: u64,
     start: i64,
@@ -95,14 +95,14 @@ struct Progress {
 }
 
 // What stands after a line, and the answer to it.
-#[derive(Drop)]
+#[derive(Clone, Copy)]
 struct Taken {
     progress: Progress,
     answer: Outcome,
 }
 
 // What is left of a press or a void line after some of its raise lines: lines, the lowest scope above the raised ones, and where the next line begins.
-#[derive(Drop)]
+#[derive(Clone, Copy)]
 struct Raises {
     left: usize,
     next: usize,
@@ -110,7 +110,7 @@ struct Raises {
 }
 
 // Where a block stands between two lines: the record, where the next line begins, and how many lines are done.
-#[derive(Drop)]
+#[derive(Clone, Copy)]
 struct Place {
     progress: Progress,
     from: usize,

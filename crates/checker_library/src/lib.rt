@@ -29,7 +29,7 @@ use encoding::{CaseArray, RecordArray};
 
 // What the head of a case file says, with the length of the table to lend.
 #[repr(C)]
-#[derive(Drop)]
+#[derive(Clone, Copy)]
 pub struct CeilingSize {
     pub number: u64,
     pub n: usize,
@@ -40,14 +40,14 @@ pub struct CeilingSize {
 
 // Lines used, or the refusal's line.
 #[repr(C)]
-#[derive(Drop)]
+#[derive(Clone, Copy)]
 pub struct CeilingLines {
     pub number: u64,
     pub lines: usize,
 }
 
 #[repr(C)]
-#[derive(Drop)]
+#[derive(Clone, Copy)]
 pub struct CeilingTotal {
     pub number: u64,
     pub total: i64,
@@ -55,7 +55,7 @@ pub struct CeilingTotal {
 
 // void is 1 where the log is void: no lawful plan exists. It has no rounds to tell then.
 #[repr(C)]
-#[derive(Drop)]
+#[derive(Clone, Copy)]
 pub struct CeilingRounds {
     pub number: u64,
     pub rounds: u64,
@@ -64,7 +64,7 @@ pub struct CeilingRounds {
 
 // A stretch of a log, or the refusal's line.
 #[repr(C)]
-#[derive(Drop)]
+#[derive(Clone, Copy)]
 pub struct CeilingSpan {
     pub number: u64,
     pub from: usize,
@@ -74,7 +74,7 @@ pub struct CeilingSpan {
 
 // 0 is the first plan, 1 the second.
 #[repr(C)]
-#[derive(Drop)]
+#[derive(Clone, Copy)]
 pub struct CeilingChoice {
     pub number: u64,
     pub choice: u64,
@@ -82,7 +82,7 @@ pub struct CeilingChoice {
 
 // A channel of a link.
 #[repr(C)]
-#[derive(Drop)]
+#[derive(Clone, Copy)]
 pub struct CeilingValue {
     pub number: u64,
     pub value: usize,
@@ -90,7 +90,7 @@ pub struct CeilingValue {
 
 // 1 is yes, 0 is no.
 #[repr(C)]
-#[derive(Drop)]
+#[derive(Clone, Copy)]
 pub struct CeilingVerdict {
     pub number: u64,
     pub yes: u64,

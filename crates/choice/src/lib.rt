@@ -8,7 +8,7 @@ ghost use Rattle.choice.specs.Choice.{says_unsupported, chosen_of, lowest_unsupp
 use arcs::Tried;
 
 // The variable to press, if there is one.
-#[derive(Drop)]
+#[derive(Clone, Copy)]
 pub enum Chosen {
     Variable(usize),
     Nothing,

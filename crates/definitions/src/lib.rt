@@ -16,7 +16,7 @@ pub const INPUT_PLACES: usize = 262144;
 pub const ROUND_PLACES: usize = 4347;
 
 // Which rules a case is under. The planner's desk has those of document 01.
-#[derive(Drop)]
+#[derive(Clone, Copy)]
 pub enum Rulebook {
     Desk,
 }
@@ -24,7 +24,7 @@ pub enum Rulebook {
 // A case (document 01): n variables (links), d values (channels) for each, m edges (pairs).
 // Edge e joins variables lower[e] and upper[e]; places from m on are never asked. The carry, 0 at first, counts in the upper bound (document 02,
 // change 5).
-#[derive(Drop)]
+#[derive(Clone, Copy)]
 pub struct Case {
     pub n: usize,
     pub d: usize,
@@ -36,7 +36,7 @@ pub struct Case {
 }
 
 // Why something is turned back: the numbers 1 to 14 of document 01, and 15 and 16 of document 02, change 2.
-#[derive(Drop)]
+#[derive(Clone, Copy)]
 pub enum Refusal {
     NotInColumns,
     NotDue,
@@ -57,21 +57,21 @@ pub enum Refusal {
 }
 
 // The answer of a call that does something.
-#[derive(Drop)]
+#[derive(Clone, Copy)]
 pub enum Outcome {
     Done,
     Refused(Refusal),
 }
 
 // The answer of a call that asks for a number.
-#[derive(Drop)]
+#[derive(Clone, Copy)]
 pub enum Figure {
     Value(i64),
     Refused(Refusal),
 }
 
 // The answer of a call that asks a question.
-#[derive(Drop)]
+#[derive(Clone, Copy)]
 pub enum Verdict {
     Yes,
     No,
@@ -79,7 +79,7 @@ pub enum Verdict {
 }
 
 // The five numbers of a line.
-#[derive(Drop)]
+#[derive(Clone, Copy)]
 pub struct Line {
     pub kind: i64,
     pub a: i64,
@@ -88,14 +88,14 @@ pub struct Line {
     pub amount: i64,
 }
 
-#[derive(Drop)]
+#[derive(Clone, Copy)]
 pub enum LineRead {
     Read(Line),
     Refused(Refusal),
 }
 
 // What the head of a case file says, with the length of the table to lend.
-#[derive(Drop)]
+#[derive(Clone, Copy)]
 pub enum CaseSize {
     Size {
         n: usize,
@@ -107,14 +107,14 @@ pub enum CaseSize {
 }
 
 // How a file was read: the lines used, or the refusal and its line.
-#[derive(Drop)]
+#[derive(Clone, Copy)]
 pub enum FileAnswer {
     Read { lines: usize },
     Refused { refusal: Refusal, line: usize },
 }
 
 // A case that was read; all zero where it was refused.
-#[derive(Drop)]
+#[derive(Clone, Copy)]
 pub struct CaseRead {
     pub answer: FileAnswer,
     pub case: Case,
@@ -122,7 +122,7 @@ pub struct CaseRead {
 
 // The judgement of a case and a log: the rounds and the last upper bound, or void (no lawful plan exists), or the refusal and its line in the
 // whole input.
-#[derive(Drop)]
+#[derive(Clone, Copy)]
 pub enum Judgement {
     Accepted { rounds: u64, bound: i64 },
     Void,
@@ -130,21 +130,21 @@ pub enum Judgement {
 }
 
 // The answer of a call that writes bytes.
-#[derive(Drop)]
+#[derive(Clone, Copy)]
 pub enum Written {
     Bytes(usize),
     Refused(Refusal),
 }
 
 // Where the lines of a round lie in a log.
-#[derive(Drop)]
+#[derive(Clone, Copy)]
 pub enum Span {
     Part { from: usize, to: usize },
     Refused { refusal: Refusal, line: usize },
 }
 
 // The answer of one round of the engine: the bytes written and the bound, if one was made; the bytes of a void line.
-#[derive(Drop)]
+#[derive(Clone, Copy)]
 pub enum Round {
     Settled,
     Made { bytes: usize, bound: i64 },
@@ -152,7 +152,7 @@ pub enum Round {
     Refused(Refusal),
 }
 
-#[derive(Drop)]
+#[derive(Clone, Copy)]
 pub enum RunAnswer {
     Settled,
     Limit,
@@ -160,7 +160,7 @@ pub enum RunAnswer {
     Refused(Refusal),
 }
 
-#[derive(Drop)]
+#[derive(Clone, Copy)]
 pub struct Run {
     pub answer: RunAnswer,
     pub rounds: u64,
@@ -168,7 +168,7 @@ pub struct Run {
 }
 
 // Which of two assignments (plans) has the greater objective.
-#[derive(Drop)]
+#[derive(Clone, Copy)]
 pub enum Choice {
     First,
     Second,

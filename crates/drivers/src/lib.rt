@@ -14,7 +14,7 @@ ghost use Rattle.drivers.specs.Taken.{places_after, headed_by, joined_by, nothin
 use definitions::{Case, EDGE_PLACES, Line, LineRead, Refusal, Rulebook, Written};
 
 // A case that is taken line by line, and how many weights of its table are told.
-#[derive(Drop)]
+#[derive(Clone, Copy)]
 pub struct Held {
     pub case: Case,
     pub places: usize,

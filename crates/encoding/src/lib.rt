@@ -33,14 +33,14 @@ const GREATEST: u64 = 18_446_744_073_709_551_615;
 const BELOW: u64 = 9_223_372_036_854_775_808;
 
 // The last scope that a press or a void line has raised, if any, as numbers.
-#[derive(Drop)]
+#[derive(Clone, Copy)]
 struct Last {
     known: u8,
     scope: usize,
 }
 
 // What is due, as numbers: its kind, and what a press or a void line begun holds.
-#[derive(Drop)]
+#[derive(Clone, Copy)]
 struct Begun {
     kind: u8,
     variable: usize,

@@ -101,7 +101,7 @@ fn edge_after(e: usize, edges: usize) -> usize
 }
 
 // How many strikes were noted, and the variable whose set ran empty, VARIABLE_PLACES if none did.
-#[derive(Drop)]
+#[derive(Clone, Copy)]
 struct Strikes {
     count: usize,
     emptied: usize,

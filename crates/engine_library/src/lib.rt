@@ -18,7 +18,7 @@ use encoding::CaseArray;
 // The bytes written and the bound; no bytes where it is settled. none_lawful is 1 where they are a void line's, which has no bound: no lawful plan
 // exists.
 #[repr(C)]
-#[derive(Drop)]
+#[derive(Clone, Copy)]
 pub struct CeilingRound {
     pub number: u64,
     pub bytes: usize,
@@ -28,7 +28,7 @@ pub struct CeilingRound {
 
 // limit is 1 where the run ended by its limit, none_lawful where it ended with a void line; both are 0 where it is settled.
 #[repr(C)]
-#[derive(Drop)]
+#[derive(Clone, Copy)]
 pub struct CeilingRun {
     pub number: u64,
     pub limit: u64,

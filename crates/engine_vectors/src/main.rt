@@ -13,7 +13,7 @@ use definitions::{Case, Line, Round, Run, RunAnswer};
 use drivers::Held;
 
 // A checksum of the lines of all rounds so far, and the bound after the last.
-#[derive(Drop)]
+#[derive(Clone, Copy)]
 struct Log {
     sum: u64,
     bound: i64,

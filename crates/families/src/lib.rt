@@ -19,14 +19,14 @@ use arcs::{Closed, NO_PARTNER, Partner, ROW_PLACES};
 use definitions::{Case, EDGE_PLACES, Figure, Outcome, Refusal, SCOPE_PLACES, VARIABLE_PLACES};
 
 // The sets that a closure left, and whether they are a family.
-#[derive(Drop)]
+#[derive(Clone, Copy)]
 struct Closing {
     closed: Closed,
     sets: [u8; VARIABLE_PLACES],
 }
 
 // The lowest value with which a family is left, and that family.
-#[derive(Drop)]
+#[derive(Clone, Copy)]
 struct Found {
     value: Partner,
     sets: [u8; VARIABLE_PLACES],

@@ -24,7 +24,7 @@ const GREATEST: usize = 9_223_372_036_854_775_807;
 
 // What stands between the blocks of an input: the case, the replay's record, and how far the input was read: no number yet and so many lines
 // passed, or the refusal and its line.
-#[derive(Drop)]
+#[derive(Clone, Copy)]
 pub struct Judging {
     pub case: Case,
     pub replay: Replay,

@@ -15,7 +15,7 @@ use judging::Judging;
 use pressing::Pressing;
 
 // The calls of `next`, and what stands after them.
-#[derive(Drop)]
+#[derive(Clone, Copy)]
 struct Tally {
     calls: u64,
     pressing: Pressing,

@@ -17,7 +17,7 @@ ghost use Rattle.leaving.specs.Leaving.{leave_call};
 use definitions::{Case, Figure, Outcome, Refusal};
 
 // The answer, and the case that is left; where it was refused, the case as it was.
-#[derive(Drop)]
+#[derive(Clone, Copy)]
 pub struct Left {
     pub answer: Outcome,
     pub case: Case,

@@ -29,21 +29,21 @@ const ZERO: u64 = 807411744;
 const NONE: u64 = 1000;
 
 // The scope of a raise line, or another text.
-#[derive(Drop)]
+#[derive(Clone, Copy)]
 pub enum RaiseRead {
     Scope(usize),
     Nothing,
 }
 
 // Digits, or something else.
-#[derive(Drop)]
+#[derive(Clone, Copy)]
 enum Digits {
     Are(u64),
     Not,
 }
 
 // The number in a column, or something else.
-#[derive(Drop)]
+#[derive(Clone, Copy)]
 enum Column {
     Number(i64),
     Bad,

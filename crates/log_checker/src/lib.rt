@@ -7,14 +7,14 @@ use checker::Replay;
 use definitions::{Case, EDGE_PLACES, Outcome};
 
 // The join begun: how many edges it has, and the line of it that is due.
-#[derive(Drop)]
+#[derive(Clone, Copy)]
 pub enum Joining {
     Nothing,
     Lines { edges: usize, due: Awaited },
 }
 
 // The replay's record: that of the stretch, the join begun, and the lower ends of its edges, as far as they were read.
-#[derive(Drop)]
+#[derive(Clone, Copy)]
 pub struct LogRecord {
     pub stretch: Replay,
     pub joining: Joining,
@@ -22,7 +22,7 @@ pub struct LogRecord {
 }
 
 // The next record and the case with the answer to the line.
-#[derive(Drop)]
+#[derive(Clone, Copy)]
 pub struct Stepped {
     pub replay: LogRecord,
     pub case: Case,
@@ -30,7 +30,7 @@ pub struct Stepped {
 }
 
 // The record and the case after a block of lines, how many lines got no number, and the first refusal.
-#[derive(Drop)]
+#[derive(Clone, Copy)]
 pub struct Block {
     pub replay: LogRecord,
     pub case: Case,

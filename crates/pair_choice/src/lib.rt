@@ -16,14 +16,14 @@ ghost use Rattle.pair_choice.specs.PairChoice.{NextCandidate, marks_short, lowes
 use definitions::{Case, Rulebook};
 
 // The pair to take, if there is one.
-#[derive(Drop)]
+#[derive(Clone, Copy)]
 pub enum Paired {
     Pair(usize),
     Nothing,
 }
 
 // What is asked of a pair's tuples: does one pass the range or this number, is one a choice.
-#[derive(Drop)]
+#[derive(Clone, Copy)]
 enum Asked {
     Passes(i64),
     Choice,

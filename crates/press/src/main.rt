@@ -22,7 +22,7 @@ use streams::Filled;
 const ROUNDS: u64 = 100_000;
 
 // What the last call left, how many bytes were handed to be printed so far, and whether the last write took all of its bytes.
-#[derive(Drop)]
+#[derive(Clone, Copy)]
 struct State {
     pressed: Pressed,
     bytes: usize,
@@ -30,7 +30,7 @@ struct State {
 }
 
 // The same of all calls.
-#[derive(Drop)]
+#[derive(Clone, Copy)]
 struct Printed {
     bytes: usize,
     all: bool,

@@ -29,7 +29,7 @@ const CUT_SHORT: u8 = 14;
 const ROUNDS: u64 = 100_000;
 
 // What stands between the calls: the case, the lines of the input, and how many rounds may follow. With none, nothing more is due.
-#[derive(Drop)]
+#[derive(Clone, Copy)]
 pub struct Pressing {
     pub case: Case,
     pub lines: usize,
@@ -37,7 +37,7 @@ pub struct Pressing {
 }
 
 // What a call leaves, and how many of the output's first bytes are to be printed.
-#[derive(Drop)]
+#[derive(Clone, Copy)]
 pub struct Pressed {
     pub pressing: Pressing,
     pub written: Written,

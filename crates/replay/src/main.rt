@@ -20,7 +20,7 @@ use libc::{STDERR_FILENO, STDOUT_FILENO};
 use streams::Filled;
 
 // What stands between two blocks: so many bytes of a part line are held at the buffer's front; and the last fill.
-#[derive(Drop)]
+#[derive(Clone, Copy)]
 struct Turned {
     judging: Judging,
     held: usize,

@@ -22,7 +22,7 @@ use definitions::{Case, Line, Outcome, Refusal, Written};
 const LINE_PLACES: usize = 33;
 
 // What lines are written of: a press, whose lines end with a bound line, or a void line.
-#[derive(Drop)]
+#[derive(Clone, Copy)]
 enum Entry {
     Press { amount: i64, bound: i64 },
     Void,

@@ -11,7 +11,7 @@ use libc::STDIN_FILENO;
 
 // Where the bytes in the buffer end, and what the last read answered: a count of bytes, 0 at the end of the input, -1 where it failed. Where the
 // buffer is full and no read was made it is 1.
-#[derive(Drop)]
+#[derive(Clone, Copy)]
 pub struct Filled {
     pub to: usize,
     pub got: isize,

@@ -18,7 +18,7 @@ ghost use Rattle.tables.specs.Edges.{faulty, with_edges};
 use definitions::{Case, EDGE_PLACES, Figure, Outcome, Refusal, Rulebook, SCOPE_PLACES};
 
 // What can be wrong with an edge.
-#[derive(Drop)]
+#[derive(Clone, Copy)]
 enum Fault {
     Outside,
     NotAscending,

@@ -19,7 +19,7 @@ use definitions::{Line, LineRead, Refusal, Rulebook, Span};
 const BOUND: i64 = 4;
 
 // After a line: the answer, or the first line of the round in which the next one lies, and the rounds still to pass.
-#[derive(Drop)]
+#[derive(Clone, Copy)]
 enum Step {
     Stop(Span),
     On { from: usize, left: u64 },
