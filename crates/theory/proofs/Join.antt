@@ -1,18 +1,18 @@
 -- A link joins: where the weights of the case before lie in the grown one, and what a plan of it comes to beside the plans of the case before.
 -- Assumes nothing.
 use mathlib.Core.Path.{◌≡◌, refl, sym, ap, ap₂, subst, ◌∙◌}
-use mathlib.Core.Bool.{Bool, true, false, not, ◌&&◌, ◌||◌}
+use mathlib.Core.Bool.{Bool, true, false, not}
 use mathlib.Core.Logic.{◌≢◌, ⊎_elim}
-use mathlib.Core.List.{List, map}
+use mathlib.Core.List.{List}
 use Prim.Native.Nat.{ℕ, suc, ◌+◌, ◌-◌, ◌≤◌, ◌<◌}
 use native.Mathlib.Omega.{arith}
-use lib.IntN.{ℤ, pos, ◌+ℤ◌}
+use lib.IntN.{ℤ, ◌+ℤ◌}
 use lib.Dec.{T, T_not, not_T, eqb, ltb, leb, ltb→lt, nltb→le, lt→ltb, le→leb, eqb→eq}
 use lib.Signed.{◌≤ℤ◌}
-use lib.ListN.{length, get_or, take}
+use lib.ListN.{length, take}
 use lib.Seq.{get_or-take, length-take-le}
-use Rattle.integers.specs.Words.{if◌then◌else◌, all, sum}
-use Rattle.integers.specs.Tests.{is_true, true-is, is_false, either, if-true, if-false, and_intro, and_left, and_right, or_right, not-or-iff, eqb-iff, not-eqb-iff, not-leb-iff}
+use Rattle.integers.specs.Words.{if◌then◌else◌, all}
+use Rattle.integers.specs.Tests.{is_true, true-is, is_false, either, if-true, if-false, and_intro, and_left, or_right, not-or-iff, eqb-iff, not-eqb-iff, not-leb-iff}
 use Rattle.integers.specs.Linear.{flat, zs, ◌▸◌}
 use Rattle.integers.specs.Tables.{all_get_d}
 use Rattle.integers.specs.Sums.{Σ, Σ-cong, Σ-split, Σ-shift, Σ-last}

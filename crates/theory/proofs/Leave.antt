@@ -1,17 +1,17 @@
 -- A link leaves: the case that is left, where its weights were before, and what a plan of it comes to beside the plans of the case before.
 -- Assumes nothing.
 use mathlib.Core.Path.{◌≡◌, refl, sym, ap, ap₂, subst, ◌∙◌}
-use mathlib.Core.Bool.{Bool, true, false, not, ◌&&◌, ◌||◌}
-use mathlib.Core.Logic.{◌≢◌, ◌↔◌, ◌⊎◌, inl, inr, ⊎_elim}
+use mathlib.Core.Bool.{Bool, not, ◌||◌}
+use mathlib.Core.Logic.{◌≢◌, ◌⊎◌, inl, inr, ⊎_elim}
 use mathlib.Core.List.Memᴰ
-use mathlib.Core.List.{List, [], ◌∷◌, ◌++◌, map}
-use Prim.Native.Nat.{ℕ, zero, suc, ◌+◌, ◌*◌, ◌-◌, ◌≤◌, ◌<◌}
+use mathlib.Core.List.{List, map}
+use Prim.Native.Nat.{ℕ, suc, ◌+◌, ◌-◌, ◌≤◌, ◌<◌}
 use native.Mathlib.Omega.{arith}
-use lib.IntN.{ℤ, pos, ◌+ℤ◌, ◌-ℤ◌}
+use lib.IntN.{ℤ, pos, ◌+ℤ◌}
 use lib.Dec.{T, T_not, not_T, eqb, ltb, ltb→lt, nltb→le, lt→ltb, eqb→eq}
 use lib.Signed.{◌≤ℤ◌}
-use lib.ListN.{length, get_or, replicate, length-map, length-append, get_or-append}
-use Rattle.integers.specs.Words.{if◌then◌else◌, below, all, any, those, sum, minus, within_z}
+use lib.ListN.{length, get_or, length-map, get_or-append}
+use Rattle.integers.specs.Words.{if◌then◌else◌, below, all, any, sum, minus, within_z}
 use Rattle.integers.specs.Tests.{either, if-true, if-false, if-cases, and_intro, not-or-iff, not-not-iff, eqb-iff, not-eqb-iff}
 use Rattle.integers.specs.Linear.{flat, zs, ◌▸◌}
 use Rattle.integers.specs.Lists.{◌∈◌, any-in, in-those, those-in, those-few, below_in, in-below, length_from, map-map, all_map, all_of}

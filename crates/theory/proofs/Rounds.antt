@@ -58,7 +58,7 @@ pub moves-after : {r : Rules} {s : State} → Sound r s → (ts : List (List ℕ
     → (moves : List Move) × AllAllowed r s.case s.weights moves (after r s ts).weights
 moves-after v [] = ([], no_move)
 moves-after {r} {s} v (t ∷ ts) =
-    let (moves, m) = moves-after (sound-step r s t v) ts in
+    let (moves, m) = moves-after {s = step r s t} (sound-step r s t v) ts in
     let k = rw (case-after r s (t ∷ [])) at m in
     ⊎_elim
     (λ e. (moves, subst (λ (w : List ℤ). AllAllowed r s.case w moves (after r (step r s t) ts).weights) e k))

@@ -1,3 +1,2 @@
 // Laws of the definitions: see proofs/. There is no code here.
 #![tactic(auto)]
-
