@@ -296,7 +296,7 @@ pub record Taken (book : Rulebook) (n d m : ℕ) (a at : ℕ) (s : State) (ds : 
   pub good : (due : CaseDue) → due ∈ ds → Good (rules_in book) (reading book n d m final) due (line_at book n d m final due)
   pub text : text_at book n d m final ds ≡ take (length ds * line_length (rules_in book).amount_width) t
 
-module _ {book : Rulebook} (kinds : CaseKinds (rules_in book)) (n d m : ℕ) (few : m ≤ edge_places) where
+module _ (book : Rulebook) (n d m : ℕ) (few : m ≤ edge_places) where
   -- the tests ask only what stands up to the line
   scope-same : (s f : State) (x : ℕ) → x < n + m → ((k l : ℕ) → IsTuple (case_at book n d m s) x k l
       → weight (case_at book n d m s) s.table x k l ≡ weight (case_at book n d m f) f.table x k l)
@@ -323,6 +323,7 @@ module _ {book : Rulebook} (kinds : CaseKinds (rules_in book)) (n d m : ℕ) (fe
       same : (x : ℕ) → x < e → line_at book n d m s (edge-ends x) ≡ line_at book n d m f (edge-ends x)
       same x l = agree (edge-ends x) (omega arith) (omega (arith, mul-le-mul_right {m = suc x} {n = e} (suc (d * d)) l))
 
+module _ {book : Rulebook} (kinds : CaseKinds (rules_in book)) (n d m : ℕ) (few : m ≤ edge_places) where
   -- a line that is taken
   next-agrees : (s f : State) → Sized book n d m s → (due : CaseDue) → IsDue n d m due → (t : Line) → line_for due t ≡ line_at book n d m f due
       → Agree book n d m (rank n d m due) s f → Agree book n d m (suc (rank n d m due)) (next book n d m s due t) f
@@ -348,7 +349,7 @@ module _ {book : Rulebook} (kinds : CaseKinds (rules_in book)) (n d m : ℕ) (fe
         let after = next-agrees s f h due u l (line-for (case_at book n d m f) f.table due) (λ other v q. agree other v (omega arith)) in
         let p = good-passes kinds (reading book n d m s) (case_at book n d m f) f.table due
         (subst (λ (g : Reading). Good (rules_in book) g due l) (sym (took-next book n d m s due l))
-        (good-same f (next book n d m s due l) due u (λ other v q. sym (after other v q)) l (good due u))) in
+        (good-same book n d m few f (next book n d m s due l) due u (λ other v q. sym (after other v q)) l (good due u))) in
         ap zeroed_call (ap (read_dues book (reading book n d m s) at (due ∷ ds)) (append_assoc (line_text (rules_in book).amount_width l) (text_at book n d m f ds) rest)
         ∙ take-due book (reading book n d m s) at due ds (line_text (rules_in book).amount_width l ++ (text_at book n d m f ds ++ rest))
         (front-whole (rules_in book) l (fits due u) (text_at book n d m f ds ++ rest))
@@ -385,7 +386,7 @@ module _ {book : Rulebook} (kinds : CaseKinds (rules_in book)) (n d m : ℕ) (fe
         result = ap zeroed_call next-read ∙ o.result ∙ ap (case_taken (reading book n d m o.final)) (omega arith);
         agree = λ other v i. sym (next-other book n d m s due u l other v (λ z. omega arith)) ∙ o.agree other v (omega arith);
         good = in-cons (λ x. Good (rules_in book) (reading book n d m o.final) x (line_at book n d m o.final x))
-            (rw is (good-same (next book n d m s due l) o.final due u (λ other v i. o.agree other v (omega arith)) l
+            (rw is (good-same book n d m few (next book n d m s due l) o.final due u (λ other v i. o.agree other v (omega arith)) l
             (subst (λ (g : Reading). Good (rules_in book) g due l) (took-next book n d m s due l) good))) o.good;
         text = ap (λ (x : Line). line_text (rules_in book).amount_width x ++ text_at book n d m o.final ds) is
             ∙ line-front (rules_in book) t first (length ds) (text_at book n d m o.final ds) o.text;

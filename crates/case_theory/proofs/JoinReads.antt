@@ -16,13 +16,13 @@ use Rattle.integers.specs.Words.{if◌then◌else◌, below, all, joined}
 use Rattle.integers.specs.Lists.{map_same}
 use Rattle.integers.specs.Tables.{length-tab, get_d-tab}
 use Rattle.integers.specs.Tests.{tests, either, if-true, if-false}
-use Rattle.integers.specs.Linear.{flat, zs, ◌▸◌, T-eq}
+use Rattle.integers.specs.Linear.{T-eq}
 use Rattle.theory.proofs.Words.{none_below}
 use Rattle.definitions.specs.declared.Case.{Case}
 use Rattle.definitions.specs.declared.Line.{Line}
 use Rattle.definitions.specs.Rules.{coherent, rules_of, edge_places}
 use Rattle.definitions.specs.Refusals.{first_refusal}
-use Rattle.definitions.specs.Case.{lower_end, upper_end, scope_count, place, own_length, weight, wholly_barred, is_barred, barred}
+use Rattle.definitions.specs.Case.{lower_end, upper_end, place, own_length, weight, wholly_barred, is_barred, barred}
 use Rattle.definitions.specs.Valid.{in_starting, zeros_from}
 use Rattle.definitions.specs.CaseFiles.{CaseDue, variable-weight, edge-ends, edge-weight, Reading, took, weight_line, bars, weight_in, due_tests}
 use Rattle.definitions.specs.Lines.{line}
@@ -34,7 +34,7 @@ use Rattle.theory.proofs.Full.{full-weight, full-long, full-past}
 use Rattle.theory.proofs.Places.{IsTuple, by-tuple, variable-tuple, edge-tuple, each-variable, each-edge, place-apart}
 use Rattle.theory.proofs.Validity.{own-lent, Valid, not-and-iff}
 use Rattle.theory.proofs.Join.{grown_scope, grown-variable, edge-up, old-scope, Grown}
-use Rattle.case_theory.proofs.CaseDues.{line_of, IsDue, rank, rank-apart, rank_below, line_for, State, next, Sized, next-sized, next-there, next-other, line_at, same-variable, same-edge}
+use Rattle.case_theory.proofs.CaseDues.{line_of, IsDue, rank, rank-apart, rank_below, State, next, Sized, next-sized, next-there, next-other, line_at, same-variable, same-edge}
 use Rattle.case_theory.proofs.CaseTests.{CaseKinds, Good, passes, passed, valid-good, good-valid}
 use Rattle.case_theory.proofs.Zeroed.{all_same, zeros-at, zeros_by}
 use Rattle.definitions.proofs.CaseLaws.{place-own}

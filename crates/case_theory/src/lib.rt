@@ -1,3 +1,2 @@
 // Case texts, read and written: see proofs/. There is no code here.
 #![tactic(auto)]
-

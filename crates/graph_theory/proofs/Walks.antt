@@ -95,6 +95,8 @@ module _ (c : Case) where
 
   no_edge : {i j : ℕ} → Connected c [] i j → i ≡ j
   no_edge Connected.here = refl
+  no_edge (Connected.up e m w) = elim m [ ]
+  no_edge (Connected.down e m w) = elim m [ ]
 
   pub first-labels : Decides [] (below c.n)
   first-labels = record {

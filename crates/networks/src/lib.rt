@@ -1,3 +1,2 @@
 // Arc consistency over an abstract network: see specs/ and proofs/. There is no code here.
 #![tactic(auto)]
-

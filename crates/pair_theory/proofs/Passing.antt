@@ -384,7 +384,7 @@ shifts-allowed r c {w} {u} (shift e end v a ∷ moves) f o =
     let (m, s, k, t) = f (shift e end v a) (Memᴰ.head refl) in
     let (n, q) = found-else (leaves_range r c w (moved c (shift e end v a) w)) (after_moves r c moves (moved c (shift e end v a) w)) o in
     one_more {move = shift e end v a} (record { edge = m; side = s; value = k; amount = t; in-range = n })
-    (shifts-allowed r c moves (λ move k. f move (Memᴰ.tail k)) q)
+    (shifts-allowed r c {w = moved c (shift e end v a) w} moves (λ move k. f move (Memᴰ.tail k)) q)
 shifts-allowed r c (press i lowered raised a ∷ moves) f o = absurd (f (press i lowered raised a) (Memᴰ.head refl))
 
 module _ {r : Rules} {c : Case} {w : List ℤ} {e : ℕ} (coherent : Coherent r) (h : Handed r (working_weight r) c w) (edge : e < c.m) where

@@ -29,6 +29,8 @@ refuted-more c w i R Q more t =
 active-allowed : (r a : Bool) → T a → T (not (r && not a))
 active-allowed true true t = tt
 active-allowed false true t = tt
+active-allowed false false t = elim t [ ]
+active-allowed true false t = elim t [ ]
 
 module _ (c : Case) (w : List ℤ) (i : ℕ) (h : i < c.n) where
   module _ (R Q : ℕ → Bool) (same : (x : ℕ) → x < scope_count c → x ≢ i → R x ≡ Q x) (k : ℕ) (a : T (active c w i k 0)) where

@@ -193,6 +193,7 @@ rising-after [] rest t = t
 rising-after (a ∷ kept) rest t = rising-after kept rest (rising-tail a (kept ++ rest) t)
 
 rising-above : (x : ℕ) (xs : List ℕ) {y : ℕ} → T (is_rising (x ∷ xs)) → y ∈ xs → x < y
+rising-above x [] t m = elim m [ ]
 rising-above x (z ∷ xs) t (Memᴰ.head e) = omega (arith, ltb→lt x z (and_left (ltb x z) (is_rising (z ∷ xs)) t))
 rising-above x (z ∷ xs) t (Memᴰ.tail m) = omega (
   arith,
@@ -201,6 +202,7 @@ rising-above x (z ∷ xs) t (Memᴰ.tail m) = omega (
 )
 
 rising-below : (kept rest : List ℕ) (x : ℕ) {y : ℕ} → T (is_rising (kept ++ (x ∷ rest))) → y ∈ kept → y < x
+rising-below [] rest x t m = elim m [ ]
 rising-below (a ∷ kept) rest x t (Memᴰ.head e) =
     omega (arith, rising-above a (kept ++ (x ∷ rest)) t (Memᴰ.append_right kept (Memᴰ.head {xs = rest} refl)))
 rising-below (a ∷ kept) rest x t (Memᴰ.tail m) = rising-below kept rest x (rising-tail a (kept ++ (x ∷ rest)) t) m
@@ -274,6 +276,7 @@ module _ (c : Case) (w : List ℤ) (i : ℕ) where
       back y m h = ⊎_elim (λ n. n) (λ n. let e : y ≡ x = Memᴰ.eq_of_singleton n in absurd (omega arith)) (Memᴰ.append_cases kept m)
 
   trimmed-upwards : (kept rest : List ℕ) (x : ℕ) → T (is_rising (kept ++ rest)) → x ∈ rest → KeptJustWhere x (trimmed c w i kept rest) rest
+  trimmed-upwards kept [] x t m = elim m [ ]
   trimmed-upwards kept (z ∷ rest) x t (Memᴰ.head e) =
       subst (λ (y : ℕ). KeptJustWhere y (trimmed c w i kept (z ∷ rest)) (z ∷ rest)) (sym e) (trimmed-first kept rest z t)
   trimmed-upwards kept (z ∷ rest) x t (Memᴰ.tail m) =

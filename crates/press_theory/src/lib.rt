@@ -1,3 +1,2 @@
 // The engine's press as mathematics. No code.
 #![tactic(auto)]
-
