@@ -20,7 +20,7 @@ use Rattle.integers.specs.Linear.{flat, zs, ◌▸◌}
 use Rattle.definitions.specs.declared.Case.{Case}
 use Rattle.definitions.specs.declared.RunAnswer.{RunAnswer}
 use Rattle.definitions.specs.Rules.{Rules, Coherent}
-use Rattle.definitions.specs.Case.{is_lawful, objective, upper_bound, barred}
+use Rattle.definitions.specs.Case.{is_lawful, objective, upper_bound}
 use Rattle.definitions.specs.Valid.{working_weight, valid}
 use Rattle.definitions.specs.Moves.{Move, active_press, leaves_range, after_moves}
 use Rattle.definitions.specs.Lines.{line_length}

@@ -1,3 +1,2 @@
 // The engine's runs as mathematics. No code.
 #![tactic(auto)]
-

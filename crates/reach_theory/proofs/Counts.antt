@@ -373,3 +373,4 @@ module _ {r : Rules} {c : Case} {w : List ℤ} (coherent : Coherent r) (handed :
       active-allowed : (b a : Bool) → T a → T (not (b && not a))
       active-allowed true true t = tt
       active-allowed false a t = tt
+      active-allowed true false t = elim t [ ]
