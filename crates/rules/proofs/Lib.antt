@@ -1,2 +1,0 @@
--- What the leaves' proofs share.
-pub mod Books
