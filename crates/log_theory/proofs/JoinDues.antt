@@ -1,16 +1,16 @@
 -- The case lines that are due in a join, by rank: they are those of a small case, renumbered. Assumes nothing.
-use mathlib.Core.Path.{◌≡◌, sym, ap, ◌∙◌}
-use mathlib.Core.List.{List, ◌∷◌, ◌++◌, map, append-nil}
+use mathlib.Core.Path.{◌≡◌, ap, ◌∙◌}
+use mathlib.Core.List.{List, ◌∷◌, map, append-nil}
 use Prim.Native.Nat.{ℕ, zero, suc, ◌+◌, ◌<◌}
 use native.Mathlib.Nat.{add-zero}
 use native.Mathlib.Omega.{arith}
 use lib.ListN.{length, get_or, drop, length-map}
 use lib.Seq.{drop-cons}
-use Rattle.integers.specs.Words.{from, below, joined}
-use Rattle.integers.specs.Lists.{map-append, map-joined, map-map, map_same, from-shift}
+use Rattle.integers.specs.Words.{from, below}
+use Rattle.integers.specs.Lists.{map-append, map-joined, map-map, from-shift}
 use Rattle.integers.specs.Tables.{get_d_map}
 use Rattle.definitions.specs.declared.Case.{Case}
-use Rattle.definitions.specs.CaseFiles.{CaseDue, edge-ends, dues, variable_dues, edge_dues}
+use Rattle.definitions.specs.CaseFiles.{CaseDue, edge-ends, dues}
 use Rattle.logs.specs.Join.{join_dues}
 use Rattle.case_theory.proofs.CaseDues.{IsDue, rank, Run, stop, step, run_length, dues-run}
 use Rattle.logs.specs.Waiting.{small_case, renumbered}
@@ -28,11 +28,6 @@ module _ (c : Case) (p : ℕ) where
   join-dues =
       let e : from c.m p ≡ map (λ x. c.m + x) (below p) = rw add-zero at (from-shift c.m 0 p) in
       simp (e, map-append, map-joined, append-nil, add-zero, map-map)
-      (ap (λ (ls : List (List CaseDue)). variable_dues c c.n ++ joined ls)
-      (map_same p (λ x h. edge-dues x) ∙ sym (map-map (map (renumbered c)) (edge_dues (small_case c p)) (below p))))
-    where
-      edge-dues : (e : ℕ) → edge_dues c (c.m + e) ≡ map (renumbered c) (edge_dues (small_case c p) e)
-      edge-dues e = simp (map-joined, map-map)
 
   pub join-length : length (join_dues c p) ≡ join_lines c p
   join-length = ap length join-dues ∙ length-map (dues (small_case c p)) (renumbered c) ∙ omega (arith, run_length (dues-run (small_case c p)))
