@@ -1,0 +1,9 @@
+use mathlib.Core.Path.{sym, ◌∙◌}
+use mathlib.Core.Logic.{⊎_elim}
+use borrow.Author.Rules.{rules}
+use borrow.Author.Tests.{eq-eqb, ne_eqb, not-true, not-false}
+use Rattle.tables.proofs.Order.{limited}
+use Rattle.tables.proofs.front_outcome.Goals as goal
+
+pub table_length-requires : goal.table_length-requires
+table_length-requires c = limited c.args.case (sym c.within_limits.ensures ∙ not-false _ c.if-not-within_limits.false-raw)

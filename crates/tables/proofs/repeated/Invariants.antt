@@ -1,0 +1,15 @@
+use Prim.Native.Nat.{◌≤◌, ◌-◌}
+use mathlib.Core.Path.{◌≡◌, refl, sym, ap, ap₂, ◌∙◌}
+use mathlib.Core.Bool.{◌||◌}
+use native.Mathlib.Omega.{arith}
+use Rattle.integers.specs.Words.{any, below}
+use Rattle.definitions.specs.Valid.{same_ends}
+use Rattle.tables.specs.Edges.{with_edges}
+use Rattle.tables.proofs.Search.{any_next}
+use Rattle.tables.proofs.repeated.Given as goal
+
+abbrev pub invariant-loop-f : goal.invariant-loop-f
+invariant-loop-f l = (l.f ≤ l.e) × (l.found ≡ any (same_ends (with_edges 0 l.lower l.upper) l.e) (below l.f))
+
+abbrev pub decreases-loop-f : goal.decreases-loop-f
+decreases-loop-f l = l.e - l.f

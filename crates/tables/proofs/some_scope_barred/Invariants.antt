@@ -1,0 +1,14 @@
+use Prim.Native.Nat.{ℕ, ◌≤◌, ◌<◌, ◌-◌}
+use mathlib.Core.Path.{◌≡◌, sym, ◌∙◌}
+use mathlib.Core.Bool.{false}
+use native.Mathlib.Omega.{arith}
+use borrow.Author.Count.{below_more}
+use Rattle.definitions.specs.Case.{scope_count, wholly_barred}
+use Rattle.tables.proofs.Search.{found, not_found}
+use Rattle.tables.proofs.some_scope_barred.Given as goal
+
+abbrev pub invariant-loop-x : goal.invariant-loop-x
+invariant-loop-x l = (l.x ≤ l.scopes) × ((y : ℕ) → y < l.x → wholly_barred l.case l.table y ≡ false)
+
+abbrev pub decreases-loop-x : goal.decreases-loop-x
+decreases-loop-x l = l.scopes - l.x

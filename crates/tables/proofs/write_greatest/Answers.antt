@@ -1,0 +1,18 @@
+use mathlib.Core.Path.{◌≡◌, refl, ◌∙◌}
+use Prim.Native.Nat.{ℕ, ◌+◌, ◌-◌, ◌≤◌, ◌<◌}
+use native.Mathlib.Omega.{arith}
+use lib.IntN.{pos}
+use lib.ListN.{length, length-set}
+use lib.Seq.{get_or-set_same, get_or-set_other}
+use mir.Syntax.{w64}
+use borrow.Author.Count.{below_more}
+use Rattle.integers.specs.Linear.{read_back}
+use Rattle.definitions.specs.Case.{greatest}
+use Rattle.tables.specs.Scopes.{best_at}
+use Rattle.tables.proofs.Best.{over-is}
+use Rattle.tables.proofs.write_greatest.Goals as goal
+
+pub returns : goal.returns
+returns c = let a = c.args in
+    over-is (greatest a.case a.table.now) (a.case.n + a.case.m) a.best.now (omega arith) c.loop-x.best c.loop-x.invariant.1
+    (λ y h. c.loop-x.invariant.2 y (omega arith)) (λ y h. c.loop-x.invariant.3 y (omega arith))

@@ -1,0 +1,20 @@
+use mathlib.Core.Path.{◌≡◌, refl, ◌∙◌}
+use Prim.Native.Nat.{ℕ, ◌+◌, ◌-◌, ◌≤◌, ◌<◌}
+use native.Mathlib.Omega.{arith}
+use lib.IntN.{pos}
+use lib.ListN.{length, length-set}
+use lib.Seq.{get_or-set_same, get_or-set_other}
+use mir.Syntax.{w64}
+use borrow.Author.Count.{below_more}
+use Rattle.integers.specs.Linear.{read_back}
+use Rattle.definitions.specs.Case.{greatest}
+use Rattle.tables.specs.Scopes.{best_at}
+use Rattle.tables.proofs.Best.{over-is}
+use Rattle.tables.proofs.write_greatest.Given as goal
+
+abbrev pub invariant-loop-x : goal.invariant-loop-x
+invariant-loop-x l =
+    (l.x ≤ l.scopes) × (length l.best ≡ length l.initial.best) × ((y : ℕ) → y < l.x → best_at l.best y ≡ greatest l.case l.table y) × ((y : ℕ) → l.x ≤ y → best_at l.best y ≡ best_at l.initial.best y)
+
+abbrev pub decreases-loop-x : goal.decreases-loop-x
+decreases-loop-x l = l.scopes - l.x
