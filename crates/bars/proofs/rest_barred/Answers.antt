@@ -1,0 +1,49 @@
+use mathlib.Core.Path.{◌≡◌, sym, ap, ◌∙◌}
+use mathlib.Core.Bool.{true, not}
+use native.Mathlib.Omega.{arith}
+use lib.ListN.{length}
+use borrow.Author.Rules.{rules}
+use borrow.Author.Tests.{lt-ltb, le-ltb, not-true, not-false}
+use Rattle.definitions.specs.Rules.{rules_of}
+use Rattle.definitions.specs.Case.{scope_count}
+use Rattle.definitions.specs.Valid.{within_limits}
+use Rattle.tables.proofs.Order.{limited}
+use Rattle.bars.specs.Bars.{rest_barred}
+use Rattle.bars.proofs.rest_barred.Goals as goal
+use Rattle.bars.proofs.rest_barred.Goals.{After-struct_known-1}
+
+pub returns-then-not-within_limits : goal.returns-then-not-within_limits
+unfolding rest_barred
+returns-then-not-within_limits c = rw (sym c.within_limits.ensures ∙ not-true _ c.if-not-within_limits.true-raw)
+
+-- the limits are right
+right : (c : After-struct_known-1) → let a = c.args in
+    within_limits (rules_of a.case) a.case.n a.case.d a.case.m ≡ true
+right c = sym c.within_limits.ensures ∙ not-false _ c.if-not-within_limits.false-raw
+
+pub returns-then-best-scopes : goal.returns-then-best-scopes
+unfolding rest_barred
+returns-then-best-scopes c = let a = c.args in
+    rw (right (goal.at.returns-then-best-scopes c).After-struct_known-1, lt-ltb (length a.best.now) (scope_count a.case) c.if-best-scopes.true)
+
+pub returns-then-raised-scopes : goal.returns-then-raised-scopes
+unfolding rest_barred
+returns-then-raised-scopes c = let a = c.args in
+    rw (
+      right (goal.at.returns-then-raised-scopes c).After-struct_known-1,
+      le-ltb (length a.best.now) (scope_count a.case) c.if-best-scopes.false,
+      lt-ltb (length a.raised.now) (scope_count a.case) c.if-raised-scopes.true,
+    )
+
+pub rest_open-requires : goal.rest_open-requires
+rest_open-requires c =
+    record { limited = limited c.args.case (right (goal.at.rest_open-requires c).After-struct_known-1); case_in_bounds = (c.if-best-scopes.false, c.if-raised-scopes.false) }
+
+pub returns : goal.returns
+unfolding rest_barred
+returns c = let a = c.args in
+    rw (
+      right (goal.at.returns c).After-struct_known-1,
+      le-ltb (length a.best.now) (scope_count a.case) c.if-best-scopes.false,
+      le-ltb (length a.raised.now) (scope_count a.case) c.if-raised-scopes.false,
+    ) (ap not c.rest_open.ensures)
