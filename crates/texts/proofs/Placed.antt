@@ -35,6 +35,11 @@ module _ (at : ℕ) (out : List ℕ) where
       let z : post_of at (length out - at) out ≡ [] = drop_of_length-le (drop at out) {i = length out - at} (omega (arith, length-drop at out)) in
       rw (z, e) (simp append-nil)
 
+-- the part of so many bytes from byte `at` on
+pub part_copied : (at n : ℕ) (xs y out : List ℕ) → y ≡ xs → n ≡ length xs → put_mid at n out y ≡ placed_at at xs out
+unfolding placed_at
+part_copied at n xs y out e h = rw (e, h) refl
+
 -- the output's first n bytes are the text, the others are as before
 pub record Printed (text out l : List ℕ) (n : ℕ) : Type 0 where
   pub bytes : l ≡ overwritten text out
