@@ -1,5 +1,4 @@
-// The log writer: it borrows a lent slice and holds the position of the next line (document 01, "Lines"). The functions that make, take,
-// hold or are lent one are proved by a walk of their MIR, by hand; `put_line_in`, which does the work, is covered.
+// The log writer: it borrows a lent slice and holds the position of the next line (document 01, "Lines").
 #![tactic(auto)]
 
 ghost use Rattle.std.specs.Prelude.{◌≡◌};
