@@ -1,0 +1,32 @@
+use mathlib.Core.Path.{◌≡◌, subst, ◌∙◌}
+use Prim.Native.Nat.{ℕ, ◌+◌, ◌*◌, ◌-◌, ◌≤◌}
+use native.Mathlib.Omega.{arith}
+use lib.IntN.{ℤ}
+use lib.ListN.{length, length-set, length-replicate}
+use mir.Syntax.{w64}
+use mir.Val.{to_z, of_z}
+use Rattle.integers.specs.Linear.{read_back}
+use Rattle.arcs.specs.Active.{best_marks, Crossed}
+use Rattle.arcs.proofs.Crossing.{crossed-none, crossed-next, row_room}
+use Rattle.arcs.proofs.edge_bytes.Goals as goal
+
+pub loop-k-init : goal.loop-k-init
+loop-k-init c = (omega arith, crossed-none _ 16, length-replicate {A = ℕ} 16 0)
+
+pub loop-k-preserved : goal.loop-k-preserved
+loop-k-preserved c =
+    let a = c.args in
+    let l = c.loop-k in (
+      omega (arith, c.loop-k-test.true),
+      crossed-next _ _ l.bytes _ _ l.invariant.1 (omega (
+        arith,
+        c.loop-k-test.true,
+        c.requires.0,
+      )) (omega (
+        arith,
+        c.loop-k-test.true,
+        c.requires.0,
+        l.invariant.2,
+      )) c.best_values-row.ensures c.add_below.ensures,
+      c.add_below.ensures.same_length ∙ length-set l.bytes _ _ ∙ l.invariant.2,
+    )

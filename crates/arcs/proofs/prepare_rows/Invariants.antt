@@ -1,0 +1,15 @@
+use mathlib.Core.Path.{◌≡◌, subst, ◌∙◌}
+use Prim.Native.Nat.{ℕ, ◌*◌, ◌-◌, ◌≤◌}
+use native.Mathlib.Omega.{arith}
+use lib.ListN.{get_or}
+use Rattle.arcs.specs.Active.{Written}
+use Rattle.arcs.specs.Best.{partners_best, best_rows}
+use Rattle.arcs.proofs.Marked.{written_none, rows_of, edge-written}
+use Rattle.arcs.proofs.prepare_rows.Given as goal
+
+abbrev pub invariant-loop-e : goal.invariant-loop-e
+invariant-loop-e l = (l.e ≤ l.m) × Written (λ q. get_or (rows_of (partners_best l.case l.table l.best l.raised) l.case.m) q 0) 0 (16 * l.e)
+    l.initial.rows l.rows
+
+abbrev pub decreases-loop-e : goal.decreases-loop-e
+decreases-loop-e l = l.m - l.e

@@ -1,0 +1,17 @@
+use mathlib.Core.Path.{◌≡◌, ap, subst, ◌∙◌}
+use Prim.Native.Nat.{ℕ, ◌-◌, ◌≤◌}
+use native.Mathlib.Omega.{arith}
+use lib.IntN.{ℤ, pos}
+use lib.ListN.{get_or}
+use mir.Syntax.{w64}
+use Rattle.integers.specs.Linear.{read_back}
+use Rattle.arcs.specs.Active.{set_where, has_weight, has_best, Written}
+use Rattle.arcs.proofs.Marked.{written_none, written_next, sets-written}
+use borrow.Author.Rules.{rules}
+use Rattle.arcs.proofs.write_sets.Given as goal
+
+abbrev pub invariant-loop-j : goal.invariant-loop-j
+invariant-loop-j l = (l.j ≤ l.n) × Written (set_where l.case (has_best l.case l.table l.best)) 0 l.j l.initial.sets l.sets
+
+abbrev pub decreases-loop-j : goal.decreases-loop-j
+decreases-loop-j l = l.n - l.j
