@@ -4,7 +4,6 @@ use mathlib.Core.Bool.{true, false, not}
 use mathlib.Core.Option.{none}
 use mathlib.Core.List.{List}
 use native.Mathlib.Omega.{arith}
-use Prim.Native.Nat.{◌<◌}
 use lib.IntN.{ℤ}
 use lib.Dec.{T, T_not, not_T}
 use lib.Signed.{◌<ℤ◌}

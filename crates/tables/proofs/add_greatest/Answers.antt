@@ -1,7 +1,6 @@
 use mathlib.Core.Path.{◌∙◌}
 use native.Mathlib.Omega.{arith}
 use Rattle.tables.proofs.Best.{sum-written}
-use borrow.Author.Rules.{rules}
 use Rattle.tables.proofs.add_greatest.Goals as goal
 
 pub returns : goal.returns

@@ -1,11 +1,11 @@
-use mathlib.Core.Path.{◌≡◌, refl, sym, ap, ◌∙◌}
+use mathlib.Core.Path.{◌≡◌, sym, ap, ◌∙◌}
 use mathlib.Core.Logic.{◌↔◌}
-use Prim.Native.Nat.{ℕ, ◌+◌, ◌≤◌, ◌<◌, ◌-◌}
+use Prim.Native.Nat.{ℕ}
 use native.Mathlib.Omega.{arith}
 use lib.IntN.{ℤ, pos}
 use lib.Bits.{bit_or, or_add_and, and_le_l, and_le_r}
 use lib.Dec.{T, not_T}
-use lib.ListN.{length, get_or}
+use lib.ListN.{get_or}
 use mir.Syntax.{w64}
 use mir.Val.{to_z, of_z}
 use borrow.Author.Count.{below_more}
@@ -13,7 +13,6 @@ use Rattle.integers.specs.Words.{all, eq_z}
 use Rattle.integers.specs.Tests.{is_true, is_false}
 use Rattle.integers.specs.Linear.{read_back, T-eq}
 use Rattle.integers.specs.Tables.{all_get_d}
-
 use Rattle.std.proofs.Math.Facts.{to_z_inj, Fits-of_z}
 use Rattle.std.proofs.lemmas.Nat.{or_lt}
 use mir.Val.{Fits}

@@ -3,7 +3,6 @@ use lib.ListN.{length}
 use mir.Facts.{to_z-of_z}
 use Rattle.tables.specs.Scopes.{tuple_tests}
 use Rattle.tables.proofs.Order.{front-known, front-stops, front-passes}
-use borrow.Author.Rules.{rules}
 use Rattle.tables.proofs.check.Goals as goal
 
 pub weight_outcome-requires : goal.weight_outcome-requires

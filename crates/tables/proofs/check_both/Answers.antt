@@ -1,13 +1,5 @@
-use mathlib.Core.Path.{sym, ap, ◌∙◌}
-use mathlib.Core.Bool.{not}
-use lib.Dec.{eqb}
-use lib.ListN.{length}
-use Rattle.definitions.specs.Rules.{rules_of}
-use Rattle.definitions.specs.Answers.{outcome_of}
-use Rattle.tables.specs.Both.{both_tests}
-use Rattle.tables.proofs.Order.{front-stops, front-passes}
-use Rattle.tables.proofs.Paired.{both-asked, both-sized}
-use borrow.Author.Rules.{rules}
+use mathlib.Core.Path.{sym, ◌∙◌}
+use Rattle.tables.proofs.Paired.{both-sized}
 use Rattle.tables.proofs.check_both.Goals as goal
 
 -- src/lib.rt:582:26

@@ -1,16 +1,12 @@
-use mathlib.Core.Path.{ap₂, subst, sym, ◌∙◌}
+use mathlib.Core.Path.{ap₂, ◌∙◌}
 use lib.IntN.{ℤ}
-use lib.Signed.{◌<ℤ◌}
 use mir.Syntax.{w64}
 use Rattle.integers.specs.Linear.{read_back}
 use Rattle.definitions.specs.Refusals.{first_refusal}
-use Rattle.definitions.specs.Rules.{coherent, rules_of}
+use Rattle.definitions.specs.Rules.{rules_of}
 use Rattle.definitions.specs.Answers.{outcome_of}
-use Rattle.definitions.specs.Case.{barred_weight}
 use Rattle.definitions.specs.Valid.{handed_over}
 use Rattle.tables.specs.Scopes.{holdable}
-use Rattle.tables.proofs.Ranges.{starting-above}
-use borrow.Author.Rules.{rules}
 use Rattle.tables.proofs.check_starting.Goals as goal
 
 pub returns : goal.returns

@@ -1,15 +1,13 @@
-use Prim.Native.Nat.{◌≤◌, ◌-◌, ◌+◌}
-use mathlib.Core.Path.{◌≡◌, sym, ◌∙◌}
-use mathlib.Core.Logic.{⊎_elim}
+use Prim.Native.Nat.{◌+◌}
+use mathlib.Core.Path.{◌≡◌}
 use native.Mathlib.Omega.{arith}
 use lib.IntN.{pos}
-use lib.ListN.{length, get_or, take}
-use lib.Seq.{take_all}
+use lib.ListN.{get_or, take}
 use mir.Syntax.{w64}
 use mir.Val.{to_z, of_z}
 use Rattle.integers.specs.Words.{max_z, greatest_of}
 use Rattle.integers.specs.Linear.{read_back}
-use Rattle.tables.proofs.Maxima.{no-greatest, first-greatest, next-greatest, takes, keeps}
+use Rattle.tables.proofs.Maxima.{next-greatest, takes, keeps}
 use Rattle.tables.proofs.greatest.Goals as goal
 use Rattle.tables.proofs.greatest.Goals.{then-best-w, else-best-w}
 
@@ -22,7 +20,7 @@ loop-i-preserved c = let l = c.args.weights.now in
       omega arith,
       omega arith,
       elim c.if-best-w.branch [
-          then-best-w w ↦ cc (takes (to_z w64 c.loop-i.best-bits) x _ g (rw e at w.if-best-w.true))
+        | then-best-w w ↦ cc (takes (to_z w64 c.loop-i.best-bits) x _ g (rw e at w.if-best-w.true))
         | else-best-w w ↦ cc (keeps (to_z w64 c.loop-i.best-bits) x _ g (rw e at w.if-best-w.false))
       ],
     )

@@ -1,7 +1,6 @@
 use mathlib.Core.Path.{◌≡◌, sym, ◌∙◌}
 use mathlib.Core.Bool.{true}
 use native.Mathlib.Omega.{arith}
-use borrow.Author.Rules.{rules}
 use borrow.Author.Tests.{not-true, not-false}
 use Rattle.definitions.specs.Rules.{rules_of}
 use Rattle.definitions.specs.Valid.{within_limits}
@@ -33,8 +32,12 @@ returns-then-best-scope_count c = let a = c.args in
     (omega (arith, c.scope_count.ensures, c.if-best-scope_count.true))
 
 pub write_greatest-requires : goal.write_greatest-requires
-write_greatest-requires c = record { limited = limited c.args.case (right (goal.at.write_greatest-requires c).Else-not-within_limits); table_len = c.if-table-table_length.false
-            ∙ c.table_length.ensures; case_in_bounds = omega (arith, c.scope_count.ensures, c.if-best-scope_count.false) }
+write_greatest-requires c = record {
+  limited = limited c.args.case (right (goal.at.write_greatest-requires c).Else-not-within_limits);
+  table_len = c.if-table-table_length.false
+      ∙ c.table_length.ensures;
+  case_in_bounds = omega (arith, c.scope_count.ensures, c.if-best-scope_count.false);
+}
 
 pub returns : goal.returns
 returns c = let a = c.args in

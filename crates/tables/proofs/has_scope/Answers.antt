@@ -1,10 +1,9 @@
 use mathlib.Core.Path.{◌≡◌, sym, ◌∙◌}
 use mathlib.Core.Bool.{true}
-use borrow.Author.Tests.{not-true, not-false}
+use borrow.Author.Tests.{not-false}
 use Rattle.definitions.specs.Rules.{rules_of}
 use Rattle.tables.specs.Scopes.{is_sized}
 use Rattle.tables.proofs.Order.{sized}
-use borrow.Author.Rules.{rules}
 use Rattle.tables.proofs.has_scope.Goals as goal
 use Rattle.tables.proofs.has_scope.Goals.{Else-not-is_sized}
 

@@ -1,10 +1,9 @@
 use mathlib.Core.Path.{◌≡◌, sym, ◌∙◌}
 use mathlib.Core.Bool.{true}
-use borrow.Author.Tests.{not-true, not-false}
+use borrow.Author.Tests.{not-false}
 use Rattle.definitions.specs.Rules.{rules_of}
 use Rattle.definitions.specs.Valid.{within_limits}
 use Rattle.tables.proofs.Order.{limited}
-use borrow.Author.Rules.{rules}
 use Rattle.tables.proofs.is_sized.Goals as goal
 use Rattle.tables.proofs.is_sized.Goals.{Else-not-within_limits}
 

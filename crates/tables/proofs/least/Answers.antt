@@ -1,15 +1,13 @@
-use Prim.Native.Nat.{◌≤◌, ◌-◌, ◌+◌}
-use mathlib.Core.Path.{◌≡◌, sym, ◌∙◌}
-use mathlib.Core.Logic.{⊎_elim}
+use Prim.Native.Nat.{◌+◌}
+use mathlib.Core.Path.{◌≡◌}
 use native.Mathlib.Omega.{arith}
 use lib.IntN.{pos}
-use lib.ListN.{length, get_or, take}
-use lib.Seq.{take_all}
+use lib.ListN.{get_or, take}
 use mir.Syntax.{w64}
 use mir.Val.{to_z, of_z}
 use Rattle.integers.specs.Words.{min_z, smallest_of}
 use Rattle.integers.specs.Linear.{read_back}
-use Rattle.tables.proofs.Maxima.{no-least, first-least, next-least, takes-less, keeps-less}
+use Rattle.tables.proofs.Maxima.{next-least, takes-less, keeps-less}
 use Rattle.tables.proofs.least.Goals as goal
 use Rattle.tables.proofs.least.Goals.{then-w-lowest, else-w-lowest}
 
@@ -22,7 +20,7 @@ loop-i-preserved c = let l = c.args.weights.now in
       omega arith,
       omega arith,
       elim c.if-w-lowest.branch [
-          then-w-lowest w ↦ cc (takes-less (to_z w64 c.loop-i.lowest-bits) x _ g (rw e at w.if-w-lowest.true))
+        | then-w-lowest w ↦ cc (takes-less (to_z w64 c.loop-i.lowest-bits) x _ g (rw e at w.if-w-lowest.true))
         | else-w-lowest w ↦ cc (keeps-less (to_z w64 c.loop-i.lowest-bits) x _ g (rw e at w.if-w-lowest.false))
       ],
     )

@@ -1,15 +1,7 @@
-use Prim.Native.Nat.{◌≤◌, ◌-◌, ◌+◌}
-use mathlib.Core.Path.{◌≡◌, sym, ◌∙◌}
-use mathlib.Core.Logic.{⊎_elim}
-use native.Mathlib.Omega.{arith}
-use lib.IntN.{pos}
-use lib.ListN.{length, get_or, take}
-use lib.Seq.{take_all}
-use mir.Syntax.{w64}
-use mir.Val.{to_z, of_z}
-use Rattle.integers.specs.Words.{min_z, smallest_of}
-use Rattle.integers.specs.Linear.{read_back}
-use Rattle.tables.proofs.Maxima.{no-least, first-least, next-least, takes-less, keeps-less}
+use Prim.Native.Nat.{◌≤◌, ◌-◌}
+use mathlib.Core.Path.{◌≡◌}
+use lib.ListN.{length, take}
+use Rattle.integers.specs.Words.{smallest_of}
 use Rattle.tables.proofs.least.Given as goal
 
 abbrev pub invariant-loop-i : goal.invariant-loop-i

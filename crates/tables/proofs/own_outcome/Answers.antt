@@ -1,11 +1,6 @@
 use mir.Facts.{to_z-of_z}
-use mathlib.Core.Path.{◌≡◌, sym, ap, ◌∙◌}
-use mathlib.Core.Bool.{true}
-use borrow.Author.Rules.{rules}
-use borrow.Author.Tests.{not-true, not-false}
+use mathlib.Core.Path.{sym, ap, ◌∙◌}
 use Rattle.definitions.specs.Answers.{outcome_of}
-use Rattle.definitions.specs.Valid.{all_weights}
-use Rattle.tables.specs.Scopes.{holdable}
 use Rattle.tables.proofs.Ranges.{nothing_left}
 use Rattle.tables.proofs.own_outcome.Goals as goal
 

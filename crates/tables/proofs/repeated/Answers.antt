@@ -1,8 +1,6 @@
-use Prim.Native.Nat.{◌≤◌, ◌-◌}
-use mathlib.Core.Path.{◌≡◌, refl, sym, ap, ap₂, ◌∙◌}
+use mathlib.Core.Path.{sym, ap₂, ◌∙◌}
 use mathlib.Core.Bool.{◌||◌}
 use native.Mathlib.Omega.{arith}
-use Rattle.integers.specs.Words.{any, below}
 use Rattle.definitions.specs.Valid.{same_ends}
 use Rattle.tables.specs.Edges.{with_edges}
 use Rattle.tables.proofs.Search.{any_next}

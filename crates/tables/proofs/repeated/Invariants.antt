@@ -1,11 +1,8 @@
 use Prim.Native.Nat.{◌≤◌, ◌-◌}
-use mathlib.Core.Path.{◌≡◌, refl, sym, ap, ap₂, ◌∙◌}
-use mathlib.Core.Bool.{◌||◌}
-use native.Mathlib.Omega.{arith}
+use mathlib.Core.Path.{◌≡◌}
 use Rattle.integers.specs.Words.{any, below}
 use Rattle.definitions.specs.Valid.{same_ends}
 use Rattle.tables.specs.Edges.{with_edges}
-use Rattle.tables.proofs.Search.{any_next}
 use Rattle.tables.proofs.repeated.Given as goal
 
 abbrev pub invariant-loop-f : goal.invariant-loop-f

@@ -3,7 +3,6 @@ use native.Mathlib.Omega.{arith}
 use Rattle.integers.specs.Words.{all}
 use Rattle.definitions.specs.Case.{is_barred}
 use Rattle.tables.proofs.Parts.{part-barred}
-use borrow.Author.Rules.{rules}
 use Rattle.tables.proofs.scope_barred.Goals as goal
 
 pub returns : goal.returns

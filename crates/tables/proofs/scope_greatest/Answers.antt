@@ -4,7 +4,6 @@ use mir.Syntax.{w64}
 use Rattle.integers.specs.Linear.{read_back}
 use Rattle.integers.specs.Words.{greatest_of}
 use Rattle.tables.proofs.Parts.{part-greatest}
-use borrow.Author.Rules.{rules}
 use Rattle.tables.proofs.scope_greatest.Goals as goal
 
 pub returns : goal.returns

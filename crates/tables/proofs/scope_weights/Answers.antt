@@ -2,7 +2,6 @@ use mathlib.Core.Path.{sym, ◌∙◌}
 use Rattle.integers.specs.Tests.{tests}
 use Rattle.tables.specs.Scopes.{scope_weights}
 use Rattle.tables.proofs.Order.{limited-by}
-use borrow.Author.Rules.{rules}
 use Rattle.tables.proofs.scope_weights.Goals as goal
 
 pub scope_part-requires : goal.scope_part-requires

@@ -1,13 +1,7 @@
-use Prim.Native.Nat.{ℕ, ◌≤◌, ◌<◌, ◌-◌}
-use mathlib.Core.Path.{◌≡◌, ap}
-use mathlib.Core.Bool.{false, not}
+use mathlib.Core.Bool.{not}
 use native.Mathlib.Omega.{arith}
-use borrow.Author.Count.{below_more}
-use borrow.Author.Rules.{rules}
-use borrow.Author.Tests.{lt-ltb, le-ltb}
 use lib.Dec.{ltb}
-use lib.ListN.{length, get_or}
-use Rattle.tables.proofs.Search.{found_at, found_nowhere}
+use Rattle.tables.proofs.Search.{found_nowhere}
 use Rattle.tables.proofs.some_beyond.Goals as goal
 
 pub returns : goal.returns

@@ -1,10 +1,7 @@
 use Prim.Native.Nat.{ℕ, ◌≤◌, ◌<◌, ◌-◌}
-use mathlib.Core.Path.{◌≡◌, sym, ◌∙◌}
+use mathlib.Core.Path.{◌≡◌}
 use mathlib.Core.Bool.{false}
-use native.Mathlib.Omega.{arith}
-use borrow.Author.Count.{below_more}
 use Rattle.tables.specs.Edges.{with_edges, faulty}
-use Rattle.tables.proofs.Search.{found, not_found}
 use Rattle.tables.proofs.some_faulty.Given as goal
 
 abbrev pub invariant-loop-e : goal.invariant-loop-e

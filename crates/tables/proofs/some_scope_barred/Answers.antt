@@ -1,8 +1,5 @@
-use Prim.Native.Nat.{ℕ, ◌≤◌, ◌<◌, ◌-◌}
-use mathlib.Core.Path.{◌≡◌, sym, ◌∙◌}
-use mathlib.Core.Bool.{false}
+use mathlib.Core.Path.{sym, ◌∙◌}
 use native.Mathlib.Omega.{arith}
-use borrow.Author.Count.{below_more}
 use Rattle.definitions.specs.Case.{scope_count, wholly_barred}
 use Rattle.tables.proofs.Search.{found, not_found}
 use Rattle.tables.proofs.some_scope_barred.Goals as goal

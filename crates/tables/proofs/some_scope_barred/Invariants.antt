@@ -1,10 +1,7 @@
 use Prim.Native.Nat.{ℕ, ◌≤◌, ◌<◌, ◌-◌}
-use mathlib.Core.Path.{◌≡◌, sym, ◌∙◌}
+use mathlib.Core.Path.{◌≡◌}
 use mathlib.Core.Bool.{false}
-use native.Mathlib.Omega.{arith}
-use borrow.Author.Count.{below_more}
-use Rattle.definitions.specs.Case.{scope_count, wholly_barred}
-use Rattle.tables.proofs.Search.{found, not_found}
+use Rattle.definitions.specs.Case.{wholly_barred}
 use Rattle.tables.proofs.some_scope_barred.Given as goal
 
 abbrev pub invariant-loop-x : goal.invariant-loop-x

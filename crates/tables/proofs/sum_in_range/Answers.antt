@@ -1,21 +1,20 @@
 use mathlib.Core.Path.{◌≡◌, sym, ap, ◌∙◌}
 use mathlib.Core.Bool.{false}
-use Prim.Native.Nat.{ℕ, ◌+◌, ◌-◌, ◌≤◌, ◌<◌}
+use Prim.Native.Nat.{ℕ, ◌+◌, ◌<◌}
 use native.Mathlib.Omega.{arith}
-use lib.IntN.{pos, ◌+ℤ◌, +ℤ_idl}
+use lib.IntN.{pos, ◌+ℤ◌}
 use Rattle.integers.specs.Words.{within_z, minus}
 use lib.Dec.{T}
 use mir.Syntax.{w64}
 use mir.Val.{to_z, of_z}
 use mir.Facts.{to_z-of_z}
 use borrow.Author.Count.{below_more}
-use borrow.Author.Rules.{rules}
 use borrow.Author.Tests.{not-true, not-false}
 use Rattle.integers.specs.Linear.{read_back}
 use Rattle.integers.specs.Tests.{true-is}
 use Rattle.integers.specs.Sums.{Σ}
 use Rattle.definitions.specs.declared.Figure.{Figure}
-use Rattle.definitions.specs.Rules.{rules_in, rules_of, coherent}
+use Rattle.definitions.specs.Rules.{rules_of, coherent}
 use Rattle.definitions.specs.Valid.{in_working, carry_out}
 use Rattle.tables.specs.Scopes.{best_at}
 use Rattle.tables.proofs.Bounds.{sum_more, sum_fits, sum-given, sum-refused}

@@ -1,24 +1,11 @@
-use mathlib.Core.Path.{◌≡◌, sym, ap, ◌∙◌}
-use mathlib.Core.Bool.{false}
-use Prim.Native.Nat.{ℕ, ◌+◌, ◌-◌, ◌≤◌, ◌<◌}
-use native.Mathlib.Omega.{arith}
-use lib.IntN.{pos, ◌+ℤ◌, +ℤ_idl}
-use Rattle.integers.specs.Words.{within_z, minus}
+use mathlib.Core.Path.{◌≡◌}
+use Prim.Native.Nat.{ℕ, ◌-◌, ◌≤◌, ◌<◌}
+use lib.IntN.{◌+ℤ◌}
 use lib.Dec.{T}
-use mir.Syntax.{w64}
-use mir.Val.{to_z, of_z}
-use mir.Facts.{to_z-of_z}
-use borrow.Author.Count.{below_more}
-use borrow.Author.Rules.{rules}
-use borrow.Author.Tests.{not-true, not-false}
-use Rattle.integers.specs.Linear.{read_back}
-use Rattle.integers.specs.Tests.{true-is}
 use Rattle.integers.specs.Sums.{Σ}
-use Rattle.definitions.specs.declared.Figure.{Figure}
-use Rattle.definitions.specs.Rules.{rules_in, rules_of, coherent}
-use Rattle.definitions.specs.Valid.{in_working, carry_out}
+use Rattle.definitions.specs.Rules.{rules_in}
+use Rattle.definitions.specs.Valid.{in_working}
 use Rattle.tables.specs.Scopes.{best_at}
-use Rattle.tables.proofs.Bounds.{sum_more, sum_fits, sum-given, sum-refused}
 use Rattle.tables.proofs.sum_in_range.Given as goal
 
 abbrev pub invariant-loop-x : goal.invariant-loop-x

@@ -8,7 +8,6 @@ use Rattle.definitions.specs.Rules.{rules_of}
 use Rattle.definitions.specs.Valid.{within_limits}
 use Rattle.tables.specs.Scopes.{best_sum}
 use Rattle.tables.proofs.Order.{limited}
-use borrow.Author.Rules.{rules}
 use Rattle.tables.proofs.sum_of_best.Goals as goal
 use Rattle.tables.proofs.sum_of_best.Goals.{Else-not-within_limits}
 

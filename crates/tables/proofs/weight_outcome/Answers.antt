@@ -3,18 +3,12 @@ use Prim.Native.Nat.{ℕ, ◌-◌}
 use lib.IntN.{pos}
 use lib.ListN.{length, drop, length-drop}
 use mir.Facts.{to_z-of_z}
-use Rattle.tables.proofs.Search.{and-true, and-false}
+use Rattle.tables.proofs.Search.{and-true}
 use Rattle.definitions.specs.Case.{own_length}
 use Rattle.definitions.specs.Valid.{zeros_from}
 use native.Mathlib.Omega.{arith}
-use lib.Seq.{length-take-le, take_all}
+use lib.Seq.{take_all}
 use Rattle.integers.specs.Words.{all, eq_z}
-use borrow.Author.Rules.{rules}
-use Rattle.tables.proofs.weight_outcome.Reads as reads
-use Rattle.tables.proofs.weight_outcome.Lts as lts
-use Rattle.tables.proofs.all_zero.Reads as all-zero-reads
-use Rattle.tables.proofs.own_length.Reads as own-length-reads
-use Rattle.tables.proofs.own_outcome.Reads as own-outcome-reads
 use Rattle.tables.proofs.weight_outcome.Goals as goal
 use Rattle.tables.proofs.weight_outcome.Goals.{After-all_zero}
 

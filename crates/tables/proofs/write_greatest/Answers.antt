@@ -1,14 +1,6 @@
-use mathlib.Core.Path.{◌≡◌, refl, ◌∙◌}
-use Prim.Native.Nat.{ℕ, ◌+◌, ◌-◌, ◌≤◌, ◌<◌}
+use Prim.Native.Nat.{◌+◌}
 use native.Mathlib.Omega.{arith}
-use lib.IntN.{pos}
-use lib.ListN.{length, length-set}
-use lib.Seq.{get_or-set_same, get_or-set_other}
-use mir.Syntax.{w64}
-use borrow.Author.Count.{below_more}
-use Rattle.integers.specs.Linear.{read_back}
 use Rattle.definitions.specs.Case.{greatest}
-use Rattle.tables.specs.Scopes.{best_at}
 use Rattle.tables.proofs.Best.{over-is}
 use Rattle.tables.proofs.write_greatest.Goals as goal
 

@@ -1,12 +1,9 @@
-use mathlib.Core.Path.{◌≡◌, refl, sym, ◌∙◌}
-use Prim.Native.Nat.{◌-◌}
+use mathlib.Core.Path.{◌∙◌}
 use native.Mathlib.Omega.{arith}
 use native.Mathlib.Numerals.{add-one}
 use lib.IntN.{pos}
-use lib.ListN.{length, length-set}
-use borrow.Author.Rules.{rules}
-use Rattle.definitions.specs.CaseFiles.{zeroed_from}
-use Rattle.case_theory.proofs.Zeroed.{zeroed-next, zeroed-all}
+use lib.ListN.{length-set}
+use Rattle.case_theory.proofs.Zeroed.{zeroed-next}
 use Rattle.tables.proofs.zero_from.Goals as goal
 
 pub loop-i-preserved : goal.loop-i-preserved

@@ -1,24 +1,21 @@
-use mathlib.Core.Path.{◌≡◌, sym, ap, ap₂, subst, ◌∙◌}
+use mathlib.Core.Path.{◌≡◌, sym, ap, ap₂, ◌∙◌}
 use mathlib.Core.Bool.{Bool, not}
 use mathlib.Core.List.{List, [], ◌∷◌}
 use lib.IntN.{ℤ, pos}
-use lib.Signed.{◌<ℤ◌}
 use mir.Syntax.{w64}
 use Rattle.integers.specs.Words.{minus}
 use Rattle.integers.specs.Linear.{read_back}
 use Rattle.definitions.specs.declared.Case.{Case}
 use Rattle.definitions.specs.declared.Outcome.{Outcome}
 use Rattle.definitions.specs.declared.Refusal.TheVariants.{WeightOutOfRange}
-use Rattle.definitions.specs.Rules.{coherent, rules_of}
+use Rattle.definitions.specs.Rules.{rules_of}
 use Rattle.definitions.specs.Refusals.{◌when◌, first_refusal}
 use Rattle.definitions.specs.Answers.{outcome_of}
-use Rattle.definitions.specs.Case.{own_length, barred_weight}
+use Rattle.definitions.specs.Case.{own_length}
 use Rattle.definitions.specs.Valid.{starting_weight, working_weight, all_weights, zeros_from, same_bars, scope_test}
 use Rattle.tables.specs.Scopes.{tuple_tests}
 use Rattle.tables.specs.Both.{is_first}
-use Rattle.tables.proofs.Ranges.{working-above}
-use Rattle.tables.proofs.Paired.{rest-asked, first-fails}
-use borrow.Author.Rules.{rules}
+use Rattle.tables.proofs.Paired.{rest-asked}
 use Rattle.tables.proofs.both.both_outcome.Goals as goal
 use Rattle.tables.proofs.both.both_outcome.Goals.{After-is_first}
 

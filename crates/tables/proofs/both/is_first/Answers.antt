@@ -8,8 +8,7 @@ use mir.Facts.{to_z-of_z}
 use Rattle.integers.specs.Words.{all, eq_z}
 use Rattle.definitions.specs.Case.{own_length}
 use Rattle.definitions.specs.Valid.{zeros_from}
-use Rattle.tables.proofs.Paired.{first-paired, first_past}
-use borrow.Author.Rules.{rules}
+use Rattle.tables.proofs.Paired.{first-paired}
 use Rattle.tables.proofs.both.is_first.Goals as goal
 use Rattle.tables.proofs.both.is_first.Goals.{After-all_zero, Start}
 
