@@ -1,0 +1,23 @@
+use mathlib.Core.Path.{sym, ap, ◌∙◌}
+use mathlib.Core.Logic.{◌≢◌}
+use native.Mathlib.Omega.{arith}
+use lib.ListN.{length, drop, length-drop}
+use Rattle.definitions.specs.Answers.{outcome_of}
+use Rattle.casefile.proofs.Heads.{front}
+use Rattle.casefile.proofs.Alone.{rest-empty, rest-refused, rest_read}
+use borrow.Author.Rules.{rules}
+use Rattle.casefile.proofs.check_rest.Goals as goal
+
+pub returns-in-Refused : goal.returns-in-Refused
+returns-in-Refused c =
+    let a = c.args in
+    let t = drop a.from a.bytes.now in
+    let n : length t ≢ 0 = λ z. c.if-from-bytes.false (omega (arith, length-drop a.from a.bytes.now, z, c.requires)) in
+    sym (ap outcome_of (rest-refused a.rulebook t n (front a.rulebook t) (sym c.line_at-read.ensures ∙ c.in-Refused.is)))
+
+pub returns-in-Read : goal.returns-in-Read
+returns-in-Read c =
+    let a = c.args in
+    let t = drop a.from a.bytes.now in
+    let n : length t ≢ 0 = λ z. c.if-from-bytes.false (omega (arith, length-drop a.from a.bytes.now, z, c.requires)) in
+    sym (ap outcome_of (rest_read a.rulebook t n (front a.rulebook t) (sym c.line_at-read.ensures ∙ c.in-Read.is)))

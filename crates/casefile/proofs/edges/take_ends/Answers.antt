@@ -1,0 +1,27 @@
+use mathlib.Core.Path.{sym, ap, ◌∙◌}
+use native.Mathlib.Omega.{arith}
+use mir.Syntax.{w64}
+use lib.IntN.{nat_abs}
+use lib.ListN.{set}
+use Rattle.integers.specs.Linear.{read_back}
+use Rattle.tables.proofs.Order.{outcome-done}
+use Rattle.casefile.proofs.Taken.{ends-known, edge-refused, ends-left}
+use borrow.Author.Rules.{rules}
+use Rattle.casefile.proofs.edges.take_ends.Goals as goal
+
+pub returns-in-Refused : goal.returns-in-Refused
+returns-in-Refused c =
+    let a = c.args in
+    edge-refused a.sizes.n a.lower.now a.upper.now a.e a.line
+    (set a.lower.now a.e (nat_abs a.line.b)) (set a.upper.now a.e (nat_abs a.line.c))
+    (sym c.in-Refused.is ∙ c.check_ends-checked.ensures)
+
+pub returns-in-Done : goal.returns-in-Done
+returns-in-Done c =
+    let a = c.args in
+    rw (ends-left a.sizes.n a.lower.now a.upper.now a.e a.line
+    (sym c.in-Done.is ∙ c.check_ends-checked.ensures))
+    (rw (
+      c.end_of.ensures ∙ ap nat_abs (read_back w64 a.line.b c.struct_told-1.given.1.1.0.1),
+      c.end_of-in-Done.ensures ∙ ap nat_abs (read_back w64 a.line.c c.struct_told-in-Done-1.given.1.1.1.0.1),
+    ) at c.join.ensures)

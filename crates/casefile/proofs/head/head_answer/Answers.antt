@@ -1,0 +1,14 @@
+use mathlib.Core.Path.{sym, ◌∙◌}
+use borrow.Author.Tests.{not-true, not-false}
+use Rattle.casefile.proofs.Heads.{head-kind, head-limits, head-good, limits-few}
+use Rattle.integers.specs.Tests.{true-is}
+use Rattle.casefile.specs.Reads.{limits_z}
+use borrow.Author.Rules.{rules}
+use Rattle.casefile.proofs.head.head_answer.Goals as goal
+
+pub head_size-requires : goal.head_size-requires
+head_size-requires c =
+    let a = c.args in
+    let l = a.line in
+    limits-few a.rulebook l.a l.b l.c (true-is (limits_z a.rulebook l.a l.b l.c)
+    (sym c.head_limited.ensures ∙ not-false _ c.if-not-head_limited.false-raw))

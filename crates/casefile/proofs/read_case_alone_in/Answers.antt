@@ -1,0 +1,9 @@
+use Rattle.definitions.specs.CaseFiles.{read_lines_alone}
+use Rattle.casefile.proofs.Zeroing.{handed-past, alone-few}
+use borrow.Author.Rules.{rules}
+use Rattle.casefile.proofs.read_case_alone_in.Goals as goal
+
+pub zero_past-requires : goal.zero_past-requires
+zero_past-requires c =
+    let a = c.args in
+    alone-few a.rulebook a.bytes.now a.table.now c.read_lines_alone_in-read.ensures.0
