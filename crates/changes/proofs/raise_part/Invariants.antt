@@ -1,0 +1,23 @@
+use mathlib.Core.Path.{◌≡◌, refl, ap, ◌∙◌}
+use Prim.Native.Nat.{ℕ, ◌-◌, ◌≤◌, ◌<◌}
+use native.Mathlib.Omega.{arith}
+use lib.IntN.{ℤ, pos}
+use lib.ListN.{length, get_or, length-set}
+use lib.Seq.{get_or-set_same, get_or-set_other}
+use mir.Syntax.{w64}
+use mir.Val.{to_z, of_z}
+use mir.Facts.{to_z-of_z}
+use borrow.Author.Count.{below_more}
+use Rattle.integers.specs.Linear.{read_back}
+use Rattle.changes.specs.Spaced.{weight_with}
+use Rattle.changes.specs.Scopes.{raised_by, weight_after}
+use Rattle.changes.proofs.ScopeLaws.{after_is}
+use Rattle.changes.proofs.raise_part.Given as goal
+
+abbrev pub invariant-loop-at : goal.invariant-loop-at
+invariant-loop-at l = (l.at ≤ length l.initial.part) × (length l.part ≡ length l.initial.part)
+    × ((k : ℕ) → k < l.at → get_or l.part k (pos 0) ≡ weight_after (raised_by (l.best) (l.rest)) l.initial.part k)
+    × ((k : ℕ) → l.at ≤ k → get_or l.part k (pos 0) ≡ get_or l.initial.part k (pos 0))
+
+abbrev pub decreases-loop-at : goal.decreases-loop-at
+decreases-loop-at l = length l.initial.part - l.at

@@ -1,0 +1,39 @@
+use mathlib.Core.Path.{sym, ap, ◌∙◌}
+use mathlib.Core.Bool.{Bool}
+use mathlib.Core.List.{List}
+use Prim.Native.Nat.{ℕ, ◌+◌}
+use lib.IntN.{ℤ}
+use lib.ListN.{set}
+use mir.Facts.{to_z-of_z}
+use Rattle.definitions.specs.Rules.{rules_of}
+use Rattle.definitions.specs.Case.{greatest}
+use Rattle.changes.specs.Kept.{Change, transfer_change, stays_working}
+use Rattle.changes.proofs.TransferLaws.{transfer-best}
+use Rattle.changes.proofs.KeptLaws.{kept-refused, kept-done}
+use borrow.Author.Rules.{rules}
+use Rattle.changes.proofs.transfer_kept.Goals as goal
+use Rattle.changes.proofs.transfer_kept.Goals.{Start}
+
+abbrev change : (s : Start) → Change
+change s = let a = s.args in transfer_change a.case a.edge a.end a.value a.amount
+
+abbrev stays : (s : Start) → Bool
+stays s = let a = s.args in stays_working (rules_of a.case) a.case a.table.now (change s)
+
+pub returns-in-Refused : goal.returns-in-Refused
+returns-in-Refused c =
+    let a = c.args in
+    let r = rw (to_z-of_z c.ranges.amount) at c.transfer_checked-made.ensures in
+    kept-refused a.case a.table.now a.best.now (change (goal.at.returns-in-Refused c).Start) (stays (goal.at.returns-in-Refused c).Start) (sym c.in-Refused.is ∙ r.value) r.table_after
+
+pub returns-in-Done : goal.returns-in-Done
+returns-in-Done c =
+    let a = c.args in
+    let r = rw (to_z-of_z c.ranges.amount) at c.transfer_checked-made.ensures in
+    let t = c.transfer_checked-made.new.table in
+    let x = a.case.n + a.edge in
+    kept-done a.case a.table.now a.best.now (change (goal.at.returns-in-Done c).Start) (stays (goal.at.returns-in-Done c).Start) (sym c.in-Done.is ∙ r.value) r.table_after
+    (λ d. c.keep_greatest-in-Done.ensures
+    ∙ ap (λ (b : List ℤ). set b x (greatest a.case t x))
+    (c.keep_greatest.ensures ∙ ap (λ (x : ℕ). set a.best.now x (greatest a.case t x)) c.end_variable.ensures)
+    ∙ transfer-best a.case a.edge a.end a.value a.amount a.table.now a.best.now c.requires.limited.2 c.requires.edge_lt_m.0 c.requires.edge_lt_m.3 d)
