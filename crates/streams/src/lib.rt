@@ -7,7 +7,7 @@ ghost use Rattle.definitions.specs.Places.{input_places, table_places};
 ghost use Rattle.streams.specs.Streams.{is_over, is_failed, Fills, printed_part};
 
 use definitions::{INPUT_PLACES, TABLE_PLACES, Written};
-use libc::STDIN_FILENO;
+use std::io::Read;
 
 // Where the bytes in the buffer end, and what the last read answered: a count of bytes, 0 at the end of the input, -1 where it failed. Where the
 // buffer is full and no read was made it is 1.
@@ -18,15 +18,17 @@ pub struct Filled {
 }
 
 // One read to the bytes from `at` on.
-fn read_to(buf: &mut [u8], at: usize) -> Filled
+fn read_to(input: &mut impl Read, buf: &mut [u8], at: usize) -> Filled
     requires { at ≤ length buf.old }
     ensures { (result.to ≡ at + clamp_len result.got (length buf.old - at)) × (take at buf.new ≡ take at buf.old) }
 {
     let part = &mut buf[at..];
-    let got = libc::read(STDIN_FILENO, part);
-    Filled {
-        to: at + io::count(got, part),
-        got,
+    match input.read(part) {
+        Ok(count) => Filled {
+            to: at + count,
+            got: count as isize,
+        },
+        Err(_) => Filled { to: at, got: -1 },
     }
 }
 
@@ -44,13 +46,13 @@ pub fn is_failed(filled: Filled) -> bool
 }
 
 // Reads to the bytes from `from` on until the buffer is full, the input ends or a read fails.
-pub fn fill(buf: &mut [u8], from: usize) -> Filled
+pub fn fill(input: &mut impl Read, buf: &mut [u8], from: usize) -> Filled
     ensures { Fills from buf.old result buf.new }
 {
     let mut filled = Filled { to: from, got: 1 };
     while filled.to < buf.len() {
         let at = filled.to;
-        filled = read_to(buf, at);
+        filled = read_to(input, buf, at);
         if is_over(filled) {
             return filled;
         }
