@@ -8,7 +8,6 @@ use Rattle.definitions.specs.Answers.{outcome_of}
 use Rattle.definitions.specs.Case.{scope_count}
 use Rattle.arcs.specs.Active.{Sized, length_refusal, marks_refusal}
 use Rattle.arcs.proofs.Prepared.{marks-refused, marks-done, marks-asked}
-use borrow.Author.Rules.{rules}
 use Rattle.arcs.proofs.active_marks.Goals as goal
 use Rattle.arcs.proofs.active_marks.Goals.{After-check_lengths-checked, In-Done}
 

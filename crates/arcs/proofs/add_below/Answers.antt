@@ -1,8 +1,8 @@
-use mathlib.Core.Path.{◌≡◌, sym, ◌∙◌}
+use mathlib.Core.Path.{sym, ◌∙◌}
 use native.Mathlib.Omega.{arith}
-use lib.ListN.{length, length-set}
+use lib.ListN.{length-set}
 use Rattle.arcs.proofs.Search.{lowest-struck}
-use Rattle.arcs.proofs.Crossing.{Adding, adding-start, adding-small, adding-next, adding-end}
+use Rattle.arcs.proofs.Crossing.{adding-small, adding-next, adding-end}
 use Rattle.arcs.proofs.add_below.Goals as goal
 
 pub bounds-bytes-at : goal.bounds-bytes-at

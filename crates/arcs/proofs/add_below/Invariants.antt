@@ -1,8 +1,6 @@
-use mathlib.Core.Path.{◌≡◌, sym, ◌∙◌}
-use native.Mathlib.Omega.{arith}
-use lib.ListN.{length, length-set}
-use Rattle.arcs.proofs.Search.{lowest-struck}
-use Rattle.arcs.proofs.Crossing.{Adding, adding-start, adding-small, adding-next, adding-end}
+use mathlib.Core.Path.{◌≡◌}
+use lib.ListN.{length}
+use Rattle.arcs.proofs.Crossing.{Adding}
 use Rattle.arcs.proofs.add_below.Given as goal
 
 abbrev pub invariant-loop-left : goal.invariant-loop-left

@@ -1,14 +1,10 @@
-use mathlib.Core.Path.{◌≡◌, sym, ap, ◌∙◌}
+use mathlib.Core.Path.{ap, ◌∙◌}
 use Prim.Native.Nat.{◌*◌, ◌≤◌}
 use native.Mathlib.Omega.{arith}
-use lib.ListN.{length}
-use lib.Seq.{length-take-le}
-use Rattle.definitions.specs.Rules.{edge_places}
 use Rattle.arcs.specs.Closure.{row_places}
 use Rattle.arcs.specs.Best.{is_unsupported}
 use Rattle.arcs.proofs.Crossing.{zeros-at}
 use Rattle.arcs.proofs.Best.{prepared-answer}
-use borrow.Author.Rules.{rules}
 use Rattle.arcs.proofs.are_unsupported.Goals as goal
 use Rattle.arcs.proofs.are_unsupported.Goals.{Start}
 

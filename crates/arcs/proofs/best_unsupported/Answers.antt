@@ -1,7 +1,6 @@
 use mathlib.Core.Path.{◌≡◌, sym, ap, ◌∙◌}
 use mathlib.Core.Bool.{Bool}
 use Prim.Native.Nat.{◌≤◌, ◌<◌}
-use native.Mathlib.Omega.{arith}
 use lib.IntN.{ℤ, pos}
 use lib.ListN.{length, get_or}
 use mir.Syntax.{w64}
@@ -54,6 +53,6 @@ returns-in-Done c =
     ∙ ap (are_unsupported a.case a.table.now a.best.now a.raised.now a.variable)
     (c.set_with-values.ensures
     ∙ ap (λ (b : ℤ). set_where a.case (has_weight a.case a.table.now b) a.variable)
-    (read_back w64 (get_or a.best.now a.variable (pos 0)) c.set_with-arg-1.given)))
+    (read_back w64 (get_or a.best.now a.variable (pos 0)) (search rules))))
     ∙ answer-given a.case a.table.now a.best.now a.raised.now a.variable (right (goal.at.returns-in-Done c).In-Done)
     (set_where a.case (has_best a.case a.table.now a.best.now) a.variable)

@@ -1,5 +1,5 @@
 use mathlib.Core.Path.{◌≡◌, ap, ◌∙◌}
-use Prim.Native.Nat.{◌+◌, ◌-◌, ◌≤◌}
+use Prim.Native.Nat.{◌+◌, ◌-◌}
 use native.Mathlib.Omega.{arith}
 use lib.IntN.{ℤ, pos}
 use lib.ListN.{get_or}
@@ -9,6 +9,7 @@ use Rattle.integers.specs.Words.{eq_z}
 use Rattle.integers.specs.Linear.{read_back}
 use Rattle.arcs.specs.Active.{best_marks}
 use Rattle.arcs.proofs.Marked.{values_from, values-none, values-next, values-all}
+use borrow.Author.Rules.{rules}
 use Rattle.arcs.proofs.best_values.Goals as goal
 
 pub loop-j-init : goal.loop-j-init
@@ -18,7 +19,7 @@ pub loop-j-preserved : goal.loop-j-preserved
 loop-j-preserved c =
     let a = c.args in
     let l = c.loop-j in
-    let read = read_back w64 (get_or a.table.now (a.from + (l.j - 1)) (pos 0)) c.weight-1.given in (
+    let read = read_back w64 (get_or a.table.now (a.from + (l.j - 1)) (pos 0)) (search rules) in (
       omega (arith, l.invariant.0),
       values-next _ a.d l.j (l.j - 1) (omega (arith, c.loop-j-test.true))
           (omega (arith, c.loop-j-test.true, l.invariant.0)) _ _ _ l.invariant.1

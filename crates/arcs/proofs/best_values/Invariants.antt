@@ -1,14 +1,9 @@
-use mathlib.Core.Path.{◌≡◌, ap, ◌∙◌}
-use Prim.Native.Nat.{◌+◌, ◌-◌, ◌≤◌}
-use native.Mathlib.Omega.{arith}
-use lib.IntN.{ℤ, pos}
+use mathlib.Core.Path.{◌≡◌}
+use Prim.Native.Nat.{◌+◌, ◌≤◌}
+use lib.IntN.{pos}
 use lib.ListN.{get_or}
-use mir.Syntax.{w64}
-use mir.Val.{to_z, of_z}
 use Rattle.integers.specs.Words.{eq_z}
-use Rattle.integers.specs.Linear.{read_back}
-use Rattle.arcs.specs.Active.{best_marks}
-use Rattle.arcs.proofs.Marked.{values_from, values-none, values-next, values-all}
+use Rattle.arcs.proofs.Marked.{values_from}
 use Rattle.arcs.proofs.best_values.Given as goal
 
 abbrev pub invariant-loop-j : goal.invariant-loop-j

@@ -6,8 +6,6 @@ use Rattle.definitions.specs.Answers.{outcome_of}
 use Rattle.arcs.specs.Active.{length_refusal}
 use Rattle.arcs.specs.Best.{too_few}
 use Rattle.arcs.proofs.Prepared.{lengths-known}
-use Rattle.arcs.proofs.Best.{lengths-refused, arguments-refused, arguments-taken}
-use borrow.Author.Rules.{rules}
 use Rattle.arcs.proofs.check_arguments.Goals as goal
 use Rattle.arcs.proofs.check_arguments.Goals.{After-check_lengths-checked, In-Done}
 

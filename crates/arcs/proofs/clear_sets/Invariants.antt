@@ -1,9 +1,6 @@
-use mathlib.Core.Path.{◌≡◌, refl}
+use mathlib.Core.Path.{◌≡◌}
 use Prim.Native.Nat.{ℕ, ◌-◌, ◌≤◌, ◌<◌}
-use native.Mathlib.Omega.{arith}
-use lib.ListN.{length, get_or, length-set}
-use Rattle.arcs.proofs.Steps.{after-set}
-use Rattle.arcs.proofs.Results.{all-zero}
+use lib.ListN.{length, get_or}
 use Rattle.arcs.proofs.clear_sets.Given as goal
 
 abbrev pub invariant-loop-j : goal.invariant-loop-j

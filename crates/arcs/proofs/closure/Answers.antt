@@ -1,7 +1,6 @@
 use mathlib.Core.Path.{sym, ◌∙◌}
 use native.Mathlib.Omega.{arith}
 use Rattle.arcs.proofs.Results.{malformed-answer, well-formed, family-answer, empty-answer}
-use borrow.Author.Rules.{rules}
 use Rattle.arcs.proofs.closure.Goals as goal
 
 pub returns-then-is_malformed : goal.returns-then-is_malformed
@@ -22,7 +21,7 @@ returns-then-narrow c =
     let s = c.args in
     let h = family-answer s.lower.now s.upper.now s.rows.now s.raised.now s.sets.now
     (sym c.is_malformed.ensures ∙ c.if-is_malformed.false) c.narrow.new.sets c.narrow.auto.sets
-    (λ j. omega (arith, c.slice_known-2-1.given j))
+    (λ j. omega (arith, c.type_inv.sets j))
     _ c.if-narrow.true
     c.narrow.ensures in
     record { value = h.0; sets_after = h.1 }

@@ -1,9 +1,6 @@
-use mathlib.Core.Path.{◌≡◌, ap, sym, ◌∙◌}
+use mathlib.Core.Path.{◌≡◌}
 use Prim.Native.Nat.{ℕ, ◌-◌, ◌≤◌, ◌<◌}
-use native.Mathlib.Omega.{arith}
-use lib.ListN.{length, get_or, length-set}
-use lib.Seq.{ext_get_or}
-use Rattle.arcs.proofs.Steps.{after-set}
+use lib.ListN.{length, get_or}
 use Rattle.arcs.proofs.copy_sets.Given as goal
 
 abbrev pub invariant-loop-j : goal.invariant-loop-j

@@ -1,13 +1,8 @@
-use mathlib.Core.Path.{◌≡◌, subst, ◌∙◌}
-use Prim.Native.Nat.{ℕ, ◌+◌, ◌*◌, ◌-◌, ◌≤◌}
+use mathlib.Core.Path.{◌∙◌}
+use Prim.Native.Nat.{ℕ}
 use native.Mathlib.Omega.{arith}
-use lib.IntN.{ℤ}
-use lib.ListN.{length, length-set, length-replicate}
-use mir.Syntax.{w64}
-use mir.Val.{to_z, of_z}
-use Rattle.integers.specs.Linear.{read_back}
-use Rattle.arcs.specs.Active.{best_marks, Crossed}
-use Rattle.arcs.proofs.Crossing.{crossed-none, crossed-next, row_room}
+use lib.ListN.{length-set, length-replicate}
+use Rattle.arcs.proofs.Crossing.{crossed-none, crossed-next}
 use Rattle.arcs.proofs.edge_bytes.Goals as goal
 
 pub loop-k-init : goal.loop-k-init

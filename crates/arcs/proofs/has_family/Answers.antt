@@ -1,15 +1,16 @@
-use mathlib.Core.Path.{ap, sym, ◌∙◌}
+use mathlib.Core.Path.{sym}
 use native.Mathlib.Omega.{arith}
-use lib.ListN.{length}
 use Rattle.marks.proofs.Laws.{mark-small}
-use Rattle.arcs.proofs.Trying.{only-filled, copy-length, copy-filled, copy-well, alone-family}
-use borrow.Author.Rules.{rules}
+use Rattle.arcs.proofs.Trying.{only-filled, copy-filled, copy-well, alone-family}
 use Rattle.arcs.proofs.has_family.Goals as goal
 
 pub settle-requires : goal.settle-requires
 settle-requires c =
-    let k = mark-small _ _ (omega (arith, c.shared_slice_known-5-1.given c.args.variable)) c.requires.t in record { well_formed = copy-well c.args.sets.now c.args.variable c.requires.filled.1 _ _ c.copy_sets.ensures _ _ _ _ c.requires.well_formed; filled = copy-filled c.args.sets.now c.args.variable c.requires.filled.1 _ _ c.copy_sets.ensures (only-filled _ _ c.only.ensures k)
-          c.requires.filled.0 }
+    let k = mark-small _ _ (omega (arith, c.type_inv.sets c.args.variable)) c.requires.t in record {
+      well_formed = copy-well c.args.sets.now c.args.variable c.requires.filled.1 _ _ c.copy_sets.ensures _ _ _ _ c.requires.well_formed;
+      filled = copy-filled c.args.sets.now c.args.variable c.requires.filled.1 _ _ c.copy_sets.ensures (only-filled _ _ c.only.ensures k)
+          c.requires.filled.0;
+    }
 
 pub returns : goal.returns
 returns c =

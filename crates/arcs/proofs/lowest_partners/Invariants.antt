@@ -1,11 +1,7 @@
-use mathlib.Core.Path.{◌≡◌, refl, sym, ap, ◌∙◌}
-use mathlib.Core.Logic.{⊎_elim}
-use Prim.Native.Nat.{ℕ, ◌<◌}
-use native.Mathlib.Omega.{arith}
-use lib.ListN.{length, get_or, length-set}
-use Rattle.arcs.specs.Partners.{lowest_in_both, byte_of_partner, lowest_partners}
-use Rattle.arcs.proofs.Search.{lowest-struck, lowest_step, lowest-at, lowest-none}
-use Rattle.arcs.proofs.Places.{value-small, none_left, no_row, no_place, value_written}
+use mathlib.Core.Path.{◌≡◌}
+use Prim.Native.Nat.{◌<◌}
+use lib.ListN.{length, get_or}
+use Rattle.arcs.specs.Partners.{lowest_in_both, lowest_partners}
 use Rattle.arcs.proofs.lowest_partners.Given as goal
 
 abbrev pub invariant-partners : goal.invariant-partners

@@ -1,6 +1,5 @@
 use mathlib.Core.Path.{sym, ◌∙◌}
-use Rattle.arcs.proofs.Results.{some-empty, no-set-empty}
-use borrow.Author.Rules.{rules}
+use Rattle.arcs.proofs.Results.{some-empty}
 use Rattle.arcs.proofs.narrow.Goals as goal
 
 pub returns-then-has_empty : goal.returns-then-has_empty

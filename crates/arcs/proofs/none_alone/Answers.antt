@@ -1,9 +1,6 @@
-use mathlib.Core.Path.{◌≡◌, sym, ◌∙◌}
-use lib.ListN.{length, get_or}
-use Rattle.arcs.specs.Closure.{network_of_bytes}
-use Rattle.arcs.specs.Tried.{has_family}
+use mathlib.Core.Path.{sym, ◌∙◌}
 use Rattle.arcs.proofs.Search.{lowest-struck}
-use Rattle.arcs.proofs.Trying.{Trying, trying_start, trying-end, tried-own, trying-found, trying-next, outside-none}
+use Rattle.arcs.proofs.Trying.{trying_start, trying-end, tried-own, trying-found, trying-next, outside-none}
 use Rattle.arcs.proofs.none_alone.Goals as goal
 
 pub loop-untried-init : goal.loop-untried-init

@@ -1,9 +1,8 @@
-use mathlib.Core.Path.{◌≡◌, sym, ◌∙◌}
+use mathlib.Core.Path.{◌≡◌}
 use lib.ListN.{length, get_or}
 use Rattle.arcs.specs.Closure.{network_of_bytes}
 use Rattle.arcs.specs.Tried.{has_family}
-use Rattle.arcs.proofs.Search.{lowest-struck}
-use Rattle.arcs.proofs.Trying.{Trying, trying_start, trying-end, tried-own, trying-found, trying-next, outside-none}
+use Rattle.arcs.proofs.Trying.{Trying}
 use Rattle.arcs.proofs.none_alone.Given as goal
 
 abbrev pub invariant-loop-untried : goal.invariant-loop-untried

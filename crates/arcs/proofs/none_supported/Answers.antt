@@ -1,18 +1,15 @@
-use mathlib.Core.Path.{◌≡◌, ap, sym, ◌∙◌}
-use mathlib.Core.Bool.{Bool, false}
-use Prim.Native.Nat.{◌≤◌, ◌<◌}
+use mathlib.Core.Path.{ap, sym, ◌∙◌}
+use mathlib.Core.Bool.{Bool}
+use Prim.Native.Nat.{◌≤◌}
 use native.Mathlib.Omega.{arith}
 use lib.ListN.{length}
 use lib.Seq.{length-take-le}
 use Rattle.integers.specs.Words.{if◌then◌else◌}
 use Rattle.arcs.specs.declared.Tried.{Tried}
 use Rattle.definitions.specs.Rules.{variable_places}
-use Rattle.arcs.specs.Closure.{is_malformed}
-use Rattle.arcs.specs.Sweeps.{Filled}
 use Rattle.arcs.proofs.Results.{well-formed, no-set-empty}
 use Rattle.arcs.proofs.Trying.{empty-none}
 use Rattle.arcs.proofs.Refutation.{too_many, no-variable, malformed, tried-known}
-use borrow.Author.Rules.{rules}
 use Rattle.arcs.proofs.none_supported.Goals as goal
 
 pub returns-then-n-gt-VARIABLE_PLACES : goal.returns-then-n-gt-VARIABLE_PLACES

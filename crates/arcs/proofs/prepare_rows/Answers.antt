@@ -1,10 +1,10 @@
-use mathlib.Core.Path.{◌≡◌, subst, ◌∙◌}
-use Prim.Native.Nat.{ℕ, ◌*◌, ◌-◌, ◌≤◌}
+use mathlib.Core.Path.{◌≡◌, subst}
+use Prim.Native.Nat.{ℕ, ◌*◌}
 use native.Mathlib.Omega.{arith}
 use lib.ListN.{get_or}
 use Rattle.arcs.specs.Active.{Written}
 use Rattle.arcs.specs.Best.{partners_best, best_rows}
-use Rattle.arcs.proofs.Marked.{written_none, rows_of, edge-written}
+use Rattle.arcs.proofs.Marked.{rows_of, edge-written}
 use Rattle.arcs.proofs.prepare_rows.Goals as goal
 
 pub loop-e-preserved : goal.loop-e-preserved

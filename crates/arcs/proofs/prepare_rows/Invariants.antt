@@ -1,10 +1,8 @@
-use mathlib.Core.Path.{◌≡◌, subst, ◌∙◌}
-use Prim.Native.Nat.{ℕ, ◌*◌, ◌-◌, ◌≤◌}
-use native.Mathlib.Omega.{arith}
+use Prim.Native.Nat.{◌*◌, ◌-◌, ◌≤◌}
 use lib.ListN.{get_or}
 use Rattle.arcs.specs.Active.{Written}
-use Rattle.arcs.specs.Best.{partners_best, best_rows}
-use Rattle.arcs.proofs.Marked.{written_none, rows_of, edge-written}
+use Rattle.arcs.specs.Best.{partners_best}
+use Rattle.arcs.proofs.Marked.{rows_of}
 use Rattle.arcs.proofs.prepare_rows.Given as goal
 
 abbrev pub invariant-loop-e : goal.invariant-loop-e

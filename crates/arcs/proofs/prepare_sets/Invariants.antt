@@ -1,9 +1,6 @@
-use mathlib.Core.Path.{◌≡◌, subst}
-use Prim.Native.Nat.{ℕ, ◌-◌, ◌≤◌}
-use native.Mathlib.Omega.{arith}
+use Prim.Native.Nat.{◌-◌, ◌≤◌}
 use Rattle.arcs.specs.Active.{Written}
 use Rattle.arcs.specs.Best.{allowed_best}
-use Rattle.arcs.proofs.Marked.{written_none, written_next}
 use Rattle.arcs.proofs.prepare_sets.Given as goal
 
 abbrev pub invariant-loop-j : goal.invariant-loop-j

@@ -1,9 +1,6 @@
-use mathlib.Core.Path.{◌≡◌, refl, subst}
-use Prim.Native.Nat.{ℕ, ◌-◌, ◌≤◌}
-use native.Mathlib.Omega.{arith}
+use Prim.Native.Nat.{◌-◌, ◌≤◌}
 use lib.ListN.{get_or}
 use Rattle.arcs.specs.Active.{Written}
-use Rattle.arcs.proofs.Marked.{written_none, written-more}
 use Rattle.arcs.proofs.put_bytes.Given as goal
 
 abbrev pub invariant-loop-p : goal.invariant-loop-p

@@ -1,10 +1,7 @@
-use mathlib.Core.Path.{◌≡◌, sym, ◌∙◌}
+use mathlib.Core.Path.{◌≡◌}
 use mathlib.Core.Bool.{false}
 use Prim.Native.Nat.{ℕ, ◌-◌, ◌≤◌, ◌<◌}
-use native.Mathlib.Omega.{arith}
-use borrow.Author.Count.{below_more}
 use Rattle.arcs.specs.Closure.{end_missing}
-use Rattle.tables.proofs.Search.{found, not_found}
 use Rattle.arcs.proofs.some_end_outside.Given as goal
 
 abbrev pub invariant-loop-e : goal.invariant-loop-e

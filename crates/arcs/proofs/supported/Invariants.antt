@@ -1,10 +1,8 @@
-use mathlib.Core.Path.{◌≡◌, ap, ◌∙◌}
-use mathlib.Core.Bool.{Bool}
-use Prim.Native.Nat.{ℕ, ◌+◌, ◌-◌, ◌≤◌}
-use native.Mathlib.Omega.{arith}
+use mathlib.Core.Path.{◌≡◌}
+use Prim.Native.Nat.{◌+◌, ◌-◌, ◌≤◌}
 use lib.ListN.{get_or}
-use Rattle.arcs.specs.Partners.{is_nothing, has_partner, supported_values}
-use Rattle.arcs.proofs.Search.{nothing-found, kept_below, kept-none, kept-one-more, kept-all}
+use Rattle.arcs.specs.Partners.{has_partner}
+use Rattle.arcs.proofs.Search.{kept_below}
 use Rattle.arcs.proofs.supported.Given as goal
 
 abbrev pub invariant-loop-k : goal.invariant-loop-k

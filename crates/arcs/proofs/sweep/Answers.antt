@@ -1,14 +1,5 @@
-use mathlib.Core.Path.{◌≡◌, refl}
-use mathlib.Core.List.{List}
-use Prim.Native.Nat.{ℕ, ◌+◌, ◌-◌, ◌≤◌, ◌<◌}
 use native.Mathlib.Omega.{arith}
-use lib.ListN.{length}
-use Rattle.networks.specs.Network.{Network}
-use Rattle.arcs.specs.Closure.{network_of_bytes}
-use Rattle.arcs.specs.Sweeps.{Swept, both_of}
-use Rattle.arcs.specs.declared.Change.{Change}
-use Rattle.arcs.specs.declared.Change.TheVariants.{Emptied}
-use Rattle.arcs.proofs.Steps.{swept_none, swept_of, swept-more, emptied-more, swept-emptied, well-same}
+use Rattle.arcs.proofs.Steps.{swept-more}
 use Rattle.arcs.proofs.sweep.Goals as goal
 use Rattle.arcs.proofs.sweep.Goals.{After-revise_edge-next}
 

@@ -11,7 +11,6 @@ use Rattle.definitions.specs.Case.{scope_count}
 use Rattle.arcs.specs.Active.{Sized}
 use Rattle.arcs.specs.Best.{best_refusal}
 use Rattle.arcs.proofs.Best.{answer-refused, answer-given, best-arguments-known}
-use borrow.Author.Rules.{rules}
 use Rattle.arcs.proofs.values_unsupported.Goals as goal
 use Rattle.arcs.proofs.values_unsupported.Goals.{In-Done}
 

@@ -1,12 +1,10 @@
 use mathlib.Core.Path.{ap, ◌∙◌}
-use native.Mathlib.Omega.{arith}
 use lib.IntN.{ℤ}
 use mir.Syntax.{w64}
 use Rattle.integers.specs.Linear.{read_back}
 use Rattle.arcs.specs.Active.{row_where, has_weight}
 use Rattle.arcs.proofs.Marked.{written_as}
-use Rattle.arcs.proofs.Scopes.{few, edge-room, crossed-row}
-use borrow.Author.Rules.{rules}
+use Rattle.arcs.proofs.Scopes.{crossed-row}
 use Rattle.arcs.proofs.write_edge.Goals as goal
 
 pub returns : goal.returns

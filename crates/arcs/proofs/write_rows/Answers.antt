@@ -1,12 +1,12 @@
 use mathlib.Core.Path.{◌≡◌, ap, subst}
-use Prim.Native.Nat.{ℕ, ◌+◌, ◌*◌, ◌-◌, ◌≤◌}
+use Prim.Native.Nat.{ℕ, ◌+◌, ◌*◌}
 use native.Mathlib.Omega.{arith}
 use lib.IntN.{ℤ, pos}
 use lib.ListN.{get_or}
 use mir.Syntax.{w64}
 use Rattle.integers.specs.Linear.{read_back}
 use Rattle.arcs.specs.Active.{row_where, has_weight, has_best, Written}
-use Rattle.arcs.proofs.Marked.{written_none, written_as, rows_of, edge-written, rows_written}
+use Rattle.arcs.proofs.Marked.{written_as, rows_of, edge-written, rows_written}
 use borrow.Author.Rules.{rules}
 use Rattle.arcs.proofs.write_rows.Goals as goal
 
@@ -19,7 +19,7 @@ loop-e-preserved c =
           (written_as _ _ _ _ _ _
           (λ p h.
           ap (λ (b : ℤ). row_where a.case (has_weight a.case a.table.now b) l.e p)
-          (read_back w64 (get_or a.best.now (a.case.n + l.e) (pos 0)) c.write_edge-arg-1.given))
+          (read_back w64 (get_or a.best.now (a.case.n + l.e) (pos 0)) (search rules)))
           c.write_edge.ensures),
     )
 

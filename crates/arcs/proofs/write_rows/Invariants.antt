@@ -1,13 +1,7 @@
-use mathlib.Core.Path.{◌≡◌, ap, subst}
-use Prim.Native.Nat.{ℕ, ◌+◌, ◌*◌, ◌-◌, ◌≤◌}
-use native.Mathlib.Omega.{arith}
-use lib.IntN.{ℤ, pos}
+use Prim.Native.Nat.{◌*◌, ◌-◌, ◌≤◌}
 use lib.ListN.{get_or}
-use mir.Syntax.{w64}
-use Rattle.integers.specs.Linear.{read_back}
-use Rattle.arcs.specs.Active.{row_where, has_weight, has_best, Written}
-use Rattle.arcs.proofs.Marked.{written_none, written_as, rows_of, edge-written, rows_written}
-use borrow.Author.Rules.{rules}
+use Rattle.arcs.specs.Active.{row_where, has_best, Written}
+use Rattle.arcs.proofs.Marked.{rows_of}
 use Rattle.arcs.proofs.write_rows.Given as goal
 
 abbrev pub invariant-loop-e : goal.invariant-loop-e

@@ -1,12 +1,12 @@
 use mathlib.Core.Path.{◌≡◌, ap, subst, ◌∙◌}
-use Prim.Native.Nat.{ℕ, ◌-◌, ◌≤◌}
+use Prim.Native.Nat.{ℕ}
 use native.Mathlib.Omega.{arith}
 use lib.IntN.{ℤ, pos}
 use lib.ListN.{get_or}
 use mir.Syntax.{w64}
 use Rattle.integers.specs.Linear.{read_back}
 use Rattle.arcs.specs.Active.{set_where, has_weight, has_best, Written}
-use Rattle.arcs.proofs.Marked.{written_none, written_next, sets-written}
+use Rattle.arcs.proofs.Marked.{written_next, sets-written}
 use borrow.Author.Rules.{rules}
 use Rattle.arcs.proofs.write_sets.Goals as goal
 
@@ -22,7 +22,7 @@ loop-j-preserved c =
       written_next _ _ _ _ _ l.invariant.1 (bounds-sets-j c)
           (c.set_with.ensures
           ∙ ap (λ (b : ℤ). set_where a.case (has_weight a.case a.table.now b) l.j)
-          (read_back w64 (get_or a.best.now l.j (pos 0)) c.set_with-arg-1.given)),
+          (read_back w64 (get_or a.best.now l.j (pos 0)) (search rules))),
     )
 
 pub returns : goal.returns

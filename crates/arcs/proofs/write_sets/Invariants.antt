@@ -1,13 +1,5 @@
-use mathlib.Core.Path.{◌≡◌, ap, subst, ◌∙◌}
-use Prim.Native.Nat.{ℕ, ◌-◌, ◌≤◌}
-use native.Mathlib.Omega.{arith}
-use lib.IntN.{ℤ, pos}
-use lib.ListN.{get_or}
-use mir.Syntax.{w64}
-use Rattle.integers.specs.Linear.{read_back}
-use Rattle.arcs.specs.Active.{set_where, has_weight, has_best, Written}
-use Rattle.arcs.proofs.Marked.{written_none, written_next, sets-written}
-use borrow.Author.Rules.{rules}
+use Prim.Native.Nat.{◌-◌, ◌≤◌}
+use Rattle.arcs.specs.Active.{set_where, has_best, Written}
 use Rattle.arcs.proofs.write_sets.Given as goal
 
 abbrev pub invariant-loop-j : goal.invariant-loop-j
