@@ -1,12 +1,9 @@
-use mathlib.Core.Path.{◌≡◌, sym, ap, ◌∙◌}
-use mathlib.Core.Bool.{Bool, false}
+use mathlib.Core.Path.{◌≡◌}
+use mathlib.Core.Bool.{false}
 use Prim.Native.Nat.{ℕ, ◌-◌, ◌≤◌, ◌<◌}
-use native.Mathlib.Omega.{arith}
 use lib.ListN.{length, get_or}
-use borrow.Author.Rules.{rules}
 use Rattle.arcs.specs.Tried.{tried_answer}
-use Rattle.choice.specs.Choice.{says_unsupported, unsupported_in, chosen_of}
-use Rattle.choice.proofs.Firsts.{first-is, first-nothing, passed-more}
+use Rattle.choice.specs.Choice.{says_unsupported}
 use Rattle.choice.proofs.lowest_in.Given as goal
 
 abbrev pub invariant-loop-i : goal.invariant-loop-i
