@@ -14,7 +14,7 @@ use Rattle.integers.specs.Tests.{same_test, either, and_left, and_right, and_int
 use Rattle.integers.specs.Lists.{◌∈◌, any-in, all-at, all_of}
 use Rattle.definitions.specs.declared.Case.{Case}
 use Rattle.definitions.specs.Rules.{rules_of}
-use Rattle.definitions.specs.Case.{values, scopes, scope_count, each_tuple, own_length, weight, greatest, active, is_barred, barred}
+use Rattle.definitions.specs.Case.{values, scopes, scope_count, each_tuple, own_length, weight, active, is_barred, barred}
 use Rattle.definitions.specs.Valid.{working_weight}
 use Rattle.definitions.specs.Consistency.{forbidden}
 use Rattle.definitions.specs.Moves.{active_values}

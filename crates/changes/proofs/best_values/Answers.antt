@@ -1,21 +1,18 @@
 use mathlib.Core.Path.{◌≡◌, sym, ap, ◌∙◌}
 use mathlib.Core.Bool.{Bool, true, false, not, ◌||◌}
-use Prim.Native.Nat.{◌+◌, ◌*◌, ◌≤◌, ◌<◌}
-use native.Mathlib.Nat.{mul-le-mul_right}
+use Prim.Native.Nat.{◌*◌, ◌<◌}
 use native.Mathlib.Omega.{arith}
 use lib.Dec.{ltb, eqb}
 use lib.ListN.{length}
 use mir.Syntax.{w64}
-use borrow.Author.Rules.{rules}
 use borrow.Author.Tests.{le-ltb, not-true, not-false}
 use Rattle.integers.specs.Linear.{read_back}
 use Rattle.definitions.specs.Rules.{rules_of}
 use Rattle.definitions.specs.Case.{scope_count, lent_length}
 use Rattle.definitions.specs.Valid.{within_limits}
 use Rattle.tables.specs.Scopes.{best_at}
-use Rattle.tables.proofs.Order.{limited, variables-small}
+use Rattle.tables.proofs.Order.{limited}
 use Rattle.changes.specs.Kept.{values_with, best_values}
-use Rattle.changes.proofs.KeptLaws.{kept-lengths-right}
 use Rattle.changes.proofs.ValueLaws.{values_of, values-taken}
 use Rattle.changes.proofs.best_values.Goals as goal
 use Rattle.changes.proofs.best_values.Goals.{Else-lengths_wrong, Else-not-within_limits}

@@ -1,7 +1,6 @@
 use mathlib.Core.Path.{sym, ◌∙◌}
 use mir.Facts.{to_z-of_z}
 use Rattle.changes.proofs.ScopeLaws.{none-fits, none_after}
-use borrow.Author.Rules.{rules}
 use Rattle.changes.proofs.change_part.Goals as goal
 
 pub raise_part-requires : goal.raise_part-requires

@@ -5,7 +5,6 @@ use native.Mathlib.Omega.{arith}
 use lib.IntN.{ℤ}
 use lib.ListN.{length, take, drop}
 use mir.Facts.{to_z-of_z}
-use borrow.Author.Rules.{rules}
 use Rattle.definitions.specs.Rules.{coherent}
 use Rattle.definitions.specs.Case.{place}
 use Rattle.tables.specs.Scopes.{size_of, scope_part}

@@ -1,7 +1,5 @@
 use mathlib.Core.Path.{sym}
-use native.Mathlib.Omega.{arith}
 use Rattle.marks.proofs.Laws.{mark-high}
-use borrow.Author.Rules.{rules}
 use Rattle.changes.proofs.is_lowered.Goals as goal
 
 pub returns-then-value-ge8 : goal.returns-then-value-ge8

@@ -5,12 +5,11 @@ use lib.ListN.{length, take, drop, set}
 use mir.Syntax.{w64}
 use Rattle.integers.specs.Words.{greatest_of}
 use Rattle.integers.specs.Linear.{read_back}
-use Rattle.definitions.specs.Case.{place, greatest}
+use Rattle.definitions.specs.Case.{place}
 use Rattle.tables.specs.Scopes.{size_of, scope_part}
 use Rattle.tables.proofs.Parts.{part-own}
 use Rattle.tables.proofs.Order.{own-places}
 use Rattle.changes.proofs.ScopeLaws.{best-known}
-use borrow.Author.Rules.{rules}
 use Rattle.changes.proofs.keep_greatest.Goals as goal
 use Rattle.changes.proofs.keep_greatest.Goals.{After-size_of}
 

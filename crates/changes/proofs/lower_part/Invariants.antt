@@ -1,17 +1,8 @@
-use mathlib.Core.Path.{◌≡◌, refl, ap, ◌∙◌}
+use mathlib.Core.Path.{◌≡◌}
 use Prim.Native.Nat.{ℕ, ◌-◌, ◌≤◌, ◌<◌}
-use native.Mathlib.Omega.{arith}
-use lib.IntN.{ℤ, pos}
-use lib.ListN.{length, get_or, length-set}
-use lib.Seq.{get_or-set_same, get_or-set_other}
-use mir.Syntax.{w64}
-use mir.Val.{to_z, of_z}
-use mir.Facts.{to_z-of_z}
-use borrow.Author.Count.{below_more}
-use Rattle.integers.specs.Linear.{read_back}
-use Rattle.changes.specs.Spaced.{weight_with}
+use lib.IntN.{pos}
+use lib.ListN.{length, get_or}
 use Rattle.changes.specs.Scopes.{lowered_by, weight_after}
-use Rattle.changes.proofs.ScopeLaws.{after_is}
 use Rattle.changes.proofs.lower_part.Given as goal
 
 abbrev pub invariant-loop-at : goal.invariant-loop-at

@@ -11,7 +11,6 @@ use Rattle.definitions.specs.Rules.{rules_of}
 use Rattle.changes.specs.Scopes.{rest_of, is_touched}
 use Rattle.tables.proofs.Order.{own-places}
 use Rattle.changes.proofs.LoweringLaws.{lowering-amounts, untouched}
-use borrow.Author.Rules.{rules}
 use Rattle.changes.proofs.lower_scope.Goals as goal
 use Rattle.changes.proofs.lower_scope.Goals.{After-rest_of}
 

@@ -1,5 +1,5 @@
 use mathlib.Core.Path.{◌≡◌, subst, ◌∙◌}
-use Prim.Native.Nat.{ℕ, ◌-◌, ◌≤◌, ◌<◌}
+use Prim.Native.Nat.{ℕ, ◌≤◌, ◌<◌}
 use native.Mathlib.Omega.{arith}
 use mir.Syntax.{w64}
 use mir.Val.{to_z, of_z}
@@ -19,8 +19,7 @@ own_in s = own-places s.args.case s.requires.limited.0 s.args.table.now s.requir
 
 pub loop-x-init : goal.loop-x-init
 loop-x-init c =
-    let a = c.args in
-     (
+    let a = c.args in (
       omega arith,
       lowered_none a.case a.table.now a.best.now a.raised.now a.variable a.values (to_z w64 (of_z w64 a.amount))
           c.requires.variable_lt_n.0 (own_in (goal.at.loop-x-init c).Start) c.requires.case_in_bounds.0,

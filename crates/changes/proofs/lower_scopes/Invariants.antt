@@ -1,15 +1,5 @@
-use mathlib.Core.Path.{◌≡◌, subst, ◌∙◌}
-use Prim.Native.Nat.{ℕ, ◌-◌, ◌≤◌, ◌<◌}
-use native.Mathlib.Omega.{arith}
-use mir.Syntax.{w64}
-use mir.Val.{to_z, of_z}
-use mir.Facts.{to_z-of_z}
-use Rattle.integers.specs.Linear.{read_back}
-use lib.ListN.{length}
-use Rattle.definitions.specs.Case.{scope_count, own_length}
-use Rattle.tables.proofs.Order.{own-places}
-use Rattle.tables.specs.Scopes.{best_at}
-use Rattle.changes.proofs.LoweringLaws.{Lowered, lowered_none, lowered-all, lowered_long, lowered-lets, lowered-next}
+use Prim.Native.Nat.{◌-◌, ◌≤◌}
+use Rattle.changes.proofs.LoweringLaws.{Lowered}
 use Rattle.changes.proofs.lower_scopes.Given as goal
 
 abbrev pub invariant-loop-x : goal.invariant-loop-x

@@ -2,7 +2,6 @@ use mathlib.Core.Path.{◌≡◌, sym, ◌∙◌}
 use mathlib.Core.Bool.{Bool, true}
 use mir.Facts.{to_z-of_z}
 use borrow.Author.Tests.{not-true, not-false}
-use Rattle.integers.specs.Tests.{true-is}
 use Rattle.definitions.specs.Rules.{rules_of}
 use Rattle.marks.specs.Marks.{mark}
 use Rattle.changes.specs.Scopes.{lowering_lets}
@@ -10,7 +9,6 @@ use Rattle.changes.specs.Kept.{Change, lowering_change, stays_working}
 use Rattle.tables.proofs.Order.{own-places}
 use Rattle.changes.proofs.LoweringLaws.{lets-is}
 use Rattle.changes.proofs.KeptLaws.{kept-left, kept-made}
-use borrow.Author.Rules.{rules}
 use Rattle.changes.proofs.lowering_kept.Goals as goal
 use Rattle.changes.proofs.lowering_kept.Goals.{Else-not-lowering_stays, Start}
 

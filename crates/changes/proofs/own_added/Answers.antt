@@ -5,8 +5,7 @@ use mir.Val.{SFits, to_z, of_z}
 use mir.Facts.{to_z-of_z}
 use Rattle.integers.specs.Linear.{read_back}
 use Rattle.changes.specs.Scopes.{raised_by, lowered_by}
-use Rattle.changes.proofs.ScopeLaws.{is-lowered-by, not-lowered-by}
-use borrow.Author.Rules.{rules}
+use Rattle.changes.proofs.ScopeLaws.{is-lowered-by}
 use Rattle.changes.proofs.own_added.Goals as goal
 use Rattle.changes.proofs.own_added.Goals.{After-added-by, Then-is_lowered}
 

@@ -3,7 +3,6 @@ use Prim.Native.Nat.{ℕ, ◌+◌, ◌-◌, ◌≤◌}
 use native.Mathlib.Omega.{arith}
 use lib.ListN.{length, take, drop}
 use mir.Facts.{to_z-of_z}
-use borrow.Author.Rules.{rules}
 use Rattle.definitions.specs.Case.{place}
 use Rattle.tables.specs.Scopes.{size_of, scope_part}
 use Rattle.tables.proofs.Parts.{part-own}

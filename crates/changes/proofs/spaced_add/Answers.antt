@@ -1,14 +1,14 @@
-use mathlib.Core.Path.{◌≡◌, refl, ap, ◌∙◌}
-use Prim.Native.Nat.{◌+◌, ◌*◌, ◌-◌, ◌≤◌, ◌<◌}
+use mathlib.Core.Path.{refl, ap, ◌∙◌}
+use Prim.Native.Nat.{◌+◌, ◌*◌}
 use native.Mathlib.Numerals.{add-one}
 use native.Mathlib.Omega.{arith}
 use lib.IntN.{ℤ}
-use lib.ListN.{length, set}
+use lib.ListN.{set}
 use mir.Facts.{to_z-of_z}
 use mir.Val.{of_z, to_z}
 use mir.Syntax.{w64}
 use Rattle.integers.specs.Linear.{read_back}
-use Rattle.changes.proofs.SpacedLaws.{spaced-long, spaced-next}
+use Rattle.changes.proofs.SpacedLaws.{spaced-next}
 use Rattle.changes.specs.Spaced.{weight_with, weight_at, spaced_add}
 use Rattle.changes.proofs.spaced_add.Goals as goal
 

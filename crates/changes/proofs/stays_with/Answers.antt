@@ -7,7 +7,6 @@ use Rattle.integers.specs.Words.{within_z, minus}
 use Rattle.integers.specs.Linear.{read_back}
 use Rattle.definitions.specs.Rules.{rules_in, coherent}
 use Rattle.changes.proofs.SpacedLaws.{low_fits, high_fits, stays-in, stays_out}
-use borrow.Author.Rules.{rules}
 use Rattle.changes.proofs.stays_with.Goals as goal
 use Rattle.changes.proofs.stays_with.Goals.{After-is_within, After-least_working, After-most_working}
 

@@ -16,7 +16,6 @@ use Rattle.tables.proofs.Order.{limited}
 use Rattle.changes.specs.Kept.{Change, transfer_change, transfer_call}
 use Rattle.changes.proofs.TransferLaws.{transfer-in}
 use Rattle.changes.proofs.KeptLaws.{kept-limits-refused, wrong-length, out_of_range, kept-lengths-right, call_next}
-use borrow.Author.Rules.{rules}
 use Rattle.changes.proofs.transfer.Goals as goal
 use Rattle.changes.proofs.transfer.Goals.{Else-case-end_variable, Else-lengths_wrong, Else-not-within_limits, Else-transfer_out, Start}
 

@@ -10,7 +10,6 @@ use Rattle.definitions.specs.Case.{greatest}
 use Rattle.changes.specs.Kept.{Change, transfer_change, stays_working}
 use Rattle.changes.proofs.TransferLaws.{transfer-best}
 use Rattle.changes.proofs.KeptLaws.{kept-refused, kept-done}
-use borrow.Author.Rules.{rules}
 use Rattle.changes.proofs.transfer_kept.Goals as goal
 use Rattle.changes.proofs.transfer_kept.Goals.{Start}
 

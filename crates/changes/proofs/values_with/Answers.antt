@@ -1,6 +1,6 @@
 use mathlib.Core.Path.{◌≡◌, sym, ap, subst, ◌∙◌}
 use mathlib.Core.Bool.{Bool, ◌&&◌}
-use Prim.Native.Nat.{ℕ, ◌+◌, ◌-◌, ◌≤◌, ◌<◌}
+use Prim.Native.Nat.{ℕ, ◌+◌, ◌-◌, ◌<◌}
 use native.Mathlib.Omega.{arith}
 use lib.Dec.{ltb}
 use lib.IntN.{ℤ, pos}
@@ -14,7 +14,6 @@ use Rattle.marks.specs.Marks.{mark}
 use Rattle.marks.proofs.Laws.{byte_small}
 use Rattle.changes.specs.Kept.{values_with}
 use Rattle.changes.proofs.ValueLaws.{best-values-none, best-values-next, best-values-all}
-use borrow.Author.Rules.{rules}
 use Rattle.changes.proofs.values_with.Goals as goal
 
 pub loop-j-init : goal.loop-j-init
