@@ -1,0 +1,7 @@
+use Rattle.leaving.proofs.Moving.{left_out, moved-part}
+use borrow.Author.Rules.{rules}
+use Rattle.leaving.proofs.parts.keep_part.Goals as goal
+
+pub returns-then-stay : goal.returns-then-stay
+returns-then-stay c = let a = c.args in
+    rw (c.move_down.ensures, c.if-stay.true) (moved-part a.table.now a.from a.to c.requires.0 a.size c.requires.1)
