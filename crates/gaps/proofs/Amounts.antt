@@ -27,7 +27,7 @@ use Rattle.definitions.specs.Engine.{chosen, kept_scopes, least_gap}
 use Rattle.theory.proofs.Places.{IsTuple, tuple-in, in-tuples, inactive-less}
 use Rattle.theory.proofs.Validity.{Handed}
 use Rattle.press_theory.proofs.Trim.{chosen-some}
-use Rattle.press_theory.proofs.Gaps.{no_gap, amount-reached, amount-room, amount-most}
+use Rattle.press_theory.proofs.Gaps.{no_gap as no-gap, amount-reached, amount-room, amount-most}
 use Rattle.tables.specs.Scopes.{BestOf, best_at, scope_part}
 use Rattle.tables.proofs.Parts.{scope-part}
 use Rattle.tables.proofs.Answered.{limits-true, carry-known, greatest-working}
@@ -161,7 +161,7 @@ module _ {c : Case} {w best : List ℤ} (h : Handed (rules_of c) (working_weight
 
         go : (o : Option ℤ) → least_gap c w i ≡ o → r ≡ else_no_gap o
         go none e = ⊎_elim (λ q. q)
-            (λ (y, k, l, s, v, n, f, q). absurd (T_not (barred c w y k l) f (no_gap c w e (limiting-in v.scope s) v n))) p.reached
+            (λ (y, k, l, s, v, n, f, q). absurd (T_not (barred c w y k l) f (no-gap c w e (limiting-in v.scope s) v n))) p.reached
         go (some a) e =
             let (x, k, l, m, u, t, f, d) = amount-reached c w h.shape which e in
             let low : r ≤ℤ a = gap-low (weight c w x k l) r (greatest c w x) a (p.room x k l u.scope (in-limiting m) u t f) d in
