@@ -1,0 +1,16 @@
+use mathlib.Core.Path.{◌≡◌, sym, ap, ◌∙◌}
+use mathlib.Core.Bool.{false}
+use Prim.Native.Nat.{ℕ, ◌-◌, ◌<◌}
+use native.Mathlib.Omega.{arith}
+use Rattle.definitions.specs.Rules.{rules_of}
+use Rattle.pair_choice.specs.PairChoice.{paired_of, active_choice, takes_pair}
+use Rattle.choice.proofs.Firsts.{first-is, first-nothing}
+use Rattle.pair_choice.proofs.Choices.{choice-passed, candidate-taken, passed_on}
+use Rattle.pair_choice.proofs.lowest_in.Given as goal
+
+abbrev pub invariant-loop-e : goal.invariant-loop-e
+invariant-loop-e l =
+    ((j : ℕ) → j < l.e → takes_pair (rules_of l.case) l.case l.table l.best l.acts l.rows j ≡ false) × (l.e < l.m → active_choice l.case l.acts l.rows l.e ≡ false)
+
+abbrev pub decreases-loop-e : goal.decreases-loop-e
+decreases-loop-e l = l.m - l.e

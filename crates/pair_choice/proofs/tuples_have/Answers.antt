@@ -1,0 +1,19 @@
+use mathlib.Core.Path.{ap₂, ◌∙◌}
+use Prim.Native.Nat.{ℕ, ◌+◌, ◌*◌, ◌^◌, ◌≤◌, ◌<◌}
+use native.Mathlib.Omega.{arith}
+use lib.ListN.{length}
+use Rattle.definitions.specs.Rules.{rules_of}
+use Rattle.arcs.proofs.Scopes.{few, variable-room, edge-room}
+use Rattle.pair_choice.specs.PairChoice.{rows_have}
+use Rattle.pair_choice.proofs.Ranges.{ends-in, tuples-placed}
+use borrow.Author.Rules.{rules}
+use Rattle.pair_choice.proofs.tuples_have.Goals as goal
+
+pub returns : goal.returns
+returns c =
+    let a = c.args in
+    let at : ℕ = a.case.n * a.case.d + a.edge * (a.case.d * a.case.d) in
+    c.rows_have.ensures
+    ∙ ap₂ (λ (i j : ℕ). rows_have (rules_of a.case) a.table.now a.asked (i * a.case.d) (j * a.case.d) at a.case.d)
+    c.wide_size.ensures.0 c.wide_size-2.ensures.0
+    ∙ tuples-placed (rules_of a.case) a.case a.table.now a.asked a.edge c.requires.2
