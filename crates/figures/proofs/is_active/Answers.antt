@@ -1,0 +1,37 @@
+use mathlib.Core.Path.{◌≡◌, sym, ◌∙◌}
+use mathlib.Core.Bool.{false}
+use Rattle.definitions.specs.Rules.{rules_of}
+use Rattle.definitions.specs.Case.{active}
+use Rattle.definitions.specs.Refusals.{first_refusal}
+use Rattle.definitions.specs.Answers.{outcome_of}
+use Rattle.definitions.specs.Valid.{working_weight, handed_over}
+use Rattle.calls.specs.Calls.{is_active_answer, tuple_out}
+use Rattle.tables.proofs.Answered.{verdict-refused, verdict-given, known}
+use Rattle.figures.proofs.Tuples.{tuple-known}
+use borrow.Author.Rules.{rules}
+use Rattle.figures.proofs.is_active.Goals as goal
+use Rattle.figures.proofs.is_active.Goals.{After-check_working-checked}
+
+-- what was checked, with the definition for the argument
+asked : (c : After-check_working-checked) → let a = c.args in
+    c.check_working-checked.result ≡ outcome_of (first_refusal (handed_over (rules_of a.case) (working_weight (rules_of a.case)) a.case a.table.now false
+    (tuple_out a.case a.scope a.k a.l)))
+asked c = rw c.tuple_out.ensures at c.check_working-checked.ensures
+
+pub has_greatest-requires : goal.has_greatest-requires
+has_greatest-requires c = let a = c.args in
+    let k = known a.case a.table.now false (tuple_out a.case a.scope a.k a.l) (sym c.in-Done.is ∙ asked (goal.at.has_greatest-requires c).After-check_working-checked) in
+    record { handed = k.0; x_bound = tuple-known k.0 a.scope a.k a.l k.2 }
+
+pub returns-in-Refused : goal.returns-in-Refused
+unfolding is_active_answer
+returns-in-Refused c = let a = c.args in
+    verdict-refused a.case a.table.now false (tuple_out a.case a.scope a.k a.l) (active a.case a.table.now a.scope a.k a.l)
+    (sym c.in-Refused.is ∙ asked (goal.at.returns-in-Refused c).After-check_working-checked)
+
+pub returns-in-Done : goal.returns-in-Done
+unfolding is_active_answer
+returns-in-Done c = let a = c.args in
+    c.has_greatest.ensures
+    ∙ verdict-given a.case a.table.now false (tuple_out a.case a.scope a.k a.l) (active a.case a.table.now a.scope a.k a.l)
+    (sym c.in-Done.is ∙ asked (goal.at.returns-in-Done c).After-check_working-checked)

@@ -1,0 +1,63 @@
+use mathlib.Core.Path.{◌≡◌, sym, ap, ◌∙◌}
+use mathlib.Core.Bool.{Bool, not, ◌||◌}
+use mathlib.Core.List.{List}
+use Prim.Native.Nat.{ℕ}
+use lib.IntN.{ℤ}
+use mir.Syntax.{w64}
+use borrow.Author.Tests.{not-true, not-false}
+use Rattle.integers.specs.Linear.{read_back}
+use Rattle.integers.specs.Tests.{and_intro, not-or-iff}
+use Rattle.definitions.specs.declared.Case.{Case}
+use Rattle.definitions.specs.declared.Figure.{Figure}
+use Rattle.definitions.specs.Rules.{rules_of}
+use Rattle.definitions.specs.Case.{objective, is_assignment, uses_barred}
+use Rattle.definitions.specs.Refusals.{first_refusal}
+use Rattle.definitions.specs.Answers.{outcome_of}
+use Rattle.definitions.specs.Valid.{working_weight, wrong_assignment, value_out, handed_over}
+use Rattle.calls.specs.Calls.{objective_answer}
+use Rattle.theory.proofs.Validity.{lent-assignment}
+use Rattle.tables.proofs.Order.{limited}
+use Rattle.tables.proofs.Answered.{figure-refused, figure-given, known}
+use borrow.Author.Rules.{rules}
+use Rattle.figures.proofs.objective.Goals as goal
+use Rattle.figures.proofs.objective.Goals.{After-check_working-checked}
+
+-- The limits are asked first, as the tuples used are looked at before the ranges. Assumes nothing.
+abbrev out : Case → List ℤ → List ℕ → Bool
+out c w p = value_out c p || uses_barred c w p
+
+pub returns-then-not-within_limits : goal.returns-then-not-within_limits
+unfolding objective_answer
+returns-then-not-within_limits c = rw (sym c.within_limits.ensures ∙ not-true _ c.if-not-within_limits.true-raw)
+
+pub uses_barred-requires : goal.uses_barred-requires
+uses_barred-requires c = limited c.args.case (sym c.within_limits.ensures ∙ not-false _ c.if-not-within_limits.false-raw)
+
+-- what was checked, with the definitions for the arguments
+asked : (c : After-check_working-checked) → let a = c.args in
+    c.check_working-checked.result ≡ outcome_of (first_refusal (handed_over (rules_of a.case) (working_weight (rules_of a.case)) a.case a.table.now
+    (wrong_assignment a.case a.assignment.now) (out a.case a.table.now a.assignment.now)))
+asked c = rw (c.some_beyond.ensures, c.uses_barred.ensures) at c.check_working-checked.ensures
+
+pub sum_of_used-requires : goal.sum_of_used-requires
+sum_of_used-requires c = let a = c.args in
+    let w = a.table.now in
+    let p = a.assignment.now in
+    let (h, right, inside) = known a.case w (wrong_assignment a.case p) (out a.case w p) (sym c.in-Done.is ∙ asked (goal.at.sum_of_used-requires c).After-check_working-checked) in
+    let (values, free) = (not-or-iff (value_out a.case p) (uses_barred a.case w p)).0 inside in
+    record { handed = h; t = and_intro (is_assignment a.case p) (not (uses_barred a.case w p)) ((lent-assignment a.case p).0 (right, values)) free }
+
+pub returns-in-Refused : goal.returns-in-Refused
+unfolding objective_answer
+returns-in-Refused c = let a = c.args in
+    let w = a.table.now in
+    let p = a.assignment.now in
+    figure-refused a.case w (wrong_assignment a.case p) (out a.case w p) (objective a.case w p) (sym c.in-Refused.is ∙ asked (goal.at.returns-in-Refused c).After-check_working-checked)
+
+pub returns-in-Done : goal.returns-in-Done
+unfolding objective_answer
+returns-in-Done c = let a = c.args in
+    let w = a.table.now in
+    let p = a.assignment.now in
+    ap Figure.Value (read_back w64 c.sum_of_used.result c.sum_of_used.type_inv ∙ c.sum_of_used.ensures)
+    ∙ figure-given a.case w (wrong_assignment a.case p) (out a.case w p) (objective a.case w p) (sym c.in-Done.is ∙ asked (goal.at.returns-in-Done c).After-check_working-checked)

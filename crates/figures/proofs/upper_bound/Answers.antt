@@ -1,0 +1,19 @@
+use mathlib.Core.Path.{sym, ◌∙◌}
+use mathlib.Core.Bool.{false}
+use Rattle.definitions.specs.Case.{upper_bound}
+use Rattle.calls.specs.Calls.{upper_bound_answer}
+use Rattle.tables.proofs.Answered.{figure-refused, figure-given, known, greatest-sum-known}
+use borrow.Author.Rules.{rules}
+use Rattle.figures.proofs.upper_bound.Goals as goal
+
+pub returns-in-Refused : goal.returns-in-Refused
+unfolding upper_bound_answer
+returns-in-Refused c = figure-refused c.args.case c.args.table.now false false (upper_bound c.args.case c.args.table.now)
+    (sym c.in-Refused.is ∙ c.check_working-checked.ensures)
+
+pub returns-in-Done : goal.returns-in-Done
+unfolding upper_bound_answer
+returns-in-Done c = let w = c.args.table.now in
+    let d = sym c.in-Done.is ∙ c.check_working-checked.ensures in
+    c.sum_of_greatest.ensures ∙ greatest-sum-known (known c.args.case w false false d).0
+    ∙ figure-given c.args.case w false false (upper_bound c.args.case w) d
