@@ -1,10 +1,7 @@
 use mathlib.Core.Path.{◌≡◌, ◌∙◌}
-use native.Mathlib.Omega.{arith}
 use Rattle.definitions.specs.Case.{greatest}
-use Rattle.tables.proofs.Answered.{limits-known}
 use Rattle.integers.specs.Linear.{same_bits, other-bits}
 use Rattle.figures.proofs.Tuples.{scope-greatest}
-use borrow.Author.Rules.{rules}
 use Rattle.figures.proofs.has_greatest.Goals as goal
 use Rattle.figures.proofs.has_greatest.Goals.{After-greatest-greatest}
 

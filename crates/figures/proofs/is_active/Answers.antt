@@ -8,7 +8,6 @@ use Rattle.definitions.specs.Valid.{working_weight, handed_over}
 use Rattle.calls.specs.Calls.{is_active_answer, tuple_out}
 use Rattle.tables.proofs.Answered.{verdict-refused, verdict-given, known}
 use Rattle.figures.proofs.Tuples.{tuple-known}
-use borrow.Author.Rules.{rules}
 use Rattle.figures.proofs.is_active.Goals as goal
 use Rattle.figures.proofs.is_active.Goals.{After-check_working-checked}
 

@@ -18,7 +18,6 @@ use Rattle.calls.specs.Calls.{objective_answer}
 use Rattle.theory.proofs.Validity.{lent-assignment}
 use Rattle.tables.proofs.Order.{limited}
 use Rattle.tables.proofs.Answered.{figure-refused, figure-given, known}
-use borrow.Author.Rules.{rules}
 use Rattle.figures.proofs.objective.Goals as goal
 use Rattle.figures.proofs.objective.Goals.{After-check_working-checked}
 

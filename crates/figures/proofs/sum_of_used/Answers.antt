@@ -1,7 +1,7 @@
-use mathlib.Core.Path.{◌≡◌, refl, ◌∙◌}
-use Prim.Native.Nat.{◌+◌, ◌-◌, ◌≤◌}
+use mathlib.Core.Path.{◌≡◌, ◌∙◌}
+use Prim.Native.Nat.{◌+◌}
 use native.Mathlib.Omega.{arith}
-use lib.IntN.{pos, ◌+ℤ◌, +ℤ_idr}
+use lib.IntN.{pos, ◌+ℤ◌}
 use mir.Syntax.{w64}
 use mir.Val.{to_z, of_z}
 use mir.Facts.{to_z-of_z}
@@ -9,7 +9,6 @@ use Rattle.integers.specs.Linear.{flat, zs, read_back}
 use Rattle.integers.specs.Sums.{Σ}
 use Rattle.definitions.specs.Rules.{coherent}
 use Rattle.definitions.specs.Case.{at_used, weight}
-use Rattle.tables.proofs.Answered.{limits-known}
 use Rattle.tables.proofs.Bounds.{sum_more, sum_fits}
 use Rattle.figures.proofs.Tuples.{used-working}
 use Rattle.figures.proofs.sum_of_used.Goals as goal

@@ -1,17 +1,8 @@
-use mathlib.Core.Path.{◌≡◌, refl, ◌∙◌}
-use Prim.Native.Nat.{◌+◌, ◌-◌, ◌≤◌}
-use native.Mathlib.Omega.{arith}
-use lib.IntN.{pos, ◌+ℤ◌, +ℤ_idr}
-use mir.Syntax.{w64}
-use mir.Val.{to_z, of_z}
-use mir.Facts.{to_z-of_z}
-use Rattle.integers.specs.Linear.{flat, zs, read_back}
+use mathlib.Core.Path.{◌≡◌}
+use Prim.Native.Nat.{◌-◌, ◌≤◌}
+use lib.IntN.{pos, ◌+ℤ◌}
 use Rattle.integers.specs.Sums.{Σ}
-use Rattle.definitions.specs.Rules.{coherent}
 use Rattle.definitions.specs.Case.{at_used, weight}
-use Rattle.tables.proofs.Answered.{limits-known}
-use Rattle.tables.proofs.Bounds.{sum_more, sum_fits}
-use Rattle.figures.proofs.Tuples.{used-working}
 use Rattle.figures.proofs.sum_of_used.Given as goal
 
 abbrev pub invariant-loop-x : goal.invariant-loop-x

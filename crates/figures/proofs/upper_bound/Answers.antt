@@ -3,7 +3,6 @@ use mathlib.Core.Bool.{false}
 use Rattle.definitions.specs.Case.{upper_bound}
 use Rattle.calls.specs.Calls.{upper_bound_answer}
 use Rattle.tables.proofs.Answered.{figure-refused, figure-given, known, greatest-sum-known}
-use borrow.Author.Rules.{rules}
 use Rattle.figures.proofs.upper_bound.Goals as goal
 
 pub returns-in-Refused : goal.returns-in-Refused

@@ -1,14 +1,9 @@
 use mathlib.Core.Path.{◌≡◌, sym, ap, ◌∙◌}
-use mathlib.Core.Bool.{Bool, false}
-use mathlib.Core.List.{List}
-use Prim.Native.Nat.{ℕ, ◌-◌, ◌≤◌, ◌<◌}
 use native.Mathlib.Omega.{arith}
-use lib.IntN.{ℤ}
 use mir.Syntax.{w64}
 use borrow.Author.Count.{below_more}
 use Rattle.integers.specs.Linear.{read_back}
-use Rattle.definitions.specs.declared.Case.{Case}
-use Rattle.definitions.specs.Case.{scope_count, at_used, is_barred, barred}
+use Rattle.definitions.specs.Case.{scope_count, is_barred}
 use Rattle.tables.proofs.Search.{found, not_found}
 use Rattle.figures.proofs.Tuples.{used-barred}
 use Rattle.figures.proofs.uses_barred.Invariants.{at_barred}

@@ -1,17 +1,8 @@
-use mathlib.Core.Path.{◌≡◌, sym, ap, ◌∙◌}
+use mathlib.Core.Path.{◌≡◌}
 use Prim.Native.Nat.{◌-◌, ◌≤◌}
-use native.Mathlib.Omega.{arith}
-use lib.IntN.{ℤ, pos, ◌-ℤ◌}
-use lib.ListN.{length, get_or, drop}
-use mir.Syntax.{w64}
-use mir.Val.{to_z, of_z}
-use mir.Facts.{to_z-of_z}
-use borrow.Author.Rules.{rules}
-use Rattle.integers.specs.Words.{max_z}
-use Rattle.integers.specs.Linear.{read_back}
-use Rattle.definitions.specs.Case.{barred_weight}
-use Rattle.gaps.specs.Gaps.{less_gaps, higher_floor}
-use Rattle.gaps.proofs.Lesser.{Floor, floor_gap, floor-first, gap-first, floor-next, gap-next, gap-fits, gaps-bounded, gaps-next, gaps-end}
+use lib.ListN.{length, drop}
+use Rattle.gaps.specs.Gaps.{less_gaps}
+use Rattle.gaps.proofs.Lesser.{Floor, floor_gap}
 use Rattle.gaps.proofs.gap_in.Given as goal
 
 abbrev pub invariant-loop-j : goal.invariant-loop-j

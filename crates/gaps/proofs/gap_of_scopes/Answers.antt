@@ -1,13 +1,11 @@
-use mathlib.Core.Path.{◌≡◌, ◌∙◌}
-use Prim.Native.Nat.{◌-◌, ◌≤◌, ◌<◌}
+use mathlib.Core.Path.{◌∙◌}
+use Prim.Native.Nat.{◌<◌}
 use native.Mathlib.Omega.{arith}
 use mir.Syntax.{w64}
-use mir.Val.{to_z}
 use Rattle.integers.specs.Linear.{read_back}
 use Rattle.definitions.specs.Rules.{coherent}
 use Rattle.definitions.specs.Case.{scope_count}
 use Rattle.tables.specs.Scopes.{best_at}
-use Rattle.gaps.specs.Gaps.{gap_below}
 use Rattle.gaps.proofs.Lesser.{working-small, scopes-none, scopes-next, scopes-bounded}
 use Rattle.gaps.proofs.gap_of_scopes.Goals as goal
 
@@ -19,10 +17,13 @@ limited_gap-least-requires c =
     let l = c.loop-x in
     let a = c.args in
     let h : l.x < scope_count a.case = omega arith in
-    let b = best_at a.best.now l.x in record { limited = (c.requires.limited.0, c.requires.limited.1, h); t = (
+    let b = best_at a.best.now l.x in record {
+      limited = (c.requires.limited.0, c.requires.limited.1, h);
+      t = (
         rw (read_back w64 b c.limited_gap-arg-1.given) (working-small (coherent a.case.rulebook) b (c.requires.all_working l.x h)),
         rw l.invariant.1 (scopes-bounded a.case a.table.now a.best.now a.raised.now a.variable l.x),
-      ) }
+      );
+    }
 
 pub loop-x-preserved : goal.loop-x-preserved
 loop-x-preserved c =

@@ -3,7 +3,6 @@ use mathlib.Core.List.{List}
 use lib.IntN.{ℤ}
 use mir.Syntax.{w64}
 use mir.Facts.{to_z-of_z}
-use borrow.Author.Rules.{rules}
 use Rattle.integers.specs.Linear.{read_back}
 use Rattle.gaps.specs.Gaps.{less_gaps}
 use Rattle.gaps.proofs.Ranges.{part-known}
