@@ -1,12 +1,6 @@
-use mathlib.Core.Path.{◌≡◌, refl, sym, ap, ◌∙◌}
-use Prim.Native.Nat.{ℕ, ◌+◌, ◌<◌}
-use native.Mathlib.Omega.{arith}
-use lib.ListN.{get_or}
-use Rattle.marks.specs.Marks.{in_both}
-use Rattle.marks.proofs.Laws.{lowest-small}
-use Rattle.arcs.proofs.Search.{lowest-struck}
+use mathlib.Core.Path.{◌≡◌}
+use Prim.Native.Nat.{◌<◌}
 use Rattle.pair_choice.specs.PairChoice.{has_choice}
-use Rattle.pair_choice.proofs.Choices.{no-partner, a-partner, no-choice, choice-less, a-choice}
 use Rattle.pair_choice.proofs.has_choice.Given as goal
 
 abbrev pub invariant-loop-left : goal.invariant-loop-left

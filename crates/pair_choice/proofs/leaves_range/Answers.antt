@@ -1,8 +1,7 @@
 use mathlib.Core.Path.{◌≡◌, sym, ◌∙◌}
 use mathlib.Core.Bool.{true}
 use lib.ListN.{length}
-use borrow.Author.Rules.{rules}
-use borrow.Author.Tests.{lt-ltb, le-ltb, not-true, not-false}
+use borrow.Author.Tests.{lt-ltb, le-ltb}
 use Rattle.definitions.specs.Rules.{rules_of}
 use Rattle.tables.specs.Scopes.{is_sized}
 use Rattle.pair_choice.specs.PairChoice.{leaves_by}
@@ -12,10 +11,10 @@ use Rattle.pair_choice.proofs.leaves_range.Goals.{Else-not-is_sized}
 
 pub returns-then-not-is_sized : goal.returns-then-not-is_sized
 unfolding leaves_by
-returns-then-not-is_sized c = rw (sym c.is_sized.ensures ∙ not-true _ c.if-not-is_sized.true-raw)
+returns-then-not-is_sized c = rw (sym c.is_sized.ensures ∙ c.if-not-is_sized.true)
 
 right : (c : Else-not-is_sized) → let a = c.args in is_sized (rules_of a.case) a.case (length a.table.now) ≡ true
-right c = sym c.is_sized.ensures ∙ not-false _ c.if-not-is_sized.false-raw
+right c = sym c.is_sized.ensures ∙ c.if-not-is_sized.false
 
 pub returns-then-case-edge : goal.returns-then-case-edge
 unfolding leaves_by

@@ -1,14 +1,10 @@
 use mathlib.Core.Path.{◌≡◌, sym, ap, ap₂, ◌∙◌}
 use mathlib.Core.Bool.{true}
 use lib.IntN.{ℤ, pos, ◌+ℤ◌, ◌-ℤ◌}
-use mir.Syntax.{w64}
 use mir.Facts.{to_z-of_z}
-use borrow.Author.Tests.{not-true, not-false}
-use Rattle.integers.specs.Linear.{read_back}
 use Rattle.definitions.specs.Rules.{rules_in, coherent}
 use Rattle.pair_choice.specs.PairChoice.{all_working}
 use Rattle.pair_choice.proofs.Ranges.{two-fit, three-fit, less-fit}
-use borrow.Author.Rules.{rules}
 use Rattle.pair_choice.proofs.less_one.Goals as goal
 use Rattle.pair_choice.proofs.less_one.Goals.{After-all_working, Else-not-all_working}
 
@@ -16,7 +12,7 @@ told : (c : After-all_working) → let a = c.args in all_working (rules_in a.rul
 told c = sym (rw (to_z-of_z c.ranges.own, to_z-of_z c.ranges.other, to_z-of_z c.ranges.weight) at c.all_working.ensures)
 
 all-work : (c : Else-not-all_working) → let a = c.args in all_working (rules_in a.rulebook) a.own a.other a.weight ≡ true
-all-work c = told (goal.at.Else-not-all_working c).After-all_working ∙ not-false _ c.if-not-all_working.false-raw
+all-work c = told (goal.at.Else-not-all_working c).After-all_working ∙ c.if-not-all_working.false
 
 pub overflow_add-result : goal.overflow_add-result
 overflow_add-result c =

@@ -1,11 +1,8 @@
-use mathlib.Core.Path.{◌≡◌, sym, ap, ◌∙◌}
+use mathlib.Core.Path.{◌≡◌}
 use mathlib.Core.Bool.{false}
 use Prim.Native.Nat.{ℕ, ◌-◌, ◌<◌}
-use native.Mathlib.Omega.{arith}
 use Rattle.definitions.specs.Rules.{rules_of}
-use Rattle.pair_choice.specs.PairChoice.{paired_of, active_choice, takes_pair}
-use Rattle.choice.proofs.Firsts.{first-is, first-nothing}
-use Rattle.pair_choice.proofs.Choices.{choice-passed, candidate-taken, passed_on}
+use Rattle.pair_choice.specs.PairChoice.{active_choice, takes_pair}
 use Rattle.pair_choice.proofs.lowest_in.Given as goal
 
 abbrev pub invariant-loop-e : goal.invariant-loop-e

@@ -3,23 +3,22 @@ use mathlib.Core.Bool.{true, false}
 use native.Mathlib.Omega.{arith}
 use lib.Dec.{ltb}
 use lib.ListN.{length}
-use borrow.Author.Tests.{lt-ltb, le-ltb, not-true, not-false}
+use borrow.Author.Tests.{lt-ltb, le-ltb}
 use Rattle.integers.specs.Tests.{tests}
 use Rattle.definitions.specs.Rules.{rules_of}
 use Rattle.definitions.specs.Case.{scope_count}
 use Rattle.tables.specs.Scopes.{is_sized}
 use Rattle.pair_choice.specs.PairChoice.{marks_short, lowest_pair_answer}
 use Rattle.pair_choice.proofs.Ranges.{sized-known}
-use borrow.Author.Rules.{rules}
 use Rattle.pair_choice.proofs.lowest_pair.Goals as goal
 use Rattle.pair_choice.proofs.lowest_pair.Goals.{Else-best-case, Else-marks_short, Else-not-is_sized}
 
 pub returns-then-not-is_sized : goal.returns-then-not-is_sized
 unfolding lowest_pair_answer
-returns-then-not-is_sized c = rw (sym c.is_sized.ensures ∙ not-true _ c.if-not-is_sized.true-raw)
+returns-then-not-is_sized c = rw (sym c.is_sized.ensures ∙ c.if-not-is_sized.true)
 
 right : (c : Else-not-is_sized) → let a = c.args in is_sized (rules_of a.case) a.case (length a.table.now) ≡ true
-right c = sym c.is_sized.ensures ∙ not-false _ c.if-not-is_sized.false-raw
+right c = sym c.is_sized.ensures ∙ c.if-not-is_sized.false
 
 pub returns-then-best-case : goal.returns-then-best-case
 unfolding lowest_pair_answer

@@ -1,13 +1,12 @@
 use mathlib.Core.Path.{◌≡◌, sym, ◌∙◌}
-use mathlib.Core.Bool.{false}
-use Prim.Native.Nat.{ℕ, ◌+◌, ◌-◌, ◌≤◌, ◌<◌}
+use Prim.Native.Nat.{◌+◌}
 use native.Mathlib.Omega.{arith}
-use borrow.Author.Count.{below_more}
 use mir.Syntax.{w64}
 use Rattle.integers.specs.Linear.{read_back}
 use Rattle.definitions.specs.Rules.{rules_in}
 use Rattle.tables.proofs.Search.{found, not_found}
 use Rattle.pair_choice.specs.PairChoice.{is_asked, at_place}
+use borrow.Author.Rules.{rules}
 use Rattle.pair_choice.proofs.row_has.Goals as goal
 use Rattle.pair_choice.proofs.row_has.Goals.{After-is_asked}
 
@@ -18,9 +17,9 @@ told : (c : After-is_asked) → let a = c.args in
 told c =
     let a = c.args in
     rw (
-      read_back w64 (at_place a.table.now a.own) c.is_asked-arg-1.given,
-      read_back w64 (at_place a.table.now (a.upper + c.loop-l.l)) c.is_asked-arg-in-loop-l-1.given,
-      read_back w64 (at_place a.table.now (a.row + c.loop-l.l)) c.is_asked-arg-in-loop-l-2-1.given,
+      read_back w64 (at_place a.table.now a.own) (search rules),
+      read_back w64 (at_place a.table.now (a.upper + c.loop-l.l)) (search rules),
+      read_back w64 (at_place a.table.now (a.row + c.loop-l.l)) (search rules),
     ) at c.is_asked.ensures
 
 pub returns-then-is_asked : goal.returns-then-is_asked

@@ -1,12 +1,7 @@
-use mathlib.Core.Path.{◌≡◌, sym, ◌∙◌}
+use mathlib.Core.Path.{◌≡◌}
 use mathlib.Core.Bool.{false}
 use Prim.Native.Nat.{ℕ, ◌+◌, ◌-◌, ◌≤◌, ◌<◌}
-use native.Mathlib.Omega.{arith}
-use borrow.Author.Count.{below_more}
-use mir.Syntax.{w64}
-use Rattle.integers.specs.Linear.{read_back}
 use Rattle.definitions.specs.Rules.{rules_in}
-use Rattle.tables.proofs.Search.{found, not_found}
 use Rattle.pair_choice.specs.PairChoice.{is_asked, at_place}
 use Rattle.pair_choice.proofs.row_has.Given as goal
 

@@ -5,7 +5,6 @@ use mir.Facts.{to_z-of_z}
 use Rattle.integers.specs.Linear.{read_back}
 use Rattle.definitions.specs.Case.{is_barred}
 use Rattle.pair_choice.specs.PairChoice.{shifted_of}
-use borrow.Author.Rules.{rules}
 use Rattle.pair_choice.proofs.tuple_passes.Goals as goal
 use Rattle.pair_choice.proofs.tuple_passes.Goals.{After-is_barred}
 

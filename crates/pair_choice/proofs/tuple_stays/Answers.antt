@@ -5,12 +5,10 @@ use lib.Signed.{le_z}
 use mir.Syntax.{w64}
 use mir.Val.{to_z, of_z}
 use mir.Facts.{to_z-of_z}
-use borrow.Author.Tests.{not-true, not-false}
 use Rattle.definitions.specs.Rules.{rules_in, coherent}
 use Rattle.definitions.specs.Valid.{in_working}
 use Rattle.pair_choice.specs.PairChoice.{all_working}
 use Rattle.pair_choice.proofs.Ranges.{first-fit, two-fit, three-fit}
-use borrow.Author.Rules.{rules}
 use Rattle.pair_choice.proofs.tuple_stays.Goals as goal
 use Rattle.pair_choice.proofs.tuple_stays.Goals.{After-all_working, After-is_working, After-is_working-2, Else-not-all_working, Else-not-is_working}
 
@@ -18,7 +16,7 @@ told : (c : After-all_working) → let a = c.args in all_working (rules_in a.rul
 told c = sym (rw (to_z-of_z c.ranges.own, to_z-of_z c.ranges.other, to_z-of_z c.ranges.weight) at c.all_working.ensures)
 
 all-work : (c : Else-not-all_working) → let a = c.args in all_working (rules_in a.rulebook) a.own a.other a.weight ≡ true
-all-work c = told (goal.at.Else-not-all_working c).After-all_working ∙ not-false _ c.if-not-all_working.false-raw
+all-work c = told (goal.at.Else-not-all_working c).After-all_working ∙ c.if-not-all_working.false
 
 pub overflow_add-first : goal.overflow_add-first
 overflow_add-first c =
@@ -32,7 +30,7 @@ first-told c =
     (to_z-of_z (overflow_add-first (goal.at.After-is_working c).Else-not-all_working) ∙ ap₂ ◌+ℤ◌ (to_z-of_z c.ranges.weight) (to_z-of_z c.ranges.own)))
 
 pub returns-then-not-is_working : goal.returns-then-not-is_working
-returns-then-not-is_working c = rw (all-work (goal.at.returns-then-not-is_working c).Else-not-all_working, first-told (goal.at.returns-then-not-is_working c).After-is_working ∙ not-true _ c.if-not-is_working.true-raw)
+returns-then-not-is_working c = rw (all-work (goal.at.returns-then-not-is_working c).Else-not-all_working, first-told (goal.at.returns-then-not-is_working c).After-is_working ∙ c.if-not-is_working.true)
 
 pub overflow_add-both : goal.overflow_add-both
 overflow_add-both c =
@@ -57,9 +55,9 @@ both_told c =
 
 pub returns-then-not-is_working-2 : goal.returns-then-not-is_working-2
 returns-then-not-is_working-2 c =
-    rw (all-work (goal.at.returns-then-not-is_working-2 c).Else-not-all_working, first-told (goal.at.returns-then-not-is_working-2 c).After-is_working ∙ not-false _ c.if-not-is_working.false-raw, both_told (goal.at.returns-then-not-is_working-2 c).After-is_working-2 ∙ not-true _ c.if-not-is_working-2.true-raw)
+    rw (all-work (goal.at.returns-then-not-is_working-2 c).Else-not-all_working, first-told (goal.at.returns-then-not-is_working-2 c).After-is_working ∙ c.if-not-is_working.false, both_told (goal.at.returns-then-not-is_working-2 c).After-is_working-2 ∙ c.if-not-is_working-2.true)
 
 pub returns : goal.returns
 returns c =
-    rw (all-work (goal.at.returns c).Else-not-all_working, first-told (goal.at.returns c).After-is_working ∙ not-false _ c.if-not-is_working.false-raw, both_told (goal.at.returns c).After-is_working-2 ∙ not-false _ c.if-not-is_working-2.false-raw)
+    rw (all-work (goal.at.returns c).Else-not-all_working, first-told (goal.at.returns c).After-is_working ∙ c.if-not-is_working.false, both_told (goal.at.returns c).After-is_working-2 ∙ c.if-not-is_working-2.false)
     (ap₂ le_z (both_is (goal.at.returns c).Else-not-is_working) (to_z-of_z c.ranges.most))

@@ -1,12 +1,8 @@
 use mathlib.Core.Path.{ap₂, ◌∙◌}
-use Prim.Native.Nat.{ℕ, ◌+◌, ◌*◌, ◌^◌, ◌≤◌, ◌<◌}
-use native.Mathlib.Omega.{arith}
-use lib.ListN.{length}
+use Prim.Native.Nat.{ℕ, ◌+◌, ◌*◌}
 use Rattle.definitions.specs.Rules.{rules_of}
-use Rattle.arcs.proofs.Scopes.{few, variable-room, edge-room}
 use Rattle.pair_choice.specs.PairChoice.{rows_have}
-use Rattle.pair_choice.proofs.Ranges.{ends-in, tuples-placed}
-use borrow.Author.Rules.{rules}
+use Rattle.pair_choice.proofs.Ranges.{tuples-placed}
 use Rattle.pair_choice.proofs.tuples_have.Goals as goal
 
 pub returns : goal.returns
