@@ -1,4 +1,4 @@
--- What is read to a buffer, and what is printed of an output. That the bytes and the answers are the system's, no contract can say. Assumes nothing.
+-- What is read to a buffer, and what is printed of an output. What the system gives to standard input, no contract can say. Assumes nothing.
 use Rattle.std.specs.Prelude.{◌≡◌, Bool, ◌⊎◌, List, [], ℕ, ◌≤◌, pos, T, length, take}
 use Rattle.std.specs.Int.Signed.{lt_z, le_z}
 use Rattle.definitions.specs.declared.Written.{Written}

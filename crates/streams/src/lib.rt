@@ -1,7 +1,8 @@
-// Standard input to a lent buffer, and the part of an output that is to be printed: what the two programs share.
+// A reader, as standard input, to a lent buffer, and the part of an output that is to be printed: what the two programs share.
 #![tactic(auto)]
 
-ghost use Rattle.std.specs.Prelude.{◌≡◌, ◌+◌, ◌-◌, ◌≤◌, pos, length, take, replicate};
+ghost use Rattle.std.specs.Prelude.{◌≡◌, ◌+◌, ◌-◌, ◌≤◌, ◌<◌, pos, length, take, drop, replicate};
+ghost use Rattle.std.specs.Io.KnownBytes.{Consumes, IsAtEnd};
 ghost use Rattle.io.specs.Counts.{clamp_len};
 ghost use Rattle.definitions.specs.Places.{input_places, table_places};
 ghost use Rattle.streams.specs.Streams.{is_over, is_failed, Fills, printed_part};
@@ -18,9 +19,11 @@ pub struct Filled {
 }
 
 // One read to the bytes from `at` on.
-fn read_to(input: &mut impl Read, buf: &mut [u8], at: usize) -> Filled
+fn read_to<R: Read>(input: &mut R, buf: &mut [u8], at: usize) -> Filled
     requires { at ≤ length buf.old }
-    ensures { (result.to ≡ at + clamp_len result.got (length buf.old - at)) × (take at buf.new ≡ take at buf.old) }
+    ensures counts { (result.to ≡ at + clamp_len result.got (length buf.old - at)) × (take at buf.new ≡ take at buf.old) }
+    ensures reads { Consumes (R.remaining input.old) (R.remaining input.new) (drop at (take result.to buf.new)) }
+    ensures ends { at < length buf.old → result.got ≡ pos 0 → IsAtEnd (R.remaining input.new) }
 {
     let part = &mut buf[at..];
     match input.read(part) {
@@ -45,9 +48,12 @@ pub fn is_failed(filled: Filled) -> bool
     filled.got < 0
 }
 
-// Reads to the bytes from `from` on until the buffer is full, the input ends or a read fails.
-pub fn fill(input: &mut impl Read, buf: &mut [u8], from: usize) -> Filled
-    ensures { Fills from buf.old result buf.new }
+// Reads to the bytes from `from` on until the buffer is full, the input ends or a read fails. Where the reader's bytes are known, those that were
+// read stand there, and a last read of 0 bytes says that none are left.
+pub fn fill<R: Read>(input: &mut R, buf: &mut [u8], from: usize) -> Filled
+    ensures fills { Fills from buf.old result buf.new }
+    ensures reads { Consumes (R.remaining input.old) (R.remaining input.new) (drop from (take result.to buf.new)) }
+    ensures ends { result.got ≡ pos 0 → IsAtEnd (R.remaining input.new) }
 {
     let mut filled = Filled { to: from, got: 1 };
     while filled.to < buf.len() {
