@@ -1,0 +1,18 @@
+use mathlib.Core.Path.{sym, ◌∙◌}
+use native.Mathlib.Omega.{arith}
+use Rattle.integers.specs.Tests.{is_false}
+use Rattle.lines.specs.AtWidth.{width_out}
+use Rattle.lines.proofs.Answers.{width-within}
+use Rattle.round_lines.proofs.Calls.{taken-narrow, refused-wide}
+use borrow.Author.Rules.{rules}
+use Rattle.round_lines.proofs.too_wide.Goals as goal
+
+pub returns-in-Done : goal.returns-in-Done
+returns-in-Done c =
+    taken-narrow c.args.width _ c.args.line c.requires (omega (arith, width-within c.args.width (is_false (width_out c.args.width) c.requires)))
+    (sym c.in-Done.is ∙ c.write_line_in-tried.ensures.0)
+
+pub returns-in-Refused : goal.returns-in-Refused
+returns-in-Refused c =
+    refused-wide c.args.width _ c.args.line c.requires (omega (arith, width-within c.args.width (is_false (width_out c.args.width) c.requires)))
+    (sym c.in-Refused.is ∙ c.write_line_in-tried.ensures.0)
