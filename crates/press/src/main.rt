@@ -14,7 +14,6 @@ ghost use Rattle.pressing.specs.Prints.{printed_bytes};
 ghost use Rattle.press.specs.Rounds.{nothing_due, NextCall, Rounds, Presses};
 
 use definitions::ROUND_PLACES;
-use libc::{STDERR_FILENO, STDOUT_FILENO};
 use pressing::Pressed;
 use streams::Filled;
 
@@ -37,13 +36,13 @@ struct Printed {
 }
 
 // Prints what a call wrote, after so many bytes.
-fn print(pressed: Pressed, out: &[u8], before: usize) -> State
+fn print(rt: &impl Print, pressed: Pressed, out: &[u8], before: usize) -> State
     requires { before + length out.now < 2 ^ 62 }
     ensures { (result.pressed ≡ pressed) × (result.bytes ≡ before + length (printed_bytes pressed.written out.now)) }
 {
     let written = pressed.written;
     let part = streams::printed_part(written, out);
-    let all = io::write_all(STDOUT_FILENO, part);
+    let all = rt.write_all(part).is_ok();
     State {
         pressed,
         bytes: before + part.len(),
@@ -64,18 +63,18 @@ fn is_last(state: State) -> bool
 }
 
 // The next call, printed.
-fn print_next(state: State, table: &mut [i64], out: &mut [u8]) -> State
+fn print_next(rt: &impl Print, state: State, table: &mut [i64], out: &mut [u8]) -> State
     requires { state.bytes + length out.old < 2 ^ 62 }
     ensures { NextCall state table.old out.old result table.new out.new }
 {
     let pressed = state.pressed;
     let pressing = pressed.pressing;
     let next = pressing::next(pressing, table, out);
-    print(next, out, state.bytes)
+    print(rt, next, out, state.bytes)
 }
 
 // The rounds after a start that was printed.
-fn print_rounds(first: State, table: &mut [i64], out: &mut [u8]) -> State
+fn print_rounds(rt: &impl Print, first: State, table: &mut [i64], out: &mut [u8]) -> State
     requires { (length out.old ≡ round_places) × (first.bytes ≡ length (printed_bytes first.pressed.written out.old)) }
     ensures { Rounds (record { pressed = first.pressed; table = table.old; out = out.old }) result table.new
         out.new }
@@ -86,14 +85,14 @@ fn print_rounds(first: State, table: &mut [i64], out: &mut [u8]) -> State
         if is_last(state) {
             return state;
         }
-        state = print_next(state, table, out);
+        state = print_next(rt, state, table, out);
         calls -= 1;
     }
     state
 }
 
 // The output has room for the lines of the longest round.
-fn run(input: &[u8], filled: Filled, table: &mut [i64]) -> Printed
+fn run(rt: &impl Print, input: &[u8], filled: Filled, table: &mut [i64]) -> Printed
     requires { (table.old ≡ table_for (case_size Desk input.now)) × ((input_places ≤ length input.now) ⊎ T (is_over filled)) }
     ensures { Presses input.now filled result }
 {
@@ -106,34 +105,31 @@ fn run(input: &[u8], filled: Filled, table: &mut [i64]) -> Printed
     let mut space = [0u8; ROUND_PLACES];
     let out: &mut [u8] = &mut space;
     let begun = pressing::start(input, table, out);
-    let first = print(begun, out, 0);
-    let last = print_rounds(first, table, out);
+    let first = print(rt, begun, out, 0);
+    let last = print_rounds(rt, first, table, out);
     Printed {
         bytes: last.bytes,
         all: last.all,
     }
 }
 
-// Tells on standard error that a read or a write failed.
-fn tell(failed: bool, all: bool) {
+// Tells on standard error that a read or a write failed. Where that cannot be told either, nothing is left to be done.
+fn tell(rt: &impl Eprint, failed: bool, all: bool) {
     if failed {
-        io::write_all(STDERR_FILENO, b"press: standard input could not be read\n");
+        let _ = rt.eprintln("press: standard input could not be read");
     }
     if !all {
-        io::write_all(
-            STDERR_FILENO,
-            b"press: standard output could not be written\n",
-        );
+        let _ = rt.eprintln("press: standard output could not be written");
     }
 }
 
-fn main() {
+fn main(rt: HostRuntime) {
     let mut space = streams::buffer();
     let mut weights = streams::weights();
-    let filled = streams::fill(&mut space, 0);
+    let filled = streams::fill(&mut rt.stdin(), &mut space, 0);
     let to = filled.to;
     let input = &space[..to];
     let long = pressing::table_length(input);
-    let printed = run(input, filled, &mut weights[0..long]);
-    tell(streams::is_failed(filled), printed.all);
+    let printed = run(&rt, input, filled, &mut weights[0..long]);
+    tell(&rt, streams::is_failed(filled), printed.all);
 }

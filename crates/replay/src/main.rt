@@ -16,7 +16,7 @@ ghost use Rattle.replay.specs.Turns.{desk_line, case_end, most_turns, Turns, Goe
 
 use definitions::{FileAnswer, Rulebook, Written};
 use judging::Judging;
-use libc::{STDERR_FILENO, STDOUT_FILENO};
+use std::io::Read;
 use streams::Filled;
 
 // What stands between two blocks: so many bytes of a part line are held at the buffer's front; and the last fill.
@@ -96,7 +96,7 @@ fn case_bytes(answer: FileAnswer, most: usize) -> usize
 }
 
 // Reads on and judges until the last fill is over. The bytes of a part line stand at the buffer's front.
-fn go_on(first: Turned, table: &mut [i64], buf: &mut [u8]) -> Turned
+fn go_on(input: &mut impl Read, first: Turned, table: &mut [i64], buf: &mut [u8]) -> Turned
     requires { (first.held ≤ length buf.old) × (first.held < desk_line) }
     ensures { Goes most_turns (length buf.old - desk_line) (state_of first.judging table.old)
         (take first.held buf.old) first.filled result table.new buf.new }
@@ -110,7 +110,7 @@ fn go_on(first: Turned, table: &mut [i64], buf: &mut [u8]) -> Turned
         }
         let held = state.held;
         let judging = state.judging;
-        let next = streams::fill(buf, held);
+        let next = streams::fill(input, buf, held);
         state = turn(judging, table, buf, 0, next);
         turns -= 1;
     }
@@ -118,7 +118,7 @@ fn go_on(first: Turned, table: &mut [i64], buf: &mut [u8]) -> Turned
 }
 
 // Judges the whole input, whose first bytes the first fill read.
-fn judge_input(buf: &mut [u8], table: &mut [i64], filled: Filled) -> Turned
+fn judge_input(input: &mut impl Read, buf: &mut [u8], table: &mut [i64], filled: Filled) -> Turned
     requires { filled.to ≤ length buf.old }
     ensures { Judges (length buf.old - desk_line) (take filled.to buf.old) table.old filled result table.new }
 {
@@ -127,19 +127,25 @@ fn judge_input(buf: &mut [u8], table: &mut [i64], filled: Filled) -> Turned
     let answer = begun.answer;
     let from = case_bytes(answer, to);
     let first = turn(begun, table, buf, from, filled);
-    go_on(first, table, buf)
+    go_on(input, first, table, buf)
 }
 
 // Writes the judgement of the whole input, whose first bytes the first fill read, and answers how much of the text is to be printed: nothing where
 // a read failed.
-fn write_text(buf: &mut [u8], table: &mut [i64], filled: Filled, text: &mut [u8]) -> Written
+fn write_text(
+    input: &mut impl Read,
+    buf: &mut [u8],
+    table: &mut [i64],
+    filled: Filled,
+    text: &mut [u8],
+) -> Written
     requires to_in_bounds { (filled.to ≤ length buf.old) × ((length buf.old ≤ filled.to) ⊎ T (is_over filled)) }
     requires buf_len { (length buf.old ≡ input_places) × (text_room ≤ length text.old) }
     requires table_value { table.old ≡ table_for (case_size Desk (take filled.to buf.old)) }
     ensures { Prints (length buf.old - desk_line) (take filled.to buf.old) filled text.old
         (printed_part result text.new) }
 {
-    let state = judge_input(buf, table, filled);
+    let state = judge_input(input, buf, table, filled);
     let last = state.filled;
     if streams::is_failed(last) {
         return Written::Bytes(0);
@@ -150,6 +156,7 @@ fn write_text(buf: &mut [u8], table: &mut [i64], filled: Filled, text: &mut [u8]
 
 // The part of the text that is to be printed.
 fn text_of_input<'a>(
+    input: &mut impl Read,
     buf: &mut [u8],
     table: &mut [i64],
     filled: Filled,
@@ -160,32 +167,30 @@ fn text_of_input<'a>(
     requires table_value { table.old ≡ table_for (case_size Desk (take filled.to buf.old)) }
     ensures { Prints (length buf.old - desk_line) (take filled.to buf.old) filled text.old result.now }
 {
-    let written = write_text(buf, table, filled, text);
+    let written = write_text(input, buf, table, filled, text);
     streams::printed_part(written, text)
 }
 
-// Tells on standard error that a read or a write failed.
-fn tell(failed: bool, all: bool) {
+// Tells on standard error that a read or a write failed. Where that cannot be told either, nothing is left to be done.
+fn tell(rt: &impl Eprint, failed: bool, all: bool) {
     if failed {
-        io::write_all(STDERR_FILENO, b"replay: standard input could not be read\n");
+        let _ = rt.eprintln("replay: standard input could not be read");
     }
     if !all {
-        io::write_all(
-            STDERR_FILENO,
-            b"replay: standard output could not be written\n",
-        );
+        let _ = rt.eprintln("replay: standard output could not be written");
     }
 }
 
-fn main() {
+fn main(rt: HostRuntime) {
     let mut space = streams::buffer();
     let buf: &mut [u8] = &mut space;
     let mut weights = streams::weights();
     let mut text = [0u8; 64];
-    let filled = streams::fill(buf, 0);
+    let mut input = rt.stdin();
+    let filled = streams::fill(&mut input, buf, 0);
     let to = filled.to;
     let long = judging::table_length(&buf[0..to]);
-    let part = text_of_input(buf, &mut weights[0..long], filled, &mut text);
-    let all = io::write_all(STDOUT_FILENO, part);
-    tell(part.len() == 0, all);
+    let part = text_of_input(&mut input, buf, &mut weights[0..long], filled, &mut text);
+    let all = rt.write_all(part).is_ok();
+    tell(&rt, part.len() == 0, all);
 }
