@@ -1,7 +1,6 @@
 use mathlib.Core.Path.{sym, ◌∙◌}
-use borrow.Author.Tests.{not-true, not-false}
+use borrow.Author.Tests.{not-false}
 use Rattle.tables.proofs.Order.{limited}
-use borrow.Author.Rules.{rules}
 use Rattle.round_lines.proofs.check_round.Goals as goal
 
 pub too_short-requires : goal.too_short-requires

@@ -1,7 +1,5 @@
-use mathlib.Core.Path.{◌≡◌, refl, ap, ◌∙◌}
+use mathlib.Core.Path.{ap, ◌∙◌}
 use mathlib.Core.Bool.{not}
-use mathlib.Core.Logic.{⊎_elim}
-use Prim.Native.Nat.{◌-◌, ◌≤◌}
 use native.Mathlib.Omega.{arith}
 use borrow.Author.Tests.{eq-eqb, ne_eqb}
 use lib.ListN.{length, get_or, length-append}
@@ -15,12 +13,12 @@ loop-x-preserved c =
     let r = c.args.raised.now in
     let e = ap length (raised-next r c.loop-x.x) ∙ length-append (raised_below r c.loop-x.x) (raised_from r c.loop-x.x 1) in
     elim c.if-raised-x-ne0.branch [
-      then-raised-x-ne0 w ↦ (
+      | then-raised-x-ne0 w ↦ (
         omega arith,
         omega (arith, w.count-is),
         omega (arith, w.count-is, e, ap length (one-raised r c.loop-x.x (ap not (ne_eqb (get_or r c.loop-x.x 0) 0 w.if-raised-x-ne0.true)))),
       )
-    | else-raised-x-ne0 w ↦ (
+      | else-raised-x-ne0 w ↦ (
         omega arith,
         omega (arith, w.count-is),
         omega (arith, w.count-is, e, ap length (none-raised r c.loop-x.x (ap not (eq-eqb (get_or r c.loop-x.x 0) 0 w.if-raised-x-ne0.false)))),

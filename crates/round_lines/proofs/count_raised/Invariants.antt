@@ -1,12 +1,7 @@
-use mathlib.Core.Path.{◌≡◌, refl, ap, ◌∙◌}
-use mathlib.Core.Bool.{not}
-use mathlib.Core.Logic.{⊎_elim}
+use mathlib.Core.Path.{◌≡◌}
 use Prim.Native.Nat.{◌-◌, ◌≤◌}
-use native.Mathlib.Omega.{arith}
-use borrow.Author.Tests.{eq-eqb, ne_eqb}
-use lib.ListN.{length, get_or, length-append}
-use Rattle.round_lines.specs.Press.{raised_below, raised_from}
-use Rattle.round_lines.proofs.Texts.{raised-next, none-raised, one-raised}
+use lib.ListN.{length}
+use Rattle.round_lines.specs.Press.{raised_below}
 use Rattle.round_lines.proofs.count_raised.Given as goal
 
 abbrev pub invariant-loop-x : goal.invariant-loop-x

@@ -8,7 +8,6 @@ use Rattle.integers.specs.Tests.{is_false}
 use Rattle.definitions.specs.Lines.{line_length}
 use Rattle.lines.specs.AtWidth.{line_out}
 use Rattle.round_lines.proofs.Texts.{line-alone, line-put}
-use borrow.Author.Rules.{rules}
 use Rattle.round_lines.proofs.put_line.Goals as goal
 use Rattle.round_lines.proofs.put_line.Goals.{Start}
 

@@ -1,10 +1,7 @@
 use mathlib.Core.Path.{refl, sym, ◌∙◌}
 use mathlib.Core.List.{[], ◌++◌}
-use native.Mathlib.Omega.{arith}
 use Rattle.definitions.specs.Lines.{line_text}
 use Rattle.round_lines.specs.Press.{raised_below, raise_texts}
-use Rattle.round_lines.proofs.Texts.{line-width}
-use borrow.Author.Rules.{rules}
 use Rattle.round_lines.proofs.put_lines.Goals as goal
 
 pub returns : goal.returns

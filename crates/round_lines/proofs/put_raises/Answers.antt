@@ -1,10 +1,6 @@
-use mathlib.Core.Path.{◌≡◌, refl, subst, ◌∙◌}
-use Prim.Native.Nat.{ℕ, ◌+◌, ◌*◌, ◌-◌, ◌≤◌}
+use mathlib.Core.Path.{◌∙◌}
 use native.Mathlib.Omega.{arith}
-use lib.ListN.{length}
-use Rattle.definitions.specs.Lines.{line_length}
-use Rattle.round_lines.specs.Press.{raised_below}
-use Rattle.round_lines.proofs.Texts.{PutRaises, puts_none, puts-next, raise-room}
+use Rattle.round_lines.proofs.Texts.{puts-next, raise-room}
 use Rattle.round_lines.proofs.put_raises.Goals as goal
 
 pub put_raise-at-requires : goal.put_raise-at-requires

@@ -1,10 +1,9 @@
-use mathlib.Core.Path.{◌≡◌, refl, subst, ◌∙◌}
-use Prim.Native.Nat.{ℕ, ◌+◌, ◌*◌, ◌-◌, ◌≤◌}
-use native.Mathlib.Omega.{arith}
+use mathlib.Core.Path.{◌≡◌}
+use Prim.Native.Nat.{◌+◌, ◌*◌, ◌-◌, ◌≤◌}
 use lib.ListN.{length}
 use Rattle.definitions.specs.Lines.{line_length}
 use Rattle.round_lines.specs.Press.{raised_below}
-use Rattle.round_lines.proofs.Texts.{PutRaises, puts_none, puts-next, raise-room}
+use Rattle.round_lines.proofs.Texts.{PutRaises}
 use Rattle.round_lines.proofs.put_raises.Given as goal
 
 abbrev pub invariant-loop-x : goal.invariant-loop-x

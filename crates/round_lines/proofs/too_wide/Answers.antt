@@ -4,7 +4,6 @@ use Rattle.integers.specs.Tests.{is_false}
 use Rattle.lines.specs.AtWidth.{width_out}
 use Rattle.lines.proofs.Answers.{width-within}
 use Rattle.round_lines.proofs.Calls.{taken-narrow, refused-wide}
-use borrow.Author.Rules.{rules}
 use Rattle.round_lines.proofs.too_wide.Goals as goal
 
 pub returns-in-Done : goal.returns-in-Done

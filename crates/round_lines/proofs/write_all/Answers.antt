@@ -1,6 +1,5 @@
 use mir.Facts.{to_z-of_z}
 use Rattle.round_lines.specs.Press.{write_all_call}
-use borrow.Author.Rules.{rules}
 use Rattle.round_lines.proofs.write_all.Goals as goal
 
 pub returns : goal.returns

@@ -13,8 +13,7 @@ use Rattle.round_lines.specs.Press.{raised_below, entry_lines, first_line, last_
 use Rattle.lines.specs.AtWidth.{width_out}
 use Rattle.lines.proofs.AtRules.{width-in}
 use Rattle.round_lines.proofs.Texts.{raised-few}
-use Rattle.round_lines.proofs.Calls.{last-few, entry-count, checked-short, checked-none, checked-put}
-use borrow.Author.Rules.{rules}
+use Rattle.round_lines.proofs.Calls.{last-few, entry-count, checked-put}
 use Rattle.round_lines.proofs.write_checked.Goals as goal
 use Rattle.round_lines.proofs.write_checked.Goals.{After-count_raised-count, After-first_line-first, After-line_count, After-lines_length, Else-out-lines_length, Start}
 

@@ -11,7 +11,6 @@ use Rattle.calls.specs.Calls.{WriteCall}
 use Rattle.tables.proofs.Order.{limited}
 use Rattle.round_lines.specs.Press.{raised_below, entry_lines}
 use Rattle.round_lines.proofs.Calls.{lines-outside, lines-short, lines-checked}
-use borrow.Author.Rules.{rules}
 use Rattle.round_lines.proofs.write_entry.Goals as goal
 use Rattle.round_lines.proofs.write_entry.Goals.{Else-not-within_limits, Start}
 

@@ -1,5 +1,4 @@
 use Rattle.round_lines.specs.Press.{write_void_call}
-use borrow.Author.Rules.{rules}
 use Rattle.round_lines.proofs.write_void.Goals as goal
 
 pub returns : goal.returns
