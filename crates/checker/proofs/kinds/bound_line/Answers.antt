@@ -1,0 +1,30 @@
+use mathlib.Core.Path.{◌≡◌, sym, ◌∙◌}
+use mathlib.Core.List.{List}
+use native.Mathlib.Omega.{arith}
+use lib.IntN.{ℤ}
+use mir.Syntax.{w64}
+use Rattle.integers.specs.Linear.{read_back}
+use Rattle.definitions.specs.declared.Figure.{Figure}
+use Rattle.definitions.specs.Rules.{coherent, rules_of}
+use Rattle.definitions.specs.Case.{upper_bound}
+use Rattle.definitions.specs.Valid.{working_weight}
+use Rattle.theory.proofs.Validity.{Handed}
+use Rattle.tables.specs.Scopes.{BestOf}
+use Rattle.tables.proofs.Best.{best-sum-known}
+use borrow.Author.Rules.{rules}
+use Rattle.checker.proofs.kinds.bound_line.Goals as goal
+use Rattle.checker.proofs.kinds.bound_line.Goals.{After-sum_of_best-sum}
+
+-- the sum is the upper bound
+summed : (c : After-sum_of_best-sum) {x : Figure} (w : List ℤ) → c.sum_of_best-sum.result ≡ x → let a = c.args in
+    Handed (rules_of a.case) (working_weight (rules_of a.case)) a.case w → BestOf a.case w a.best.now → x ≡ Figure.Value (upper_bound a.case w)
+summed c w e h k = sym e ∙ c.sum_of_best-sum.ensures ∙ best-sum-known h k
+
+pub returns-in-Refused : goal.returns-in-Refused
+returns-in-Refused c = λ w raised h k. let e = summed (goal.at.returns-in-Refused c).After-sum_of_best-sum w c.in-Refused.is h k in cc
+
+pub returns-in-Value : goal.returns-in-Value
+returns-in-Value c = λ w raised h k. let z = c.in-Value.bound in
+    let e = summed (goal.at.returns-in-Value c).After-sum_of_best-sum w c.in-Value.is h k in
+    let d : z ≡ upper_bound c.args.case w = cc in
+    c.stated_bound.ensures c.args.case w raised (read_back w64 z c.in-Value.known_told-in-Value-1-own.given.0.1 ∙ d)

@@ -1,0 +1,9 @@
+use mathlib.Core.Path.{sym, ◌∙◌}
+use borrow.Author.Tests.{not-true, not-false}
+use Rattle.tables.proofs.Order.{limited}
+use borrow.Author.Rules.{rules}
+use Rattle.checker.proofs.lent.check_lent.Goals as goal
+
+pub record_out-beyond-requires : goal.record_out-beyond-requires
+record_out-beyond-requires c = limited c.args.case
+    (sym c.within_limits.ensures ∙ not-false _ c.if-not-within_limits.false-raw)

@@ -1,0 +1,51 @@
+use mathlib.Core.Path.{◌≡◌, refl, sym, ◌∙◌}
+use mathlib.Core.Bool.{Bool}
+use Prim.Native.Nat.{◌+◌, ◌≤◌}
+use native.Mathlib.Omega.{arith}
+use lib.ListN.{length}
+use Rattle.integers.specs.Words.{if◌then◌else◌}
+use Rattle.definitions.specs.declared.Verdict.{Verdict}
+use Rattle.definitions.specs.Rules.{rules_of, edge_places}
+use Rattle.definitions.specs.Consistency.{all_refuted}
+use Rattle.definitions.specs.Moves.{active_values}
+use Rattle.calls.specs.Calls.{is_raised}
+use Rattle.tables.proofs.Answered.{limits-known}
+use Rattle.arcs.specs.Best.{values_unsupported_answer}
+use Rattle.arcs.proofs.Best.{values-unsupported-is-refuted}
+use Rattle.checker.proofs.Taking.{verdict-yes, verdict-no, verdict-neither}
+use borrow.Author.Rules.{rules}
+use Rattle.checker.proofs.presses.all_refuted.Goals as goal
+use Rattle.checker.proofs.presses.all_refuted.Goals.{Start}
+
+ends : (c : Start) → (length c.args.case.lower ≡ edge_places) × (length c.args.case.upper ≡ edge_places)
+ends c = (search rules, search rules)
+
+-- what the search for families answers
+abbrev asked : (s : Start) → Bool
+asked s =
+    let a = s.args in
+    all_refuted a.case a.table.now (is_raised a.raised.now) a.variable (active_values a.case a.table.now a.variable)
+
+answer : (s : Start) → let a = s.args in
+    values_unsupported_answer (rules_of a.case) a.case a.table.now a.best.now a.raised.now a.variable a.values
+    ≡ (if (asked s) then Verdict.Yes else Verdict.No)
+answer s =
+    let a = s.args in
+    let h = s.requires.handed in
+    let l = limits-known h in
+    let room : a.case.n + a.case.m ≤ length a.raised.now = omega (arith, l.scopes-placed, s.requires.raised_len.0) in
+    values-unsupported-is-refuted a.case a.table.now h a.best.now s.requires.best_of a.raised.now room
+    (omega (arith, l.edges_placed, (ends s).0)) (omega (arith, l.edges_placed, (ends s).1)) (is_raised a.raised.now) (λ x u. refl)
+    a.variable s.requires.raised_len.1 a.values (active_values a.case a.table.now a.variable) s.requires.marks_of
+
+pub returns-in-Yes : goal.returns-in-Yes
+returns-in-Yes c =
+    verdict-yes (asked (goal.at.returns-in-Yes c).Start) (sym c.in-Yes.is ∙ c.values_unsupported-verdict.ensures ∙ answer (goal.at.returns-in-Yes c).Start)
+
+pub returns-in-No : goal.returns-in-No
+returns-in-No c =
+    verdict-no (asked (goal.at.returns-in-No c).Start) (sym c.in-No.is ∙ c.values_unsupported-verdict.ensures ∙ answer (goal.at.returns-in-No c).Start)
+
+pub returns-in-Refused : goal.returns-in-Refused
+returns-in-Refused c =
+    verdict-neither (asked (goal.at.returns-in-Refused c).Start) (sym c.in-Refused.is ∙ c.values_unsupported-verdict.ensures ∙ answer (goal.at.returns-in-Refused c).Start)
