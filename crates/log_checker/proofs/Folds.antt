@@ -27,7 +27,7 @@ use Rattle.checker.specs.Checker.{StepCall as StretchCall, BlockCall as StretchL
 use Rattle.checker.specs.Checker.{step_tests, of_due, step_line as stretch_line, step_standing as stretch_standing, step_replay as step_stretch, fold_replay as fold_stretch}
 use Rattle.checker.specs.Checker.{taken_lines, first_refused}
 use Rattle.checker.specs.Taken.{bytes_per_line, more_by as more_lines}
-use Rattle.checker.proofs.Fold.{no_line, some-line, first-line, ends_with as stretch_ends}
+use Rattle.checker.proofs.Fold.{no-line, some-line, first-line, ends_with as stretch_ends}
 use Rattle.checker.proofs.Fold.{fold-none as stretch-none, fold_done as stretch-done, fold-refused as stretch-refused}
 use Rattle.log_checker.specs.declared.Joining.{Joining}
 use Rattle.log_checker.specs.Checker.{Between, StepCall, BlockCall, LineAsked, with_stretch, lent_number, of_line, step_by, step_line, step_standing}
@@ -79,11 +79,11 @@ module _ (r : Rules) (b : Between) (t : List ℕ) where
 
   pub fold-none : length t < long → fold_replay r b t ≡ record { lines = 0; answer = Outcome.Done; after = b }
   unfolding fold_replay
-  fold-none h = rw (no_line r.amount_width t h)
+  fold-none h = rw (no-line r.amount_width t h)
 
   pub block_none : length t < long → block_replay r b t ≡ no_line r b (lent_standing r b b.replay.stretch.standing)
   unfolding block_replay
-  block_none h = rw (no_line r.amount_width t h)
+  block_none h = rw (no-line r.amount_width t h)
 
   pub block-some : long ≤ length t → block_replay r b t ≡ fold_replay r b t
   unfolding block_replay
