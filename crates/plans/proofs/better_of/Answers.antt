@@ -9,7 +9,6 @@ use Rattle.definitions.specs.Scoring.{ranks_below}
 use Rattle.theory.proofs.Validity.{Valid}
 use Rattle.plans.specs.Totals.{total_in}
 use Rattle.plans.proofs.Scored.{scores_asked, total-given, both-known, choice-refused, choice-made}
-use borrow.Author.Rules.{rules}
 use Rattle.plans.proofs.better_of.Goals as goal
 use Rattle.plans.proofs.better_of.Goals.{After-check_starting-checked, In-Done}
 
