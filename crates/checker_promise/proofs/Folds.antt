@@ -333,11 +333,11 @@ module _ {r : Rules} {s : State} {b : Between} (a : Agrees r s b) where
 
 pub fold-agrees : {r : Rules} {s : State} {b : Between} → Agrees r s b → (ts : List (List ℕ)) → Agrees r (after r s ts) (after_lines r b ts)
 fold-agrees a [] = a
-fold-agrees a (t ∷ ts) = fold-agrees (agrees-step a t) ts
+fold-agrees {r = r} {s = s} {b = b} a (t ∷ ts) = fold-agrees {s = step r s t} (agrees-step a t) ts
 
 pub answers_agree : {r : Rules} {s : State} {b : Between} → Agrees r s b → (ts : List (List ℕ)) → line_answers r b ts ≡ map outcome_of (answers r s ts)
 answers_agree a [] = refl
-answers_agree a (t ∷ ts) = ap₂ ◌∷◌ (answer-agrees a t) (answers_agree (agrees-step a t) ts)
+answers_agree {r = r} {s = s} {b = b} a (t ∷ ts) = ap₂ ◌∷◌ (answer-agrees a t) (answers_agree {s = step r s t} (agrees-step a t) ts)
 
 module _ {r : Rules} (coherent : Coherent r) (c : Case) (w : List ℤ) (t : T (valid r c w)) where
   pub agrees-fresh : Agrees r (fresh c w) (begun r c w)
