@@ -214,7 +214,7 @@ module _ (r : Rules) where
 none-applied : {r : Rules} {s : LogState} {b : Between} → AgreesLog r s b → (ts : List (List ℕ)) → s.stretch.refusal ≡ none
     → first_refused (line_answers r b ts) ≡ Outcome.Done → (after_log r s ts).stretch.refusal ≡ none
 none-applied a [] e d = e
-none-applied {r} {s} {b} a (t ∷ ts) e d = go (step_log r s t).stretch.refusal refl (answer-agrees a t) (none-applied (agrees-step a t) ts)
+none-applied {r} {s} {b} a (t ∷ ts) e d = go (step_log r s t).stretch.refusal refl (answer-agrees a t) (none-applied {s = step_log r s t} (agrees-step a t) ts)
   where
     first : Outcome → Outcome
     first o = first_refused (o ∷ line_answers r (step_replay r b t).after ts)
@@ -277,6 +277,6 @@ module _ {r : Rules} where
       let call = block_replay r b x in
       let all_whole = whole x (Memᴰ.head refl) in
       let (u, k) = block-agrees r a x in
-      ap (then_block r call) (blocks-fold k xs y (λ k m. whole k (Memᴰ.tail m)))
+      ap (then_block r call) (blocks-fold {s = u} k xs y (λ k m. whole k (Memᴰ.tail m)))
       ∙ sym (blocks-join a x (joined xs ++ y) all_whole)
       ∙ ap (block_replay r b) (sym (append_assoc x (joined xs) y))

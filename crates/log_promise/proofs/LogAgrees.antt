@@ -642,12 +642,12 @@ module _ {r : Rules} {s : LogState} {b : Between} (a : AgreesLog r s b) where
 
 pub fold-agrees : {r : Rules} {s : LogState} {b : Between} → AgreesLog r s b → (ts : List (List ℕ)) → AgreesLog r (after_log r s ts) (after_lines r b ts)
 fold-agrees a [] = a
-fold-agrees a (t ∷ ts) = fold-agrees (agrees-step a t) ts
+fold-agrees {r = r} {s = s} {b = b} a (t ∷ ts) = fold-agrees {s = step_log r s t} (agrees-step a t) ts
 
 pub answers_agree : {r : Rules} {s : LogState} {b : Between} → AgreesLog r s b → (ts : List (List ℕ))
     → line_answers r b ts ≡ map outcome_of (log_answers r s ts)
 answers_agree a [] = refl
-answers_agree a (t ∷ ts) = ap₂ ◌∷◌ (answer-agrees a t) (answers_agree (agrees-step a t) ts)
+answers_agree {r = r} {s = s} {b = b} a (t ∷ ts) = ap₂ ◌∷◌ (answer-agrees a t) (answers_agree {s = step_log r s t} (agrees-step a t) ts)
 
 module _ (c : Case) (w : List ℤ) (t : T (valid (rules_of c) c w)) where
   pub agrees-fresh : AgreesLog (rules_of c) (fresh_log c w) (begun (rules_of c) c w)
