@@ -48,7 +48,7 @@ module _ {r : Rules} {c : Case} where
 
   pub allowed-first : {w v : List ℤ} (xs ys : List Move) → AllAllowed r c w (xs ++ ys) v → (u : List ℤ) × AllAllowed r c w xs u
   allowed-first {w} [] ys n = (w, no_move)
-  allowed-first (x ∷ xs) ys (one_more k n) = let (u, m) = allowed-first xs ys n in (u, one_more k m)
+  allowed-first {w = w} {v = v} (x ∷ xs) ys (one_more k n) = let (u, m) = allowed-first {w = moved c x w} {v = v} xs ys n in (u, one_more k m)
 
   pub allowed-rest : {w u v : List ℤ} {xs : List Move} (ys : List Move) → AllAllowed r c w xs u → AllAllowed r c w (xs ++ ys) v
       → AllAllowed r c u ys v
@@ -79,6 +79,7 @@ module _ (c : Case) (i k : ℕ) (variable : i < c.n) (value : k < c.d) where
             (λ t. let q : i ≡ c.n + e = eqb→eq i (c.n + e) (and_left (eqb i (c.n + e)) (eqb (end_value end k 0) v) t) in omega arith),
       )))
       ∙ +ℤ_idr (weight c w i k 0))
+  spared-by w (press _ _ _ _) f = elim f [ ]
 
   spared : {r : Rules} {w v : List ℤ} {moves : List Move} → AllAllowed r c w moves v → ((m : Move) → m ∈ moves → Spares c i k m)
       → weight c v i k 0 ≡ weight c w i k 0

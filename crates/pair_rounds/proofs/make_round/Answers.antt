@@ -1,0 +1,17 @@
+use mathlib.Core.Path.{sym, ◌∙◌}
+use Rattle.pair_rounds.proofs.Rounds.{pair-asked, pair-refused}
+use borrow.Author.Rules.{rules}
+use Rattle.pair_rounds.proofs.make_round.Goals as goal
+
+pub pair_round-requires : goal.pair_round-requires
+pair_round-requires c =
+    let a = c.args in
+    let h = pair-asked a.case a.table.now a.out.now a.edge (sym c.in-Done.is
+    ∙ c.check_round-checked.ensures) in record { handed = h.0; case_in_bounds = h.1 }
+
+pub returns-in-Refused : goal.returns-in-Refused
+returns-in-Refused c =
+    let a = c.args in
+    let m = pair-refused a.case a.table.now a.out.now a.edge
+    (sym c.in-Refused.is ∙ c.check_round-checked.ensures) in
+    (m.answer, m.table, m.output)

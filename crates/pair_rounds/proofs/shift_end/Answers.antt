@@ -1,0 +1,32 @@
+use mathlib.Core.Path.{◌≡◌, refl, subst, ◌∙◌}
+use Prim.Native.Nat.{ℕ, ◌-◌, ◌≤◌}
+use native.Mathlib.Omega.{arith}
+use lib.ListN.{length}
+use Rattle.pair_rounds.specs.Shifts.{Shifted}
+use Rattle.pair_rounds.proofs.Moves.{shifts_below}
+use Rattle.pair_rounds.proofs.Texts.{shifted_none}
+use Rattle.pair_rounds.proofs.Ends.{value-ready, value-done}
+use Rattle.pair_rounds.proofs.shift_end.Goals as goal
+
+pub loop-value-init : goal.loop-value-init
+loop-value-init c = (
+  omega arith,
+  refl,
+  refl,
+  refl,
+  shifted_none c.args.from c.args.out.now c.requires.ready.greatest-held,
+)
+
+pub shift_value-at-requires : goal.shift_value-at-requires
+shift_value-at-requires c =
+    let h = value-ready c.requires.ready c.args.end c.requires.allows c.requires.end_in_bounds c.loop-value-test.true c.loop-value.invariant.3 c.loop-value.invariant.4 in record { ready = h.0; allows = h.1.0; value_in_bounds = h.1.1 }
+
+pub loop-value-preserved : goal.loop-value-preserved
+loop-value-preserved c =
+    let k = c.shift_value-at.auto in (
+      omega (arith, c.loop-value-test.true),
+      k.table ∙ c.loop-value.invariant.1,
+      k.best ∙ c.loop-value.invariant.2,
+      k.out ∙ c.loop-value.invariant.3,
+      value-done c.requires.ready c.args.end c.requires.allows c.requires.end_in_bounds c.loop-value-test.true c.loop-value.invariant.3 c.loop-value.invariant.4 c.shift_value-at.ensures,
+    )

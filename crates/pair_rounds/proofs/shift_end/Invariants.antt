@@ -1,0 +1,17 @@
+use mathlib.Core.Path.{◌≡◌, refl, subst, ◌∙◌}
+use Prim.Native.Nat.{ℕ, ◌-◌, ◌≤◌}
+use native.Mathlib.Omega.{arith}
+use lib.ListN.{length}
+use Rattle.pair_rounds.specs.Shifts.{Shifted}
+use Rattle.pair_rounds.proofs.Moves.{shifts_below}
+use Rattle.pair_rounds.proofs.Texts.{shifted_none}
+use Rattle.pair_rounds.proofs.Ends.{value-ready, value-done}
+use Rattle.pair_rounds.proofs.shift_end.Given as goal
+
+abbrev pub invariant-loop-value : goal.invariant-loop-value
+invariant-loop-value l =
+    (l.value ≤ l.case.d) × (length l.table ≡ length l.initial.table) × (length l.best ≡ length l.initial.best) × (length l.out ≡ length l.initial.out)
+    × Shifted l.case (shifts_below l.case l.initial.table l.edge l.end l.value) l.initial.table l.table l.best l.from l.at l.initial.out l.out
+
+abbrev pub decreases-loop-value : goal.decreases-loop-value
+decreases-loop-value l = l.case.d - l.value
