@@ -128,7 +128,8 @@ fn put_bytes(out: &mut [u8], at: usize, bytes: &[u8])
     requires { at + length bytes.now ≤ length out.old }
     ensures { out.new ≡ placed_at at bytes.now out.old }
 {
-    bytes::copy(bytes, &mut out[at..]);
+    let end = at + bytes.len();
+    out[at..end].copy_from_slice(bytes);
 }
 
 fn put_word(out: &mut [u8], at: usize, x: u64)
@@ -160,7 +161,7 @@ fn ends_at(bytes: &[u8], at: usize) -> [u8; EDGE_PLACES]
 {
     let mut part = [0u8; EDGE_PLACES];
     let end = at + EDGE_PLACES;
-    bytes::copy(&bytes[at..end], &mut part);
+    part.copy_from_slice(&bytes[at..end]);
     part
 }
 
@@ -171,7 +172,7 @@ fn marks_at(bytes: &[u8], at: usize) -> [u8; SCOPE_PLACES]
 {
     let mut part = [0u8; SCOPE_PLACES];
     let end = at + SCOPE_PLACES;
-    bytes::copy(&bytes[at..end], &mut part);
+    part.copy_from_slice(&bytes[at..end]);
     part
 }
 
