@@ -3,6 +3,7 @@ use native.Mathlib.Omega.{arith}
 use lib.IntN.{pos}
 use lib.ListN.{get_or}
 use mir.Syntax.{w64}
+use borrow.Author.Rules.{rules}
 use Rattle.integers.specs.Linear.{read_back}
 use Rattle.definitions.specs.Rules.{rules_of}
 use Rattle.definitions.specs.Case.{scope_count}
@@ -15,7 +16,7 @@ told : (c : After-open_in) → let a = c.args in
     c.open_in.result ≡ some_open (rules_of a.case) a.case a.table.now a.best.now a.raised.now a.variable c.loop-x.x
 told c =
     let a = c.args in
-    rw (read_back w64 (get_or a.best.now c.loop-x.x (pos 0)) c.open_in-arg-1.given) at c.open_in.ensures
+    rw (read_back w64 (get_or a.best.now c.loop-x.x (pos 0)) (search rules)) at c.open_in.ensures
 
 pub returns-then-open_in : goal.returns-then-open_in
 returns-then-open_in c = let a = c.args in

@@ -5,7 +5,8 @@ use native.Mathlib.Omega.{arith}
 use lib.Dec.{ltb, eqb}
 use lib.ListN.{length}
 use mir.Syntax.{w64}
-use borrow.Author.Tests.{le-ltb, not-true, not-false}
+use borrow.Author.Tests.{le-ltb}
+use borrow.Author.Rules.{rules}
 use Rattle.integers.specs.Linear.{read_back}
 use Rattle.definitions.specs.Rules.{rules_of}
 use Rattle.definitions.specs.Case.{scope_count, lent_length}
@@ -19,10 +20,10 @@ use Rattle.changes.proofs.best_values.Goals.{Else-lengths_wrong, Else-not-within
 
 pub returns-then-not-within_limits : goal.returns-then-not-within_limits
 unfolding best_values
-returns-then-not-within_limits c = let e = sym c.within_limits.ensures ∙ not-true _ c.if-not-within_limits.true-raw in rw e
+returns-then-not-within_limits c = let e = sym c.within_limits.ensures ∙ c.if-not-within_limits.true in rw e
 
 right : (c : Else-not-within_limits) → let a = c.args in within_limits (rules_of a.case) a.case.n a.case.d a.case.m ≡ true
-right c = sym c.within_limits.ensures ∙ not-false _ c.if-not-within_limits.false-raw
+right c = sym c.within_limits.ensures ∙ c.if-not-within_limits.false
 
 abbrev wrong : (c : Else-not-within_limits) → Bool
 wrong c = let a = c.args in not (eqb (length a.table.now) (lent_length (rules_of a.case) a.case)) || ltb (length a.best.now) (scope_count a.case)
@@ -50,6 +51,6 @@ returns c =
     let a = c.args in
     let h : a.variable < a.case.n = omega (arith, c.if-case-variable.false) in
     c.values_with.ensures ∙ ap (values_with a.table.now (a.variable * a.case.d) a.case.d)
-    (read_back w64 (best_at a.best.now a.variable) c.values_with-arg-1.given)
+    (read_back w64 (best_at a.best.now a.variable) (search rules))
     ∙ values_of a.case a.table.now a.best.now a.variable h
     ∙ sym (values-taken a.case a.table.now a.best.now a.variable (right (goal.at.returns c).Else-not-within_limits) (lens (goal.at.returns c).Else-lengths_wrong) h)

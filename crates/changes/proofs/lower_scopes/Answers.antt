@@ -6,12 +6,13 @@ use mir.Val.{to_z, of_z}
 use mir.Facts.{to_z-of_z}
 use Rattle.integers.specs.Linear.{read_back}
 use lib.ListN.{length}
+use borrow.Author.Rules.{rules}
 use Rattle.definitions.specs.Case.{scope_count, own_length}
 use Rattle.tables.proofs.Order.{own-places}
 use Rattle.tables.specs.Scopes.{best_at}
 use Rattle.changes.proofs.LoweringLaws.{Lowered, lowered_none, lowered-all, lowered_long, lowered-lets, lowered-next}
 use Rattle.changes.proofs.lower_scopes.Goals as goal
-use Rattle.changes.proofs.lower_scopes.Goals.{After-held-1, Start}
+use Rattle.changes.proofs.lower_scopes.Goals.{Start}
 
 -- the table has the case's own places
 own_in : (s : Start) → own_length s.args.case ≤ length s.args.table.now
@@ -25,9 +26,6 @@ loop-x-init c =
           c.requires.variable_lt_n.0 (own_in (goal.at.loop-x-init c).Start) c.requires.case_in_bounds.0,
     )
 
-held-is : (c : After-held-1) → to_z w64 (of_z w64 (best_at c.loop-x.best c.loop-x.x)) ≡ best_at c.loop-x.best c.loop-x.x
-held-is c = read_back w64 (best_at c.loop-x.best c.loop-x.x) c.held-1.given
-
 pub lower_scope-requires : goal.lower_scope-requires
 lower_scope-requires c =
     let l = c.loop-x in
@@ -36,7 +34,7 @@ lower_scope-requires c =
     let long = lowered_long a.case a.table.now a.best.now a.raised.now a.variable a.values (to_z w64 (of_z w64 a.amount))
     c.requires.variable_lt_n.0 (own_in (goal.at.lower_scope-requires c).Start) c.requires.case_in_bounds.0 l.invariant.1 ∙ c.requires.limited.1 in
     let lets = lowered-lets a.case a.table.now a.best.now a.raised.now a.variable a.values (to_z w64 (of_z w64 a.amount))
-    c.requires.variable_lt_n.0 (own_in (goal.at.lower_scope-requires c).Start) c.requires.case_in_bounds.0 l.invariant.1 h (rw (to_z-of_z c.ranges.amount) c.requires.t) in record { in_scope = (record { limited = c.requires.limited.0; long = long; scope = h }, omega (arith, l.invariant.1.same-long, c.requires.case_in_bounds.0)); t = rw (held-is (goal.at.lower_scope-requires c).After-held-1) lets; t_2 = rw (to_z-of_z c.ranges.amount) c.requires.variable_lt_n.1 }
+    c.requires.variable_lt_n.0 (own_in (goal.at.lower_scope-requires c).Start) c.requires.case_in_bounds.0 l.invariant.1 h (rw (to_z-of_z c.ranges.amount) c.requires.t) in record { in_scope = (record { limited = c.requires.limited.0; long = long; scope = h }, omega (arith, l.invariant.1.same-long, c.requires.case_in_bounds.0)); t = rw (read_back w64 (best_at l.best l.x) (search rules)) lets; t_2 = rw (to_z-of_z c.ranges.amount) c.requires.variable_lt_n.1 }
 
 pub loop-x-preserved : goal.loop-x-preserved
 loop-x-preserved c =
@@ -45,7 +43,7 @@ loop-x-preserved c =
     let h : l.x < scope_count a.case = omega (arith, c.loop-x-test.true) in (
       omega (arith, h),
       lowered-next a.case a.table.now a.best.now a.raised.now a.variable a.values (to_z w64 (of_z w64 a.amount))
-          c.requires.variable_lt_n.0 (own_in (goal.at.loop-x-preserved c).Start) c.requires.case_in_bounds.0 l.invariant.1 h (rw (held-is (goal.at.loop-x-preserved c).After-held-1) at c.lower_scope.ensures.table_after) c.lower_scope.ensures.best_after,
+          c.requires.variable_lt_n.0 (own_in (goal.at.loop-x-preserved c).Start) c.requires.case_in_bounds.0 l.invariant.1 h (rw (read_back w64 (best_at l.best l.x) (search rules)) at c.lower_scope.ensures.table_after) c.lower_scope.ensures.best_after,
     )
 
 pub returns : goal.returns

@@ -1,7 +1,6 @@
 use mathlib.Core.Path.{◌≡◌, sym, ◌∙◌}
 use mathlib.Core.Bool.{Bool, true}
 use mir.Facts.{to_z-of_z}
-use borrow.Author.Tests.{not-true, not-false}
 use Rattle.definitions.specs.Rules.{rules_of}
 use Rattle.marks.specs.Marks.{mark}
 use Rattle.changes.specs.Scopes.{lowering_lets}
@@ -33,10 +32,10 @@ pub returns-then-not-lowering_stays : goal.returns-then-not-lowering_stays
 returns-then-not-lowering_stays c =
     let a = c.args in
     kept-left a.case a.table.now a.best.now (change (goal.at.returns-then-not-lowering_stays c).Start) (stays (goal.at.returns-then-not-lowering_stays c).Start)
-    (sym (same (goal.at.returns-then-not-lowering_stays c).Start) ∙ rw (to_z-of_z c.ranges.amount) at (sym c.lowering_stays.ensures ∙ not-true _ c.if-not-lowering_stays.true-raw))
+    (sym (same (goal.at.returns-then-not-lowering_stays c).Start) ∙ rw (to_z-of_z c.ranges.amount) at (sym c.lowering_stays.ensures ∙ c.if-not-lowering_stays.true))
 
 may : (c : Else-not-lowering_stays) → lets (goal.at.Else-not-lowering_stays c).Start ≡ true
-may c = rw (to_z-of_z c.ranges.amount) at (sym c.lowering_stays.ensures ∙ not-false _ c.if-not-lowering_stays.false-raw)
+may c = rw (to_z-of_z c.ranges.amount) at (sym c.lowering_stays.ensures ∙ c.if-not-lowering_stays.false)
 
 pub returns : goal.returns
 returns c =

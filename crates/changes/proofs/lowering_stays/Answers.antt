@@ -6,7 +6,7 @@ use lib.ListN.{get_or}
 use mir.Syntax.{w64}
 use mir.Facts.{to_z-of_z}
 use borrow.Author.Count.{below_more}
-use borrow.Author.Tests.{not-true, not-false}
+use borrow.Author.Rules.{rules}
 use Rattle.integers.specs.Linear.{read_back}
 use Rattle.definitions.specs.Rules.{rules_of}
 use Rattle.tables.specs.Scopes.{best_at}
@@ -23,17 +23,17 @@ lets c x =
 
 told : (c : After-scope_lets) → c.scope_lets.result ≡ (lets c) c.loop-x.x
 told c =
-    rw (read_back w64 (best_at c.args.best.now c.loop-x.x) c.scope_lets-arg-1.given, to_z-of_z c.ranges.amount)
+    rw (read_back w64 (best_at c.args.best.now c.loop-x.x) (search rules), to_z-of_z c.ranges.amount)
     at c.scope_lets.ensures
 
 pub returns-then-not-scope_lets : goal.returns-then-not-scope_lets
 returns-then-not-scope_lets c =
     let a = c.args in
-    not-all (lets (goal.at.returns-then-not-scope_lets c).After-scope_lets) (a.case.n + a.case.m) c.loop-x.x (omega arith) (sym (told (goal.at.returns-then-not-scope_lets c).After-scope_lets) ∙ not-true _ c.if-not-scope_lets.true-raw)
+    not-all (lets (goal.at.returns-then-not-scope_lets c).After-scope_lets) (a.case.n + a.case.m) c.loop-x.x (omega arith) (sym (told (goal.at.returns-then-not-scope_lets c).After-scope_lets) ∙ c.if-not-scope_lets.true)
 
 pub loop-x-preserved : goal.loop-x-preserved
 loop-x-preserved c =
-    (omega arith, below_more _ _ c.loop-x.invariant.1 (rw (to_z-of_z c.ranges.amount) (sym (told (goal.at.loop-x-preserved c).After-scope_lets) ∙ not-false _ c.if-not-scope_lets.false-raw)))
+    (omega arith, below_more _ _ c.loop-x.invariant.1 (rw (to_z-of_z c.ranges.amount) (sym (told (goal.at.loop-x-preserved c).After-scope_lets) ∙ c.if-not-scope_lets.false)))
 
 pub returns : goal.returns
 returns c =

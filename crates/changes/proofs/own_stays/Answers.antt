@@ -5,7 +5,7 @@ use lib.ListN.{length, get_or}
 use mir.Syntax.{w64}
 use mir.Facts.{to_z-of_z}
 use borrow.Author.Count.{below_more}
-use borrow.Author.Tests.{not-true, not-false}
+use borrow.Author.Rules.{rules}
 use Rattle.integers.specs.Linear.{read_back}
 use Rattle.definitions.specs.Rules.{rules_in}
 use Rattle.changes.specs.Spaced.{stays_with, weight_at}
@@ -22,7 +22,7 @@ told c =
     let a = c.args in
     let f = c.ranges in
     let r = c.own_added-by in
-    let e = read_back w64 (get_or a.part.now c.loop-i.i (pos 0)) c.weight-1.given in
+    let e = read_back w64 (get_or a.part.now c.loop-i.i (pos 0)) (search rules) in
     c.stays_with.ensures ∙ ap₂ (stays_with (rules_in a.rulebook)) e (read_back w64 r.result r.type_inv
     ∙ rw (to_z-of_z f.best, to_z-of_z f.rest, to_z-of_z f.amount) at r.ensures
     ∙ ap (lowered_by a.values a.amount a.best a.rest c.loop-i.i) e)
@@ -32,14 +32,14 @@ returns-then-not-stays_with c =
     let a = c.args in
     not-all (λ p. stays_with (rules_in a.rulebook) (weight_at a.part.now p)
     (lowered_by a.values a.amount a.best a.rest p (weight_at a.part.now p)))
-    (length a.part.now) c.loop-i.i (omega arith) (sym (told (goal.at.returns-then-not-stays_with c).After-stays_with) ∙ not-true _ c.if-not-stays_with.true-raw)
+    (length a.part.now) c.loop-i.i (omega arith) (sym (told (goal.at.returns-then-not-stays_with c).After-stays_with) ∙ c.if-not-stays_with.true)
 
 pub loop-i-preserved : goal.loop-i-preserved
 loop-i-preserved c =
     let f = c.ranges in (
       omega arith,
       below_more _ _ c.loop-i.invariant.1
-          (rw (to_z-of_z f.best, to_z-of_z f.rest, to_z-of_z f.amount) (sym (told (goal.at.loop-i-preserved c).After-stays_with) ∙ not-false _ c.if-not-stays_with.false-raw)),
+          (rw (to_z-of_z f.best, to_z-of_z f.rest, to_z-of_z f.amount) (sym (told (goal.at.loop-i-preserved c).After-stays_with) ∙ c.if-not-stays_with.false)),
     )
 
 pub returns : goal.returns

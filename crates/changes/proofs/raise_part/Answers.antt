@@ -8,6 +8,7 @@ use mir.Syntax.{w64}
 use mir.Val.{to_z, of_z}
 use mir.Facts.{to_z-of_z}
 use borrow.Author.Count.{below_more}
+use borrow.Author.Rules.{rules}
 use Rattle.integers.specs.Linear.{read_back}
 use Rattle.changes.specs.Spaced.{weight_with}
 use Rattle.changes.specs.Scopes.{raised_by, weight_after}
@@ -22,7 +23,7 @@ stored c =
     let f = c.ranges in
     read_back w64 c.raised_weight-weight.result c.raised_weight-weight.type_inv ∙ rw (to_z-of_z f.best, to_z-of_z f.rest) at c.raised_weight-weight.ensures
     ∙ ap (λ (z : ℤ). weight_with z (raised_by a.best a.rest c.loop-at.at z))
-    (read_back w64 (get_or c.loop-at.part c.loop-at.at (pos 0)) c.raised_weight-arg-1.given ∙ c.loop-at.invariant.3 c.loop-at.at (omega arith))
+    (read_back w64 (get_or c.loop-at.part c.loop-at.at (pos 0)) (search rules) ∙ c.loop-at.invariant.3 c.loop-at.at (omega arith))
 
 pub loop-at-preserved : goal.loop-at-preserved
 loop-at-preserved c =

@@ -7,7 +7,7 @@ use mir.Syntax.{w64}
 use mir.Val.{to_z, of_z}
 use mir.Facts.{to_z-of_z}
 use borrow.Author.Count.{below_more}
-use borrow.Author.Tests.{not-true, not-false}
+use borrow.Author.Rules.{rules}
 use Rattle.integers.specs.Linear.{read_back}
 use Rattle.definitions.specs.Rules.{rules_in}
 use Rattle.changes.specs.Spaced.{amount_within, stays_with, weight_at}
@@ -33,7 +33,7 @@ told c =
     let a = c.args in
     let f = c.ranges in
     let r = c.added in
-    let e = read_back w64 (get_or a.part.now c.loop-i.i (pos 0)) c.weight-1.given in
+    let e = read_back w64 (get_or a.part.now c.loop-i.i (pos 0)) (search rules) in
     c.stays_with.ensures ∙ ap₂ (stays_with (rules_in a.rulebook)) e (read_back w64 r.result r.type_inv
     ∙ rw (to_z-of_z f.best, to_z-of_z f.rest) at r.ensures ∙ ap (raised_by a.best a.rest c.loop-i.i) e)
 
@@ -42,12 +42,12 @@ returns-then-not-stays_with c =
     let a = c.args in
     not-all (λ p. stays_with (rules_in a.rulebook) (weight_at a.part.now p) (raised_by a.best a.rest p (weight_at a.part.now p)))
     (length a.part.now)
-    c.loop-i.i (omega arith) (sym (told (goal.at.returns-then-not-stays_with c).After-stays_with) ∙ not-true _ c.if-not-stays_with.true-raw)
+    c.loop-i.i (omega arith) (sym (told (goal.at.returns-then-not-stays_with c).After-stays_with) ∙ c.if-not-stays_with.true)
 
 pub loop-i-preserved : goal.loop-i-preserved
 loop-i-preserved c =
     let f = c.ranges in
-    (omega arith, below_more _ _ c.loop-i.invariant.1 (rw (to_z-of_z f.best, to_z-of_z f.rest) (sym (told (goal.at.loop-i-preserved c).After-stays_with) ∙ not-false _ c.if-not-stays_with.false-raw)))
+    (omega arith, below_more _ _ c.loop-i.invariant.1 (rw (to_z-of_z f.best, to_z-of_z f.rest) (sym (told (goal.at.loop-i-preserved c).After-stays_with) ∙ c.if-not-stays_with.false)))
 
 pub returns : goal.returns
 returns c =

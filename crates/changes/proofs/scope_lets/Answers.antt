@@ -2,7 +2,6 @@ use mathlib.Core.Path.{◌≡◌, sym, ◌∙◌}
 use mir.Syntax.{w64}
 use mir.Val.{to_z, of_z}
 use mir.Facts.{to_z-of_z}
-use borrow.Author.Tests.{not-false}
 use Rattle.integers.specs.Linear.{read_back}
 use Rattle.definitions.specs.Rules.{rules_of}
 use Rattle.changes.specs.Scopes.{rest_of}
@@ -23,5 +22,5 @@ scope_stays-requires c =
 
 pub returns : goal.returns
 returns c =
-    let e = sym c.is_touched.ensures ∙ not-false _ c.if-not-is_touched.false-raw in
+    let e = sym c.is_touched.ensures ∙ c.if-not-is_touched.false in
     rw e (rw (to_z-of_z c.ranges.best, to_z-of_z c.ranges.amount, rest-is (goal.at.returns c).After-rest_of, c.values_in-lowered.ensures) at c.scope_stays.ensures)

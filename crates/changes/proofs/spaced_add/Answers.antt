@@ -7,6 +7,7 @@ use lib.ListN.{set}
 use mir.Facts.{to_z-of_z}
 use mir.Val.{of_z, to_z}
 use mir.Syntax.{w64}
+use borrow.Author.Rules.{rules}
 use Rattle.integers.specs.Linear.{read_back}
 use Rattle.changes.proofs.SpacedLaws.{spaced-next}
 use Rattle.changes.specs.Spaced.{weight_with, weight_at, spaced_add}
@@ -21,7 +22,7 @@ weight_with-weight-requires c =
     let a = c.args in
     let p = a.start + c.loop-j.j * a.step in
     -- the weight there is as it was
-    let held = read_back w64 (weight_at c.loop-j.table p) c.weight_with-arg-1.given ∙ ap (λ t. weight_at t p) c.loop-j.invariant.1
+    let held = read_back w64 (weight_at c.loop-j.table p) (search rules) ∙ ap (λ t. weight_at t p) c.loop-j.invariant.1
     ∙ spaced-next a.table.now a.start a.step (to_z w64 (of_z w64 a.by)) c.requires.sums_fit.1 c.loop-j.j in
     rw (to_z-of_z c.ranges.by, held) (c.requires.sums_fit.0 c.loop-j.j c.loop-j-test.true)
 
@@ -32,7 +33,7 @@ loop-j-preserved c =
     let p = a.start + c.loop-j.j * a.step in
     let r = c.weight_with-weight in
     let e = read_back w64 r.result r.type_inv ∙ r.ensures
-    ∙ ap (λ (z : ℤ). weight_with z (to_z w64 (of_z w64 a.by))) (read_back w64 (weight_at c.loop-j.table p) c.weight_with-arg-1.given) in (
+    ∙ ap (λ (z : ℤ). weight_with z (to_z w64 (of_z w64 a.by))) (read_back w64 (weight_at c.loop-j.table p) (search rules)) in (
       omega arith,
       rw (e, add-one) (ap (λ t. set t p (weight_with (weight_at t p) (to_z w64 (of_z w64 a.by)))) c.loop-j.invariant.1),
     )

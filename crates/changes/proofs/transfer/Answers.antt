@@ -5,7 +5,7 @@ use native.Mathlib.Omega.{arith}
 use lib.Dec.{ltb, eqb}
 use lib.ListN.{length}
 use mir.Facts.{to_z-of_z}
-use borrow.Author.Tests.{lt-ltb, le-ltb, not-true, not-false}
+use borrow.Author.Tests.{lt-ltb, le-ltb}
 use Rattle.integers.specs.Tests.{false-is}
 use Rattle.definitions.specs.Rules.{rules_of}
 use Rattle.definitions.specs.Case.{scope_count, lent_length}
@@ -40,10 +40,10 @@ unfolding transfer_call
 returns-then-not-within_limits c =
     let a = c.args in
     kept-limits-refused a.case a.table.now a.best.now (change (goal.at.returns-then-not-within_limits c).Start) (few (goal.at.returns-then-not-within_limits c).Start) (out (goal.at.returns-then-not-within_limits c).Start)
-    (sym c.within_limits.ensures ∙ not-true _ c.if-not-within_limits.true-raw)
+    (sym c.within_limits.ensures ∙ c.if-not-within_limits.true)
 
 right : (c : Else-not-within_limits) → let a = c.args in within_limits (rules_of a.case) a.case.n a.case.d a.case.m ≡ true
-right c = sym c.within_limits.ensures ∙ not-false _ c.if-not-within_limits.false-raw
+right c = sym c.within_limits.ensures ∙ c.if-not-within_limits.false
 
 pub lengths_wrong-requires : goal.lengths_wrong-requires
 lengths_wrong-requires c = limited c.args.case (right c)

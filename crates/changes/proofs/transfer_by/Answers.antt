@@ -4,7 +4,6 @@ use lib.IntN.{pos, neg_ℤ, ◌-ℤ◌}
 use mir.Syntax.{w64}
 use mir.Val.{SFits, to_z, of_z}
 use mir.Facts.{to_z-of_z}
-use borrow.Author.Tests.{not-false}
 use Rattle.integers.specs.Tests.{true-is}
 use Rattle.definitions.specs.Rules.{rules_in, coherent}
 use Rattle.changes.specs.Spaced.{spaced_stay, spaced_add}
@@ -19,7 +18,7 @@ back_at : (s : Start) → to_z w64 (of_z w64 (pos 0 -ℤ to_z w64 (of_z w64 s.ar
 back_at s = back_is s.args.amount s.ranges.amount (back-room s)
 
 others-stay : (c : Else-not-spaced_stay-2) → let a = c.args in spaced_stay (rules_in a.rulebook) a.table.now a.start a.step a.count (neg_ℤ a.amount) ≡ true
-others-stay c = rw (back_at (goal.at.Else-not-spaced_stay-2 c).Start) at (sym c.spaced_stay-2.ensures ∙ not-false _ c.if-not-spaced_stay-2.false-raw)
+others-stay c = rw (back_at (goal.at.Else-not-spaced_stay-2 c).Start) at (sym c.spaced_stay-2.ensures ∙ c.if-not-spaced_stay-2.false)
 
 pub spaced_add-requires-2 : goal.spaced_add-requires-2
 spaced_add-requires-2 c =

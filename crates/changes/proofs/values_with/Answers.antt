@@ -8,6 +8,7 @@ use lib.ListN.{get_or}
 use mir.Syntax.{w64}
 use mir.Val.{to_z, of_z}
 use mir.Facts.{to_z-of_z}
+use borrow.Author.Rules.{rules}
 use Rattle.integers.specs.Words.{eq_z}
 use Rattle.integers.specs.Linear.{read_back}
 use Rattle.marks.specs.Marks.{mark}
@@ -26,7 +27,7 @@ loop-j-preserved c =
     let l = c.loop-j in
     let a = c.args in
     let f : ℕ → Bool = λ v. eq_z (get_or a.table.now (a.from + v) (pos 0)) (to_z w64 (of_z w64 a.weight)) in
-    let read = read_back w64 (get_or a.table.now (a.from + (l.j - 1)) (pos 0)) c.same_weight-arg-1.given in (
+    let read = read_back w64 (get_or a.table.now (a.from + (l.j - 1)) (pos 0)) (search rules) in (
       omega arith,
       subst (λ (x : ℕ). x < 256) (sym c.push-set.ensures) (byte_small _),
       best-values-next f a.count l.j (l.j - 1) l.set c.push-set.result c.same_weight.result (omega (arith, c.loop-j-test.true))

@@ -4,7 +4,6 @@ use mathlib.Core.List.{List}
 use Prim.Native.Nat.{ℕ}
 use lib.IntN.{ℤ}
 use mir.Syntax.{w64}
-use borrow.Author.Tests.{not-true, not-false}
 use Rattle.integers.specs.Linear.{read_back}
 use Rattle.integers.specs.Tests.{and_intro, not-or-iff}
 use Rattle.definitions.specs.declared.Case.{Case}
@@ -27,10 +26,10 @@ out c w p = value_out c p || uses_barred c w p
 
 pub returns-then-not-within_limits : goal.returns-then-not-within_limits
 unfolding objective_answer
-returns-then-not-within_limits c = rw (sym c.within_limits.ensures ∙ not-true _ c.if-not-within_limits.true-raw)
+returns-then-not-within_limits c = rw (sym c.within_limits.ensures ∙ c.if-not-within_limits.true)
 
 pub uses_barred-requires : goal.uses_barred-requires
-uses_barred-requires c = limited c.args.case (sym c.within_limits.ensures ∙ not-false _ c.if-not-within_limits.false-raw)
+uses_barred-requires c = limited c.args.case (sym c.within_limits.ensures ∙ c.if-not-within_limits.false)
 
 -- what was checked, with the definitions for the arguments
 asked : (c : After-check_working-checked) → let a = c.args in

@@ -5,6 +5,7 @@ use lib.ListN.{get_or}
 use mir.Syntax.{w64}
 use mir.Val.{to_z, of_z}
 use mir.Facts.{to_z-of_z}
+use borrow.Author.Rules.{rules}
 use Rattle.integers.specs.Linear.{read_back}
 use Rattle.definitions.specs.Case.{barred_weight}
 use Rattle.gaps.specs.Gaps.{less_gaps, higher_floor}
@@ -21,7 +22,7 @@ loop-j-preserved c =
     let f = to_z w64 c.loop-j.floor-bits in
     let z = get_or p c.loop-j.j (pos 0) in
     let r = c.higher_floor-floor in
-    let e : to_z w64 (of_z w64 r.result) ≡ higher_floor b z f = read_back w64 r.result r.type_inv ∙ r.ensures ∙ ap (λ (z : ℤ). higher_floor b z f) (read_back w64 z c.higher_floor-arg-1.given) in (
+    let e : to_z w64 (of_z w64 r.result) ≡ higher_floor b z f = read_back w64 r.result r.type_inv ∙ r.ensures ∙ ap (λ (z : ℤ). higher_floor b z f) (read_back w64 z (search rules)) in (
       omega arith,
       rw e (floor-next b l c.loop-j.invariant.1 z),
       gaps-next b (floor_gap b l f) (floor_gap b l (to_z w64 (of_z w64 r.result))) p c.loop-j.j (omega arith)

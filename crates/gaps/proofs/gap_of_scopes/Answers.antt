@@ -2,6 +2,7 @@ use mathlib.Core.Path.{◌∙◌}
 use Prim.Native.Nat.{◌<◌}
 use native.Mathlib.Omega.{arith}
 use mir.Syntax.{w64}
+use borrow.Author.Rules.{rules}
 use Rattle.integers.specs.Linear.{read_back}
 use Rattle.definitions.specs.Rules.{coherent}
 use Rattle.definitions.specs.Case.{scope_count}
@@ -20,7 +21,7 @@ limited_gap-least-requires c =
     let b = best_at a.best.now l.x in record {
       limited = (c.requires.limited.0, c.requires.limited.1, h);
       t = (
-        rw (read_back w64 b c.limited_gap-arg-1.given) (working-small (coherent a.case.rulebook) b (c.requires.all_working l.x h)),
+        rw (read_back w64 b (search rules)) (working-small (coherent a.case.rulebook) b (c.requires.all_working l.x h)),
         rw l.invariant.1 (scopes-bounded a.case a.table.now a.best.now a.raised.now a.variable l.x),
       );
     }
@@ -32,5 +33,5 @@ loop-x-preserved c =
     let r = c.limited_gap-least in (
       omega arith,
       scopes-next a.case a.table.now a.best.now a.raised.now a.variable l.x l.invariant.1
-          (read_back w64 r.result r.type_inv ∙ rw (read_back w64 (best_at a.best.now l.x) c.limited_gap-arg-1.given) at r.ensures),
+          (read_back w64 r.result r.type_inv ∙ rw (read_back w64 (best_at a.best.now l.x) (search rules)) at r.ensures),
     )

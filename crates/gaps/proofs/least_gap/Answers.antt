@@ -3,7 +3,7 @@ use mathlib.Core.Bool.{true, false, not, ◌||◌}
 use native.Mathlib.Omega.{arith}
 use lib.Dec.{eqb, ltb}
 use lib.ListN.{length}
-use borrow.Author.Tests.{lt-ltb, le-ltb, not-true, not-false}
+use borrow.Author.Tests.{lt-ltb, le-ltb}
 use Rattle.definitions.specs.Rules.{rules_of}
 use Rattle.definitions.specs.Case.{scope_count, lent_length}
 use Rattle.definitions.specs.Valid.{within_limits}
@@ -15,10 +15,10 @@ use Rattle.gaps.proofs.least_gap.Goals.{Else-lengths_wrong, Else-not-within_limi
 
 pub returns-then-not-within_limits : goal.returns-then-not-within_limits
 unfolding least_gap_answer
-returns-then-not-within_limits c = rw (sym c.within_limits.ensures ∙ not-true _ c.if-not-within_limits.true-raw)
+returns-then-not-within_limits c = rw (sym c.within_limits.ensures ∙ c.if-not-within_limits.true)
 
 right : (c : Else-not-within_limits) → let a = c.args in within_limits (rules_of a.case) a.case.n a.case.d a.case.m ≡ true
-right c = sym c.within_limits.ensures ∙ not-false _ c.if-not-within_limits.false-raw
+right c = sym c.within_limits.ensures ∙ c.if-not-within_limits.false
 
 pub lengths_wrong-requires : goal.lengths_wrong-requires
 lengths_wrong-requires c = limited c.args.case (right c)

@@ -1,7 +1,6 @@
 use mathlib.Core.Path.{sym, ◌∙◌}
-use borrow.Author.Tests.{not-false}
 use Rattle.tables.proofs.Order.{limited}
 use Rattle.round_lines.proofs.check_round.Goals as goal
 
 pub too_short-requires : goal.too_short-requires
-too_short-requires c = limited c.args.case (sym c.within_limits.ensures ∙ not-false _ c.if-not-within_limits.false-raw)
+too_short-requires c = limited c.args.case (sym c.within_limits.ensures ∙ c.if-not-within_limits.false)

@@ -2,7 +2,6 @@ use mathlib.Core.Path.{◌≡◌, sym, ap, ◌∙◌}
 use mathlib.Core.Bool.{true}
 use mathlib.Core.List.{List}
 use native.Mathlib.Omega.{arith}
-use borrow.Author.Tests.{not-true, not-false}
 use Rattle.definitions.specs.declared.Line.{Line}
 use Rattle.definitions.specs.Rules.{rules_of}
 use Rattle.definitions.specs.Case.{scope_count}
@@ -21,10 +20,10 @@ pub returns-then-not-within_limits : goal.returns-then-not-within_limits
 returns-then-not-within_limits c =
     let a = c.args in
     let h = lines-outside a.case a.out.now a.variable (lines_here (goal.at.returns-then-not-within_limits c).Start) a.raised.now
-    (sym c.within_limits.ensures ∙ not-true _ c.if-not-within_limits.true-raw) in record { value = h.0; out_after = h.1 }
+    (sym c.within_limits.ensures ∙ c.if-not-within_limits.true) in record { value = h.0; out_after = h.1 }
 
 right : (c : Else-not-within_limits) → let a = c.args in within_limits (rules_of a.case) a.case.n a.case.d a.case.m ≡ true
-right c = sym c.within_limits.ensures ∙ not-false _ c.if-not-within_limits.false-raw
+right c = sym c.within_limits.ensures ∙ c.if-not-within_limits.false
 
 pub returns-then-raised-case : goal.returns-then-raised-case
 returns-then-raised-case c =
