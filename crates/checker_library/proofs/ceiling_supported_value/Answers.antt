@@ -20,10 +20,8 @@ use Rattle.calls.specs.Calls.{FamilyCall, family_found, family_short, supported_
 use Rattle.encoding.specs.CaseBytes.{case_in}
 use Rattle.checker_library.specs.Answers.{value_of}
 use Rattle.checker_library.specs.Calls.{value_call}
-use borrow.Author.Rules.{rules}
 use borrow.Author.Tests.{le-ltb}
-use Rattle.checker_library.proofs.ceiling_supported_value.Statement.{statement}
-use Rattle.checker_library.proofs.ceiling_supported_value.Tie as tie
+use Rattle.checker_library.proofs.ceiling_supported_value.Goals as goal
 
 abbrev below : Figure → Bool
 below x = lt_z (value_at (figure_says x) 0) (pos 0)
@@ -40,49 +38,22 @@ counts r c w i family partners =
     found-counts c w i family partners (first_refusal (handed_over r (working_weight r) c w (family_short c family partners) (not (ltb i c.n))))
     (supported_value c w i)
 
-case-of-requires : tie.Need-case-of-requires
-case-of-requires c κs = search rules
-
-supported-value-requires : tie.Need-supported-value-requires
-supported-value-requires c κs = search rules
-
-value-of-requires : tie.Need-value-of-requires
-value-of-requires c κs =
-    let v = c.before.before.before.before in
-    let k = v.before.before.before in
-    let a = k.before.before.before.args in
+pub value_of-requires : goal.value_of-requires
+value_of-requires c =
+    let a = c.args in
     let call : Case → FamilyCall = λ x. supported_value_call (rules_of x) x a.table.now a.link a.family.now a.partners.now in
     let x = case_in a.case.now in
-    ap below (v.supported-value.ensures.0 ∙ ap (λ (y : Case). (call y).answer) k.case-of.ensures)
+    ap below (c.supported_value.ensures.0 ∙ ap (λ (y : Case). (call y).answer) c.case_of.ensures)
     ∙ counts (rules_of x) x a.table.now a.link a.family.now a.partners.now
 
-same_length : tie.Need-same-length
-same_length c = search rules
-
-same-length-2 : tie.Need-same-length-2
-same-length-2 c = search rules
-
-returns : tie.Need-returns
+pub returns : goal.returns
 unfolding value_call
 returns c =
-    let v = c.before.before.before.before.before in
-    let k = v.before.before.before in
-    let a = k.before.before.before.args in
-    let (p, q, s) = v.supported-value.ensures in
+    let a = c.args in
+    let (p, q, s) = c.supported_value.ensures in
     let call : Case → FamilyCall = λ x. supported_value_call (rules_of x) x a.table.now a.link a.family.now a.partners.now in
-    let e = k.case-of.ensures in (
-      c.value-of.ensures ∙ ap (λ (x : Figure). value_of (figure_says x)) (p ∙ ap (λ (x : Case). (call x).answer) e),
+    let e = c.case_of.ensures in (
+      c.value_of.ensures ∙ ap (λ (x : Figure). value_of (figure_says x)) (p ∙ ap (λ (x : Case). (call x).answer) e),
       q ∙ ap (λ (x : Case). (call x).family) e,
       s ∙ ap (λ (x : Case). (call x).partners) e,
     )
-
-pub ceiling-supported-value-spec : {M : Type 1} → statement M
-ceiling-supported-value-spec =
-    tie.close
-    (tie.spec
-    case-of-requires
-    supported-value-requires
-    value-of-requires
-    same_length
-    same-length-2
-    returns)
