@@ -3,9 +3,7 @@ use Prim.Native.Nat.{◌≤◌}
 use native.Mathlib.Omega.{arith}
 use lib.ListN.{length}
 use Rattle.case_theory.proofs.Zeroed.{zeroed-length}
-use Rattle.tables.proofs.Order.{values-small}
 use Rattle.growing.proofs.Joined.{end, end-lent, both-joined}
-use borrow.Author.Rules.{rules}
 use Rattle.growing.proofs.grow_tables.Goals as goal
 use Rattle.growing.proofs.grow_tables.Goals.{Start}
 

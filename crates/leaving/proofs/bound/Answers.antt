@@ -17,7 +17,7 @@ answered c e = sym e ∙ c.sum_of_greatest-sum.ensures ∙ greatest-sum-known c.
 pub returns-in-Value : goal.returns-in-Value
 returns-in-Value c = let e = answered (goal.at.returns-in-Value c).After-sum_of_greatest-sum c.in-Value.is in
     let d : c.in-Value.bound ≡ upper_bound c.args.case c.args.table.now = cc in
-    read_back w64 c.in-Value.bound c.in-Value.known_told-1-own.given.0.1 ∙ d
+    read_back w64 c.in-Value.bound (search rules) ∙ d
 
 pub returns-in-Refused : goal.returns-in-Refused
 returns-in-Refused c = let e = answered (goal.at.returns-in-Refused c).After-sum_of_greatest-sum c.in-Refused.is in

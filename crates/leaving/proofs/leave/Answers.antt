@@ -6,7 +6,6 @@ use Rattle.definitions.specs.Refusals.{first_refusal}
 use Rattle.definitions.specs.Answers.{outcome_of}
 use Rattle.definitions.specs.Valid.{both_handed_over}
 use Rattle.leaving.proofs.Call.{at_least, leave-alone, leave-refused, leave-done, leave-known}
-use borrow.Author.Rules.{rules}
 use Rattle.leaving.proofs.leave.Goals as goal
 use Rattle.leaving.proofs.leave.Goals.{After-check_both-answer}
 

@@ -15,4 +15,4 @@ few s = omega (arith, (coherent s.args.case.rulebook).edges_placed)
 pub returns : goal.returns
 returns c = let a = c.args in
     let e = upper-same a.lower.now a.case.n a.edges (omega (arith, few (goal.at.returns c).Start, c.grown_ends.ensures.1)) (omega (arith, few (goal.at.returns c).Start)) in
-    rw (c.grown_ends.ensures.0, c.grown_ends-2.ensures.0, e, read_back w64 a.case.carry c.struct_told-1.given.1.1.1.1.1.0.1)
+    rw (c.grown_ends.ensures.0, c.grown_ends-2.ensures.0, e, read_back w64 a.case.carry (search rules))

@@ -1,9 +1,6 @@
-use mathlib.Core.Path.{◌≡◌, refl}
-use Prim.Native.Nat.{◌-◌, ◌≤◌}
-use native.Mathlib.Omega.{arith}
+use Prim.Native.Nat.{◌≤◌}
 use lib.ListN.{get_or}
 use Rattle.growing.specs.Parts.{Written}
-use Rattle.growing.proofs.Writing.{none_written, one_written}
 use Rattle.growing.proofs.ends.put_ends.Given as goal
 
 abbrev pub invariant-loop-j : goal.invariant-loop-j

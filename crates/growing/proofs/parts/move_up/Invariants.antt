@@ -1,12 +1,7 @@
-use mathlib.Core.Path.{◌≡◌, ◌∙◌}
-use Prim.Native.Nat.{ℕ, ◌+◌, ◌-◌, ◌≤◌}
-use native.Mathlib.Omega.{arith}
+use Prim.Native.Nat.{◌+◌, ◌≤◌}
 use lib.IntN.{pos}
 use lib.ListN.{get_or}
-use mir.Syntax.{w64}
-use Rattle.integers.specs.Linear.{read_back}
 use Rattle.growing.specs.Parts.{Written}
-use Rattle.growing.proofs.Writing.{none_written, one_written}
 use Rattle.growing.proofs.parts.move_up.Given as goal
 
 abbrev pub invariant-loop-j : goal.invariant-loop-j

@@ -1,24 +1,24 @@
 use mathlib.Core.Path.{◌≡◌, sym, ap, ap₂, subst, ◌∙◌}
-use Prim.Native.Nat.{ℕ, ◌+◌, ◌-◌, ◌≤◌}
+use Prim.Native.Nat.{ℕ, ◌+◌, ◌≤◌}
 use native.Mathlib.Omega.{arith}
 use lib.IntN.{◌+ℤ◌, +ℤ_idl}
 use mir.Syntax.{w64}
+use borrow.Author.Rules.{rules}
 use mir.Val.{to_z, of_z, SFits}
 use mir.Facts.{to_z-of_z}
 use Rattle.integers.specs.Linear.{read_back}
-use Rattle.integers.specs.Sums.{Σ}
 use Rattle.tables.proofs.Bounds.{sum_more}
 use Rattle.leaving.specs.Scopes.{growth, edge_growth}
 use Rattle.leaving.proofs.Growth.{carry_to, carry-fits, carry-whole}
 use Rattle.leaving.proofs.carry.carry_after.Goals as goal
-use Rattle.leaving.proofs.carry.carry_after.Goals.{After-edge_growth-carry, After-struct_told-1, Start}
+use Rattle.leaving.proofs.carry.carry_after.Goals.{After-edge_growth-carry, After-scope_growth, Start}
 
-base : (c : After-struct_told-1) → let a = c.args in
+base : (c : After-scope_growth) → let a = c.args in
     to_z w64 (of_z w64 a.case.carry) +ℤ to_z w64 (of_z w64 c.scope_growth.result)
     ≡ a.case.carry +ℤ growth a.case a.starting.now a.table.now a.variable
 base c =
     let g = c.scope_growth in
-    ap₂ ◌+ℤ◌ (read_back w64 c.args.case.carry c.struct_told-1.given.1.1.1.1.1.0.1)
+    ap₂ ◌+ℤ◌ (read_back w64 c.args.case.carry (search rules))
     (read_back w64 g.result g.type_inv ∙ g.ensures)
 
 fits : (i : Start) (e : ℕ) → e ≤ i.args.case.m → let a = i.args in
@@ -26,10 +26,10 @@ fits : (i : Start) (e : ℕ) → e ≤ i.args.case.m → let a = i.args in
 fits i = let a = i.args in carry-fits a.case a.starting.now a.table.now i.requires.both_handed a.variable i.requires.variable_lt_n
 
 pub overflow_add-carry : goal.overflow_add-carry
-overflow_add-carry c = rw (base c) (subst (SFits w64) (+ℤ_idl _) (fits (goal.at.overflow_add-carry c).Start 0 (omega arith)))
+overflow_add-carry c = rw (base (goal.at.overflow_add-carry c).After-scope_growth) (subst (SFits w64) (+ℤ_idl _) (fits (goal.at.overflow_add-carry c).Start 0 (omega arith)))
 
 pub loop-e-init : goal.loop-e-init
-loop-e-init c = (omega arith, to_z-of_z (overflow_add-carry c) ∙ base c ∙ sym (+ℤ_idl _))
+loop-e-init c = (omega arith, to_z-of_z (overflow_add-carry c) ∙ base (goal.at.loop-e-init c).After-scope_growth ∙ sym (+ℤ_idl _))
 
 next : (c : After-edge_growth-carry) → let a = c.args in
     to_z w64 c.loop-e.carry-bits +ℤ to_z w64 (of_z w64 c.edge_growth-carry.result)

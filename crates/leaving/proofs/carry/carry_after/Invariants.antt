@@ -1,15 +1,8 @@
-use mathlib.Core.Path.{◌≡◌, sym, ap, ap₂, subst, ◌∙◌}
-use Prim.Native.Nat.{ℕ, ◌+◌, ◌-◌, ◌≤◌}
-use native.Mathlib.Omega.{arith}
-use lib.IntN.{◌+ℤ◌, +ℤ_idl}
-use mir.Syntax.{w64}
-use mir.Val.{to_z, of_z, SFits}
-use mir.Facts.{to_z-of_z}
-use Rattle.integers.specs.Linear.{read_back}
+use mathlib.Core.Path.{◌≡◌}
+use Prim.Native.Nat.{◌-◌, ◌≤◌}
+use lib.IntN.{◌+ℤ◌}
 use Rattle.integers.specs.Sums.{Σ}
-use Rattle.tables.proofs.Bounds.{sum_more}
 use Rattle.leaving.specs.Scopes.{growth, edge_growth}
-use Rattle.leaving.proofs.Growth.{carry_to, carry-fits, carry-whole}
 use Rattle.leaving.proofs.carry.carry_after.Given as goal
 
 abbrev pub invariant-loop-e : goal.invariant-loop-e

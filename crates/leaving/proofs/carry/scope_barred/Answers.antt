@@ -5,7 +5,6 @@ use Rattle.definitions.specs.Case.{is_barred}
 use Rattle.theory.proofs.Validity.{working-handed}
 use Rattle.tables.proofs.Answered.{scope-weights-known}
 use Rattle.leaving.proofs.Growth.{part-some-barred}
-use borrow.Author.Rules.{rules}
 use Rattle.leaving.proofs.carry.scope_barred.Goals as goal
 
 pub returns : goal.returns

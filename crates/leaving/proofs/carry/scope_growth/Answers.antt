@@ -9,7 +9,6 @@ use Rattle.tables.proofs.Parts.{part-greatest}
 use Rattle.tables.proofs.Answered.{scope-weights-known}
 use Rattle.leaving.specs.Scopes.{growth}
 use Rattle.leaving.proofs.Growth.{part-least, first-working, growth-fits}
-use borrow.Author.Rules.{rules}
 use Rattle.leaving.proofs.carry.scope_growth.Goals as goal
 use Rattle.leaving.proofs.carry.scope_growth.Goals.{After-least-least}
 

@@ -1,12 +1,6 @@
-use mathlib.Core.Path.{◌≡◌, sym, ap, ◌∙◌}
-use mathlib.Core.Bool.{Bool, false, ◌||◌}
+use mathlib.Core.Path.{◌≡◌}
+use mathlib.Core.Bool.{false}
 use Prim.Native.Nat.{ℕ, ◌-◌, ◌≤◌, ◌<◌}
-use native.Mathlib.Omega.{arith}
-use borrow.Author.Count.{below_more}
-use Rattle.integers.specs.Words.{below, any}
-use Rattle.logs.specs.Leave.{some_barred}
-use Rattle.tables.proofs.Search.{or-second, found, not_found}
-use Rattle.leaving.proofs.Growth.{barred-whole}
 use Rattle.leaving.specs.Scopes.{edge_barred}
 use Rattle.leaving.proofs.carry.some_barred.Given as goal
 

@@ -1,13 +1,13 @@
-use mathlib.Core.Path.{◌≡◌, refl, ap, ap₂, ◌∙◌}
+use mathlib.Core.Path.{ap, ap₂, ◌∙◌}
 use mathlib.Core.List.{List}
-use Prim.Native.Nat.{ℕ, ◌+◌, ◌-◌, ◌≤◌, ◌<◌}
+use Prim.Native.Nat.{ℕ, ◌+◌, ◌<◌}
 use native.Mathlib.Omega.{arith}
 use lib.ListN.{length, set}
 use Rattle.integers.specs.Words.{if◌then◌else◌}
 use Rattle.definitions.specs.Rules.{edge_places}
 use Rattle.logs.specs.Leave.{has_end, moved_down}
 use Rattle.definitions.specs.Case.{lower_end, upper_end}
-use Rattle.leaving.specs.Scopes.{staying_to, ends_left}
+use Rattle.leaving.specs.Scopes.{staying_to}
 use Rattle.leaving.proofs.Edges.{few-stay, count_next, ends_next}
 use Rattle.leaving.proofs.ends.put_edges.Goals as goal
 

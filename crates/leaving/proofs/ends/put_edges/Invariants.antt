@@ -1,14 +1,8 @@
-use mathlib.Core.Path.{◌≡◌, refl, ap, ap₂, ◌∙◌}
-use mathlib.Core.List.{List}
-use Prim.Native.Nat.{ℕ, ◌+◌, ◌-◌, ◌≤◌, ◌<◌}
-use native.Mathlib.Omega.{arith}
-use lib.ListN.{length, set}
-use Rattle.integers.specs.Words.{if◌then◌else◌}
-use Rattle.definitions.specs.Rules.{edge_places}
-use Rattle.logs.specs.Leave.{has_end, moved_down}
+use mathlib.Core.Path.{◌≡◌}
+use Prim.Native.Nat.{◌-◌, ◌≤◌}
+use lib.ListN.{length}
 use Rattle.definitions.specs.Case.{lower_end, upper_end}
 use Rattle.leaving.specs.Scopes.{staying_to, ends_left}
-use Rattle.leaving.proofs.Edges.{few-stay, count_next, ends_next}
 use Rattle.leaving.proofs.ends.put_edges.Given as goal
 
 abbrev pub invariant-loop-e : goal.invariant-loop-e

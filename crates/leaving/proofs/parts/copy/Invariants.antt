@@ -1,12 +1,7 @@
-use mathlib.Core.Path.{◌≡◌, refl, sym, ◌∙◌}
+use mathlib.Core.Path.{◌≡◌}
 use Prim.Native.Nat.{ℕ, ◌-◌, ◌≤◌, ◌<◌}
-use native.Mathlib.Omega.{arith}
 use lib.IntN.{pos}
-use lib.ListN.{length, get_or, length-set}
-use lib.Seq.{ext_get_or, get_or-set_same, get_or-set_other}
-use mir.Syntax.{w64}
-use borrow.Author.Count.{below_more}
-use Rattle.integers.specs.Linear.{read_back}
+use lib.ListN.{length, get_or}
 use Rattle.leaving.proofs.parts.copy.Given as goal
 
 abbrev pub invariant-loop-i : goal.invariant-loop-i

@@ -1,5 +1,4 @@
-use Rattle.leaving.proofs.Moving.{left_out, moved-part}
-use borrow.Author.Rules.{rules}
+use Rattle.leaving.proofs.Moving.{moved-part}
 use Rattle.leaving.proofs.parts.keep_part.Goals as goal
 
 pub returns-then-stay : goal.returns-then-stay

@@ -1,11 +1,8 @@
-use mathlib.Core.Path.{◌≡◌, refl, sym, ap, ap₂, ◌∙◌}
-use Prim.Native.Nat.{ℕ, ◌+◌, ◌-◌, ◌≤◌}
+use mathlib.Core.Path.{sym, ap₂, ◌∙◌}
+use Prim.Native.Nat.{◌+◌, ◌≤◌}
 use native.Mathlib.Omega.{arith}
-use lib.ListN.{length, take, drop}
-use Rattle.definitions.specs.Case.{place}
-use Rattle.theory.proofs.Places.{place-variable, place-edge}
+use lib.ListN.{length}
 use Rattle.tables.proofs.Parts.{part-own}
-use Rattle.leaving.specs.Scopes.{kept_to}
 use Rattle.leaving.proofs.Kept.{place-next, kept_step}
 use Rattle.leaving.proofs.parts.keep_parts.Goals as goal
 use Rattle.leaving.proofs.parts.keep_parts.Goals.{After-stays-stay}

@@ -1,12 +1,8 @@
-use mathlib.Core.Path.{◌≡◌, refl, sym, ap, ap₂, ◌∙◌}
-use Prim.Native.Nat.{ℕ, ◌+◌, ◌-◌, ◌≤◌}
-use native.Mathlib.Omega.{arith}
+use mathlib.Core.Path.{◌≡◌}
+use Prim.Native.Nat.{◌-◌, ◌≤◌}
 use lib.ListN.{length, take, drop}
 use Rattle.definitions.specs.Case.{place}
-use Rattle.theory.proofs.Places.{place-variable, place-edge}
-use Rattle.tables.proofs.Parts.{part-own}
 use Rattle.leaving.specs.Scopes.{kept_to}
-use Rattle.leaving.proofs.Kept.{place-next, kept_step}
 use Rattle.leaving.proofs.parts.keep_parts.Given as goal
 
 abbrev pub invariant-loop-x : goal.invariant-loop-x

@@ -8,7 +8,6 @@ use lib.Seq.{length-take-le}
 use Rattle.definitions.specs.Case.{own_length}
 use Rattle.logs.specs.Leave.{fresh_case}
 use Rattle.leaving.proofs.Kept.{kept-length, kept-all}
-use borrow.Author.Rules.{rules}
 use Rattle.leaving.proofs.parts.remove_scopes.Goals as goal
 
 pub returns : goal.returns
