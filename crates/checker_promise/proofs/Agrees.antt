@@ -23,7 +23,7 @@ use Rattle.checker.specs.declared.Due.{Due}
 use Rattle.checker.specs.declared.Replay.{Replay}
 use Rattle.definitions.specs.Rules.{Rules, scopes_at_most, scope_places}
 use Rattle.definitions.specs.Answers.{outcome_of}
-use Rattle.definitions.specs.Case.{scopes, scope_count, values, active, barred}
+use Rattle.definitions.specs.Case.{scope_count, values, active, barred}
 use Rattle.definitions.specs.Valid.{working_weight}
 use Rattle.definitions.specs.Consistency.{all_refuted}
 use Rattle.definitions.specs.Moves.{plus, spared, only_where, press_by, active_values}

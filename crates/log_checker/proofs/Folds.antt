@@ -2,10 +2,9 @@
 -- nothing.
 use mathlib.Core.Path.{◌≡◌, refl, sym, ap, subst, ◌∙◌}
 use mathlib.Core.Logic.{◌≢◌, ⊎_elim}
-use mathlib.Core.Bool.{Bool}
 use mathlib.Core.Option.{Option, none, some}
 use mathlib.Core.List.{List, [], ◌∷◌}
-use Prim.Native.Nat.{ℕ, zero, suc, ◌+◌, ◌*◌, ◌-◌, ◌≤◌, ◌<◌}
+use Prim.Native.Nat.{ℕ, zero, suc, ◌+◌, ◌*◌, ◌≤◌, ◌<◌}
 use native.Mathlib.Omega.{arith}
 use borrow.Author.Tests.{ne_eqb}
 use lib.IntN.{ℤ}
@@ -29,10 +28,9 @@ use Rattle.checker.specs.Checker.{taken_lines, first_refused}
 use Rattle.checker.specs.Taken.{bytes_per_line, more_by as more_lines}
 use Rattle.checker.proofs.Fold.{no-line, some-line, first-line, ends_with as stretch_ends}
 use Rattle.checker.proofs.Fold.{fold-none as stretch-none, fold_done as stretch-done, fold-refused as stretch-refused}
-use Rattle.log_checker.specs.declared.Joining.{Joining}
 use Rattle.log_checker.specs.Checker.{Between, StepCall, BlockCall, LineAsked, with_stretch, lent_number, of_line, step_by, step_line, step_standing}
 use Rattle.log_checker.specs.Checker.{step_replay, after_lines, line_answers, fold_replay, is_between, no_line, lent_standing, block_replay}
-use Rattle.log_checker.specs.Taken.{Lent, Settled, standing_good, lifted, lifted_lines, more_by, ends_with}
+use Rattle.log_checker.specs.Taken.{Settled, standing_good, lifted, lifted_lines, more_by, ends_with}
 use Rattle.log_checker.proofs.Lift.{lift-done, lift-refused, settled-after}
 
 pub more-by : (n k : ℕ) (x : BlockCall) → more_by n (more_by k x) ≡ more_by (n + k) x

@@ -4,24 +4,23 @@ use mathlib.Core.Path.{◌≡◌, refl, sym, ap, subst, ◌∙◌}
 use mathlib.Core.Logic.{◌≢◌, ⊎_elim}
 use mathlib.Core.Bool.{Bool, true, false, not, ◌&&◌, ◌||◌}
 use mathlib.Core.Option.{Option, none, some}
-use mathlib.Core.List.{List, [], ◌∷◌}
+use mathlib.Core.List.{List, ◌∷◌}
 use Prim.Native.Nat.{ℕ}
 use native.Mathlib.Omega.{arith}
-use lib.IntN.{ℤ, pos}
+use lib.IntN.{pos}
 use lib.Dec.{T, T_not, not_T}
-use Rattle.integers.specs.Words.{if◌then◌else◌, any, is_in}
+use Rattle.integers.specs.Words.{any, is_in}
 use Rattle.integers.specs.Lists.{any-in}
-use Rattle.integers.specs.Tests.{either, is_true, is_false, and_left, and_right, or_cases, if-false}
+use Rattle.integers.specs.Tests.{is_true, and_left, and_right, or_cases}
 use Rattle.integers.specs.Linear.{T-eq}
 use Rattle.definitions.specs.declared.Line.{Line}
 use Rattle.definitions.specs.declared.Outcome.{Outcome}
 use Rattle.definitions.specs.declared.Refusal.{Refusal}
-use Rattle.definitions.specs.declared.Refusal.TheVariants.{NotInColumns, NotDue, OutOfRange}
+use Rattle.definitions.specs.declared.Refusal.TheVariants.{NotDue, OutOfRange}
 use Rattle.definitions.specs.Rules.{Rules, coherent, rules_of}
 use Rattle.definitions.specs.Refusals.{◌when◌, first_refusal, sooner}
-use Rattle.definitions.specs.Case.{barred}
 use Rattle.definitions.specs.Valid.{both_handed_over}
-use Rattle.definitions.specs.Lines.{read_line, not_due, is_kind, has_kind, unused_zero}
+use Rattle.definitions.specs.Lines.{read_line, not_due, is_kind, unused_zero}
 use Rattle.theory.proofs.Validity.{BothHanded, both-handed}
 use Rattle.theory.proofs.Replays.{none-iff}
 use Rattle.checker.specs.declared.Due.{Due}
@@ -33,9 +32,9 @@ use Rattle.checker.specs.Checker.{step_standing as stretch_standing, step_replay
 use Rattle.checker.proofs.Front.{good-out, good-next, good-not-due}
 use Rattle.checker.proofs.Leaves.{step-leaves}
 use Rattle.log_checker.specs.declared.Joining.{Joining}
-use Rattle.log_checker.specs.Checker.{Between, StepCall, LineAsked, is_between, with_stretch, lent_tests, lent_number, of_move, of_line, step_by, step_line}
+use Rattle.log_checker.specs.Checker.{Between, LineAsked, is_between, lent_tests, lent_number, of_move, of_line, step_by, step_line}
 use Rattle.log_checker.specs.Checker.{step_standing, step_replay}
-use Rattle.log_checker.specs.Taken.{Lent, Settled, changes_links, step_refused, lifted}
+use Rattle.log_checker.specs.Taken.{Settled, changes_links, step_refused, lifted}
 
 -- ---- kinds 7 and 8 are never among those that are due in a stretch
 

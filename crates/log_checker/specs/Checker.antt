@@ -16,11 +16,8 @@ use Rattle.checker.specs.declared.Standing.{Standing}
 use Rattle.checker.specs.declared.Replay.{Replay as Stretch}
 use Rattle.log_checker.specs.declared.Joining.{Joining}
 use Rattle.log_checker.specs.declared.LogRecord.{LogRecord}
-use Rattle.log_checker.specs.declared.Stepped.{Stepped}
-use Rattle.log_checker.specs.declared.Block.{Block}
 use Rattle.definitions.specs.Rules.{Rules, edge_places}
 use Rattle.definitions.specs.Refusals.{Test, ◌when◌, first_refusal, sooner}
-use Rattle.definitions.specs.Answers.{outcome_of}
 use Rattle.definitions.specs.Case.{own_length, upper_bound}
 use Rattle.definitions.specs.Valid.{both_handed_over}
 use Rattle.definitions.specs.Lines.{read_line, not_due, is_kind, whole_lines, lines_in}

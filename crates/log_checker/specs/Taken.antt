@@ -10,7 +10,6 @@ use Rattle.checker.specs.declared.Standing.{Standing}
 use Rattle.checker.specs.declared.Replay.{Replay as Stretch}
 use Rattle.checker.specs.Checker.{StepCall as StretchCall, BlockCall as StretchLines}
 use Rattle.log_checker.specs.declared.Joining.{Joining}
-use Rattle.log_checker.specs.declared.LogRecord.{LogRecord}
 use Rattle.log_checker.specs.Checker.{Between, StepCall, BlockCall, with_stretch, refused_replay, lent_number}
 
 -- no number stands, and none applies to what was handed over

@@ -1,15 +1,14 @@
 -- The checker's promise holds for every valid case and every list of byte strings, whoever wrote them. Assumes nothing.
 use mathlib.Core.Path.{◌≡◌, refl, sym, ap, subst, ◌∙◌}
-use mathlib.Core.Bool.{Bool, true, false, not, ◌&&◌, ◌||◌}
+use mathlib.Core.Bool.{Bool, true, false, not, ◌&&◌}
 use mathlib.Core.Logic.{◌↔◌}
 use mathlib.Core.Option.{Option, none, some}
 use mathlib.Core.List.{List, [], ◌∷◌, ◌++◌, map}
 use Prim.Native.Nat.{ℕ}
 use native.Mathlib.Omega.{arith}
-use lib.IntN.{ℤ, pos}
+use lib.IntN.{ℤ}
 use lib.Dec.{T}
-use Rattle.integers.specs.Words.{any, is_some}
-use Rattle.integers.specs.Tests.{not-or-iff, and_right, is_false}
+use Rattle.integers.specs.Tests.{not-or-iff, is_false}
 use Rattle.integers.specs.Options.{none-some}
 use Rattle.integers.specs.Linear.{flat, zs, ◌▸◌}
 use Rattle.integers.specs.Lists.{map-map, map-cong}
@@ -17,7 +16,7 @@ use Rattle.definitions.specs.declared.Case.{Case}
 use Rattle.definitions.specs.declared.Refusal.{Refusal}
 use Rattle.definitions.specs.declared.Outcome.{Outcome}
 use Rattle.definitions.specs.declared.Figure.{Figure}
-use Rattle.definitions.specs.Rules.{Rules, Coherent, coherent, rules_of}
+use Rattle.definitions.specs.Rules.{Rules, coherent, rules_of}
 use Rattle.definitions.specs.Answers.{outcome_of, outcome_says, figure_says}
 use Rattle.definitions.specs.Case.{own_length, upper_bound}
 use Rattle.definitions.specs.CaseFiles.{zeroed_from}
@@ -26,7 +25,7 @@ use Rattle.definitions.specs.Valid.{working_weight, valid}
 use Rattle.calls.specs.Calls.{figure_of, upper_bound_answer}
 use Rattle.definitions.specs.Replay.{Held, State, fresh, step, after}
 use Rattle.logs.specs.Logs.{LogState, in_stretch, fresh_log, between_rounds, step_log, after_log, log_answers, log_end, keeps_log_rules}
-use Rattle.logs.specs.Logs.{one_stretch, at_stretch, some_link}
+use Rattle.logs.specs.Logs.{at_stretch, some_link}
 use Rattle.checker.specs.declared.Due.{Due}
 use Rattle.checker.specs.Checker.{is_void}
 use Rattle.log_checker.specs.Checker.{Between, end_replay, after_lines, line_answers}
@@ -35,7 +34,7 @@ use Rattle.theory.proofs.ShiftLogs.{lines-kept}
 use Rattle.theory.proofs.Replays.{none-iff}
 use Rattle.log_theory.proofs.LogSteps.{moves_link, step_same, log-no-number}
 use Rattle.log_theory.proofs.Stretches.{begins-between, stretch-same}
-use Rattle.log_theory.proofs.SoundLogs.{SoundLog, log-kept, log-bound, log-void, stretch-rounds}
+use Rattle.log_theory.proofs.SoundLogs.{log-kept, log-bound, log-void, stretch-rounds}
 use Rattle.log_promise.specs.Lists.{begun, Accepted, number_says, plainly, ReplayTrusted}
 use Rattle.checker_promise.proofs.Agrees.{due_of}
 use Rattle.checker_promise.proofs.Folds.{handed-unrefused}

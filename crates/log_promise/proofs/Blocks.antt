@@ -27,7 +27,6 @@ use Rattle.checker.specs.declared.Standing.{Standing}
 use Rattle.checker.specs.declared.Replay.{Replay as Stretch}
 use Rattle.checker.specs.Checker.{standing_of, taken_lines, first_refused}
 use Rattle.checker.proofs.Fold.{stands}
-use Rattle.log_checker.specs.declared.LogRecord.{LogRecord}
 use Rattle.log_checker.specs.Checker.{Between, BlockCall, step_replay, after_lines, line_answers, fold_replay, lent_number, lent_standing, no_line, block_replay}
 use Rattle.log_checker.proofs.Folds.{refused-stands, all_stay}
 use Rattle.definitions.proofs.LineLaws.{lines-whole, joined-whole}

@@ -13,20 +13,20 @@ use lib.Dec.{T}
 use lib.ListN.{length, drop, length-drop, length-replicate}
 use Rattle.integers.specs.Words.{if◌then◌else◌, is_some, eq_z}
 use Rattle.integers.specs.Linear.{T-eq}
-use Rattle.integers.specs.Tests.{is_true, is_false, either, if-true, if-false, and_left, and_right}
-use Rattle.integers.specs.Options.{some_inj, none-some}
+use Rattle.integers.specs.Tests.{is_true, is_false, either, and_left, and_right}
+use Rattle.integers.specs.Options.{none-some}
 use Rattle.definitions.specs.declared.Case.{Case}
 use Rattle.definitions.specs.declared.Line.{Line}
 use Rattle.definitions.specs.declared.Refusal.{Refusal}
-use Rattle.definitions.specs.declared.Refusal.TheVariants.{NotInColumns, NotDue, OutOfRange, CutShort}
+use Rattle.definitions.specs.declared.Refusal.TheVariants.{NotInColumns, NotDue, CutShort}
 use Rattle.definitions.specs.declared.Outcome.{Outcome}
 use Rattle.definitions.specs.Rules.{Rules, coherent, rules_of, scopes_at_most, scope_places, edge_places}
-use Rattle.definitions.specs.Refusals.{Test, ◌when◌, first_refusal, sooner}
+use Rattle.definitions.specs.Refusals.{first_refusal, sooner}
 use Rattle.definitions.specs.Answers.{outcome_of}
-use Rattle.definitions.specs.Case.{own_length, lent_length, upper_bound}
-use Rattle.definitions.specs.Valid.{working_weight, zeros_from, both_handed_over, valid}
-use Rattle.definitions.specs.Lines.{read_line, not_due, is_kind, has_kind}
-use Rattle.definitions.specs.CaseFiles.{CaseDue, edge-ends, Reading, took, zeroed_from}
+use Rattle.definitions.specs.Case.{own_length, lent_length}
+use Rattle.definitions.specs.Valid.{zeros_from, both_handed_over, valid}
+use Rattle.definitions.specs.Lines.{read_line, not_due, is_kind}
+use Rattle.definitions.specs.CaseFiles.{CaseDue, Reading, took, zeroed_from}
 use Rattle.definitions.specs.Replay.{State, Held, step, step_unrefused, at_end}
 use Rattle.logs.specs.Leave.{WeightedCase, left_by}
 use Rattle.logs.specs.Join.{Joining as PlainJoin, join_dues, join_line_tests, grown_by}
@@ -37,28 +37,25 @@ use Rattle.logs.specs.Waiting.{small_case, renumbered, ends_read, is_last_due, w
 use Rattle.case_lines.specs.declared.Awaited.{Awaited}
 use Rattle.case_lines.specs.Dues.{SizesLimited, due_awaited, first_due, next_due}
 use Rattle.case_theory.proofs.JoinReads.{join_lines}
-use Rattle.checker.specs.declared.Due.{Due}
-use Rattle.checker.specs.declared.Standing.{Standing}
 use Rattle.checker.specs.declared.Replay.{Replay as Stretch}
 use Rattle.checker.specs.Checker.{none_raised, fresh_replay as fresh_stretch}
 use Rattle.checker.specs.Checker.{StepCall as StretchCall, Asked, standing_of, due_kinds, is_short, is_void, record_out, of_due, step_tests}
-use Rattle.checker.specs.Checker.{step_by as stretch_by, step_line as stretch_line, step_standing as stretch_standing, step_replay as step_stretch}
+use Rattle.checker.specs.Checker.{step_by as stretch_by, step_line as stretch_line}
 use Rattle.log_checker.specs.declared.Joining.{Joining}
-use Rattle.log_checker.specs.declared.LogRecord.{LogRecord}
 use Rattle.log_checker.specs.Checker.{EndCall, no_ends, begun_with, join_sizes, fresh_replay, of_join, of_join_line, after_lines, line_answers}
-use Rattle.log_checker.specs.Checker.{Between, StepCall, LineAsked, is_between, waiting_at, with_stretch, lent_tests, lent_number, of_line, of_move, of_leave}
+use Rattle.log_checker.specs.Checker.{Between, StepCall, LineAsked, is_between, waiting_at, with_stretch, lent_number, of_move, of_leave}
 use Rattle.log_checker.specs.Checker.{refused_by, step_by, step_line, step_standing, step_replay, is_cut_short, end_lent, end_standing, end_replay}
-use Rattle.theory.proofs.Validity.{Handed, BothHanded, both-handed, valid-facts}
+use Rattle.theory.proofs.Validity.{BothHanded, both-handed, valid-facts}
 use Rattle.theory.proofs.Replays.{none-iff, stepped, stepped_same}
 use Rattle.case_theory.proofs.CaseDues.{IsDue, rank, rank-apart, rank_below}
 use Rattle.case_theory.proofs.Zeroed.{zeros-at, zeros_by, zeroed-length, zeroed-zeros}
 use Rattle.log_theory.proofs.WaitingTests.{waits-quiet}
 use Rattle.log_theory.proofs.Waiting.{ends_after, took-waits, begun-waits, waits-long, waits-own, lower_long, upper-joins}
 use Rattle.log_theory.proofs.WaitingDues.{last-due, join-limited, due-next, first-rank, waits-zeros}
-use Rattle.log_theory.proofs.LogSteps.{moves_link, step_same}
+use Rattle.log_theory.proofs.LogSteps.{moves_link}
 use Rattle.log_theory.proofs.JoinDues.{join-length, join-due}
 use Rattle.log_theory.proofs.SoundLogs.{SoundJoin, SoundLog, sound-log-fresh, sound-log-step}
-use Rattle.checker_promise.proofs.Agrees.{due_of, record_of, call_of, MarkedIn}
+use Rattle.checker_promise.proofs.Agrees.{due_of, record_of, MarkedIn}
 use Rattle.checker_promise.proofs.Folds.{short-alike, record-in, line-reaches, handed-first, handed-unrefused}
 use Rattle.log_promise.specs.Lists.{begun}
 

@@ -1,7 +1,7 @@
 -- A log from a fresh record, as one fold (`log_fold`), beside the plain replay of its lines: the table, the rounds, the first refusal and its
 -- line, the end's answer, and so the judgement that the program `replay` prints. With Blocks the same holds of a log cut into blocks. Assumes
 -- nothing.
-use mathlib.Core.Path.{◌≡◌, refl, sym, ap, ap₂, ◌∙◌}
+use mathlib.Core.Path.{◌≡◌, sym, ap, ap₂, ◌∙◌}
 use mathlib.Core.Bool.{Bool}
 use mathlib.Core.Option.{Option, none, some}
 use mathlib.Core.List.{List, [], ◌∷◌, map}
@@ -24,8 +24,8 @@ use Rattle.definitions.specs.Lines.{lines_in, has_part}
 use Rattle.logs.specs.Logs.{LogState, fresh_log, after_log, log_answers, log_end}
 use Rattle.definitions.specs.Programs.{first_number}
 use Rattle.log_promise.specs.Judged.{good_log, judged_log}
-use Rattle.checker.specs.Checker.{is_void, taken_lines, first_refused}
-use Rattle.log_checker.specs.Checker.{Between, BlockCall, good_in, end_replay, fold_replay}
+use Rattle.checker.specs.Checker.{taken_lines, first_refused}
+use Rattle.log_checker.specs.Checker.{BlockCall, good_in, end_replay, fold_replay}
 use Rattle.log_promise.specs.Lists.{begun}
 use Rattle.log_promise.proofs.Accepts.{answers-are, end_is, case-is, weights-are, rounds-are, void-told}
 

@@ -13,7 +13,7 @@ use Rattle.definitions.specs.Answers.{Says, outcome_says, figure_says}
 use Rattle.definitions.specs.Case.{own_length, objective, upper_bound, is_lawful}
 use Rattle.definitions.specs.CaseFiles.{zeroed_from}
 use Rattle.definitions.specs.Replay.{State, some_press}
-use Rattle.logs.specs.Logs.{LogState, fresh_log, after_log, log_answers, log_end, keeps_log_rules, one_stretch, at_stretch, some_link}
+use Rattle.logs.specs.Logs.{fresh_log, after_log, log_answers, log_end, keeps_log_rules, one_stretch, at_stretch, some_link}
 use Rattle.calls.specs.Calls.{upper_bound_answer}
 use Rattle.checker.specs.declared.Due.{Due}
 use Rattle.log_checker.specs.Checker.{Between, fresh_replay, end_replay, after_lines, line_answers}

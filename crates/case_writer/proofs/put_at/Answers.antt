@@ -6,7 +6,6 @@ use lib.ListN.{length, take, drop, length-drop}
 use Rattle.definitions.specs.Rules.{rules_in, coherent}
 use Rattle.case_lines.specs.Dues.{bytes_of_line}
 use Rattle.lines.proofs.AtRules.{line-over}
-use borrow.Author.Rules.{rules}
 use Rattle.case_writer.proofs.put_at.Goals as goal
 
 pub returns : goal.returns

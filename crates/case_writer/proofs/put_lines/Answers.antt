@@ -2,18 +2,17 @@ use Rattle.case_lines.specs.Dues.{bytes_of_line}
 use Rattle.definitions.specs.Rules.{rules_in}
 use Rattle.definitions.specs.CaseFiles.{case_text}
 use Rattle.case_lines.specs.Dues.{case_with}
-use Rattle.case_lines.proofs.Dues.{count-is, first-at, next-at, lines-few, bytes-few, due-known, most_lines}
+use Rattle.case_lines.proofs.Dues.{count-is, first-at, next-at, lines-few, due-known, most_lines}
 use Rattle.case_lines.proofs.Tests.{limited-plain}
 use Rattle.case_theory.proofs.CaseDues.{line_of}
 use mathlib.Core.Path.{◌≡◌, refl, sym, ap, subst, ◌∙◌}
-use Prim.Native.Nat.{◌+◌, ◌*◌, ◌-◌, ◌≤◌, ◌<◌}
+use Prim.Native.Nat.{◌+◌, ◌*◌, ◌≤◌, ◌<◌}
 use native.Mathlib.Omega.{arith}
 use lib.ListN.{length}
 use Rattle.definitions.specs.Lines.{overwritten}
 use Rattle.case_lines.specs.Dues.{SizesLimited, due_awaited, InCase, AtLine, due_at, lines_due}
 use Rattle.case_writer.proofs.Writes.{case_written, lines-written-all, valid-limited, head-line-fits, case-line-fits, put_first, put_next}
 use Rattle.case_writer.proofs.Writes.{case-line-room, over-twice}
-use borrow.Author.Rules.{rules}
 use Rattle.case_writer.proofs.put_lines.Goals as goal
 use Rattle.case_writer.proofs.put_lines.Goals.{After-line_after-line, After-lines_due-total, After-put_at, In-loop-q, Start}
 
@@ -81,12 +80,11 @@ loop-q-init c =
     )
 
 pub put_at-requires-in-loop-q : goal.put_at-requires-in-loop-q
-put_at-requires-in-loop-q c =
-    (
-      omega (arith, (room (goal.at.put_at-requires-in-loop-q c).In-loop-q).1, line-byte (goal.at.put_at-requires-in-loop-q c).In-loop-q),
-      rw (line-is (goal.at.put_at-requires-in-loop-q c).After-line_after-line)
-          (case-line-fits c.args.sizes c.args.lower.now c.args.upper.now c.args.table.now c.requires.valid c.loop-q.q (room (goal.at.put_at-requires-in-loop-q c).In-loop-q).0),
-    )
+put_at-requires-in-loop-q c = (
+  omega (arith, (room (goal.at.put_at-requires-in-loop-q c).In-loop-q).1, line-byte (goal.at.put_at-requires-in-loop-q c).In-loop-q),
+  rw (line-is (goal.at.put_at-requires-in-loop-q c).After-line_after-line)
+      (case-line-fits c.args.sizes c.args.lower.now c.args.upper.now c.args.table.now c.requires.valid c.loop-q.q (room (goal.at.put_at-requires-in-loop-q c).In-loop-q).0),
+)
 
 pub loop-q-preserved : goal.loop-q-preserved
 loop-q-preserved c =

@@ -1,19 +1,10 @@
 use Rattle.case_lines.specs.Dues.{bytes_of_line}
-use Rattle.definitions.specs.Rules.{rules_in}
-use Rattle.definitions.specs.CaseFiles.{case_text}
-use Rattle.case_lines.specs.Dues.{case_with}
-use Rattle.case_lines.proofs.Dues.{count-is, first-at, next-at, lines-few, bytes-few, due-known, most_lines}
-use Rattle.case_lines.proofs.Tests.{limited-plain}
-use Rattle.case_theory.proofs.CaseDues.{line_of}
-use mathlib.Core.Path.{◌≡◌, refl, sym, ap, subst, ◌∙◌}
+use mathlib.Core.Path.{◌≡◌}
 use Prim.Native.Nat.{◌+◌, ◌*◌, ◌-◌, ◌≤◌, ◌<◌}
-use native.Mathlib.Omega.{arith}
 use lib.ListN.{length}
 use Rattle.definitions.specs.Lines.{overwritten}
-use Rattle.case_lines.specs.Dues.{SizesLimited, due_awaited, InCase, AtLine, due_at, lines_due}
-use Rattle.case_writer.proofs.Writes.{case_written, lines-written-all, valid-limited, head-line-fits, case-line-fits, put_first, put_next}
-use Rattle.case_writer.proofs.Writes.{case-line-room, over-twice}
-use borrow.Author.Rules.{rules}
+use Rattle.case_lines.specs.Dues.{AtLine, lines_due}
+use Rattle.case_writer.proofs.Writes.{case_written}
 use Rattle.case_writer.proofs.put_lines.Given as goal
 
 abbrev pub invariant-loop-q : goal.invariant-loop-q

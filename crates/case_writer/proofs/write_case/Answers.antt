@@ -6,9 +6,8 @@ use Rattle.definitions.specs.Refusals.{first_refusal}
 use Rattle.definitions.specs.Answers.{outcome_of}
 use Rattle.definitions.specs.Valid.{starting_weight, handed_over}
 use mathlib.Core.Path.{◌≡◌, sym, ap, ◌∙◌}
-use borrow.Author.Tests.{not-true, not-false}
-use Rattle.case_writer.proofs.Writes.{write_asked, write-limits, write-refused, write-valid, write-done-is, limits-are}
-use borrow.Author.Rules.{rules}
+use borrow.Author.Tests.{not-true}
+use Rattle.case_writer.proofs.Writes.{write_asked, write-limits, write-refused, write-valid, write-done-is}
 use Rattle.case_writer.proofs.write_case.Goals as goal
 use Rattle.case_writer.proofs.write_case.Goals.{After-check_starting-checked}
 

@@ -1,6 +1,5 @@
 use mathlib.Core.Path.{sym, ◌∙◌}
 use Rattle.casefile.proofs.Heads.{front, head-refused, size-read}
-use borrow.Author.Rules.{rules}
 use Rattle.casefile.proofs.case_size_in.Goals as goal
 
 pub returns-in-Refused : goal.returns-in-Refused

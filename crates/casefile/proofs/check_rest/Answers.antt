@@ -4,8 +4,7 @@ use native.Mathlib.Omega.{arith}
 use lib.ListN.{length, drop, length-drop}
 use Rattle.definitions.specs.Answers.{outcome_of}
 use Rattle.casefile.proofs.Heads.{front}
-use Rattle.casefile.proofs.Alone.{rest-empty, rest-refused, rest_read}
-use borrow.Author.Rules.{rules}
+use Rattle.casefile.proofs.Alone.{rest-refused, rest_read}
 use Rattle.casefile.proofs.check_rest.Goals as goal
 
 pub returns-in-Refused : goal.returns-in-Refused

@@ -1,6 +1,5 @@
 use mathlib.Core.List.{[]}
 use Rattle.casefile.proofs.Cases.{handed-refused, handed-taken}
-use borrow.Author.Rules.{rules}
 use Rattle.casefile.proofs.read_body.Goals as goal
 
 pub returns-in-Refused : goal.returns-in-Refused

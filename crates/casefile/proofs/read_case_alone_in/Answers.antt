@@ -1,6 +1,4 @@
-use Rattle.definitions.specs.CaseFiles.{read_lines_alone}
-use Rattle.casefile.proofs.Zeroing.{handed-past, alone-few}
-use borrow.Author.Rules.{rules}
+use Rattle.casefile.proofs.Zeroing.{alone-few}
 use Rattle.casefile.proofs.read_case_alone_in.Goals as goal
 
 pub zero_past-requires : goal.zero_past-requires

@@ -1,6 +1,4 @@
-use Rattle.definitions.specs.CaseFiles.{read_lines}
-use Rattle.casefile.proofs.Zeroing.{handed-past, lines-few}
-use borrow.Author.Rules.{rules}
+use Rattle.casefile.proofs.Zeroing.{lines-few}
 use Rattle.casefile.proofs.read_case_in.Goals as goal
 
 pub zero_past-requires : goal.zero_past-requires

@@ -8,8 +8,7 @@ use Rattle.definitions.specs.CaseFiles.{read_lines}
 use Rattle.case_lines.specs.Dues.{bytes_of_line}
 use Rattle.tables.proofs.Order.{outcome-done, outcome-refused}
 use Rattle.casefile.proofs.Cases.{handed-same, read_whole}
-use Rattle.casefile.proofs.Alone.{alone-refused, alone-good, alone-more}
-use borrow.Author.Rules.{rules}
+use Rattle.casefile.proofs.Alone.{alone-good, alone-more}
 use Rattle.casefile.proofs.read_lines_alone_in.Goals as goal
 use Rattle.casefile.proofs.read_lines_alone_in.Goals.{After-line_length, In-Read}
 

@@ -1,7 +1,6 @@
 use mathlib.Core.Path.{refl, sym, ◌∙◌}
 use mathlib.Core.List.{[]}
 use Rattle.casefile.proofs.Cases.{handed-same, case-wrong, case-right, case-length, case-refused, head-whole, sizes-limited}
-use borrow.Author.Rules.{rules}
 use Rattle.casefile.proofs.read_lines_in.Goals as goal
 
 pub returns-then-table-long : goal.returns-then-table-long
@@ -13,8 +12,12 @@ returns-then-table-long c =
 pub read_body-requires : goal.read_body-requires
 read_body-requires c =
     let a = c.args in
-    let e = sym c.case_size_in-size.ensures ∙ c.in-Size.is in record { sizes_limited = sizes-limited a.rulebook a.bytes.now a.table.now c.in-Size.n c.in-Size.d c.in-Size.m e; rulebook_in_bounds = head-whole a.rulebook a.bytes.now a.table.now c.in-Size.n c.in-Size.d c.in-Size.m e; sizes_in_bounds = case-length a.rulebook a.bytes.now
-            a.table.now c.in-Size.n c.in-Size.d c.in-Size.m e c.if-table-long.false }
+    let e = sym c.case_size_in-size.ensures ∙ c.in-Size.is in record {
+      sizes_limited = sizes-limited a.rulebook a.bytes.now a.table.now c.in-Size.n c.in-Size.d c.in-Size.m e;
+      rulebook_in_bounds = head-whole a.rulebook a.bytes.now a.table.now c.in-Size.n c.in-Size.d c.in-Size.m e;
+      sizes_in_bounds = case-length a.rulebook a.bytes.now
+          a.table.now c.in-Size.n c.in-Size.d c.in-Size.m e c.if-table-long.false;
+    }
 
 pub returns-in-Refused : goal.returns-in-Refused
 returns-in-Refused c =

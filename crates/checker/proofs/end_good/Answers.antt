@@ -1,8 +1,6 @@
 use mathlib.Core.Path.{sym, ◌∙◌}
-use borrow.Author.Tests.{not-true, not-false}
+use borrow.Author.Tests.{not-false}
 use Rattle.tables.proofs.Order.{limited}
-use Rattle.checker.proofs.Ends.{end-stopped, end-cut, end-done}
-use borrow.Author.Rules.{rules}
 use Rattle.checker.proofs.end_good.Goals as goal
 
 pub record_out-out-requires : goal.record_out-out-requires

@@ -6,7 +6,6 @@ use Rattle.definitions.specs.Rules.{rules_in, coherent}
 use Rattle.lines.proofs.AtRules.{read-at-rules}
 use Rattle.case_lines.specs.Dues.{bytes_of_line}
 use Rattle.casefile.proofs.Heads.{cut_short, not-cut}
-use borrow.Author.Rules.{rules}
 use Rattle.casefile.proofs.body.line_at.Goals as goal
 
 pub returns-then-bytes-from : goal.returns-then-bytes-from

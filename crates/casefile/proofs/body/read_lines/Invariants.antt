@@ -1,15 +1,10 @@
 use Rattle.case_lines.specs.Dues.{bytes_of_line}
 use Prim.Native.Nat.{◌<◌}
-use Rattle.casefile.proofs.Left.{line_taken, line_refused, left_end}
-use mathlib.Core.Path.{◌≡◌, refl, sym, subst, ◌∙◌}
+use mathlib.Core.Path.{◌≡◌}
 use Prim.Native.Nat.{◌+◌, ◌*◌, ◌-◌, ◌≤◌}
-use native.Mathlib.Omega.{arith}
-use borrow.Author.Rules.{rules}
 use lib.ListN.{length}
-use Rattle.case_lines.specs.Dues.{due_awaited, InCase, AtLine, due_at, lines_due}
+use Rattle.case_lines.specs.Dues.{AtLine, lines_due}
 use Rattle.casefile.specs.Steps.{reading_of, left_from}
-use Rattle.case_lines.proofs.Dues.{due-known, count-is, first-at, next-at}
-use Rattle.casefile.proofs.Taken.{same-due-at}
 use Rattle.casefile.proofs.body.read_lines.Given as goal
 
 abbrev pub invariant-loop-q : goal.invariant-loop-q

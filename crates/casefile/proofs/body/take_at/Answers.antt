@@ -1,12 +1,10 @@
 use Rattle.case_lines.specs.Dues.{bytes_of_line}
 use mathlib.Core.Path.{◌≡◌, sym, ap, ◌∙◌}
 use Prim.Native.Nat.{◌+◌, ◌*◌}
-use native.Mathlib.Omega.{arith}
 use lib.ListN.{drop}
 use Rattle.case_lines.specs.Dues.{due_awaited}
 use Rattle.casefile.proofs.Heads.{front}
 use Rattle.casefile.proofs.Taken.{at-refused, at_read}
-use borrow.Author.Rules.{rules}
 use Rattle.casefile.proofs.body.take_at.Goals as goal
 use Rattle.casefile.proofs.body.take_at.Goals.{After-line_length}
 

@@ -4,7 +4,6 @@ use native.Mathlib.Omega.{arith}
 use Rattle.case_lines.specs.Dues.{due_awaited, places_of}
 use Rattle.case_lines.proofs.Dues.{value-due, tuple-due}
 use Rattle.casefile.proofs.Taken.{same-due, variable-bar-step, ends-bar-step, edge-bar-step}
-use borrow.Author.Rules.{rules}
 use Rattle.casefile.proofs.body.take_bar.Goals as goal
 use Rattle.casefile.proofs.body.take_bar.Goals.{In-EdgeWeight, In-VariableWeight}
 

@@ -5,7 +5,6 @@ use lib.ListN.{length}
 use Rattle.case_lines.specs.Dues.{due_awaited, places_of}
 use Rattle.case_lines.proofs.Dues.{value-due, tuple-due}
 use Rattle.casefile.proofs.Taken.{same-due, variable-step, ends-step, edge-step}
-use borrow.Author.Rules.{rules}
 use Rattle.casefile.proofs.body.take_plain.Goals as goal
 use Rattle.casefile.proofs.body.take_plain.Goals.{In-EdgeWeight, In-VariableWeight}
 
@@ -24,12 +23,15 @@ edge-known c =
 
 pub take_weight-requires-in-EdgeWeight : goal.take_weight-requires-in-EdgeWeight
 take_weight-requires-in-EdgeWeight c =
-    let h : c.place_of-place.result < length c.args.table.now = omega (arith, (edge-known (goal.at.take_weight-requires-in-EdgeWeight c).In-EdgeWeight).4, c.requires.sizes_in_bounds) in record { a_bound = (
+    let h : c.place_of-place.result < length c.args.table.now = omega (arith, (edge-known (goal.at.take_weight-requires-in-EdgeWeight c).In-EdgeWeight).4, c.requires.sizes_in_bounds) in record {
+      a_bound = (
         omega (arith, edge-known (goal.at.take_weight-requires-in-EdgeWeight c).In-EdgeWeight, c.requires.sizes_limited.0.edges_placed),
         omega (arith, edge-known (goal.at.take_weight-requires-in-EdgeWeight c).In-EdgeWeight, c.requires.sizes_limited.0.values-few),
         omega
             (arith, edge-known (goal.at.take_weight-requires-in-EdgeWeight c).In-EdgeWeight, c.requires.sizes_limited.0.values-few),
-      ); place_in_bounds = h }
+      );
+      place_in_bounds = h;
+    }
 
 pub returns-in-VariableWeight : goal.returns-in-VariableWeight
 returns-in-VariableWeight c =

@@ -1,11 +1,9 @@
-use Prim.Native.Nat.{◌≤◌, ◌-◌}
-use mathlib.Core.Path.{◌≡◌, refl, sym, ap, ap₂, ◌∙◌}
+use mathlib.Core.Path.{sym, ap₂, ◌∙◌}
 use mathlib.Core.Bool.{◌&&◌, ◌||◌}
 use native.Mathlib.Omega.{arith}
 use lib.Dec.{eqb}
 use lib.ListN.{get_or}
 use Rattle.tables.proofs.Search.{any_next}
-use Rattle.casefile.specs.Steps.{joined_before}
 use Rattle.casefile.proofs.edges.joined_before.Goals as goal
 
 pub loop-f-preserved : goal.loop-f-preserved

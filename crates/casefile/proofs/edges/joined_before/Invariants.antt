@@ -1,10 +1,5 @@
 use Prim.Native.Nat.{◌≤◌, ◌-◌}
-use mathlib.Core.Path.{◌≡◌, refl, sym, ap, ap₂, ◌∙◌}
-use mathlib.Core.Bool.{◌&&◌, ◌||◌}
-use native.Mathlib.Omega.{arith}
-use lib.Dec.{eqb}
-use lib.ListN.{get_or}
-use Rattle.tables.proofs.Search.{any_next}
+use mathlib.Core.Path.{◌≡◌}
 use Rattle.casefile.specs.Steps.{joined_before}
 use Rattle.casefile.proofs.edges.joined_before.Given as goal
 

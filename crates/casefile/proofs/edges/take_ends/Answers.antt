@@ -1,12 +1,9 @@
 use mathlib.Core.Path.{sym, ap, ◌∙◌}
-use native.Mathlib.Omega.{arith}
 use mir.Syntax.{w64}
 use lib.IntN.{nat_abs}
 use lib.ListN.{set}
 use Rattle.integers.specs.Linear.{read_back}
-use Rattle.tables.proofs.Order.{outcome-done}
-use Rattle.casefile.proofs.Taken.{ends-known, edge-refused, ends-left}
-use borrow.Author.Rules.{rules}
+use Rattle.casefile.proofs.Taken.{edge-refused, ends-left}
 use Rattle.casefile.proofs.edges.take_ends.Goals as goal
 
 pub returns-in-Refused : goal.returns-in-Refused

@@ -1,9 +1,8 @@
 use mathlib.Core.Path.{sym, ◌∙◌}
-use borrow.Author.Tests.{not-true, not-false}
-use Rattle.casefile.proofs.Heads.{head-kind, head-limits, head-good, limits-few}
+use borrow.Author.Tests.{not-false}
+use Rattle.casefile.proofs.Heads.{limits-few}
 use Rattle.integers.specs.Tests.{true-is}
 use Rattle.casefile.specs.Reads.{limits_z}
-use borrow.Author.Rules.{rules}
 use Rattle.casefile.proofs.head.head_answer.Goals as goal
 
 pub head_size-requires : goal.head_size-requires

@@ -1,7 +1,6 @@
 use mathlib.Core.Path.{sym, ap, ◌∙◌}
 use Rattle.definitions.specs.Rules.{rules_of}
 use Rattle.checker.specs.Checker.{end_standing, end_replay}
-use borrow.Author.Rules.{rules}
 use Rattle.checker.proofs.Replay.end.Goals as goal
 
 pub returns-in-Refused : goal.returns-in-Refused

@@ -1,7 +1,6 @@
 use mathlib.Core.Path.{sym, ap, ◌∙◌}
 use Rattle.checker.specs.Taken.{fresh_from}
 use Rattle.checker.proofs.Ends.{fresh-refused, fresh-good}
-use borrow.Author.Rules.{rules}
 use Rattle.checker.proofs.Replay.fresh.Goals as goal
 
 pub returns-in-Refused : goal.returns-in-Refused

@@ -1,11 +1,10 @@
 use mathlib.Core.Path.{◌≡◌, sym, ap, ◌∙◌}
 use mathlib.Core.Option.{none}
 use Rattle.definitions.specs.Rules.{rules_of}
-use Rattle.tables.proofs.Order.{outcome-done, outcome-refused}
+use Rattle.tables.proofs.Order.{outcome-done}
 use Rattle.checker.specs.Checker.{BlockCall, lent_standing}
 use Rattle.checker.proofs.Front.{good-known}
 use Rattle.checker.proofs.Fold.{block-good}
-use borrow.Author.Rules.{rules}
 use Rattle.checker.proofs.Replay.lines.Goals as goal
 use Rattle.checker.proofs.Replay.lines.Goals.{In-Done}
 

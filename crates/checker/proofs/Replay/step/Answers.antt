@@ -1,8 +1,6 @@
-use mathlib.Core.Path.{sym, ap, ◌∙◌}
-use Rattle.tables.proofs.Order.{outcome-done, outcome-refused}
-use Rattle.checker.specs.Checker.{StepCall}
+use mathlib.Core.Path.{sym, ◌∙◌}
+use Rattle.tables.proofs.Order.{outcome-done}
 use Rattle.checker.proofs.Front.{good-known}
-use borrow.Author.Rules.{rules}
 use Rattle.checker.proofs.Replay.step.Goals as goal
 
 pub good_step-requires : goal.good_step-requires

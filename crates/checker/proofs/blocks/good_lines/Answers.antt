@@ -1,25 +1,23 @@
-use mathlib.Core.Path.{◌≡◌, refl, sym, ap, subst, ◌∙◌}
+use mathlib.Core.Path.{◌≡◌, refl, sym, ap, ◌∙◌}
 use mathlib.Core.Bool.{not}
 use mathlib.Core.List.{List}
 use Prim.Native.Nat.{ℕ, ◌+◌, ◌-◌, ◌≤◌, ◌<◌}
 use native.Mathlib.Omega.{arith}
-use borrow.Author.Rules.{rules}
 use lib.IntN.{ℤ}
 use lib.Dec.{T}
 use lib.ListN.{length, take, drop, length-drop}
 use lib.Seq.{drop-drop}
 use Rattle.definitions.specs.declared.Case.{Case}
-use Rattle.definitions.specs.Rules.{rules_of, scope_places}
+use Rattle.definitions.specs.Rules.{rules_of}
 use Rattle.definitions.specs.Valid.{working_weight}
 use Rattle.theory.proofs.Validity.{Handed}
-use Rattle.tables.specs.Scopes.{BestOf}
 use Rattle.tables.proofs.Answered.{limits-known}
 use Rattle.definitions.specs.declared.Outcome.{Outcome}
 use Rattle.checker.specs.declared.Replay.{Replay}
 use Rattle.checker.specs.Checker.{BlockCall, record_out, step_replay, fold_replay}
 use Rattle.checker.specs.Taken.{good_replay, step_of, bytes_per_line, more_by}
 use Rattle.checker.proofs.Ends.{whole_again}
-use Rattle.checker.proofs.Fold.{more-none, turn-done, turn-refused, no_more}
+use Rattle.checker.proofs.Fold.{turn-done, turn-refused, no_more}
 use Rattle.checker.proofs.blocks.good_lines.Goals as goal
 use Rattle.checker.proofs.blocks.good_lines.Goals.{After-good_line-taken, After-progress_of-progress}
 

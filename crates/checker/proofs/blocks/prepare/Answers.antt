@@ -7,7 +7,6 @@ use Prim.Native.Nat.{◌+◌, ◌≤◌}
 use mathlib.Core.List.{List}
 use lib.IntN.{ℤ}
 use lib.ListN.{length}
-use borrow.Author.Rules.{rules}
 use Rattle.checker.proofs.blocks.prepare.Goals as goal
 
 pub returns : goal.returns

@@ -1,5 +1,4 @@
 use mathlib.Core.Path.{◌∙◌}
-use borrow.Author.Rules.{rules}
 use Rattle.definitions.specs.Rules.{coherent, rules_of}
 use Rattle.lines.proofs.AtRules.{read-at-rules}
 use Rattle.checker.proofs.columns.read_line.Goals as goal

@@ -1,17 +1,15 @@
 use mathlib.Core.Path.{◌≡◌, sym, ◌∙◌}
 use mathlib.Core.List.{List}
-use native.Mathlib.Omega.{arith}
 use lib.IntN.{ℤ}
 use mir.Syntax.{w64}
 use Rattle.integers.specs.Linear.{read_back}
 use Rattle.definitions.specs.declared.Figure.{Figure}
-use Rattle.definitions.specs.Rules.{coherent, rules_of}
+use Rattle.definitions.specs.Rules.{rules_of}
 use Rattle.definitions.specs.Case.{upper_bound}
 use Rattle.definitions.specs.Valid.{working_weight}
 use Rattle.theory.proofs.Validity.{Handed}
 use Rattle.tables.specs.Scopes.{BestOf}
 use Rattle.tables.proofs.Best.{best-sum-known}
-use borrow.Author.Rules.{rules}
 use Rattle.checker.proofs.kinds.bound_line.Goals as goal
 use Rattle.checker.proofs.kinds.bound_line.Goals.{After-sum_of_best-sum}
 

@@ -1,23 +1,14 @@
 use mathlib.Core.Path.{◌≡◌, sym}
 use mathlib.Core.Logic.{◌≢◌}
-use mathlib.Core.Bool.{true, false, not}
+use mathlib.Core.Bool.{true, false}
 use Prim.Native.Nat.{ℕ, ◌^◌, ◌<◌}
 use lib.IntN.{ℤ, pos}
-use lib.Dec.{T, lit<, ltb, ltb→lt}
+use lib.Dec.{lit<}
 use lib.Signed.{mag}
 use mir.Syntax.{w64}
 use mir.Val.{hbits, of_z}
 use Rattle.integers.specs.Words.{eq_z}
-use Rattle.integers.specs.Tests.{not-or-iff, not-not-iff}
-use Rattle.definitions.specs.Rules.{rules_of}
 use Rattle.integers.specs.Linear.{read_back, same_bits, other-bits}
-use Rattle.definitions.specs.Replay.{begin_out}
-use Rattle.checker.specs.declared.Target.{Target}
-use Rattle.checker.specs.declared.Replay.{Replay}
-use Rattle.checker.specs.Checker.{target_out, of_shift, of_begin, of_bound}
-use Rattle.checker.specs.Taken.{good_replay}
-use Rattle.checker.proofs.Taking.{begin-counts}
-use borrow.Author.Rules.{rules}
 use Rattle.checker.proofs.kinds.move_line.Goals as goal
 use Rattle.checker.proofs.kinds.move_line.Goals.{After-struct_told-1}
 

@@ -7,7 +7,6 @@ use Rattle.changes.proofs.TransferLaws.{transfer-is-shift}
 use Rattle.checker.specs.declared.Replay.{Replay}
 use Rattle.checker.specs.Checker.{fresh_of}
 use Rattle.checker.proofs.Taking.{shift-counts, shift-inside}
-use borrow.Author.Rules.{rules}
 use Rattle.checker.proofs.kinds.shift_made.Goals as goal
 
 -- any record: a shift's numbers ask for none

@@ -1,7 +1,6 @@
 use mathlib.Core.Path.{sym, ◌∙◌}
-use borrow.Author.Tests.{not-true, not-false}
+use borrow.Author.Tests.{not-false}
 use Rattle.tables.proofs.Order.{limited}
-use borrow.Author.Rules.{rules}
 use Rattle.checker.proofs.lent.check_lent.Goals as goal
 
 pub record_out-beyond-requires : goal.record_out-beyond-requires

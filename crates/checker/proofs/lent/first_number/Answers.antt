@@ -3,7 +3,6 @@ use Rattle.definitions.specs.Rules.{rules_of}
 use Rattle.checker.specs.Checker.{step_standing, step_replay, lent_standing}
 use Rattle.checker.proofs.Front.{first-front}
 use Rattle.checker.proofs.Taking.{step-missing, step-line}
-use borrow.Author.Rules.{rules}
 use Rattle.checker.proofs.lent.first_number.Goals as goal
 
 pub returns-in-Refused : goal.returns-in-Refused

@@ -7,7 +7,6 @@ use Rattle.definitions.specs.Lines.{not_due}
 use Rattle.tables.proofs.Order.{limited}
 use Rattle.checker.specs.Checker.{due_kinds}
 use Rattle.checker.proofs.Front.{not-due, no-limits, lent-length, lent_out, lent-first}
-use borrow.Author.Rules.{rules}
 use Rattle.checker.proofs.lent.line_number.Goals as goal
 use Rattle.checker.proofs.lent.line_number.Goals.{Else-not-is_due, Else-not-within_limits}
 

@@ -2,11 +2,9 @@ use mathlib.Core.Path.{sym, ap, ◌∙◌}
 use Prim.Native.Nat.{◌≤◌, ◌<◌}
 use native.Mathlib.Omega.{arith}
 use lib.ListN.{length}
-use lib.Seq.{length-take-le}
 use Rattle.checker.specs.Checker.{BlockCall}
 use Rattle.checker.specs.Taken.{bytes_per_line}
 use Rattle.checker.proofs.Fold.{block-short, block-long}
-use borrow.Author.Rules.{rules}
 use Rattle.checker.proofs.lent.refused_lines.Goals as goal
 
 pub returns-then-bytes-line : goal.returns-then-bytes-line

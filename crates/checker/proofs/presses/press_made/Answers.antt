@@ -6,7 +6,6 @@ use mir.Facts.{to_z-of_z}
 use Rattle.definitions.specs.Moves.{active_values}
 use Rattle.tables.proofs.Answered.{limits-known}
 use Rattle.changes.proofs.LoweringLaws.{lower-and-raise-is-press}
-use borrow.Author.Rules.{rules}
 use Rattle.checker.proofs.presses.press_made.Goals as goal
 
 pub returns : goal.returns

@@ -1,7 +1,5 @@
-use mathlib.Core.Path.{sym, subst, ◌∙◌}
+use mathlib.Core.Path.{sym, subst}
 use Prim.Native.Nat.{ℕ}
-use borrow.Author.Tests.{not-true, not-false}
-use borrow.Author.Rules.{rules}
 use Rattle.definitions.specs.Moves.{active_values}
 use Rattle.changes.specs.Kept.{MarksOf}
 use Rattle.changes.proofs.ValueLaws.{best-values-active}

@@ -7,7 +7,6 @@ use Rattle.definitions.specs.Replay.{all_barred}
 use Rattle.calls.specs.Calls.{is_raised}
 use Rattle.tables.proofs.Answered.{limits-known}
 use Rattle.bars.proofs.Barring.{rest-barred-is}
-use borrow.Author.Rules.{rules}
 use Rattle.checker.proofs.presses.void_made.Goals as goal
 use Rattle.checker.proofs.presses.void_made.Goals.{After-rest_barred}
 

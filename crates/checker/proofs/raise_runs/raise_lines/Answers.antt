@@ -1,16 +1,14 @@
-use mathlib.Core.Path.{◌≡◌, sym, subst, ◌∙◌}
+use mathlib.Core.Path.{◌≡◌, subst}
 use mathlib.Core.Logic.{◌≢◌}
 use mathlib.Core.Option.{some}
 use Prim.Native.Nat.{ℕ, ◌+◌, ◌-◌, ◌≤◌, ◌<◌}
 use native.Mathlib.Omega.{arith}
 use lib.ListN.{length, take, drop, length-set, length-drop}
 use Rattle.integers.specs.Tests.{tests}
-use Rattle.definitions.specs.Rules.{rules_in, coherent, scope_places}
+use Rattle.definitions.specs.Rules.{rules_in}
 use Rattle.definitions.specs.Lines.{read_line, line_length}
 use Rattle.definitions.specs.RoundLines.{raise_line}
-use Rattle.lines.proofs.AtRules.{width-in}
-use Rattle.checker.proofs.Raising.{Raised, no-raise-line, one-raise-line}
-use borrow.Author.Rules.{rules}
+use Rattle.checker.proofs.Raising.{one-raise-line}
 use Rattle.checker.proofs.raise_runs.raise_lines.Goals as goal
 use Rattle.checker.proofs.raise_runs.raise_lines.Goals.{After-amount_width-width, Else-not-x-scopes}
 

@@ -1,7 +1,5 @@
 use mathlib.Core.Path.{sym, ◌∙◌}
-use native.Mathlib.Omega.{arith}
 use Rattle.lines.proofs.RaiseTexts.{raised-line}
-use borrow.Author.Rules.{rules}
 use Rattle.checker.proofs.raise_runs.scope_or_none.Goals as goal
 
 pub returns-in-Scope : goal.returns-in-Scope

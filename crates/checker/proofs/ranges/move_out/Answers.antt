@@ -8,7 +8,6 @@ use Rattle.definitions.specs.Moves.{press_amount}
 use Rattle.definitions.specs.Replay.{begin_out}
 use Rattle.integers.specs.Linear.{read_back, same_bits, other-bits}
 use Rattle.checker.proofs.Numbers.{from-test}
-use borrow.Author.Rules.{rules}
 use Rattle.checker.proofs.ranges.move_out.Goals as goal
 
 pub returns-then-line-eq1 : goal.returns-then-line-eq1

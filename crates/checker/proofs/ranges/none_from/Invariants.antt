@@ -1,10 +1,8 @@
-use mathlib.Core.Path.{◌≡◌, refl, ◌∙◌}
+use mathlib.Core.Path.{◌≡◌}
 use Prim.Native.Nat.{◌-◌}
-use borrow.Author.Rules.{rules}
 use lib.Dec.{eqb}
 use lib.ListN.{length, drop}
 use Rattle.integers.specs.Words.{all}
-use Rattle.checker.proofs.Numbers.{zero-next, zero-stops, zero-end}
 use Rattle.checker.proofs.ranges.none_from.Given as goal
 
 abbrev pub invariant-loop-x : goal.invariant-loop-x

@@ -1,9 +1,6 @@
-use mathlib.Core.Path.{◌≡◌, refl}
+use mathlib.Core.Path.{◌≡◌}
 use Prim.Native.Nat.{ℕ, ◌-◌, ◌≤◌, ◌<◌}
-use native.Mathlib.Omega.{arith}
-use lib.ListN.{length, get_or, length-set}
-use Rattle.arcs.proofs.Steps.{after-set}
-use Rattle.arcs.proofs.Results.{all-zero}
+use lib.ListN.{length, get_or}
 use Rattle.checker.proofs.records.clear.Given as goal
 
 abbrev pub invariant-loop-x : goal.invariant-loop-x
