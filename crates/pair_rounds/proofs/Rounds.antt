@@ -25,7 +25,7 @@ use Rattle.definitions.specs.Moves.{Move, after_moves}
 use Rattle.definitions.specs.Lines.{overwritten}
 use Rattle.definitions.specs.RoundLines.{move_lines, bound_line, round_text}
 use Rattle.definitions.specs.PairRounds.{pair_round}
-use Rattle.definitions.specs.Engine.{Made, made_of, round_bytes}
+use Rattle.definitions.specs.Engine.{made_of, round_bytes}
 use Rattle.calls.specs.EngineCalls.{RoundCall, round_made}
 use Rattle.theory.proofs.Validity.{Handed, handed}
 use Rattle.theory.proofs.Replays.{none-iff}

@@ -1,6 +1,5 @@
 use mathlib.Core.Path.{sym, ◌∙◌}
 use Rattle.pair_rounds.proofs.Rounds.{pair-asked, pair-refused}
-use borrow.Author.Rules.{rules}
 use Rattle.pair_rounds.proofs.make_round.Goals as goal
 
 pub pair_round-requires : goal.pair_round-requires

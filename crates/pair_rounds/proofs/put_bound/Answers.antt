@@ -14,7 +14,6 @@ use Rattle.theory.proofs.Validity.{Handed}
 use Rattle.tables.specs.Scopes.{BestOf}
 use Rattle.tables.proofs.Best.{best-sum-known}
 use Rattle.pair_rounds.proofs.Texts.{bound-fits}
-use borrow.Author.Rules.{rules}
 use Rattle.pair_rounds.proofs.put_bound.Goals as goal
 use Rattle.pair_rounds.proofs.put_bound.Goals.{After-bound_line, After-sum_of_best-sum}
 

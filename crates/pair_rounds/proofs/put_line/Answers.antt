@@ -1,6 +1,5 @@
 use mathlib.Core.Path.{ap, ◌∙◌}
 use Rattle.pair_rounds.proofs.Texts.{line_at}
-use borrow.Author.Rules.{rules}
 use Rattle.pair_rounds.proofs.put_line.Goals as goal
 
 pub returns : goal.returns

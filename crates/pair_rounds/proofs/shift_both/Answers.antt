@@ -1,5 +1,4 @@
 use Rattle.pair_rounds.proofs.Ends.{lower-ready, upper-ready, both-done}
-use borrow.Author.Rules.{rules}
 use Rattle.pair_rounds.proofs.shift_both.Goals as goal
 
 pub shift_end-middle-requires : goal.shift_end-middle-requires

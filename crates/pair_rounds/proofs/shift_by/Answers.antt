@@ -1,6 +1,5 @@
 use mir.Facts.{to_z-of_z}
-use Rattle.pair_rounds.proofs.Texts.{shift_small, shift_fits, shifted_one}
-use borrow.Author.Rules.{rules}
+use Rattle.pair_rounds.proofs.Texts.{shift_fits, shifted_one}
 use Rattle.pair_rounds.proofs.shift_by.Goals as goal
 
 pub put_line-requires : goal.put_line-requires

@@ -1,9 +1,5 @@
-use mathlib.Core.Path.{◌≡◌, refl, subst, ◌∙◌}
-use Prim.Native.Nat.{ℕ, ◌-◌, ◌≤◌}
+use mathlib.Core.Path.{refl, ◌∙◌}
 use native.Mathlib.Omega.{arith}
-use lib.ListN.{length}
-use Rattle.pair_rounds.specs.Shifts.{Shifted}
-use Rattle.pair_rounds.proofs.Moves.{shifts_below}
 use Rattle.pair_rounds.proofs.Texts.{shifted_none}
 use Rattle.pair_rounds.proofs.Ends.{value-ready, value-done}
 use Rattle.pair_rounds.proofs.shift_end.Goals as goal

@@ -1,11 +1,8 @@
-use mathlib.Core.Path.{◌≡◌, refl, subst, ◌∙◌}
-use Prim.Native.Nat.{ℕ, ◌-◌, ◌≤◌}
-use native.Mathlib.Omega.{arith}
+use mathlib.Core.Path.{◌≡◌}
+use Prim.Native.Nat.{◌-◌, ◌≤◌}
 use lib.ListN.{length}
 use Rattle.pair_rounds.specs.Shifts.{Shifted}
 use Rattle.pair_rounds.proofs.Moves.{shifts_below}
-use Rattle.pair_rounds.proofs.Texts.{shifted_none}
-use Rattle.pair_rounds.proofs.Ends.{value-ready, value-done}
 use Rattle.pair_rounds.proofs.shift_end.Given as goal
 
 abbrev pub invariant-loop-value : goal.invariant-loop-value

@@ -1,7 +1,6 @@
 use Rattle.definitions.specs.Rules.{coherent}
 use Rattle.theory.proofs.Rounds.{all-handed}
 use Rattle.pair_rounds.proofs.Rounds.{round-ready, bound-ready, pair-round-made}
-use borrow.Author.Rules.{rules}
 use Rattle.pair_rounds.proofs.shift_pair.Goals as goal
 
 pub shift_both-at-requires : goal.shift_both-at-requires

@@ -14,7 +14,6 @@ use Rattle.theory.proofs.Rounds.{AllAllowed}
 use Rattle.pair_rounds.specs.Shifts.{left_out}
 use Rattle.pair_rounds.proofs.Moves.{allowed-one, whole-none, whole-one, weight-small}
 use Rattle.pair_rounds.proofs.Texts.{shifted_none}
-use borrow.Author.Rules.{rules}
 use Rattle.pair_rounds.proofs.shift_value.Goals as goal
 use Rattle.pair_rounds.proofs.shift_value.Goals.{After-left_out, After-shift_by-arg-3-1}
 
