@@ -1,0 +1,16 @@
+use mathlib.Core.Path.{◌≡◌, refl, sym, subst, ◌∙◌}
+use Prim.Native.Nat.{ℕ, ◌+◌, ◌-◌, ◌≤◌, ◌<◌}
+use native.Mathlib.Omega.{arith}
+use lib.ListN.{length, get_or, set, length-set}
+use borrow.Author.Rules.{rules}
+use Rattle.integers.specs.Words.{if◌then◌else◌}
+use Rattle.calls.specs.Calls.{is_raised}
+use Rattle.engine.proofs.Raising.{filled_more}
+use Rattle.engine.proofs.choosing.allow.Given as goal
+
+abbrev pub invariant-loop-j : goal.invariant-loop-j
+invariant-loop-j l =
+    (l.j ≤ l.n) × (length l.sets ≡ length l.initial.sets) × ((k : ℕ) → k < l.j → get_or l.sets k 0 ≡ (if is_raised l.raised k then get_or l.acts k 0 else l.full))
+
+abbrev pub decreases-loop-j : goal.decreases-loop-j
+decreases-loop-j l = l.n - l.j

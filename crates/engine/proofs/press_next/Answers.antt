@@ -1,0 +1,37 @@
+use mathlib.Core.Path.{◌≡◌, subst}
+use native.Mathlib.Omega.{arith}
+use Rattle.tables.proofs.Answered.{limits-known}
+use Rattle.choice.specs.declared.Chosen.{Chosen}
+use Rattle.engine.specs.Search.{FoundIs}
+use Rattle.engine.proofs.Raising.{ones-raised}
+use Rattle.engine.proofs.Runs.{nothing-made}
+use Rattle.engine.proofs.Pairs.{next-settled}
+use borrow.Author.Rules.{rules}
+use Rattle.engine.proofs.press_next.Goals as goal
+use Rattle.engine.proofs.press_next.Goals.{After-search-found}
+
+found-is : (c : After-search-found) → {r : Chosen} → c.search-found.result ≡ r → FoundIs c.args.case c.args.table.now c.search-found.new.raised r
+found-is c e =
+    let a = c.args in
+    subst (FoundIs a.case a.table.now c.search-found.new.raised) e
+    (c.search-found.ensures a.table.now c.requires.prepared.0 (ones-raised a.case
+    (omega (arith, (limits-known c.requires.handed.0).scopes-placed))))
+
+pub press_or_void-requires : goal.press_or_void-requires
+press_or_void-requires c =
+    let (which, kept) = found-is (goal.at.press_or_void-requires c).After-search-found c.in-Variable.is in (
+      record {
+        handed = c.requires.handed.0;
+        greatest-held = c.requires.handed.1;
+        no-pair = c.requires.table_value;
+        which = which;
+        room = omega (arith, (limits-known c.requires.handed.0).scopes-placed, c.search-found.auto.raised);
+        kept = kept;
+      },
+      c.requires.case_in_bounds,
+    )
+
+pub returns-in-Nothing : goal.returns-in-Nothing
+returns-in-Nothing c =
+    let e = found-is (goal.at.returns-in-Nothing c).After-search-found c.in-Nothing.is in
+    (nothing-made c.requires.handed.0 c.requires.case_in_bounds (next-settled c.args.case c.args.table.now c.requires.table_value e), c.requires.handed.1)

@@ -1,0 +1,18 @@
+use mathlib.Core.Path.{sym, ◌∙◌}
+use mathlib.Core.Bool.{false}
+use Rattle.engine.proofs.Runs.{asked-done, asked-refused}
+use borrow.Author.Rules.{rules}
+use Rattle.engine.proofs.round.Goals as goal
+
+pub first_round-requires : goal.first_round-requires
+first_round-requires c =
+    let a = c.args in
+    let h = asked-done false a.case a.table.now a.out.now (sym c.in-Done.is
+    ∙ c.check_round-checked.ensures) in record { handed = h.0; case_in_bounds = h.1 }
+
+pub returns-in-Refused : goal.returns-in-Refused
+returns-in-Refused c =
+    let a = c.args in
+    let m = asked-refused false a.case a.table.now a.out.now
+    (sym c.in-Refused.is ∙ c.check_round-checked.ensures) in
+    (m.answer, m.table, m.output)

@@ -1,0 +1,32 @@
+use mathlib.Core.Path.{◌≡◌, refl, sym, ◌∙◌}
+use mathlib.Core.List.{List}
+use Prim.Native.Nat.{◌-◌, ◌≤◌}
+use native.Mathlib.Omega.{arith}
+use lib.IntN.{ℤ}
+use lib.ListN.{length}
+use Rattle.definitions.specs.Case.{scope_count}
+use Rattle.definitions.specs.Engine.{kept_scopes}
+use Rattle.engine.specs.Search.{Prepared, OthersRaised, Enough}
+use Rattle.engine.proofs.Trims.{trimmed_at, trim-next, trim-first, trim-last}
+use Rattle.engine.proofs.trim.drop_scopes.Goals as goal
+
+pub loop-x-init : goal.loop-x-init
+loop-x-init c =
+    let a = c.args in
+    (omega arith, refl, refl, λ w p o q. (q, trim-first a.case w a.variable a.raised.now o))
+
+pub loop-x-preserved : goal.loop-x-preserved
+loop-x-preserved c =
+    let a = c.args in
+    let d = c.drop_scope in (
+      omega (arith, c.loop-x-test.true),
+      d.auto.raised ∙ c.loop-x.invariant.1,
+      d.auto.enough ∙ c.loop-x.invariant.2,
+      λ w p o q.
+          let (b, e) = c.loop-x.invariant.3 w p o q in
+          let (f, g) = d.ensures w p b in (
+            f,
+            trim-next a.case w a.variable (omega (arith, c.loop-x-test.true))
+                (omega (arith, c.loop-x.invariant, c.requires, c.loop-x-test.true)) g ∙ e,
+          ),
+    )

@@ -1,0 +1,16 @@
+use borrow.Author.Rules.{rules}
+use mathlib.Core.Path.{sym, ◌∙◌}
+use Rattle.definitions.specs.Case.{scope_count}
+use Rattle.engine.proofs.Trims.{raised-kept, copied-enough}
+use Rattle.engine.proofs.trim.renew.Goals as goal
+use Rattle.engine.proofs.trim.renew.Goals.{After-keep_raised, Start}
+
+abbrev entry : After-keep_raised → Start
+entry c = (goal.at.After-keep_raised c).Start
+
+pub returns : goal.returns
+returns c =
+    λ w p t.
+    let b = c.copy_bytes-2 in
+    let a = (entry (goal.at.returns c).After-keep_raised).args in
+    copied-enough a.case w a.variable a.raised.now b.new.to b.ensures t
