@@ -1,0 +1,19 @@
+use mathlib.Core.Path.{◌≡◌, sym, ap, ◌∙◌}
+use Rattle.definitions.specs.declared.Outcome.{Outcome}
+use Rattle.checker.specs.Checker.{good_in}
+use Rattle.judging.specs.Judging.{end_judged, finish_standing}
+use Rattle.judging.proofs.Ends.{finish-done}
+use borrow.Author.Rules.{rules}
+use Rattle.judging.proofs.end_judgement.Goals as goal
+use Rattle.judging.proofs.end_judgement.Goals.{In-Done}
+
+-- the end answers done
+done : (c : In-Done) → let a = c.args in
+    Outcome.Done ≡ finish_standing a.judging.case a.table.now a.judging.replay a.part a.judging.replay.standing
+done c = sym c.in-Done.is ∙ c.finish_standing-ended.ensures
+
+pub good_judgement-requires : goal.good_judgement-requires
+good_judgement-requires c =
+    let a = c.args in
+    let j = a.judging in
+    finish-done j.case a.table.now j.replay a.part j.replay.standing (done c)

@@ -1,0 +1,11 @@
+use mathlib.Core.Path.{sym, ◌∙◌}
+use native.Mathlib.Omega.{arith}
+use Rattle.definitions.specs.declared.Rulebook.TheVariants.{Desk}
+use Rattle.judging.proofs.Tables.{table-most, size-refused, size-given}
+use borrow.Author.Rules.{rules}
+use Rattle.judging.proofs.table_length.Goals as goal
+
+pub returns-in-Size : goal.returns-in-Size
+returns-in-Size c =
+    let e = size-given (sym c.case_size-size.ensures ∙ c.in-Size.is) in
+    (e, omega (arith, e, table-most Desk c.args.front.now))
