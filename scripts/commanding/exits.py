@@ -224,7 +224,7 @@ def placed(trial, name, scripts, version, programs):
         return subprocess.run([command, *arguments], env=environment, capture_output=True)
 
     ended = run("check", files.case, files.log)
-    good = ended.returncode == 2 and ended.stdout == b"" and b"rt check press replay" in ended.stderr
+    good = ended.returncode == 2 and ended.stdout == b"" and b"scripts/build press replay" in ended.stderr
     trial.test(f"{name} without programs", good, f"{ended}")
     for program in ("press", "replay"):
         os.symlink(trial.programs[program], os.path.join(beside, program))

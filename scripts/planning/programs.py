@@ -29,7 +29,7 @@ def find(name):
     path = os.path.join(folder(), name)
     if os.path.isfile(path) and os.access(path, os.X_OK):
         return path
-    raise Failed(f"there is no program {name} in {folder()}: build it with `rt check press replay` in the source tree")
+    raise Failed(f"there is no program {name} in {folder()}: build it with `scripts/build press replay` in the source tree")
 
 
 class Program:
