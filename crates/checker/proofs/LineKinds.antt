@@ -44,7 +44,7 @@ module _ {r : Rules} (known : Coherent r) (l : Line) where
   bound-due e = rw (known.known-kinds, e) (simp (or-false, twice-not, and-true))
 
   pub void-due : l.kind ≡ pos 5 → (eq_z l.c (pos 0) && eq_z l.amount (pos 0)) ≡ not (not_due r move_kinds l)
-  void-due e = rw (known.known-kinds, e) (simp (or-false, twice-not, and-true))
+  void-due e = rw (known.known-kinds, e) (simp (or-false, twice-not))
 
   pub none-due : is_kind 1 l ≡ false → is_kind 2 l ≡ false → is_kind 4 l ≡ false → is_kind 5 l ≡ false → false ≡ not (not_due r move_kinds l)
   none-due d e f g = rw (known.known-kinds, d, e, f, g) (simp and-false)

@@ -6,7 +6,6 @@ use Rattle.definitions.specs.Refusals.{first_refusal}
 use Rattle.definitions.specs.Answers.{outcome_of}
 use Rattle.definitions.specs.Valid.{starting_weight, handed_over}
 use mathlib.Core.Path.{◌≡◌, sym, ap, ◌∙◌}
-use borrow.Author.Tests.{not-true}
 use Rattle.case_writer.proofs.Writes.{write_asked, write-limits, write-refused, write-valid, write-done-is}
 use Rattle.case_writer.proofs.write_case.Goals as goal
 use Rattle.case_writer.proofs.write_case.Goals.{After-check_starting-checked}
@@ -22,7 +21,7 @@ told c =
 pub returns-then-not-within_limits : goal.returns-then-not-within_limits
 returns-then-not-within_limits c =
     let a = c.args in
-    write-limits a.case a.table.now a.out.now (sym c.within_limits.ensures ∙ not-true _ c.if-not-within_limits.true-raw)
+    write-limits a.case a.table.now a.out.now (sym c.within_limits.ensures ∙ c.if-not-within_limits.true)
 
 pub put_lines-requires : goal.put_lines-requires
 put_lines-requires c =

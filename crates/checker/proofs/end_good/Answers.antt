@@ -1,8 +1,7 @@
 use mathlib.Core.Path.{sym, ◌∙◌}
-use borrow.Author.Tests.{not-false}
 use Rattle.tables.proofs.Order.{limited}
 use Rattle.checker.proofs.end_good.Goals as goal
 
 pub record_out-out-requires : goal.record_out-out-requires
 record_out-out-requires c = limited c.args.case
-    (sym c.within_limits.ensures ∙ not-false _ c.if-not-within_limits.false-raw)
+    (sym c.within_limits.ensures ∙ c.if-not-within_limits.false)

@@ -1,5 +1,6 @@
 use mathlib.Core.Path.{sym, ap, ◌∙◌}
 use mir.Syntax.{w64}
+use borrow.Author.Rules.{rules}
 use lib.IntN.{nat_abs}
 use lib.ListN.{set}
 use Rattle.integers.specs.Linear.{read_back}
@@ -19,6 +20,6 @@ returns-in-Done c =
     rw (ends-left a.sizes.n a.lower.now a.upper.now a.e a.line
     (sym c.in-Done.is ∙ c.check_ends-checked.ensures))
     (rw (
-      c.end_of.ensures ∙ ap nat_abs (read_back w64 a.line.b c.struct_told-1.given.1.1.0.1),
-      c.end_of-in-Done.ensures ∙ ap nat_abs (read_back w64 a.line.c c.struct_told-in-Done-1.given.1.1.1.0.1),
+      c.end_of.ensures ∙ ap nat_abs (read_back w64 a.line.b (search rules)),
+      c.end_of-in-Done.ensures ∙ ap nat_abs (read_back w64 a.line.c (search rules)),
     ) at c.join.ensures)

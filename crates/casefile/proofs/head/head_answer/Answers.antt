@@ -1,5 +1,4 @@
 use mathlib.Core.Path.{sym, ◌∙◌}
-use borrow.Author.Tests.{not-false}
 use Rattle.casefile.proofs.Heads.{limits-few}
 use Rattle.integers.specs.Tests.{true-is}
 use Rattle.casefile.specs.Reads.{limits_z}
@@ -10,4 +9,4 @@ head_size-requires c =
     let a = c.args in
     let l = a.line in
     limits-few a.rulebook l.a l.b l.c (true-is (limits_z a.rulebook l.a l.b l.c)
-    (sym c.head_limited.ensures ∙ not-false _ c.if-not-head_limited.false-raw))
+    (sym c.head_limited.ensures ∙ c.if-not-head_limited.false))

@@ -17,7 +17,7 @@ record-before c = good_replay c.args.progress c.args.raised.now
 due : (c : Else-not-is_due) → let a = c.args in not_due (rules_of a.case) (due_kinds a.progress.due) a.line ≡ false
 due c = let a = c.args in
     not-true (not_due (rules_of a.case) (due_kinds a.progress.due) a.line)
-    (sym (c.is_due.ensures a.case.rulebook) ∙ not-false c.is_due.result c.if-not-is_due.false-raw)
+    (sym (c.is_due.ensures a.case.rulebook) ∙ c.if-not-is_due.false)
 
 in-range : (c : Else-line_out) → let a = c.args in
     (of_due (rules_of a.case) a.case a.table.now (record-before (goal.at.Else-line_out c).After-is_due) a.progress.due a.line).out ≡ false
@@ -28,7 +28,7 @@ returns-then-not-is_due c = let a = c.args in let w = a.table.now in record {
   table_after = step-refused c.refused.result w w a.raised.now c.refused.ensures refl
       ∙ sym (good-not-due a.case w (record-before (goal.at.returns-then-not-is_due c).After-is_due) a.line
       (not-false (not_due (rules_of a.case) (due_kinds a.progress.due) a.line)
-      (sym (c.is_due.ensures a.case.rulebook) ∙ not-true c.is_due.result c.if-not-is_due.true-raw)));
+      (sym (c.is_due.ensures a.case.rulebook) ∙ c.if-not-is_due.true)));
   best_of_2 = c.requires.best_of;
 }
 

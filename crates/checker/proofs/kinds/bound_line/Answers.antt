@@ -2,6 +2,7 @@ use mathlib.Core.Path.{◌≡◌, sym, ◌∙◌}
 use mathlib.Core.List.{List}
 use lib.IntN.{ℤ}
 use mir.Syntax.{w64}
+use borrow.Author.Rules.{rules}
 use Rattle.integers.specs.Linear.{read_back}
 use Rattle.definitions.specs.declared.Figure.{Figure}
 use Rattle.definitions.specs.Rules.{rules_of}
@@ -25,4 +26,4 @@ pub returns-in-Value : goal.returns-in-Value
 returns-in-Value c = λ w raised h k. let z = c.in-Value.bound in
     let e = summed (goal.at.returns-in-Value c).After-sum_of_best-sum w c.in-Value.is h k in
     let d : z ≡ upper_bound c.args.case w = cc in
-    c.stated_bound.ensures c.args.case w raised (read_back w64 z c.in-Value.known_told-in-Value-1-own.given.0.1 ∙ d)
+    c.stated_bound.ensures c.args.case w raised (read_back w64 z (search rules) ∙ d)

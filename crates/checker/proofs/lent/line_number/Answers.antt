@@ -14,20 +14,20 @@ use Rattle.checker.proofs.lent.line_number.Goals.{Else-not-is_due, Else-not-with
 due : (c : Else-not-is_due) → let a = c.args in not_due (rules_of a.case) (due_kinds a.replay.due) a.line ≡ false
 due c = let a = c.args in
     not-true (not_due (rules_of a.case) (due_kinds a.replay.due) a.line)
-    (sym (c.is_due.ensures a.case.rulebook) ∙ not-false c.is_due.result c.if-not-is_due.false-raw)
+    (sym (c.is_due.ensures a.case.rulebook) ∙ c.if-not-is_due.false)
 
 within : (c : Else-not-within_limits) → let a = c.args in within_limits (rules_of a.case) a.case.n a.case.d a.case.m ≡ true
-within c = sym c.within_limits.ensures ∙ not-false c.within_limits.result c.if-not-within_limits.false-raw
+within c = sym c.within_limits.ensures ∙ c.if-not-within_limits.false
 
 pub returns-then-not-is_due : goal.returns-then-not-is_due
 returns-then-not-is_due c = λ w e. let a = c.args in
     not-due a.case w a.replay a.line
     (not-false (not_due (rules_of a.case) (due_kinds a.replay.due) a.line)
-    (sym (c.is_due.ensures a.case.rulebook) ∙ not-true c.is_due.result c.if-not-is_due.true-raw))
+    (sym (c.is_due.ensures a.case.rulebook) ∙ c.if-not-is_due.true))
 
 pub returns-then-not-within_limits : goal.returns-then-not-within_limits
 returns-then-not-within_limits c = λ w e. let a = c.args in
-    no-limits a.case w a.replay a.line (due (goal.at.returns-then-not-within_limits c).Else-not-is_due) (sym c.within_limits.ensures ∙ not-true c.within_limits.result c.if-not-within_limits.true-raw)
+    no-limits a.case w a.replay a.line (due (goal.at.returns-then-not-within_limits c).Else-not-is_due) (sym c.within_limits.ensures ∙ c.if-not-within_limits.true)
 
 pub returns-then-is_wrong_length : goal.returns-then-is_wrong_length
 returns-then-is_wrong_length c = λ w e. let a = c.args in

@@ -6,6 +6,7 @@ use lib.IntN.{nat_abs}
 use lib.Dec.{eqb}
 use borrow.Author.Tests.{eq-eqb, ne_eqb}
 use mir.Syntax.{w64}
+use borrow.Author.Rules.{rules}
 use Rattle.integers.specs.Linear.{read_back}
 use Rattle.definitions.specs.Rules.{rules_of, scope_places}
 use Rattle.definitions.specs.Case.{scope_count}
@@ -25,7 +26,7 @@ abbrev asked : (c : After-not_above) → Asked
 asked c = let a = c.args in of_raise (rules_of a.case) a.case a.table.now (record-before c) a.variable a.target a.left a.last a.line
 
 scope-is : (c : After-not_above) → c.index-x.result ≡ nat_abs c.args.line.a
-scope-is c = c.index-x.ensures ∙ ap nat_abs (read_back w64 c.args.line.a c.struct_told-1.given.1.0.1)
+scope-is c = c.index-x.ensures ∙ ap nat_abs (read_back w64 c.args.line.a (search rules))
 
 above-is : (c : After-not_above) → not_above_last c.args.last (nat_abs c.args.line.a) ≡ c.not_above.result
 above-is c = sym (c.not_above.ensures ∙ ap (not_above_last c.args.last) (scope-is c))

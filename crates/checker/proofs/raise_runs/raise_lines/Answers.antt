@@ -17,7 +17,7 @@ line-is c = c.line_length-line.ensures
 
 in_order : (c : Else-not-x-scopes) → (c.scope_or_none-x.result < c.args.scopes) × (c.loop-more.above ≤ c.scope_or_none-x.result)
     × (c.scope_or_none-x.result ≢ c.args.variable)
-in_order c = let ((b, u), o) = simp tests at c.if-not-x-scopes.false-raw in (b, u, o)
+in_order c = let ((b, u), o) = simp tests at c.if-not-x-scopes.false in (b, u, o)
 
 abbrev line : (c : Else-not-x-scopes) → ℕ
 line c = c.line_length-line.result

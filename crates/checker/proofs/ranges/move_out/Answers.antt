@@ -3,6 +3,7 @@ use mathlib.Core.Bool.{or-false}
 use lib.Dec.{lit<}
 use lib.IntN.{pos}
 use mir.Syntax.{w64}
+use borrow.Author.Rules.{rules}
 use Rattle.definitions.specs.Rules.{rules_of}
 use Rattle.definitions.specs.Moves.{press_amount}
 use Rattle.definitions.specs.Replay.{begin_out}
@@ -12,25 +13,23 @@ use Rattle.checker.proofs.ranges.move_out.Goals as goal
 
 pub returns-then-line-eq1 : goal.returns-then-line-eq1
 returns-then-line-eq1 c = λ w p e. let l = c.args.line in
-    rw (sym (same_bits l.kind (pos 1) c.struct_told-1.given.0.1 (lit< tt) c.if-line-eq1.true)) (c.shift_out.ensures w p)
+    rw (sym (same_bits l.kind (pos 1) (search rules) (lit< tt) c.if-line-eq1.true)) (c.shift_out.ensures w p)
 
 pub returns-then-line-eq2 : goal.returns-then-line-eq2
 returns-then-line-eq2 c = λ w p e. let a = c.args in let l = a.line in
-    let k = c.struct_told-2-1.given.0.1 in
     rw (
-      sym (other-bits l.kind (pos 1) k (lit< tt) c.if-line-eq1.false),
-      sym (same_bits l.kind (pos 2) k (lit< tt) c.if-line-eq2.true),
+      sym (other-bits l.kind (pos 1) (search rules) (lit< tt) c.if-line-eq1.false),
+      sym (same_bits l.kind (pos 2) (search rules) (lit< tt) c.if-line-eq2.true),
       c.begin_out.ensures,
-      c.is_press_amount.ensures ∙ ap (press_amount (rules_of a.case)) (read_back w64 l.amount c.struct_told-then-line-eq2-1.given.1.1.1.1.0.1),
+      c.is_press_amount.ensures ∙ ap (press_amount (rules_of a.case)) (read_back w64 l.amount (search rules)),
     )
 
 pub returns-then-line-eq4 : goal.returns-then-line-eq4
 returns-then-line-eq4 c = λ w p e. let a = c.args in let l = a.line in
-    let k = c.struct_told-3-1.given.0.1 in
     rw (
-      sym (other-bits l.kind (pos 1) k (lit< tt) c.if-line-eq1.false),
-      sym (other-bits l.kind (pos 2) k (lit< tt) c.if-line-eq2.false),
-      sym (same_bits l.kind (pos 4) k (lit< tt) c.if-line-eq4.true),
+      sym (other-bits l.kind (pos 1) (search rules) (lit< tt) c.if-line-eq1.false),
+      sym (other-bits l.kind (pos 2) (search rules) (lit< tt) c.if-line-eq2.false),
+      sym (same_bits l.kind (pos 4) (search rules) (lit< tt) c.if-line-eq4.true),
       e,
       c.most_rounds.ensures,
     )
@@ -38,11 +37,10 @@ returns-then-line-eq4 c = λ w p e. let a = c.args in let l = a.line in
 
 pub returns : goal.returns
 returns c = λ w p e. let a = c.args in let l = a.line in
-    let k = c.struct_told-3-1.given.0.1 in
     rw (
-      sym (other-bits l.kind (pos 1) k (lit< tt) c.if-line-eq1.false),
-      sym (other-bits l.kind (pos 2) k (lit< tt) c.if-line-eq2.false),
-      sym (other-bits l.kind (pos 4) k (lit< tt) c.if-line-eq4.false),
+      sym (other-bits l.kind (pos 1) (search rules) (lit< tt) c.if-line-eq1.false),
+      sym (other-bits l.kind (pos 2) (search rules) (lit< tt) c.if-line-eq2.false),
+      sym (other-bits l.kind (pos 4) (search rules) (lit< tt) c.if-line-eq4.false),
       c.begin_out-2.ensures,
     )
     (sym (or-false (begin_out a.case l)))
