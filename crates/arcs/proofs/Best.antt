@@ -10,7 +10,8 @@ use lib.IntN.{ℤ}
 use lib.Dec.{T, ltb, eqb, eqb→eq}
 use lib.ListN.{length, get_or, take, drop, length-take, length-drop}
 use lib.Seq.{get_or-take, get_or-drop}
-use Rattle.integers.specs.Words.{if◌then◌else◌, ◌⇒◌}
+use Rattle.std.specs.Prelude.{if◌then◌else◌}
+use Rattle.integers.specs.Words.{◌⇒◌}
 use Rattle.integers.specs.Tests.{tests, is_true, true-is, imp_intro, imp_elim, same_test}
 use Rattle.integers.specs.Lists.{all-at, all_of}
 use Rattle.integers.specs.Tables.{length-tab, get_d-tab}

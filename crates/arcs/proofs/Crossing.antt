@@ -8,7 +8,7 @@ use native.Mathlib.Omega.{arith}
 use borrow.Author.Tests.{ne_eqb, eq-eqb, le-ltb}
 use lib.Dec.{T, eqb}
 use lib.ListN.{length, get_or, set, replicate}
-use Rattle.integers.specs.Words.{if◌then◌else◌}
+use Rattle.std.specs.Prelude.{if◌then◌else◌}
 use Rattle.integers.specs.Tests.{is_true, and_left}
 use Rattle.marks.specs.Marks.{mark, added, without, lowest_of}
 use Rattle.marks.proofs.Laws.{mark-zero, byte-is, byte_small, lowest-small, lowest-marked}

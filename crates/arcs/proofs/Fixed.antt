@@ -10,7 +10,8 @@ use borrow.Author.Tests.{lt-ltb, le-ltb}
 use lib.IntN.{ℤ}
 use lib.Dec.{T, T_not, not_T, ltb, ltb→lt, lt→ltb, eqb}
 use lib.ListN.{length, get_or}
-use Rattle.integers.specs.Words.{if◌then◌else◌, below, ◌⇒◌}
+use Rattle.std.specs.Prelude.{if◌then◌else◌}
+use Rattle.integers.specs.Words.{below, ◌⇒◌}
 use Rattle.integers.specs.Tests.{tests, and_intro, and_left, and_right, either, same_test}
 use Rattle.integers.specs.Lists.{map_same}
 use Rattle.definitions.specs.declared.Case.{Case}

@@ -10,7 +10,8 @@ use borrow.Author.Tests.{lt-ltb, le-ltb, ne_eqb}
 use lib.Dec.{T, ltb, eqb, eqb→eq, ltb→lt, nltb→le}
 use lib.ListN.{length, get_or, set, take, drop, length-append, length-drop, length-set, get_or-append}
 use lib.Seq.{ext_get_or, get_or-append-add, get_or-drop, take_at}
-use Rattle.integers.specs.Words.{if◌then◌else◌, below, joined}
+use Rattle.std.specs.Prelude.{if◌then◌else◌}
+use Rattle.integers.specs.Words.{below, joined}
 use Rattle.integers.specs.Tests.{either, is_true, is_false, not-eqb-iff}
 use Rattle.integers.specs.Tables.{length-tab, get_d-tab, length-rows, get_d_rows}
 use Rattle.definitions.specs.declared.Case.{Case}

@@ -9,7 +9,8 @@ use borrow.Author.Tests.{lt-ltb, le-ltb, eq-eqb, ne_eqb}
 use lib.Dec.{T, ltb, eqb, ltb→lt, nltb→le}
 use lib.ListN.{length, get_or, set, length-set}
 use lib.Seq.{ext_get_or}
-use Rattle.integers.specs.Words.{if◌then◌else◌, below}
+use Rattle.std.specs.Prelude.{if◌then◌else◌}
+use Rattle.integers.specs.Words.{below}
 use Rattle.integers.specs.Tests.{either, is_true, is_false}
 use Rattle.integers.specs.Tables.{length-tab, get_d-tab}
 use Rattle.integers.specs.Lists.{map_same}

@@ -9,7 +9,8 @@ use borrow.Author.Tests.{lt-ltb, le-ltb, eq-eqb, ne_eqb}
 use lib.IntN.{ℤ}
 use lib.Dec.{T, ltb, ltb→lt, lt→ltb}
 use lib.ListN.{length, get_or, set, length-set}
-use Rattle.integers.specs.Words.{if◌then◌else◌, ◌⇒◌}
+use Rattle.std.specs.Prelude.{if◌then◌else◌}
+use Rattle.integers.specs.Words.{◌⇒◌}
 use Rattle.integers.specs.Tests.{if-true, if-false, true-is, false-is, or_left, or_right}
 use Rattle.integers.specs.Tests.{and_left, and_right, and_intro, imp_intro, imp_elim, not-not-iff, same_test}
 use Rattle.integers.specs.Lists.{all-at, all_of}

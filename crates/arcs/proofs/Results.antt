@@ -7,7 +7,8 @@ use native.Mathlib.Omega.{arith}
 use lib.Dec.{T, T_not, eqb, eqb→eq}
 use lib.ListN.{length, get_or, replicate, length-replicate, get_or-replicate}
 use lib.Seq.{ext_get_or}
-use Rattle.integers.specs.Words.{if◌then◌else◌, below, any}
+use Rattle.std.specs.Prelude.{if◌then◌else◌}
+use Rattle.integers.specs.Words.{below, any}
 use Rattle.integers.specs.Tests.{tests, if-true, if-false, true-is, false-is, eqb-iff}
 use Rattle.integers.specs.Tables.{length-tab, get_d-tab, any-get_d}
 use Rattle.definitions.specs.Consistency.{Family}

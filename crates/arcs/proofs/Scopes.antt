@@ -9,7 +9,8 @@ use borrow.Author.Tests.{lt-ltb, le-ltb, ltb-true, ltb-false}
 use lib.IntN.{ℤ, pos}
 use lib.Dec.{ltb, ltb→lt, nltb→le}
 use lib.ListN.{length, get_or}
-use Rattle.integers.specs.Words.{if◌then◌else◌, eq_z}
+use Rattle.std.specs.Prelude.{if◌then◌else◌}
+use Rattle.integers.specs.Words.{eq_z}
 use Rattle.integers.specs.Tests.{either, if-true, if-false}
 use Rattle.definitions.specs.declared.Case.{Case}
 use Rattle.definitions.specs.Rules.{edge_places}

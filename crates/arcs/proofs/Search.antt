@@ -8,7 +8,8 @@ use Prim.Native.Nat.{ℕ, ◌+◌, ◌<◌}
 use native.Mathlib.Omega.{arith}
 use borrow.Author.Tests.{lt-ltb, le-ltb, eqb-true}
 use lib.Dec.{T, T_not, ltb, eqb, eqb→eq, ltb→lt, lt→ltb}
-use Rattle.integers.specs.Words.{if◌then◌else◌, below, any, those, first, ◌⇒◌}
+use Rattle.std.specs.Prelude.{if◌then◌else◌}
+use Rattle.integers.specs.Words.{below, any, those, first, ◌⇒◌}
 use Rattle.integers.specs.Tests.{either, is_true, is_false, true-is, and_intro, and_left, and_right, not-eqb-iff, same_test}
 use Rattle.integers.specs.Lists.{any_of, those-same, first-least, first-none}
 use Rattle.marks.specs.Marks.{mark, byte_of, lowest_of, without, in_both}

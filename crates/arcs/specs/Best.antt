@@ -1,8 +1,8 @@
 -- Values without a supported family, where `best` holds a number for each scope and in raised scopes the tuples of another weight are
 -- forbidden. What is prepared as bytes, and the answers on all input. Assumes nothing.
-use Rattle.std.specs.Prelude.{Bool, true, false, not, ◌||◌, List, [], ◌∷◌, map, ℕ, ◌+◌, ℤ, ltb, length, take, drop}
+use Rattle.std.specs.Prelude.{Bool, true, false, not, ◌||◌, List, [], ◌∷◌, map, ℕ, ◌+◌, ℤ, ltb, length, take, drop, if◌then◌else◌}
 use Rattle.std.proofs.Math.Option.{Option}
-use Rattle.integers.specs.Words.{if◌then◌else◌, below, joined}
+use Rattle.integers.specs.Words.{below, joined}
 use Rattle.definitions.specs.declared.Case.{Case}
 use Rattle.definitions.specs.declared.Refusal.{Refusal}
 use Rattle.definitions.specs.declared.Refusal.TheVariants.{OutOfRange}

@@ -1,6 +1,6 @@
 -- The closure of given sets: the largest supported family inside them. Sets are bytes, a mark for each value. Assumes nothing.
-use Rattle.std.specs.Prelude.{Bool, not, ◌&&◌, ◌||◌, List, map, ℕ, ◌+◌, ◌*◌, ltb, eqb, length, get_or}
-use Rattle.integers.specs.Words.{if◌then◌else◌, below, any}
+use Rattle.std.specs.Prelude.{Bool, not, ◌&&◌, ◌||◌, List, map, ℕ, ◌+◌, ◌*◌, ltb, eqb, length, get_or, if◌then◌else◌}
+use Rattle.integers.specs.Words.{below, any}
 use Rattle.definitions.specs.Rules.{edge_places}
 use Rattle.definitions.specs.Consistency.{Family, marks}
 use Rattle.networks.specs.Network.{Network, supported_in, families_of, largest}

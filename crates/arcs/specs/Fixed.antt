@@ -1,6 +1,5 @@
 -- The sets in which one value is fixed, as marks. Assumes nothing.
-use Rattle.std.specs.Prelude.{Bool, List, ℕ, ℤ, eqb}
-use Rattle.integers.specs.Words.{if◌then◌else◌}
+use Rattle.std.specs.Prelude.{Bool, List, ℕ, ℤ, eqb, if◌then◌else◌}
 use Rattle.definitions.specs.declared.Case.{Case}
 use Rattle.marks.specs.Marks.{only_of, full_of, in_both}
 use Rattle.arcs.specs.Active.{active_set}

@@ -1,7 +1,7 @@
 -- The search for partners: a row holds the marks of a value's partners. Assumes nothing.
-use Rattle.std.specs.Prelude.{Bool, true, false, ◌&&◌, List, map, ℕ, ◌+◌, ltb, length, get_or}
+use Rattle.std.specs.Prelude.{Bool, true, false, ◌&&◌, List, map, ℕ, ◌+◌, ltb, length, get_or, if◌then◌else◌}
 use Rattle.std.proofs.Math.Option.{Option, none, some}
-use Rattle.integers.specs.Words.{if◌then◌else◌, below, any, those, first}
+use Rattle.integers.specs.Words.{below, any, those, first}
 use Rattle.marks.specs.Marks.{mark, byte_of}
 use Rattle.arcs.specs.declared.Partner.{Partner}
 use Rattle.arcs.specs.declared.Partner.TheVariants.{At, Nothing}

@@ -1,6 +1,5 @@
 -- What the closure's private functions do to the sets: values without a partner are struck, edge by edge. Assumes nothing.
-use Rattle.std.specs.Prelude.{◌≡◌, Bool, true, false, List, [], ◌∷◌, ℕ, ◌+◌, ◌*◌, ◌≤◌, ◌<◌, T, eqb, length, get_or}
-use Rattle.integers.specs.Words.{if◌then◌else◌}
+use Rattle.std.specs.Prelude.{◌≡◌, Bool, true, false, List, [], ◌∷◌, ℕ, ◌+◌, ◌*◌, ◌≤◌, ◌<◌, T, eqb, length, get_or, if◌then◌else◌}
 use Rattle.definitions.specs.Consistency.{Family}
 use Rattle.networks.specs.Network.{Network, SupportedIn}
 use Rattle.networks.proofs.Networks.{Within, None}

@@ -1,6 +1,6 @@
 -- Values that are tried one by one: each alone in the set of a variable, inside given sets. Assumes nothing.
-use Rattle.std.specs.Prelude.{Bool, not, ◌||◌, List, ℕ, ltb, length, get_or, set}
-use Rattle.integers.specs.Words.{if◌then◌else◌, below, all, ◌⇒◌}
+use Rattle.std.specs.Prelude.{Bool, not, ◌||◌, List, ℕ, ltb, length, get_or, set, if◌then◌else◌}
+use Rattle.integers.specs.Words.{below, all, ◌⇒◌}
 use Rattle.definitions.specs.Rules.{variable_places}
 use Rattle.networks.specs.Network.{Network}
 use Rattle.marks.specs.Marks.{mark, only_of, in_both}

@@ -2,8 +2,8 @@
 // table. Inner functions, for other crates: each asks only what is said at it. Document 01's refutation is `consistency::refuted`.
 #![tactic(auto)]
 
-ghost use Rattle.std.specs.Prelude.{◌≡◌, not, ◌&&◌, ◌||◌, ℕ, ◌+◌, ◌*◌, ◌≤◌, ◌<◌, T, ltb, eqb, length, get_or, set, replicate};
-ghost use Rattle.integers.specs.Words.{if◌then◌else◌, below, any, eq_z};
+ghost use Rattle.std.specs.Prelude.{◌≡◌, not, ◌&&◌, ◌||◌, ℕ, ◌+◌, ◌*◌, ◌≤◌, ◌<◌, T, ltb, eqb, length, get_or, set, replicate, if◌then◌else◌};
+ghost use Rattle.integers.specs.Words.{below, any, eq_z};
 ghost use Rattle.definitions.specs.Rules.{rules_of};
 ghost use Rattle.definitions.specs.Case.{scope_count};
 ghost use Rattle.definitions.specs.Answers.{outcome_of};

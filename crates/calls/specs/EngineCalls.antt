@@ -1,7 +1,7 @@
 -- The engine's calls on all input: one round, and the run that iterates it, on a lent table and a lent output. Assumes nothing.
-use Rattle.std.specs.Prelude.{Bool, false, List, [], ◌++◌, ℕ, zero, suc, ℤ, pos, ltb, eqb, length, take}
+use Rattle.std.specs.Prelude.{Bool, false, List, [], ◌++◌, ℕ, zero, suc, ℤ, pos, ltb, eqb, length, take, if◌then◌else◌}
 use Rattle.std.proofs.Math.Option.{Option, none, some}
-use Rattle.integers.specs.Words.{if◌then◌else◌, joined}
+use Rattle.integers.specs.Words.{joined}
 use Rattle.definitions.specs.declared.Case.{Case}
 use Rattle.definitions.specs.declared.Refusal.{Refusal}
 use Rattle.definitions.specs.declared.Round.{Round}

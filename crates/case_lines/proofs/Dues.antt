@@ -11,7 +11,8 @@ use Rattle.integers.specs.Tests.{either, if-cases, if-true}
 use lib.ListN.{length, get_or, length-append, get_or-append}
 use lib.Seq.{get_or-append-add}
 use borrow.Author.Tests.{lt-ltb, le-ltb, eq-eqb, ne_eqb}
-use Rattle.integers.specs.Words.{if◌then◌else◌, below, joined}
+use Rattle.std.specs.Prelude.{if◌then◌else◌}
+use Rattle.integers.specs.Words.{below, joined}
 use Rattle.integers.specs.Tables.{length-tab, get_d-tab, length-rows, get_d-rows-at}
 use Rattle.definitions.specs.Rules.{rules_in, coherent, edge_places}
 use Rattle.definitions.specs.declared.Rulebook.{Rulebook}

@@ -12,7 +12,8 @@ use lib.IntN.{ℤ, pos, nat_abs}
 use lib.Dec.{T, eqb, ltb, ltb→lt, nltb→le}
 use lib.ListN.{length, get_or, set, length-set}
 use lib.Seq.{get_or-set_same, get_or-set_other, ext_get_or}
-use Rattle.integers.specs.Words.{if◌then◌else◌, from, below, joined}
+use Rattle.std.specs.Prelude.{if◌then◌else◌}
+use Rattle.integers.specs.Words.{from, below, joined}
 use Rattle.integers.specs.Tests.{either}
 use Rattle.integers.specs.Linear.{T-eq}
 use Rattle.integers.specs.Lists.{◌∈◌, below_in, joined_in, map-append, map-joined, map-map, map_same}

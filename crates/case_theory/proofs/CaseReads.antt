@@ -13,7 +13,8 @@ use lib.Dec.{T, T_not, not_T, eqb, eqb→eq}
 use lib.ListN.{length, take, drop, length-append}
 use lib.Seq.{take_at, drop_at, take-add}
 use borrow.Author.Tests.{le-ltb, eq-eqb, ne_eqb, eqb-true}
-use Rattle.integers.specs.Words.{joined, if◌then◌else◌, all, any, is_in}
+use Rattle.std.specs.Prelude.{if◌then◌else◌}
+use Rattle.integers.specs.Words.{joined, all, any, is_in}
 use Rattle.integers.specs.Tests.{either, and_left, and_right, not-eqb-iff}
 use Rattle.integers.specs.Lists.{◌∈◌, any-in}
 use Rattle.integers.specs.Options.{none-some}

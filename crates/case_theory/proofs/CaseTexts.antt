@@ -13,7 +13,8 @@ use lib.IntN.{ℤ, pos}
 use lib.Dec.{T, ltb, ltb→lt, nltb→le}
 use lib.ListN.{length, get_or, get_or-eq_default, take, replicate, length-map, take-append-drop, drop_of_length-le}
 use borrow.Author.Tests.{lt-ltb, le-ltb}
-use Rattle.integers.specs.Words.{below, joined, if◌then◌else◌}
+use Rattle.std.specs.Prelude.{if◌then◌else◌}
+use Rattle.integers.specs.Words.{below, joined}
 use Rattle.integers.specs.Tests.{either}
 use Rattle.integers.specs.Lists.{◌∈◌, map-map, map_same}
 use Rattle.integers.specs.Tables.{Parts, length-joined, length-tab, get_d-tab}

@@ -12,7 +12,8 @@ use lib.IntN.{ℤ, pos, nat_abs}
 use lib.Dec.{T, not_T, ltb, ltb→lt, nltb→le, lt→ltb, le→leb}
 use lib.ListN.{length, get_or, set, replicate, length-append, length-replicate, get_or-append}
 use lib.Seq.{get_or-set_other, get_or-append-add}
-use Rattle.integers.specs.Words.{if◌then◌else◌, below, all, joined}
+use Rattle.std.specs.Prelude.{if◌then◌else◌}
+use Rattle.integers.specs.Words.{below, all, joined}
 use Rattle.integers.specs.Lists.{map_same}
 use Rattle.integers.specs.Tables.{length-tab, get_d-tab}
 use Rattle.integers.specs.Tests.{tests, either, if-true, if-false}

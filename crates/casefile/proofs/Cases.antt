@@ -10,7 +10,7 @@ use lib.IntN.{ℤ}
 use lib.Dec.{eqb, nltb→le}
 use lib.ListN.{length, length-drop}
 use borrow.Author.Tests.{eq-eqb, ne_eqb}
-use Rattle.integers.specs.Words.{if◌then◌else◌}
+use Rattle.std.specs.Prelude.{if◌then◌else◌}
 use Rattle.integers.specs.Tests.{is_true, false-is, either, and_left, and_right, not-not-iff}
 use Rattle.definitions.specs.declared.Rulebook.{Rulebook}
 use Rattle.definitions.specs.declared.Case.{Case}

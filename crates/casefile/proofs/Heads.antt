@@ -8,7 +8,8 @@ use native.Mathlib.Omega.{arith}
 use lib.IntN.{ℤ, pos, nat_abs}
 use lib.ListN.{length, take}
 use borrow.Author.Tests.{lt-ltb, le-ltb}
-use Rattle.integers.specs.Words.{if◌then◌else◌, within_z}
+use Rattle.std.specs.Prelude.{if◌then◌else◌}
+use Rattle.integers.specs.Words.{within_z}
 use Rattle.integers.specs.Tests.{and_left, and_right}
 use lib.Dec.{T}
 use lib.Signed.{lt_z}

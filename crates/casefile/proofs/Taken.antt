@@ -19,7 +19,8 @@ use Rattle.definitions.specs.Refusals.{◌when◌, first_refusal}
 use Rattle.definitions.specs.Case.{barred_weight, is_barred}
 use Rattle.definitions.specs.Valid.{in_starting}
 use Rattle.definitions.specs.CaseFiles.{CaseDue, variable-weight, edge-ends, edge-weight, names, bars, weight_in, Reading, took, due_tests, is_cut, first_line}
-use Rattle.integers.specs.Words.{if◌then◌else◌, eq_z}
+use Rattle.std.specs.Prelude.{if◌then◌else◌}
+use Rattle.integers.specs.Words.{eq_z}
 use Rattle.integers.specs.Tests.{tests, and-iff, not-or-iff, either, is_true, is_false, and_left, and_right}
 use Rattle.theory.proofs.Validity.{none-applies}
 use Rattle.theory.proofs.Places.{place-variable, place-edge}

@@ -1,8 +1,8 @@
 -- The line at the front of the bytes left, and what the head says. Assumes nothing.
-use Rattle.std.specs.Prelude.{◌≡◌, Bool, false, ◌&&◌, List, ℕ, ◌≤◌, ℤ, pos, nat_abs, take}
+use Rattle.std.specs.Prelude.{◌≡◌, Bool, false, ◌&&◌, List, ℕ, ◌≤◌, ℤ, pos, nat_abs, take, if◌then◌else◌}
 use Rattle.std.proofs.Math.Option.{Option, none, some}
 use Rattle.std.specs.Int.Signed.{lt_z}
-use Rattle.integers.specs.Words.{if◌then◌else◌, eq_z, within_z}
+use Rattle.integers.specs.Words.{eq_z, within_z}
 use Rattle.definitions.specs.declared.Rulebook.{Rulebook}
 use Rattle.definitions.specs.declared.Line.{Line}
 use Rattle.definitions.specs.declared.LineRead.{LineRead}

@@ -12,7 +12,8 @@ use lib.Dec.{T, eqb, ltb, eqb→eq, nltb→le}
 use lib.ListN.{length, get_or, set, length-set}
 use lib.Seq.{get_or-set_same, get_or-set_other}
 use borrow.Author.Tests.{eq-eqb}
-use Rattle.integers.specs.Words.{if◌then◌else◌, ◌⇒◌, below, all}
+use Rattle.std.specs.Prelude.{if◌then◌else◌}
+use Rattle.integers.specs.Words.{◌⇒◌, below, all}
 use Rattle.integers.specs.Tests.{either, imp_intro, imp_elim, same_test, if-true, if-false, or_left, or_right, not-or-iff, not-not-iff, not-eqb-iff, false-is}
 use Rattle.integers.specs.Lists.{all_in, all-at, all_of}
 use Rattle.definitions.specs.declared.Case.{Case}

@@ -11,7 +11,8 @@ use lib.Dec.{T, eqb, ltb, eqb→eq, ltb→lt, lt→ltb}
 use lib.ListN.{length, get_or, set, length-set}
 use lib.Seq.{get_or-set_same, get_or-set_other}
 use borrow.Author.Tests.{eq-eqb, lt-ltb, le-ltb}
-use Rattle.integers.specs.Words.{if◌then◌else◌, greatest_of, eq_z}
+use Rattle.std.specs.Prelude.{if◌then◌else◌}
+use Rattle.integers.specs.Words.{greatest_of, eq_z}
 use Rattle.integers.specs.Tests.{either, is_true, is_false, if-true, if-false, if-cases, same_test, imp_intro, imp_elim}
 use Rattle.integers.specs.Tests.{not-or-iff, false-is, not-not-iff, not-eqb-iff}
 use Rattle.integers.specs.Lists.{all-at, all_of}

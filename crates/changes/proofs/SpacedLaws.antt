@@ -14,7 +14,8 @@ use lib.Seq.{get_or-set_same, get_or-set_other}
 use mir.Syntax.{w64}
 use mir.Val.{SFits, to_z, of_z}
 use mir.Facts.{to_z-of_z}
-use Rattle.integers.specs.Words.{if◌then◌else◌, within_z, minus}
+use Rattle.std.specs.Prelude.{if◌then◌else◌}
+use Rattle.integers.specs.Words.{within_z, minus}
 use Rattle.integers.specs.Tests.{either, same_test, if-cases, or_cases, not-eqb-iff}
 use Rattle.integers.specs.Linear.{zs, flat, ◌▸◌, T-eq}
 use Rattle.integers.specs.Lists.{all_same, all-at}

@@ -12,7 +12,8 @@ use lib.Dec.{T, T_not, eqb, ltb, eqb→eq}
 use lib.Signed.{le_z}
 use lib.ListN.{length, set}
 use borrow.Author.Tests.{eq-eqb, ne_eqb, lt-ltb, le-ltb}
-use Rattle.integers.specs.Words.{if◌then◌else◌, minus}
+use Rattle.std.specs.Prelude.{if◌then◌else◌}
+use Rattle.integers.specs.Words.{minus}
 use Rattle.integers.specs.Tests.{either, is_true, is_false, false-is, and_intro, and_left, and_right, or_left, or_right, not-or-iff, same_test, eqb-iff, tests}
 use Rattle.integers.specs.Lists.{all-at, all_of}
 use Rattle.definitions.specs.declared.Case.{Case}

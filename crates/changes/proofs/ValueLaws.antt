@@ -9,7 +9,8 @@ use lib.IntN.{ℤ, pos}
 use lib.Dec.{ltb, eqb}
 use lib.ListN.{length, get_or}
 use borrow.Author.Tests.{eq-eqb, lt-ltb, le-ltb, ne_eqb}
-use Rattle.integers.specs.Words.{if◌then◌else◌, eq_z}
+use Rattle.std.specs.Prelude.{if◌then◌else◌}
+use Rattle.integers.specs.Words.{eq_z}
 use Rattle.definitions.specs.declared.Case.{Case}
 use Rattle.definitions.specs.declared.Refusal.TheVariants.{OutOfRange}
 use Rattle.definitions.specs.Rules.{rules_of}

@@ -1,10 +1,10 @@
 -- A scope's weights changed, each by its place in the scope and by whether it is the number kept for the scope; what is asked and added in a
 -- scope where values of a variable are lowered and scopes are raised. Assumes nothing.
-use Rattle.std.specs.Prelude.{◌≡◌, Bool, not, ◌&&◌, ◌||◌, List, map, ℕ, ◌+◌, ◌*◌, ◌<◌, ℤ, pos, neg_ℤ, ◌+ℤ◌, ◌-ℤ◌, T, eqb, length, get_or}
+use Rattle.std.specs.Prelude.{◌≡◌, Bool, not, ◌&&◌, ◌||◌, List, map, ℕ, ◌+◌, ◌*◌, ◌<◌, ℤ, pos, neg_ℤ, ◌+ℤ◌, ◌-ℤ◌, T, eqb, length, get_or, if◌then◌else◌}
 use Rattle.std.specs.Int.Signed.{le_z}
 use Rattle.std.specs.Int.{w64}
 use Rattle.std.proofs.Common.{SFits}
-use Rattle.integers.specs.Words.{if◌then◌else◌, ◌⇒◌, below, all, minus, eq_z, within_z}
+use Rattle.integers.specs.Words.{◌⇒◌, below, all, minus, eq_z, within_z}
 use Rattle.definitions.specs.declared.Case.{Case}
 use Rattle.definitions.specs.Rules.{Rules, rules_of}
 use Rattle.definitions.specs.Case.{scope_count, scopes, is_variable, lent_length, weight}

@@ -1,9 +1,9 @@
 -- A weight with an amount added, where a barred tuple's weight stays; weights that stand `step` apart: `count` of them, from place `start` on.
 -- Assumes nothing.
-use Rattle.std.specs.Prelude.{Bool, ◌&&◌, List, ℕ, zero, suc, ◌+◌, ◌*◌, ◌<◌, ℤ, pos, neg_ℤ, ◌+ℤ◌, length, get_or, set}
+use Rattle.std.specs.Prelude.{Bool, ◌&&◌, List, ℕ, zero, suc, ◌+◌, ◌*◌, ◌<◌, ℤ, pos, neg_ℤ, ◌+ℤ◌, length, get_or, set, if◌then◌else◌}
 use Rattle.std.specs.Int.{w64}
 use Rattle.std.proofs.Common.{SFits}
-use Rattle.integers.specs.Words.{if◌then◌else◌, below, all, within_z, minus}
+use Rattle.integers.specs.Words.{below, all, within_z, minus}
 use Rattle.definitions.specs.Rules.{Rules}
 use Rattle.definitions.specs.Case.{is_barred}
 use Rattle.definitions.specs.Moves.{keeps_range}

@@ -3,10 +3,10 @@
 // `moves::press`.
 #![tactic(auto)]
 
-ghost use Rattle.std.specs.Prelude.{◌≡◌, not, ◌||◌, ℕ, ◌+◌, ◌*◌, ◌≤◌, ◌<◌, T, ltb, eqb, length, set, pos};
+ghost use Rattle.std.specs.Prelude.{◌≡◌, not, ◌||◌, ℕ, ◌+◌, ◌*◌, ◌≤◌, ◌<◌, T, ltb, eqb, length, set, pos, if◌then◌else◌};
 ghost use Rattle.std.specs.Int.{w64};
 ghost use Rattle.std.proofs.Common.{SFits};
-ghost use Rattle.integers.specs.Words.{if◌then◌else◌, all, eq_z, within_z};
+ghost use Rattle.integers.specs.Words.{all, eq_z, within_z};
 ghost use Rattle.definitions.specs.Rules.{rules_in, rules_of};
 ghost use Rattle.definitions.specs.declared.Refusal.TheVariants.{LeavesRange};
 ghost use Rattle.definitions.specs.Moves.{shift_amount, press_amount, plus, end_variable};

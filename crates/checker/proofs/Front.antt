@@ -10,7 +10,8 @@ use lib.IntN.{ℤ}
 use lib.Dec.{T, ltb, eqb}
 use lib.ListN.{length}
 use borrow.Author.Tests.{eq-eqb}
-use Rattle.integers.specs.Words.{if◌then◌else◌, below, any}
+use Rattle.std.specs.Prelude.{if◌then◌else◌}
+use Rattle.integers.specs.Words.{below, any}
 use Rattle.integers.specs.Tests.{is_false, not-or-iff}
 use Rattle.integers.specs.Options.{some_inj, none-some}
 use Rattle.definitions.specs.declared.Case.{Case}

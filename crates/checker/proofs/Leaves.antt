@@ -11,7 +11,8 @@ use lib.IntN.{ℤ, pos, nat_abs}
 use lib.Dec.{T, eqb, ltb, lt→ltb, ltb→lt}
 use lib.ListN.{drop, set, length-drop, length-replicate, get_or-replicate}
 use lib.Seq.{get_or-drop, drop-set-lt}
-use Rattle.integers.specs.Words.{if◌then◌else◌, all, within_z}
+use Rattle.std.specs.Prelude.{if◌then◌else◌}
+use Rattle.integers.specs.Words.{all, within_z}
 use Rattle.integers.specs.Tests.{tests, either, is_true, is_false, false-is, not-or-iff, not-not-iff, not-eqb-iff, if-false}
 use Rattle.integers.specs.Tables.{all_get_d}
 use Rattle.definitions.specs.declared.Case.{Case}

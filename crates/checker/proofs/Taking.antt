@@ -9,7 +9,8 @@ use lib.Dec.{T, eqb}
 use borrow.Author.Tests.{lt-ltb}
 use lib.Signed.{le_z, lt_z}
 use lib.ListN.{length, get_or, set, replicate, length-set}
-use Rattle.integers.specs.Words.{if◌then◌else◌, eq_z, within_z}
+use Rattle.std.specs.Prelude.{if◌then◌else◌}
+use Rattle.integers.specs.Words.{eq_z, within_z}
 use Rattle.integers.specs.Tests.{is_true, is_false, not-or-iff, not-not-iff}
 use Rattle.integers.specs.Linear.{flat, zs}
 use Rattle.definitions.specs.declared.Case.{Case}

@@ -1,9 +1,9 @@
 -- The replay's calls on all input: a fresh record, a step on one line of any bytes, the end, and a block of lines. They go by the record that
 -- is handed over, whatever it holds, and take nothing from the plain replay. Assumes nothing.
-use Rattle.std.specs.Prelude.{Bool, true, false, not, ◌&&◌, ◌||◌, List, [], ◌∷◌, ◌++◌, ℕ, ◌+◌, ◌-◌, ℤ, pos, nat_abs, leb, ltb, eqb, drop, set, replicate}
+use Rattle.std.specs.Prelude.{Bool, true, false, not, ◌&&◌, ◌||◌, List, [], ◌∷◌, ◌++◌, ℕ, ◌+◌, ◌-◌, ℤ, pos, nat_abs, leb, ltb, eqb, drop, set, replicate, if◌then◌else◌}
 use Rattle.std.proofs.Math.Option.{Option, none, some}
 use Rattle.std.specs.Int.Signed.{lt_z}
-use Rattle.integers.specs.Words.{if◌then◌else◌, all, within, eq_z}
+use Rattle.integers.specs.Words.{all, within, eq_z}
 use Rattle.definitions.specs.declared.Case.{Case}
 use Rattle.definitions.specs.declared.Line.{Line}
 use Rattle.definitions.specs.declared.Refusal.{Refusal}

@@ -1,6 +1,5 @@
 -- Answers in the library's records: the number that an answer says, and its values; 0 where there is no such value. Assumes nothing.
-use Rattle.std.specs.Prelude.{Bool, not, ◌&&◌, ℕ, eqb}
-use Rattle.integers.specs.Words.{if◌then◌else◌}
+use Rattle.std.specs.Prelude.{Bool, not, ◌&&◌, ℕ, eqb, if◌then◌else◌}
 use Rattle.definitions.specs.Answers.{Says, value_at, count_at, line_named}
 use Rattle.encoding.specs.RecordBytes.{flag}
 use Rattle.checker_library.specs.declared.CeilingSize.{CeilingSize}

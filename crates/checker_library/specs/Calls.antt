@@ -1,6 +1,5 @@
 -- The calls on a case and a record as bytes. What is refused changes no byte and no weight, but where a line says so. Assumes nothing.
-use Rattle.std.specs.Prelude.{true, false, List, ◌∷◌, ℕ, ℤ, eqb}
-use Rattle.integers.specs.Words.{if◌then◌else◌}
+use Rattle.std.specs.Prelude.{true, false, List, ◌∷◌, ℕ, ℤ, eqb, if◌then◌else◌}
 use Rattle.definitions.specs.declared.Rulebook.TheVariants.{Desk}
 use Rattle.definitions.specs.declared.Case.{Case}
 use Rattle.definitions.specs.declared.FileAnswer.{FileAnswer}

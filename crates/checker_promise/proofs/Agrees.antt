@@ -11,7 +11,8 @@ use lib.IntN.{ℤ, pos, neg_ℤ, ◌+ℤ◌}
 use lib.Dec.{T, eqb, eqb→eq}
 use lib.ListN.{length, drop, set, length-drop, length-set, length-replicate, get_or-replicate}
 use lib.Seq.{get_or-drop, get_or-set_same, get_or-set_other, drop-set-lt}
-use Rattle.integers.specs.Words.{if◌then◌else◌, all, last, is_in, ◌⇒◌}
+use Rattle.std.specs.Prelude.{if◌then◌else◌}
+use Rattle.integers.specs.Words.{all, last, is_in, ◌⇒◌}
 use Rattle.integers.specs.Tests.{tests, either, is_true, is_false, not-eqb-iff}
 use Rattle.integers.specs.Options.{last-append}
 use Rattle.integers.specs.Lists.{all_same, is_in-append}

@@ -15,7 +15,8 @@ use lib.Dec.{T, eqb}
 use lib.ListN.{length, take, drop, length-append}
 use borrow.Author.Tests.{ne_eqb}
 use lib.Seq.{take_at, drop_at}
-use Rattle.integers.specs.Words.{if◌then◌else◌, joined}
+use Rattle.std.specs.Prelude.{if◌then◌else◌}
+use Rattle.integers.specs.Words.{joined}
 use Rattle.integers.specs.Options.{none-some}
 use Rattle.integers.specs.Lists.{◌∈◌}
 use Rattle.integers.specs.Tables.{Parts}

@@ -10,7 +10,8 @@ use native.Mathlib.Omega.{arith}
 use lib.IntN.{ℤ, pos, negsuc, nat_abs}
 use lib.Dec.{T, not_T, eqb, lt→ltb}
 use lib.ListN.{set}
-use Rattle.integers.specs.Words.{if◌then◌else◌, any, last, is_in, is_some, within_z}
+use Rattle.std.specs.Prelude.{if◌then◌else◌}
+use Rattle.integers.specs.Words.{any, last, is_in, is_some, within_z}
 use Rattle.integers.specs.Lists.{any-in}
 use Rattle.integers.specs.Tests.{tests, either, is_true, is_false, not-eqb-iff, and-iff, not-or-iff, not-not-iff, and_left, and_right, if-false}
 use Rattle.integers.specs.Options.{some_inj, none-some, last-append}

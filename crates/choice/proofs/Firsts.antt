@@ -8,7 +8,8 @@ use Prim.Native.Nat.{ℕ, suc, ◌+◌, ◌-◌, ◌<◌}
 use native.Mathlib.Omega.{arith}
 use lib.Dec.{T, not_T, eqb, eqb→eq}
 use lib.ListN.{length, get_or}
-use Rattle.integers.specs.Words.{if◌then◌else◌, from, below, any, those, first}
+use Rattle.std.specs.Prelude.{if◌then◌else◌}
+use Rattle.integers.specs.Words.{from, below, any, those, first}
 use Rattle.integers.specs.Tests.{either, not-eqb-iff}
 use Rattle.integers.specs.Lists.{from-split, those-append, those-none, those-same, any_at}
 use Rattle.arcs.specs.Closure.{closure_sets}

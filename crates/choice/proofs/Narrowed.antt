@@ -8,7 +8,8 @@ use native.Mathlib.Omega.{arith}
 use lib.Dec.{T, eqb, ltb, eqb→eq}
 use lib.ListN.{length, get_or, set}
 use lib.Seq.{get_or-set_same, get_or-set_other}
-use Rattle.integers.specs.Words.{if◌then◌else◌, below, ◌⇒◌}
+use Rattle.std.specs.Prelude.{if◌then◌else◌}
+use Rattle.integers.specs.Words.{below, ◌⇒◌}
 use Rattle.integers.specs.Tests.{either, if-cases, is_true, is_false, true-is, same_test, and_left, and_right, and_intro, not-eqb-iff}
 use Rattle.integers.specs.Lists.{any-in, all_same}
 use Rattle.integers.specs.Tables.{length-tab, get_d-tab}

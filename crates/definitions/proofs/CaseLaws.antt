@@ -9,7 +9,8 @@ use native.Mathlib.Omega.{arith}
 use lib.IntN.{ℤ, pos}
 use lib.Dec.{T}
 use lib.ListN.{get_or}
-use Rattle.integers.specs.Words.{if◌then◌else◌, joined, greatest_of}
+use Rattle.std.specs.Prelude.{if◌then◌else◌}
+use Rattle.integers.specs.Words.{joined, greatest_of}
 use Rattle.integers.specs.Tests.{tests, either, if-true, if-false}
 use Rattle.integers.specs.Lists.{map_same}
 use Rattle.definitions.specs.declared.Case.{Case}

@@ -1,7 +1,7 @@
 -- Document 01, "Links, scopes and totals": scopes, the table, totals and ceilings; document 02, change 2: barred tuples and lawful
 -- assignments; change 5: the carry and the length of lent tables. Assumes nothing.
-use Rattle.std.specs.Prelude.{Bool, not, ◌&&◌, List, map, ℕ, ◌+◌, ◌*◌, ◌-◌, ℤ, pos, ◌+ℤ◌, ltb, eqb, length, get_or}
-use Rattle.integers.specs.Words.{if◌then◌else◌, below, all, any, joined, sum, minus, greatest_of, eq_z}
+use Rattle.std.specs.Prelude.{Bool, not, ◌&&◌, List, map, ℕ, ◌+◌, ◌*◌, ◌-◌, ℤ, pos, ◌+ℤ◌, ltb, eqb, length, get_or, if◌then◌else◌}
+use Rattle.integers.specs.Words.{below, all, any, joined, sum, minus, greatest_of, eq_z}
 use Rattle.definitions.specs.declared.Case.{Case}
 use Rattle.definitions.specs.Rules.{Rules, full_length, barring}
 

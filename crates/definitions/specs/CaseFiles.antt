@@ -1,9 +1,9 @@
 -- Document 01, "Lines": case files, written and read into a lent table, with barred tuples (document 02, change 2) and zeros past the case's own
 -- places (change 5). Assumes nothing.
-use Rattle.std.specs.Prelude.{Bool, true, false, not, ◌&&◌, ◌||◌, List, [], ◌∷◌, ◌++◌, map, ℕ, ◌+◌, ◌*◌, ◌-◌, ℤ, pos, nat_abs, ltb, eqb, length, take, drop, set, replicate}
+use Rattle.std.specs.Prelude.{Bool, true, false, not, ◌&&◌, ◌||◌, List, [], ◌∷◌, ◌++◌, map, ℕ, ◌+◌, ◌*◌, ◌-◌, ℤ, pos, nat_abs, ltb, eqb, length, take, drop, set, replicate, if◌then◌else◌}
 use Rattle.std.proofs.Math.Option.{Option, none, some}
 use Rattle.std.specs.Int.Signed.{lt_z}
-use Rattle.integers.specs.Words.{if◌then◌else◌, below, any, joined, eq_z, within_z}
+use Rattle.integers.specs.Words.{below, any, joined, eq_z, within_z}
 use Rattle.definitions.specs.declared.Rulebook.{Rulebook}
 use Rattle.definitions.specs.declared.Case.{Case}
 use Rattle.definitions.specs.declared.Line.{Line}

@@ -1,8 +1,8 @@
 -- Document 01, "The engine's round", and its run, with pair rounds before presses (document 02, change 1) and void lines (change 2). Assumes
 -- nothing.
-use Rattle.std.specs.Prelude.{◌||◌, List, [], ◌∷◌, ◌++◌, map, ℕ, zero, suc, ◌+◌, ◌*◌, ◌<◌, ℤ, ◌-ℤ◌, T}
+use Rattle.std.specs.Prelude.{◌||◌, List, [], ◌∷◌, ◌++◌, map, ℕ, zero, suc, ◌+◌, ◌*◌, ◌<◌, ℤ, ◌-ℤ◌, T, if◌then◌else◌}
 use Rattle.std.proofs.Math.Option.{Option, none, some}
-use Rattle.integers.specs.Words.{if◌then◌else◌, below, is_in, those, first, joined, greatest_of, least_of}
+use Rattle.integers.specs.Words.{below, is_in, those, first, joined, greatest_of, least_of}
 use Rattle.definitions.specs.declared.Case.{Case}
 use Rattle.definitions.specs.declared.Refusal.{Refusal}
 use Rattle.definitions.specs.declared.Refusal.TheVariants.{LeavesRange}

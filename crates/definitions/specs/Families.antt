@@ -1,7 +1,7 @@
 -- Document 02, change 3, "Show the partner": why a value was kept. Raised scopes are given by a test, R x, as in Consistency. Assumes nothing.
-use Rattle.std.specs.Prelude.{Bool, not, ◌&&◌, List, map, ℕ, ◌-◌, ℤ}
+use Rattle.std.specs.Prelude.{Bool, not, ◌&&◌, List, map, ℕ, ◌-◌, ℤ, if◌then◌else◌}
 use Rattle.std.proofs.Math.Option.{Option, none, some}
-use Rattle.integers.specs.Words.{if◌then◌else◌, below, any, those, first, joined, is_in, bits_of}
+use Rattle.integers.specs.Words.{below, any, those, first, joined, is_in, bits_of}
 use Rattle.definitions.specs.declared.Case.{Case}
 use Rattle.definitions.specs.Case.{values, active}
 use Rattle.definitions.specs.Consistency.{Family, allowed_on_edge, others, supported, families, marks, refuted}

@@ -1,6 +1,6 @@
 -- Document 02, change 4, "Hilltop chains": where the pairs form no loop. Assumes nothing.
-use Rattle.std.specs.Prelude.{Bool, not, List, [], ◌∷◌, map, ℕ, ◌<◌, T, eqb, get_or}
-use Rattle.integers.specs.Words.{if◌then◌else◌, below, is_in, all, those}
+use Rattle.std.specs.Prelude.{Bool, not, List, [], ◌∷◌, map, ℕ, ◌<◌, T, eqb, get_or, if◌then◌else◌}
+use Rattle.integers.specs.Words.{below, is_in, all, those}
 use Rattle.definitions.specs.declared.Case.{Case}
 use Rattle.definitions.specs.Case.{lower_end, upper_end}
 

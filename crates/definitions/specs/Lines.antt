@@ -1,9 +1,9 @@
 -- Document 01, "Lines": numbers in columns, and lines of five columns and a line feed. `line_text` is the meaning; `read_line` takes each text
 -- back, and nothing else (proofs/LineLaws). The width of the amount column is an argument. Assumes nothing.
-use Rattle.std.specs.Prelude.{Bool, true, false, not, ◌&&◌, ◌||◌, List, [], ◌∷◌, ◌++◌, ℕ, zero, suc, ◌+◌, ◌*◌, ◌-◌, ◌/◌, ◌%◌, ℤ, pos, negsuc, ltb, eqb, length, get_or, take, drop, replicate}
+use Rattle.std.specs.Prelude.{Bool, true, false, not, ◌&&◌, ◌||◌, List, [], ◌∷◌, ◌++◌, ℕ, zero, suc, ◌+◌, ◌*◌, ◌-◌, ◌/◌, ◌%◌, ℤ, pos, negsuc, ltb, eqb, length, get_or, take, drop, replicate, if◌then◌else◌}
 use Rattle.std.proofs.Math.Option.{Option, none, some}
 use Rattle.std.specs.Int.Signed.{le_z, lt_z}
-use Rattle.integers.specs.Words.{if◌then◌else◌, within, any, is_in, minus, eq_z, ◌⇒◌, ◌>>=◌}
+use Rattle.integers.specs.Words.{within, any, is_in, minus, eq_z, ◌⇒◌, ◌>>=◌}
 use Rattle.definitions.specs.declared.Line.{Line}
 use Rattle.definitions.specs.Rules.{Rules, Kind}
 

@@ -1,7 +1,7 @@
 -- Document 01, "Moves": each is a difference that is added to the table. Assumes nothing.
-use Rattle.std.specs.Prelude.{Bool, not, ◌&&◌, ◌||◌, List, [], ◌∷◌, ◌++◌, map, ℕ, ◌+◌, ℤ, pos, neg_ℤ, ◌+ℤ◌, eqb, get_or, drop}
+use Rattle.std.specs.Prelude.{Bool, not, ◌&&◌, ◌||◌, List, [], ◌∷◌, ◌++◌, map, ℕ, ◌+◌, ℤ, pos, neg_ℤ, ◌+ℤ◌, eqb, get_or, drop, if◌then◌else◌}
 use Rattle.std.proofs.Math.Option.{Option, none, some}
-use Rattle.integers.specs.Words.{if◌then◌else◌, below, all, is_in, joined, minus, eq_z, within_z}
+use Rattle.integers.specs.Words.{below, all, is_in, joined, minus, eq_z, within_z}
 use Rattle.definitions.specs.declared.Case.{Case}
 use Rattle.definitions.specs.Rules.{Rules}
 use Rattle.definitions.specs.Case.{scopes, each_tuple, own_length, lower_end, upper_end, weight, active, is_barred, barred}

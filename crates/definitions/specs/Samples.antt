@@ -1,8 +1,8 @@
 -- Document 01, "Sample cases": P1 to P12 as one table of questions with the answers that the document gives, and one theorem over it.
 -- Assumes nothing.
-use Rattle.std.specs.Prelude.{◌≡◌, refl, Bool, true, ◌&&◌, List, [], ◌∷◌, ◌++◌, map, ℕ, ◌-◌, ℤ, pos, T, eqb, length, take, replicate}
+use Rattle.std.specs.Prelude.{◌≡◌, refl, Bool, true, ◌&&◌, List, [], ◌∷◌, ◌++◌, map, ℕ, ◌-◌, ℤ, pos, T, eqb, length, take, replicate, if◌then◌else◌}
 use Prim.Native.String.{String}
-use Rattle.integers.specs.Words.{if◌then◌else◌, all, joined, minus}
+use Rattle.integers.specs.Words.{all, joined, minus}
 use Rattle.definitions.specs.declared.Rulebook.TheVariants.{Desk}
 use Rattle.definitions.specs.declared.Case.{Case}
 use Rattle.definitions.specs.declared.RunAnswer.{RunAnswer}

@@ -1,8 +1,7 @@
 -- Document 01: scoring two lent plans, of which some may be unlawful (document 02, change 2). Assumes nothing.
-use Rattle.std.specs.Prelude.{Bool, true, false, ◌||◌, List, [], ℕ, ℤ}
+use Rattle.std.specs.Prelude.{Bool, true, false, ◌||◌, List, [], ℕ, ℤ, if◌then◌else◌}
 use Rattle.std.proofs.Math.Option.{Option, none, some}
 use Rattle.std.specs.Int.Signed.{lt_z}
-use Rattle.integers.specs.Words.{if◌then◌else◌}
 use Rattle.definitions.specs.declared.Case.{Case}
 use Rattle.definitions.specs.declared.Choice.{Choice}
 use Rattle.definitions.specs.Rules.{Rules}

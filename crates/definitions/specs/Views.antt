@@ -1,7 +1,6 @@
 -- Document 01: the view of a round. Assumes nothing.
-use Rattle.std.specs.Prelude.{Bool, true, false, List, [], ◌∷◌, ℕ, zero, suc, ◌+◌, ◌*◌, ◌-◌, take, drop}
+use Rattle.std.specs.Prelude.{Bool, true, false, List, [], ◌∷◌, ℕ, zero, suc, ◌+◌, ◌*◌, ◌-◌, take, drop, if◌then◌else◌}
 use Rattle.std.proofs.Math.Option.{none, some}
-use Rattle.integers.specs.Words.{if◌then◌else◌}
 use Rattle.definitions.specs.declared.Refusal.TheVariants.{NotInColumns, OutOfRange, CutShort}
 use Rattle.definitions.specs.declared.Span.{Span}
 use Rattle.definitions.specs.Rules.{Rules}

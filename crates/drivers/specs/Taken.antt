@@ -1,6 +1,6 @@
 -- A case that is taken line by line as it stands: none of its numbers is asked; its table, as it is lent and shown. Assumes nothing.
-use Rattle.std.specs.Prelude.{◌&&◌, List, [], ◌∷◌, ℕ, ◌+◌, min, ℤ, pos, ltb, eqb, length, take, set}
-use Rattle.integers.specs.Words.{if◌then◌else◌, eq_z}
+use Rattle.std.specs.Prelude.{◌&&◌, List, [], ◌∷◌, ℕ, ◌+◌, min, ℤ, pos, ltb, eqb, length, take, set, if◌then◌else◌}
+use Rattle.integers.specs.Words.{eq_z}
 use Rattle.definitions.specs.declared.Case.{Case}
 use Rattle.definitions.specs.declared.Line.{Line}
 use Rattle.definitions.specs.declared.Rulebook.TheVariants.{Desk}

@@ -1,6 +1,5 @@
 -- A number as eight bytes, the lowest first; below 0 as two's complement. Assumes nothing.
-use Rattle.std.specs.Prelude.{List, [], ◌∷◌, ℕ, zero, suc, ◌+◌, ◌*◌, ◌-◌, ◌/◌, ◌%◌, ◌^◌, ℤ, pos, negsuc, ltb, take, drop}
-use Rattle.integers.specs.Words.{if◌then◌else◌}
+use Rattle.std.specs.Prelude.{List, [], ◌∷◌, ℕ, zero, suc, ◌+◌, ◌*◌, ◌-◌, ◌/◌, ◌%◌, ◌^◌, ℤ, pos, negsuc, ltb, take, drop, if◌then◌else◌}
 
 -- x as k bytes
 abbrev pub lowest_first : ℕ → ℕ → List ℕ

@@ -1,8 +1,7 @@
 -- The replay's record as bytes: its count of rounds, its bound at the round's start, the variable, amount, lines left and last scope of a press or a
 -- void line begun (0 where there is none; a void line has no amount), then a byte each for: moved, what is due, a last scope, the standing; then the
 -- marks of raised scopes, a byte for each place. Assumes nothing.
-use Rattle.std.specs.Prelude.{Bool, ◌&&◌, List, [], ◌∷◌, ◌++◌, ℕ, ℤ, pos, leb, eqb, get_or, take, drop}
-use Rattle.integers.specs.Words.{if◌then◌else◌}
+use Rattle.std.specs.Prelude.{Bool, ◌&&◌, List, [], ◌∷◌, ◌++◌, ℕ, ℤ, pos, leb, eqb, get_or, take, drop, if◌then◌else◌}
 use Rattle.definitions.specs.Rules.{scope_places}
 use Rattle.definitions.specs.Answers.{refusal_of}
 use Rattle.checker.specs.declared.LastRaised.{LastRaised}

@@ -9,7 +9,8 @@ use lib.IntN.{ℤ}
 use lib.Dec.{eqb, eqb→eq}
 use lib.ListN.{length, get_or, set, replicate, get_or-replicate}
 use lib.Seq.{get_or-set_same, get_or-set_other}
-use Rattle.integers.specs.Words.{if◌then◌else◌, ◌⇒◌}
+use Rattle.std.specs.Prelude.{if◌then◌else◌}
+use Rattle.integers.specs.Words.{◌⇒◌}
 use Rattle.integers.specs.Tests.{either, not-eqb-iff}
 use Rattle.integers.specs.Lists.{all_same}
 use Rattle.definitions.specs.declared.Case.{Case}

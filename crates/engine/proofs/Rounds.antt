@@ -13,7 +13,8 @@ use lib.Signed.{mag}
 use lib.ListN.{length}
 use mir.Syntax.{w64}
 use mir.Val.{to_z, of_z, hbits}
-use Rattle.integers.specs.Words.{if◌then◌else◌, any, joined, is_in}
+use Rattle.std.specs.Prelude.{if◌then◌else◌}
+use Rattle.integers.specs.Words.{any, joined, is_in}
 use Rattle.integers.specs.Tests.{false-is, same_test}
 use Rattle.integers.specs.Linear.{flat, zs, ◌▸◌, read_back}
 use Rattle.integers.specs.Lists.{◌∈◌, those-in, in-those, below_in, is_in-in}

@@ -10,7 +10,8 @@ use native.Mathlib.Omega.{arith}
 use lib.IntN.{ℤ}
 use lib.Dec.{T, eqb, ltb, ltb→lt, nltb→le, eqb→eq}
 use lib.ListN.{length, get_or, set, length-set}
-use Rattle.integers.specs.Words.{if◌then◌else◌, from, below, those, is_in}
+use Rattle.std.specs.Prelude.{if◌then◌else◌}
+use Rattle.integers.specs.Words.{from, below, those, is_in}
 use Rattle.integers.specs.Tests.{either, is_true, true-is, same_test, not-eqb-iff}
 use Rattle.integers.specs.Lists.{from_in, in-from, those-cong, those-same, in-those, those-in, below_in, in-below, is_in-in}
 use Rattle.definitions.specs.declared.Case.{Case}

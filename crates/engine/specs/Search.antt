@@ -1,7 +1,7 @@
 -- Raised scopes and sets of values as bytes, and what the search for a press may take as known. Assumes nothing.
-use Rattle.std.specs.Prelude.{◌≡◌, Bool, true, not, ◌&&◌, ◌≢◌, List, ℕ, ◌+◌, ◌*◌, ◌≤◌, ◌<◌, ℤ, T, eqb, length, get_or, set}
+use Rattle.std.specs.Prelude.{◌≡◌, Bool, true, not, ◌&&◌, ◌≢◌, List, ℕ, ◌+◌, ◌*◌, ◌≤◌, ◌<◌, ℤ, T, eqb, length, get_or, set, if◌then◌else◌}
 use Rattle.std.proofs.Math.Option.{none, some}
-use Rattle.integers.specs.Words.{if◌then◌else◌, those}
+use Rattle.integers.specs.Words.{those}
 use Rattle.definitions.specs.declared.Case.{Case}
 use Rattle.definitions.specs.Rules.{rules_of}
 use Rattle.definitions.specs.Case.{scopes, scope_count}

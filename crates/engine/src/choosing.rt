@@ -1,6 +1,5 @@
 // Which variable to press, and whether given scopes are enough to press it.
-ghost use Rattle.std.specs.Prelude.{◌≡◌, not, List, ℕ, ◌≤◌, ◌<◌, eqb, ℤ, length, get_or};
-ghost use Rattle.integers.specs.Words.{if◌then◌else◌};
+ghost use Rattle.std.specs.Prelude.{◌≡◌, not, List, ℕ, ◌≤◌, ◌<◌, eqb, ℤ, length, get_or, if◌then◌else◌};
 ghost use Rattle.definitions.specs.Rules.{variable_places};
 ghost use Rattle.definitions.specs.Case.{scope_count};
 ghost use Rattle.calls.specs.Calls.{is_raised};

@@ -16,7 +16,8 @@ use lib.IntN.{ℤ}
 use lib.Dec.{T, ltb}
 use lib.ListN.{length, take, drop, length-append, length-drop, length-map}
 use lib.Seq.{take-append_seam, drop-append-add, drop-drop}
-use Rattle.integers.specs.Words.{if◌then◌else◌, all, joined}
+use Rattle.std.specs.Prelude.{if◌then◌else◌}
+use Rattle.integers.specs.Words.{all, joined}
 use Rattle.integers.specs.Tests.{tests, if-false, and_left, and_right}
 use Rattle.integers.specs.Options.{none-some, some_inj}
 use Rattle.integers.specs.Lists.{joined-append}

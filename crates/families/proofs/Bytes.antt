@@ -10,7 +10,7 @@ use borrow.Author.Tests.{lt-ltb}
 use lib.Dec.{T, ltb, ltb→lt, nltb→le}
 use lib.ListN.{length, get_or, take, drop, replicate, length-append, length-drop, length-replicate, get_or-replicate, get_or-append}
 use lib.Seq.{ext_get_or, length-take-le, get_or-take, get_or-drop, get_or-append-add}
-use Rattle.integers.specs.Words.{if◌then◌else◌}
+use Rattle.std.specs.Prelude.{if◌then◌else◌}
 use Rattle.integers.specs.Tests.{either}
 use Rattle.integers.specs.Tables.{length-tab, get_d-tab, length-rows, get_d_rows}
 use Rattle.definitions.specs.declared.Case.{Case}

@@ -12,7 +12,8 @@ use lib.IntN.{ℤ, pos}
 use lib.Dec.{T, T_not, not_T, ltb, eqb, ltb→lt}
 use lib.ListN.{length, get_or, take, replicate, length-set, length-replicate, get_or-replicate}
 use lib.Seq.{length-take-le, get_or-take}
-use Rattle.integers.specs.Words.{if◌then◌else◌, below, from, any, those, first, joined, is_in, bits_of}
+use Rattle.std.specs.Prelude.{if◌then◌else◌}
+use Rattle.integers.specs.Words.{below, from, any, those, first, joined, is_in, bits_of}
 use Rattle.integers.specs.Tests.{tests, is_true, is_false, true-is, either, and_left}
 use Rattle.integers.specs.Lists.{any-in, in-from, those-same, those-append, those-none, from-split, map_same, first-least}
 use Rattle.integers.specs.Tables.{get_d-tab}

@@ -1,7 +1,7 @@
 -- What is left of value sets with one value alone for a variable, over a table's marks with all edges raised; and a value's partners as bytes.
 -- Assumes nothing.
-use Rattle.std.specs.Prelude.{Bool, true, false, List, map, ℕ, ◌+◌, ◌*◌, ◌-◌, ◌≤◌, ◌<◌, ℤ, length, get_or, set, take, replicate}
-use Rattle.integers.specs.Words.{if◌then◌else◌, below, joined}
+use Rattle.std.specs.Prelude.{Bool, true, false, List, map, ℕ, ◌+◌, ◌*◌, ◌-◌, ◌≤◌, ◌<◌, ℤ, length, get_or, set, take, replicate, if◌then◌else◌}
+use Rattle.integers.specs.Words.{below, joined}
 use Rattle.definitions.specs.declared.Case.{Case}
 use Rattle.definitions.specs.Rules.{rules_of, edge_places}
 use Rattle.definitions.specs.Case.{lower_end, upper_end}

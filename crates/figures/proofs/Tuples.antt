@@ -7,7 +7,8 @@ use Prim.Native.Nat.{ℕ, ◌<◌}
 use native.Mathlib.Omega.{arith}
 use lib.IntN.{ℤ}
 use lib.Dec.{T, T_not, eqb, ltb, eqb→eq, ltb→lt}
-use Rattle.integers.specs.Words.{if◌then◌else◌, greatest_of}
+use Rattle.std.specs.Prelude.{if◌then◌else◌}
+use Rattle.integers.specs.Words.{greatest_of}
 use Rattle.integers.specs.Tests.{tests, or_cases}
 use Rattle.definitions.specs.declared.Case.{Case}
 use Rattle.definitions.specs.Rules.{rules_of}

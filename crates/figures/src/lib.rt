@@ -2,8 +2,7 @@
 // has no total (document 02, change 2).
 #![tactic(auto)]
 
-ghost use Rattle.std.specs.Prelude.{◌≡◌, T, ◌+◌, ◌≤◌, ◌<◌};
-ghost use Rattle.integers.specs.Words.{if◌then◌else◌};
+ghost use Rattle.std.specs.Prelude.{◌≡◌, T, ◌+◌, ◌≤◌, ◌<◌, if◌then◌else◌};
 ghost use Rattle.definitions.specs.Rules.{rules_of, edge_places};
 ghost use Rattle.definitions.specs.Case.{place, weight, value_of, at_used, objective as total, active, uses_barred, is_lawful};
 ghost use Rattle.definitions.specs.Valid.{working_weight};

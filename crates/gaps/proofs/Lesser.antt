@@ -13,7 +13,8 @@ use lib.ListN.{length, get_or, drop, drop_of_length-le}
 use lib.Seq.{drop-cons}
 use mir.Syntax.{w64}
 use mir.Val.{SFits}
-use Rattle.integers.specs.Words.{if◌then◌else◌, max_z, min_z}
+use Rattle.std.specs.Prelude.{if◌then◌else◌}
+use Rattle.integers.specs.Words.{max_z, min_z}
 use Rattle.integers.specs.Tests.{either, if-cases, if-true, if-false, and_left, and_right, and_intro}
 use Rattle.integers.specs.Linear.{flat, zs, ◌▸◌, ≤ℤ-trans}
 use Rattle.integers.specs.Maxima.{max-left, max-right, min-left, min-right, min_cases}

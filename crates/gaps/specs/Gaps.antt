@@ -1,9 +1,9 @@
 -- The least gap of a variable's own scope and raised scopes, on all input. A weight's gap is how far it lies below its scope's number in
 -- `best`; a barred tuple's number sets none. Assumes nothing.
-use Rattle.std.specs.Prelude.{Bool, not, ◌&&◌, ◌||◌, List, [], ◌∷◌, ℕ, zero, suc, ◌^◌, ◌<◌, ℤ, pos, ◌-ℤ◌, T, eqb, ltb, ◌≤ℤ◌, length, get_or}
+use Rattle.std.specs.Prelude.{Bool, not, ◌&&◌, ◌||◌, List, [], ◌∷◌, ℕ, zero, suc, ◌^◌, ◌<◌, ℤ, pos, ◌-ℤ◌, T, eqb, ltb, ◌≤ℤ◌, length, get_or, if◌then◌else◌}
 use Rattle.std.proofs.Math.Option.{Option, none, some}
 use Rattle.std.specs.Int.Signed.{le_z, lt_z}
-use Rattle.integers.specs.Words.{if◌then◌else◌, minus, min_z, within_z}
+use Rattle.integers.specs.Words.{minus, min_z, within_z}
 use Rattle.definitions.specs.declared.Case.{Case}
 use Rattle.definitions.specs.declared.Figure.{Figure}
 use Rattle.definitions.specs.declared.Refusal.TheVariants.{OutOfRange}

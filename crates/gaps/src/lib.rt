@@ -1,8 +1,8 @@
 // The amount of a press (document 01, "The engine's round"): the least gap of the scopes that limit it. A barred tuple sets no gap.
 #![tactic(auto)]
 
-ghost use Rattle.std.specs.Prelude.{◌≡◌, not, ◌||◌, ◌≤◌, ◌<◌, T, ltb, eqb, ◌-ℤ◌, length};
-ghost use Rattle.integers.specs.Words.{if◌then◌else◌, max_z};
+ghost use Rattle.std.specs.Prelude.{◌≡◌, not, ◌||◌, ◌≤◌, ◌<◌, T, ltb, eqb, ◌-ℤ◌, length, if◌then◌else◌};
+ghost use Rattle.integers.specs.Words.{max_z};
 ghost use Rattle.definitions.specs.Rules.{rules_of};
 ghost use Rattle.definitions.specs.Case.{scope_count, lent_length, barred_weight};
 ghost use Rattle.tables.specs.Scopes.{Limited, scope_part};

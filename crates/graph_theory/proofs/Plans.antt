@@ -10,7 +10,8 @@ use lib.IntN.{ℤ, ◌+ℤ◌}
 use Rattle.integers.specs.Linear.{flat, zs, ◌▸◌}
 use lib.Dec.{T, T_not, not_T, eqb, ltb, eqb→eq, ltb→lt, lt→ltb, nltb→le}
 use lib.ListN.{length}
-use Rattle.integers.specs.Words.{if◌then◌else◌, below, all, is_in}
+use Rattle.std.specs.Prelude.{if◌then◌else◌}
+use Rattle.integers.specs.Words.{below, all, is_in}
 use Rattle.integers.specs.Tests.{either, same_test, if-true, if-false, if-cases, eqb-iff, not-eqb-iff, and_intro}
 use Rattle.integers.specs.Lists.{all_map, all_of, is_in-below}
 use Rattle.integers.specs.Tables.{get_d-tab, length-tab}

@@ -1,6 +1,5 @@
 -- What a join makes of a case and its tables once all its lines are read. Assumes nothing.
-use Rattle.std.specs.Prelude.{Bool, ◌&&◌, List, ℕ, ◌-◌, ℤ, ltb, leb, length}
-use Rattle.integers.specs.Words.{if◌then◌else◌}
+use Rattle.std.specs.Prelude.{Bool, ◌&&◌, List, ℕ, ◌-◌, ℤ, ltb, leb, length, if◌then◌else◌}
 use Rattle.definitions.specs.declared.Case.{Case}
 use Rattle.definitions.specs.Rules.{rules_of}
 use Rattle.definitions.specs.CaseFiles.{edge-ends}

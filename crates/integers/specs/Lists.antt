@@ -1,13 +1,13 @@
 -- Lists: elements, tests of all and of some elements, lists made by a test or by joining, all lists of a length, numbers in order.
 -- `x ∈ xs` is a place of x in xs. A law `NAME-in` makes such a place, and a law `in-NAME` says what one tells. Assumes nothing.
-use Rattle.std.specs.Prelude.{◌≡◌, refl, Bool, true, false, not, ◌&&◌, ◌||◌, ◌≢◌, ◌↔◌, ◌⊎◌, ℕ, zero, suc, ◌+◌, ◌≤◌, ◌<◌, T, eqb, length}
+use Rattle.std.specs.Prelude.{◌≡◌, refl, Bool, true, false, not, ◌&&◌, ◌||◌, ◌≢◌, ◌↔◌, ◌⊎◌, ℕ, zero, suc, ◌+◌, ◌≤◌, ◌<◌, T, eqb, length, if◌then◌else◌}
 use Rattle.std.proofs.Common.{sym, ap, ap₂, subst, ◌∙◌, inl, inr, add-zero, zero-add, add-suc, suc-add, add-one, arith, eqb→eq}
 use Rattle.std.proofs.Math.Option.{none, some, none-ne-some, some-ne-none, some-injective}
 use mathlib.Core.List.Memᴰ
 use mathlib.Core.List.{List, [], ◌∷◌, ◌++◌, map, append_assoc, Memᴰ}
 use Rattle.std.proofs.Math.Dec.{not_T, eqb_refl}
 use Rattle.std.proofs.lemmas.List.{length-map}
-use Rattle.integers.specs.Words.{if◌then◌else◌, from, below, all, any, those, first, joined, choices, is_in}
+use Rattle.integers.specs.Words.{from, below, all, any, those, first, joined, choices, is_in}
 use Rattle.integers.specs.Tests.{is_true, either, and_intro, and_left, and_right, or_left, or_right, or_cases, not-eqb-iff}
 
 infix 50 ◌∈◌

@@ -1,12 +1,12 @@
 -- The greater and the lesser of two whole numbers, the greatest of a list that is not empty, and the least of a list.
 -- `mx a b` and `mn a b` tell omega what `max_z a b` and `min_z a b` are. Assumes nothing.
-use Rattle.std.specs.Prelude.{◌≡◌, refl, Bool, true, false, ◌↔◌, ◌⊎◌, List, [], ◌∷◌, ◌++◌, ◌+◌, min, max, ℤ, ◌≤ℤ◌}
+use Rattle.std.specs.Prelude.{◌≡◌, refl, Bool, true, false, ◌↔◌, ◌⊎◌, List, [], ◌∷◌, ◌++◌, ◌+◌, min, max, ℤ, ◌≤ℤ◌, if◌then◌else◌}
 use Rattle.std.proofs.Common.{sym, ap, ◌∙◌, inl, inr}
 use Rattle.std.proofs.Math.Option.{none, some, none-ne-some, some-ne-none, some-injective}
 use mathlib.Core.List.Memᴰ
 use mathlib.Core.List.{cons≢nil}
 use Rattle.std.specs.Int.Signed.{le_z}
-use Rattle.integers.specs.Words.{if◌then◌else◌, ◌>>=◌, max_z, min_z, greatest_of, smallest_of, least_of}
+use Rattle.integers.specs.Words.{◌>>=◌, max_z, min_z, greatest_of, smallest_of, least_of}
 use Rattle.integers.specs.Linear.{up, dn, zs, ≤ℤ-of-eq, ≤ℤ-trans, ≤ℤ-antisym}
 use Rattle.integers.specs.Lists.{◌∈◌}
 

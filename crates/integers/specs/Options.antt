@@ -1,8 +1,8 @@
 -- What may be missing: a value that is there, what follows it, and the first and the last of a list. Assumes nothing.
-use Rattle.std.specs.Prelude.{◌≡◌, refl, Bool, true, false, not, ◌↔◌, ◌⊎◌, List, [], ◌∷◌, ◌++◌, T}
+use Rattle.std.specs.Prelude.{◌≡◌, refl, Bool, true, false, not, ◌↔◌, ◌⊎◌, List, [], ◌∷◌, ◌++◌, T, if◌then◌else◌}
 use Rattle.std.proofs.Common.{ap, ◌∙◌, inl, inr}
 use Rattle.std.proofs.Math.Option.{Option, none, some, none-ne-some, some-injective}
-use Rattle.integers.specs.Words.{if◌then◌else◌, ◌>>=◌, last}
+use Rattle.integers.specs.Words.{◌>>=◌, last}
 
 module _ {A : Type 0} where
   pub some_inj : {a b : A} → ◌≡◌ {A = Option A} (some a) (some b) → a ≡ b

@@ -1,9 +1,9 @@
 -- Sums: over the elements of a list (`sum-…`), and over the n numbers from a (`Σ-…`). Assumes nothing.
-use Rattle.std.specs.Prelude.{◌≡◌, refl, Bool, true, false, not, ◌≢◌, ◌⊎◌, List, [], ◌∷◌, ◌++◌, map, ℕ, zero, suc, ◌+◌, ◌*◌, ◌≤◌, ◌<◌, ℤ, pos, ◌+ℤ◌, ◌-ℤ◌, T, eqb, ◌≤ℤ◌, ◌<ℤ◌, length, get_or}
+use Rattle.std.specs.Prelude.{◌≡◌, refl, Bool, true, false, not, ◌≢◌, ◌⊎◌, List, [], ◌∷◌, ◌++◌, map, ℕ, zero, suc, ◌+◌, ◌*◌, ◌≤◌, ◌<◌, ℤ, pos, ◌+ℤ◌, ◌-ℤ◌, T, eqb, ◌≤ℤ◌, ◌<ℤ◌, length, get_or, if◌then◌else◌}
 use Rattle.std.proofs.Common.{sym, ap, ap₂, ◌∙◌, inl, inr, add-one, add_comm, arith, eqb→eq}
 use mathlib.Core.List.Memᴰ
 use Rattle.std.proofs.Math.IntN.{+ℤ_idl, +ℤ_assoc}
-use Rattle.integers.specs.Words.{if◌then◌else◌, from, those, sum, minus}
+use Rattle.integers.specs.Words.{from, those, sum, minus}
 use Rattle.integers.specs.Tests.{either, if-true, if-false, not-eqb-iff}
 use Rattle.integers.specs.Linear.{flat, zs, ◌▸◌}
 use Rattle.integers.specs.Lists.{◌∈◌, in-from, from-split, from-shift, length_from, map-append, map-map, map_same, map-cong}

@@ -1,12 +1,12 @@
 -- Lists read by index: the element at a place, tables of a function, and lists of equal parts, one after the other. Assumes nothing.
-use Rattle.std.specs.Prelude.{◌≡◌, refl, Bool, true, false, ◌↔◌, List, [], ◌∷◌, map, ℕ, zero, suc, ◌+◌, ◌*◌, ◌-◌, ◌/◌, ◌%◌, ◌≤◌, ◌<◌, T, length, get_or, take, drop}
+use Rattle.std.specs.Prelude.{◌≡◌, refl, Bool, true, false, ◌↔◌, List, [], ◌∷◌, map, ℕ, zero, suc, ◌+◌, ◌*◌, ◌-◌, ◌/◌, ◌%◌, ◌≤◌, ◌<◌, T, length, get_or, take, drop, if◌then◌else◌}
 use Rattle.std.proofs.Common.{sym, ap, ◌∙◌, zero-mul, zero-add, suc-mul, add_comm, add-zero, add-suc, suc-add, div-add-mod', div-lt_iff_lt-mul, mod-lt, arith, length-append, get_or-append-add, take_at}
 use mathlib.Core.List.Memᴰ
 use Rattle.std.proofs.Math.Nat.{sub-zero, suc-sub-suc}
 use Rattle.std.proofs.lemmas.List.{length-map}
 use Rattle.std.proofs.Math.ListN.{get_or-append}
 use Rattle.std.proofs.Math.Seq.{drop-append-add}
-use Rattle.integers.specs.Words.{if◌then◌else◌, from, below, all, any, those, joined}
+use Rattle.integers.specs.Words.{from, below, all, any, those, joined}
 use Rattle.integers.specs.Lists.{◌∈◌, all_in, any-in, in-those, length_from, in-from, in-below}
 
 -- ---- the element at a place

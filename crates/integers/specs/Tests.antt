@@ -1,8 +1,8 @@
 -- What a test says: a Boolean that is true, its parts, and the tests of natural numbers. Assumes nothing.
-use Rattle.std.specs.Prelude.{◌≡◌, refl, Bool, true, false, not, ◌&&◌, ◌||◌, ◌≢◌, ◌↔◌, ◌⊎◌, ℕ, ◌≤◌, ◌<◌, T, leb, eqb}
+use Rattle.std.specs.Prelude.{◌≡◌, refl, Bool, true, false, not, ◌&&◌, ◌||◌, ◌≢◌, ◌↔◌, ◌⊎◌, ℕ, ◌≤◌, ◌<◌, T, leb, eqb, if◌then◌else◌}
 use Rattle.std.proofs.Common.{sym, subst, inl, inr, leb→le, le→leb, eqb→eq, T_not, arith}
 use Rattle.std.proofs.Math.Dec.{nleb→lt, eqb_refl, not_T}
-use Rattle.integers.specs.Words.{if◌then◌else◌, ◌⇒◌}
+use Rattle.integers.specs.Words.{◌⇒◌}
 
 -- ---- true and false
 pub is_true : (b : Bool) → T b → b ≡ true

@@ -1,16 +1,12 @@
 -- Small words that the definitions of document 01 are written with: tests, lists, whole numbers. Assumes nothing.
+use Rattle.std.specs.Prelude.{if◌then◌else◌}
 use Rattle.std.specs.Prelude.{Bool, true, false, ◌&&◌, ◌||◌, List, [], ◌∷◌, ◌++◌, map, ℕ, zero, suc, ◌+◌, ◌*◌, ℤ, pos, negsuc, neg_ℤ, ◌+ℤ◌, leb, eqb}
 use Rattle.std.proofs.Math.Option.{Option, none, some}
 use Rattle.std.specs.Int.Signed.{le_z}
 
 -- ---- tests
 
-infix 4 if◌then◌else◌
 infixr 28 ◌⇒◌
-abbrev pub if◌then◌else◌ {ℓ} : {A : Type ℓ} → Bool → A → A → A
-if true then a else b = a
-if false then a else b = b
-
 abbrev pub ◌⇒◌ : Bool → Bool → Bool
 true ⇒ b = b
 false ⇒ b = true

@@ -11,7 +11,8 @@ use lib.IntN.{ℤ, pos}
 use lib.Dec.{eqb, ltb, ltb→lt, nltb→le}
 use lib.ListN.{length, take, drop, replicate}
 use lib.Seq.{drop-drop}
-use Rattle.integers.specs.Words.{if◌then◌else◌, from, below, those, joined}
+use Rattle.std.specs.Prelude.{if◌then◌else◌}
+use Rattle.integers.specs.Words.{from, below, those, joined}
 use Rattle.integers.specs.Tests.{either, if-true, if-false, is_true, not-eqb-iff, eqb-iff}
 use Rattle.integers.specs.Lists.{from-split, from-shift, map-append, map-map, map_same, those-append, those-map, those-same}
 use Rattle.definitions.specs.declared.Case.{Case}

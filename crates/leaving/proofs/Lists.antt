@@ -9,7 +9,8 @@ use lib.IntN.{ℤ, pos, ◌+ℤ◌}
 use lib.Dec.{T}
 use lib.ListN.{length, get_or, length-map}
 use lib.Seq.{ext_get_or}
-use Rattle.integers.specs.Words.{if◌then◌else◌, from, below, any, those, joined, sum}
+use Rattle.std.specs.Prelude.{if◌then◌else◌}
+use Rattle.integers.specs.Words.{from, below, any, those, joined, sum}
 use Rattle.integers.specs.Tests.{is_true}
 use Rattle.integers.specs.Linear.{flat, zs, ◌▸◌}
 use Rattle.integers.specs.Lists.{from-split, those-append, map-append, joined-append}

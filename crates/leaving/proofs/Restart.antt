@@ -6,7 +6,8 @@ use Prim.Native.Nat.{ℕ, ◌<◌}
 use lib.IntN.{ℤ, pos}
 use lib.Signed.{le_z, lt_z}
 use lib.ListN.{length}
-use Rattle.integers.specs.Words.{if◌then◌else◌, any, within_z, minus}
+use Rattle.std.specs.Prelude.{if◌then◌else◌}
+use Rattle.integers.specs.Words.{any, within_z, minus}
 use Rattle.integers.specs.Tests.{same_test, false-is, not-not-iff}
 use Rattle.integers.specs.Linear.{flat, zs, ◌▸◌}
 use Rattle.definitions.specs.declared.Case.{Case}

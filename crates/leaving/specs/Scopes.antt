@@ -1,6 +1,6 @@
 -- The scopes that stay and those that leave, one after the other. Assumes nothing.
-use Rattle.std.specs.Prelude.{◌≡◌, Bool, not, ◌&&◌, List, [], ◌++◌, map, ℕ, ◌+◌, ◌≤◌, ℤ, pos, ◌-ℤ◌, eqb, length, take, drop}
-use Rattle.integers.specs.Words.{if◌then◌else◌, below, those, joined}
+use Rattle.std.specs.Prelude.{◌≡◌, Bool, not, ◌&&◌, List, [], ◌++◌, map, ℕ, ◌+◌, ◌≤◌, ℤ, pos, ◌-ℤ◌, eqb, length, take, drop, if◌then◌else◌}
+use Rattle.integers.specs.Words.{below, those, joined}
 use Rattle.definitions.specs.declared.Case.{Case}
 use Rattle.definitions.specs.Case.{is_variable, edge_of, greatest}
 use Rattle.logs.specs.Leave.{has_end, moved_down, in_places, least, some_barred}

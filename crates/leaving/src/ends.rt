@@ -1,6 +1,5 @@
 // The case that is left.
-ghost use Rattle.std.specs.Prelude.{◌≡◌, ◌+◌, ◌<◌, length, set, replicate};
-ghost use Rattle.integers.specs.Words.{if◌then◌else◌};
+ghost use Rattle.std.specs.Prelude.{◌≡◌, ◌+◌, ◌<◌, length, set, replicate, if◌then◌else◌};
 ghost use Rattle.definitions.specs.Rules.{edge_places};
 ghost use Rattle.definitions.specs.Case.{lower_end, upper_end};
 ghost use Rattle.logs.specs.Leave.{has_end, staying_edges, moved_down, case_without};

@@ -12,7 +12,7 @@ use lib.Signed.{lt_z}
 use lib.Dec.{eqb, leb, leb→le, nleb→lt}
 use lib.ListN.{length, get_or, take}
 use borrow.Author.Tests.{eqb-true, le-leb, eq-eqb, ne_eqb}
-use Rattle.integers.specs.Words.{if◌then◌else◌}
+use Rattle.std.specs.Prelude.{if◌then◌else◌}
 use Rattle.integers.specs.Tests.{either, and-iff, true-is}
 use Rattle.integers.specs.Linear.{zs, T-eq}
 use Rattle.definitions.specs.declared.Line.{Line}

@@ -1,8 +1,8 @@
 -- A line read and written at any width of the amount column, on all input. At the width of coherent rules these are the calls under the rules
 -- (proofs/AtRules). Assumes nothing.
-use Rattle.std.specs.Prelude.{Bool, not, ◌||◌, List, [], ◌∷◌, ℕ, ltb, length}
+use Rattle.std.specs.Prelude.{Bool, not, ◌||◌, List, [], ◌∷◌, ℕ, ltb, length, if◌then◌else◌}
 use Rattle.std.proofs.Math.Option.{Option, none}
-use Rattle.integers.specs.Words.{if◌then◌else◌, within}
+use Rattle.integers.specs.Words.{within}
 use Rattle.definitions.specs.declared.Line.{Line}
 use Rattle.definitions.specs.declared.LineRead.{LineRead}
 use Rattle.definitions.specs.declared.Refusal.{Refusal}

@@ -1,7 +1,7 @@
 -- The scope of a raise line by its bytes, on all input; and what the private functions know of the bytes. Assumes nothing.
-use Rattle.std.specs.Prelude.{◌≡◌, Bool, ◌&&◌, List, [], ◌∷◌, ℕ, ◌-◌, ◌≤◌, ◌<◌, ℤ, pos, negsuc, length, get_or}
+use Rattle.std.specs.Prelude.{◌≡◌, Bool, ◌&&◌, List, [], ◌∷◌, ℕ, ◌-◌, ◌≤◌, ◌<◌, ℤ, pos, negsuc, length, get_or, if◌then◌else◌}
 use Rattle.std.proofs.Math.Option.{some}
-use Rattle.integers.specs.Words.{if◌then◌else◌, eq_z}
+use Rattle.integers.specs.Words.{eq_z}
 use Rattle.definitions.specs.declared.Line.{Line}
 use Rattle.definitions.specs.declared.LineRead.{LineRead}
 use Rattle.definitions.specs.Lines.{read_column, read_line, line_length, is_kind}

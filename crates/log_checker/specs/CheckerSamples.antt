@@ -1,7 +1,7 @@
 -- Samples of the replay's calls on all input, with links that leave and join (document 02, change 5), in tables as those of Borders. Assumes
 -- nothing.
-use Rattle.std.specs.Prelude.{refl, Bool, true, false, ◌&&◌, List, [], ◌∷◌, ◌++◌, map, ℕ, ◌+◌, ◌-◌, ℤ, pos, eqb, length, take, replicate}
-use Rattle.integers.specs.Words.{if◌then◌else◌, joined, minus}
+use Rattle.std.specs.Prelude.{refl, Bool, true, false, ◌&&◌, List, [], ◌∷◌, ◌++◌, map, ℕ, ◌+◌, ◌-◌, ℤ, pos, eqb, length, take, replicate, if◌then◌else◌}
+use Rattle.integers.specs.Words.{joined, minus}
 use Rattle.definitions.specs.Rules.{standard}
 use Rattle.definitions.specs.Answers.{outcome_says}
 use Rattle.definitions.specs.Valid.{zeros_from}

@@ -11,7 +11,8 @@ use native.Mathlib.Omega.{arith}
 use lib.IntN.{ℤ, pos, nat_abs}
 use lib.Dec.{T}
 use lib.ListN.{length, drop, length-drop, length-replicate}
-use Rattle.integers.specs.Words.{if◌then◌else◌, is_some, eq_z}
+use Rattle.std.specs.Prelude.{if◌then◌else◌}
+use Rattle.integers.specs.Words.{is_some, eq_z}
 use Rattle.integers.specs.Linear.{T-eq}
 use Rattle.integers.specs.Tests.{is_true, is_false, either, and_left, and_right}
 use Rattle.integers.specs.Options.{none-some}

@@ -1,6 +1,5 @@
 -- The judgement of a log with lines of kind 7 and 8 (document 02, change 5). Assumes nothing.
-use Rattle.std.specs.Prelude.{List, ℕ, ℤ}
-use Rattle.integers.specs.Words.{if◌then◌else◌}
+use Rattle.std.specs.Prelude.{List, ℕ, ℤ, if◌then◌else◌}
 use Rattle.definitions.specs.declared.Case.{Case}
 use Rattle.definitions.specs.declared.Judgement.{Judgement}
 use Rattle.definitions.specs.Rules.{rules_of}

@@ -11,7 +11,8 @@ use lib.IntN.{ℤ, pos, nat_abs}
 use lib.Dec.{T, eqb, ltb, leb, eqb→eq, eqb_refl, ltb→lt, nltb→le, le→leb}
 use lib.ListN.{length, get_or, take, set, replicate, length-append, length-replicate, length-set, replicate-append-replicate}
 use lib.Seq.{get_or-set_same, get_or-set_other, get_or-drop, set-append_seam, take-suc-set, length-take-le, take-set-le}
-use Rattle.integers.specs.Words.{if◌then◌else◌, below}
+use Rattle.std.specs.Prelude.{if◌then◌else◌}
+use Rattle.integers.specs.Words.{below}
 use Rattle.integers.specs.Tests.{tests, is_true, either, if-true, if-false, or_left, or_right, eqb-iff, not-eqb-iff}
 use Rattle.integers.specs.Linear.{T-eq}
 use Rattle.integers.specs.Tables.{length-tab}

@@ -10,7 +10,8 @@ use lib.IntN.{ℤ, pos}
 use lib.Dec.{T, ltb, ltb→lt, nltb→le}
 use lib.ListN.{length, get_or, take, replicate, length-take, length-append, length-replicate, get_or-replicate, get_or-append}
 use lib.Seq.{get_or-append-add, get_or-take, length-take-le, get_or-drop}
-use Rattle.integers.specs.Words.{if◌then◌else◌, below, all, joined, ◌⇒◌}
+use Rattle.std.specs.Prelude.{if◌then◌else◌}
+use Rattle.integers.specs.Words.{below, all, joined, ◌⇒◌}
 use Rattle.integers.specs.Tests.{tests, either, or_right}
 use Rattle.integers.specs.Lists.{map_same, all_same}
 use Rattle.integers.specs.Tables.{length-tab, all_get_d}

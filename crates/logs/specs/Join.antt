@@ -1,8 +1,8 @@
 -- Document 02, change 5, "Links that join and leave": a link joins. Assumes nothing.
-use Rattle.std.specs.Prelude.{Bool, not, ◌||◌, List, [], ◌∷◌, ◌++◌, map, ℕ, ◌+◌, ◌-◌, ℤ, pos, ◌+ℤ◌, leb, ltb, eqb}
+use Rattle.std.specs.Prelude.{Bool, not, ◌||◌, List, [], ◌∷◌, ◌++◌, map, ℕ, ◌+◌, ◌-◌, ℤ, pos, ◌+ℤ◌, leb, ltb, eqb, if◌then◌else◌}
 use Rattle.std.proofs.Math.Option.{some}
 use Rattle.std.specs.Int.Signed.{lt_z}
-use Rattle.integers.specs.Words.{if◌then◌else◌, from, below, joined}
+use Rattle.integers.specs.Words.{from, below, joined}
 use Rattle.definitions.specs.declared.Case.{Case}
 use Rattle.definitions.specs.declared.Line.{Line}
 use Rattle.definitions.specs.declared.Refusal.TheVariants.{OutsideLimits, OutOfRange}

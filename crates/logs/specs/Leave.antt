@@ -1,7 +1,7 @@
 -- Document 02, change 5, "Links that join and leave": a link leaves. Assumes nothing.
-use Rattle.std.specs.Prelude.{Bool, not, ◌||◌, List, [], ◌∷◌, ◌++◌, map, ℕ, ◌+◌, ◌-◌, ℤ, pos, ◌+ℤ◌, ◌-ℤ◌, ltb, eqb, length, get_or, replicate}
+use Rattle.std.specs.Prelude.{Bool, not, ◌||◌, List, [], ◌∷◌, ◌++◌, map, ℕ, ◌+◌, ◌-◌, ℤ, pos, ◌+ℤ◌, ◌-ℤ◌, ltb, eqb, length, get_or, replicate, if◌then◌else◌}
 use Rattle.std.specs.Int.Signed.{lt_z}
-use Rattle.integers.specs.Words.{if◌then◌else◌, below, any, those, sum, smallest_of}
+use Rattle.integers.specs.Words.{below, any, those, sum, smallest_of}
 use Rattle.definitions.specs.declared.Case.{Case}
 use Rattle.definitions.specs.declared.Line.{Line}
 use Rattle.definitions.specs.declared.Refusal.TheVariants.{OutsideLimits, OutOfRange}

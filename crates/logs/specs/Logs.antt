@@ -1,7 +1,7 @@
 -- Document 02, change 5, "Links that join and leave": the plain replay of a log, whose lines of kind 7 and 8 begin a new stretch. Assumes nothing.
-use Rattle.std.specs.Prelude.{Bool, true, false, not, ◌&&◌, ◌||◌, List, [], ◌∷◌, ℕ, ℤ, nat_abs}
+use Rattle.std.specs.Prelude.{Bool, true, false, not, ◌&&◌, ◌||◌, List, [], ◌∷◌, ℕ, ℤ, nat_abs, if◌then◌else◌}
 use Rattle.std.proofs.Math.Option.{Option, none, some}
-use Rattle.integers.specs.Words.{if◌then◌else◌, any, is_some}
+use Rattle.integers.specs.Words.{any, is_some}
 use Rattle.definitions.specs.declared.Case.{Case}
 use Rattle.definitions.specs.declared.Line.{Line}
 use Rattle.definitions.specs.declared.Refusal.{Refusal}

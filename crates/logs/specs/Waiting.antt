@@ -1,7 +1,7 @@
 -- Document 02, change 5: "The replay is lent the starting table too, where a join's weights wait past those places in line order". What is read
 -- so far of a join that a record and a starting table hold, and what is asked of them. Assumes nothing.
-use Rattle.std.specs.Prelude.{Bool, false, not, ◌&&◌, ◌||◌, List, [], ◌∷◌, ◌++◌, map, ℕ, suc, ◌+◌, ◌-◌, ℤ, nat_abs, leb, ltb, eqb, length, get_or, take, drop, set, replicate}
-use Rattle.integers.specs.Words.{if◌then◌else◌, below, all, any}
+use Rattle.std.specs.Prelude.{Bool, false, not, ◌&&◌, ◌||◌, List, [], ◌∷◌, ◌++◌, map, ℕ, suc, ◌+◌, ◌-◌, ℤ, nat_abs, leb, ltb, eqb, length, get_or, take, drop, set, replicate, if◌then◌else◌}
+use Rattle.integers.specs.Words.{below, all, any}
 use Rattle.definitions.specs.declared.Case.{Case}
 use Rattle.definitions.specs.declared.Line.{Line}
 use Rattle.definitions.specs.declared.Refusal.TheVariants.{

@@ -11,7 +11,8 @@ use lib.Bits.{bit_and, bit_or, and_shr, and_mod, and_lt}
 use lib.Count.{ones, ones_in, count_trailing_zeros}
 use lib.ListN.{length}
 use lib.Pow.{pow_mono, pow_pos}
-use Rattle.integers.specs.Words.{if◌then◌else◌, below, all, ◌⇒◌, bits_of}
+use Rattle.std.specs.Prelude.{if◌then◌else◌}
+use Rattle.integers.specs.Words.{below, all, ◌⇒◌, bits_of}
 use Rattle.integers.specs.Tests.{either, is_true, eqb-iff, and_left, and_right, imp_elim, if-cases, same_test}
 use Rattle.integers.specs.Lists.{all-at}
 use Rattle.marks.specs.Marks.{mark, byte_of, members, lowest_of, is_single, without, added, pushed, only_of, full_of, in_both}

@@ -1,7 +1,7 @@
 -- Sets of at most eight values, as marks in a byte. Assumes nothing.
-use Rattle.std.specs.Prelude.{Bool, not, ◌&&◌, ◌||◌, List, ℕ, ◌-◌, ◌/◌, ◌%◌, ◌^◌, ltb, eqb, length}
+use Rattle.std.specs.Prelude.{Bool, not, ◌&&◌, ◌||◌, List, ℕ, ◌-◌, ◌/◌, ◌%◌, ◌^◌, ltb, eqb, length, if◌then◌else◌}
 use Rattle.std.proofs.Math.Option.{none, some}
-use Rattle.integers.specs.Words.{if◌then◌else◌, below, those, first, bits_of}
+use Rattle.integers.specs.Words.{below, those, first, bits_of}
 
 -- value k is in the set s
 unfoldable pub mark : ℕ → ℕ → Bool

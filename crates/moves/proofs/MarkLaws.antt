@@ -9,7 +9,8 @@ use lib.IntN.{ℤ}
 use lib.Dec.{T, eqb, ltb, eqb→eq, ltb→lt, lt→ltb}
 use lib.ListN.{length, get_or, set, replicate, length-set}
 use lib.Seq.{get_or-set_same, get_or-set_other}
-use Rattle.integers.specs.Words.{if◌then◌else◌, ◌⇒◌, all, is_in}
+use Rattle.std.specs.Prelude.{if◌then◌else◌}
+use Rattle.integers.specs.Words.{◌⇒◌, all, is_in}
 use Rattle.integers.specs.Tests.{either, is_true, is_false, and_left, and_right, not-eqb-iff}
 use Rattle.integers.specs.Lists.{all_in, all_same}
 use Rattle.definitions.specs.declared.Case.{Case}

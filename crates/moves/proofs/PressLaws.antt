@@ -7,7 +7,8 @@ use native.Mathlib.Omega.{arith}
 use lib.IntN.{ℤ, pos, neg_ℤ, ◌+ℤ◌}
 use lib.Dec.{T, T_not, not_T, eqb, ltb, ltb→lt}
 use lib.ListN.{length, get_or}
-use Rattle.integers.specs.Words.{if◌then◌else◌, all, any, is_in, within}
+use Rattle.std.specs.Prelude.{if◌then◌else◌}
+use Rattle.integers.specs.Words.{all, any, is_in, within}
 use Rattle.integers.specs.Tests.{not-not-iff}
 use Rattle.integers.specs.Lists.{all_in, any-in}
 use Rattle.definitions.specs.declared.Case.{Case}

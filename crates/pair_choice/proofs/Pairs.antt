@@ -11,7 +11,8 @@ use lib.IntN.{ℤ, pos, ◌-ℤ◌}
 use lib.Dec.{T, T_not, ltb}
 use lib.Signed.{le_z, lt_z}
 use lib.ListN.{length, get_or}
-use Rattle.integers.specs.Words.{if◌then◌else◌, all, any, first}
+use Rattle.std.specs.Prelude.{if◌then◌else◌}
+use Rattle.integers.specs.Words.{all, any, first}
 use Rattle.integers.specs.Tests.{tests, same_test, and-iff, and_intro, and_left, and_right, or_cases, if-true}
 use Rattle.integers.specs.Linear.{flat, zs, ◌▸◌}
 use Rattle.integers.specs.Lists.{any_same, any_below, any-in, any_at, any_of, all_of, all-at, those-same}

@@ -12,7 +12,8 @@ use native.Mathlib.Omega.{arith}
 use lib.IntN.{ℤ, pos, neg_ℤ, ◌+ℤ◌, +ℤ_idr}
 use lib.Dec.{not_T, eqb, eqb→eq}
 use lib.Signed.{◌≤ℤ◌}
-use Rattle.integers.specs.Words.{if◌then◌else◌, from, below, joined, minus}
+use Rattle.std.specs.Prelude.{if◌then◌else◌}
+use Rattle.integers.specs.Words.{from, below, joined, minus}
 use Rattle.integers.specs.Tests.{if-cases, if-false, and_left, and_right, not-or-iff}
 use Rattle.integers.specs.Linear.{flat, zs, ◌▸◌}
 use Rattle.integers.specs.Lists.{◌∈◌, joined-append, map-append, from_suc, from-split, in-joined, in-below, map_same}

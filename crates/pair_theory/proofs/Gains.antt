@@ -11,7 +11,8 @@ use native.Mathlib.Omega.{arith}
 use lib.IntN.{ℤ, pos, ◌+ℤ◌}
 use lib.Dec.{T, T_not, not_T}
 use lib.Signed.{◌≤ℤ◌, lt_z}
-use Rattle.integers.specs.Words.{if◌then◌else◌, below, all, any, first}
+use Rattle.std.specs.Prelude.{if◌then◌else◌}
+use Rattle.integers.specs.Words.{below, all, any, first}
 use Rattle.integers.specs.Tests.{either, and_intro, and_left, and_right, or_cases, not-or-iff, not-not-iff, if-true, if-false}
 use Rattle.integers.specs.Linear.{flat, zs, ◌▸◌}
 use Rattle.integers.specs.Lists.{◌∈◌, any-in, joined_in, in-joined, all-at, any_of, any_at, first-least, first-none, those-none}

@@ -14,7 +14,8 @@ use lib.IntN.{ℤ, pos, neg_ℤ, ◌+ℤ◌, +ℤ_idr, ◌-ℤ◌}
 use lib.Dec.{T, T_not, ltb, lt→ltb, ltb→lt, eqb}
 use lib.Signed.{lt_z}
 use lib.ListN.{length, length-append}
-use Rattle.integers.specs.Words.{if◌then◌else◌, from, below, all, any, joined, eq_z}
+use Rattle.std.specs.Prelude.{if◌then◌else◌}
+use Rattle.integers.specs.Words.{from, below, all, any, joined, eq_z}
 use Rattle.integers.specs.Tests.{tests, same_test, either, and-iff, or_left, or_right, or_cases, not-or-iff, not-not-iff, if-true, if-false, if-cases}
 use Rattle.integers.specs.Options.{some_inj, found-else}
 use Rattle.integers.specs.Linear.{flat, zs, ◌▸◌, neg, T-eq}

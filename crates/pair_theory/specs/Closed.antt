@@ -1,9 +1,9 @@
 -- The closed form of a pair's round, for the code. The round leaves the working range at some shift just where some tuple of its edge that is not
 -- barred does so with all values of end 0 shifted, or with all of both ends (pair_theory, Passing.after-pair); where it stays in the range it
 -- lowers the upper bound just where each such tuple ends below the three greatest weights (Passing.lowers-is). Assumes nothing.
-use Rattle.std.specs.Prelude.{Bool, not, ◌&&◌, ◌||◌, List, ℕ, ◌+◌, ℤ, pos, ◌+ℤ◌}
+use Rattle.std.specs.Prelude.{Bool, not, ◌&&◌, ◌||◌, List, ℕ, ◌+◌, ℤ, pos, ◌+ℤ◌, if◌then◌else◌}
 use Rattle.std.specs.Int.Signed.{lt_z}
-use Rattle.integers.specs.Words.{if◌then◌else◌, all, any}
+use Rattle.integers.specs.Words.{all, any}
 use Rattle.definitions.specs.declared.Case.{Case}
 use Rattle.definitions.specs.Rules.{Rules}
 use Rattle.definitions.specs.Case.{values, lower_end, upper_end, weight, barred}

@@ -2,10 +2,9 @@
 // none, and are all level, below the lawful (document 02, change 2).
 #![tactic(auto)]
 
-ghost use Rattle.std.specs.Prelude.{◌≡◌};
+ghost use Rattle.std.specs.Prelude.{◌≡◌, if◌then◌else◌};
 ghost use Rattle.std.proofs.Math.Option.{some};
 ghost use Rattle.std.specs.Int.Signed.{lt_z};
-ghost use Rattle.integers.specs.Words.{if◌then◌else◌};
 ghost use Rattle.definitions.specs.Rules.{rules_of};
 ghost use Rattle.definitions.specs.Answers.{choice_says};
 ghost use Rattle.definitions.specs.Scoring.{ranks_below, better_of, better as better_part};

@@ -12,7 +12,8 @@ use native.Mathlib.Omega.{arith}
 use lib.IntN.{ℤ, pos, neg_ℤ, ◌+ℤ◌, ◌-ℤ◌}
 use lib.Dec.{T, T_not, eqb, eqb→eq, eqb_refl}
 use lib.Signed.{◌≤ℤ◌}
-use Rattle.integers.specs.Words.{if◌then◌else◌, is_in, minus}
+use Rattle.std.specs.Prelude.{if◌then◌else◌}
+use Rattle.integers.specs.Words.{is_in, minus}
 use Rattle.integers.specs.Tests.{is_true, or_cases, if-false, if-cases}
 use Rattle.integers.specs.Linear.{flat, zs, ◌▸◌, ≤ℤ-antisym, T-eq}
 use Rattle.integers.specs.Lists.{◌∈◌, is_in-in}

@@ -13,7 +13,8 @@ use native.Mathlib.Omega.{arith}
 use lib.IntN.{ℤ, pos, ◌+ℤ◌, ◌-ℤ◌}
 use lib.Dec.{T, T_not}
 use lib.Signed.{◌≤ℤ◌}
-use Rattle.integers.specs.Words.{if◌then◌else◌, all, is_in, joined, greatest_of, ◌⇒◌}
+use Rattle.std.specs.Prelude.{if◌then◌else◌}
+use Rattle.integers.specs.Words.{all, is_in, joined, greatest_of, ◌⇒◌}
 use Rattle.integers.specs.Tests.{if-false, either, not-or-iff, and_left, and_right, and_intro, imp_intro, or_cases}
 use Rattle.integers.specs.Linear.{flat, zs, ◌▸◌}
 use Rattle.integers.specs.Lists.{◌∈◌, joined_in, in-joined, is_in-in, all_of}

@@ -9,7 +9,8 @@ use Prim.Native.Nat.{ℕ, ◌<◌}
 use native.Mathlib.Omega.{arith}
 use lib.IntN.{ℤ, pos}
 use lib.ListN.{get_or}
-use Rattle.integers.specs.Words.{if◌then◌else◌, first, joined, least_of}
+use Rattle.std.specs.Prelude.{if◌then◌else◌}
+use Rattle.integers.specs.Words.{first, joined, least_of}
 use Rattle.integers.specs.Lists.{◌∈◌, those-same, map-cong}
 use Rattle.definitions.specs.declared.Case.{Case}
 use Rattle.definitions.specs.Case.{own_length, scope_count, is_barred}

@@ -1,6 +1,5 @@
 -- The program `press` as a start and rounds one after another, on all input. Assumes nothing.
-use Rattle.std.specs.Prelude.{List, ℕ, ◌-◌, ℤ, eqb, ltb, length}
-use Rattle.integers.specs.Words.{if◌then◌else◌}
+use Rattle.std.specs.Prelude.{List, ℕ, ◌-◌, ℤ, eqb, ltb, length, if◌then◌else◌}
 use Rattle.definitions.specs.declared.CaseSize.{CaseSize}
 use Rattle.definitions.specs.declared.FileAnswer.{FileAnswer}
 use Rattle.definitions.specs.declared.Rulebook.{Rulebook}

@@ -13,7 +13,8 @@ use native.Mathlib.Omega.{arith}
 use lib.IntN.{ℤ, pos}
 use lib.Dec.{T, T_not, not_T, eqb, eqb→eq}
 use lib.Signed.{◌≤ℤ◌, le_z}
-use Rattle.integers.specs.Words.{if◌then◌else◌, below, all, is_in}
+use Rattle.std.specs.Prelude.{if◌then◌else◌}
+use Rattle.integers.specs.Words.{below, all, is_in}
 use Rattle.integers.specs.Tests.{either, if-cases, and_intro, and_left, and_right, or_left, or_right, or_cases, not-eqb-iff}
 use Rattle.integers.specs.Options.{some_inj, found-else}
 use Rattle.integers.specs.Linear.{flat, zs, ◌▸◌}

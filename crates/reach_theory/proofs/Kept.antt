@@ -11,7 +11,8 @@ use native.Mathlib.Omega.{arith}
 use lib.IntN.{ℤ, pos, neg_ℤ, ◌+ℤ◌, ◌-ℤ◌}
 use lib.Dec.{T, not_T, eqb, eqb→eq, eqb_refl}
 use lib.Signed.{◌≤ℤ◌}
-use Rattle.integers.specs.Words.{if◌then◌else◌, all, is_in}
+use Rattle.std.specs.Prelude.{if◌then◌else◌}
+use Rattle.integers.specs.Words.{all, is_in}
 use Rattle.integers.specs.Tests.{either, if-true, if-false, not-or-iff, or_left, or_right}
 use Rattle.integers.specs.Linear.{flat, zs, ◌▸◌, ≤ℤ-antisym}
 use Rattle.integers.specs.Lists.{◌∈◌, is_in-in}

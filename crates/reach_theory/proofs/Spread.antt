@@ -10,7 +10,8 @@ use native.Mathlib.Omega.{arith}
 use lib.IntN.{ℤ, pos, ◌-ℤ◌}
 use lib.Dec.{T, eqb, eqb→eq}
 use lib.Signed.{◌≤ℤ◌}
-use Rattle.integers.specs.Words.{if◌then◌else◌, greatest_of}
+use Rattle.std.specs.Prelude.{if◌then◌else◌}
+use Rattle.integers.specs.Words.{greatest_of}
 use Rattle.integers.specs.Tests.{either, if-false, if-cases}
 use Rattle.integers.specs.Linear.{flat, zs, ◌▸◌}
 use Rattle.integers.specs.Maxima.{greatest-above, greatest-attained}

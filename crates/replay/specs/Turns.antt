@@ -1,7 +1,7 @@
 -- What the loop of `replay` makes of its input: bytes are handed over as blocks of whole lines, and a part line is kept; and what is printed of it.
 -- That what is read, and the answers of the reads, are the system's, no contract can say. Assumes nothing.
-use Rattle.std.specs.Prelude.{◌≡◌, false, not, ◌⊎◌, List, [], ◌++◌, ℕ, ◌*◌, ◌-◌, ◌/◌, ◌≤◌, ◌<◌, ◌%◌, ℤ, T, eqb, leb, length, take, drop}
-use Rattle.integers.specs.Words.{if◌then◌else◌, joined}
+use Rattle.std.specs.Prelude.{◌≡◌, false, not, ◌⊎◌, List, [], ◌++◌, ℕ, ◌*◌, ◌-◌, ◌/◌, ◌≤◌, ◌<◌, ◌%◌, ℤ, T, eqb, leb, length, take, drop, if◌then◌else◌}
+use Rattle.integers.specs.Words.{joined}
 use Rattle.integers.specs.Lists.{◌∈◌}
 use Rattle.definitions.specs.declared.FileAnswer.{FileAnswer}
 use Rattle.definitions.specs.declared.Rulebook.TheVariants.{Desk}

@@ -10,7 +10,8 @@ use borrow.Author.Tests.{le-ltb}
 use lib.IntN.{pos}
 use lib.Dec.{T, lit<}
 use lib.ListN.{length, take, drop, length-append, drop_of_length-le}
-use Rattle.integers.specs.Words.{if◌then◌else◌, from, below, those, joined}
+use Rattle.std.specs.Prelude.{if◌then◌else◌}
+use Rattle.integers.specs.Words.{from, below, those, joined}
 use Rattle.integers.specs.Tests.{is_false, if-cases, not-or-iff}
 use Rattle.integers.specs.Lists.{joined-append, map-append, those-append, from_suc, from-split}
 use Rattle.definitions.specs.declared.Line.{Line}

@@ -9,7 +9,8 @@ use lib.IntN.{ℤ, pos, ◌+ℤ◌, +ℤ_idr}
 use lib.Dec.{T, T_not, not_T}
 use lib.Signed.{◌≤ℤ◌}
 use lib.ListN.{get_or}
-use Rattle.integers.specs.Words.{if◌then◌else◌, below, all, any, minus}
+use Rattle.std.specs.Prelude.{if◌then◌else◌}
+use Rattle.integers.specs.Words.{below, all, any, minus}
 use Rattle.integers.specs.Tests.{is_false, either, if-true, if-false, not-not-iff, and_left, and_right, and_intro, or_right, or_cases}
 use Rattle.integers.specs.Linear.{flat, zs, ◌▸◌, T-eq}
 use Rattle.integers.specs.Lists.{all_in, any-in, all-at, all_of, in-below}

@@ -11,7 +11,8 @@ use lib.Dec.{T, T_not, not_T, eqb, ltb, leb, ltb→lt, nltb→le, lt→ltb, le�
 use lib.Signed.{◌≤ℤ◌}
 use lib.ListN.{length, take}
 use lib.Seq.{get_or-take, length-take-le}
-use Rattle.integers.specs.Words.{if◌then◌else◌, all}
+use Rattle.std.specs.Prelude.{if◌then◌else◌}
+use Rattle.integers.specs.Words.{all}
 use Rattle.integers.specs.Tests.{is_true, true-is, is_false, either, if-true, if-false, and_intro, and_left, or_right, not-or-iff, eqb-iff, not-eqb-iff, not-leb-iff}
 use Rattle.integers.specs.Linear.{flat, zs, ◌▸◌}
 use Rattle.integers.specs.Tables.{all_get_d}

@@ -11,7 +11,8 @@ use lib.IntN.{ℤ, pos, ◌+ℤ◌}
 use lib.Dec.{T, T_not, not_T, eqb, ltb, ltb→lt, nltb→le, lt→ltb, eqb→eq}
 use lib.Signed.{◌≤ℤ◌}
 use lib.ListN.{length, get_or, length-map, get_or-append}
-use Rattle.integers.specs.Words.{if◌then◌else◌, below, all, any, sum, minus, within_z}
+use Rattle.std.specs.Prelude.{if◌then◌else◌}
+use Rattle.integers.specs.Words.{below, all, any, sum, minus, within_z}
 use Rattle.integers.specs.Tests.{either, if-true, if-false, if-cases, and_intro, not-or-iff, not-not-iff, eqb-iff, not-eqb-iff}
 use Rattle.integers.specs.Linear.{flat, zs, ◌▸◌}
 use Rattle.integers.specs.Lists.{◌∈◌, any-in, in-those, those-in, those-few, below_in, in-below, length_from, map-map, all_map, all_of}

@@ -9,7 +9,8 @@ use native.Mathlib.Omega.{arith}
 use lib.IntN.{ℤ, pos, neg_ℤ, ◌+ℤ◌}
 use lib.Dec.{T, eqb}
 use lib.ListN.{get_or, length}
-use Rattle.integers.specs.Words.{if◌then◌else◌, is_in, ◌⇒◌}
+use Rattle.std.specs.Prelude.{if◌then◌else◌}
+use Rattle.integers.specs.Words.{is_in, ◌⇒◌}
 use Rattle.integers.specs.Tests.{same_test}
 use Rattle.integers.specs.Lists.{in-below, all_same}
 use Rattle.integers.specs.Sums.{sum-cong}

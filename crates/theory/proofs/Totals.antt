@@ -10,7 +10,8 @@ use lib.IntN.{ℤ, ◌+ℤ◌}
 use lib.Dec.{T, eqb, ltb, eqb→eq, ltb→lt}
 use lib.Signed.{◌≤ℤ◌, ◌<ℤ◌}
 use lib.ListN.{length}
-use Rattle.integers.specs.Words.{if◌then◌else◌, all, sum}
+use Rattle.std.specs.Prelude.{if◌then◌else◌}
+use Rattle.integers.specs.Words.{all, sum}
 use Rattle.integers.specs.Tests.{is_true, is_false, eqb-iff, not-eqb-iff, either, if-true, if-false, and_left, and_right}
 use Rattle.integers.specs.Linear.{flat, ◌▸◌, zs}
 use Rattle.integers.specs.Lists.{below_in, in-below}

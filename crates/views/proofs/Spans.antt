@@ -13,7 +13,8 @@ use lib.Dec.{eqb, eqb→eq}
 use lib.Signed.{mag}
 use mir.Syntax.{w64}
 use mir.Val.{hbits, to_z, of_z}
-use Rattle.integers.specs.Words.{if◌then◌else◌, eq_z}
+use Rattle.std.specs.Prelude.{if◌then◌else◌}
+use Rattle.integers.specs.Words.{eq_z}
 use Rattle.integers.specs.Tests.{eqb-iff, same_test}
 use Rattle.integers.specs.Linear.{T-eq, read_back}
 use Rattle.definitions.specs.declared.Span.{Span}

@@ -1,6 +1,5 @@
 -- What one line does to the search for a round, where lines have `long` bytes, and the round's span at any width. Assumes nothing.
-use Rattle.std.specs.Prelude.{List, ℕ, zero, suc, ◌+◌, ◌*◌}
-use Rattle.integers.specs.Words.{if◌then◌else◌}
+use Rattle.std.specs.Prelude.{List, ℕ, zero, suc, ◌+◌, ◌*◌, if◌then◌else◌}
 use Rattle.definitions.specs.declared.LineRead.{LineRead}
 use Rattle.definitions.specs.declared.Refusal.TheVariants.{NotInColumns}
 use Rattle.definitions.specs.declared.Span.{Span}

@@ -2,8 +2,7 @@
 // "Lines").
 #![tactic(auto)]
 
-ghost use Rattle.std.specs.Prelude.{◌≡◌, false, ℕ, ◌+◌, ◌*◌, ◌<◌, ◌≤◌, length, take, drop};
-ghost use Rattle.integers.specs.Words.{if◌then◌else◌};
+ghost use Rattle.std.specs.Prelude.{◌≡◌, false, ℕ, ◌+◌, ◌*◌, ◌<◌, ◌≤◌, length, take, drop, if◌then◌else◌};
 ghost use Rattle.definitions.specs.declared.Rulebook.TheVariants.{Desk};
 ghost use Rattle.definitions.specs.Rules.{rules_in};
 ghost use Rattle.definitions.specs.Lines.{line_length, is_kind, has_part};

@@ -4,7 +4,7 @@ use Prim.Native.Nat.{◌≤◌}
 use native.Mathlib.Omega.{arith}
 use lib.ListN.{length}
 use lib.Seq.{length-take-le}
-use Rattle.integers.specs.Words.{if◌then◌else◌}
+use Rattle.std.specs.Prelude.{if◌then◌else◌}
 use Rattle.arcs.specs.declared.Tried.{Tried}
 use Rattle.definitions.specs.Rules.{variable_places}
 use Rattle.arcs.proofs.Results.{well-formed, no-set-empty}
