@@ -1,8 +1,6 @@
 use mathlib.Core.Path.{◌≡◌, sym, subst, ◌∙◌}
 use mathlib.Core.Bool.{Bool}
 use mathlib.Core.Option.{none}
-use native.Mathlib.Omega.{arith}
-use Rattle.tables.proofs.Answered.{limits-known}
 use Rattle.definitions.specs.declared.RunAnswer.{RunAnswer}
 use Rattle.definitions.specs.Rules.{rules_of}
 use Rattle.definitions.specs.PairRounds.{lowest_pair}
@@ -11,7 +9,6 @@ use Rattle.pair_choice.specs.PairChoice.{paired_of}
 use Rattle.engine.specs.Rounds.{LimitIs}
 use Rattle.engine.proofs.Pairs.{found-pair, found_nothing, next-pair, next-pairs}
 use Rattle.engine.proofs.Runs.{limit-round, limit-settled}
-use borrow.Author.Rules.{rules}
 use Rattle.engine.proofs.at_limit.Goals as goal
 use Rattle.engine.proofs.at_limit.Goals.{After-prepare-found, In-Nothing}
 

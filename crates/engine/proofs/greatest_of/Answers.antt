@@ -1,5 +1,4 @@
 use Rattle.tables.proofs.Best.{greatest-known}
-use borrow.Author.Rules.{rules}
 use Rattle.engine.proofs.greatest_of.Goals as goal
 
 pub returns : goal.returns

@@ -22,7 +22,7 @@ pub returns-in-Value : goal.returns-in-Value
 returns-in-Value c =
     let e = answered (goal.at.returns-in-Value c).After-least_gap-gap c.in-Value.is in
     let d : c.in-Value.amount ≡ else_no_gap (least_gap c.args.case c.args.table.now c.args.variable) = cc in
-    read_back w64 c.in-Value.amount c.in-Value.known_told-1-own.given.0.1 ∙ d
+    read_back w64 c.in-Value.amount (search rules) ∙ d
 
 pub returns-in-Refused : goal.returns-in-Refused
 returns-in-Refused c =

@@ -6,7 +6,6 @@ use Rattle.engine.specs.Search.{FoundIs}
 use Rattle.engine.proofs.Raising.{ones-raised}
 use Rattle.engine.proofs.Runs.{limit-settled}
 use Rattle.engine.proofs.Pairs.{next-settled}
-use borrow.Author.Rules.{rules}
 use Rattle.engine.proofs.limit_next.Goals as goal
 use Rattle.engine.proofs.limit_next.Goals.{After-search-found}
 

@@ -1,6 +1,5 @@
 use Rattle.engine.proofs.Rounds.{no-gap-bits, some-gap-bits, next-pressed, next-voids}
 use Rattle.engine.proofs.Runs.{limit-round, limit-void}
-use borrow.Author.Rules.{rules}
 use Rattle.engine.proofs.limit_press.Goals as goal
 
 pub returns-then-least_gap-ne-NO_GAP : goal.returns-then-least_gap-ne-NO_GAP

@@ -1,5 +1,4 @@
 use Rattle.engine.proofs.Pairs.{pair-made, pair-handed}
-use borrow.Author.Rules.{rules}
 use Rattle.engine.proofs.pair_round.Goals as goal
 
 pub greatest_of-requires : goal.greatest_of-requires

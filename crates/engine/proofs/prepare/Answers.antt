@@ -3,7 +3,6 @@ use native.Mathlib.Omega.{arith}
 use Rattle.pair_choice.proofs.Pairs.{lowest-pair-is}
 use Rattle.engine.specs.Search.{Prepared}
 use Rattle.engine.proofs.Asking.{marks-prepared}
-use borrow.Author.Rules.{rules}
 use Rattle.engine.proofs.prepare.Goals as goal
 
 pub returns : goal.returns

@@ -1,6 +1,5 @@
 use mir.Facts.{to_z-of_z}
 use Rattle.engine.proofs.Rounds.{pressed-by}
-use borrow.Author.Rules.{rules}
 use Rattle.engine.proofs.press.Goals as goal
 
 pub returns : goal.returns

@@ -1,5 +1,4 @@
-use Rattle.engine.proofs.Rounds.{no-gap-bits, some-gap-bits}
-use borrow.Author.Rules.{rules}
+use Rattle.engine.proofs.Rounds.{no-gap-bits}
 use Rattle.engine.proofs.press_or_void.Goals as goal
 
 pub returns-then-amount-eq-NO_GAP : goal.returns-then-amount-eq-NO_GAP

@@ -8,7 +8,6 @@ use Rattle.definitions.specs.Engine.{least_gap}
 use Rattle.press_theory.proofs.Trim.{chosen-some}
 use Rattle.engine.specs.Rounds.{Pressed}
 use Rattle.engine.proofs.Rounds.{amount-within, made-refused}
-use borrow.Author.Rules.{rules}
 use Rattle.engine.proofs.press_round.Goals as goal
 use Rattle.engine.proofs.press_round.Goals.{After-press-pressed, Start}
 

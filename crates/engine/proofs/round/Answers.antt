@@ -1,7 +1,6 @@
 use mathlib.Core.Path.{sym, ◌∙◌}
 use mathlib.Core.Bool.{false}
 use Rattle.engine.proofs.Runs.{asked-done, asked-refused}
-use borrow.Author.Rules.{rules}
 use Rattle.engine.proofs.round.Goals as goal
 
 pub first_round-requires : goal.first_round-requires

@@ -1,8 +1,6 @@
 use mathlib.Core.Path.{◌≡◌, sym, subst, ◌∙◌}
 use mathlib.Core.Bool.{Bool}
 use mathlib.Core.Option.{none}
-use native.Mathlib.Omega.{arith}
-use Rattle.tables.proofs.Answered.{limits-known}
 use Rattle.definitions.specs.declared.Round.{Round}
 use Rattle.definitions.specs.Rules.{rules_of}
 use Rattle.definitions.specs.PairRounds.{lowest_pair}
@@ -10,8 +8,7 @@ use Rattle.pair_choice.specs.declared.Paired.{Paired}
 use Rattle.pair_choice.specs.PairChoice.{paired_of}
 use Rattle.engine.specs.Rounds.{MadeRound}
 use Rattle.engine.proofs.Runs.{nothing-made}
-use Rattle.engine.proofs.Pairs.{found-pair, found_nothing, next-pairs}
-use borrow.Author.Rules.{rules}
+use Rattle.engine.proofs.Pairs.{found_nothing, next-pairs}
 use Rattle.engine.proofs.round_checked.Goals as goal
 use Rattle.engine.proofs.round_checked.Goals.{After-prepare-found, In-Nothing}
 

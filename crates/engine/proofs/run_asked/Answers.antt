@@ -1,6 +1,5 @@
 use mathlib.Core.Path.{sym, ◌∙◌}
 use Rattle.engine.proofs.Runs.{asked-done, run-is-refused}
-use borrow.Author.Rules.{rules}
 use Rattle.engine.proofs.run_asked.Goals as goal
 
 pub run_from-requires : goal.run_from-requires

@@ -1,19 +1,13 @@
-use mathlib.Core.Path.{◌≡◌, refl, subst, ◌∙◌}
+use mathlib.Core.Path.{◌≡◌}
 use mathlib.Core.List.{List}
 use Prim.Native.Nat.{ℕ, ◌-◌, ◌≤◌}
-use native.Mathlib.Omega.{arith}
 use lib.IntN.{ℤ}
 use lib.ListN.{length}
-use Rattle.definitions.specs.declared.Round.{Round}
 use Rattle.definitions.specs.Rules.{rules_of}
 use Rattle.definitions.specs.Valid.{working_weight}
-use Rattle.definitions.specs.Engine.{round_bytes}
 use Rattle.theory.proofs.Validity.{Handed}
 use Rattle.tables.specs.Scopes.{BestOf}
-use Rattle.engine.specs.Rounds.{MadeRound}
-use Rattle.engine.proofs.Runs.{Going, run-starts, run-goes-on, settled-run, void-run, run-leaves, run-limits}
-use Rattle.engine.proofs.Runs.{still-settled, still-void, still-refused, still-made}
-use borrow.Author.Rules.{rules}
+use Rattle.engine.proofs.Runs.{Going}
 use Rattle.engine.proofs.run_checked.Given as goal
 
 pub record Same (table₀ table : List ℤ) (out₀ out : List ℕ) (best₀ best : List ℤ) : Type 0 where

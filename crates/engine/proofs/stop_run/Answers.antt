@@ -23,4 +23,4 @@ returns-in-Value c =
     let z = c.in-Value.bound in
     let e = summed (goal.at.returns-in-Value c).After-sum_of_best-sum c.in-Value.is in
     let d : z ≡ upper_bound a.case a.table.now = cc in
-    ap (run_with a.answer a.rounds) (read_back w64 z c.in-Value.known_told-in-Value-1-own.given.0.1 ∙ d)
+    ap (run_with a.answer a.rounds) (read_back w64 z (search rules) ∙ d)

@@ -3,7 +3,6 @@ use Rattle.definitions.specs.declared.Written.{Written}
 use Rattle.definitions.specs.Rules.{rules_of}
 use Rattle.round_lines.specs.Press.{write_void_call}
 use Rattle.engine.proofs.Rounds.{void-unrefused, void-made}
-use borrow.Author.Rules.{rules}
 use Rattle.engine.proofs.void_line.Goals as goal
 use Rattle.engine.proofs.void_line.Goals.{After-write_void-written}
 

@@ -39,4 +39,4 @@ returns-in-Value c w after p =
     let d : c.in-Value.bound ≡ upper_bound a.case after = cc in
     let p : PressMade a.case a.variable a.raised.now (to_z w64 (of_z w64 a.amount)) w after a.best.now = rw (to_z-of_z c.ranges.amount) p in
     made-done p.handed p.which p.least p.no-pair a.raised.now p.kept a.out.now c.requires.1 p.pressed c.requires.0
-    (read_back w64 c.in-Value.bound c.in-Value.known_told-in-Value-1-own.given.0.1 ∙ d) c.write_lines.ensures.value c.write_lines.ensures.out_after
+    (read_back w64 c.in-Value.bound (search rules) ∙ d) c.write_lines.ensures.value c.write_lines.ensures.out_after

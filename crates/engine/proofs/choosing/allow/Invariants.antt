@@ -1,11 +1,8 @@
-use mathlib.Core.Path.{◌≡◌, refl, sym, subst, ◌∙◌}
-use Prim.Native.Nat.{ℕ, ◌+◌, ◌-◌, ◌≤◌, ◌<◌}
-use native.Mathlib.Omega.{arith}
-use lib.ListN.{length, get_or, set, length-set}
-use borrow.Author.Rules.{rules}
+use mathlib.Core.Path.{◌≡◌}
+use Prim.Native.Nat.{ℕ, ◌-◌, ◌≤◌, ◌<◌}
+use lib.ListN.{length, get_or}
 use Rattle.std.specs.Prelude.{if◌then◌else◌}
 use Rattle.calls.specs.Calls.{is_raised}
-use Rattle.engine.proofs.Raising.{filled_more}
 use Rattle.engine.proofs.choosing.allow.Given as goal
 
 abbrev pub invariant-loop-j : goal.invariant-loop-j

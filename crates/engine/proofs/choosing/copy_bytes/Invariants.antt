@@ -1,8 +1,6 @@
-use mathlib.Core.Path.{◌≡◌, refl, ◌∙◌}
+use mathlib.Core.Path.{◌≡◌}
 use Prim.Native.Nat.{ℕ, ◌-◌, ◌≤◌, ◌<◌}
-use native.Mathlib.Omega.{arith}
-use lib.ListN.{length, get_or, length-set}
-use Rattle.engine.proofs.Raising.{filled_more}
+use lib.ListN.{length, get_or}
 use Rattle.engine.proofs.choosing.copy_bytes.Given as goal
 
 abbrev pub invariant-loop-j : goal.invariant-loop-j

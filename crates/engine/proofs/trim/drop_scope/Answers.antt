@@ -1,12 +1,11 @@
-use borrow.Author.Rules.{rules}
 use mathlib.Core.Path.{sym, ap, ◌∙◌}
 use mathlib.Core.Bool.{not}
 use Prim.Native.Nat.{◌<◌}
 use native.Mathlib.Omega.{arith}
-use lib.ListN.{length, length-set}
+use lib.ListN.{length}
 use borrow.Author.Tests.{ne_eqb}
 use Rattle.integers.specs.Tests.{true-is}
-use Rattle.engine.proofs.Trims.{enough-without, enough-kept, dropped-out, dropped-free, dropped-not}
+use Rattle.engine.proofs.Trims.{enough-without, enough-kept, dropped-free, dropped-not}
 use Rattle.engine.proofs.trim.drop_scope.Goals as goal
 
 pub returns-then-enough-x-eq0 : goal.returns-then-enough-x-eq0

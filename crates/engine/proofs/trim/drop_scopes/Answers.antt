@@ -1,13 +1,6 @@
-use mathlib.Core.Path.{◌≡◌, refl, sym, ◌∙◌}
-use mathlib.Core.List.{List}
-use Prim.Native.Nat.{◌-◌, ◌≤◌}
+use mathlib.Core.Path.{refl, ◌∙◌}
 use native.Mathlib.Omega.{arith}
-use lib.IntN.{ℤ}
-use lib.ListN.{length}
-use Rattle.definitions.specs.Case.{scope_count}
-use Rattle.definitions.specs.Engine.{kept_scopes}
-use Rattle.engine.specs.Search.{Prepared, OthersRaised, Enough}
-use Rattle.engine.proofs.Trims.{trimmed_at, trim-next, trim-first, trim-last}
+use Rattle.engine.proofs.Trims.{trim-next, trim-first}
 use Rattle.engine.proofs.trim.drop_scopes.Goals as goal
 
 pub loop-x-init : goal.loop-x-init

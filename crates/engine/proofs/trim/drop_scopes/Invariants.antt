@@ -1,13 +1,12 @@
-use mathlib.Core.Path.{◌≡◌, refl, sym, ◌∙◌}
+use mathlib.Core.Path.{◌≡◌}
 use mathlib.Core.List.{List}
 use Prim.Native.Nat.{◌-◌, ◌≤◌}
-use native.Mathlib.Omega.{arith}
 use lib.IntN.{ℤ}
 use lib.ListN.{length}
 use Rattle.definitions.specs.Case.{scope_count}
 use Rattle.definitions.specs.Engine.{kept_scopes}
 use Rattle.engine.specs.Search.{Prepared, OthersRaised, Enough}
-use Rattle.engine.proofs.Trims.{trimmed_at, trim-next, trim-first, trim-last}
+use Rattle.engine.proofs.Trims.{trimmed_at}
 use Rattle.engine.proofs.trim.drop_scopes.Given as goal
 
 abbrev pub invariant-loop-x : goal.invariant-loop-x

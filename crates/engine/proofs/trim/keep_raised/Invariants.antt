@@ -1,9 +1,6 @@
-use mathlib.Core.Path.{◌≡◌, refl}
+use mathlib.Core.Path.{◌≡◌}
 use Prim.Native.Nat.{ℕ, ◌-◌, ◌≤◌, ◌<◌}
-use native.Mathlib.Omega.{arith}
-use lib.ListN.{length, get_or, length-set}
-use borrow.Author.Rules.{rules}
-use Rattle.engine.proofs.Raising.{lowered-more}
+use lib.ListN.{length, get_or}
 use Rattle.engine.proofs.trim.keep_raised.Given as goal
 
 abbrev pub invariant-loop-j : goal.invariant-loop-j

@@ -1,7 +1,4 @@
-use borrow.Author.Rules.{rules}
-use mathlib.Core.Path.{sym, ◌∙◌}
-use Rattle.definitions.specs.Case.{scope_count}
-use Rattle.engine.proofs.Trims.{raised-kept, copied-enough}
+use Rattle.engine.proofs.Trims.{copied-enough}
 use Rattle.engine.proofs.trim.renew.Goals as goal
 use Rattle.engine.proofs.trim.renew.Goals.{After-keep_raised, Start}
 

@@ -1,8 +1,7 @@
-use borrow.Author.Rules.{rules}
 use mathlib.Core.Path.{refl, ◌∙◌}
 use Prim.Native.Nat.{◌<◌}
 use native.Mathlib.Omega.{arith}
-use lib.ListN.{length, set, length-set}
+use lib.ListN.{length, set}
 use Rattle.integers.specs.Tests.{is_true}
 use Rattle.press_theory.proofs.Trim.{chosen-some}
 use Rattle.engine.proofs.Choice.{lowered-one, others-refuted}
