@@ -1,6 +1,5 @@
 use mathlib.Core.Path.{sym, ap, ◌∙◌}
 use Rattle.judging.specs.Judging.{state_of, block_from, block_judging}
-use borrow.Author.Rules.{rules}
 use Rattle.judging.proofs.block.Goals as goal
 
 pub returns-in-Refused : goal.returns-in-Refused

@@ -1,9 +1,7 @@
-use mathlib.Core.Path.{◌≡◌, sym, ap, ◌∙◌}
+use mathlib.Core.Path.{◌≡◌, sym, ◌∙◌}
 use Rattle.definitions.specs.declared.Outcome.{Outcome}
-use Rattle.checker.specs.Checker.{good_in}
-use Rattle.judging.specs.Judging.{end_judged, finish_standing}
+use Rattle.judging.specs.Judging.{finish_standing}
 use Rattle.judging.proofs.Ends.{finish-done}
-use borrow.Author.Rules.{rules}
 use Rattle.judging.proofs.end_judgement.Goals as goal
 use Rattle.judging.proofs.end_judgement.Goals.{In-Done}
 

@@ -2,7 +2,6 @@ use mathlib.Core.Path.{ap}
 use Rattle.texts.specs.Texts.{write_judgement_call}
 use Rattle.texts.proofs.Answers.{same-written}
 use Rattle.judging.specs.Judging.{finish_judging}
-use borrow.Author.Rules.{rules}
 use Rattle.judging.proofs.finish.Goals as goal
 
 pub returns : goal.returns

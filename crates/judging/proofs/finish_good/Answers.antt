@@ -1,5 +1,4 @@
 use Rattle.judging.proofs.Ends.{finish-refused, end-part, end_none}
-use borrow.Author.Rules.{rules}
 use Rattle.judging.proofs.finish_good.Goals as goal
 
 pub returns-in-Refused : goal.returns-in-Refused

@@ -9,7 +9,6 @@ use Rattle.definitions.specs.declared.Figure.{Figure}
 use Rattle.definitions.specs.declared.Judgement.{Judgement}
 use Rattle.definitions.specs.Case.{upper_bound}
 use Rattle.tables.proofs.Answered.{greatest-sum-known}
-use borrow.Author.Rules.{rules}
 use Rattle.judging.proofs.good_judgement.Goals as goal
 use Rattle.judging.proofs.good_judgement.Goals.{After-sum_of_greatest-sum}
 

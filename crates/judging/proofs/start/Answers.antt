@@ -8,7 +8,6 @@ use Rattle.definitions.specs.CaseFiles.{CaseCall, read_case}
 use Rattle.checker.specs.declared.Replay.{Replay}
 use Rattle.checker.specs.Checker.{fresh_replay}
 use Rattle.judging.specs.Judging.{JudgingState, start_judging}
-use borrow.Author.Rules.{rules}
 use Rattle.judging.proofs.start.Goals as goal
 
 to_state : CaseRead → Replay → List ℤ → JudgingState

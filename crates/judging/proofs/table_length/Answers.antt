@@ -1,8 +1,7 @@
 use mathlib.Core.Path.{sym, ◌∙◌}
 use native.Mathlib.Omega.{arith}
 use Rattle.definitions.specs.declared.Rulebook.TheVariants.{Desk}
-use Rattle.judging.proofs.Tables.{table-most, size-refused, size-given}
-use borrow.Author.Rules.{rules}
+use Rattle.judging.proofs.Tables.{table-most, size-given}
 use Rattle.judging.proofs.table_length.Goals as goal
 
 pub returns-in-Size : goal.returns-in-Size

@@ -1,4 +1,4 @@
-use mathlib.Core.Path.{◌≡◌, sym, ap, ◌∙◌}
+use mathlib.Core.Path.{◌≡◌, ap, ◌∙◌}
 use mathlib.Core.List.{List}
 use Prim.Native.Nat.{ℕ, ◌-◌}
 use native.Mathlib.Omega.{arith}
@@ -12,7 +12,6 @@ use Rattle.definitions.specs.CaseFiles.{case_size}
 use Rattle.definitions.specs.Programs.{table_for}
 use Rattle.judging.proofs.Tables.{table-most, table-lent}
 use Rattle.press.proofs.Calls.{read_all}
-use borrow.Author.Rules.{rules}
 use Rattle.press.proofs.main.Goals as goal
 
 pub slice_bounds-weights-end : goal.slice_bounds-weights-end

@@ -1,12 +1,10 @@
-use mathlib.Core.Path.{◌≡◌, refl, sym, subst, ◌∙◌}
-use mathlib.Core.Logic.{inl, inr}
-use Prim.Native.Nat.{suc, ◌+◌, ◌*◌, ◌-◌, ◌≤◌}
+use mathlib.Core.Path.{◌≡◌}
+use Prim.Native.Nat.{suc, ◌-◌}
 use native.Mathlib.Omega.{arith}
-use lib.Dec.{T}
 use lib.ListN.{length}
 use Rattle.definitions.specs.Places.{round_places}
 use Rattle.definitions.specs.Programs.{press_limit}
-use Rattle.press.proofs.Calls.{text-most, Made, made-next, bytes-more, made_ends}
+use Rattle.press.proofs.Calls.{made-next, bytes-more}
 use borrow.Author.Rules.{rules}
 use Rattle.press.proofs.print_rounds.Goals as goal
 

@@ -1,13 +1,9 @@
-use mathlib.Core.Path.{◌≡◌, refl, sym, subst, ◌∙◌}
-use mathlib.Core.Logic.{inl, inr}
-use Prim.Native.Nat.{suc, ◌+◌, ◌*◌, ◌-◌, ◌≤◌}
-use native.Mathlib.Omega.{arith}
-use lib.Dec.{T}
+use mathlib.Core.Path.{◌≡◌}
+use Prim.Native.Nat.{◌+◌, ◌*◌, ◌-◌, ◌≤◌}
 use lib.ListN.{length}
 use Rattle.definitions.specs.Places.{round_places}
 use Rattle.definitions.specs.Programs.{press_limit}
-use Rattle.press.proofs.Calls.{text-most, Made, made-next, bytes-more, made_ends}
-use borrow.Author.Rules.{rules}
+use Rattle.press.proofs.Calls.{Made}
 use Rattle.press.proofs.print_rounds.Given as goal
 
 abbrev pub invariant-loop-calls : goal.invariant-loop-calls

@@ -1,17 +1,13 @@
 use mathlib.Core.Path.{refl, sym, ap, ◌∙◌}
 use mathlib.Core.List.{List}
 use Prim.Native.Nat.{ℕ}
-use native.Mathlib.Omega.{arith}
 use lib.IntN.{ℤ}
 use lib.Dec.{lit≤}
-use lib.ListN.{length, replicate}
+use lib.ListN.{replicate}
 use Rattle.definitions.specs.declared.Rulebook.TheVariants.{Desk}
 use Rattle.definitions.specs.Places.{round_places}
-use Rattle.pressing.specs.declared.Pressed.{Pressed}
 use Rattle.pressing.specs.Pressing.{start_pressing}
-use Rattle.pressing.specs.Prints.{printed_bytes}
-use Rattle.press.proofs.Calls.{same-call, failed-press, rounds-press}
-use borrow.Author.Rules.{rules}
+use Rattle.press.proofs.Calls.{same-call, rounds-press}
 use Rattle.press.proofs.run.Goals as goal
 
 pub returns : goal.returns

@@ -2,7 +2,6 @@ use mathlib.Core.Path.{refl, ap}
 use borrow.Author.Tests.{eq-eqb, ne_eqb}
 use Rattle.definitions.specs.declared.Written.{Written}
 use Rattle.pressing.proofs.Calls.{same-pressing, next-is}
-use borrow.Author.Rules.{rules}
 use Rattle.pressing.proofs.next.Goals as goal
 
 pub returns-then-pressing-eq0 : goal.returns-then-pressing-eq0

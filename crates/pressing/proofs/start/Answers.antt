@@ -9,7 +9,6 @@ use Rattle.definitions.specs.CaseFiles.{read_case_alone}
 use Rattle.texts.specs.Texts.{text_room}
 use Rattle.pressing.specs.declared.Pressed.{Pressed}
 use Rattle.pressing.proofs.Calls.{same-pressing, start_is, start-refused, start-read}
-use borrow.Author.Rules.{rules}
 use Rattle.pressing.proofs.start.Goals as goal
 
 abbrev to_pressed : Case → Refusal → Pressed

@@ -1,23 +1,20 @@
-use mathlib.Core.Path.{◌≡◌, refl, sym, subst, ◌∙◌}
+use mathlib.Core.Path.{◌≡◌, refl, sym, ◌∙◌}
 use Prim.Native.Nat.{◌+◌, ◌-◌, ◌≤◌}
 use native.Mathlib.Omega.{arith}
 use borrow.Author.Rules.{rules}
-use lib.Dec.{T}
 use lib.ListN.{length, take}
-use Rattle.judging.specs.Judging.{state_of}
-use Rattle.replay.specs.Turns.{desk_line, most_turns, Goes}
-use Rattle.replay.proofs.Turning.{goes_none, goes-next, fill-kept, fill-full, goes_over}
+use Rattle.replay.specs.Turns.{desk_line, most_turns}
+use Rattle.replay.proofs.Turning.{goes_none, goes-next, fill-kept, fill-full}
 use Rattle.replay.proofs.go_on.Goals as goal
 
 pub loop-turns-init : goal.loop-turns-init
-loop-turns-init g c =
-    (
-      refl,
-      refl,
-      omega arith,
-      goes_none (length c.args.buf.now - desk_line) c.args.first c.args.table.now c.args.buf.now c.requires.0
-          c.requires.1,
-    )
+loop-turns-init g c = (
+  refl,
+  refl,
+  omega arith,
+  goes_none (length c.args.buf.now - desk_line) c.args.first c.args.table.now c.args.buf.now c.requires.0
+      c.requires.1,
+)
 
 pub loop-turns-preserved : goal.loop-turns-preserved
 loop-turns-preserved g c =

@@ -8,7 +8,6 @@ use Rattle.definitions.specs.declared.Rulebook.TheVariants.{Desk}
 use Rattle.judging.specs.Judging.{JudgingState, state_of, start_judging}
 use Rattle.replay.specs.Turns.{case_end}
 use Rattle.replay.proofs.Turning.{part-from, judges-all}
-use borrow.Author.Rules.{rules}
 use Rattle.replay.proofs.judge_input.Goals as goal
 
 pub returns : goal.returns

@@ -20,5 +20,9 @@ text_of_input-part-requires c =
     let (is, most) = c.table_length-long.ensures in
     let all : filled - 0 ≡ filled = omega arith in
     let same : long ≡ length (table_for size) = is ∙ ap (λ (n : ℕ). length (table_for (case_size Desk (take n buf)))) all in
-    let so-many : long - 0 ≡ length (table_for size) = omega arith in record { to_in_bounds = (c.fill-filled.ensures.fills.within (omega arith), c.fill-filled.ensures.fills.ends); buf_len = (search rules, search rules); table_value = ap (λ (n : ℕ). take n c.weights-weights.result) so-many ∙ ap (take (length (table_for size))) c.weights-weights.ensures
-            ∙ table-lent size table_places (omega arith) }
+    let so-many : long - 0 ≡ length (table_for size) = omega arith in record {
+      to_in_bounds = (c.fill-filled.ensures.fills.within (omega arith), c.fill-filled.ensures.fills.ends);
+      buf_len = (search rules, search rules);
+      table_value = ap (λ (n : ℕ). take n c.weights-weights.result) so-many ∙ ap (take (length (table_for size))) c.weights-weights.ensures
+          ∙ table-lent size table_places (omega arith);
+    }

@@ -8,7 +8,6 @@ use lib.ListN.{length, take, drop, length-drop}
 use lib.Seq.{length-take-le, take-take, take-add, drop_at, drop-drop}
 use Rattle.judging.specs.Judging.{state_of, block_judging}
 use Rattle.replay.specs.Turns.{desk_line, whole_bytes}
-use borrow.Author.Rules.{rules}
 use Rattle.replay.proofs.turn.Goals as goal
 
 -- The whole lines go to the block, and the part line to the buffer's front. Assumes nothing.

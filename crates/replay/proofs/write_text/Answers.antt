@@ -13,7 +13,6 @@ use Rattle.definitions.specs.Programs.{table_for}
 use Rattle.streams.specs.Streams.{is_over}
 use Rattle.definitions.specs.Places.{longest_case}
 use Rattle.replay.specs.Turns.{desk_line, Judges}
-use borrow.Author.Rules.{rules}
 use Rattle.replay.proofs.Printing.{enough-read, failed-prints, judges-prints}
 use Rattle.replay.proofs.write_text.Goals as goal
 use Rattle.replay.proofs.write_text.Given.{Over}
