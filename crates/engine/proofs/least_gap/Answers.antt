@@ -2,6 +2,7 @@ use mathlib.Core.Path.{◌≡◌, sym, ◌∙◌}
 use Prim.Native.Nat.{ℕ}
 use native.Mathlib.Omega.{arith}
 use mir.Syntax.{w64}
+use borrow.Author.Rules.{rules}
 use Rattle.integers.specs.Linear.{read_back}
 use Rattle.definitions.specs.declared.Figure.{Figure}
 use Rattle.definitions.specs.Engine.{least_gap}

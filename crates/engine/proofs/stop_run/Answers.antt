@@ -5,6 +5,7 @@ use Rattle.definitions.specs.declared.Figure.{Figure}
 use Rattle.definitions.specs.Case.{upper_bound}
 use Rattle.tables.proofs.Best.{best-sum-known}
 use Rattle.engine.proofs.Runs.{run_with}
+use borrow.Author.Rules.{rules}
 use Rattle.engine.proofs.stop_run.Goals as goal
 use Rattle.engine.proofs.stop_run.Goals.{After-sum_of_best-sum}
 

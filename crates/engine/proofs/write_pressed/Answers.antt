@@ -12,6 +12,7 @@ use Rattle.definitions.specs.Case.{upper_bound}
 use Rattle.tables.proofs.Best.{best-sum-known}
 use Rattle.engine.specs.Rounds.{PressMade}
 use Rattle.engine.proofs.Rounds.{done-handed, made-done}
+use borrow.Author.Rules.{rules}
 use Rattle.engine.proofs.write_pressed.Goals as goal
 use Rattle.engine.proofs.write_pressed.Goals.{After-sum_of_best-sum}
 
