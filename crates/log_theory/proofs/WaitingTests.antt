@@ -56,13 +56,13 @@ module _ (c : Case) (p : ℕ) (w₀ : List ℤ) (lower : List ℕ) (x : CaseDue)
   abbrev read : Reading
   read = read_so_far c w₀ p x lower
 
-  lower-read : (e : ℕ) → e < ends_read x → lower_end read.case (c.m + e) ≡ get_or lower e 0
+  pub lower-read : (e : ℕ) → e < ends_read x → lower_end read.case (c.m + e) ≡ get_or lower e 0
   lower-read e h =
       placed_at (map (lower_end c) (below c.m)) (take (ends_read x) lower) c.m e (length-tab (lower_end c) 0 c.m)
       (omega (arith, length-take-le (ends_read x) lower few))
       ∙ get_or-take (ends_read x) lower e 0 h
 
-  upper-read : (e : ℕ) → e < ends_read x → upper_end read.case (c.m + e) ≡ c.n
+  pub upper-read : (e : ℕ) → e < ends_read x → upper_end read.case (c.m + e) ≡ c.n
   upper-read e h =
       let l = length-take-le (ends_read x) lower few in
       let n : ℕ = length (take (ends_read x) lower) in
@@ -77,23 +77,23 @@ module _ (c : Case) (p : ℕ) (w₀ : List ℤ) where
   small-weight : {y k l : ℕ} → IsTuple (small_case c p) y k l → weight (grown_case c p) (waiting_table c p w₀) (joined_scope c y) k l ≡ waiting y k l
   small-weight {y} {k} {l} i = new-weight c p w₀ i ∙ sym (get_or-drop (own_length c) w₀ (place (small_case c p) y k l) (pos 0))
 
-  variable-weight-is : {i k : ℕ} → i < 1 → k < c.d → weight (grown_case c p) (waiting_table c p w₀) (c.n + i) k 0 ≡ waiting i k 0
+  pub variable-weight-is : {i k : ℕ} → i < 1 → k < c.d → weight (grown_case c p) (waiting_table c p w₀) (c.n + i) k 0 ≡ waiting i k 0
   variable-weight-is {i} {k} u v =
       ap (λ (x : ℕ). weight (grown_case c p) (waiting_table c p w₀) x k 0) (sym (variable-joined c u))
       ∙ small-weight (variable-tuple (small_case c p) i k u v)
 
-  edge-weight-is : {e k l : ℕ} → e < p → k < c.d → l < c.d
+  pub edge-weight-is : {e k l : ℕ} → e < p → k < c.d → l < c.d
       → weight (grown_case c p) (waiting_table c p w₀) (c.n + 1 + (c.m + e)) k l ≡ waiting (1 + e) k l
   edge-weight-is {e} {k} {l} u v h =
       ap (λ (x : ℕ). weight (grown_case c p) (waiting_table c p w₀) x k l) (sym (edge-joined c e)) ∙ small-weight (edge-tuple (small_case c p) e k l u v h)
 
-  variable-bars : (i : ℕ) → i < 1 → wholly_barred (grown_case c p) (waiting_table c p w₀) (c.n + i) ≡ wholly_barred (small_case c p) (waiting_weights c w₀) i
+  pub variable-bars : (i : ℕ) → i < 1 → wholly_barred (grown_case c p) (waiting_table c p w₀) (c.n + i) ≡ wholly_barred (small_case c p) (waiting_weights c w₀) i
   variable-bars i u = ap (all (λ b. b))
       (each-variable (grown_case c p) (barred (grown_case c p) (waiting_table c p w₀) (c.n + i)) (c.n + i) (omega arith)
       ∙ map_same c.d (λ k v. ap is_barred (variable-weight-is u v))
       ∙ sym (each-variable (small_case c p) (barred (small_case c p) (waiting_weights c w₀) i) i u))
 
-  edge-bars : (e : ℕ) → e < p
+  pub edge-bars : (e : ℕ) → e < p
       → wholly_barred (grown_case c p) (waiting_table c p w₀) (c.n + 1 + (c.m + e)) ≡ wholly_barred (small_case c p) (waiting_weights c w₀) (1 + e)
   edge-bars e u = ap (all (λ b. b))
       (each-edge (grown_case c p) (barred (grown_case c p) (waiting_table c p w₀) (c.n + 1 + (c.m + e))) (c.m + e)

@@ -7,4 +7,4 @@ pub mod Bounds
 pub mod Parts
 pub mod Answered
 pub mod Best
-mod Paired
+pub mod Paired

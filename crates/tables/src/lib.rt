@@ -149,7 +149,7 @@ fn all_within(weights: &[i64], low: i64, high: i64) -> bool
     true
 }
 
-fn all_holdable(weights: &[i64], low: i64, high: i64) -> bool
+pub fn all_holdable(weights: &[i64], low: i64, high: i64) -> bool
     ensures { result ≡ all (holdable low high) weights.now }
 {
     let mut i: usize = 0;
@@ -188,7 +188,7 @@ fn some_scope_barred(case: Case, table: &[i64]) -> bool
 }
 
 // All bits are looked at, so that many weights are at once.
-fn all_zero(weights: &[i64]) -> bool
+pub fn all_zero(weights: &[i64]) -> bool
     ensures { result ≡ all (λ z. eq_z z (pos 0)) weights.now }
 {
     let mut bits: i64 = 0;

@@ -1,0 +1,14 @@
+use mathlib.Core.Path.{sym, ap, ◌∙◌}
+use mathlib.Core.Bool.{◌||◌}
+use native.Mathlib.Omega.{arith}
+use lib.Dec.{eqb}
+use lib.ListN.{get_or}
+use Rattle.tables.proofs.Search.{any_next}
+use Rattle.joining.proofs.waiting.repeated_at.Goals as goal
+
+pub loop-f-preserved : goal.loop-f-preserved
+loop-f-preserved c = let a = c.args in (
+  omega arith,
+  ap (λ x. x || eqb (get_or a.lower.now a.e 0) (get_or a.lower.now c.loop-f.f 0)) c.loop-f.invariant.1
+      ∙ sym (any_next (λ f. eqb (get_or a.lower.now a.e 0) (get_or a.lower.now f 0)) c.loop-f.f),
+)
