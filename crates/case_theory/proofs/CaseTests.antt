@@ -109,7 +109,7 @@ weight-columns kind barring a b c z = go (is_barred z)
     go false = (refl, refl, refl, or_left (eqb kind kind) _ (eqb_refl kind))
 
 module _ (kind barring : ℕ) (plain : (eqb kind 14 || eqb kind 15) ≡ false) (barred : (eqb barring 14 || eqb barring 15) ≡ true) where
-  weight-range : (r : Rules) (a b c z : ℤ) → let l = weight_line kind barring a b c z in (bars l || in_starting r l.amount) ≡ starting_weight r z
+  pub weight-range : (r : Rules) (a b c z : ℤ) → let l = weight_line kind barring a b c z in (bars l || in_starting r l.amount) ≡ starting_weight r z
   weight-range r a b c z = go (is_barred z)
     where
       go : (t : Bool) → let l = if t then line barring a b c (pos 0) else line kind a b c z in (bars l || in_starting r l.amount) ≡ (t || in_starting r z)

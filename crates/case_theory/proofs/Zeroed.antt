@@ -8,7 +8,7 @@ use native.Mathlib.Omega.{arith}
 use lib.IntN.{ℤ, pos}
 use lib.Dec.{T, ltb, ltb→lt, nltb→le}
 use lib.ListN.{length, get_or, set, drop, replicate, length-replicate, length-drop, get_or-eq_default}
-use lib.Seq.{take_all, get_or-drop}
+use lib.Seq.{take_all, get_or-drop, ext_get_or}
 use Rattle.integers.specs.Words.{eq_z}
 use Rattle.integers.specs.Tests.{either}
 use Rattle.integers.specs.Linear.{T-eq}
@@ -65,6 +65,10 @@ module _ (p : ℕ) (w : List ℤ) where
   pub zeros_by : ((i : ℕ) → p ≤ i → get_or w i (pos 0) ≡ pos 0) → T (zeros_from p w)
   zeros_by f = (all_get_d (λ z. eq_z z (pos 0)) (drop p w) (pos 0)).1 (λ i h.
       (T-eq (get_or (drop p w) i (pos 0)) (pos 0)).1 (get_or-drop p w i (pos 0) ∙ f (p + i) (omega arith)))
+
+pub zeroed-self : (p : ℕ) (w : List ℤ) → T (zeros_from p w) → zeroed_from p w ≡ w
+zeroed-self p w t = ext_get_or (pos 0) (zeroed_from p w) w (zeroed-length p w) (λ i h. ⊎_elim (λ u. zeroed-before p w i (ltb→lt i p u))
+    (λ u. let o = nltb→le i p u in zeroed-past p w i o ∙ sym (zeros-at p w t i o)) (either (ltb i p)))
 
 pub zeroed-zeros : (p : ℕ) (w : List ℤ) → T (zeros_from p (zeroed_from p w))
 zeroed-zeros p w = zeros_by p (zeroed_from p w) (zeroed-past p w)

@@ -7,3 +7,5 @@ pub mod SoundLogs
 pub mod Waiting
 pub mod WaitingDues
 pub mod WaitingTests
+pub mod WaitingReads
+pub mod WaitingSteps

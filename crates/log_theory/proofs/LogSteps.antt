@@ -154,7 +154,7 @@ pub data LogStepped (r : Rules) (s : LogState) (bytes : List ℕ) : LogState →
   join-ends : (j : Joining) (due : CaseDue) (t : Line) → s.joining ≡ some j → j.dues ≡ due ∷ [] → first_refusal (join_line_tests r j.reading due t) ≡ none
       → LogStepped r s bytes (new_stretch s.stretch (grown_by s.stretch.case s.stretch.weights (took j.reading due (some t))))
 
-room : (m n edges : ℕ) (z : ℤ) → T (not (lt_z (pos edges) (pos m +ℤ z))) → T (not (outside n z)) → m + nat_abs z ≤ edges
+pub room : (m n edges : ℕ) (z : ℤ) → T (not (lt_z (pos edges) (pos m +ℤ z))) → T (not (outside n z)) → m + nat_abs z ≤ edges
 room m n edges (pos x) t u = t ▸ simp flat (omega zs)
 room m n edges (negsuc x) t u = absurd u
 

@@ -106,7 +106,7 @@ module _ (c : Case) where
         if is_new c y then weight (small_case c p) (waiting_weights c w₀) (new_scope c y) k l else weight c w₀ (scope_ungrown c y) k l
 
     module _ (w₀ : List ℤ) where
-      old-weight : {x k l : ℕ} → IsTuple c x k l → weight (grown_case c p) (waiting_table w₀) (grown_scope c x) k l ≡ weight c w₀ x k l
+      pub old-weight : {x k l : ℕ} → IsTuple c x k l → weight (grown_case c p) (waiting_table w₀) (grown_scope c x) k l ≡ weight c w₀ x k l
       old-weight {x} i = let (a, b) = old-scope c x i.scope in full-weight (grown_case c p) (weight_then w₀) w₀ (old-tuple i) ∙ rw (a, b)
 
       pub new-weight : {y k l : ℕ} → IsTuple (small_case c p) y k l
@@ -115,11 +115,11 @@ module _ (c : Case) where
           full-weight (grown_case c p) (weight_then w₀) w₀ (new-tuple i)
           ∙ rw (a, b) (get_or-drop (own_length c) w₀ (place (small_case c p) y k l) (pos 0))
 
-      waiting-past : (i : ℕ) → own_length (grown_case c p) ≤ i → get_or (waiting_table w₀) i (pos 0) ≡ pos 0
+      pub waiting-past : (i : ℕ) → own_length (grown_case c p) ≤ i → get_or (waiting_table w₀) i (pos 0) ≡ pos 0
       waiting-past = zeros-at (own_length (grown_case c p)) (waiting_table w₀) (full-past (grown_case c p) (weight_then w₀) w₀)
 
       module _ (fits : own_length (grown_case c p) ≤ length w₀) where
-        waiting-long : length (waiting_table w₀) ≡ length w₀
+        pub waiting-long : length (waiting_table w₀) ≡ length w₀
         waiting-long = full-long (grown_case c p) (weight_then w₀) w₀ fits
 
         waiting-is : (u : List ℤ) → length u ≡ length w₀
@@ -232,7 +232,7 @@ module _ (c : Case) (p : ℕ) where
 
 module _ (c : Case) (w₀ : List ℤ) (p : ℕ) (long : length w₀ ≡ lent_length (rules_of c) c) (most : c.n < (rules_of c).variables)
     (room : c.m + p ≤ (rules_of c).edges) where
-  fits : own_length (grown_case c p) ≤ length w₀
+  pub fits : own_length (grown_case c p) ≤ length w₀
   fits = omega (arith, own-lent (rules_of c) (grown_case c p) (omega arith) room)
 
   -- a line of the join is read, and its weight or its lower end kept

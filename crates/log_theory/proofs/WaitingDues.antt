@@ -117,6 +117,75 @@ module _ (c : Case) (p : ℕ) where
       let z : suc (c.d - 1) * c.d ≡ c.d * c.d = ap (λ (k : ℕ). k * c.d) (omega arith) in
       omega (arith, mul-le-mul_right {m = suc e} {n = f} (suc (c.d * c.d)) (omega arith))
 
+  -- the same the other way: what stands before a line x is read
+  pub ends-before : (e : ℕ) (x : CaseDue) → IsDue 1 c.d p x → rank 1 c.d p (edge-ends e) < rank 1 c.d p x → e < ends_read x
+  ends-before e (variable-weight i k) (u, v) h = absurd (omega (arith, no_rows i c.d u))
+  ends-before e (edge-ends f) u h = ⊎_elim (λ t. ltb→lt e f t)
+      (λ t. absurd (omega (arith, mul-le-mul_right {m = f} {n = e} (suc (c.d * c.d)) (nltb→le e f t)))) (either (ltb e f))
+  ends-before e (edge-weight f a b) (u, v, g) h = ⊎_elim (λ t. ltb→lt e (suc f) t)
+      (λ t. absurd (omega (
+        arith,
+        mul-le-mul_right {m = suc f} {n = e} (suc (c.d * c.d)) (nltb→le e (suc f) t),
+        mul-le-mul_right {m = suc a} {n = c.d} c.d v,
+      ))) (either (ltb e (suc f)))
+
+  pub variable-before : (i k : ℕ) → i < 1 → k < c.d → (x : CaseDue) → IsDue 1 c.d p x → rank 1 c.d p (variable-weight i k) < rank 1 c.d p x
+      → weights_read c p (variable-weight i k) < weights_read c p x
+  variable-before i k a b (variable-weight j l) (u, v) h =
+      omega (arith, rank-read (variable-weight i k) (a, b), rank-read (variable-weight j l) (u, v))
+  variable-before i k a b (edge-ends f) u h =
+      omega (arith, no_rows i c.d a, place-variable (small_case c p) i k 0 a, place-edge (small_case c p) f 0 0)
+  variable-before i k a b (edge-weight f j l) u h =
+      omega (arith, no_rows i c.d a, place-variable (small_case c p) i k 0 a, place-edge (small_case c p) f j l)
+
+  pub edge-before : (e k l : ℕ) → k < c.d → l < c.d → (x : CaseDue) → IsDue 1 c.d p x → rank 1 c.d p (edge-weight e k l) < rank 1 c.d p x
+      → weights_read c p (edge-weight e k l) < weights_read c p x
+  edge-before e k l b g x u h = go x u h (ends-before e x u (omega arith))
+    where
+      lower-edge : (f : ℕ) → e < f → weights_read c p (edge-weight e k l) < weights_read c p (edge-ends f)
+      lower-edge f o = omega (
+        arith,
+        place-edge (small_case c p) e k l,
+        place-edge (small_case c p) f 0 0,
+        mul-le-mul_right {m = suc e} {n = f} (c.d * c.d) o,
+        mul-le-mul_right {m = suc k} {n = c.d} c.d b,
+      )
+
+      go : (x : CaseDue) → IsDue 1 c.d p x → rank 1 c.d p (edge-weight e k l) < rank 1 c.d p x → e < ends_read x
+          → weights_read c p (edge-weight e k l) < weights_read c p x
+      go (variable-weight i a) u h o = absurd (omega arith)
+      go (edge-ends f) u h o = lower-edge f o
+      go (edge-weight f i j) u h o = ⊎_elim
+          (λ t. omega (arith, lower-edge f (ltb→lt e f t), place-edge (small_case c p) f 0 0, place-edge (small_case c p) f i j))
+          (λ t.
+          let s : e ≡ f = omega (arith, nltb→le e f t) in
+          omega (
+            arith,
+            place-edge (small_case c p) e k l,
+            place-edge (small_case c p) f i j,
+            ap (λ (e : ℕ). e * (c.d * c.d)) s,
+            ap (λ (e : ℕ). e * suc (c.d * c.d)) s,
+          )) (either (ltb e f))
+
+  pub variable-read : (i k : ℕ) → i < 1 → k + 1 ≡ c.d → (x : CaseDue) → IsDue 1 c.d p x → rank 1 c.d p (variable-weight i k) < rank 1 c.d p x
+      → i < scopes_read x
+  variable-read i k a b (variable-weight j l) (u, v) h = absurd (omega (arith, no_rows i c.d a, no_rows j c.d u))
+  variable-read i k a b (edge-ends f) u h = omega arith
+  variable-read i k a b (edge-weight f j l) u h = omega arith
+
+  pub edge-read : (e k l : ℕ) → k + 1 ≡ c.d → l + 1 ≡ c.d → (x : CaseDue) → IsDue 1 c.d p x
+      → rank 1 c.d p (edge-weight e k l) < rank 1 c.d p x → 1 + e < scopes_read x
+  edge-read e k l a b x u h = go x u h (ends-before e x u (omega arith))
+    where
+      go : (x : CaseDue) → IsDue 1 c.d p x → rank 1 c.d p (edge-weight e k l) < rank 1 c.d p x → e < ends_read x → 1 + e < scopes_read x
+      go (variable-weight i j) u h o = absurd (omega arith)
+      go (edge-ends f) u h o = omega arith
+      go (edge-weight f i j) (u, v, g) h o = ⊎_elim (λ t. omega (arith, ltb→lt e f t))
+          (λ t.
+          let s : e ≡ f = omega (arith, nltb→le e f t) in
+          absurd (omega (arith, ap (λ (e : ℕ). e * suc (c.d * c.d)) s, mul-le-mul_right {m = i} {n = k} c.d (omega arith))))
+          (either (ltb e f))
+
   -- ---- one line after another
 
   at-line : (due : Awaited) → IsDue 1 c.d p (due_awaited due) → AtLine (join_sizes c p) (rank 1 c.d p (due_awaited due)) due
