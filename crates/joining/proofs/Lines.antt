@@ -232,12 +232,6 @@ module _ (c : Case) (w₀ : List ℤ) (p e : ℕ) (lower : List ℕ) (t : Line) 
       ap (λ (n : ℕ). first_refusal (OutOfRange when (not (names (c.m + e) t.a) || outside (c.n + 1) t.b || not (names n t.c))
       ∷ EndsNotAscending when (not (lt_z t.b t.c)) ∷ EdgeRepeated when repeats ∷ [])) n
 
-  pub ends-out : out ≡ true → some OutOfRange ≡ first_refusal (rest_tests c w₀ p (edge-ends e) lower t)
-  ends-out h = sym (rw h) ∙ ends-shape
-
-  pub ends-level : out ≡ false → lt_z t.b t.c ≡ false → some EndsNotAscending ≡ first_refusal (rest_tests c w₀ p (edge-ends e) lower t)
-  ends-level h g = sym (rw (h, g)) ∙ ends-shape
-
   upper-named : out ≡ false → nat_abs t.c ≡ c.n
   upper-named h = let (a, b) = simp (tests, T-eq) at h in ap nat_abs b
 

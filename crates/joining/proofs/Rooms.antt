@@ -1,19 +1,15 @@
--- The room for a join and its places: what a test that passed says, and sums. Assumes nothing.
+-- The room for a join and its places: what a test that passed says, and products. Assumes nothing.
 use mathlib.Core.Path.{◌≡◌, refl, sym, ap, ◌∙◌}
 use mathlib.Core.Bool.{Bool, true, false, not, ◌&&◌, true≢false}
-use mathlib.Core.Logic.{⊎_elim}
-use Prim.Native.Nat.{ℕ, ◌+◌, ◌*◌, ◌-◌, ◌≤◌, ◌<◌}
-use native.Mathlib.Nat.{mul-le-mul, mul-le-mul_right}
+use Prim.Native.Nat.{ℕ, ◌+◌, ◌*◌, ◌≤◌, ◌<◌}
+use native.Mathlib.Nat.{mul-le-mul}
 use native.Mathlib.Omega.{arith}
-use lib.IntN.{ℤ, pos, negsuc, nat_abs, ◌+ℤ◌, ◌-ℤ◌}
-use lib.Dec.{leb, ltb, eqb}
-use lib.Signed.{lt_z, le_z}
+use lib.IntN.{ℤ}
 use lib.ListN.{length, take, drop, length-drop}
 use lib.Seq.{drop-drop}
 use mathlib.Core.List.{List}
 use Rattle.integers.specs.Words.{all}
-use Rattle.integers.specs.Tests.{tests, same_test, is_true, is_false, either}
-use Rattle.integers.specs.Linear.{◌▸◌, flat, zs}
+use Rattle.integers.specs.Tests.{tests}
 use Rattle.definitions.specs.declared.Case.{Case}
 use Rattle.definitions.specs.Rules.{rules_of, coherent, edge_places}
 use Rattle.definitions.specs.Case.{place, own_length, is_barred, wholly_barred}
@@ -29,29 +25,11 @@ use Rattle.log_theory.proofs.WaitingDues.{weights-few}
 use Rattle.case_lines.specs.declared.Awaited.{Awaited}
 use Rattle.case_lines.specs.declared.Awaited.TheVariants.{VariableWeight, EdgeEnds, EdgeWeight}
 use Rattle.case_lines.specs.Dues.{due_awaited, InCase}
-use Rattle.case_lines.proofs.Dues.{in_rows, in-squares}
 use Rattle.tables.specs.Scopes.{Limited, is_sized, size_of}
 use Rattle.tables.proofs.Order.{sized, limited}
-use Rattle.tables.proofs.Parts.{size-variable, size-edge, part-own, part-barred}
+use Rattle.tables.proofs.Parts.{part-own, part-barred}
 use Rattle.joining.specs.Joining.{has_place}
 use Rattle.joining.specs.Steps.{small_sizes, Placed}
-
--- ---- sums with a signed number
-
-module _ (most m : ℕ) (e : ℤ) where
-  pub exceeds-few : m ≤ most → lt_z (pos (most - m)) e ≡ lt_z (pos most) (pos m +ℤ e)
-  exceeds-few h = same_test _ _ (λ t. t ▸ simp flat (omega zs)) (λ t. t ▸ simp flat (omega zs))
-
-  pub exceeds-more : most < m → le_z (pos 0) e ≡ true → true ≡ lt_z (pos most) (pos m +ℤ e)
-  exceeds-more h g = sym (is_true (lt_z (pos most) (pos m +ℤ e)) (g ▸ simp flat (omega zs)))
-
-pub exceeds-less : (most m : ℕ) (e : ℤ) → most < m → lt_z e (pos 0) ≡ true → ltb (nat_abs e) (m - most) ≡ lt_z (pos most) (pos m +ℤ e)
-exceeds-less most m (pos n) h g = absurd (omega zs)
-exceeds-less most m (negsuc n) h g = same_test _ _ (λ t. t ▸ simp flat (omega zs)) (λ t. t ▸ simp flat (omega zs))
-
-pub minus-next : (z : ℤ) → lt_z z (pos 0) ≡ true → pos 0 -ℤ (z +ℤ pos 1) ≡ pos (nat_abs z - 1)
-minus-next (pos n) h = absurd (omega zs)
-minus-next (negsuc n) h = simp flat (omega zs)
 
 -- ---- what is due
 
@@ -66,33 +44,11 @@ module _ (c : Case) (p : ℕ) where
   is-due (EdgeEnds f) h = h
   is-due (EdgeWeight f k l) h = h
 
-twice-not : (b : Bool) → b ≡ not (not b)
-twice-not true = refl
-twice-not false = refl
-
-module _ (c : Case) (p : ℕ) (due : Awaited) where
-  pub joins-value : (i k : ℕ) → due ≡ VariableWeight i k → (eqb i 0 && ltb k c.d) ≡ not (not_in_join c p (due_awaited due))
-  joins-value i k e = twice-not (eqb i 0 && ltb k c.d) ∙ ap (λ (due : Awaited). not (not_in_join c p (due_awaited due))) (sym e)
-
-  pub joins-ends : (f : ℕ) → due ≡ EdgeEnds f → ltb f p ≡ not (not_in_join c p (due_awaited due))
-  joins-ends f e = twice-not (ltb f p) ∙ ap (λ (due : Awaited). not (not_in_join c p (due_awaited due))) (sym e)
-
-  pub joins-tuple : (f k l : ℕ) → due ≡ EdgeWeight f k l → (ltb f p && ltb k c.d && ltb l c.d) ≡ not (not_in_join c p (due_awaited due))
-  joins-tuple f k l e = twice-not (ltb f p && ltb k c.d && ltb l c.d) ∙ ap (λ (due : Awaited). not (not_in_join c p (due_awaited due))) (sym e)
-
 -- ---- room
 
 module _ (c : Case) (p : ℕ) where
   abbrev grown : Bool
   grown = within_limits (rules_of c) (c.n + 1) c.d (c.m + p)
-
-  pub grows-not : (rules_of c).variables ≤ c.n → false ≡ grown
-  grows-not h = sym (is_false grown (⊎_elim (λ t. let (((a, b), d), e) = simp tests at t in absurd (omega arith)) (λ t. t) (either grown)))
-
-  pub grows-by : Limited c → c.n < (rules_of c).variables → leb p ((rules_of c).edges - c.m) ≡ grown
-  grows-by l h = same_test _ _
-      (λ t. let k = simp tests at t in simp tests (((omega arith, omega arith), (l.some-value, l.values)), (omega arith, omega (arith, l.edges))))
-      (λ t. let ((a, b), d) = simp tests at t in simp tests (omega (arith, l.edges, d.1)))
 
   pub grown-known : (within_limits (rules_of c) c.n c.d c.m && grown) ≡ true → Limited c × (c.n < (rules_of c).variables) × (c.m + p ≤ (rules_of c).edges)
   grown-known e =
@@ -159,36 +115,10 @@ module _ (d p : ℕ) (few : d ≤ 8) (some : p ≤ edge_places) where
   pub squares-small : p * (d * d) ≤ edge_places * 64
   squares-small = mul-le-mul some square-small
 
-  pub value-small : (i k : ℕ) → i < 1 → k < d → i * d + k < d
-  value-small i k h g = omega (arith, in_rows i 1 k d h g)
-
-  pub edge-small : (e : ℕ) → e < p → e * (d * d) ≤ edge_places * 64
-  edge-small e h = omega (arith, squares-small, mul-le-mul_right {m = e} {n = p} (d * d) (omega arith))
-
-  pub tuple-small : (e k l : ℕ) → e < p → k < d → l < d → (k * d + l < d * d) × (e * (d * d) + (k * d + l) < edge_places * 64)
-  tuple-small e k l h g f = let (a, b) = in-squares e p k l d h g f in (a, omega (arith, squares-small))
-
 module _ (c : Case) (p : ℕ) where
   pub read-value : (due : Awaited) (i k : ℕ) → due ≡ VariableWeight i k → i < 1 → i * c.d + k ≡ weights_read c p (due_awaited due)
   read-value due i k e h = sym (ap (λ (due : Awaited). weights_read c p (due_awaited due)) e ∙ place-variable (small_case c p) i k 0 h)
 
-  pub read-ends : (due : Awaited) (f : ℕ) → due ≡ EdgeEnds f → c.d + f * (c.d * c.d) ≡ weights_read c p (due_awaited due)
-  read-ends due f e = sym (ap (λ (due : Awaited). weights_read c p (due_awaited due)) e ∙ omega (arith, place-edge (small_case c p) f 0 0))
-
   pub read-tuple : (due : Awaited) (f k l : ℕ) → due ≡ EdgeWeight f k l
       → c.d + (f * (c.d * c.d) + (k * c.d + l)) ≡ weights_read c p (due_awaited due)
   read-tuple due f k l e = sym (ap (λ (due : Awaited). weights_read c p (due_awaited due)) e ∙ omega (arith, place-edge (small_case c p) f k l))
-
-  -- a scope's first place and its size
-  pub first-scope : (y : ℕ) → y ≡ 0 → (0 ≡ place (small_case c p) y 0 0) × (c.d ≡ size_of (small_case c p) y)
-  first-scope y e =
-      let h : y < 1 = omega arith in
-      let z : y * c.d ≡ 0 = ap (λ (y : ℕ). y * c.d) e ∙ omega arith in
-      (omega (arith, place-variable (small_case c p) y 0 0 h), sym (size-variable (small_case c p) y h))
-
-  pub later-scope : (y : ℕ) → (y ≡ 0 → ⊥) → (c.d + (y - 1) * (c.d * c.d) ≡ place (small_case c p) y 0 0) × (c.d * c.d ≡ size_of (small_case c p) y)
-  later-scope y f =
-      let e : 1 + (y - 1) ≡ y = omega arith in (
-        sym (ap (λ (y : ℕ). place (small_case c p) y 0 0) (sym e) ∙ omega (arith, place-edge (small_case c p) (y - 1) 0 0)),
-        sym (ap (λ (y : ℕ). size_of (small_case c p) y) (sym e) ∙ size-edge (small_case c p) (y - 1)),
-      )

@@ -7,4 +7,4 @@ pub mod Bounds
 pub mod Parts
 pub mod Answered
 pub mod Best
-pub mod Paired
+mod Paired
