@@ -1,14 +1,21 @@
 -- Numbers of bytes. Assumes nothing.
 use mathlib.Core.Path.{◌≡◌, refl, ap, ◌∙◌}
-use mathlib.Core.List.{List, [], ◌∷◌}
-use Prim.Native.Nat.{ℕ, zero, suc, ◌+◌, ◌*◌, ◌/◌, ◌%◌, ◌^◌, ◌≤◌, ◌<◌}
-use native.Mathlib.Nat.{div-add-mod', div-lt_iff_lt-mul, pow-succ'}
+use mathlib.Core.List.{List, [], ◌∷◌, ◌++◌, append-nil}
+use Prim.Native.Nat.{ℕ, zero, suc, ◌+◌, ◌*◌, ◌-◌, ◌/◌, ◌%◌, ◌^◌, ◌≤◌, ◌<◌}
+use native.Mathlib.Nat.{add-zero, div-add-mod', div-lt_iff_lt-mul, pow-succ'}
 use native.Mathlib.Omega.{arith}
-use lib.ListN.{length, take, drop, length-drop}
-use lib.Seq.{drop-drop}
+use lib.ListN.{length, take, drop, get_or, length-drop, drop_of_length-le}
+use lib.Seq.{get_or-drop, drop-drop, take-length, length-take-le}
 use Rattle.encoding.specs.Numbers.{lowest_first, value_of_bytes, number_bytes, number_at}
 
 -- ---- read
+
+value-4 : (l : List ℕ) → 4 ≤ length l → value_of_bytes (take 4 l) ≡ get_or l 0 0 + get_or l 1 0 * 256 + get_or l 2 0 * 65536 + get_or l 3 0 * 16777216
+value-4 [] h = absurd (omega arith)
+value-4 (a ∷ []) h = absurd (omega arith)
+value-4 (a ∷ b ∷ []) h = absurd (omega arith)
+value-4 (a ∷ b ∷ c ∷ []) h = absurd (omega arith)
+value-4 (a ∷ b ∷ c ∷ d ∷ l) h = omega arith
 
 value-8 : (l : List ℕ) → 4 ≤ length l → value_of_bytes (take 8 l) ≡ value_of_bytes (take 4 l) + value_of_bytes (take 4 (drop 4 l)) * 4294967296
 value-8 [] h = absurd (omega arith)
@@ -18,6 +25,11 @@ value-8 (a ∷ b ∷ c ∷ []) h = absurd (omega arith)
 value-8 (a ∷ b ∷ c ∷ d ∷ l) h = omega arith
 
 module _ (l : List ℕ) (at : ℕ) where
+  pub half_is :
+      at + 4 ≤ length l
+      → value_of_bytes (take 4 (drop at l)) ≡ get_or l at 0 + get_or l (at + 1) 0 * 256 + get_or l (at + 2) 0 * 65536 + get_or l (at + 3) 0 * 16777216
+  half_is h = value-4 (drop at l) (omega (arith, length-drop at l)) ∙ simp (get_or-drop, add-zero)
+
   pub number_is : at + 8 ≤ length l → number_at l at ≡ value_of_bytes (take 4 (drop at l)) + value_of_bytes (take 4 (drop (at + 4) l)) * 4294967296
   unfolding number_at
   number_is h = value-8 (drop at l) (omega (arith, length-drop at l)) ∙ simp drop-drop
@@ -27,6 +39,19 @@ module _ (l : List ℕ) (at : ℕ) where
 pub word-length : (x : ℕ) → length (number_bytes x) ≡ 8
 unfolding number_bytes
 word-length x = refl
+
+-- ---- parts
+
+-- a part that is copied over as many bytes
+pub copied :
+    (n at : ℕ) (l d : List ℕ)
+    → at + n ≤ length l
+    → length d ≡ n
+    → let part = take (at + n - at) (drop at l) in take (length part) part ++ drop (length part) d ≡ take n (drop at l)
+copied n at l d h e =
+    let m : at + n - at ≡ n = omega arith in
+    let k : length (take n (drop at l)) ≡ n = length-take-le n (drop at l) (omega (arith, length-drop at l)) in
+    rw (m, take-length, drop_of_length-le d {i = length (take n (drop at l))} (omega (arith, k)), append-nil)
 
 -- ---- there and back
 

@@ -6,8 +6,8 @@ use mathlib.Core.List.{List, [], ◌∷◌, ◌++◌, append-nil}
 use Prim.Native.Nat.{ℕ, ◌+◌, ◌-◌, ◌<◌, ◌≤◌}
 use native.Mathlib.Omega.{arith}
 use lib.Dec.{ltb}
-use lib.ListN.{length, take, drop, length-drop, take-append-drop, drop_of_length-le}
-use lib.Seq.{take_all}
+use lib.ListN.{length, take, drop, length-append, length-drop, take-append-drop, drop_of_length-le}
+use lib.Seq.{length-take-le, take_all}
 use borrow.Author.Tests.{lt-ltb, ltb-false}
 use Rattle.definitions.specs.declared.Line.{Line}
 use Rattle.definitions.specs.declared.Outcome.{Outcome}
@@ -16,8 +16,9 @@ use Rattle.definitions.specs.declared.Refusal.TheVariants.{WrongLength, OutOfRan
 use Rattle.definitions.specs.Rules.{Rules, Coherent}
 use Rattle.definitions.specs.Refusals.{◌when◌, first_refusal}
 use Rattle.definitions.specs.Answers.{outcome_of}
-use Rattle.definitions.specs.Lines.{line_length}
+use Rattle.definitions.specs.Lines.{line_length, line_text, line_too_wide, overwritten}
 use Rattle.calls.specs.Calls.{line_written, line_put, put_line_call}
+use Rattle.definitions.proofs.LineLaws.{line-length}
 use Rattle.log_writer.specs.declared.Put.{Put}
 use Rattle.lines.specs.AtWidth.{line_out, write_refusal_at, write_line_at}
 use Rattle.lines.proofs.AtRules.{refusal-at-rules}
@@ -92,6 +93,27 @@ module _ (w : ℕ) (out : List ℕ) (at : ℕ) (l : Line) where
       → Put-so-code (record { answer = Outcome.Done; at = at + line_length w }) last
   put-done h last e f =
       so (record { answer = Outcome.Done; at = at + line_length w }) last h f (done-by (write_refusal_at w (length out - at) l) (e ∙ ap (λ c. c.answer) rest-by))
+
+-- bytes put over others leave the length
+over-length : (out text : List ℕ) (at : ℕ) → at + length text ≤ length out → length (take at out ++ overwritten text (drop at out)) ≡ length out
+over-length out text at h = simp (length-append, length-drop) (omega (arith, length-take-le at out (omega arith)))
+
+-- a line that is put leaves the slice's length
+pub put-same-length : (r : Rules) (out : List ℕ) (at : ℕ) (l : Line) → length (put_line_call r out at l).out ≡ length out
+unfolding put_line_call
+put-same-length r out at l = go (ltb (length out - at) (line_length r.amount_width)) (line_too_wide r.amount_width l) refl refl
+  where
+    go : (a b : Bool) → ltb (length out - at) (line_length r.amount_width) ≡ a → line_too_wide r.amount_width l ≡ b
+        → length (line_put r.amount_width out at l (first_refusal (WrongLength when a ∷ OutOfRange when b ∷ []))).out ≡ length out
+    go true b e f = refl
+    go false true e f = refl
+    go false false e f =
+        over-length out (line_text r.amount_width l) at (omega (
+          arith,
+          line-length r.amount_width l f,
+          ltb-false (length out - at)
+              (line_length r.amount_width) e,
+        ))
 
 -- at the width of coherent rules the line is put as under the rules
 pub put-at-rules : (r : Rules) → Coherent r → {width : ℕ} → width ≡ r.amount_width → (out : List ℕ) (at : ℕ) (l : Line)

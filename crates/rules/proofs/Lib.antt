@@ -1,0 +1,2 @@
+-- What the leaves' proofs share.
+pub mod Books
