@@ -1,7 +1,6 @@
 -- The bytes that are prepared from a table and each scope's greatest weight: what is written, and what they say. Assumes nothing.
 use mathlib.Core.Path.{◌≡◌, refl, sym, ap, subst, ◌∙◌}
 use mathlib.Core.Bool.{Bool, true, false, not, ◌&&◌, ◌||◌, and-false}
-use mathlib.Core.Option.{none, some}
 use mathlib.Core.List.{List, [], ◌∷◌}
 use Prim.Native.Nat.{ℕ, zero, suc, ◌+◌, ◌*◌, ◌-◌, ◌≤◌, ◌<◌}
 use native.Mathlib.Omega.{arith}
@@ -10,16 +9,14 @@ use lib.IntN.{ℤ}
 use lib.Dec.{T, ltb, eqb, eqb→eq}
 use lib.ListN.{length, get_or, take, drop, length-take, length-drop}
 use lib.Seq.{get_or-take, get_or-drop}
-use Rattle.std.specs.Prelude.{if◌then◌else◌}
+use Rattle.std.specs.Prelude.{if◌then◌else◌, Result, Ok, Err, Some, None, ⊤}
 use Rattle.integers.specs.Words.{◌⇒◌}
 use Rattle.integers.specs.Tests.{tests, is_true, true-is, imp_intro, imp_elim, same_test}
 use Rattle.integers.specs.Lists.{all-at, all_of}
 use Rattle.integers.specs.Tables.{length-tab, get_d-tab}
 use Rattle.definitions.specs.declared.Case.{Case}
-use Rattle.definitions.specs.declared.Outcome.{Outcome}
 use Rattle.definitions.specs.declared.Refusal.{Refusal}
 use Rattle.definitions.specs.declared.Refusal.TheVariants.{OutOfRange}
-use Rattle.definitions.specs.declared.Verdict.{Verdict}
 use Rattle.definitions.specs.Rules.{rules_of}
 use Rattle.definitions.specs.Refusals.{Test, ◌when◌, first_refusal}
 use Rattle.definitions.specs.Answers.{outcome_of}
@@ -85,37 +82,37 @@ module _ (c : Case) (w best : List ℤ) (raised : List ℕ) (i : ℕ) where
   abbrev arguments-of : List Test
   arguments-of = OutOfRange when (not (ltb i c.n) || some_edge c (end_outside c)) ∷ []
 
-  abbrev checked : Outcome
+  abbrev checked : Result ⊤ Refusal
   checked = outcome_of (best_refusal (rules_of c) c w best raised i)
 
-  pub lengths-refused : {x : Refusal} → Outcome.Refused x ≡ outcome_of (first_refusal lengths-of) → Outcome.Refused x ≡ checked
+  pub lengths-refused : {x : Refusal} → Err x ≡ outcome_of (first_refusal lengths-of) → Err x ≡ checked
   lengths-refused e = sym (ap outcome_of (first_stops arguments-of lengths-of (outcome-refused e)))
 
-  module _ (e : Outcome.Done ≡ outcome_of (first_refusal lengths-of)) where
+  module _ (e : Ok tt ≡ outcome_of (first_refusal lengths-of)) where
     asks-on : checked ≡ outcome_of (first_refusal arguments-of)
     asks-on = ap outcome_of (first_next arguments-of lengths-of (outcome-done e))
 
-    pub arguments-refused : (not (ltb i c.n) || some_edge c (end_outside c)) ≡ true → Outcome.Refused OutOfRange ≡ checked
+    pub arguments-refused : (not (ltb i c.n) || some_edge c (end_outside c)) ≡ true → Err OutOfRange ≡ checked
     arguments-refused t = sym (asks-on ∙ ap (λ (b : Bool). outcome_of (first_refusal (OutOfRange when b ∷ []))) t)
 
-    pub arguments-taken : (not (ltb i c.n) || some_edge c (end_outside c)) ≡ false → Outcome.Done ≡ checked
+    pub arguments-taken : (not (ltb i c.n) || some_edge c (end_outside c)) ≡ false → Ok tt ≡ checked
     arguments-taken t = sym (asks-on ∙ ap (λ (b : Bool). outcome_of (first_refusal (OutOfRange when b ∷ []))) t)
 
   -- the answers, by what was asked
-  pub answer-refused : {x : Refusal} → Outcome.Refused x ≡ checked → (values : ℕ)
-      → Verdict.Refused x ≡ values_unsupported_answer (rules_of c) c w best raised i values
+  pub answer-refused : {x : Refusal} → Err x ≡ checked → (values : ℕ)
+      → Err x ≡ values_unsupported_answer (rules_of c) c w best raised i values
   unfolding values_unsupported_answer
-  answer-refused {x} e values = let d : best_refusal (rules_of c) c w best raised i ≡ some x = outcome-refused e in rw d
+  answer-refused {x} e values = let d : best_refusal (rules_of c) c w best raised i ≡ Some x = outcome-refused e in rw d
 
-  module _ (e : Outcome.Done ≡ checked) where
-    pub answer-given : (values : ℕ) → (if are_unsupported c w best raised i values then Verdict.Yes else Verdict.No) ≡ values_unsupported_answer (rules_of c) c w
+  module _ (e : Ok tt ≡ checked) where
+    pub answer-given : (values : ℕ) → (if are_unsupported c w best raised i values then Ok true else Ok false) ≡ values_unsupported_answer (rules_of c) c w
         best raised i values
     unfolding values_unsupported_answer
-    answer-given values = let d : best_refusal (rules_of c) c w best raised i ≡ none = outcome-done e in rw d
+    answer-given values = let d : best_refusal (rules_of c) c w best raised i ≡ None = outcome-done e in rw d
 
     pub best-arguments-known : Sized c w × ((scope_count c ≤ length best) × (scope_count c ≤ length raised)) × (i < c.n)
     best-arguments-known =
-        let d : best_refusal (rules_of c) c w best raised i ≡ none = outcome-done e in
+        let d : best_refusal (rules_of c) c w best raised i ≡ None = outcome-done e in
         let p = simp tests at ((none-applies (limit_test (rules_of c) c ∷ length_test (rules_of c) c w (too_few c best raised) ∷ arguments-of)).0 (rw d tt)) in (
           record {
             limits = limited-by c p.0.0.0.0 p.0.0.0.1 p.0.0.1.0 p.0.0.1.1 p.0.1.1;
@@ -136,7 +133,7 @@ module _ (c : Case) (w : List ℤ) (h : Handed (rules_of c) (working_weight (rul
   ends : some_edge c (end_outside c) ≡ false
   ends = simp (tests, none_below) (ends-below h.shape)
 
-  taken : (i : ℕ) → i < c.n → Outcome.Done ≡ checked c w best raised i
+  taken : (i : ℕ) → i < c.n → Ok tt ≡ checked c w best raised i
   taken i g = arguments-taken c w best raised i (lengths-taken c w (too_few c best raised) (limits-true h) h.long enough) (rw (lt-ltb i c.n g, ends))
 
   module _ (R : ℕ → Bool) (same : (x : ℕ) → x < scope_count c → is_raised raised x ≡ R x) where
@@ -174,17 +171,17 @@ module _ (c : Case) (w : List ℤ) (h : Handed (rules_of c) (working_weight (rul
 
     -- the values of a set below D
     pub values-unsupported-is-refuted : (i : ℕ) → i < c.n → (values : ℕ) (set : ℕ → Bool) → ((k : ℕ) → k < 8 → mark values k ≡ (ltb k c.d && set k))
-        → values_unsupported_answer (rules_of c) c w best raised i values ≡ (if all_refuted c w R i set then Verdict.Yes else Verdict.No)
+        → values_unsupported_answer (rules_of c) c w best raised i values ≡ (if all_refuted c w R i set then Ok true else Ok false)
     values-unsupported-is-refuted i g values set is =
         sym (answer-given c w best raised i (taken i g) values)
-        ∙ ap (λ (x : Bool). if x then Verdict.Yes else Verdict.No) (unsupported-refuted i g values set is)
+        ∙ ap (λ (x : Bool). if x then Ok true else Ok false) (unsupported-refuted i g values set is)
 
     -- one value
     pub value-unsupported-is-refuted : (i k : ℕ) → i < c.n → k < c.d
-        → values_unsupported_answer (rules_of c) c w best raised i (only_of k) ≡ (if refuted c w R i k then Verdict.Yes else Verdict.No)
+        → values_unsupported_answer (rules_of c) c w best raised i (only_of k) ≡ (if refuted c w R i k then Ok true else Ok false)
     value-unsupported-is-refuted i k g l =
         values-unsupported-is-refuted i g (only_of k) (λ v. eqb v k) (λ v u. mark-byte_of (λ v. eqb v k) v u ∙ in-range v (eqb v k) refl)
-        ∙ ap (λ (x : Bool). if x then Verdict.Yes else Verdict.No) (same_test (all_refuted c w R i (λ v. eqb v k)) (refuted c w R i k)
+        ∙ ap (λ (x : Bool). if x then Ok true else Ok false) (same_test (all_refuted c w R i (λ v. eqb v k)) (refuted c w R i k)
         (λ t. imp_elim (eqb k k) (refuted c w R i k) (all-at (λ v. eqb v k ⇒ refuted c w R i v) c.d t k l) (true-is (eqb k k) (eq-eqb k k refl)))
         (λ t.
         all_of (λ v. eqb v k ⇒ refuted c w R i v) c.d
@@ -196,7 +193,7 @@ module _ (c : Case) (w : List ℤ) (h : Handed (rules_of c) (working_weight (rul
 
   -- the active values, with the scopes raised whose byte is not 0
   pub best-unsupported-is-refuted : (i : ℕ) → i < c.n → best_unsupported_answer (rules_of c) c w best raised
-      i ≡ (if all_refuted c w (is_raised raised) i (active_values c w i) then Verdict.Yes else Verdict.No)
+      i ≡ (if all_refuted c w (is_raised raised) i (active_values c w i) then Ok true else Ok false)
   best-unsupported-is-refuted i g =
       values-unsupported-is-refuted (is_raised raised) (λ x u. refl) i g (set_where c (has_best c w best) i) (active_values c w i) (λ k l.
       ap (λ (s : ℕ). mark s k) (set-active b i g) ∙ mark-byte_of (λ v. ltb v c.d && active c w i v 0) k l)

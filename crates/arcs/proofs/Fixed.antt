@@ -24,7 +24,7 @@ use Rattle.networks.specs.Network.{Network, largest, network_of, fixed_sets}
 use Rattle.theory.proofs.Words.{none_below}
 use Rattle.theory.proofs.Shape.{Shape, lower-below}
 use Rattle.theory.proofs.Validity.{Handed}
-use Rattle.networks.proofs.Networks.{None, Alike, to-fewer, to-more, case-ends, refuted-none, none_tried, some-tried, largest-in, in-largest}
+use Rattle.networks.proofs.Networks.{NoFamily, Alike, to-fewer, to-more, case-ends, refuted-none, none_tried, some-tried, largest-in, in-largest}
 use Rattle.networks.proofs.Families.{family-is-largest}
 use Rattle.tables.proofs.Answered.{limits-known}
 use Rattle.marks.specs.Marks.{mark, byte_of, full_of, only_of, in_both}
@@ -149,7 +149,7 @@ module _ (c : Case) (w : List ℤ) (h : Handed (rules_of c) (working_weight (rul
   only-values : (j v : ℕ) → j < c.n → v < 8 → T (sets_of S j v) → v < c.d
   only-values j v g l t = fixed-in-by c w few-values R i k j v l (eqb j i) (rw (sets-are j g) at t)
 
-  pub refuted-bytes : i < c.n → T (refuted c w R i k) ↔ None M (sets_of S)
+  pub refuted-bytes : i < c.n → T (refuted c w R i k) ↔ NoFamily M (sets_of S)
   refuted-bytes g =
       let (to, back) = refuted-none c w R i k g h.shape in
       let ends = case-ends c w R h.shape in (

@@ -14,7 +14,7 @@ use Rattle.integers.specs.Tests.{either, is_true, is_false, true-is, same_test, 
 use Rattle.integers.specs.Lists.{any-in, all_of, all_same}
 use Rattle.definitions.specs.Consistency.{Family, marks}
 use Rattle.networks.specs.Network.{Network, SupportedIn, supported_in, families_of}
-use Rattle.networks.proofs.Networks.{Ends, Within, None, supported_in-iff, sets-inside-more, some-tried, none_tried}
+use Rattle.networks.proofs.Networks.{Ends, Within, NoFamily, supported_in-iff, sets-inside-more, some-tried, none_tried}
 use Rattle.marks.specs.Marks.{mark, only_of, in_both}
 use Rattle.marks.proofs.Laws.{mark-byte_of, mark-zero}
 use Rattle.arcs.specs.Closure.{network_of_bytes, sets_of, some_family}
@@ -76,13 +76,13 @@ module _ (lower upper rows raised S : List ℕ) (i : ℕ) (g : i < length S) (va
       (and_right (sets_of S j v) (eqb j i ⇒ mark (only_of k) v) s) e) in
       subst (λ (x : ℕ). T (mark values x)) (sym (eqb→eq v k q)) t)))) p
 
-  pub near-empty : in_both (get_or S i 0) values ≡ 0 → None N (sets_of (near S i values))
+  pub near-empty : in_both (get_or S i 0) values ≡ 0 → NoFamily N (sets_of (near S i values))
   near-empty z F p =
       let (v, l, s) = p.non-empty i g in
       subst (λ (x : ℕ). T (mark x v) → ⊥) (sym (get_or-set_same S i (in_both (get_or S i 0) values) 0 g ∙ z)) (λ t. rw (mark-zero v) at t) (p.inside i v g l s)
 
   -- none is left: all are refuted
-  pub near_none : None N (sets_of (near S i values)) → true ≡ none_has (has_family N S i) values
+  pub near_none : NoFamily N (sets_of (near S i values)) → true ≡ none_has (has_family N S i) values
   unfolding none_has
   near_none none = sym (is_true _ (all_of (λ k. mark values k ⇒ not (has_family N S i k)) 8 (λ k h. imp_intro (mark values k) (not (has_family N S i k)) (λ t.
       true-is _ (ap not (none_tried N (sets_of (alone S k)) (λ F p. none F (alone-near k t F p))))))))

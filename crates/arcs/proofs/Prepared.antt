@@ -1,8 +1,8 @@
 -- What is asked of limits and lengths, and the marks that are written of a table and a number for each scope: where these are the greatest
 -- weights, they are the active ones. Assumes nothing.
+use Rattle.std.specs.Prelude.{Result, Ok, Err, Some, None, ⊤}
 use mathlib.Core.Path.{◌≡◌, ap, ◌∙◌}
 use mathlib.Core.Bool.{Bool, true, false, not}
-use mathlib.Core.Option.{none, some}
 use mathlib.Core.List.{List, [], ◌∷◌}
 use Prim.Native.Nat.{ℕ, ◌+◌, ◌*◌, ◌≤◌, ◌<◌}
 use native.Mathlib.Omega.{arith}
@@ -12,7 +12,6 @@ use lib.Dec.{T}
 use lib.ListN.{length, get_or, drop, length-append, length-drop, get_or-append}
 use Rattle.integers.specs.Tests.{tests}
 use Rattle.definitions.specs.declared.Case.{Case}
-use Rattle.definitions.specs.declared.Outcome.{Outcome}
 use Rattle.definitions.specs.declared.Refusal.{Refusal}
 use Rattle.definitions.specs.declared.Refusal.TheVariants.{OutsideLimits, WrongLength}
 use Rattle.definitions.specs.Rules.{rules_of}
@@ -31,26 +30,26 @@ use Rattle.arcs.proofs.Marked.{sets-length, sets-at, rows-length, rows_at}
 -- ---- limits and lengths
 
 module _ (c : Case) (w : List ℤ) (wrong : Bool) where
-  abbrev lengths : Outcome
+  abbrev lengths : Result ⊤ Refusal
   lengths = outcome_of (length_refusal (rules_of c) c w wrong)
 
-  pub limits-refused : within_limits (rules_of c) c.n c.d c.m ≡ false → Outcome.Refused OutsideLimits ≡ lengths
+  pub limits-refused : within_limits (rules_of c) c.n c.d c.m ≡ false → Err OutsideLimits ≡ lengths
   limits-refused e = rw e
 
   module _ (e : within_limits (rules_of c) c.n c.d c.m ≡ true) where
-    pub table-refused : is_sized (rules_of c) c (length w) ≡ false → Outcome.Refused WrongLength ≡ lengths
+    pub table-refused : is_sized (rules_of c) c (length w) ≡ false → Err WrongLength ≡ lengths
     table-refused z = let n = rw e at z in rw (e, n)
 
     module _ (long : length w ≡ lent_length (rules_of c) c) where
-      pub others-refused : wrong ≡ true → Outcome.Refused WrongLength ≡ lengths
+      pub others-refused : wrong ≡ true → Err WrongLength ≡ lengths
       others-refused t = rw (e, eq-eqb (length w) (lent_length (rules_of c) c) long, t)
 
-      pub lengths-taken : wrong ≡ false → Outcome.Done ≡ lengths
+      pub lengths-taken : wrong ≡ false → Ok tt ≡ lengths
       lengths-taken t = rw (e, eq-eqb (length w) (lent_length (rules_of c) c) long, t)
 
-  pub lengths-known : Outcome.Done ≡ lengths → Sized c w × T (not wrong)
+  pub lengths-known : Ok tt ≡ lengths → Sized c w × T (not wrong)
   lengths-known e =
-      let d : length_refusal (rules_of c) c w wrong ≡ none = outcome-done e in
+      let d : length_refusal (rules_of c) c w wrong ≡ None = outcome-done e in
       let p = simp tests at ((none-applies (limit_test (rules_of c) c ∷ length_test (rules_of c) c w wrong ∷ [])).0 (rw d tt)) in (
         record {
           limits = limited-by c p.0.0.0.0 p.0.0.0.1 p.0.0.1.0 p.0.0.1.1 p.0.1.1;
@@ -62,18 +61,18 @@ module _ (c : Case) (w : List ℤ) (wrong : Bool) where
 -- ---- the marks
 
 module _ (c : Case) (w best : List ℤ) (sets rows : List ℕ) where
-  abbrev asked-of-marks : Outcome
+  abbrev asked-of-marks : Result ⊤ Refusal
   asked-of-marks = outcome_of (marks_refusal (rules_of c) c w best sets rows)
 
-  pub marks-refused : {x : Refusal} → Outcome.Refused x ≡ asked-of-marks → MarksAre (marks_call (rules_of c) c w best sets rows) (Outcome.Refused x) sets rows
+  pub marks-refused : {x : Refusal} → Err x ≡ asked-of-marks → MarksAre (marks_call (rules_of c) c w best sets rows) (Err x) sets rows
   unfolding marks_call
-  marks-refused {x} e = let r : marks_refusal (rules_of c) c w best sets rows ≡ some x = outcome-refused e in (e, rw r, rw r)
+  marks-refused {x} e = let r : marks_refusal (rules_of c) c w best sets rows ≡ Some x = outcome-refused e in (e, rw r, rw r)
 
-  module _ (e : Outcome.Done ≡ asked-of-marks) where
+  module _ (e : Ok tt ≡ asked-of-marks) where
     pub marks-done : (sets' rows' : List ℕ) → sets' ≡ overwritten (marked_sets c w best) sets → rows' ≡ overwritten (marked_rows c w best) rows
-        → MarksAre (marks_call (rules_of c) c w best sets rows) Outcome.Done sets' rows'
+        → MarksAre (marks_call (rules_of c) c w best sets rows) (Ok tt) sets' rows'
     unfolding marks_call
-    marks-done sets' rows' p q = let r : marks_refusal (rules_of c) c w best sets rows ≡ none = outcome-done e in (e, rw r p, rw r q)
+    marks-done sets' rows' p q = let r : marks_refusal (rules_of c) c w best sets rows ≡ None = outcome-done e in (e, rw r p, rw r q)
 
     pub marks-asked : Sized c w × (scope_count c ≤ length best) × (c.n ≤ length sets) × (16 * c.m ≤ length rows)
     marks-asked =
@@ -91,7 +90,7 @@ module _ {c : Case} {w best : List ℤ} (b : BestOf c w best) where
   row-active e p u = ap (λ (z : ℤ). row_where c (has_weight c w z) e p) (b.holds (c.n + e) (omega arith))
 
   module _ (h : Handed (rules_of c) (working_weight (rules_of c)) c w) (sets rows : List ℕ) (room : c.n ≤ length sets) (wide : 16 * c.m ≤ length rows) where
-    taken : marks_refusal (rules_of c) c w best sets rows ≡ none
+    taken : marks_refusal (rules_of c) c w best sets rows ≡ None
     taken = outcome-done (lengths-taken c w (too_short c best sets rows) (limits-true h) h.long
         (rw (le-ltb (length best) (scope_count c) b.enough, le-ltb (length sets) c.n room, le-ltb (length rows) (16 * c.m) wide)))
 

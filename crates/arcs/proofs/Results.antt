@@ -13,7 +13,7 @@ use Rattle.integers.specs.Tests.{tests, if-true, if-false, true-is, false-is, eq
 use Rattle.integers.specs.Tables.{length-tab, get_d-tab, any-get_d}
 use Rattle.definitions.specs.Consistency.{Family}
 use Rattle.networks.specs.Network.{Network, largest}
-use Rattle.networks.proofs.Networks.{None, Ends, some-tried, none_tried, closed-is-largest, largest-empty}
+use Rattle.networks.proofs.Networks.{NoFamily, Ends, some-tried, none_tried, closed-is-largest, largest-empty}
 use Rattle.theory.proofs.Words.{none_below}
 use Rattle.marks.specs.Marks.{mark, byte_of}
 use Rattle.marks.proofs.Laws.{byte-is, mark-zero}
@@ -69,7 +69,7 @@ module _ (lower upper rows raised S : List ℕ) where
               ∙ sym closed-sets,
         )
 
-    no-family : None N (sets_of S) → (Empty ≡ closure_answer lower upper rows raised S) × (replicate (length S) 0 ≡ closure_sets lower upper rows raised S)
+    no-family : NoFamily N (sets_of S) → (Empty ≡ closure_answer lower upper rows raised S) × (replicate (length S) 0 ≡ closure_sets lower upper rows raised S)
     no-family none = (
       sym (answer-is ∙ ap (λ (b : Bool). if b then SomeFamily else Empty) (none_tried N (sets_of S) none)),
       ext_get_or 0 (replicate (length S) 0) _ (length-replicate (length S) 0 ∙ sym (length-tab _ 0 (length S)))
@@ -90,7 +90,7 @@ module _ (lower upper rows raised S : List ℕ) where
 -- ---- an empty set among the given ones
 
 module _ (S : List ℕ) where
-  pub some-empty : any (λ s. eqb s 0) S ≡ true → (lower upper rows raised : List ℕ) → None (network_of_bytes (length S) lower upper rows raised) (sets_of S)
+  pub some-empty : any (λ s. eqb s 0) S ≡ true → (lower upper rows raised : List ℕ) → NoFamily (network_of_bytes (length S) lower upper rows raised) (sets_of S)
   some-empty e lower upper rows raised F p =
       let (j, h, t) = (any-get_d (λ s. eqb s 0) S 0).0 (true-is _ e) in
       let (v, g, s) = p.non-empty j h in

@@ -2,20 +2,18 @@
 use mathlib.Core.Path.{◌≡◌, refl, sym, ap, ◌∙◌}
 use mathlib.Core.Bool.{Bool, true, false, not, ◌&&◌, ◌||◌}
 use mathlib.Core.Logic.{◌⊎◌, inl, inr}
-use mathlib.Core.Option.{Option, none, some}
 use mathlib.Core.List.{List}
 use Prim.Native.Nat.{ℕ, ◌+◌, ◌<◌}
 use native.Mathlib.Omega.{arith}
 use borrow.Author.Tests.{lt-ltb, le-ltb, eqb-true}
 use lib.Dec.{T, T_not, ltb, eqb, eqb→eq, ltb→lt, lt→ltb}
-use Rattle.std.specs.Prelude.{if◌then◌else◌}
+use Rattle.std.specs.Prelude.{if◌then◌else◌, Option, Some, None}
 use Rattle.integers.specs.Words.{below, any, those, first, ◌⇒◌}
 use Rattle.integers.specs.Tests.{either, is_true, is_false, true-is, and_intro, and_left, and_right, not-eqb-iff, same_test}
 use Rattle.integers.specs.Lists.{any_of, those-same, first-least, first-none}
 use Rattle.marks.specs.Marks.{mark, byte_of, lowest_of, without, in_both}
 use Rattle.marks.proofs.Laws.{mark-byte_of, mark-zero, byte_of-cong, byte-is, byte_small, strike-less, lowest-small, lowest-marked, lowest-below}
 use Rattle.arcs.specs.Partners.{is_partner, has_partner, partner_of, lowest_in_both, is_nothing}
-use Rattle.arcs.specs.declared.Partner.TheVariants.{At, Nothing}
 
 pub mark-without : (s v k : ℕ) → k < 8 → mark (without s v) k ≡ (mark s k && not (eqb k v))
 mark-without s v k h = mark-byte_of (λ j. mark s j && not (eqb j v)) k h
@@ -42,7 +40,7 @@ module _ (row other l : ℕ) (no : mark other l ≡ false) where
 no-partner : (other k : ℕ) → is_partner 0 other k ≡ false
 no-partner other k = ap (λ (b : Bool). b && mark other k) (mark-zero k)
 
-pub lowest-none : (other : ℕ) → lowest_in_both 0 other ≡ Nothing
+pub lowest-none : (other : ℕ) → lowest_in_both 0 other ≡ None
 unfolding lowest_in_both
 lowest-none other = ap (λ (ls : List ℕ). partner_of (first ls)) (those-same {f = is_partner 0 other} {g = λ k. false} 8 (λ k h. no-partner other k))
 
@@ -51,14 +49,14 @@ module _ (row other : ℕ) (h : row < 256) (filled : 0 < row) (yes : mark other 
   is-partner : T (is_partner row other (lowest_of row))
   is-partner = and_intro (mark row (lowest_of row)) (mark other (lowest_of row)) (lowest-marked row h filled) (true-is (mark other (lowest_of row)) yes)
 
-  pub lowest-found : lowest_in_both row other ≡ At (lowest_of row)
+  pub lowest-found : lowest_in_both row other ≡ Some (lowest_of row)
   unfolding lowest_in_both
   lowest-found = go (first (those (is_partner row other) (below 8))) refl
     where
-      go : (o : Option ℕ) → first (those (is_partner row other) (below 8)) ≡ o → partner_of o ≡ At (lowest_of row)
-      go none e = absurd (T_not (any (is_partner row other) (below 8)) (first-none (is_partner row other) (below 8) e)
+      go : (o : Option ℕ) → first (those (is_partner row other) (below 8)) ≡ o → partner_of o ≡ Some (lowest_of row)
+      go None e = absurd (T_not (any (is_partner row other) (below 8)) (first-none (is_partner row other) (below 8) e)
           (any_of (is_partner row other) 8 (lowest-small row h filled) is-partner))
-      go (some x) e = ap At (same x (first-least (is_partner row other) 8 e))
+      go (Some x) e = ap Some (same x (first-least (is_partner row other) 8 e))
         where
           same : (x : ℕ) → (x < 8) × T (is_partner row other x) × ((y : ℕ) → y < x → T (not (is_partner row other y))) → x ≡ lowest_of row
           same x p =
@@ -77,10 +75,10 @@ pub lowest_step : (row other left l r : ℕ) (b : Bool) → lowest_in_both left 
     → lowest_in_both r other ≡ lowest_in_both row other
 lowest_step row other left l r b i q e f = rw q (lowest-less left other l (sym e ∙ f) ∙ i)
 
-pub lowest-at : (left other l : ℕ) (b : Bool) → left < 256 → (left ≡ 0 → ⊥) → l ≡ lowest_of left → b ≡ mark other l → b ≡ true → At l ≡ lowest_in_both left other
+pub lowest-at : (left other l : ℕ) (b : Bool) → left < 256 → (left ≡ 0 → ⊥) → l ≡ lowest_of left → b ≡ mark other l → b ≡ true → Some l ≡ lowest_in_both left other
 lowest-at left other l b h ne e q t =
     let filled : 0 < left = omega arith in
-    ap At e ∙ sym (lowest-found left other h filled (ap (mark other) (sym e) ∙ sym q ∙ t))
+    ap Some e ∙ sym (lowest-found left other h filled (ap (mark other) (sym e) ∙ sym q ∙ t))
 
 -- the marks in common have the same partners
 module _ (row other both : ℕ) (is : both ≡ in_both row other) where
@@ -102,15 +100,15 @@ module _ (row other both : ℕ) (is : both ≡ in_both row other) where
   unfolding lowest_in_both
   lowest-both = ap (λ (ls : List ℕ). partner_of (first ls)) (those-same 8 partner-both)
 
-  pub none-common : both ≡ 0 → Nothing ≡ lowest_in_both row other
+  pub none-common : both ≡ 0 → None ≡ lowest_in_both row other
   none-common z = sym (sym lowest-both ∙ ap (λ (s : ℕ). lowest_in_both s other) z ∙ lowest-none other)
 
-  pub least-common : (both ≡ 0 → ⊥) → (l : ℕ) → l ≡ lowest_of both → At l ≡ lowest_in_both row other
+  pub least-common : (both ≡ 0 → ⊥) → (l : ℕ) → l ≡ lowest_of both → Some l ≡ lowest_in_both row other
   least-common ne l e =
       let filled : 0 < both = omega arith in
       let small : lowest_of both < 8 = lowest-small both both_small filled in
       let marked = rw (mark-both (lowest_of both) small) at (lowest-marked both both_small filled) in
-      ap At e ∙ sym (lowest-found both other both_small filled (is_true _ (and_right (mark row (lowest_of both)) (mark other (lowest_of both)) marked)))
+      ap Some e ∙ sym (lowest-found both other both_small filled (is_true _ (and_right (mark row (lowest_of both)) (mark other (lowest_of both)) marked)))
       ∙ lowest-both
 
 -- none is found where no value is a partner
@@ -119,8 +117,8 @@ unfolding lowest_in_both
 nothing-found row other = go (first (those (is_partner row other) (below 8))) refl
   where
     go : (o : Option ℕ) → first (those (is_partner row other) (below 8)) ≡ o → is_nothing (partner_of o) ≡ not (any (is_partner row other) (below 8))
-    go none e = sym (is_true (not (any (is_partner row other) (below 8))) (first-none (is_partner row other) (below 8) e))
-    go (some x) e =
+    go None e = sym (is_true (not (any (is_partner row other) (below 8))) (first-none (is_partner row other) (below 8) e))
+    go (Some x) e =
         let p = first-least (is_partner row other) 8 e in
         sym (ap not (is_true (any (is_partner row other) (below 8)) (any_of (is_partner row other) 8 p.0 p.1)))
 

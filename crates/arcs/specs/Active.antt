@@ -1,10 +1,8 @@
 -- What is prepared once for a table: the active values of each variable and the active partners on each edge, as marks; and what is written
 -- where a number is given for each scope, on all input. Assumes nothing.
-use Rattle.std.specs.Prelude.{◌≡◌, Bool, ◌&&◌, ◌||◌, List, [], ◌∷◌, map, ℕ, ◌+◌, ◌*◌, ◌-◌, ◌≤◌, ◌<◌, ℤ, pos, ltb, length, get_or, if◌then◌else◌}
-use Rattle.std.proofs.Math.Option.{Option}
+use Rattle.std.specs.Prelude.{◌≡◌, Bool, ◌&&◌, ◌||◌, List, [], ◌∷◌, map, ℕ, ◌+◌, ◌*◌, ◌-◌, ◌≤◌, ◌<◌, ℤ, pos, ltb, length, get_or, if◌then◌else◌, Result, Option, ⊤}
 use Rattle.integers.specs.Words.{below, joined, eq_z}
 use Rattle.definitions.specs.declared.Case.{Case}
-use Rattle.definitions.specs.declared.Outcome.{Outcome}
 use Rattle.definitions.specs.declared.Refusal.{Refusal}
 use Rattle.definitions.specs.Rules.{Rules, rules_of}
 use Rattle.definitions.specs.Refusals.{first_refusal}
@@ -55,12 +53,12 @@ too_short c best sets rows = ltb (length best) (scope_count c) || (ltb (length s
 
 -- a call that writes marks
 pub record MarksCall : Type 0 where
-  pub answer : Outcome
+  pub answer : Result ⊤ Refusal
   pub sets : List ℕ
   pub rows : List ℕ
 
 -- an answer and what is left are the call's
-abbrev pub MarksAre : MarksCall → Outcome → List ℕ → List ℕ → Type 0
+abbrev pub MarksAre : MarksCall → Result ⊤ Refusal → List ℕ → List ℕ → Type 0
 MarksAre call answer sets rows = (answer ≡ call.answer) × (sets ≡ call.sets) × (rows ≡ call.rows)
 
 module _ (r : Rules) where

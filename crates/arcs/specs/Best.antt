@@ -1,12 +1,10 @@
 -- Values without a supported family, where `best` holds a number for each scope and in raised scopes the tuples of another weight are
 -- forbidden. What is prepared as bytes, and the answers on all input. Assumes nothing.
-use Rattle.std.specs.Prelude.{Bool, true, false, not, ◌||◌, List, [], ◌∷◌, map, ℕ, ◌+◌, ℤ, ltb, length, take, drop, if◌then◌else◌}
-use Rattle.std.proofs.Math.Option.{Option}
+use Rattle.std.specs.Prelude.{Bool, true, false, not, ◌||◌, List, [], ◌∷◌, map, ℕ, ◌+◌, ℤ, ltb, length, take, drop, if◌then◌else◌, Result, Option}
 use Rattle.integers.specs.Words.{below, joined}
 use Rattle.definitions.specs.declared.Case.{Case}
 use Rattle.definitions.specs.declared.Refusal.{Refusal}
 use Rattle.definitions.specs.declared.Refusal.TheVariants.{OutOfRange}
-use Rattle.definitions.specs.declared.Verdict.{Verdict}
 use Rattle.definitions.specs.Rules.{Rules}
 use Rattle.definitions.specs.Refusals.{◌when◌, first_refusal}
 use Rattle.definitions.specs.Case.{scope_count}
@@ -50,9 +48,9 @@ module _ (r : Rules) where
   best_refusal c w best raised i =
       first_refusal (limit_test r c ∷ length_test r c w (too_few c best raised) ∷ OutOfRange when (not (ltb i c.n) || some_edge c (end_outside c)) ∷ [])
 
-  unfoldable pub values_unsupported_answer : Case → List ℤ → List ℤ → List ℕ → ℕ → ℕ → Verdict
+  unfoldable pub values_unsupported_answer : Case → List ℤ → List ℤ → List ℕ → ℕ → ℕ → Result Bool Refusal
   values_unsupported_answer c w best raised i values = verdict_of (best_refusal c w best raised i) (are_unsupported c w best raised i values)
 
   -- the values whose weight is the number of the variable's own scope
-  abbrev pub best_unsupported_answer : Case → List ℤ → List ℤ → List ℕ → ℕ → Verdict
+  abbrev pub best_unsupported_answer : Case → List ℤ → List ℤ → List ℕ → ℕ → Result Bool Refusal
   best_unsupported_answer c w best raised i = values_unsupported_answer c w best raised i (set_where c (has_best c w best) i)

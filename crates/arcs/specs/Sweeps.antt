@@ -2,7 +2,7 @@
 use Rattle.std.specs.Prelude.{◌≡◌, Bool, true, false, List, [], ◌∷◌, ℕ, ◌+◌, ◌*◌, ◌≤◌, ◌<◌, T, eqb, length, get_or, if◌then◌else◌}
 use Rattle.definitions.specs.Consistency.{Family}
 use Rattle.networks.specs.Network.{Network, SupportedIn}
-use Rattle.networks.proofs.Networks.{Within, None}
+use Rattle.networks.proofs.Networks.{Within, NoFamily}
 use Rattle.arcs.specs.Partners.{supported_values}
 use Rattle.arcs.specs.Closure.{sets_of}
 use Rattle.arcs.specs.declared.Change.{Change}
@@ -77,4 +77,4 @@ module _ (N : Network) where
   -- the largest supported family inside G is left, or there is none
   abbrev pub SettledSets : Family → List ℕ → Bool → Type 0
   SettledSets G S true = SupportedIn N G (sets_of S) × ((F : Family) → SupportedIn N G F → Within N F (sets_of S))
-  SettledSets G S false = None N G
+  SettledSets G S false = NoFamily N G

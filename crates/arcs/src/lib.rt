@@ -2,7 +2,7 @@
 // table. Inner functions, for other crates: each asks only what is said at it. Document 01's refutation is `consistency::refuted`.
 #![tactic(auto)]
 
-ghost use Rattle.std.specs.Prelude.{◌≡◌, not, ◌&&◌, ◌||◌, ℕ, ◌+◌, ◌*◌, ◌≤◌, ◌<◌, T, ltb, eqb, length, get_or, set, replicate, if◌then◌else◌};
+ghost use Rattle.std.specs.Prelude.{◌≡◌, not, ◌&&◌, ◌||◌, ℕ, ◌+◌, ◌*◌, ◌≤◌, ◌<◌, T, ltb, eqb, length, get_or, set, replicate, if◌then◌else◌, Ok};
 ghost use Rattle.integers.specs.Words.{below, any, eq_z};
 ghost use Rattle.definitions.specs.Rules.{rules_of};
 ghost use Rattle.definitions.specs.Case.{scope_count};
@@ -21,13 +21,7 @@ ghost use Rattle.arcs.specs.Active.{Crossed, marked_sets, marked_rows, Written, 
 ghost use Rattle.arcs.specs.Best.{allowed_best, partners_best, best_rows, is_unsupported};
 ghost use Rattle.arcs.specs.Best.{are_unsupported, best_refusal, values_unsupported_answer, best_unsupported_answer};
 
-use definitions::{Case, EDGE_PLACES, Outcome, Refusal, VARIABLE_PLACES, Verdict};
-
-#[derive(Clone, Copy)]
-pub enum Partner {
-    At(u8),
-    Nothing,
-}
+use definitions::{Case, EDGE_PLACES, Refusal, VARIABLE_PLACES};
 
 // What is left of the given sets: a supported family, or none.
 #[derive(Clone, Copy)]
@@ -54,12 +48,12 @@ pub const NO_PARTNER: u8 = 255;
 // ---- the search for partners
 
 // The set without value k, where no partner was found.
-fn kept_with(set: u8, k: u8, found: Partner) -> u8
+fn kept_with(set: u8, k: u8, found: Option<u8>) -> u8
     ensures { result ≡ (if is_nothing found then without set k else set) }
 {
     match found {
-        Partner::At(_) => set,
-        Partner::Nothing => marks::strike(set, k),
+        Some(_) => set,
+        None => marks::strike(set, k),
     }
 }
 
@@ -77,12 +71,12 @@ fn supported(rows: &[u8], at: usize, set: u8, other: u8) -> u8
     kept
 }
 
-fn partner_byte(found: Partner) -> u8
+fn partner_byte(found: Option<u8>) -> u8
     ensures { result ≡ byte_of_partner found }
 {
     match found {
-        Partner::At(l) => l,
-        Partner::Nothing => NO_PARTNER,
+        Some(l) => l,
+        None => NO_PARTNER,
     }
 }
 
@@ -615,19 +609,19 @@ fn are_unsupported(
 }
 
 // Numbers 3 and 4, other lengths being wrong or not.
-fn check_lengths(case: Case, table: &[i64], wrong: bool) -> Outcome
+fn check_lengths(case: Case, table: &[i64], wrong: bool) -> Result<(), Refusal>
     ensures { result ≡ outcome_of (length_refusal (rules_of case) case table.now wrong) }
 {
     if !tables::within_limits(case) {
-        return Outcome::Refused(Refusal::OutsideLimits);
+        return Err(Refusal::OutsideLimits);
     }
     if !tables::is_sized(case, table.len()) {
-        return Outcome::Refused(Refusal::WrongLength);
+        return Err(Refusal::WrongLength);
     }
     if wrong {
-        return Outcome::Refused(Refusal::WrongLength);
+        return Err(Refusal::WrongLength);
     }
-    Outcome::Done
+    Ok(())
 }
 
 fn edge_outside(case: Case) -> bool
@@ -666,43 +660,43 @@ fn check_arguments(
     best: &[i64],
     raised: &[u8],
     variable: usize,
-) -> Outcome
+) -> Result<(), Refusal>
     ensures { result ≡ outcome_of (best_refusal (rules_of case) case table.now best.now raised.now variable) }
 {
     let wrong = either(too_few(case, best.len()), too_few(case, raised.len()));
     let checked = check_lengths(case, table, wrong);
     match checked {
-        Outcome::Refused(refusal) => Outcome::Refused(refusal),
-        Outcome::Done => {
+        Err(refusal) => Err(refusal),
+        Ok(()) => {
             if argument_outside(case, variable) {
-                return Outcome::Refused(Refusal::OutOfRange);
+                return Err(Refusal::OutOfRange);
             }
-            Outcome::Done
+            Ok(())
         }
     }
 }
 
-fn verdict(yes: bool) -> Verdict
-    ensures { result ≡ (if yes then Verdict.Yes else Verdict.No) }
+fn verdict(yes: bool) -> Result<bool, Refusal>
+    ensures { result ≡ (if yes then Ok true else Ok false) }
 {
     if yes {
-        return Verdict::Yes;
+        return Ok(true);
     }
-    Verdict::No
+    Ok(false)
 }
 
 // ---- the calls
 
 // The search for a partner, which the closure runs: `row` holds a value's partners, `other` is the other end's set. The lowest that it has,
 // or that there is none.
-pub fn lowest_partner(row: u8, other: u8) -> Partner
+pub fn lowest_partner(row: u8, other: u8) -> Option<u8>
     ensures { result ≡ lowest_in_both row other }
 {
     let partners = marks::common(row, other);
     if partners == 0 {
-        return Partner::Nothing;
+        return None;
     }
-    Partner::At(marks::lowest(partners))
+    Some(marks::lowest(partners))
 }
 
 // The lowest partner of each value: for each value k of `set` the lowest value of `other` in rows[k] is written to partners[k], NO_PARTNER where
@@ -724,11 +718,11 @@ pub fn lowest_partners(rows: &[u8], set: u8, other: u8, partners: &mut [u8])
         let mut rest = rows[at];
         let found = 'partners: loop {
             if rest == 0 {
-                break 'partners Partner::Nothing;
+                break 'partners None;
             }
             let l = marks::lowest(rest);
             if marks::has(other, l) {
-                break 'partners Partner::At(l);
+                break 'partners Some(l);
             }
             rest = marks::strike(rest, l);
         };
@@ -803,7 +797,7 @@ pub fn active_marks(
     best: &[i64],
     sets: &mut [u8],
     rows: &mut [u8],
-) -> Outcome
+) -> Result<(), Refusal>
     ensures { MarksAre (marks_call (rules_of case) case table.now best.now sets.old rows.old) result
         sets.new rows.new }
 {
@@ -813,11 +807,11 @@ pub fn active_marks(
     );
     let checked = check_lengths(case, table, wrong);
     match checked {
-        Outcome::Refused(refusal) => Outcome::Refused(refusal),
-        Outcome::Done => {
+        Err(refusal) => Err(refusal),
+        Ok(()) => {
             write_sets(case, table, best, sets);
             write_rows(case, table, best, rows);
-            Outcome::Done
+            Ok(())
         }
     }
 }
@@ -831,13 +825,13 @@ pub fn values_unsupported(
     raised: &[u8],
     variable: usize,
     values: u8,
-) -> Verdict
+) -> Result<bool, Refusal>
     ensures { result ≡ values_unsupported_answer (rules_of case) case table.now best.now raised.now variable values }
 {
     let checked = check_arguments(case, table, best, raised, variable);
     match checked {
-        Outcome::Refused(refusal) => Verdict::Refused(refusal),
-        Outcome::Done => verdict(are_unsupported(case, table, best, raised, variable, values)),
+        Err(refusal) => Err(refusal),
+        Ok(()) => verdict(are_unsupported(case, table, best, raised, variable, values)),
     }
 }
 
@@ -848,13 +842,13 @@ pub fn best_unsupported(
     best: &[i64],
     raised: &[u8],
     variable: usize,
-) -> Verdict
+) -> Result<bool, Refusal>
     ensures { result ≡ best_unsupported_answer (rules_of case) case table.now best.now raised.now variable }
 {
     let checked = check_arguments(case, table, best, raised, variable);
     match checked {
-        Outcome::Refused(refusal) => Verdict::Refused(refusal),
-        Outcome::Done => {
+        Err(refusal) => Err(refusal),
+        Ok(()) => {
             let values = set_with(case, table, variable, best[variable]);
             verdict(are_unsupported(case, table, best, raised, variable, values))
         }

@@ -1,5 +1,5 @@
 -- Samples of the calls on tables with barred tuples (document 02, change 2), in tables as those of Borders. Assumes nothing.
-use Rattle.std.specs.Prelude.{refl, false, List, [], ◌∷◌, ◌++◌, ℕ, ◌+◌, ℤ, pos, replicate}
+use Rattle.std.specs.Prelude.{refl, false, List, [], ◌∷◌, ◌++◌, ℕ, ◌+◌, ℤ, pos, replicate, Ok}
 use Rattle.integers.specs.Words.{any, choices, joined, minus}
 use Rattle.definitions.specs.declared.RunAnswer.TheVariants.{Settled}
 use Rattle.definitions.specs.Rules.{standard}
@@ -156,5 +156,5 @@ engine = (refl, refl)
 pub settled-without-plan :
     let plans : List (List ℕ) = choices 4 (0 ∷ 1 ∷ 2 ∷ []) in
     Hold (any (is_lawful coloured.case coloured.weights) plans is false ∷ [])
-    × Hold (ran_by engine_next coloured 5 is (Settled, 0, own_weights coloured, []) ∷ [])
+    × Hold (ran_by engine_next coloured 5 is (Ok Settled, 0, own_weights coloured, []) ∷ [])
 settled-without-plan = (refl, refl)

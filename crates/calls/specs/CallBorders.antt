@@ -1,10 +1,11 @@
 -- Samples of the calls at the borders, in tables as those of Borders. Assumes nothing.
-use Rattle.std.specs.Prelude.{refl, List, [], ◌∷◌, ◌++◌, ℕ, ◌+◌, ℤ, pos, take, drop}
+use Rattle.definitions.specs.declared.Refusal.{Refusal}
+use Rattle.std.specs.Prelude.{refl, List, [], ◌∷◌, ◌++◌, ℕ, ◌+◌, ℤ, pos, take, drop, Result, Ok, Err}
 use Prim.Native.String.{String}
 use Rattle.integers.specs.Words.{minus}
 use Rattle.definitions.specs.declared.Refusal.TheVariants.{WrongLength, WeightOutOfRange, LeavesRange}
 use Rattle.definitions.specs.declared.RunAnswer.{RunAnswer}
-use Rattle.definitions.specs.declared.RunAnswer.TheVariants.{Settled, Limit, Refused}
+use Rattle.definitions.specs.declared.RunAnswer.TheVariants.{Settled, Limit}
 use Rattle.definitions.specs.declared.Case.{Case}
 use Rattle.definitions.specs.Rules.{Rules, standard}
 use Rattle.definitions.specs.Answers.{Says, outcome_says, figure_says, verdict_says, line_says}
@@ -73,26 +74,26 @@ pub runs :
     in
     let ran = run engine_next in
     let paired = run pairs_next in
-    let told : RunAnswer → ℕ → ℤ → List ℤ → List ℕ → List ℕ → RunCall =
+    let told : Result RunAnswer Refusal → ℕ → ℤ → List ℤ → List ℕ → List ℕ → RunCall =
     λ a n z w out log. record { run = record { answer = a; rounds = n; bound = z }; table = w; out = out; log = log }
     in
-    let unmade : RunAnswer → ℤ → Input → ℕ → RunCall = λ a z i room. told a 0 z i.weights (ones room) [] in
+    let unmade : Result RunAnswer Refusal → ℤ → Input → ℕ → RunCall = λ a z i room. told a 0 z i.weights (ones room) [] in
     Hold
-    (ran two_steps 1 270 is told Limit 1 (pos 0) (full 2 after_pair) (pair_step ++ ones 216) pair_step
+    (ran two_steps 1 270 is told (Ok Limit) 1 (pos 0) (full 2 after_pair) (pair_step ++ ones 216) pair_step
     -- the lines of a round from the output's first byte, the bytes past them kept
-    ∷ ran two_steps 2 270 is told Settled 2 (minus 1) (full 2 after_press) (press_step ++ ones 135) (pair_step ++ press_step)
+    ∷ ran two_steps 2 270 is told (Ok Settled) 2 (minus 1) (full 2 after_press) (press_step ++ ones 135) (pair_step ++ press_step)
     -- pair rounds only: settled though a press is left
-    ∷ paired two_steps 2 270 is told Settled 1 (pos 0) (full 2 after_pair) (pair_step ++ ones 216) pair_step
-    ∷ paired two_steps 0 270 is unmade Limit (pos 1) two_steps 270
+    ∷ paired two_steps 2 270 is told (Ok Settled) 1 (pos 0) (full 2 after_pair) (pair_step ++ ones 216) pair_step
+    ∷ paired two_steps 0 270 is unmade (Ok Limit) (pos 1) two_steps 270
     -- 11: before the first round, at the limit, and after a round; never with pair rounds only
-    ∷ ran (triangle_from (minus W)) 5 297 is unmade (Refused LeavesRange) (minus W) (triangle_from (minus W)) 297
-    ∷ ran (triangle_from (minus W)) 0 297 is unmade Limit (minus W) (triangle_from (minus W)) 297
-    ∷ ran last_round 5 216 is told (Refused LeavesRange) 1 (minus 499_999_998) (full 2 after_last) (by_one ++ ones 108) by_one
-    ∷ paired last_round 5 216 is unmade Settled (minus 499_999_997) last_round 216
+    ∷ ran (triangle_from (minus W)) 5 297 is unmade (Err LeavesRange) (minus W) (triangle_from (minus W)) 297
+    ∷ ran (triangle_from (minus W)) 0 297 is unmade (Ok Limit) (minus W) (triangle_from (minus W)) 297
+    ∷ ran last_round 5 216 is told (Err LeavesRange) 1 (minus 499_999_998) (full 2 after_last) (by_one ++ ones 108) by_one
+    ∷ paired last_round 5 216 is unmade (Ok Settled) (minus 499_999_997) last_round 216
     -- 4, also at limit 0 and where settled; 8
-    ∷ ran clash 5 215 is unmade (Refused WrongLength) (pos 0) clash 215 ∷ ran clash 0 215 is unmade (Refused WrongLength) (pos 0) clash 215
-    ∷ paired triangle 5 296 is unmade (Refused WrongLength) (pos 0) triangle 296 ∷ ran single 5 107 is unmade (Refused WrongLength) (pos 0) single 107
-    ∷ ran (clash_from (pos (W + 1))) 5 216 is unmade (Refused WeightOutOfRange) (pos 0) (clash_from (pos (W + 1))) 216
+    ∷ ran clash 5 215 is unmade (Err WrongLength) (pos 0) clash 215 ∷ ran clash 0 215 is unmade (Err WrongLength) (pos 0) clash 215
+    ∷ paired triangle 5 296 is unmade (Err WrongLength) (pos 0) triangle 296 ∷ ran single 5 107 is unmade (Err WrongLength) (pos 0) single 107
+    ∷ ran (clash_from (pos (W + 1))) 5 216 is unmade (Err WeightOutOfRange) (pos 0) (clash_from (pos (W + 1))) 216
     ∷ [])
 unfolding round_call run_call
 runs = refl

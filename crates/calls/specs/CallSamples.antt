@@ -21,15 +21,15 @@ use Rattle.calls.specs.Calls.{
   write_line_call,
 }
 use Rattle.calls.specs.EngineCalls.{RunCall, round_call, run_call}
-use Rattle.definitions.specs.Samples.{Input, Question, bound_of, run-of, replay-of, all-active, press-on, replay-on, Result, ran, samples, our_samples}
+use Rattle.definitions.specs.Samples.{Input, Question, bound_of, run-of, replay-of, all-active, press-on, replay-on, Reply, ran, samples, our_samples}
 use Rattle.definitions.specs.Samples.{answer, full, given, own, own_weights, triangle, clash, example2, single, texts, log1, two_rounds, raising1and2, zeros}
 
 -- ---- the samples of document 01 and ours: a run is answered by the engine's call
 
-abbrev ran_by : Input → RunCall → Result
+abbrev ran_by : Input → RunCall → Reply
 ran_by i q = ran q.run.answer q.run.rounds q.run.bound (own i.case q.table) (lines_in 12 q.log)
 
-abbrev answer_by_calls : Question → Result
+abbrev answer_by_calls : Question → Reply
 answer_by_calls (run-of i limit) = ran_by i (run_call standard engine_next i.case limit i.weights (replicate (round_bytes standard i.case) 0))
 answer_by_calls (bound_of i) = answer (bound_of i)
 answer_by_calls (replay-of i ts) = answer (replay-of i ts)

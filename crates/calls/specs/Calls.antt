@@ -1,17 +1,11 @@
 -- The library's calls on all input, as document 01 and docs/DECISIONS.md say: totals, refutation, moves, lines, case files.
 -- What is refused changes nothing that was lent. Assumes nothing.
-use Rattle.std.specs.Prelude.{◌≡◌, Bool, true, false, not, ◌&&◌, ◌||◌, List, [], ◌∷◌, ◌++◌, ℕ, ◌+◌, ◌*◌, ◌-◌, ℤ, pos, ltb, eqb, length, get_or, take, drop, if◌then◌else◌}
-use Rattle.std.proofs.Math.Option.{Option, none, some}
+use Rattle.std.specs.Prelude.{◌≡◌, Bool, true, false, not, ◌&&◌, ◌||◌, List, [], ◌∷◌, ◌++◌, ℕ, ◌+◌, ◌*◌, ◌-◌, ℤ, pos, ltb, eqb, length, get_or, take, drop, if◌then◌else◌, Result, Ok, Err, Option, Some, None, ⊤}
 use Rattle.integers.specs.Words.{any, is_in, within}
 use Rattle.definitions.specs.declared.Case.{Case}
 use Rattle.definitions.specs.declared.Line.{Line}
 use Rattle.definitions.specs.declared.Refusal.{Refusal}
 use Rattle.definitions.specs.declared.Refusal.TheVariants.{NotInColumns, WrongLength, OutOfRange, RaiseNotAscending, NotRefuted, LeavesRange}
-use Rattle.definitions.specs.declared.Outcome.{Outcome}
-use Rattle.definitions.specs.declared.Figure.{Figure}
-use Rattle.definitions.specs.declared.Verdict.{Verdict}
-use Rattle.definitions.specs.declared.LineRead.{LineRead}
-use Rattle.definitions.specs.declared.Written.{Written}
 use Rattle.definitions.specs.Rules.{Rules}
 use Rattle.definitions.specs.Refusals.{Test, ◌when◌, first_refusal}
 use Rattle.definitions.specs.Answers.{outcome_of, unless_refused}
@@ -26,35 +20,35 @@ use Rattle.definitions.specs.CaseFiles.{case_text}
 
 -- ---- answers by whether a refusal applies
 
-abbrev pub figure_of : Option Refusal → ℤ → Figure
-figure_of none z = Figure.Value z
-figure_of (some x) z = Figure.Refused x
+abbrev pub figure_of : Option Refusal → ℤ → Result ℤ Refusal
+figure_of None z = Ok z
+figure_of (Some x) z = Err x
 
-abbrev pub verdict_of : Option Refusal → Bool → Verdict
-verdict_of none b = if b then Verdict.Yes else Verdict.No
-verdict_of (some x) b = Verdict.Refused x
+abbrev pub verdict_of : Option Refusal → Bool → Result Bool Refusal
+verdict_of None b = if b then Ok true else Ok false
+verdict_of (Some x) b = Err x
 
-abbrev pub written_of : Option Refusal → ℕ → Written
-written_of none n = Written.Bytes n
-written_of (some x) n = Written.Refused x
+abbrev pub written_of : Option Refusal → ℕ → Result ℕ Refusal
+written_of None n = Ok n
+written_of (Some x) n = Err x
 
 -- a call that changes a lent table; one that writes to a lent output
 pub record TableCall : Type 0 where
-  pub answer : Outcome
+  pub answer : Result ⊤ Refusal
   pub table : List ℤ
 
 pub record LineCall : Type 0 where
-  pub answer : Outcome
+  pub answer : Result ⊤ Refusal
   pub out : List ℕ
 
 -- the log writer's call: the lent slice and the position after it
 pub record WriterCall : Type 0 where
-  pub answer : Outcome
+  pub answer : Result ⊤ Refusal
   pub out : List ℕ
   pub at : ℕ
 
 pub record WriteCall : Type 0 where
-  pub answer : Written
+  pub answer : Result ℕ Refusal
   pub out : List ℕ
 
 -- ---- a line written, at a width of the amount column and by whether a refusal applies
@@ -95,16 +89,16 @@ is_rising (x ∷ y ∷ ys) = ltb x y && is_rising (y ∷ ys)
 -- ---- why a value was kept (document 02, change 3): the value, and the bytes of its family and of the partners
 
 pub record FamilyCall : Type 0 where
-  pub answer : Figure
+  pub answer : Result ℤ Refusal
   pub family : List ℕ
   pub partners : List ℕ
 
 -- an answer and what is left are the call's
-abbrev pub FamilyIs : FamilyCall → Figure → List ℕ → List ℕ → Type 0
+abbrev pub FamilyIs : FamilyCall → Result ℤ Refusal → List ℕ → List ℕ → Type 0
 FamilyIs call answer family partners = (answer ≡ call.answer) × (family ≡ call.family) × (partners ≡ call.partners)
 
 abbrev pub family_refused : Refusal → List ℕ → List ℕ → FamilyCall
-family_refused x family partners = record { answer = Figure.Refused x; family = family; partners = partners }
+family_refused x family partners = record { answer = Err x; family = family; partners = partners }
 
 -- value k of variable i with its largest family, all other scopes raised
 abbrev pub family_shown : Case → List ℤ → ℕ → ℕ → List ℕ → List ℕ → FamilyCall
@@ -112,16 +106,16 @@ family_shown c w i k family partners =
     let R : ℕ → Bool = is_in (others c i) in
     let S : Family = largest_family c w R i k in
     record {
-      answer = Figure.Value (pos k);
+      answer = Ok (pos k);
       family = overwritten (family_bytes c S) family;
       partners = overwritten (partner_bytes c w R S) partners;
     }
 
 -- no such value is number 5, asked last
 abbrev pub family_found : Case → List ℤ → ℕ → List ℕ → List ℕ → Option Refusal → Option ℕ → FamilyCall
-family_found c w i family partners (some x) found = family_refused x family partners
-family_found c w i family partners none none = family_refused OutOfRange family partners
-family_found c w i family partners none (some k) = family_shown c w i k family partners
+family_found c w i family partners (Some x) found = family_refused x family partners
+family_found c w i family partners None None = family_refused OutOfRange family partners
+family_found c w i family partners None (Some k) = family_shown c w i k family partners
 
 -- the family has a byte for each variable, the partners one for each edge, end and value
 abbrev pub family_short : Case → List ℕ → List ℕ → Bool
@@ -131,19 +125,19 @@ module _ (r : Rules) where
   -- ---- totals: the range is that of working weights
 
   -- an unlawful assignment has no objective: number 5 (document 02, change 2)
-  unfoldable pub objective_answer : Case → List ℤ → List ℕ → Figure
+  unfoldable pub objective_answer : Case → List ℤ → List ℕ → Result ℤ Refusal
   objective_answer c w p =
       figure_of (first_refusal (handed_over r (working_weight r) c w (wrong_assignment c p) (value_out c p || uses_barred c w p))) (objective c w p)
 
-  unfoldable pub upper_bound_answer : Case → List ℤ → Figure
+  unfoldable pub upper_bound_answer : Case → List ℤ → Result ℤ Refusal
   upper_bound_answer c w = figure_of (first_refusal (handed_over r (working_weight r) c w false false)) (upper_bound c w)
 
-  unfoldable pub is_active_answer : Case → List ℤ → ℕ → ℕ → ℕ → Verdict
+  unfoldable pub is_active_answer : Case → List ℤ → ℕ → ℕ → ℕ → Result Bool Refusal
   is_active_answer c w x k l = verdict_of (first_refusal (handed_over r (working_weight r) c w false (tuple_out c x k l))) (active c w x k l)
 
   -- ---- refutation
 
-  unfoldable pub refuted_answer : Case → List ℤ → List ℕ → ℕ → ℕ → Verdict
+  unfoldable pub refuted_answer : Case → List ℤ → List ℕ → ℕ → ℕ → Result Bool Refusal
   refuted_answer c w raised i k =
       verdict_of
       (first_refusal (handed_over r (working_weight r) c w (not (eqb (length raised) (scope_count c)))
@@ -160,7 +154,7 @@ module _ (r : Rules) where
 
   -- ---- whether the edges form no cycle (document 02, change 4): asked of the case alone
 
-  unfoldable pub is_acyclic_answer : Case → Verdict
+  unfoldable pub is_acyclic_answer : Case → Result Bool Refusal
   is_acyclic_answer c = verdict_of (first_refusal (limit_test r c ∷ edge_tests r c false)) (is_acyclic c)
 
   -- ---- moves
@@ -194,10 +188,10 @@ module _ (r : Rules) where
 
   -- ---- lines
 
-  unfoldable pub read_line_answer : List ℕ → LineRead
+  unfoldable pub read_line_answer : List ℕ → Result Line Refusal
   read_line_answer bytes = elim (read_line r.amount_width bytes) [
-    | none ↦ LineRead.Refused NotInColumns
-    | some l ↦ LineRead.Read l
+    | None ↦ Err NotInColumns
+    | Some l ↦ Ok l
   ]
 
   -- fewer bytes than a line are number 4, a number too wide for its column is 5

@@ -1,6 +1,5 @@
 -- The engine's calls on all input: one round, and the run that iterates it, on a lent table and a lent output. Assumes nothing.
-use Rattle.std.specs.Prelude.{Bool, false, List, [], ◌++◌, ℕ, zero, suc, ℤ, pos, ltb, eqb, length, take, if◌then◌else◌}
-use Rattle.std.proofs.Math.Option.{Option, none, some}
+use Rattle.std.specs.Prelude.{Bool, false, List, [], ◌++◌, ℕ, zero, suc, ℤ, pos, ltb, eqb, length, take, if◌then◌else◌, Result, Ok, Err, Option, Some, None}
 use Rattle.integers.specs.Words.{joined}
 use Rattle.definitions.specs.declared.Case.{Case}
 use Rattle.definitions.specs.declared.Refusal.{Refusal}
@@ -15,7 +14,7 @@ use Rattle.definitions.specs.Lines.{overwritten}
 use Rattle.definitions.specs.Engine.{Next, Made, settled, refused, made, voided, make_next, round_bytes}
 
 pub record RoundCall : Type 0 where
-  pub answer : Round
+  pub answer : Result Round Refusal
   pub table : List ℤ
   pub out : List ℕ
 
@@ -35,14 +34,14 @@ is_leaving x = eqb (number x) 11
 -- does
 
 abbrev pub round_made : Case → List ℤ → List ℕ → Made → RoundCall
-round_made c w out settled = record { answer = Round.Settled; table = w; out = out }
-round_made c w out (refused x) = record { answer = Round.Refused x; table = w; out = out }
+round_made c w out settled = record { answer = Ok Round.Settled; table = w; out = out }
+round_made c w out (refused x) = record { answer = Err x; table = w; out = out }
 round_made c w out (made v lines) = record {
-  answer = Round.Made (length (joined lines)) (upper_bound c v);
+  answer = Ok (Round.Made (length (joined lines)) (upper_bound c v));
   table = v;
   out = overwritten (joined lines) out;
 }
-round_made c w out (voided lines) = record { answer = Round.Void (length (joined lines)); table = w; out = overwritten (joined lines) out }
+round_made c w out (voided lines) = record { answer = Ok (Round.Void (length (joined lines))); table = w; out = overwritten (joined lines) out }
 
 module _ (r : Rules) (next : Rules → Case → List ℤ → Next) (c : Case) where
   -- 3 to 8 and 15
@@ -51,19 +50,19 @@ module _ (r : Rules) (next : Rules → Case → List ℤ → Next) (c : Case) wh
 
   unfoldable pub round_call : List ℤ → List ℕ → RoundCall
   round_call w out = elim (engine_refusal w out) [
-    | some x ↦ record { answer = Round.Refused x; table = w; out = out }
-    | none ↦ round_made c w out (make_next r c w (next r c w))
+    | Some x ↦ record { answer = Err x; table = w; out = out }
+    | None ↦ round_made c w out (make_next r c w (next r c w))
   ]
 
   -- ---- the run
 
-  abbrev pub bound_at : RunAnswer → List ℤ → ℤ
-  bound_at RunAnswer.Settled w = upper_bound c w
-  bound_at RunAnswer.Limit w = upper_bound c w
-  bound_at RunAnswer.Void w = upper_bound c w
-  bound_at (RunAnswer.Refused x) w = if is_leaving x then upper_bound c w else pos 0
+  abbrev pub bound_at : Result RunAnswer Refusal → List ℤ → ℤ
+  bound_at (Ok RunAnswer.Settled) w = upper_bound c w
+  bound_at (Ok RunAnswer.Limit) w = upper_bound c w
+  bound_at (Ok RunAnswer.Void) w = upper_bound c w
+  bound_at (Err x) w = if is_leaving x then upper_bound c w else pos 0
 
-  abbrev pub stop_run : RunAnswer → ℕ → List ℤ → List ℕ → List ℕ → RunCall
+  abbrev pub stop_run : Result RunAnswer Refusal → ℕ → List ℤ → List ℕ → List ℕ → RunCall
   stop_run answer done w out log = record {
     run = record { answer = answer; rounds = done; bound = bound_at answer w };
     table = w;
@@ -73,21 +72,21 @@ module _ (r : Rules) (next : Rules → Case → List ℤ → Next) (c : Case) wh
 
   -- a void line ends the run, with its bytes in the log
   abbrev pub stop_void : RoundCall → ℕ → ℕ → List ℕ → RunCall
-  stop_void call bytes done log = stop_run RunAnswer.Void done call.table call.out (log ++ take bytes call.out)
+  stop_void call bytes done log = stop_run (Ok RunAnswer.Void) done call.table call.out (log ++ take bytes call.out)
 
-  abbrev pub go_on : Round → RoundCall → ℕ → List ℤ → List ℕ → List ℕ → (List ℤ → List ℕ → List ℕ → RunCall) → RunCall
-  go_on Round.Settled call done w out log go = stop_run RunAnswer.Settled done w out log
-  go_on (Round.Refused x) call done w out log go = stop_run (RunAnswer.Refused x) done w out log
-  go_on (Round.Made bytes bound) call done w out log go = go call.table call.out (log ++ take bytes call.out)
-  go_on (Round.Void bytes) call done w out log go = stop_void call bytes done log
+  abbrev pub go_on : Result Round Refusal → RoundCall → ℕ → List ℤ → List ℕ → List ℕ → (List ℤ → List ℕ → List ℕ → RunCall) → RunCall
+  go_on (Ok Round.Settled) call done w out log go = stop_run (Ok RunAnswer.Settled) done w out log
+  go_on (Err x) call done w out log go = stop_run (Err x) done w out log
+  go_on (Ok (Round.Made bytes bound)) call done w out log go = go call.table call.out (log ++ take bytes call.out)
+  go_on (Ok (Round.Void bytes)) call done w out log go = stop_void call bytes done log
 
   -- At its limit a run answers settled if settled, and limit otherwise, also where the next round would be refused by 11. A void line is
   -- written even then.
-  abbrev pub end_at_limit : Round → RoundCall → ℕ → List ℤ → List ℕ → List ℕ → RunCall
-  end_at_limit Round.Settled call done w out log = stop_run RunAnswer.Settled done w out log
-  end_at_limit (Round.Made bytes bound) call done w out log = stop_run RunAnswer.Limit done w out log
-  end_at_limit (Round.Void bytes) call done w out log = stop_void call bytes done log
-  end_at_limit (Round.Refused x) call done w out log = stop_run (if is_leaving x then RunAnswer.Limit else RunAnswer.Refused x) done w out log
+  abbrev pub end_at_limit : Result Round Refusal → RoundCall → ℕ → List ℤ → List ℕ → List ℕ → RunCall
+  end_at_limit (Ok Round.Settled) call done w out log = stop_run (Ok RunAnswer.Settled) done w out log
+  end_at_limit (Ok (Round.Made bytes bound)) call done w out log = stop_run (Ok RunAnswer.Limit) done w out log
+  end_at_limit (Ok (Round.Void bytes)) call done w out log = stop_void call bytes done log
+  end_at_limit (Err x) call done w out log = stop_run (if is_leaving x then Ok RunAnswer.Limit else Err x) done w out log
 
   -- with `left` rounds allowed, after `done` rounds
   abbrev pub run_call_from : ℕ → ℕ → List ℤ → List ℕ → List ℕ → RunCall

@@ -27,10 +27,8 @@
 
 ghost use Rattle.std.specs.Prelude.{◌≤◌, length};
 
-use arcs::{Closed, Partner, Tried};
-use definitions::{
-    Case, EDGE_PLACES, Figure, Line, Outcome, Refusal, Rulebook, TABLE_PLACES, Verdict,
-};
+use arcs::{Closed, Tried};
+use definitions::{Case, EDGE_PLACES, Line, Refusal, Rulebook, TABLE_PLACES};
 
 // A line's kind, its numbers as counts, and its amount as a weight.
 #[derive(Clone, Copy)]
@@ -145,10 +143,10 @@ fn refused(refusal: Refusal) {
     drivers::print(b"\n");
 }
 
-fn outcome(answer: Outcome) {
+fn outcome(answer: Result<(), Refusal>) {
     match answer {
-        Outcome::Done => print(b" done\n"),
-        Outcome::Refused(refusal) => refused(refusal),
+        Ok(()) => print(b" done\n"),
+        Err(refusal) => refused(refusal),
     }
 }
 
@@ -158,18 +156,18 @@ fn value(z: i64) {
     drivers::print(b"\n");
 }
 
-fn figure(answer: Figure) {
+fn figure(answer: Result<i64, Refusal>) {
     match answer {
-        Figure::Value(z) => value(z),
-        Figure::Refused(refusal) => refused(refusal),
+        Ok(z) => value(z),
+        Err(refusal) => refused(refusal),
     }
 }
 
-fn verdict(answer: Verdict) {
+fn verdict(answer: Result<bool, Refusal>) {
     match answer {
-        Verdict::Yes => print(b" yes\n"),
-        Verdict::No => print(b" no\n"),
-        Verdict::Refused(refusal) => refused(refusal),
+        Ok(true) => print(b" yes\n"),
+        Ok(false) => print(b" no\n"),
+        Err(refusal) => refused(refusal),
     }
 }
 
@@ -189,10 +187,10 @@ fn tried(answer: Tried) {
     }
 }
 
-fn partner(answer: Partner) {
+fn partner(answer: Option<u8>) {
     match answer {
-        Partner::At(l) => value(signed(l)),
-        Partner::Nothing => print(b" none\n"),
+        Some(l) => value(signed(l)),
+        None => print(b" none\n"),
     }
 }
 

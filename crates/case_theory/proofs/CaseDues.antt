@@ -2,7 +2,6 @@
 use mathlib.Core.Path.{◌≡◌, refl, sym, ap, ap₂, subst, ◌∙◌}
 use mathlib.Core.Bool.{Bool, true, false, ◌||◌}
 use mathlib.Core.Logic.{◌≢◌, ⊎_elim}
-use mathlib.Core.Option.{some}
 use mathlib.Core.List.Memᴰ
 use mathlib.Core.List.{List, [], ◌∷◌, ◌++◌, map}
 use Prim.Native.Nat.{ℕ, zero, suc, ◌+◌, ◌*◌, ◌-◌, ◌≤◌, ◌<◌}
@@ -12,7 +11,7 @@ use lib.IntN.{ℤ, pos, nat_abs}
 use lib.Dec.{T, eqb, ltb, ltb→lt, nltb→le}
 use lib.ListN.{length, get_or, set, length-set}
 use lib.Seq.{get_or-set_same, get_or-set_other, ext_get_or}
-use Rattle.std.specs.Prelude.{if◌then◌else◌}
+use Rattle.std.specs.Prelude.{if◌then◌else◌, Some}
 use Rattle.integers.specs.Words.{from, below, joined}
 use Rattle.integers.specs.Tests.{either}
 use Rattle.integers.specs.Linear.{T-eq}
@@ -194,7 +193,7 @@ module _ (book : Rulebook) (n d m : ℕ) where
   next s (edge-ends e) t = record { lower = set s.lower e (nat_abs t.b); upper = set s.upper e (nat_abs t.c); table = s.table }
   next s (edge-weight e k l) t = stored s (n + e) k l (weight_in t)
 
-  pub took-next : (s : State) (due : CaseDue) (t : Line) → took (reading s) due (some t) ≡ reading (next s due t)
+  pub took-next : (s : State) (due : CaseDue) (t : Line) → took (reading s) due (Some t) ≡ reading (next s due t)
   took-next s (variable-weight i k) t = refl
   took-next s (edge-ends e) t = refl
   took-next s (edge-weight e k l) t = refl

@@ -1,8 +1,9 @@
 -- The reader of case files, line by line: one line that is taken, and all lines after the head, both ways. Assumes nothing.
+use Rattle.definitions.specs.declared.RefusedAt.{RefusedAt}
+use Rattle.definitions.specs.Answers.{refused_at}
 use mathlib.Core.Path.{◌≡◌, refl, sym, ap, ap₂, subst, ◌∙◌}
 use mathlib.Core.Bool.{Bool, true, false, not, ◌&&◌}
 use mathlib.Core.Logic.{◌≢◌, ⊎_elim}
-use mathlib.Core.Option.{Option, none, some}
 use mathlib.Core.List.Memᴰ
 use mathlib.Core.List.{List, [], ◌∷◌, ◌++◌, map, append_assoc}
 use Prim.Native.Nat.{ℕ, suc, ◌+◌, ◌*◌, ◌≤◌, ◌<◌}
@@ -13,14 +14,13 @@ use lib.Dec.{T, T_not, not_T, eqb, eqb→eq}
 use lib.ListN.{length, take, drop, length-append}
 use lib.Seq.{take_at, drop_at, take-add}
 use borrow.Author.Tests.{le-ltb, eq-eqb, ne_eqb, eqb-true}
-use Rattle.std.specs.Prelude.{if◌then◌else◌}
+use Rattle.std.specs.Prelude.{if◌then◌else◌, Result, Ok, Err, Option, Some, None}
 use Rattle.integers.specs.Words.{joined, all, any, is_in}
 use Rattle.integers.specs.Tests.{either, and_left, and_right, not-eqb-iff}
 use Rattle.integers.specs.Lists.{◌∈◌, any-in}
 use Rattle.integers.specs.Options.{none-some}
 use Rattle.definitions.specs.declared.Rulebook.{Rulebook}
 use Rattle.definitions.specs.declared.Line.{Line}
-use Rattle.definitions.specs.declared.FileAnswer.{FileAnswer}
 use Rattle.definitions.specs.declared.CaseRead.{CaseRead}
 use Rattle.definitions.specs.declared.Refusal.{Refusal}
 use Rattle.definitions.specs.declared.Refusal.TheVariants.{WrongLength, CutShort}
@@ -47,9 +47,9 @@ zeroed_call call = zeroed_past call call.read.answer
 pub zeroed-read : (call : CaseCall) → (zeroed_call call).read ≡ call.read
 zeroed-read call = go call.read.answer
   where
-    go : (x : FileAnswer) → (zeroed_past call x).read ≡ call.read
-    go (FileAnswer.Refused x at) = refl
-    go (FileAnswer.Read lines) = refl
+    go : (x : Result ℕ RefusedAt) → (zeroed_past call x).read ≡ call.read
+    go (Err x) = refl
+    go (Ok lines) = refl
 
 -- ---- one line at the front
 module _ (r : Rules) where
@@ -59,7 +59,7 @@ module _ (r : Rules) where
     front-whole = le-ltb (length (line_text r.amount_width l ++ rest)) (line_length r.amount_width)
         (rw length-append (omega (arith, line-length r.amount_width l fits)))
 
-    pub front-line : first_line r (line_text r.amount_width l ++ rest) ≡ some l
+    pub front-line : first_line r (line_text r.amount_width l ++ rest) ≡ Some l
     front-line = rw (take_at (line_text r.amount_width l) rest (line_length r.amount_width) (line-length r.amount_width l fits))
         (line_read r.amount_width l fits)
 
@@ -67,17 +67,17 @@ module _ (r : Rules) where
     front-after = drop_at (line_text r.amount_width l) rest (line_length r.amount_width) (line-length r.amount_width l fits)
 
   -- the line is the text's front
-  pub line-front : (t : List ℕ) {l : Line} → first_line r t ≡ some l → (k : ℕ) (rest : List ℕ) → rest ≡ take (k * line_length r.amount_width) (after_first r t)
+  pub line-front : (t : List ℕ) {l : Line} → first_line r t ≡ Some l → (k : ℕ) (rest : List ℕ) → rest ≡ take (k * line_length r.amount_width) (after_first r t)
       → line_text r.amount_width l ++ rest ≡ take (suc k * line_length r.amount_width) t
   line-front t {l} e k rest q =
       let w : ℕ = line_length r.amount_width in
       let o : suc k * w ≡ w + k * w = omega arith in
       ap₂ ◌++◌ (line-written r.amount_width (take w t) l e).1 q ∙ sym (ap (λ (i : ℕ). take i t) o ∙ take-add w (k * w) t)
 
-  never : {x : Refusal} {a b : ℕ} → FileAnswer.Refused x a ≡ FileAnswer.Read b → ⊥
+  never : {x : Refusal} {a b : ℕ} → Err (refused_at x a) ≡ Ok b → ⊥
   never e = let z : ◌≡◌ {A = ℕ} 0 1 = cc in omega arith
 
-  pub read_same : {a b : ℕ} → FileAnswer.Read a ≡ FileAnswer.Read b → a ≡ b
+  pub read_same : {a b : ℕ} → Ok a ≡ Ok b → a ≡ b
   read_same e = cc
 
   nothing-due : (l : Line) → T (not_due r [] l)
@@ -87,14 +87,14 @@ module _ (r : Rules) where
       due : Kind → Bool
       due k = is_kind k.kind l && is_in [] k.kind && unused_zero k l
 
-  nothing_left : (s : List ℕ) → rest_refusal r s ≡ none → s ≡ []
+  nothing_left : (s : List ℕ) → rest_refusal r s ≡ None → s ≡ []
   nothing_left [] e = refl
   nothing_left (x ∷ s) e = absurd (go (is_cut r (x ∷ s)) (first_line r (x ∷ s)) (rw (ne_eqb (suc (length s)) 0 (λ z. omega arith)) at e))
     where
-      go : (b : Bool) (o : Option Line) → (if b then some CutShort else first_refusal (end_tests r o)) ≡ none → ⊥
+      go : (b : Bool) (o : Option Line) → (if b then Some CutShort else first_refusal (end_tests r o)) ≡ None → ⊥
       go true o e = none-some (sym e)
-      go false none e = none-some (sym e)
-      go false (some l) e = T_not (not_due r [] l) (and_left (not (not_due r [] l)) true ((passes (end_tests r (some l))).0 e)) (nothing-due l)
+      go false None e = none-some (sym e)
+      go false (Some l) e = T_not (not_due r [] l) (and_left (not (not_due r [] l)) true ((passes (end_tests r (Some l))).0 e)) (nothing-due l)
 
 module _ (book : Rulebook) where
   module _ (g : Reading) (at : ℕ) (due : CaseDue) (ds : List CaseDue) (t : List ℕ) where
@@ -108,8 +108,8 @@ module _ (book : Rulebook) where
           | true ↦ case_refused book CutShort at g.table
           | false ↦
               elim x [
-                | none ↦ read_dues book (took g due o) (at + 1) ds (after_first (rules_in book) t)
-                | some x ↦ case_refused book x at g.table
+                | None ↦ read_dues book (took g due o) (at + 1) ds (after_first (rules_in book) t)
+                | Some x ↦ case_refused book x at g.table
               ]
         ]
 
@@ -117,38 +117,38 @@ module _ (book : Rulebook) where
     unfolding turn tried
     turns = refl
 
-    take-due : {l : Line} → is_cut (rules_in book) t ≡ false → first_line (rules_in book) t ≡ some l
-        → first_refusal (due_tests (rules_in book) g due (some l)) ≡ none
-        → read_dues book g at (due ∷ ds) t ≡ read_dues book (took g due (some l)) (at + 1) ds (after_first (rules_in book) t)
+    take-due : {l : Line} → is_cut (rules_in book) t ≡ false → first_line (rules_in book) t ≡ Some l
+        → first_refusal (due_tests (rules_in book) g due (Some l)) ≡ None
+        → read_dues book g at (due ∷ ds) t ≡ read_dues book (took g due (Some l)) (at + 1) ds (after_first (rules_in book) t)
     unfolding turn tried
-    take-due {l} p q o = turns ∙ ap₂ (λ (b : Bool) (f : Option Line). turn b f (tried f)) p q ∙ ap (turn false (some l)) o
+    take-due {l} p q o = turns ∙ ap₂ (λ (b : Bool) (f : Option Line). turn b f (tried f)) p q ∙ ap (turn false (Some l)) o
 
-    due-taken : {lines : ℕ} → (read_dues book g at (due ∷ ds) t).read.answer ≡ FileAnswer.Read lines
-        → (is_cut (rules_in book) t ≡ false) × (l : Line) × (first_line (rules_in book) t ≡ some l)
-        × (first_refusal (due_tests (rules_in book) g due (some l)) ≡ none)
+    due-taken : {lines : ℕ} → (read_dues book g at (due ∷ ds) t).read.answer ≡ Ok lines
+        → (is_cut (rules_in book) t ≡ false) × (l : Line) × (first_line (rules_in book) t ≡ Some l)
+        × (first_refusal (due_tests (rules_in book) g due (Some l)) ≡ None)
     unfolding turn tried
     due-taken {lines} h = go (is_cut (rules_in book) t) refl (first_line (rules_in book) t) refl (tried (first_line (rules_in book) t)) refl
         (sym (ap (λ (x : CaseCall). x.read.answer) turns) ∙ h)
       where
         go : (b : Bool) → is_cut (rules_in book) t ≡ b → (o : Option Line) → first_line (rules_in book) t ≡ o → (x : Option Refusal) → tried o ≡ x
-            → (turn b o x).read.answer ≡ FileAnswer.Read lines
-            → (is_cut (rules_in book) t ≡ false) × (l : Line) × (first_line (rules_in book) t ≡ some l) × (tried (some l) ≡ none)
+            → (turn b o x).read.answer ≡ Ok lines
+            → (is_cut (rules_in book) t ≡ false) × (l : Line) × (first_line (rules_in book) t ≡ Some l) × (tried (Some l) ≡ None)
         go true p o q x e h = absurd (never (rules_in book) h)
-        go false p o q (some x) e h = absurd (never (rules_in book) h)
-        go false p none q none e h = absurd (none-some (sym e))
-        go false p (some l) q none e h = (p, l, q, e)
+        go false p o q (Some x) e h = absurd (never (rules_in book) h)
+        go false p None q None e h = absurd (none-some (sym e))
+        go false p (Some l) q None e h = (p, l, q, e)
 
   -- ---- the head
   module _ (t : List ℕ) (u : List ℤ) where
     -- by whether the text is cut short, the line, the refusal, and whether the lent table has the case's length
     opened : Bool → Option Line → Option Refusal → Bool → CaseCall
     opened b o x long =
-        elim (if b then some CutShort else x) [
-          | none ↦
+        elim (if b then Some CutShort else x) [
+          | None ↦
               if long
               then read_dues book (record { case = headed book o; table = u }) 1 (dues (headed book o)) (after_first (rules_in book) t)
               else case_refused book WrongLength 0 u
-          | some x ↦ case_refused book x 0 u
+          | Some x ↦ case_refused book x 0 u
         ]
 
     lent_well : Option Line → Bool
@@ -159,17 +159,17 @@ module _ (book : Rulebook) where
     unfolding opened lent_well
     opens = refl
 
-    pub take_head : {l : Line} → is_cut (rules_in book) t ≡ false → first_line (rules_in book) t ≡ some l → first_refusal (head_tests (rules_in book) (some l)) ≡ none
-        → length u ≡ lent_length (rules_in book) (headed book (some l))
-        → read_lines book t u ≡ read_dues book (record { case = headed book (some l); table = u }) 1 (dues (headed book (some l))) (after_first (rules_in book) t)
+    pub take_head : {l : Line} → is_cut (rules_in book) t ≡ false → first_line (rules_in book) t ≡ Some l → first_refusal (head_tests (rules_in book) (Some l)) ≡ None
+        → length u ≡ lent_length (rules_in book) (headed book (Some l))
+        → read_lines book t u ≡ read_dues book (record { case = headed book (Some l); table = u }) 1 (dues (headed book (Some l))) (after_first (rules_in book) t)
     unfolding opened lent_well
     take_head {l} p q o e =
         opens ∙ ap₂ (λ (b : Bool) (f : Option Line). opened b f (first_refusal (head_tests (rules_in book) f)) (lent_well f)) p q
-        ∙ ap₂ (opened false (some l)) o (eq-eqb (length u) (lent_length (rules_in book) (headed book (some l))) e)
+        ∙ ap₂ (opened false (Some l)) o (eq-eqb (length u) (lent_length (rules_in book) (headed book (Some l))) e)
 
-    pub head-taken : {lines : ℕ} → (read_lines book t u).read.answer ≡ FileAnswer.Read lines
-        → (is_cut (rules_in book) t ≡ false) × (l : Line) × (first_line (rules_in book) t ≡ some l) × (first_refusal (head_tests (rules_in book) (some l)) ≡ none)
-        × (length u ≡ lent_length (rules_in book) (headed book (some l)))
+    pub head-taken : {lines : ℕ} → (read_lines book t u).read.answer ≡ Ok lines
+        → (is_cut (rules_in book) t ≡ false) × (l : Line) × (first_line (rules_in book) t ≡ Some l) × (first_refusal (head_tests (rules_in book) (Some l)) ≡ None)
+        × (length u ≡ lent_length (rules_in book) (headed book (Some l)))
     unfolding opened lent_well
     head-taken {lines} h =
         go (is_cut (rules_in book) t) refl (first_line (rules_in book) t) refl (first_refusal (head_tests (rules_in book) (first_line (rules_in book) t))) refl
@@ -178,17 +178,17 @@ module _ (book : Rulebook) where
       where
         go : (b : Bool) → is_cut (rules_in book) t ≡ b → (o : Option Line) → first_line (rules_in book) t ≡ o → (x : Option Refusal)
             → first_refusal (head_tests (rules_in book) o) ≡ x → (long : Bool) → lent_well o ≡ long
-            → (opened b o x long).read.answer ≡ FileAnswer.Read lines
-            → (is_cut (rules_in book) t ≡ false) × (l : Line) × (first_line (rules_in book) t ≡ some l) × (first_refusal (head_tests (rules_in book) (some l)) ≡ none)
-            × (length u ≡ lent_length (rules_in book) (headed book (some l)))
+            → (opened b o x long).read.answer ≡ Ok lines
+            → (is_cut (rules_in book) t ≡ false) × (l : Line) × (first_line (rules_in book) t ≡ Some l) × (first_refusal (head_tests (rules_in book) (Some l)) ≡ None)
+            × (length u ≡ lent_length (rules_in book) (headed book (Some l)))
         go true p o q x e long k h = absurd (never (rules_in book) h)
-        go false p none q none e long k h = absurd (none-some (sym e))
-        go false p o q (some x) e long k h = absurd (never (rules_in book) h)
-        go false p (some l) q none e false k h = absurd (never (rules_in book) h)
-        go false p (some l) q none e true k h = (p, l, q, e, eqb-true (length u) (lent_length (rules_in book) (headed book (some l))) k)
+        go false p None q None e long k h = absurd (none-some (sym e))
+        go false p o q (Some x) e long k h = absurd (never (rules_in book) h)
+        go false p (Some l) q None e false k h = absurd (never (rules_in book) h)
+        go false p (Some l) q None e true k h = (p, l, q, e, eqb-true (length u) (lent_length (rules_in book) (headed book (Some l))) k)
 
   -- ---- the case that is read is under the reader's rulebook
-  took-rulebook : (g : Reading) (due : CaseDue) (l : Line) → (took g due (some l)).case.rulebook ≡ g.case.rulebook
+  took-rulebook : (g : Reading) (due : CaseDue) (l : Line) → (took g due (Some l)).case.rulebook ≡ g.case.rulebook
   took-rulebook g (variable-weight i k) l = refl
   took-rulebook g (edge-ends f) l = refl
   took-rulebook g (edge-weight f k m) l = refl
@@ -201,14 +201,14 @@ module _ (book : Rulebook) where
       (is_cut (rules_in book) t) (first_line (rules_in book) t) (tried g at due ds t (first_line (rules_in book) t))
     where
       kept : (o : Option Line) → (took g due o).case.rulebook ≡ book
-      kept none = e
-      kept (some l) = took-rulebook g due l ∙ e
+      kept None = e
+      kept (Some l) = took-rulebook g due l ∙ e
 
       go : ((o : Option Line) → (read_dues book (took g due o) (at + 1) ds (after_first (rules_in book) t)).read.case.rulebook ≡ book)
           → (b : Bool) (o : Option Line) (x : Option Refusal) → (turn g at due ds t b o x).read.case.rulebook ≡ book
       go more true o x = refl
-      go more false o (some x) = refl
-      go more false o none = more o
+      go more false o (Some x) = refl
+      go more false o None = more o
 
   lines-rulebook : (t : List ℕ) (u : List ℤ) → (read_lines book t u).read.case.rulebook ≡ book
   unfolding opened lent_well
@@ -217,10 +217,10 @@ module _ (book : Rulebook) where
     where
       go : (b : Bool) (o : Option Line) (x : Option Refusal) (long : Bool) → (opened t u b o x long).read.case.rulebook ≡ book
       go true o x long = refl
-      go false o (some x) long = refl
-      go false o none false = refl
-      go false none none true = dues-rulebook (record { case = headed book none; table = u }) refl 1 (dues (headed book none)) (after_first (rules_in book) t)
-      go false (some l) none true = dues-rulebook (record { case = headed book (some l); table = u }) refl 1 (dues (headed book (some l)))
+      go false o (Some x) long = refl
+      go false o None false = refl
+      go false None None true = dues-rulebook (record { case = headed book None; table = u }) refl 1 (dues (headed book None)) (after_first (rules_in book) t)
+      go false (Some l) None true = dues-rulebook (record { case = headed book (Some l); table = u }) refl 1 (dues (headed book (Some l)))
           (after_first (rules_in book) t)
 
   pub read-rulebook : (t : List ℕ) (u : List ℤ) → (read_case book t u).read.case.rulebook ≡ book
@@ -231,20 +231,20 @@ module _ (book : Rulebook) where
     after : Option Refusal → CaseCall
     after x =
         elim x [
-          | none ↦ call
-          | some x ↦ case_refused book x lines call.table
+          | None ↦ call
+          | Some x ↦ case_refused book x lines call.table
         ]
 
-    pub ended : drop (lines * line_length (rules_in book).amount_width) t ≡ [] → nothing_after book t call (FileAnswer.Read lines) ≡ call
+    pub ended : drop (lines * line_length (rules_in book).amount_width) t ≡ [] → nothing_after book t call (Ok lines) ≡ call
     unfolding after
     ended e = ap (λ (s : List ℕ). after (rest_refusal (rules_in book) s)) e
 
-    after_none : {k : ℕ} (x : Option Refusal) → (after x).read.answer ≡ FileAnswer.Read k → x ≡ none
+    after_none : {k : ℕ} (x : Option Refusal) → (after x).read.answer ≡ Ok k → x ≡ None
     unfolding after
-    after_none none h = refl
-    after_none (some x) h = absurd (never (rules_in book) h)
+    after_none None h = refl
+    after_none (Some x) h = absurd (never (rules_in book) h)
 
-  pub alone-taken : (t : List ℕ) (u : List ℤ) {lines : ℕ} → (read_case_alone book t u).read.answer ≡ FileAnswer.Read lines
+  pub alone-taken : (t : List ℕ) (u : List ℤ) {lines : ℕ} → (read_case_alone book t u).read.answer ≡ Ok lines
       → (read_case_alone book t u ≡ read_case book t u) × (drop (lines * line_length (rules_in book).amount_width) t ≡ [])
   unfolding after
   alone-taken t u {lines} p =
@@ -252,13 +252,13 @@ module _ (book : Rulebook) where
       (sym (ap (λ (x : CaseRead). x.answer) (zeroed-read (read_lines_alone book t u))) ∙ p) in
       (ap zeroed_call same, z)
     where
-      go : (call : CaseCall) (x : FileAnswer) → call.read.answer ≡ x → (nothing_after book t call x).read.answer ≡ FileAnswer.Read lines
+      go : (call : CaseCall) (x : Result ℕ RefusedAt) → call.read.answer ≡ x → (nothing_after book t call x).read.answer ≡ Ok lines
           → (nothing_after book t call x ≡ call) × (drop (lines * line_length (rules_in book).amount_width) t ≡ [])
-      go call (FileAnswer.Refused x at) p h = absurd (never (rules_in book) (sym p ∙ h))
-      go call (FileAnswer.Read k) p h =
+      go call (Err x) p h = absurd (never (rules_in book) (sym p ∙ h))
+      go call (Ok k) p h =
           let z = nothing_left (rules_in book) (drop (k * line_length (rules_in book).amount_width) t)
           (after_none t call k (rest_refusal (rules_in book) (drop (k * line_length (rules_in book).amount_width) t)) h) in
-          let same : nothing_after book t call (FileAnswer.Read k) ≡ call = ended t call k z in (
+          let same : nothing_after book t call (Ok k) ≡ call = ended t call k z in (
             same,
             subst (λ (i : ℕ). drop (i * line_length (rules_in book).amount_width) t ≡ [])
                 (read_same (rules_in book) (sym p ∙ sym (ap (λ (x : CaseCall). x.read.answer) same) ∙ h)) z,
@@ -271,12 +271,12 @@ module _ (book : Rulebook) where
       ∙ go (read_lines book t u) (read_lines book t u).read.answer (lines-rulebook t u)
     where
       left : (call : CaseCall) (k : ℕ) → call.read.case.rulebook ≡ book → (x : Option Refusal) → (after t call k x).read.case.rulebook ≡ book
-      left call k e none = e
-      left call k e (some x) = refl
+      left call k e None = e
+      left call k e (Some x) = refl
 
-      go : (call : CaseCall) (x : FileAnswer) → call.read.case.rulebook ≡ book → (nothing_after book t call x).read.case.rulebook ≡ book
-      go call (FileAnswer.Refused x at) e = e
-      go call (FileAnswer.Read k) e = left call k e (rest_refusal (rules_in book) (drop (k * line_length (rules_in book).amount_width) t))
+      go : (call : CaseCall) (x : Result ℕ RefusedAt) → call.read.case.rulebook ≡ book → (nothing_after book t call x).read.case.rulebook ≡ book
+      go call (Err x) e = e
+      go call (Ok k) e = left call k e (rest_refusal (rules_in book) (drop (k * line_length (rules_in book).amount_width) t))
 
 -- a property of the first and of the others
 in-cons : (P : CaseDue → Type 0) {y : CaseDue} {ys : List CaseDue} → P y → ((x : CaseDue) → x ∈ ys → P x) → (x : CaseDue) → x ∈ (y ∷ ys) → P x
@@ -362,7 +362,7 @@ module _ {book : Rulebook} (kinds : CaseKinds (rules_in book)) (n d m : ℕ) (fe
 
   -- read and written
   pub dues-read : {a b : ℕ} {ds : List CaseDue} → Run n d m a ds b → {s : State} → Sized book n d m s → (at : ℕ) (t : List ℕ) {lines : ℕ}
-      → (read_dues book (reading book n d m s) at ds t).read.answer ≡ FileAnswer.Read lines → Taken book n d m a at s ds t
+      → (read_dues book (reading book n d m s) at ds t).read.answer ≡ Ok lines → Taken book n d m a at s ds t
   dues-read (stop e) {s} h at t p = record {
     final = zeroed book n d m s;
     sized = zeroed-sized book n d m h;

@@ -2,7 +2,6 @@
 use mathlib.Core.Path.{◌≡◌, refl, sym, ap, subst, ◌∙◌}
 use mathlib.Core.Bool.{Bool, true, false, not, ◌&&◌, ◌||◌, and-true, and-false, or-false}
 use mathlib.Core.Logic.{◌↔◌, ⊎_elim}
-use mathlib.Core.Option.{Option, none, some}
 use mathlib.Core.List.{List, [], ◌∷◌}
 use Prim.Native.Nat.{ℕ, ◌+◌, ◌-◌, ◌≤◌, ◌<◌, ◌^◌}
 use native.Mathlib.Omega.{arith}
@@ -11,7 +10,7 @@ use lib.Dec.{T, T_not, eqb, eqb_refl, ltb→lt, leb→le}
 use lib.Signed.{le_z, lt_z}
 use lib.ListN.{length, get_or}
 use lib.Seq.{get_or-set_other}
-use Rattle.std.specs.Prelude.{if◌then◌else◌}
+use Rattle.std.specs.Prelude.{if◌then◌else◌, Option, Some, None}
 use Rattle.integers.specs.Words.{all, is_some, eq_z, within_z, minus}
 use Rattle.integers.specs.Tests.{tests, if-false, if-cases, and_intro, or_left, or_right, or_cases, not-not-iff}
 use Rattle.integers.specs.Linear.{flat, zs, ◌▸◌, T-eq}
@@ -58,11 +57,11 @@ case-kinds {r} coherent = record {
 }
 
 -- ---- which lines pass the tests of a due
-is_none : {A : Type 0} (o : Option A) → o ≡ none ↔ T (not (is_some o))
-is_none none = (λ e. tt, λ t. refl)
-is_none (some a) = (λ e. absurd (none-some (sym e)), λ t. absurd t)
+is_none : {A : Type 0} (o : Option A) → o ≡ None ↔ T (not (is_some o))
+is_none None = (λ e. tt, λ t. refl)
+is_none (Some a) = (λ e. absurd (none-some (sym e)), λ t. absurd t)
 
-pub passes : (ts : List Test) → first_refusal ts ≡ none ↔ T (all (λ t. not t.applies) ts)
+pub passes : (ts : List Test) → first_refusal ts ≡ None ↔ T (all (λ t. not t.applies) ts)
 passes ts = (λ e. (none-applies ts).0 ((is_none (first_refusal ts)).0 e), λ t. (is_none (first_refusal ts)).1 ((none-applies ts).1 t))
 
 -- of what is read, this line included
@@ -131,14 +130,14 @@ module _ (kind barring : ℕ) (plain : (eqb kind 14 || eqb kind 15) ≡ false) (
       (or_cases (is_kind kind t) (is_kind barring t && eq_z t.amount (pos 0)) due)
 
 module _ {r : Rules} (kinds : CaseKinds r) (g : Reading) where
-  pub passed : (due : CaseDue) (t : Line) → first_refusal (due_tests r g due (some t)) ≡ none → (t ≡ line_for due t) × Good r (took g due (some t)) due t
+  pub passed : (due : CaseDue) (t : Line) → first_refusal (due_tests r g due (Some t)) ≡ None → (t ≡ line_for due t) × Good r (took g due (Some t)) due t
   passed (variable-weight i k) t e =
       let ((z, p), ((a, b), (h, (o, u)))) =
-      simp (kinds.variable-due, tests, not-both, not-if, T-eq) at ((passes (due_tests r g (variable-weight i k) (some t))).0 e) in
+      simp (kinds.variable-due, tests, not-both, not-if, T-eq) at ((passes (due_tests r g (variable-weight i k) (Some t))).0 e) in
       (weight-shape 11 14 refl refl kinds t a b z h p, (h, o))
   passed (edge-ends x) t e =
       let ((p, z), (((a, (b, bn)), (v, vn)), (l, (o, u)))) =
-      simp (kinds.ends-due, tests, T-eq, not-and-iff, none_below) at ((passes (due_tests r g (edge-ends x) (some t))).0 e) in (
+      simp (kinds.ends-due, tests, T-eq, not-and-iff, none_below) at ((passes (due_tests r g (edge-ends x) (Some t))).0 e) in (
         line-is t p a (nat-of t.b b) (nat-of t.c v) z,
         (
           nat-less t.b t.c b l,
@@ -150,16 +149,16 @@ module _ {r : Rules} (kinds : CaseKinds r) (g : Reading) where
       )
   passed (edge-weight y k l) t e =
       let (p, (((a, b), v), (h, (o, u)))) =
-      simp (kinds.edge-due, tests, not-both, not-if, T-eq) at ((passes (due_tests r g (edge-weight y k l) (some t))).0 e) in
+      simp (kinds.edge-due, tests, not-both, not-if, T-eq) at ((passes (due_tests r g (edge-weight y k l) (Some t))).0 e) in
       (weight-shape 13 15 refl refl kinds t a b v h p, (h, o))
 
-  pub good-passes : (k : Case) (w : List ℤ) (due : CaseDue) → Good r (took g due (some (line_of k w due))) due (line_of k w due)
-      → first_refusal (due_tests r g due (some (line_of k w due))) ≡ none
+  pub good-passes : (k : Case) (w : List ℤ) (due : CaseDue) → Good r (took g due (Some (line_of k w due))) due (line_of k w due)
+      → first_refusal (due_tests r g due (Some (line_of k w due))) ≡ None
   good-passes k w (variable-weight i a) (h, o) =
       let (p, q, s, d) = weight-columns 11 14 (pos i) (pos a) (pos 0) (weight k w i a 0) in
-      (passes (due_tests r g (variable-weight i a) (some (line_of k w (variable-weight i a))))).1
+      (passes (due_tests r g (variable-weight i a) (Some (line_of k w (variable-weight i a))))).1
       (simp (kinds.variable-due, tests, not-both, not-if, T-eq) ((s, d), ((p, q), (h, (o, tt)))))
-  good-passes k w (edge-ends e) (u, v, o) = (passes (due_tests r g (edge-ends e) (some (line_of k w (edge-ends e))))).1
+  good-passes k w (edge-ends e) (u, v, o) = (passes (due_tests r g (edge-ends e) (Some (line_of k w (edge-ends e))))).1
       (simp (kinds.ends-due, tests, not-and-iff, none_below) (
         (refl, refl),
         (
@@ -177,7 +176,7 @@ module _ {r : Rules} (kinds : CaseKinds r) (g : Reading) where
       ))
   good-passes k w (edge-weight e a b) (h, o) =
       let (p, q, s, d) = weight-columns 13 15 (pos e) (pos a) (pos b) (weight k w (k.n + e) a b) in
-      (passes (due_tests r g (edge-weight e a b) (some (line_of k w (edge-weight e a b))))).1
+      (passes (due_tests r g (edge-weight e a b) (Some (line_of k w (edge-weight e a b))))).1
       (simp (kinds.edge-due, tests, not-both, not-if, T-eq) (d, (((p, q), s), (h, (o, tt)))))
 
 -- ---- a valid case is within the limits, and its lines pass
@@ -297,17 +296,17 @@ within-nat low high (pos n) t u = (refl, leb→le low n t, leb→le n high u)
 within-nat low high (negsuc n) t u = absurd t
 
 module _ {r : Rules} (kinds : CaseKinds r) where
-  pub head_passed : (t : Line) → first_refusal (head_tests r (some t)) ≡ none
+  pub head_passed : (t : Line) → first_refusal (head_tests r (Some t)) ≡ None
       → (t ≡ line 10 (pos (nat_abs t.a)) (pos (nat_abs t.b)) (pos (nat_abs t.c)) (pos 0)) × Limited r (nat_abs t.a) (nat_abs t.b) (nat_abs t.c)
   head_passed t e =
-      let ((p, z), ((((al, au), (bl, bu)), (cl, cu)), o)) = simp (kinds.head-due, tests, T-eq) at ((passes (head_tests r (some t))).0 e) in
+      let ((p, z), ((((al, au), (bl, bu)), (cl, cu)), o)) = simp (kinds.head-due, tests, T-eq) at ((passes (head_tests r (Some t))).0 e) in
       let a = within-nat 1 r.variables t.a al au in
       let b = within-nat 1 r.values t.b bl bu in
       let c = within-nat 0 r.edges t.c cl cu in
       (line-is t p a.0 b.0 c.0 z, record { some-variable = a.1; variables-most = a.2; some-value = b.1; values-most = b.2; edges_most = c.2 })
 
-  pub head-passes : (c : Case) → Limited r c.n c.d c.m → first_refusal (head_tests r (some (head_line c))) ≡ none
-  head-passes c h = (passes (head_tests r (some (head_line c)))).1
+  pub head-passes : (c : Case) → Limited r c.n c.d c.m → first_refusal (head_tests r (Some (head_line c))) ≡ None
+  head-passes c h = (passes (head_tests r (Some (head_line c)))).1
       (simp (kinds.head-due, tests) (
         (refl, refl),
         (

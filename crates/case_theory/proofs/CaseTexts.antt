@@ -1,9 +1,9 @@
 -- Case files: what is written of a case is read back, with carry 0, what is read is a valid case whose text was read, and how long the text is.
 -- Assumes nothing.
+use Rattle.definitions.specs.declared.RefusedAt.{RefusedAt}
 use mathlib.Core.Path.{◌≡◌, refl, sym, ap, ap₂, subst, ◌∙◌}
 use mathlib.Core.Bool.{false}
 use mathlib.Core.Logic.{⊎_elim}
-use mathlib.Core.Option.{some}
 use mathlib.Core.List.Memᴰ
 use mathlib.Core.List.{List, [], ◌∷◌, ◌++◌, map, append_assoc, append-nil}
 use Prim.Native.Nat.{ℕ, ◌+◌, ◌*◌, ◌≤◌, ◌<◌}
@@ -13,7 +13,7 @@ use lib.IntN.{ℤ, pos}
 use lib.Dec.{T, ltb, ltb→lt, nltb→le}
 use lib.ListN.{length, get_or, get_or-eq_default, take, replicate, length-map, take-append-drop, drop_of_length-le}
 use borrow.Author.Tests.{lt-ltb, le-ltb}
-use Rattle.std.specs.Prelude.{if◌then◌else◌}
+use Rattle.std.specs.Prelude.{if◌then◌else◌, Result, Ok, Some}
 use Rattle.integers.specs.Words.{below, joined}
 use Rattle.integers.specs.Tests.{either}
 use Rattle.integers.specs.Lists.{◌∈◌, map-map, map_same}
@@ -21,7 +21,6 @@ use Rattle.integers.specs.Tables.{Parts, length-joined, length-tab, get_d-tab}
 use Rattle.definitions.specs.declared.Rulebook.{Rulebook}
 use Rattle.definitions.specs.declared.Case.{Case}
 use Rattle.definitions.specs.declared.Line.{Line}
-use Rattle.definitions.specs.declared.FileAnswer.{FileAnswer}
 use Rattle.definitions.specs.declared.CaseRead.{CaseRead}
 use Rattle.definitions.specs.Rules.{Rules, rules_in, rules_of, edge_places, full_length, Coherent, coherent}
 use Rattle.definitions.specs.Case.{lower_end, upper_end, weight, each_tuple, lent_length}
@@ -170,7 +169,7 @@ module _ (book : Rulebook) where
   -- ---- read and written
 
   -- the lines after a head that was taken
-  taken-text : (t : List ℕ) (u : List ℤ) (n d m : ℕ) → first_line rules t ≡ some (line 10 (pos n) (pos d) (pos m) (pos 0)) → Limited rules n d m → m ≤ edge_places
+  taken-text : (t : List ℕ) (u : List ℤ) (n d m : ℕ) → first_line rules t ≡ Some (line 10 (pos n) (pos d) (pos m) (pos 0)) → Limited rules n d m → m ≤ edge_places
       → (ds : List CaseDue) → ds ≡ dues (case_at book n d m (start u)) → (o : Taken book n d m 0 1 (start u) ds (after_first rules t))
       → IsText (case_at book n d m o.final) o.final.table (1 + length ds) (take ((1 + length ds) * line_length rules.amount_width) t)
   taken-text t u n d m first limits few ds e o =
@@ -185,20 +184,20 @@ module _ (book : Rulebook) where
         plain = tidied-is c few o.sized.lower_long o.sized.upper_long (λ e h. (o.sized.lower-past e h, o.sized.upper-past e h)) refl;
       }
 
-  pub written_read : (t : List ℕ) (u : List ℤ) {lines : ℕ} → (read_case book t u).read.answer ≡ FileAnswer.Read lines
+  pub written_read : (t : List ℕ) (u : List ℤ) {lines : ℕ} → (read_case book t u).read.answer ≡ Ok lines
       → IsText (read_case book t u).read.case (read_case book t u).table lines (take (lines * line_length rules.amount_width) t)
   written_read t u {lines} p =
       let r = sym (ap (λ (x : CaseRead). x.answer) (zeroed-read (read_lines book t u))) ∙ p in
       let (whole, l, first, q, long) = head-taken book t u r in
       let (shape, limits) = head_passed kinds l q in
-      let c : Case = headed book (some l) in
+      let c : Case = headed book (Some l) in
       let few : c.m ≤ edge_places = omega (arith, limits.edges_most, (coherent book).edges_placed) in
       let begun = take_head book t u whole first q long in
       let o = dues-read kinds c.n c.d c.m few (dues-run c) (start-sized book c.n c.d c.m u limits long) 1 (after_first rules t)
       (sym (ap (λ (x : CaseCall). x.read.answer) begun) ∙ r) in
-      go (read_case book t u) _ (ap zeroed_call begun ∙ o.result) p (taken-text t u c.n c.d c.m (first ∙ ap some shape) limits few (dues c) refl o)
+      go (read_case book t u) _ (ap zeroed_call begun ∙ o.result) p (taken-text t u c.n c.d c.m (first ∙ ap Some shape) limits few (dues c) refl o)
     where
-      go : (call : CaseCall) {g : Reading} (k : ℕ) → call ≡ case_taken g k → call.read.answer ≡ FileAnswer.Read lines
+      go : (call : CaseCall) {g : Reading} (k : ℕ) → call ≡ case_taken g k → call.read.answer ≡ Ok lines
           → IsText g.case g.table k (take (k * line_length rules.amount_width) t)
           → IsText call.read.case call.table lines (take (lines * line_length rules.amount_width) t)
       go call {g} k e p h =
@@ -206,7 +205,7 @@ module _ (book : Rulebook) where
           (read_same rules (sym (ap (λ (x : CaseCall). x.read.answer) e) ∙ p))
           (subst (λ (x : CaseCall). IsText x.read.case x.table k (take (k * line_length rules.amount_width) t)) (sym e) h)
 
-  pub written-read-alone : (t : List ℕ) (u : List ℤ) {lines : ℕ} → (read_case_alone book t u).read.answer ≡ FileAnswer.Read lines
+  pub written-read-alone : (t : List ℕ) (u : List ℤ) {lines : ℕ} → (read_case_alone book t u).read.answer ≡ Ok lines
       → IsText (read_case_alone book t u).read.case (read_case_alone book t u).table lines t
   written-read-alone t u {lines} p =
       let (same, z) = alone-taken book t u p in
@@ -241,7 +240,7 @@ module _ (c : Case) (w : List ℤ) (v : Valid (rules_of c) c w) where
       omega (arith, text-length (coherent c.rulebook) c w v, mul_comm (line_count c) (line_length (rules_of c).amount_width)) in
       let call : CaseCall = read_lines c.rulebook (case_text (rules_of c) c w) u in
       let read : zeroed_call call ≡ case_taken (record { case = tidied c; table = w }) (line_count c) = rw append-nil at (read-written [] u long) in
-      ap (λ (x : FileAnswer). zeroed_call (nothing_after c.rulebook (case_text (rules_of c) c w) call x))
+      ap (λ (x : Result ℕ RefusedAt). zeroed_call (nothing_after c.rulebook (case_text (rules_of c) c w) call x))
       (sym (ap (λ (x : CaseRead). x.answer) (zeroed-read call)) ∙ ap (λ (x : CaseCall). x.read.answer) read)
       ∙ ap zeroed_call (ended c.rulebook (case_text (rules_of c) c w) call (line_count c) (drop_of_length-le (case_text (rules_of c) c w) end))
       ∙ read

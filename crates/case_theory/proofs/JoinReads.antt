@@ -3,7 +3,6 @@
 use mathlib.Core.Path.{◌≡◌, refl, sym, ap, ap₂, subst, ◌∙◌}
 use mathlib.Core.Bool.{Bool, not, ◌||◌}
 use mathlib.Core.Logic.{◌≢◌, ⊎_elim}
-use mathlib.Core.Option.{some, none}
 use mathlib.Core.List.{List, map}
 use Prim.Native.Nat.{ℕ, suc, ◌+◌, ◌*◌, ◌-◌, ◌≤◌, ◌<◌}
 use native.Mathlib.Nat.{mul-le-mul_right}
@@ -12,7 +11,7 @@ use lib.IntN.{ℤ, pos, nat_abs}
 use lib.Dec.{T, not_T, ltb, ltb→lt, nltb→le, lt→ltb, le→leb}
 use lib.ListN.{length, get_or, set, replicate, length-append, length-replicate, get_or-append}
 use lib.Seq.{get_or-set_other, get_or-append-add}
-use Rattle.std.specs.Prelude.{if◌then◌else◌}
+use Rattle.std.specs.Prelude.{if◌then◌else◌, Some, None}
 use Rattle.integers.specs.Words.{below, all, joined}
 use Rattle.integers.specs.Lists.{map_same}
 use Rattle.integers.specs.Tables.{length-tab, get_d-tab}
@@ -62,7 +61,7 @@ module _ (c : Case) (p : ℕ) where
   abbrev after : State → CaseDue → Line → State
   after s due t = next c.rulebook (c.n + 1) c.d (c.m + p) s due t
 
-  pub took-after : (s : State) (due : CaseDue) (t : Line) → took (grown_reading s) due (some t) ≡ grown_reading (after s due t)
+  pub took-after : (s : State) (due : CaseDue) (t : Line) → took (grown_reading s) due (Some t) ≡ grown_reading (after s due t)
   took-after s (variable-weight i k) t = refl
   took-after s (edge-ends e) t = refl
   took-after s (edge-weight e k l) t = refl
@@ -232,12 +231,12 @@ module _ (c : Case) (w₀ : List ℤ) (p : ℕ) where
   module _ (kinds : CaseKinds (rules_of c)) (few : c.m + p ≤ edge_places) where
     -- what passes the tests of a join's line passes those of a case file's
     join-passes : (g : Reading) (due : CaseDue) (t : Line) → g.case.n ≡ c.n + 1
-        → first_refusal (join_line_tests (rules_of c) g due t) ≡ none → first_refusal (due_tests (rules_of c) g due (some t)) ≡ none
+        → first_refusal (join_line_tests (rules_of c) g due t) ≡ None → first_refusal (due_tests (rules_of c) g due (Some t)) ≡ None
     join-passes g (variable-weight i k) t n e = e
     join-passes g (edge-ends x) t n e =
         let h = simp (kinds.ends-due, tests, T-eq, not-and-iff, none_below) at ((passes (join_line_tests (rules_of c) g (edge-ends x) t)).0 e) in
         let d = h.1.0.1 in
-        (passes (due_tests (rules_of c) g (edge-ends x) (some t))).1 (simp (kinds.ends-due, tests, T-eq, not-and-iff, none_below) (
+        (passes (due_tests (rules_of c) g (edge-ends x) (Some t))).1 (simp (kinds.ends-due, tests, T-eq, not-and-iff, none_below) (
           h.0,
           (
             (h.1.0.0, (rw d (le→leb 0 (g.case.n - 1) (omega arith)), rw d (lt→ltb (g.case.n - 1) g.case.n (omega arith)))),
@@ -284,7 +283,7 @@ module _ (c : Case) (w₀ : List ℤ) (p : ℕ) where
 
     -- the next line
     pub join-next : (q : ℕ) (s : State) (x : CaseDue) (t : Line) → JoinRead q s → IsDue 1 c.d p x → rank 1 c.d p x ≡ q
-        → first_refusal (join_line_tests (rules_of c) (grown_reading c p s) (renumbered c x) t) ≡ none
+        → first_refusal (join_line_tests (rules_of c) (grown_reading c p s) (renumbered c x) t) ≡ None
         → JoinRead (suc q) (after c p s (renumbered c x) t)
     join-next q s x t h u at e =
         let v = renumbered-due c p x u in

@@ -1,8 +1,8 @@
 -- A case file written line by line. Assumes nothing.
+use Rattle.std.specs.Prelude.{Ok, Err, Option, Some, None}
 use Rattle.case_lines.specs.Dues.{bytes_of_line}
 use mathlib.Core.Path.{◌≡◌, refl, sym, ap, ap₂, subst, ◌∙◌}
 use mathlib.Core.Bool.{true, false}
-use mathlib.Core.Option.{Option, none, some}
 use mathlib.Core.List.{List, [], ◌∷◌, ◌++◌, map, append_assoc, append-nil}
 use Prim.Native.Nat.{ℕ, ◌+◌, ◌*◌, ◌-◌, ◌≤◌, ◌<◌}
 use native.Mathlib.Numerals.{add-one}
@@ -16,8 +16,6 @@ use Rattle.integers.specs.Words.{joined}
 use Rattle.integers.specs.Lists.{◌∈◌, map-append, map-map, joined-append}
 use Rattle.integers.specs.Tables.{get_d-in}
 use Rattle.definitions.specs.declared.Case.{Case}
-use Rattle.definitions.specs.declared.Outcome.{Outcome}
-use Rattle.definitions.specs.declared.Written.{Written}
 use Rattle.definitions.specs.declared.Refusal.{Refusal}
 use Rattle.definitions.specs.declared.Refusal.TheVariants.{OutsideLimits}
 use Rattle.definitions.specs.Refusals.{first_refusal}
@@ -155,40 +153,40 @@ module _ (c : Case) (w : List ℤ) (out : List ℕ) where
       let o = first_refusal (handed_over (rules_of c) (starting_weight (rules_of c)) c w (ltb (length out) n) false) in
       record { answer = written_of o n; out = unless_refused o (overwritten (case_text (rules_of c) c w) out) out }) bytes-are
 
-  refused-is : {x : Refusal} → write_asked ≡ some x → write_case_call (rules_of c) c w out ≡ record { answer = Written.Refused x; out = out }
+  refused-is : {x : Refusal} → write_asked ≡ Some x → write_case_call (rules_of c) c w out ≡ record { answer = Err x; out = out }
   refused-is e = call-is ∙ ap (λ o. record {
     answer = written_of o (bytes_of_line c.rulebook * (lines_due sizes_of + 1));
     out =
         unless_refused o (overwritten (case_text (rules_of c) c w) out) out;
   }) e
 
-  pub write-limits : within_limits (rules_of c) c.n c.d c.m ≡ false → (Written.Refused OutsideLimits ≡ (write_case_call (rules_of c) c w out).answer)
+  pub write-limits : within_limits (rules_of c) c.n c.d c.m ≡ false → Err OutsideLimits ≡ (write_case_call (rules_of c) c w out).answer
       × (out ≡ (write_case_call (rules_of c) c w out).out)
   write-limits h = let e = refused-is {x = OutsideLimits} (rw h) in (sym (ap (λ c. c.answer) e), sym (ap (λ c. c.out) e))
 
-  pub write-refused : {x : Refusal} → Outcome.Refused x ≡ outcome_of write_asked → (Written.Refused x ≡ (write_case_call (rules_of c) c w out).answer)
+  pub write-refused : {x : Refusal} → Err x ≡ outcome_of write_asked → Err x ≡ (write_case_call (rules_of c) c w out).answer
       × (out ≡ (write_case_call (rules_of c) c w out).out)
   write-refused h = let e = refused-is (outcome-refused h) in (sym (ap (λ c. c.answer) e), sym (ap (λ c. c.out) e))
 
-  module _ (h : Outcome.Done ≡ outcome_of write_asked) where
+  module _ (h : Ok tt ≡ outcome_of write_asked) where
     -- the carry is not written
     pub write-valid : Valid (rules_of c) (case_with sizes_of c.lower c.upper) w × (bytes_of_line c.rulebook * (lines_due sizes_of + 1) ≤ length out)
     write-valid =
-        let d : write_asked ≡ none = outcome-done h in
+        let d : write_asked ≡ None = outcome-done h in
         let (v, short, o) = (handed (rules_of c) (starting_weight (rules_of c)) c w (ltb (length out) (bytes_of_line c.rulebook * (lines_due sizes_of + 1))) false).0
         (rw d tt) in
         (valid-remade v c.lower c.upper (λ e h. refl) (λ e h. refl) (zero-carried (rules_of c)), nltb→le (length out) (bytes_of_line c.rulebook * (lines_due sizes_of + 1)) short)
 
     pub write-done-is : {n : ℕ} {u : List ℕ} → n ≡ bytes_of_line c.rulebook * (lines_due sizes_of + 1) → u ≡ overwritten (case_text (rules_of c) c w) out
-        → (Written.Bytes n ≡ (write_case_call (rules_of c) c w out).answer) × (u ≡ (write_case_call (rules_of c) c w out).out)
+        → Ok n ≡ (write_case_call (rules_of c) c w out).answer × (u ≡ (write_case_call (rules_of c) c w out).out)
     write-done-is p q =
-        let d : write_asked ≡ none = outcome-done h in
+        let d : write_asked ≡ None = outcome-done h in
         let e = call-is ∙ ap (λ o. record {
           answer = written_of o (bytes_of_line c.rulebook * (lines_due sizes_of + 1));
           out =
               unless_refused o (overwritten (case_text (rules_of c) c w) out) out;
         }) d in
-        (ap Written.Bytes p ∙ sym (ap (λ c. c.answer) e), q ∙ sym (ap (λ c. c.out) e))
+        (ap Ok p ∙ sym (ap (λ c. c.answer) e), q ∙ sym (ap (λ c. c.out) e))
 
 pub limits-are : (c : Case) → within_limits (rules_of c) c.n c.d c.m ≡ true
     → SizesLimited (record { n = c.n; d = c.d; m = c.m; rulebook = c.rulebook })

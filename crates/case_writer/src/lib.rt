@@ -11,7 +11,7 @@ ghost use Rattle.case_theory.proofs.CaseDues.{line_of};
 ghost use Rattle.case_lines.specs.Dues.{bytes_of_line, SizesLimited, due_awaited, InCase, lines_due, case_with, places_of};
 
 use case_lines::{Awaited, Sizes};
-use definitions::{Case, EDGE_PLACES, Line, Outcome, Refusal, Rulebook, Written};
+use definitions::{Case, EDGE_PLACES, Line, Refusal, Rulebook};
 
 fn make_line(kind: usize, a: usize, b: usize, c: usize, amount: i64) -> Line
     requires { (kind < 65536) × (a < 65536) × (b < 65536) × (c < 65536) }
@@ -121,12 +121,12 @@ fn file_bytes(sizes: Sizes) -> usize
 // ---- the call
 
 // Writes the case and its starting weights at out's first bytes. The carry is in no file.
-pub fn write_case(case: Case, table: &[i64], out: &mut [u8]) -> Written
+pub fn write_case(case: Case, table: &[i64], out: &mut [u8]) -> Result<usize, Refusal>
     ensures { (result ≡ (write_case_call (rules_of case) case table.now out.old).answer)
         × (out.new ≡ (write_case_call (rules_of case) case table.now out.old).out) }
 {
     if !tables::within_limits(case) {
-        return Written::Refused(Refusal::OutsideLimits);
+        return Err(Refusal::OutsideLimits);
     }
     let rulebook = case.rulebook;
     let sizes = Sizes {
@@ -139,10 +139,10 @@ pub fn write_case(case: Case, table: &[i64], out: &mut [u8]) -> Written
     let short = out.len() < bytes;
     let checked = tables::check_starting(case, table, short, false);
     match checked {
-        Outcome::Refused(refusal) => Written::Refused(refusal),
-        Outcome::Done => {
+        Err(refusal) => Err(refusal),
+        Ok(()) => {
             put_lines(sizes, &case.lower, &case.upper, table, out);
-            Written::Bytes(bytes)
+            Ok(bytes)
         }
     }
 }

@@ -1,8 +1,10 @@
 -- The head of a case file, and then its lines. Assumes nothing.
+use Rattle.definitions.specs.declared.RefusedAt.{RefusedAt}
+use Rattle.definitions.specs.Answers.{refused_at}
+use Rattle.definitions.specs.Answers.{size_with}
 use mathlib.Core.Path.{◌≡◌, refl, sym, ap, ap₂, ◌∙◌}
 use mathlib.Core.Bool.{Bool, true, false, not, ◌&&◌}
 use mathlib.Core.Logic.{◌≢◌, ⊎_elim}
-use mathlib.Core.Option.{Option, none, some}
 use mathlib.Core.List.{List, [], ◌∷◌}
 use Prim.Native.Nat.{ℕ, ◌*◌, ◌≤◌}
 use native.Mathlib.Omega.{arith}
@@ -10,12 +12,11 @@ use lib.IntN.{ℤ}
 use lib.Dec.{eqb, nltb→le}
 use lib.ListN.{length, length-drop}
 use borrow.Author.Tests.{eq-eqb, ne_eqb}
-use Rattle.std.specs.Prelude.{if◌then◌else◌}
+use Rattle.std.specs.Prelude.{if◌then◌else◌, Result, Ok, Err, Option, Some, None}
 use Rattle.integers.specs.Tests.{is_true, false-is, either, and_left, and_right, not-not-iff}
 use Rattle.definitions.specs.declared.Rulebook.{Rulebook}
 use Rattle.definitions.specs.declared.Case.{Case}
 use Rattle.definitions.specs.declared.Line.{Line}
-use Rattle.definitions.specs.declared.FileAnswer.{FileAnswer}
 use Rattle.definitions.specs.declared.CaseRead.{CaseRead}
 use Rattle.definitions.specs.declared.CaseSize.{CaseSize}
 use Rattle.definitions.specs.declared.Refusal.{Refusal}
@@ -38,12 +39,12 @@ use Rattle.casefile.proofs.Left.{left-first, dues-whole}
 
 -- ---- what is handed back of a call
 
-module _ (b : Rulebook) {call : CaseCall} {u : CaseRead} (r : FileAnswer) (g : Reading) (e : call_with b r g ≡ call) where
-  pub handed-refused : {x : Refusal} {at : ℕ} → r ≡ FileAnswer.Refused x at → u ≡ (case_refused b x at g.table).read → (u ≡ call.read)
+module _ (b : Rulebook) {call : CaseCall} {u : CaseRead} (r : Result ℕ RefusedAt) (g : Reading) (e : call_with b r g ≡ call) where
+  pub handed-refused : {x : Refusal} {at : ℕ} → r ≡ Err (refused_at x at) → u ≡ (case_refused b x at g.table).read → (u ≡ call.read)
       × (g.table ≡ call.table)
   handed-refused p q = let d = sym (ap (λ r. call_with b r g) p) ∙ e in (q ∙ ap (λ c. c.read) d, ap (λ c. c.table) d)
 
-  pub handed-taken : {lines : ℕ} → r ≡ FileAnswer.Read lines → u ≡ (case_taken g lines).read → (u ≡ call.read) × (g.table ≡ call.table)
+  pub handed-taken : {lines : ℕ} → r ≡ Ok lines → u ≡ (case_taken g lines).read → (u ≡ call.read) × (g.table ≡ call.table)
   handed-taken p q = let d = sym (ap (λ r. call_with b r g) p) ∙ e in (q ∙ ap (λ c. c.read) d, ap (λ c. c.table) d)
 
 pub handed-same : {call other : CaseCall} {u : CaseRead} {v : List ℤ} → other ≡ call → (u ≡ call.read) × (v ≡ call.table) → (u ≡ other.read)
@@ -52,35 +53,35 @@ handed-same e (p, q) = (p ∙ sym (ap (λ c. c.read) e), q ∙ sym (ap (λ c. c.
 
 -- ---- by the refusal of the head, and the case that it names
 
-size_by : Rulebook → Option Refusal → Case → CaseSize
+size_by : Rulebook → Option Refusal → Case → Result CaseSize Refusal
 size_by b o c = elim o [
-  | none ↦ CaseSize.Size c.n c.d c.m (lent_length (rules_in b) c)
-  | some x ↦ CaseSize.Refused x
+  | None ↦ Ok (size_with c.n c.d c.m (lent_length (rules_in b) c))
+  | Some x ↦ Err x
 ]
 
-size_none : (b : Rulebook) (o : Option Refusal) (c : Case) {n d m long : ℕ} → size_by b o c ≡ CaseSize.Size n d m long
-    → (o ≡ none) × (c.n ≡ n) × (c.d ≡ d) × (c.m ≡ m) × (lent_length (rules_in b) c ≡ long)
+size_none : (b : Rulebook) (o : Option Refusal) (c : Case) {n d m long : ℕ} → size_by b o c ≡ Ok (size_with n d m long)
+    → (o ≡ None) × (c.n ≡ n) × (c.d ≡ d) × (c.m ≡ m) × (lent_length (rules_in b) c ≡ long)
 unfolding size_by
-size_none b none c e = (refl, (cc), (cc), (cc), (cc))
-size_none b (some x) c e = ((cc), (cc), (cc), (cc), (cc))
+size_none b None c e = (refl, (cc), (cc), (cc), (cc))
+size_none b (Some x) c e = ((cc), (cc), (cc), (cc), (cc))
 
-size-some : (b : Rulebook) (o : Option Refusal) (c : Case) {x : Refusal} → size_by b o c ≡ CaseSize.Refused x → o ≡ some x
+size-some : (b : Rulebook) (o : Option Refusal) (c : Case) {x : Refusal} → size_by b o c ≡ Err x → o ≡ Some x
 unfolding size_by
-size-some b none c e = cc
-size-some b (some y) c e = cc
+size-some b None c e = cc
+size-some b (Some y) c e = cc
 
 headed-is : (b : Rulebook) (o : Option Line) → headed b o ≡ case_of b (headed b o).n (headed b o).d (headed b o).m
-headed-is b none = refl
-headed-is b (some l) = refl
+headed-is b None = refl
+headed-is b (Some l) = refl
 
 module _ (b : Rulebook) (t : List ℕ) (w : List ℤ) where
   case_by : Option Refusal → Case → CaseCall
   case_by o c = elim o [
-    | none ↦
+    | None ↦
         if eqb (length w) (lent_length (rules_in b) c)
         then read_dues b (record { case = c; table = w }) 1 (dues c) (after_first (rules_in b) t)
         else case_refused b WrongLength 0 w
-    | some x ↦ case_refused b x 0 w
+    | Some x ↦ case_refused b x 0 w
   ]
 
   case-is : read_lines b t w ≡ case_by (head_refusal (rules_in b) t) (headed b (first_line (rules_in b) t))
@@ -91,22 +92,22 @@ module _ (b : Rulebook) (t : List ℕ) (w : List ℤ) where
   unfolding size_by
   size_is = refl
 
-  pub case-refused : {x : Refusal} → case_size b t ≡ CaseSize.Refused x → read_lines b t w ≡ case_refused b x 0 w
+  pub case-refused : {x : Refusal} → case_size b t ≡ Err x → read_lines b t w ≡ case_refused b x 0 w
   unfolding case_by
   case-refused {x} e =
-      let o : head_refusal (rules_in b) t ≡ some x = size-some b (head_refusal (rules_in b) t) (headed b (first_line (rules_in b) t)) (sym size_is ∙ e) in
+      let o : head_refusal (rules_in b) t ≡ Some x = size-some b (head_refusal (rules_in b) t) (headed b (first_line (rules_in b) t)) (sym size_is ∙ e) in
       case-is ∙ ap (λ o. case_by o (headed b (first_line (rules_in b) t))) o
 
-  module _ (n d m : ℕ) {long : ℕ} (e : case_size b t ≡ CaseSize.Size n d m long) where
+  module _ (n d m : ℕ) {long : ℕ} (e : case_size b t ≡ Ok (size_with n d m long)) where
     abbrev s : Sizes
     s = record { n = n; d = d; m = m; rulebook = b }
 
-    named : (head_refusal (rules_in b) t ≡ none) × (headed b (first_line (rules_in b) t) ≡ case_of b s.n s.d s.m) × (full_length (rules_in b) d ≡ long)
+    named : (head_refusal (rules_in b) t ≡ None) × (headed b (first_line (rules_in b) t) ≡ case_of b s.n s.d s.m) × (full_length (rules_in b) d ≡ long)
     named =
         let (o, n, d, m, l) = size_none b (head_refusal (rules_in b) t) (headed b (first_line (rules_in b) t)) (sym size_is ∙ e) in
         (o, headed-is b (first_line (rules_in b) t) ∙ cc, cc)
 
-    case-none : read_lines b t w ≡ case_by none (case_of b s.n s.d s.m)
+    case-none : read_lines b t w ≡ case_by None (case_of b s.n s.d s.m)
     case-none = case-is ∙ ap₂ case_by named.0 named.1
 
     pub case-wrong : length w ≢ long → read_lines b t w ≡ case_refused b WrongLength 0 w
@@ -117,11 +118,11 @@ module _ (b : Rulebook) (t : List ℕ) (w : List ℤ) where
     unfolding case_by
     case-right h = case-none ∙ rw (eq-eqb (length w) (full_length (rules_in b) d) (h ∙ sym named.2)) (sym (left-first s (reading_of s no_ends no_ends w) t))
 
-    refusal-parts : (short : Bool) (o : Option Refusal) → (if short then some CutShort else o) ≡ none → (short ≡ false) × (o ≡ none)
+    refusal-parts : (short : Bool) (o : Option Refusal) → (if short then Some CutShort else o) ≡ None → (short ≡ false) × (o ≡ None)
     refusal-parts true o p = ((cc), (cc))
     refusal-parts false o p = (refl, p)
 
-    not-cut : (is_cut (rules_in b) t ≡ false) × (first_refusal (head_tests (rules_in b) (first_line (rules_in b) t)) ≡ none)
+    not-cut : (is_cut (rules_in b) t ≡ false) × (first_refusal (head_tests (rules_in b) (first_line (rules_in b) t)) ≡ None)
     not-cut = refusal-parts (is_cut (rules_in b) t) (first_refusal (head_tests (rules_in b) (first_line (rules_in b) t))) named.0
 
     pub head-whole : bytes_of_line b ≤ length t
@@ -131,12 +132,12 @@ module _ (b : Rulebook) (t : List ℕ) (w : List ℤ) where
     pub sizes-limited : SizesLimited s
     sizes-limited = go (first_line (rules_in b) t) not-cut.1 named.1
       where
-        go : (o : Option Line) → first_refusal (head_tests (rules_in b) o) ≡ none → headed b o ≡ case_of b s.n s.d s.m → SizesLimited s
-        go none p q = let z : ◌≡◌ {A = ℕ} 0 1 = cc in absurd (omega arith)
-        go (some l) p q =
+        go : (o : Option Line) → first_refusal (head_tests (rules_in b) o) ≡ None → headed b o ≡ case_of b s.n s.d s.m → SizesLimited s
+        go None p q = let z : ◌≡◌ {A = ℕ} 0 1 = cc in absurd (omega arith)
+        go (Some l) p q =
             let limits = limits_z b l.a l.b l.c in
             let k = and_left (not (not limits)) true (and_right (not (not_due (rules_in b) (10 ∷ []) l)) (not (not limits) && true)
-            ((none-applies (head_tests (rules_in b) (some l))).0 (rw p tt))) in
+            ((none-applies (head_tests (rules_in b) (Some l))).0 (rw p tt))) in
             let (n, d, m) = limits-in b l.a l.b l.c ((not-not-iff limits).0 k) in
             sizes-few s
             (omega (arith, ap (λ c. c.n) q, n.2))
@@ -152,17 +153,17 @@ module _ (b : Rulebook) (t : List ℕ) (w : List ℤ) where
 module _ (b : Rulebook) (t : List ℕ) (w : List ℤ) {lines : ℕ} where
   whole_length : (fits : Bool) (c : Case) → bytes_of_line b ≤ length t
       → (if fits then read_dues b (record { case = c; table = w }) 1 (dues c)
-      (after_first (rules_in b) t) else case_refused b WrongLength 0 w).read.answer ≡ FileAnswer.Read lines → lines * bytes_of_line b ≤ length t
+      (after_first (rules_in b) t) else case_refused b WrongLength 0 w).read.answer ≡ Ok lines → lines * bytes_of_line b ≤ length t
   whole_length true c h e = omega (arith, dues-whole b (dues c) (record { case = c; table = w }) 1 (after_first (rules_in b) t) e, length-drop (bytes_of_line b) t)
   whole_length false c h e = let z : ◌≡◌ {A = ℕ} 0 1 = cc in omega arith
 
   whole_by : (short : Bool) (o : Option Refusal) → is_cut (rules_in b) t ≡ short → (c : Case)
-      → (case_by b t w (if short then some CutShort else o) c).read.answer ≡ FileAnswer.Read lines → lines * bytes_of_line b ≤ length t
+      → (case_by b t w (if short then Some CutShort else o) c).read.answer ≡ Ok lines → lines * bytes_of_line b ≤ length t
   unfolding case_by
   whole_by true o d c e = let z : ◌≡◌ {A = ℕ} 0 1 = cc in omega arith
-  whole_by false none d c e = whole_length (eqb (length w) (lent_length (rules_in b) c)) c (nltb→le (length t) (bytes_of_line b) (false-is (is_cut (rules_in b) t) d)) e
-  whole_by false (some x) d c e = let z : ◌≡◌ {A = ℕ} 0 1 = cc in omega arith
+  whole_by false None d c e = whole_length (eqb (length w) (lent_length (rules_in b) c)) c (nltb→le (length t) (bytes_of_line b) (false-is (is_cut (rules_in b) t) d)) e
+  whole_by false (Some x) d c e = let z : ◌≡◌ {A = ℕ} 0 1 = cc in omega arith
 
-  pub read_whole : (read_lines b t w).read.answer ≡ FileAnswer.Read lines → lines * bytes_of_line b ≤ length t
+  pub read_whole : (read_lines b t w).read.answer ≡ Ok lines → lines * bytes_of_line b ≤ length t
   read_whole e = whole_by (is_cut (rules_in b) t) (first_refusal (head_tests (rules_in b) (first_line (rules_in b) t))) refl (headed b (first_line (rules_in b) t))
       (sym (ap (λ c. c.read.answer) (case-is b t w)) ∙ e)

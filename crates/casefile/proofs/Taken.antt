@@ -2,7 +2,6 @@
 use mathlib.Core.Path.{◌≡◌, refl, sym, ap, ap₂, subst, ◌∙◌}
 use mathlib.Core.Bool.{Bool, true, false, not, ◌&&◌, and-true, and-false}
 use mathlib.Core.Logic.{⊎_elim}
-use mathlib.Core.Option.{Option, none, some}
 use mathlib.Core.List.{List, [], ◌∷◌}
 use Prim.Native.Nat.{ℕ, ◌+◌, ◌*◌, ◌≤◌, ◌<◌}
 use native.Mathlib.Omega.{arith}
@@ -19,7 +18,7 @@ use Rattle.definitions.specs.Refusals.{◌when◌, first_refusal}
 use Rattle.definitions.specs.Case.{barred_weight, is_barred}
 use Rattle.definitions.specs.Valid.{in_starting}
 use Rattle.definitions.specs.CaseFiles.{CaseDue, variable-weight, edge-ends, edge-weight, names, bars, weight_in, Reading, took, due_tests, is_cut, first_line}
-use Rattle.std.specs.Prelude.{if◌then◌else◌}
+use Rattle.std.specs.Prelude.{if◌then◌else◌, Result, Ok, Err, Option, Some, None, ⊤}
 use Rattle.integers.specs.Words.{eq_z}
 use Rattle.integers.specs.Tests.{tests, and-iff, not-or-iff, either, is_true, is_false, and_left, and_right}
 use Rattle.theory.proofs.Validity.{none-applies}
@@ -34,28 +33,26 @@ use Rattle.casefile.proofs.Heads.{Front, cut, bad, good}
 use Rattle.casefile.proofs.Tests.{due-11, due-12, due-13, due-14, due-15, not-ends}
 use Rattle.casefile.proofs.Barring.{variable-stored, edge-stored}
 use Rattle.definitions.specs.declared.Refusal.{Refusal}
-use Rattle.definitions.specs.declared.Outcome.{Outcome}
-use Rattle.definitions.specs.declared.LineRead.{LineRead}
 use Rattle.definitions.specs.Lines.{outside}
 use Rattle.definitions.specs.Answers.{outcome_of, unless_refused}
 use Rattle.tables.proofs.Order.{outcome-done, outcome-refused, first_next, first_stops}
 
 module _ {A : Type 0} (o : Option Refusal) (a b : A) where
-  pub kept : {x : Refusal} → o ≡ some x → b ≡ unless_refused o a b
+  pub kept : {x : Refusal} → o ≡ Some x → b ≡ unless_refused o a b
   kept e = rw e
 
-  pub table-changed : o ≡ none → a ≡ unless_refused o a b
+  pub table-changed : o ≡ None → a ≡ unless_refused o a b
   table-changed e = rw e
 
 -- what was checked, by whether it is done
 module _ {A : Type 0} (a b : A) where
   pub if-done : (o : Option Refusal) → is_done (outcome_of o) ≡ true → a ≡ unless_refused o a b
-  if-done none e = refl
-  if-done (some x) e = let z : ◌≡◌ {A = ℕ} 0 1 = cc in absurd (omega arith)
+  if-done None e = refl
+  if-done (Some x) e = let z : ◌≡◌ {A = ℕ} 0 1 = cc in absurd (omega arith)
 
   pub if-not-done : (o : Option Refusal) → is_done (outcome_of o) ≡ false → b ≡ unless_refused o a b
-  if-not-done none e = let z : ◌≡◌ {A = ℕ} 0 1 = cc in absurd (omega arith)
-  if-not-done (some x) e = refl
+  if-not-done None e = let z : ◌≡◌ {A = ℕ} 0 1 = cc in absurd (omega arith)
+  if-not-done (Some x) e = refl
 
 -- ---- the tests of each line
 
@@ -101,14 +98,14 @@ module _ (s : Sizes) (lower upper : List ℕ) (w : List ℤ) (l : Line) where
   starting = in_starting (rules_in s.rulebook) l.amount
 
   abbrev refused : CaseDue → Option Refusal
-  refused due = line_refusal s.rulebook (reading_of s lower upper w) due (some l)
+  refused due = line_refusal s.rulebook (reading_of s lower upper w) due (Some l)
 
   -- an edge's tests are those of its line alone, and then whether it is repeated
   ends-tests : (e : ℕ) → refused (edge-ends e) ≡ ends_refusal s.n lower upper e l
   unfolding line_refusal ends_refusal
   ends-tests e = rw (due-12 s.rulebook l)
 
-  ends-barred : bars l ≡ true → (e : ℕ) → refused (edge-ends e) ≡ some NotDue
+  ends-barred : bars l ≡ true → (e : ℕ) → refused (edge-ends e) ≡ Some NotDue
   unfolding line_refusal
   ends-barred o e = rw (not-ends s.rulebook l o)
 
@@ -146,22 +143,22 @@ module _ (s : Sizes) (lower upper : List ℕ) (w : List ℤ) (l : Line) where
 module _ (s : Sizes) (lower upper : List ℕ) where
   table-unless : (o : Option Refusal) (a w : List ℤ) → reading_of s lower upper (unless_refused o a w) ≡ unless_refused o (reading_of s lower upper a)
       (reading_of s lower upper w)
-  table-unless none a w = refl
-  table-unless (some x) a w = refl
+  table-unless None a w = refl
+  table-unless (Some x) a w = refl
 
 ends-unless : (s : Sizes) (o : Option Refusal) (a b lower upper : List ℕ) (w : List ℤ)
     → reading_of s (unless_refused o a lower) (unless_refused o b upper) w ≡ unless_refused o (reading_of s a b w) (reading_of s lower upper w)
-ends-unless s none a b lower upper w = refl
-ends-unless s (some x) a b lower upper w = refl
+ends-unless s None a b lower upper w = refl
+ends-unless s (Some x) a b lower upper w = refl
 
-module _ (s : Sizes) (lower upper : List ℕ) (w : List ℤ) (l : Line) {r : Outcome} where
-  by-refusal : (o : Option Refusal) (due : CaseDue) {g : Reading} → line_refusal s.rulebook (reading_of s lower upper w) due (some l) ≡ o → r ≡ outcome_of o
-      → g ≡ unless_refused o (took (reading_of s lower upper w) due (some l)) (reading_of s lower upper w) → Stepped s lower upper w l due r g
+module _ (s : Sizes) (lower upper : List ℕ) (w : List ℤ) (l : Line) {r : Result ⊤ Refusal} where
+  by-refusal : (o : Option Refusal) (due : CaseDue) {g : Reading} → line_refusal s.rulebook (reading_of s lower upper w) due (Some l) ≡ o → r ≡ outcome_of o
+      → g ≡ unless_refused o (took (reading_of s lower upper w) due (Some l)) (reading_of s lower upper w) → Stepped s lower upper w l due r g
   by-refusal o due e p q = record { answer = rw e p; left = rw e q }
 
   module _ {v : List ℤ} (o : Option Refusal) (p : r ≡ outcome_of o) where
-    by-table : (due : CaseDue) {a : List ℤ} → line_refusal s.rulebook (reading_of s lower upper w) due (some l) ≡ o → v ≡ unless_refused o a w
-        → reading_of s lower upper a ≡ took (reading_of s lower upper w) due (some l) → Stepped s lower upper w l due r (reading_of s lower upper v)
+    by-table : (due : CaseDue) {a : List ℤ} → line_refusal s.rulebook (reading_of s lower upper w) due (Some l) ≡ o → v ≡ unless_refused o a w
+        → reading_of s lower upper a ≡ took (reading_of s lower upper w) due (Some l) → Stepped s lower upper w l due r (reading_of s lower upper v)
     by-table due {a} e q t =
         by-refusal o due e p (ap (reading_of s lower upper) q ∙ table-unless s lower upper o a w ∙ ap (λ g. unless_refused o g (reading_of s lower upper w)) t)
 
@@ -199,8 +196,8 @@ module _ (s : Sizes) (lower upper : List ℕ) (w : List ℤ) (l : Line) {r : Out
         (r ≡ outcome_of o) × (v ≡ unless_refused o (set w at barred_weight) w) → Stepped s lower upper w l (edge-weight y k j) r (reading_of s lower upper v)
     edge-bar-step y k j h = edge-store y k j (rw e) (edge-bars s lower upper w l long e y k j h)
 
-  pub ends-bar-step : bars l ≡ true → (e : ℕ) → r ≡ Outcome.Refused NotDue → Stepped s lower upper w l (edge-ends e) r (reading_of s lower upper w)
-  ends-bar-step o e p = by-refusal (some NotDue) (edge-ends e) (ends-barred s lower upper w l o e) p refl
+  pub ends-bar-step : bars l ≡ true → (e : ℕ) → r ≡ Err NotDue → Stepped s lower upper w l (edge-ends e) r (reading_of s lower upper w)
+  ends-bar-step o e p = by-refusal (Some NotDue) (edge-ends e) (ends-barred s lower upper w l o e) p refl
 
   pub ends-step : (e : ℕ) {a b : List ℕ} → let o = ends_refusal s.n lower upper e l in
       (r ≡ outcome_of o) × (a ≡ unless_refused o (set lower e (nat_abs l.b)) lower) × (b ≡ unless_refused o (set upper e (nat_abs l.c)) upper)
@@ -210,11 +207,11 @@ module _ (s : Sizes) (lower upper : List ℕ) (w : List ℤ) (l : Line) {r : Out
       (set lower e (nat_abs l.b)) (set upper e (nat_abs l.c)) lower upper w)
 
 -- what is due, by an equal name
-pub same-due : {s : Sizes} {lower upper : List ℕ} {w : List ℤ} {l : Line} {r : Outcome} {g : Reading} {due other : CaseDue} → due ≡ other
+pub same-due : {s : Sizes} {lower upper : List ℕ} {w : List ℤ} {l : Line} {r : Result ⊤ Refusal} {g : Reading} {due other : CaseDue} → due ≡ other
     → Stepped s lower upper w l due r g → Stepped s lower upper w l other r g
 same-due {s} {lower} {upper} {w} {l} {r} {g} e h = subst (λ (due : CaseDue). Stepped s lower upper w l due r g) e h
 
-pub same-due-at : {s : Sizes} {lower upper : List ℕ} {w : List ℤ} {t : List ℕ} {r : Outcome} {g : Reading} {due other : CaseDue} → due ≡ other
+pub same-due-at : {s : Sizes} {lower upper : List ℕ} {w : List ℤ} {t : List ℕ} {r : Result ⊤ Refusal} {g : Reading} {due other : CaseDue} → due ≡ other
     → SteppedAt s lower upper w t due r g → SteppedAt s lower upper w t other r g
 same-due-at {s} {lower} {upper} {w} {t} {r} {g} e h = subst (λ (due : CaseDue). SteppedAt s lower upper w t due r g) e h
 
@@ -224,7 +221,7 @@ outside-known : (n : ℕ) (z : ℤ) → T (not (outside n z)) → (lt_z z (pos 0
 outside-known n (pos k) t = (let (a, b) = simp tests at t in (le-ltb k 0 (omega arith), b))
 outside-known n (negsuc k) t = absurd t
 
-module _ (n e : ℕ) (l : Line) (h : first_refusal (ends_tests n e l) ≡ none) where
+module _ (n e : ℕ) (l : Line) (h : first_refusal (ends_tests n e l) ≡ None) where
   pub ends-known : ((lt_z l.b (pos 0) ≡ false) × (nat_abs l.b < n)) × ((lt_z l.c (pos 0) ≡ false) × (nat_abs l.c < n))
   ends-known =
       let p = simp (and-iff, not-or-iff) at ((none-applies (ends_tests n e l)).0 (rw h tt)) in
@@ -234,14 +231,14 @@ module _ (n : ℕ) (lower upper : List ℕ) (e : ℕ) (l : Line) where
   abbrev refusal : Option Refusal
   refusal = ends_refusal n lower upper e l
 
-  pub edge-refused : {x : Refusal} (a b : List ℕ) → Outcome.Refused x ≡ outcome_of (first_refusal (ends_tests n e l))
-      → (Outcome.Refused x ≡ outcome_of refusal) × (lower ≡ unless_refused refusal a lower) × (upper ≡ unless_refused refusal b upper)
+  pub edge-refused : {x : Refusal} (a b : List ℕ) → Err x ≡ outcome_of (first_refusal (ends_tests n e l))
+      → Err x ≡ outcome_of refusal × (lower ≡ unless_refused refusal a lower) × (upper ≡ unless_refused refusal b upper)
   unfolding ends_refusal
   edge-refused {x} a b h =
-      let r : refusal ≡ some x = first_stops (repeat_test lower upper e (nat_abs l.b) (nat_abs l.c)) (ends_tests n e l) (outcome-refused h) in
+      let r : refusal ≡ Some x = first_stops (repeat_test lower upper e (nat_abs l.b) (nat_abs l.c)) (ends_tests n e l) (outcome-refused h) in
       rw r (refl, refl, refl)
 
-  pub ends-left : Outcome.Done ≡ outcome_of (first_refusal (ends_tests n e l)) → refusal ≡ first_refusal (repeat_test lower upper e (nat_abs l.b) (nat_abs l.c))
+  pub ends-left : Ok tt ≡ outcome_of (first_refusal (ends_tests n e l)) → refusal ≡ first_refusal (repeat_test lower upper e (nat_abs l.b) (nat_abs l.c))
   unfolding ends_refusal
   ends-left h = first_next (repeat_test lower upper e (nat_abs l.b) (nat_abs l.c)) (ends_tests n e l) (outcome-done h)
 
@@ -249,50 +246,50 @@ module _ (n : ℕ) (lower upper : List ℕ) (e : ℕ) (l : Line) where
 
 module _ (b : Rulebook) (g : Reading) (due : CaseDue) where
   refusal_by : Bool → Option Line → Option Refusal
-  refusal_by short o = if short then some CutShort else first_refusal (due_tests (rules_in b) g due o)
+  refusal_by short o = if short then Some CutShort else first_refusal (due_tests (rules_in b) g due o)
 
   refusal_is : (t : List ℕ) → due_refusal b g due t ≡ refusal_by (is_cut (rules_in b) t) (first_line (rules_in b) t)
   unfolding refusal_by due_refusal
   refusal_is t = refl
 
-  none_read : refusal_by false none ≡ some NotInColumns
+  none_read : refusal_by false None ≡ Some NotInColumns
   unfolding refusal_by
   none_read = refl
 
-  some_read : (l : Line) → refusal_by false (some l) ≡ line_refusal b g due (some l)
+  some_read : (l : Line) → refusal_by false (Some l) ≡ line_refusal b g due (Some l)
   unfolding refusal_by line_refusal
   some_read l = refl
 
-  pub line-refused-at : (t : List ℕ) {f : LineRead} {x : Refusal} → Front b t f → f ≡ LineRead.Refused x → due_refusal b g due t ≡ some x
+  pub line-refused-at : (t : List ℕ) {f : Result Line Refusal} {x : Refusal} → Front b t f → f ≡ Err x → due_refusal b g due t ≡ Some x
   unfolding refusal_by
   line-refused-at t (cut e) p = refusal_is t ∙ ap (λ short. refusal_by short (first_line (rules_in b) t)) e ∙ cc
   line-refused-at t (bad e f) p = refusal_is t ∙ ap₂ refusal_by e f ∙ none_read ∙ cc
   line-refused-at t (good e f) p = cc
 
-  pub front_read : (t : List ℕ) {f : LineRead} {l : Line} → Front b t f → f ≡ LineRead.Read l → (due_refusal b g due t ≡ line_refusal b g due (some l))
-      × (first_line (rules_in b) t ≡ some l)
+  pub front_read : (t : List ℕ) {f : Result Line Refusal} {l : Line} → Front b t f → f ≡ Ok l → (due_refusal b g due t ≡ line_refusal b g due (Some l))
+      × (first_line (rules_in b) t ≡ Some l)
   front_read t (cut e) p = ((cc), (cc))
   front_read t (bad e f) p = ((cc), (cc))
   front_read t {l} (good {l = k} e f) p =
       let q : k ≡ l = cc in
-      (refusal_is t ∙ ap₂ refusal_by e f ∙ some_read k ∙ ap (λ l. line_refusal b g due (some l)) q, f ∙ ap some q)
+      (refusal_is t ∙ ap₂ refusal_by e f ∙ some_read k ∙ ap (λ l. line_refusal b g due (Some l)) q, f ∙ ap Some q)
 
-module _ (s : Sizes) (lower upper : List ℕ) (w : List ℤ) (t : List ℕ) (due : CaseDue) {f : LineRead} (h : Front s.rulebook t f) where
-  pub at-refused : {x : Refusal} → f ≡ LineRead.Refused x → SteppedAt s lower upper w t due (Outcome.Refused x) (reading_of s lower upper w)
+module _ (s : Sizes) (lower upper : List ℕ) (w : List ℤ) (t : List ℕ) (due : CaseDue) {f : Result Line Refusal} (h : Front s.rulebook t f) where
+  pub at-refused : {x : Refusal} → f ≡ Err x → SteppedAt s lower upper w t due (Err x) (reading_of s lower upper w)
   at-refused {x} p =
-      let e : due_refusal s.rulebook (reading_of s lower upper w) due t ≡ some x = line-refused-at s.rulebook (reading_of s lower upper w) due t h p in
+      let e : due_refusal s.rulebook (reading_of s lower upper w) due t ≡ Some x = line-refused-at s.rulebook (reading_of s lower upper w) due t h p in
       record { answer = rw e; left = rw e }
 
-  pub at_read : {l : Line} {r : Outcome} {g : Reading} → f ≡ LineRead.Read l → Stepped s lower upper w l due r g → SteppedAt s lower upper w t due r g
+  pub at_read : {l : Line} {r : Result ⊤ Refusal} {g : Reading} → f ≡ Ok l → Stepped s lower upper w l due r g → SteppedAt s lower upper w t due r g
   at_read p q =
       let (e, d) = front_read s.rulebook (reading_of s lower upper w) due t h p in
       record { answer = rw e q.answer; left = rw (e, d) q.left }
 
 -- a line that is not refused is whole
-pub ends-whole : (b : Rulebook) (g : Reading) (due : CaseDue) (t : List ℕ) → due_refusal b g due t ≡ none → bytes_of_line b ≤ length t
+pub ends-whole : (b : Rulebook) (g : Reading) (due : CaseDue) (t : List ℕ) → due_refusal b g due t ≡ None → bytes_of_line b ≤ length t
 unfolding refusal_by
 ends-whole b g due t h =
     ⊎_elim
-    (λ u. let z : some CutShort ≡ none = sym (refusal_is b g due t
+    (λ u. let z : Some CutShort ≡ None = sym (refusal_is b g due t
     ∙ ap (λ short. refusal_by b g due short (first_line (rules_in b) t)) (is_true (is_cut (rules_in b) t) u)) ∙ h in let y : ◌≡◌ {A = ℕ} 0 1 = cc in omega arith)
     (λ u. nltb→le (length t) (bytes_of_line b) u) (either (is_cut (rules_in b) t))

@@ -1,4 +1,7 @@
 -- A case that was taken has few places, and 0 is written past them. Assumes nothing.
+use Rattle.std.specs.Prelude.{Result, Ok, Err}
+use Rattle.definitions.specs.declared.RefusedAt.{RefusedAt}
+use Rattle.definitions.specs.Answers.{refused_at}
 use mathlib.Core.Path.{◌≡◌, refl, sym, ap, ap₂, subst, ◌∙◌}
 use mathlib.Core.Bool.{true, false}
 use mathlib.Core.List.{List}
@@ -7,7 +10,6 @@ use native.Mathlib.Omega.{arith}
 use lib.IntN.{ℤ}
 use Rattle.definitions.specs.declared.Rulebook.{Rulebook}
 use Rattle.definitions.specs.declared.Case.{Case}
-use Rattle.definitions.specs.declared.FileAnswer.{FileAnswer}
 use Rattle.definitions.specs.declared.CaseRead.{CaseRead}
 use Rattle.definitions.specs.Rules.{rules_of, coherent}
 use Rattle.definitions.specs.Case.{own_length}
@@ -18,18 +20,18 @@ use Rattle.case_theory.proofs.CaseTexts.{IsText, written_read, written-read-alon
 use Rattle.casefile.specs.Past.{is_taken, FewPlaces, call_of}
 
 -- ---- by the answer
-taken-lines : (x : FileAnswer) → is_taken x ≡ true → (lines : ℕ) × (x ≡ FileAnswer.Read lines)
-taken-lines (FileAnswer.Read lines) e = (lines, refl)
-taken-lines (FileAnswer.Refused x at) e = let z : ◌≡◌ {A = ℕ} 0 1 = cc in absurd (omega arith)
+taken-lines : (x : Result ℕ RefusedAt) → is_taken x ≡ true → (lines : ℕ) × (x ≡ Ok lines)
+taken-lines (Ok lines) e = (lines, refl)
+taken-lines (Err x) e = let z : ◌≡◌ {A = ℕ} 0 1 = cc in absurd (omega arith)
 
 module _ (call : CaseCall) where
-  pub past-taken : (x : FileAnswer) → is_taken x ≡ true → (zeroed_past call x).table ≡ zeroed_from (own_length call.read.case) call.table
-  past-taken (FileAnswer.Read lines) e = refl
-  past-taken (FileAnswer.Refused x at) e = let z : ◌≡◌ {A = ℕ} 0 1 = cc in absurd (omega arith)
+  pub past-taken : (x : Result ℕ RefusedAt) → is_taken x ≡ true → (zeroed_past call x).table ≡ zeroed_from (own_length call.read.case) call.table
+  past-taken (Ok lines) e = refl
+  past-taken (Err x) e = let z : ◌≡◌ {A = ℕ} 0 1 = cc in absurd (omega arith)
 
-  pub past-refused : (x : FileAnswer) → is_taken x ≡ false → (zeroed_past call x).table ≡ call.table
-  past-refused (FileAnswer.Read lines) e = let z : ◌≡◌ {A = ℕ} 0 1 = cc in absurd (omega arith)
-  past-refused (FileAnswer.Refused x at) e = refl
+  pub past-refused : (x : Result ℕ RefusedAt) → is_taken x ≡ false → (zeroed_past call x).table ≡ call.table
+  past-refused (Ok lines) e = let z : ◌≡◌ {A = ℕ} 0 1 = cc in absurd (omega arith)
+  past-refused (Err x) e = refl
 
   -- what is handed back
   pub handed-past : {u : CaseRead} {v w : List ℤ} → (u ≡ call.read) × (v ≡ call.table) → w ≡ (zeroed_past (call_of u v) u.answer).table
@@ -44,7 +46,7 @@ text-few c w h =
     (omega (arith, v.variables-most, k.variables-few), omega (arith, v.values-most, k.values-few), omega (arith, v.edges_most, k.edges_placed))
 
 module _ (call : CaseCall) {u : CaseRead} (e : u ≡ call.read) where
-  few-by : ((lines : ℕ) → (zeroed_call call).read.answer ≡ FileAnswer.Read lines → FewPlaces (zeroed_call call).read.case)
+  few-by : ((lines : ℕ) → (zeroed_call call).read.answer ≡ Ok lines → FewPlaces (zeroed_call call).read.case)
       → is_taken u.answer ≡ true → FewPlaces u.case
   few-by few t =
       let same : (zeroed_call call).read ≡ u = zeroed-read call ∙ sym e in

@@ -1,17 +1,15 @@
 -- A case file line by line: what each line is asked, and what is left to read. Assumes nothing.
-use Rattle.std.specs.Prelude.{Bool, true, false, not, ◌&&◌, ◌||◌, List, [], ◌∷◌, ◌++◌, ℕ, ◌+◌, ◌*◌, ◌-◌, ℤ, pos, nat_abs, ◌≡◌, eqb, get_or, take, drop, replicate, if◌then◌else◌}
-use Rattle.std.proofs.Math.Option.{Option, some}
+use Rattle.definitions.specs.declared.RefusedAt.{RefusedAt}
+use Rattle.std.specs.Prelude.{Bool, true, false, not, ◌&&◌, ◌||◌, List, [], ◌∷◌, ◌++◌, ℕ, ◌+◌, ◌*◌, ◌-◌, ℤ, pos, nat_abs, ◌≡◌, eqb, get_or, take, drop, replicate, if◌then◌else◌, Result, Ok, Err, Option, Some, ⊤}
 use Rattle.std.specs.Int.Signed.{lt_z}
 use Rattle.integers.specs.Words.{all, any, below}
 use Rattle.definitions.specs.declared.Rulebook.{Rulebook}
 use Rattle.definitions.specs.declared.Line.{Line}
-use Rattle.definitions.specs.declared.FileAnswer.{FileAnswer}
-use Rattle.definitions.specs.declared.Outcome.{Outcome}
 use Rattle.definitions.specs.declared.Refusal.{Refusal}
 use Rattle.definitions.specs.declared.Refusal.TheVariants.{NotDue, OutOfRange, EndsNotAscending, EdgeRepeated, WeightOutOfRange, CutShort, ScopeBarred}
 use Rattle.definitions.specs.Rules.{rules_in, edge_places}
 use Rattle.definitions.specs.Refusals.{Test, ◌when◌, first_refusal}
-use Rattle.definitions.specs.Answers.{outcome_of, unless_refused}
+use Rattle.definitions.specs.Answers.{outcome_of, unless_refused, refused_at}
 use Rattle.definitions.specs.Case.{is_barred}
 use Rattle.definitions.specs.Valid.{in_starting}
 use Rattle.definitions.specs.Lines.{outside}
@@ -23,9 +21,9 @@ use Rattle.casefile.specs.Reads.{is_of_kind}
 
 -- ---- one line
 
-abbrev pub is_done : Outcome → Bool
-is_done Outcome.Done = true
-is_done (Outcome.Refused x) = false
+abbrev pub is_done : Result ⊤ Refusal → Bool
+is_done (Ok tt) = true
+is_done (Err x) = false
 
 -- a weight's line that does not bar
 abbrev pub plain_tests : Rulebook → Bool → ℕ → ℕ → ℕ → Line → List Test
@@ -72,16 +70,16 @@ line_refusal b g due l = first_refusal (due_tests (rules_in b) g due l)
 
 -- at the front of the bytes t
 unfoldable pub due_refusal : Rulebook → Reading → CaseDue → List ℕ → Option Refusal
-due_refusal b g due t = if is_cut (rules_in b) t then some CutShort else first_refusal (due_tests (rules_in b) g due (first_line (rules_in b) t))
+due_refusal b g due t = if is_cut (rules_in b) t then Some CutShort else first_refusal (due_tests (rules_in b) g due (first_line (rules_in b) t))
 
 -- one line that was read: the answer is that of the definition, and what was lent is as it says
-pub record Stepped (s : Sizes) (lower upper : List ℕ) (w : List ℤ) (l : Line) (due : CaseDue) (r : Outcome) (g : Reading) : Type 0 where
-  pub answer : r ≡ outcome_of (line_refusal s.rulebook (reading_of s lower upper w) due (some l))
-  pub left : g ≡ unless_refused (line_refusal s.rulebook (reading_of s lower upper w) due (some l)) (took (reading_of s lower upper w) due (some l))
+pub record Stepped (s : Sizes) (lower upper : List ℕ) (w : List ℤ) (l : Line) (due : CaseDue) (r : Result ⊤ Refusal) (g : Reading) : Type 0 where
+  pub answer : r ≡ outcome_of (line_refusal s.rulebook (reading_of s lower upper w) due (Some l))
+  pub left : g ≡ unless_refused (line_refusal s.rulebook (reading_of s lower upper w) due (Some l)) (took (reading_of s lower upper w) due (Some l))
       (reading_of s lower upper w)
 
 -- the same of the bytes at whose front the line stands
-pub record SteppedAt (s : Sizes) (lower upper : List ℕ) (w : List ℤ) (t : List ℕ) (due : CaseDue) (r : Outcome) (g : Reading) : Type 0 where
+pub record SteppedAt (s : Sizes) (lower upper : List ℕ) (w : List ℤ) (t : List ℕ) (due : CaseDue) (r : Result ⊤ Refusal) (g : Reading) : Type 0 where
   pub answer : r ≡ outcome_of (due_refusal s.rulebook (reading_of s lower upper w) due t)
   pub left : g ≡ unless_refused (due_refusal s.rulebook (reading_of s lower upper w) due t)
       (took (reading_of s lower upper w) due (first_line (rules_in s.rulebook) t)) (reading_of s lower upper w)
@@ -95,6 +93,6 @@ abbrev pub no_ends : List ℕ
 no_ends = replicate edge_places 0
 
 -- the call that the answer and what was lent make
-abbrev pub call_with : Rulebook → FileAnswer → Reading → CaseCall
-call_with b (FileAnswer.Read lines) g = case_taken g lines
-call_with b (FileAnswer.Refused x at) g = case_refused b x at g.table
+abbrev pub call_with : Rulebook → Result ℕ RefusedAt → Reading → CaseCall
+call_with b (Ok lines) g = case_taken g lines
+call_with b (Err x) g = case_refused b x.refusal x.line g.table

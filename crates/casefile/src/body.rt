@@ -7,23 +7,23 @@ ghost use Rattle.casefile.specs.Reads.{line_from};
 
 use crate::{columns, edges, weights};
 use case_lines::{Awaited, Sizes};
-use definitions::{EDGE_PLACES, FileAnswer, Line, LineRead, Outcome, Refusal, Rulebook};
+use definitions::{EDGE_PLACES, Line, Refusal, RefusedAt, Rulebook};
 
 // The line at byte `from`.
-pub(crate) fn line_at(rulebook: Rulebook, bytes: &[u8], from: usize) -> LineRead
+pub(crate) fn line_at(rulebook: Rulebook, bytes: &[u8], from: usize) -> Result<Line, Refusal>
     requires { from ≤ length bytes.now }
     ensures { result ≡ line_from rulebook (drop from bytes.now) }
 {
     let long = rules::line_length(rulebook);
     if bytes.len() - from < long {
-        return LineRead::Refused(Refusal::CutShort);
+        return Err(Refusal::CutShort);
     }
     let to = from + long;
     lines::read_line_in(&bytes[from..to], rules::amount_width(rulebook))
 }
 
 // Takes a line that bars, where `due` is due.
-fn take_bar(line: Line, sizes: Sizes, due: Awaited, table: &mut [i64]) -> Outcome
+fn take_bar(line: Line, sizes: Sizes, due: Awaited, table: &mut [i64]) -> Result<(), Refusal>
     requires sizes_limited { SizesLimited sizes × InCase sizes due }
     requires sizes_in_bounds { places_of sizes ≤ length table.old }
     requires line_value { bars line ≡ true }
@@ -43,7 +43,7 @@ fn take_bar(line: Line, sizes: Sizes, due: Awaited, table: &mut [i64]) -> Outcom
             place,
             table,
         ),
-        Awaited::EdgeEnds(_) => Outcome::Refused(Refusal::NotDue),
+        Awaited::EdgeEnds(_) => Err(Refusal::NotDue),
         Awaited::EdgeWeight { edge, k, l } => weights::bar(
             line,
             columns::is_of_kind(line, 15, true, false),
@@ -65,7 +65,7 @@ fn take_plain(
     lower: &mut [u8; EDGE_PLACES],
     upper: &mut [u8; EDGE_PLACES],
     table: &mut [i64],
-) -> Outcome
+) -> Result<(), Refusal>
     requires sizes_limited { SizesLimited sizes × InCase sizes due }
     requires sizes_in_bounds { places_of sizes ≤ length table.old }
     requires line_value { bars line ≡ false }
@@ -106,7 +106,7 @@ fn take(
     lower: &mut [u8; EDGE_PLACES],
     upper: &mut [u8; EDGE_PLACES],
     table: &mut [i64],
-) -> Outcome
+) -> Result<(), Refusal>
     requires sizes_limited { SizesLimited sizes × InCase sizes due }
     requires sizes_in_bounds { places_of sizes ≤ length table.old }
     ensures { Stepped sizes lower.old upper.old table.old line (due_awaited due) result
@@ -126,7 +126,7 @@ fn take_at(
     lower: &mut [u8; EDGE_PLACES],
     upper: &mut [u8; EDGE_PLACES],
     table: &mut [i64],
-) -> Outcome
+) -> Result<(), Refusal>
     requires sizes_limited { SizesLimited sizes }
     requires q_bound { (q < lines_due sizes) × (bytes_of_line sizes.rulebook * (q + 1) ≤ length bytes.now) × InCase sizes due }
     requires sizes_in_bounds { places_of sizes ≤ length table.old }
@@ -137,8 +137,8 @@ fn take_at(
     let rulebook = sizes.rulebook;
     let read = line_at(rulebook, bytes, rules::line_length(rulebook) * (q + 1));
     match read {
-        LineRead::Refused(refusal) => Outcome::Refused(refusal),
-        LineRead::Read(line) => take(line, sizes, due, lower, upper, table),
+        Err(refusal) => Err(refusal),
+        Ok(line) => take(line, sizes, due, lower, upper, table),
     }
 }
 
@@ -149,7 +149,7 @@ pub(crate) fn read_lines(
     lower: &mut [u8; EDGE_PLACES],
     upper: &mut [u8; EDGE_PLACES],
     table: &mut [i64],
-) -> FileAnswer
+) -> Result<usize, RefusedAt>
     requires sizes_limited { SizesLimited sizes }
     requires rulebook_in_bounds { bytes_of_line sizes.rulebook ≤ length bytes.now }
     requires sizes_in_bounds { places_of sizes ≤ length table.old }
@@ -162,17 +162,17 @@ pub(crate) fn read_lines(
     while q < total {
         let taken = take_at(bytes, sizes, q, due, lower, upper, table);
         match taken {
-            Outcome::Refused(refusal) => {
-                return FileAnswer::Refused {
+            Err(refusal) => {
+                return Err(RefusedAt {
                     refusal,
                     line: q + 1,
-                };
+                });
             }
-            Outcome::Done => {
+            Ok(()) => {
                 due = case_lines::next_due(sizes, due);
                 q += 1;
             }
         }
     }
-    FileAnswer::Read { lines: q + 1 }
+    Ok(q + 1)
 }

@@ -11,7 +11,7 @@ ghost use Rattle.casefile.specs.Steps.{ends_tests, joined_before, repeat_test, e
 
 use crate::columns;
 use case_lines::Sizes;
-use definitions::{EDGE_PLACES, Line, Outcome, Refusal};
+use definitions::{EDGE_PLACES, Line, Refusal};
 
 fn ends_out(line: Line, n: usize, e: usize) -> bool
     requires { (n < 65536) × (e < 65536) }
@@ -26,20 +26,20 @@ fn ascending(line: Line) -> bool
     line.b < line.c
 }
 
-fn check_ends(line: Line, n: usize, e: usize) -> Outcome
+fn check_ends(line: Line, n: usize, e: usize) -> Result<(), Refusal>
     requires { (n < 65536) × (e < 65536) }
     ensures { result ≡ outcome_of (first_refusal (ends_tests n e line)) }
 {
     if !columns::is_of_kind(line, 12, true, false) {
-        return Outcome::Refused(Refusal::NotDue);
+        return Err(Refusal::NotDue);
     }
     if ends_out(line, n, e) {
-        return Outcome::Refused(Refusal::OutOfRange);
+        return Err(Refusal::OutOfRange);
     }
     if !ascending(line) {
-        return Outcome::Refused(Refusal::EndsNotAscending);
+        return Err(Refusal::EndsNotAscending);
     }
-    Outcome::Done
+    Ok(())
 }
 
 fn has_ends<'a>(
@@ -82,7 +82,7 @@ fn join(
     e: usize,
     lower: &mut [u8; EDGE_PLACES],
     upper: &mut [u8; EDGE_PLACES],
-) -> Outcome
+) -> Result<(), Refusal>
     requires { e < edge_places }
     ensures { (result ≡ outcome_of (first_refusal (repeat_test lower.old upper.old e i j)))
         × (lower.new ≡ unless_refused (first_refusal (repeat_test lower.old upper.old e i j)) (set lower.old e i)
@@ -90,11 +90,11 @@ fn join(
         (set upper.old e j) upper.old) }
 {
     if joined_before(lower, upper, e, i, j) {
-        return Outcome::Refused(Refusal::EdgeRepeated);
+        return Err(Refusal::EdgeRepeated);
     }
     lower[e] = i;
     upper[e] = j;
-    Outcome::Done
+    Ok(())
 }
 
 fn end_of(z: i64) -> u8
@@ -110,7 +110,7 @@ pub(crate) fn take_ends(
     e: usize,
     lower: &mut [u8; EDGE_PLACES],
     upper: &mut [u8; EDGE_PLACES],
-) -> Outcome
+) -> Result<(), Refusal>
     requires sizes_limited { SizesLimited sizes }
     requires e_lt_edge_places { e < edge_places }
     ensures { (result ≡ outcome_of (ends_refusal sizes.n lower.old upper.old e line))
@@ -121,7 +121,7 @@ pub(crate) fn take_ends(
 {
     let checked = check_ends(line, sizes.n, e);
     match checked {
-        Outcome::Refused(refusal) => Outcome::Refused(refusal),
-        Outcome::Done => join(end_of(line.b), end_of(line.c), e, lower, upper),
+        Err(refusal) => Err(refusal),
+        Ok(()) => join(end_of(line.b), end_of(line.c), e, lower, upper),
     }
 }

@@ -1,6 +1,5 @@
 // The head: the sizes that it says.
-ghost use Rattle.std.specs.Prelude.{◌≡◌, ◌+◌, ◌*◌, ◌≤◌, ◌<◌, pos};
-ghost use Rattle.std.proofs.Math.Option.{none, some};
+ghost use Rattle.std.specs.Prelude.{◌≡◌, ◌+◌, ◌*◌, ◌≤◌, ◌<◌, pos, Some, None};
 ghost use Rattle.integers.specs.Words.{within_z};
 ghost use Rattle.definitions.specs.Rules.{rules_in, edge_places, full_length};
 ghost use Rattle.definitions.specs.Refusals.{first_refusal};
@@ -40,25 +39,25 @@ fn full_length(rulebook: Rulebook, d: usize) -> usize
     places(rules::variables(rulebook), d, rules::edges(rulebook))
 }
 
-fn head_size(rulebook: Rulebook, line: Line) -> CaseSize
+fn head_size(rulebook: Rulebook, line: Line) -> Result<CaseSize, Refusal>
     requires { Few 256 line.a × Few 8 line.b × Few edge_places line.c }
-    ensures { result ≡ head_answer rulebook none line }
+    ensures { result ≡ head_answer rulebook None line }
 {
     let n = columns::count_of(line.a);
     let d = columns::count_of(line.b);
     let m = columns::count_of(line.c);
     let table = full_length(rulebook, d);
-    CaseSize::Size { n, d, m, table }
+    Ok(CaseSize { n, d, m, table })
 }
 
-pub(crate) fn head_answer(rulebook: Rulebook, line: Line) -> CaseSize
-    ensures { result ≡ head_answer rulebook (first_refusal (head_tests (rules_in rulebook) (some line))) line }
+pub(crate) fn head_answer(rulebook: Rulebook, line: Line) -> Result<CaseSize, Refusal>
+    ensures { result ≡ head_answer rulebook (first_refusal (head_tests (rules_in rulebook) (Some line))) line }
 {
     if !columns::is_of_kind(line, 10, true, false) {
-        return CaseSize::Refused(Refusal::NotDue);
+        return Err(Refusal::NotDue);
     }
     if !head_limited(rulebook, line) {
-        return CaseSize::Refused(Refusal::OutsideLimits);
+        return Err(Refusal::OutsideLimits);
     }
     head_size(rulebook, line)
 }

@@ -17,16 +17,14 @@ ghost use Rattle.case_lines.specs.Dues.{bytes_of_line, SizesLimited, places_of};
 ghost use Rattle.casefile.specs.Steps.{reading_of, left_from, no_ends};
 
 use case_lines::Sizes;
-use definitions::{
-    Case, CaseRead, CaseSize, EDGE_PLACES, FileAnswer, LineRead, Outcome, Refusal, Rulebook,
-};
+use definitions::{Case, CaseRead, CaseSize, EDGE_PLACES, Refusal, RefusedAt, Rulebook};
 
 // ---- a case
 
 fn file_refused(rulebook: Rulebook, refusal: Refusal, line: usize) -> CaseRead
     ensures { (w : List ℤ) → result ≡ (case_refused rulebook refusal line w).read }
 {
-    let answer = FileAnswer::Refused { refusal, line };
+    let answer = Err(RefusedAt { refusal, line });
     let lower = [0u8; EDGE_PLACES];
     let upper = [0u8; EDGE_PLACES];
     let case = Case {
@@ -49,7 +47,7 @@ fn file_accepted(
 ) -> CaseRead
     ensures { (w : List ℤ) → result ≡ (case_taken (reading_of sizes lower upper w) lines).read }
 {
-    let answer = FileAnswer::Read { lines };
+    let answer = Ok(lines);
     let rulebook = sizes.rulebook;
     let case = Case {
         n: sizes.n,
@@ -75,37 +73,37 @@ fn read_body(bytes: &[u8], sizes: Sizes, table: &mut [i64]) -> CaseRead
     let mut upper = [0u8; EDGE_PLACES];
     let answer = body::read_lines(bytes, sizes, &mut lower, &mut upper, table);
     match answer {
-        FileAnswer::Refused { refusal, line } => file_refused(rulebook, refusal, line),
-        FileAnswer::Read { lines } => file_accepted(lines, sizes, lower, upper),
+        Err(RefusedAt { refusal, line }) => file_refused(rulebook, refusal, line),
+        Ok(lines) => file_accepted(lines, sizes, lower, upper),
     }
 }
 
 // ---- a case alone
 
 // What is asked of the bytes after a case.
-fn check_rest(rulebook: Rulebook, bytes: &[u8], from: usize) -> Outcome
+fn check_rest(rulebook: Rulebook, bytes: &[u8], from: usize) -> Result<(), Refusal>
     requires { from ≤ length bytes.now }
     ensures { result ≡ outcome_of (rest_refusal (rules_in rulebook) (drop from bytes.now)) }
 {
     if from == bytes.len() {
-        return Outcome::Done;
+        return Ok(());
     }
     let read = body::line_at(rulebook, bytes, from);
     match read {
-        LineRead::Refused(refusal) => Outcome::Refused(refusal),
-        LineRead::Read(_) => Outcome::Refused(Refusal::NotDue),
+        Err(refusal) => Err(refusal),
+        Ok(_) => Err(Refusal::NotDue),
     }
 }
 
 // ---- the calls under any rules
 
-fn case_size_in(rulebook: Rulebook, bytes: &[u8]) -> CaseSize
+fn case_size_in(rulebook: Rulebook, bytes: &[u8]) -> Result<CaseSize, Refusal>
     ensures { result ≡ case_size rulebook bytes.now }
 {
     let head = body::line_at(rulebook, bytes, 0);
     match head {
-        LineRead::Refused(refusal) => CaseSize::Refused(refusal),
-        LineRead::Read(line) => head::head_answer(rulebook, line),
+        Err(refusal) => Err(refusal),
+        Ok(line) => head::head_answer(rulebook, line),
     }
 }
 
@@ -116,13 +114,13 @@ fn read_lines_in(rulebook: Rulebook, bytes: &[u8], table: &mut [i64]) -> CaseRea
 {
     let size = case_size_in(rulebook, bytes);
     match size {
-        CaseSize::Refused(refusal) => file_refused(rulebook, refusal, 0),
-        CaseSize::Size {
+        Err(refusal) => file_refused(rulebook, refusal, 0),
+        Ok(CaseSize {
             n,
             d,
             m,
             table: long,
-        } => {
+        }) => {
             if table.len() != long {
                 return file_refused(rulebook, Refusal::WrongLength, 0);
             }
@@ -139,15 +137,15 @@ fn read_lines_alone_in(rulebook: Rulebook, bytes: &[u8], table: &mut [i64]) -> C
     let read = read_lines_in(rulebook, bytes, table);
     let answer = read.answer;
     match answer {
-        FileAnswer::Refused {
+        Err(RefusedAt {
             refusal: _,
             line: _,
-        } => read,
-        FileAnswer::Read { lines } => {
+        }) => read,
+        Ok(lines) => {
             let rest = check_rest(rulebook, bytes, lines * rules::line_length(rulebook));
             match rest {
-                Outcome::Done => read,
-                Outcome::Refused(refusal) => file_refused(rulebook, refusal, lines),
+                Ok(()) => read,
+                Err(refusal) => file_refused(rulebook, refusal, lines),
             }
         }
     }
@@ -173,7 +171,7 @@ fn read_case_alone_in(rulebook: Rulebook, bytes: &[u8], table: &mut [i64]) -> Ca
 
 // ---- the standard calls
 
-pub fn case_size(bytes: &[u8]) -> CaseSize
+pub fn case_size(bytes: &[u8]) -> Result<CaseSize, Refusal>
     ensures { result ≡ case_size Desk bytes.now }
 {
     case_size_in(Rulebook::Desk, bytes)

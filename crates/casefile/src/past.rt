@@ -4,17 +4,17 @@ ghost use Rattle.definitions.specs.CaseFiles.{zeroed_past};
 ghost use Rattle.casefile.specs.Past.{is_taken, FewPlaces, call_of};
 
 use crate::head;
-use definitions::{CaseRead, FileAnswer};
+use definitions::{CaseRead, RefusedAt};
 
-fn is_taken(answer: FileAnswer) -> bool
+fn is_taken(answer: Result<usize, RefusedAt>) -> bool
     ensures { result ≡ is_taken answer }
 {
     match answer {
-        FileAnswer::Read { lines: _ } => true,
-        FileAnswer::Refused {
+        Ok(_) => true,
+        Err(RefusedAt {
             refusal: _,
             line: _,
-        } => false,
+        }) => false,
     }
 }
 

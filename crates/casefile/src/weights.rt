@@ -9,7 +9,7 @@ ghost use Rattle.definitions.specs.CaseFiles.{names as names_place, bars as bars
 ghost use Rattle.casefile.specs.Steps.{is_done, plain_tests, bar_tests, others_barred};
 
 use crate::columns;
-use definitions::{Line, Outcome, Refusal, Rulebook};
+use definitions::{Line, Refusal, Rulebook};
 
 fn names_places(line: Line, a: usize, b: usize, c: usize) -> bool
     requires { (a < 65536) × (b < 65536) × (c < 65536) }
@@ -29,28 +29,28 @@ fn starting(rulebook: Rulebook, line: Line) -> bool
 }
 
 // `due` says that the line's kind is due.
-fn weigh(rulebook: Rulebook, line: Line, due: bool, a: usize, b: usize, c: usize) -> Outcome
+fn weigh(rulebook: Rulebook, line: Line, due: bool, a: usize, b: usize, c: usize) -> Result<(), Refusal>
     requires { (a < 65536) × (b < 65536) × (c < 65536) }
     ensures { result ≡ outcome_of (first_refusal (plain_tests rulebook due a b c line)) }
 {
     if !due {
-        return Outcome::Refused(Refusal::NotDue);
+        return Err(Refusal::NotDue);
     }
     if !names_places(line, a, b, c) {
-        return Outcome::Refused(Refusal::OutOfRange);
+        return Err(Refusal::OutOfRange);
     }
     if !starting(rulebook, line) {
-        return Outcome::Refused(Refusal::WeightOutOfRange);
+        return Err(Refusal::WeightOutOfRange);
     }
-    Outcome::Done
+    Ok(())
 }
 
-fn is_done(checked: Outcome) -> bool
+fn is_done(checked: Result<(), Refusal>) -> bool
     ensures { result ≡ is_done checked }
 {
     match checked {
-        Outcome::Done => true,
-        Outcome::Refused(_) => false,
+        Ok(()) => true,
+        Err(_) => false,
     }
 }
 
@@ -64,7 +64,7 @@ pub(crate) fn take_weight(
     c: usize,
     place: usize,
     table: &mut [i64],
-) -> Outcome
+) -> Result<(), Refusal>
     requires a_bound { (a < 65536) × (b < 65536) × (c < 65536) }
     requires place_in_bounds { place < length table.old }
     ensures { (result ≡ outcome_of (first_refusal (plain_tests rulebook due a b c line)))
@@ -109,7 +109,7 @@ pub(crate) fn bar(
     c: usize,
     place: usize,
     table: &mut [i64],
-) -> Outcome
+) -> Result<(), Refusal>
     requires a_bound { (a < 65536) × (b < 65536) × (c < 65536) }
     requires place_in_bounds { place < length table.old }
     ensures { (result ≡ outcome_of (first_refusal (bar_tests due closing a b c line)))
@@ -117,14 +117,14 @@ pub(crate) fn bar(
         table.old) }
 {
     if !due {
-        return Outcome::Refused(Refusal::NotDue);
+        return Err(Refusal::NotDue);
     }
     if !names_places(line, a, b, c) {
-        return Outcome::Refused(Refusal::OutOfRange);
+        return Err(Refusal::OutOfRange);
     }
     if closing {
-        return Outcome::Refused(Refusal::ScopeBarred);
+        return Err(Refusal::ScopeBarred);
     }
     table[place] = rules::barred();
-    Outcome::Done
+    Ok(())
 }

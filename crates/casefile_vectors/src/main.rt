@@ -12,7 +12,7 @@
 
 ghost use Rattle.std.specs.Prelude.{◌<◌};
 
-use definitions::{Case, CaseRead, CaseSize, EDGE_PLACES, FileAnswer, Line, Rulebook, Written};
+use definitions::{Case, CaseRead, CaseSize, EDGE_PLACES, Line, RefusedAt, Rulebook};
 
 // ---- what is printed
 
@@ -59,13 +59,13 @@ fn size(bytes: &[u8]) {
     drivers::print(b"  size");
     let answer = casefile::case_size(bytes);
     match answer {
-        CaseSize::Size { n, d, m, table } => {
+        Ok(CaseSize { n, d, m, table }) => {
             drivers::print_count(n as u64);
             drivers::print_count(d as u64);
             drivers::print_count(m as u64);
             drivers::print_count(table as u64);
         }
-        CaseSize::Refused(refusal) => {
+        Err(refusal) => {
             drivers::print_refusal(refusal);
         }
     }
@@ -75,11 +75,11 @@ fn size(bytes: &[u8]) {
 fn answer(read: CaseRead) {
     let answer = read.answer;
     match answer {
-        FileAnswer::Read { lines } => {
+        Ok(lines) => {
             drivers::print(b" read");
             drivers::print_count(lines as u64);
         }
-        FileAnswer::Refused { refusal, line } => {
+        Err(RefusedAt { refusal, line }) => {
             drivers::print_refusal(refusal);
             drivers::print_count(line as u64);
         }
@@ -96,11 +96,11 @@ fn front(bytes: &[u8], table: &mut [i64]) {
 fn write(case: Case, table: &[i64], out: &mut [u8]) {
     let written = case_writer::write_case(case, table, out);
     match written {
-        Written::Bytes(n) => {
+        Ok(n) => {
             drivers::print(b" written");
             drivers::print_count(n as u64);
         }
-        Written::Refused(refusal) => {
+        Err(refusal) => {
             drivers::print_refusal(refusal);
         }
     }

@@ -3,7 +3,6 @@
 use mathlib.Core.Path.{◌≡◌, refl, sym, ap, ap₂, subst, ◌∙◌}
 use mathlib.Core.Bool.{Bool, true, false, not, ◌||◌}
 use mathlib.Core.Logic.{◌↔◌, ◌⊎◌, inl, inr, ⊎_elim}
-use mathlib.Core.Option.{Option, none, some}
 use mathlib.Core.List.{List, [], ◌∷◌, map}
 use Prim.Native.Nat.{ℕ, ◌≤◌, ◌<◌}
 use native.Mathlib.Omega.{arith}
@@ -12,12 +11,11 @@ use lib.Dec.{T, eqb, ltb, eqb→eq, nltb→le}
 use lib.ListN.{length, get_or, set, length-set}
 use lib.Seq.{get_or-set_same, get_or-set_other}
 use borrow.Author.Tests.{eq-eqb}
-use Rattle.std.specs.Prelude.{if◌then◌else◌}
+use Rattle.std.specs.Prelude.{if◌then◌else◌, Result, Ok, Err, Option, Some, None, ⊤}
 use Rattle.integers.specs.Words.{◌⇒◌, below, all}
 use Rattle.integers.specs.Tests.{either, imp_intro, imp_elim, same_test, if-true, if-false, or_left, or_right, not-or-iff, not-not-iff, not-eqb-iff, false-is}
 use Rattle.integers.specs.Lists.{all_in, all-at, all_of}
 use Rattle.definitions.specs.declared.Case.{Case}
-use Rattle.definitions.specs.declared.Outcome.{Outcome}
 use Rattle.definitions.specs.declared.Refusal.{Refusal}
 use Rattle.definitions.specs.declared.Refusal.TheVariants.{OutsideLimits, WrongLength, OutOfRange, LeavesRange}
 use Rattle.definitions.specs.Rules.{Rules, rules_of}
@@ -119,21 +117,21 @@ module _ (c : Case) (w best : List ℤ) (m : Change) (wrong out : Bool) where
   abbrev pub call : KeptCall
   call = kept_call c w best m (first_refusal (kept_tests (rules_of c) c w m wrong out))
 
-  pub kept-limits-refused : within_limits (rules_of c) c.n c.d c.m ≡ false → Gives call (Outcome.Refused OutsideLimits) w best
+  pub kept-limits-refused : within_limits (rules_of c) c.n c.d c.m ≡ false → Gives call (Err OutsideLimits) w best
   kept-limits-refused e = (rw e, rw e, rw e)
 
   module _ (e : within_limits (rules_of c) c.n c.d c.m ≡ true) where
-    pub wrong-length : (not (eqb (length w) (lent_length (rules_of c) c)) || wrong) ≡ true → Gives call (Outcome.Refused WrongLength) w best
+    pub wrong-length : (not (eqb (length w) (lent_length (rules_of c) c)) || wrong) ≡ true → Gives call (Err WrongLength) w best
     wrong-length d = (rw (e, d), rw (e, d), rw (e, d))
 
     module _ (d : (not (eqb (length w) (lent_length (rules_of c) c)) || wrong) ≡ false) where
-      pub out_of_range : out ≡ true → Gives call (Outcome.Refused OutOfRange) w best
+      pub out_of_range : out ≡ true → Gives call (Err OutOfRange) w best
       out_of_range f = (rw (e, d, f), rw (e, d, f), rw (e, d, f))
 
       pub in_order : out ≡ false → first_refusal (kept_tests (rules_of c) c w m wrong out) ≡ first_refusal (LeavesRange when (not (stays_working (rules_of c) c w m)) ∷ [])
       in_order f = rw (e, d, f)
 
-      pub call_next : out ≡ false → {o : Outcome} {t b : List ℤ} → KeptIs c w best m (stays_working (rules_of c) c w m) o t b → Gives call o t b
+      pub call_next : out ≡ false → {o : Result ⊤ Refusal} {t b : List ℤ} → KeptIs c w best m (stays_working (rules_of c) c w m) o t b → Gives call o t b
       call_next f (p, q, s) = let g = in_order f in (
         p ∙ ap outcome_of (sym g),
         q ∙ ap (λ x. unless_refused x (table_after c w m) w) (sym g),
@@ -159,29 +157,29 @@ or-three false false c d e f = f
 
 -- a move that stays, and one that does not
 module _ (c : Case) (w best : List ℤ) (m : Change) (b : Bool) where
-  pub kept-left : b ≡ false → KeptIs c w best m b (Outcome.Refused LeavesRange) w best
+  pub kept-left : b ≡ false → KeptIs c w best m b (Err LeavesRange) w best
   kept-left e = (rw e, rw e, rw e)
 
-  pub kept-refused : {x : Refusal} {t : List ℤ} → Outcome.Refused x ≡ (if b then Outcome.Done else Outcome.Refused LeavesRange)
+  pub kept-refused : {x : Refusal} {t : List ℤ} → Err x ≡ (if b then Ok tt else Err LeavesRange)
       → t ≡ (if b then table_after c w m else w)
-      → KeptIs c w best m b (Outcome.Refused x) t best
+      → KeptIs c w best m b (Err x) t best
   kept-refused {x} {t} = go b
     where
-      go : (b : Bool) → Outcome.Refused x ≡ (if b then Outcome.Done else Outcome.Refused LeavesRange) → t ≡ (if b then table_after c w m else w)
-          → KeptIs c w best m b (Outcome.Refused x) t best
+      go : (b : Bool) → Err x ≡ (if b then Ok tt else Err LeavesRange) → t ≡ (if b then table_after c w m else w)
+          → KeptIs c w best m b (Err x) t best
       go true e d = absurd (let z : ◌≡◌ {A = ℕ} 0 1 = cc in omega arith)
       go false e d = (e, d, refl)
 
-  pub kept-done : {t u : List ℤ} → Outcome.Done ≡ (if b then Outcome.Done else Outcome.Refused LeavesRange) → t ≡ (if b then table_after c w m else w)
-      → (t ≡ table_after c w m → u ≡ best_after c w best m) → KeptIs c w best m b Outcome.Done t u
+  pub kept-done : {t u : List ℤ} → Ok tt ≡ (if b then Ok tt else Err LeavesRange) → t ≡ (if b then table_after c w m else w)
+      → (t ≡ table_after c w m → u ≡ best_after c w best m) → KeptIs c w best m b (Ok tt) t u
   kept-done {t} {u} = go b
     where
-      go : (b : Bool) → Outcome.Done ≡ (if b then Outcome.Done else Outcome.Refused LeavesRange) → t ≡ (if b then table_after c w m else w)
-          → (t ≡ table_after c w m → u ≡ best_after c w best m) → KeptIs c w best m b Outcome.Done t u
+      go : (b : Bool) → Ok tt ≡ (if b then Ok tt else Err LeavesRange) → t ≡ (if b then table_after c w m else w)
+          → (t ≡ table_after c w m → u ≡ best_after c w best m) → KeptIs c w best m b (Ok tt) t u
       go true e d f = (refl, d, f d)
       go false e d f = absurd (let z : ◌≡◌ {A = ℕ} 0 1 = cc in omega arith)
 
-  pub kept-made : b ≡ true → {t u : List ℤ} → t ≡ table_after c w m → u ≡ best_after c w best m → KeptIs c w best m b Outcome.Done t u
+  pub kept-made : b ≡ true → {t u : List ℤ} → t ≡ table_after c w m → u ≡ best_after c w best m → KeptIs c w best m b (Ok tt) t u
   kept-made e p q = (rw e, rw e p, rw e q)
 
 -- ---- the call on a case and a table that were checked, where `best` holds the greatest weights
@@ -211,5 +209,5 @@ module _ {c : Case} {w best : List ℤ} (h : Handed (rules_of c) (working_weight
   call-best = go (first_refusal (kept_tests (rules_of c) c w m wrong out))
     where
       go : (o : Option Refusal) → BestOf c (unless_refused o (table_after c w m) w) (unless_refused o (best_after c w best m) best)
-      go none = best-kept c w best m b off
-      go (some x) = b
+      go None = best-kept c w best m b off
+      go (Some x) = b

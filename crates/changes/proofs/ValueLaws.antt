@@ -1,7 +1,6 @@
 -- Values with a weight, found one by one, and the values that a press lowers. Assumes nothing.
 use mathlib.Core.Path.{◌≡◌, sym, ap, ◌∙◌}
 use mathlib.Core.Bool.{Bool, true, false, not, ◌&&◌, ◌||◌}
-use mathlib.Core.Option.{none}
 use mathlib.Core.List.{List, [], ◌∷◌}
 use Prim.Native.Nat.{ℕ, zero, suc, ◌+◌, ◌*◌, ◌-◌, ◌<◌}
 use native.Mathlib.Omega.{arith}
@@ -9,7 +8,7 @@ use lib.IntN.{ℤ, pos}
 use lib.Dec.{ltb, eqb}
 use lib.ListN.{length, get_or}
 use borrow.Author.Tests.{eq-eqb, lt-ltb, le-ltb, ne_eqb}
-use Rattle.std.specs.Prelude.{if◌then◌else◌}
+use Rattle.std.specs.Prelude.{if◌then◌else◌, None}
 use Rattle.integers.specs.Words.{eq_z}
 use Rattle.definitions.specs.declared.Case.{Case}
 use Rattle.definitions.specs.declared.Refusal.TheVariants.{OutOfRange}
@@ -59,7 +58,7 @@ pub values-taken : (c : Case) (w best : List ℤ) (i : ℕ) → within_limits (r
     → best_values (rules_of c) c w best i ≡ byte_of (λ k. ltb k c.d && is_best c w best i k 0)
 unfolding best_values
 values-taken c w best i limits lens h =
-    let e : first_refusal (limit_test (rules_of c) c ∷ length_test (rules_of c) c w (ltb (length best) (scope_count c)) ∷ OutOfRange when (not (ltb i c.n)) ∷ []) ≡ none =
+    let e : first_refusal (limit_test (rules_of c) c ∷ length_test (rules_of c) c w (ltb (length best) (scope_count c)) ∷ OutOfRange when (not (ltb i c.n)) ∷ []) ≡ None =
     rw (limits, lens, lt-ltb i c.n h) in
     ap (λ o. unless_refused o (byte_of (λ k. ltb k c.d && is_best c w best i k 0)) 0) e
 

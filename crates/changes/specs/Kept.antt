@@ -1,9 +1,7 @@
 -- Weights changed on any table, with each scope's greatest weight kept in `best`: what is answered and left, on all input. Assumes nothing.
-use Rattle.std.specs.Prelude.{◌≡◌, Bool, not, ◌&&◌, ◌||◌, List, [], ◌∷◌, map, ℕ, ◌+◌, ◌<◌, ℤ, pos, neg_ℤ, ◌+ℤ◌, ltb, eqb, length, get_or, if◌then◌else◌}
-use Rattle.std.proofs.Math.Option.{Option}
+use Rattle.std.specs.Prelude.{◌≡◌, Bool, not, ◌&&◌, ◌||◌, List, [], ◌∷◌, map, ℕ, ◌+◌, ◌<◌, ℤ, pos, neg_ℤ, ◌+ℤ◌, ltb, eqb, length, get_or, if◌then◌else◌, Result, Option, ⊤}
 use Rattle.integers.specs.Words.{◌⇒◌, all, eq_z}
 use Rattle.definitions.specs.declared.Case.{Case}
-use Rattle.definitions.specs.declared.Outcome.{Outcome}
 use Rattle.definitions.specs.declared.Refusal.{Refusal}
 use Rattle.definitions.specs.declared.Refusal.TheVariants.{OutOfRange, LeavesRange}
 use Rattle.definitions.specs.Rules.{Rules}
@@ -69,7 +67,7 @@ best_after c w best m =
 
 -- a call that changes a lent table and `best`
 pub record KeptCall : Type 0 where
-  pub answer : Outcome
+  pub answer : Result ⊤ Refusal
   pub table : List ℤ
   pub best : List ℤ
 
@@ -81,14 +79,14 @@ kept_call c w best m refusal = record {
 }
 
 -- an answer and what is left are the call's
-abbrev pub Gives : KeptCall → Outcome → List ℤ → List ℤ → Type 0
+abbrev pub Gives : KeptCall → Result ⊤ Refusal → List ℤ → List ℤ → Type 0
 Gives call answer table best = (answer ≡ call.answer) × (table ≡ call.table) × (best ≡ call.best)
 
 -- the same where only number 11 is left to ask
-abbrev pub KeptIs : Case → List ℤ → List ℤ → Change → Bool → Outcome → List ℤ → List ℤ → Type 0
+abbrev pub KeptIs : Case → List ℤ → List ℤ → Change → Bool → Result ⊤ Refusal → List ℤ → List ℤ → Type 0
 KeptIs c w best m stays answer table after = Gives (kept_call c w best m (first_refusal (LeavesRange when (not stays) ∷ []))) answer table after
 
-abbrev pub KeptBy : Rules → Case → List ℤ → List ℤ → Change → Outcome → List ℤ → List ℤ → Type 0
+abbrev pub KeptBy : Rules → Case → List ℤ → List ℤ → Change → Result ⊤ Refusal → List ℤ → List ℤ → Type 0
 KeptBy r c w best m answer table after = KeptIs c w best m (stays_working r c w m) answer table after
 
 -- the change is made

@@ -3,7 +3,7 @@
 // `moves::press`.
 #![tactic(auto)]
 
-ghost use Rattle.std.specs.Prelude.{◌≡◌, not, ◌||◌, ℕ, ◌+◌, ◌*◌, ◌≤◌, ◌<◌, T, ltb, eqb, length, set, pos, if◌then◌else◌};
+ghost use Rattle.std.specs.Prelude.{◌≡◌, not, ◌||◌, ℕ, ◌+◌, ◌*◌, ◌≤◌, ◌<◌, T, ltb, eqb, length, set, pos, if◌then◌else◌, Ok, Err};
 ghost use Rattle.std.specs.Int.{w64};
 ghost use Rattle.std.proofs.Common.{SFits};
 ghost use Rattle.integers.specs.Words.{all, eq_z, within_z};
@@ -21,7 +21,7 @@ ghost use Rattle.changes.specs.Scopes.{InScope, scope_by, values_in, rest_of, is
 ghost use Rattle.changes.specs.Kept.{transfer_change, lowering_change, table_after, stays_working, KeptMade, KeptBy, Gives};
 ghost use Rattle.changes.specs.Kept.{values_with, lowering_out, best_values, transfer_call, lower_and_raise_call};
 
-use definitions::{Case, EDGE_PLACES, Outcome, Refusal, Rulebook};
+use definitions::{Case, EDGE_PLACES, Refusal, Rulebook};
 
 fn is_within(z: i64, low: i64, high: i64) -> bool
     ensures { result ≡ within_z low high z }
@@ -103,26 +103,26 @@ fn transfer_by(
     step: usize,
     count: usize,
     amount: i64,
-) -> Outcome
+) -> Result<(), Refusal>
     requires inside { Inside table.old own 1 1 }
     requires inside_2 { Inside table.old start step count }
     requires t { T (amount_within (rules_in rulebook) amount) × (0 < step) }
     requires by_index { (j : ℕ) → j < count → start + j * step ≡ own → ⊥ }
     ensures value { result ≡ (if transfer_stays (rules_in rulebook) table.old own start step count amount
-        then Outcome.Done else Outcome.Refused LeavesRange) }
+        then Ok tt else Err LeavesRange) }
     ensures table_after { table.new ≡ (if transfer_stays (rules_in rulebook) table.old own start step count amount
         then transferred table.old own start step count amount else table.old) }
 {
     let back = 0 - amount;
     if !spaced_stay(rulebook, table, own, 1, 1, amount) {
-        return Outcome::Refused(Refusal::LeavesRange);
+        return Err(Refusal::LeavesRange);
     }
     if !spaced_stay(rulebook, table, start, step, count, back) {
-        return Outcome::Refused(Refusal::LeavesRange);
+        return Err(Refusal::LeavesRange);
     }
     spaced_add(table, own, 1, 1, amount);
     spaced_add(table, start, step, count, back);
-    Outcome::Done
+    Ok(())
 }
 
 // The value's d tuples are one row at end 0, and one column at end 1.
@@ -133,12 +133,12 @@ fn transfer_checked(
     end: usize,
     value: usize,
     amount: i64,
-) -> Outcome
+) -> Result<(), Refusal>
     requires limited { Limited case × (length table.old ≡ lent_length (rules_of case) case) }
     requires edge_lt_m { (edge < case.m) × (end < 2) × (value < case.d) × (end_variable case edge end < case.n) }
     requires t { T (amount_within (rules_of case) amount) }
     ensures value { result ≡ (if stays_working (rules_of case) case table.old (transfer_change case edge end value amount)
-        then Outcome.Done else Outcome.Refused LeavesRange) }
+        then Ok tt else Err LeavesRange) }
     ensures table_after { table.new ≡ (if stays_working (rules_of case) case table.old (transfer_change case edge end value amount)
         then table_after case table.old (transfer_change case edge end value amount) else table.old) }
 {
@@ -582,7 +582,7 @@ fn transfer_kept(
     end: usize,
     value: usize,
     amount: i64,
-) -> Outcome
+) -> Result<(), Refusal>
     requires limited { Limited case × (length table.old ≡ lent_length (rules_of case) case) × (scope_count case ≤ length best.old) }
     requires edge_lt_m { (edge < case.m) × (end < 2) × (value < case.d) × (end_variable case edge end < case.n) }
     requires t { T (amount_within (rules_of case) amount) }
@@ -591,11 +591,11 @@ fn transfer_kept(
 {
     let made = transfer_checked(case, table, edge, end, value, amount);
     match made {
-        Outcome::Refused(refusal) => Outcome::Refused(refusal),
-        Outcome::Done => {
+        Err(refusal) => Err(refusal),
+        Ok(()) => {
             keep_greatest(case, table, best, end_variable(case, edge, end));
             keep_greatest(case, table, best, case.n + edge);
-            Outcome::Done
+            Ok(())
         }
     }
 }
@@ -608,7 +608,7 @@ fn lowering_kept(
     variable: usize,
     values: u8,
     amount: i64,
-) -> Outcome
+) -> Result<(), Refusal>
     requires limited { Limited case × (length table.old ≡ lent_length (rules_of case) case) }
     requires case_in_bounds { (scope_count case ≤ length best.old) × (scope_count case ≤ length raised.now) }
     requires variable_lt_n { (variable < case.n) × T (press_amount (rules_of case) amount) }
@@ -617,10 +617,10 @@ fn lowering_kept(
         result table.new best.new }
 {
     if !lowering_stays(case, table, best, raised, variable, values, amount) {
-        return Outcome::Refused(Refusal::LeavesRange);
+        return Err(Refusal::LeavesRange);
     }
     lower_scopes(case, table, best, raised, variable, values, amount);
-    Outcome::Done
+    Ok(())
 }
 
 // ---- the calls
@@ -693,21 +693,21 @@ pub fn transfer(
     end: usize,
     value: usize,
     amount: i64,
-) -> Outcome
+) -> Result<(), Refusal>
     ensures { Gives (transfer_call (rules_of case) case table.old best.old edge end value amount)
         result table.new best.new }
 {
     if !tables::within_limits(case) {
-        return Outcome::Refused(Refusal::OutsideLimits);
+        return Err(Refusal::OutsideLimits);
     }
     if lengths_wrong(case, table.len(), best.len()) {
-        return Outcome::Refused(Refusal::WrongLength);
+        return Err(Refusal::WrongLength);
     }
     if transfer_out(case, edge, end, value, amount) {
-        return Outcome::Refused(Refusal::OutOfRange);
+        return Err(Refusal::OutOfRange);
     }
     if case.n <= end_variable(case, edge, end) {
-        return Outcome::Refused(Refusal::OutOfRange);
+        return Err(Refusal::OutOfRange);
     }
     transfer_kept(case, table, best, edge, end, value, amount)
 }
@@ -723,22 +723,22 @@ pub fn lower_and_raise(
     variable: usize,
     values: u8,
     amount: i64,
-) -> Outcome
+) -> Result<(), Refusal>
     ensures { Gives
         (lower_and_raise_call (rules_of case) case table.old best.old raised.now variable values amount)
         result table.new best.new }
 {
     if !tables::within_limits(case) {
-        return Outcome::Refused(Refusal::OutsideLimits);
+        return Err(Refusal::OutsideLimits);
     }
     if lengths_wrong(case, table.len(), best.len()) {
-        return Outcome::Refused(Refusal::WrongLength);
+        return Err(Refusal::WrongLength);
     }
     if raised.len() < case.n + case.m {
-        return Outcome::Refused(Refusal::WrongLength);
+        return Err(Refusal::WrongLength);
     }
     if lowering_out(case, variable, amount) {
-        return Outcome::Refused(Refusal::OutOfRange);
+        return Err(Refusal::OutOfRange);
     }
     lowering_kept(case, table, best, raised, variable, values, amount)
 }

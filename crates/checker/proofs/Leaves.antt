@@ -3,7 +3,6 @@
 use mathlib.Core.Path.{◌≡◌, refl, ap, ◌∙◌}
 use mathlib.Core.Bool.{Bool, true, false, not, ◌&&◌, ◌||◌}
 use mathlib.Core.Logic.{⊎_elim}
-use mathlib.Core.Option.{Option, none, some}
 use mathlib.Core.List.{List, [], ◌∷◌, ◌++◌}
 use Prim.Native.Nat.{ℕ, ◌+◌, ◌-◌, ◌≤◌, ◌<◌}
 use native.Mathlib.Omega.{arith}
@@ -11,13 +10,12 @@ use lib.IntN.{ℤ, pos, nat_abs}
 use lib.Dec.{T, eqb, ltb, lt→ltb, ltb→lt}
 use lib.ListN.{drop, set, length-drop, length-replicate, get_or-replicate}
 use lib.Seq.{get_or-drop, drop-set-lt}
-use Rattle.std.specs.Prelude.{if◌then◌else◌}
+use Rattle.std.specs.Prelude.{if◌then◌else◌, Result, Ok, Err, Option, Some, None, ⊤}
 use Rattle.integers.specs.Words.{all, within_z}
 use Rattle.integers.specs.Tests.{tests, either, is_true, is_false, false-is, not-or-iff, not-not-iff, not-eqb-iff, if-false}
 use Rattle.integers.specs.Tables.{all_get_d}
 use Rattle.definitions.specs.declared.Case.{Case}
 use Rattle.definitions.specs.declared.Line.{Line}
-use Rattle.definitions.specs.declared.Outcome.{Outcome}
 use Rattle.definitions.specs.declared.Refusal.{Refusal}
 use Rattle.definitions.specs.declared.Refusal.TheVariants.{NotDue, RaiseNotAscending, NotRefuted, LeavesRange}
 use Rattle.definitions.specs.Rules.{Rules, Coherent, scope_places}
@@ -33,10 +31,8 @@ use Rattle.theory.proofs.Places.{IsTuple}
 use Rattle.theory.proofs.Barred.{bars-kept}
 use Rattle.theory.proofs.Validity.{Handed, handed-spared}
 use Rattle.theory.proofs.Replays.{inside}
-use Rattle.checker.specs.declared.LastRaised.{LastRaised}
 use Rattle.checker.specs.declared.Target.{Target}
 use Rattle.checker.specs.declared.Due.{Due}
-use Rattle.checker.specs.declared.Standing.{Standing}
 use Rattle.checker.specs.declared.Replay.{Replay}
 use Rattle.checker.specs.Checker.{StepCall, Asked, none_raised, not_above_last, due_kinds, target_out, due_out, record_out, after_target, of_shift, of_begin}
 use Rattle.checker.specs.Taken.{step_taken}
@@ -45,23 +41,23 @@ use Rattle.checker.proofs.Numbers.{count-in-range}
 use Rattle.checker.proofs.Front.{neither, lent-known}
 use Rattle.checker.proofs.LineKinds.{twice-not, nothing-due}
 
-never : {x : Refusal} → Outcome.Refused x ≡ Outcome.Done → ⊥
+never : {x : Refusal} → Err x ≡ Ok tt → ⊥
 never {x} e = let z : ◌≡◌ {A = ℕ} 0 1 = cc in omega arith
 
 -- no number of two lists applies
-none_both : (ts us : List Test) → first_refusal (ts ++ us) ≡ none → (first_refusal ts ≡ none) × (first_refusal us ≡ none)
+none_both : (ts us : List Test) → first_refusal (ts ++ us) ≡ None → (first_refusal ts ≡ None) × (first_refusal us ≡ None)
 none_both [] us e = (refl, e)
 none_both (t ∷ ts) us e =
     let (n, f) = neither t.applies t.refusal (first_refusal (ts ++ us)) e in
     let (g, l) = none_both ts us f in
-    (if-false (some t.refusal) (first_refusal ts) t.applies n ∙ g, l)
+    (if-false (Some t.refusal) (first_refusal ts) t.applies n ∙ g, l)
 
 -- what stands after it
 pub record Left (r : Rules) (c : Case) (w : List ℤ) (call : StepCall) : Type 0 where
   pub handed-over : Handed r (working_weight r) c call.table
   pub bars : (x k l : ℕ) → IsTuple c x k l → barred c call.table x k l ≡ barred c w x k l
   pub record-in : T (not (record_out r c call.stepped.replay))
-  pub good : call.stepped.replay.standing ≡ Standing.Good
+  pub good : call.stepped.replay.standing ≡ Ok tt
 
 module _ {r : Rules} (coherent : Coherent r) (c : Case) (w : List ℤ) (p : Replay) (h : Handed r (working_weight r) c w)
     (known : T (not (record_out r c p))) where
@@ -77,14 +73,14 @@ module _ {r : Rules} (coherent : Coherent r) (c : Case) (w : List ℤ) (p : Repl
       ) tt)
 
   abbrev After : Asked → Type 0
-  After a = T (not a.out) → first_refusal a.later ≡ none → Left r c w (step_by w p a none)
+  After a = T (not a.out) → first_refusal a.later ≡ None → Left r c w (step_by w p a None)
 
   after-shift : (t : Line) → After (of_shift r c w p t)
   after-shift t o e = record {
     handed-over = handed-spared coherent (shift_by c (nat_abs t.a) (nat_abs t.b) (nat_abs t.c) t.amount) h
-        (neither (leaves_range r c w (of_shift r c w p t).table) LeavesRange none e).0;
+        (neither (leaves_range r c w (of_shift r c w p t).table) LeavesRange None e).0;
     bars = λ x k l u. bars-kept c w (shift_by c (nat_abs t.a) (nat_abs t.b) (nat_abs t.c) t.amount) coherent
-        (neither (leaves_range r c w (of_shift r c w p t).table) LeavesRange none e).0 u;
+        (neither (leaves_range r c w (of_shift r c w p t).table) LeavesRange None e).0 u;
     record-in = (not-or-iff (ltb r.rounds p.rounds) false).1 (few, tt);
     good = refl;
   }
@@ -113,7 +109,7 @@ module _ {r : Rules} (coherent : Coherent r) (c : Case) (w : List ℤ) (p : Repl
     good = refl;
   }
 
-  module _ (i : ℕ) (target : Target) (left : ℕ) (last_one : LastRaised) (d : p.due ≡ Due.Raise i target left last_one) where
+  module _ (i : ℕ) (target : Target) (left : ℕ) (last_one : Option ℕ) (d : p.due ≡ Due.Raise i target left last_one) where
     -- what the press or the void line begun is known to be
     pub held : (i < c.n) × T (not (target_out r target)) × (1 ≤ left) × (left ≤ scope_count c - 1)
         × T (all (λ b. eqb b 0) (drop (scope_count c) p.raised))
@@ -124,13 +120,13 @@ module _ {r : Rules} (coherent : Coherent r) (c : Case) (w : List ℤ) (p : Repl
         (ltb→lt i c.n x, m, least, most, z)
 
     -- with its last raise line
-    after-target : (raised : List ℕ) (target : Target) → first_refusal (last_tests r c w i raised target) ≡ none
+    after-target : (raised : List ℕ) (target : Target) → first_refusal (last_tests r c w i raised target) ≡ None
         → Left r c w (step_taken (after_target p target) (target_table r c w i raised target))
     after-target raised (Target.Press a) e = record {
       handed-over = handed-spared coherent (press_by c w i (active_values c w i) (is_raised raised) a) h
-          (neither (leaves_range r c w (target_table r c w i raised (Target.Press a))) LeavesRange none e).0;
+          (neither (leaves_range r c w (target_table r c w i raised (Target.Press a))) LeavesRange None e).0;
       bars = λ x k l u. bars-kept c w (press_by c w i (active_values c w i) (is_raised raised) a) coherent
-          (neither (leaves_range r c w (target_table r c w i raised (Target.Press a))) LeavesRange none e).0 u;
+          (neither (leaves_range r c w (target_table r c w i raised (Target.Press a))) LeavesRange None e).0 u;
       record-in = (not-or-iff (ltb r.rounds p.rounds) false).1 (few, tt);
       good = refl;
     }
@@ -167,8 +163,8 @@ module _ {r : Rules} (coherent : Coherent r) (c : Case) (w : List ℤ) (p : Repl
         (either (eqb left 1))
       where
         -- numbers 9 and 10 do not apply
-        later : first_refusal (of_raise r c w p i target left last_one t).later ≡ none
-            → first_refusal (if eqb left 1 then last_tests r c w i (set p.raised (nat_abs t.a) 1) target else []) ≡ none
+        later : first_refusal (of_raise r c w p i target left last_one t).later ≡ None
+            → first_refusal (if eqb left 1 then last_tests r c w i (set p.raised (nat_abs t.a) 1) target else []) ≡ None
         later e = (neither (eqb left 1 && not (all_refuted c w (is_raised (set p.raised (nat_abs t.a) 1)) i (active_values c w i))) NotRefuted _
             (neither (not_above_last last_one (nat_abs t.a) || eqb (nat_abs t.a) i) RaiseNotAscending _ e).1).1
 
@@ -186,16 +182,16 @@ module _ {r : Rules} (coherent : Coherent r) (c : Case) (w : List ℤ) (p : Repl
 
 -- a line of any bytes that is done
 module _ {r : Rules} (coherent : Coherent r) (c : Case) (w : List ℤ) (p : Replay) where
-  line-leaves : (t : Option Line) → (step_line r c w p t).stepped.answer ≡ Outcome.Done → Left r c w (step_line r c w p t)
-  line-leaves none e = absurd (never e)
-  line-leaves (some t) e = go (first_refusal (step_tests r c w p t asked)) refl e
+  line-leaves : (t : Option Line) → (step_line r c w p t).stepped.answer ≡ Ok tt → Left r c w (step_line r c w p t)
+  line-leaves None e = absurd (never e)
+  line-leaves (Some t) e = go (first_refusal (step_tests r c w p t asked)) refl e
     where
       asked : Asked
       asked = of_due r c w p p.due t
 
-      go : (o : Option Refusal) → first_refusal (step_tests r c w p t asked) ≡ o → (step_by w p asked o).stepped.answer ≡ Outcome.Done → Left r c w (step_by w p asked o)
-      go (some x) d e = absurd (never e)
-      go none d e =
+      go : (o : Option Refusal) → first_refusal (step_tests r c w p t asked) ≡ o → (step_by w p asked o).stepped.answer ≡ Ok tt → Left r c w (step_by w p asked o)
+      go (Some x) d e = absurd (never e)
+      go None d e =
           let (f, l) = none_both
           (NotDue when (not_due r (due_kinds p.due) t) ∷ handed_over r (working_weight r) c w false (record_out r c p || asked.out))
           asked.later d in
@@ -204,10 +200,10 @@ module _ {r : Rules} (coherent : Coherent r) (c : Case) (w : List ℤ) (p : Repl
           let (h, k, o) = lent-known r c w p asked.out g in
           after-kind coherent c w p h k p.due refl t (is_false (not_due r (due_kinds p.due) t) u) o l
 
-  pub step-leaves : (t : List ℕ) → (step_replay r c w p t).stepped.answer ≡ Outcome.Done → Left r c w (step_replay r c w p t)
+  pub step-leaves : (t : List ℕ) → (step_replay r c w p t).stepped.answer ≡ Ok tt → Left r c w (step_replay r c w p t)
   unfolding step_replay
   step-leaves t = go p.standing
     where
-      go : (s : Standing) → (step_standing r c w p t s).stepped.answer ≡ Outcome.Done → Left r c w (step_standing r c w p t s)
-      go (Standing.Refused x) e = absurd (never e)
-      go Standing.Good e = line-leaves (read_line r.amount_width t) e
+      go : (s : Result ⊤ Refusal) → (step_standing r c w p t s).stepped.answer ≡ Ok tt → Left r c w (step_standing r c w p t s)
+      go (Err x) e = absurd (never e)
+      go (Ok tt) e = line-leaves (read_line r.amount_width t) e

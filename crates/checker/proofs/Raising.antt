@@ -1,8 +1,8 @@
 -- Raise lines of a press or a void line that are not its last: each goes one line on. Assumes nothing.
+use Rattle.std.specs.Prelude.{Ok, Option, Some}
 use mathlib.Core.Path.{◌≡◌, refl, sym, ap, subst, ◌∙◌}
 use mathlib.Core.Logic.{◌≢◌}
 use mathlib.Core.Bool.{false, not}
-use mathlib.Core.Option.{some}
 use mathlib.Core.List.{List, [], ◌∷◌}
 use Prim.Native.Nat.{ℕ, zero, suc, ◌+◌, ◌-◌, ◌≤◌, ◌<◌}
 use native.Mathlib.Numerals.{add-one}
@@ -14,14 +14,12 @@ use lib.Seq.{drop-drop}
 use borrow.Author.Tests.{lt-ltb, le-leb, lt-leb, ne_eqb, not-true}
 use Rattle.integers.specs.Tests.{not-or-iff, not-not-iff}
 use Rattle.definitions.specs.declared.Case.{Case}
-use Rattle.definitions.specs.declared.Outcome.{Outcome}
 use Rattle.definitions.specs.Rules.{coherent, rules_of}
 use Rattle.definitions.specs.Case.{scope_count}
 use Rattle.definitions.specs.Valid.{working_weight}
 use Rattle.definitions.specs.Lines.{read_line, line_length, not_due, outside}
 use Rattle.definitions.specs.RoundLines.{raise_line}
 use Rattle.theory.proofs.Validity.{Handed}
-use Rattle.checker.specs.declared.LastRaised.{LastRaised}
 use Rattle.checker.specs.declared.Target.{Target}
 use Rattle.checker.specs.declared.Due.{Due}
 use Rattle.checker.specs.declared.Progress.{Progress}
@@ -39,9 +37,9 @@ above-last : (next x : ℕ) → next ≤ x → not_above_last (last_under next) 
 above-last zero x h = refl
 above-last (suc y) x h = lt-leb x y (omega arith)
 
-pub scope-before : (n : ℕ) → n ≢ 0 → LastRaised.Scope (n - 1) ≡ last_under n
+pub scope-before : (n : ℕ) → n ≢ 0 → Some (n - 1) ≡ last_under n
 scope-before zero h = absurd (h refl)
-scope-before (suc n) h = ap LastRaised.Scope (omega arith)
+scope-before (suc n) h = ap Some (omega arith)
 
 in-scopes : (n x : ℕ) → x < n → outside n (pos x) ≡ false
 in-scopes n x h = rw (le-leb 0 x (omega arith), lt-ltb x n h)
@@ -51,10 +49,10 @@ raise-line-due c x = not-true _ (sym (raise-due (coherent c.rulebook) (raise_lin
 
 -- one line
 module _ (b s i left next x : ℕ) (raised t : List ℕ) (long : b ≤ length t)
-    (read : (width : ℕ) → line_length width ≡ b → read_line width (take b t) ≡ some (raise_line x)) (more : 1 < left) (below : x < s) (above : next ≤ x)
+    (read : (width : ℕ) → line_length width ≡ b → read_line width (take b t) ≡ Some (raise_line x)) (more : 1 < left) (below : x < s) (above : next ≤ x)
     (other : x ≢ i) (q : Progress) (target : Target) where
   abbrev after : Taken
-  after = record { progress = held_progress q i target (left - 1) (LastRaised.Scope x); answer = Outcome.Done }
+  after = record { progress = held_progress q i target (left - 1) (Some x); answer = (Ok tt) }
 
   step : (c : Case) (w : List ℤ) → Handed (rules_of c) (working_weight (rules_of c)) c w → bytes_per_line c ≡ b → scope_count c ≡ s
       → T (not (record_out (rules_of c) c (good_replay (raising_progress q i target left next) raised)))
@@ -94,7 +92,7 @@ module _ (b s i left next : ℕ) (raised bytes : List ℕ) (from : ℕ) where
   no-raise-line q target n = record { goes = λ c w h l e r. let z : n + (left - left) ≡ n = omega arith in rw z (refl, r) }
 
   pub one-raise-line : (more above at x : ℕ) (marked : List ℕ) → Raised more above marked at → b ≤ length (drop at bytes)
-      → ((width : ℕ) → line_length width ≡ b → read_line width (take b (drop at bytes)) ≡ some (raise_line x))
+      → ((width : ℕ) → line_length width ≡ b → read_line width (take b (drop at bytes)) ≡ Some (raise_line x))
       → 1 < more → more ≤ left → x < s → above ≤ x → x ≢ i → Raised (more - 1) (x + 1) (set marked x 1) (at + b)
   one-raise-line more above at x marked before long read h l below up other q target n = record {
     goes = λ c w k m e r.
@@ -105,19 +103,19 @@ module _ (b s i left next : ℕ) (raised bytes : List ℕ) (from : ℕ) where
   }
 
 -- the last scope of a press or a void line in range
-module _ (c : Case) (p : Replay) (i : ℕ) (target : Target) (left : ℕ) (last_one : LastRaised) where
-  pub last-below : p.due ≡ Due.Raise i target left last_one → T (not (record_out (rules_of c) c p)) → (x : ℕ) → last_one ≡ LastRaised.Scope x → x < scope_count c
+module _ (c : Case) (p : Replay) (i : ℕ) (target : Target) (left : ℕ) (last_one : Option ℕ) where
+  pub last-below : p.due ≡ Due.Raise i target left last_one → T (not (record_out (rules_of c) c p)) → (x : ℕ) → last_one ≡ Some x → x < scope_count c
   last-below d r x e =
       let u = ((not-or-iff (ltb (rules_of c).rounds p.rounds) (due_out (rules_of c) c p.raised p.due)).0 r).1 in
       let ((((v, m), l), o), z) = simp (not-or-iff, not-not-iff) at (rw d at u) in
       ltb→lt x (scope_count c) ((not-not-iff (ltb x (scope_count c))).0 (rw e at o))
 
-pub held_whole : (q : Progress) {i : ℕ} {target : Target} {left : ℕ} {last_one : LastRaised} → q.due ≡ Due.Raise i target left last_one
+pub held_whole : (q : Progress) {i : ℕ} {target : Target} {left : ℕ} {last_one : Option ℕ} → q.due ≡ Due.Raise i target left last_one
     → held_progress q i target left last_one ≡ q
 held_whole q e = ap (λ (d : Due). record { rounds = q.rounds; start = q.start; moved = q.moved; due = d }) (sym e)
 
-held-as : (q : Progress) (i : ℕ) (target : Target) (left : ℕ) {k l : LastRaised} → k ≡ l → held_progress q i target left k ≡ held_progress q i target left l
-held-as q i target left e = ap (λ (x : LastRaised). held_progress q i target left x) e
+held-as : (q : Progress) (i : ℕ) (target : Target) (left : ℕ) {k l : Option ℕ} → k ≡ l → held_progress q i target left k ≡ held_progress q i target left l
+held-as q i target left e = ap (λ (x : Option ℕ). held_progress q i target left x) e
 
 pub onward-as : {b s n m : ℕ} {p u q v : Progress} {raised marked t x : List ℕ} → p ≡ u → q ≡ v → Onward b s n p raised t m q marked x
     → Onward b s n u raised t m v marked x
@@ -125,7 +123,7 @@ onward-as {b} {s} {n} {m} {p} {u} {q} {v} {raised} {marked} {t} {x} d e h =
     subst (λ (y : Progress). Onward b s n y raised t m v marked x) d (subst (λ (y : Progress). Onward b s n p raised t m y marked x) e h)
 
 -- a press or a void line begun, its lines taken, with the record put together again
-pub held_on : {o s i left more : ℕ} (next above : ℕ) {n m : ℕ} (q : Progress) {target : Target} {k l : LastRaised} {v : Progress} {raised marked t x : List ℕ}
+pub held_on : {o s i left more : ℕ} (next above : ℕ) {n m : ℕ} (q : Progress) {target : Target} {k l : Option ℕ} {v : Progress} {raised marked t x : List ℕ}
     → last_under next ≡ k → l ≡ last_under above → v ≡ held_progress q i target more l
     → Onward o s n (raising_progress q i target left next) raised t m (raising_progress q i target more above) marked x
     → Onward o s n (held_progress q i target left k) raised t m v marked x

@@ -1,7 +1,7 @@
 -- The replay's calls on all input: a fresh record, a step on one line of any bytes, the end, and a block of lines. They go by the record that
 -- is handed over, whatever it holds, and take nothing from the plain replay. Assumes nothing.
-use Rattle.std.specs.Prelude.{Bool, true, false, not, ◌&&◌, ◌||◌, List, [], ◌∷◌, ◌++◌, ℕ, ◌+◌, ◌-◌, ℤ, pos, nat_abs, leb, ltb, eqb, drop, set, replicate, if◌then◌else◌}
-use Rattle.std.proofs.Math.Option.{Option, none, some}
+use Rattle.definitions.specs.declared.RefusedAt.{RefusedAt}
+use Rattle.std.specs.Prelude.{Bool, true, false, not, ◌&&◌, ◌||◌, List, [], ◌∷◌, ◌++◌, ℕ, ◌+◌, ◌-◌, ℤ, pos, nat_abs, leb, ltb, eqb, drop, set, replicate, if◌then◌else◌, Result, Ok, Err, Option, Some, None, ⊤}
 use Rattle.std.specs.Int.Signed.{lt_z}
 use Rattle.integers.specs.Words.{all, within, eq_z}
 use Rattle.definitions.specs.declared.Case.{Case}
@@ -18,12 +18,9 @@ use Rattle.definitions.specs.declared.Refusal.TheVariants.{
   CutShort,
   NotAllBarred,
 }
-use Rattle.definitions.specs.declared.Outcome.{Outcome}
 use Rattle.definitions.specs.declared.Judgement.{Judgement}
-use Rattle.checker.specs.declared.LastRaised.{LastRaised}
 use Rattle.checker.specs.declared.Target.{Target}
 use Rattle.checker.specs.declared.Due.{Due}
-use Rattle.checker.specs.declared.Standing.{Standing}
 use Rattle.checker.specs.declared.Replay.{Replay}
 use Rattle.checker.specs.declared.Stepped.{Stepped}
 use Rattle.checker.specs.declared.Block.{Block}
@@ -44,14 +41,14 @@ pub record Between : Type 0 where
   pub table : List ℤ
   pub replay : Replay
 
-abbrev pub standing_of : Option Refusal → Standing
-standing_of none = Standing.Good
-standing_of (some x) = Standing.Refused x
+abbrev pub standing_of : Option Refusal → Result ⊤ Refusal
+standing_of None = Ok tt
+standing_of (Some x) = Err x
 
 -- what a standing says in document 01's terms
-abbrev pub standing_says : Standing → Says
-standing_says Standing.Good = record { number = 0; values = [] }
-standing_says (Standing.Refused x) = record { number = number x; values = [] }
+abbrev pub standing_says : Result ⊤ Refusal → Says
+standing_says (Ok tt) = record { number = 0; values = [] }
+standing_says (Err x) = record { number = number x; values = [] }
 
 -- a step and a block, with the lent table after them
 pub record StepCall : Type 0 where
@@ -74,13 +71,13 @@ pub record Asked : Type 0 where
 abbrev pub none_raised : List ℕ
 none_raised = replicate scope_places 0
 
-abbrev pub last_out : Case → LastRaised → Bool
-last_out c LastRaised.Nothing = false
-last_out c (LastRaised.Scope x) = not (ltb x (scope_count c))
+abbrev pub last_out : Case → Option ℕ → Bool
+last_out c None = false
+last_out c (Some x) = not (ltb x (scope_count c))
 
-abbrev pub not_above_last : LastRaised → ℕ → Bool
-not_above_last LastRaised.Nothing x = false
-not_above_last (LastRaised.Scope y) x = leb x y
+abbrev pub not_above_last : Option ℕ → ℕ → Bool
+not_above_last None x = false
+not_above_last (Some y) x = leb x y
 
 abbrev pub due_kinds : Due → List ℕ
 due_kinds Due.MoveOrBound = 1 ∷ 2 ∷ 4 ∷ 5 ∷ []
@@ -100,25 +97,25 @@ is_void Due.MoveOrBound = false
 is_void (Due.Raise i target left last_one) = false
 
 -- the judgement of a log with no number, by the record and the table after it
-abbrev pub good_in : Case → Replay → List ℤ → Judgement
-good_in c p w = if is_void p.due then Judgement.Void else Judgement.Accepted p.rounds (upper_bound c w)
+abbrev pub good_in : Case → Replay → List ℤ → Result Judgement RefusedAt
+good_in c p w = if is_void p.due then Ok Judgement.Void else Ok (Judgement.Accepted p.rounds (upper_bound c w))
 
 abbrev pub fresh_of : Option Refusal → ℤ → Replay
-fresh_of none bound = record {
+fresh_of None bound = record {
   rounds = 0;
   start = bound;
   moved = false;
   raised = none_raised;
   due = Due.MoveOrBound;
-  standing = Standing.Good;
+  standing = Ok tt;
 }
-fresh_of (some x) bound = record {
+fresh_of (Some x) bound = record {
   rounds = 0;
   start = pos 0;
   moved = false;
   raised = none_raised;
   due = Due.MoveOrBound;
-  standing = Standing.Refused x;
+  standing = Err x;
 }
 
 -- ---- the next record: after a shift, inside a press or a void line, after its last raise line, after a bound line, refused
@@ -130,7 +127,7 @@ refused_replay p x = record {
   moved = p.moved;
   raised = p.raised;
   due = p.due;
-  standing = Standing.Refused x;
+  standing = Err x;
 }
 
 abbrev pub after_shift : Replay → Replay
@@ -140,7 +137,7 @@ after_shift p = record {
   moved = true;
   raised = p.raised;
   due = Due.MoveOrBound;
-  standing = Standing.Good;
+  standing = Ok tt;
 }
 
 abbrev pub in_press : Replay → List ℕ → Due → Replay
@@ -150,7 +147,7 @@ in_press p raised due = record {
   moved = p.moved;
   raised = raised;
   due = due;
-  standing = Standing.Good;
+  standing = Ok tt;
 }
 
 -- no press, nothing raised
@@ -161,7 +158,7 @@ after_press p = record {
   moved = true;
   raised = none_raised;
   due = Due.MoveOrBound;
-  standing = Standing.Good;
+  standing = Ok tt;
 }
 
 -- nothing is due any more, nothing raised
@@ -172,7 +169,7 @@ after_void_line p = record {
   moved = p.moved;
   raised = none_raised;
   due = Due.Nothing;
-  standing = Standing.Good;
+  standing = Ok tt;
 }
 
 abbrev pub after_target : Replay → Target → Replay
@@ -186,35 +183,35 @@ after_bound_line p bound = record {
   moved = false;
   raised = p.raised;
   due = Due.MoveOrBound;
-  standing = Standing.Good;
+  standing = Ok tt;
 }
 
 -- ---- a step by whether a number applies
 
 abbrev pub step_refused : Replay → List ℤ → Refusal → StepCall
-step_refused p w x = record { stepped = record { replay = refused_replay p x; answer = Outcome.Refused x }; table = w }
+step_refused p w x = record { stepped = record { replay = refused_replay p x; answer = Err x }; table = w }
 
 abbrev pub step_by : List ℤ → Replay → Asked → Option Refusal → StepCall
-step_by w p asked none = record { stepped = record { replay = asked.next; answer = Outcome.Done }; table = asked.table }
-step_by w p asked (some x) = step_refused p w x
+step_by w p asked None = record { stepped = record { replay = asked.next; answer = (Ok tt) }; table = asked.table }
+step_by w p asked (Some x) = step_refused p w x
 
 -- ---- the answers to many lines: how many got no number, and the first refusal
 
-abbrev pub taken_lines : List Outcome → ℕ
+abbrev pub taken_lines : List (Result ⊤ Refusal) → ℕ
 taken_lines [] = 0
-taken_lines (Outcome.Done ∷ os) = 1 + taken_lines os
-taken_lines (Outcome.Refused x ∷ os) = 0
+taken_lines ((Ok tt) ∷ os) = 1 + taken_lines os
+taken_lines (Err x ∷ os) = 0
 
-abbrev pub first_refused : List Outcome → Outcome
-first_refused [] = Outcome.Done
-first_refused (Outcome.Done ∷ os) = first_refused os
-first_refused (Outcome.Refused x ∷ os) = Outcome.Refused x
+abbrev pub first_refused : List (Result ⊤ Refusal) → Result ⊤ Refusal
+first_refused [] = Ok tt
+first_refused ((Ok tt) ∷ os) = first_refused os
+first_refused (Err x ∷ os) = Err x
 
 -- ---- a block of no whole line by whether a number applies; refused, the record stands refused by it
 
 abbrev pub no_line : List ℤ → Replay → Option Refusal → BlockCall
-no_line w p none = record { block = record { replay = p; lines = 0; answer = Outcome.Done }; table = w }
-no_line w p (some x) = record { block = record { replay = refused_replay p x; lines = 0; answer = Outcome.Refused x }; table = w }
+no_line w p None = record { block = record { replay = p; lines = 0; answer = (Ok tt) }; table = w }
+no_line w p (Some x) = record { block = record { replay = refused_replay p x; lines = 0; answer = Err x }; table = w }
 
 module _ (r : Rules) where
   -- number 5 of what is due: inside a press or a void line its variable, amount, lines left, last scope, and every scope raised
@@ -255,7 +252,7 @@ module _ (r : Rules) where
     out = begin_out c t || target_out target;
     later = [];
     table = w;
-    next = in_press p none_raised (Due.Raise (nat_abs t.a) target (nat_abs t.b) LastRaised.Nothing);
+    next = in_press p none_raised (Due.Raise (nat_abs t.a) target (nat_abs t.b) None);
   }
 
   abbrev pub of_bound : Case → List ℤ → Replay → Line → Asked
@@ -279,7 +276,7 @@ module _ (r : Rules) where
   last_tests c w i raised Target.Void = NotAllBarred when (not (all_barred c w i (active_values c w i) (is_raised raised))) ∷ []
 
   -- a raise line of a press or a void line of variable i, with `left` lines left
-  abbrev pub of_raise : Case → List ℤ → Replay → ℕ → Target → ℕ → LastRaised → Line → Asked
+  abbrev pub of_raise : Case → List ℤ → Replay → ℕ → Target → ℕ → Option ℕ → Line → Asked
   of_raise c w p i target left last_one t =
       let x = nat_abs t.a in
       let raised = set p.raised x 1 in
@@ -291,7 +288,7 @@ module _ (r : Rules) where
             ∷ NotRefuted when (is_last && not (all_refuted c w (is_raised raised) i (active_values c w i)))
             ∷ (if is_last then last_tests c w i raised target else []);
         table = if is_last then target_table c w i raised target else w;
-        next = if is_last then after_target p target else in_press p raised (Due.Raise i target (left - 1) (LastRaised.Scope x));
+        next = if is_last then after_target p target else in_press p raised (Due.Raise i target (left - 1) (Some x));
       }
 
   -- with nothing due number 2 applies to every line, so that the rest is never asked
@@ -316,14 +313,14 @@ module _ (r : Rules) where
       ++ asked.later
 
   abbrev pub step_line : Case → List ℤ → Replay → Option Line → StepCall
-  step_line c w p none = step_refused p w NotInColumns
-  step_line c w p (some t) =
+  step_line c w p None = step_refused p w NotInColumns
+  step_line c w p (Some t) =
       let asked = of_due c w p p.due t in
       step_by w p asked (first_refusal (step_tests c w p t asked))
 
-  abbrev pub step_standing : Case → List ℤ → Replay → List ℕ → Standing → StepCall
-  step_standing c w p bytes (Standing.Refused x) = step_refused p w x
-  step_standing c w p bytes Standing.Good = step_line c w p (read_line r.amount_width bytes)
+  abbrev pub step_standing : Case → List ℤ → Replay → List ℕ → Result ⊤ Refusal → StepCall
+  step_standing c w p bytes (Err x) = step_refused p w x
+  step_standing c w p bytes (Ok tt) = step_line c w p (read_line r.amount_width bytes)
 
   unfoldable pub step_replay : Case → List ℤ → Replay → List ℕ → StepCall
   step_replay c w p bytes = step_standing c w p bytes p.standing
@@ -334,11 +331,11 @@ module _ (r : Rules) where
   abbrev pub ending_tests : Case → Replay → List Test
   ending_tests c p = limit_test r c ∷ edge_tests r c (record_out c p) ++ (CutShort when (is_short p.due p.moved) ∷ [])
 
-  abbrev pub end_standing : Case → Replay → Standing → Outcome
-  end_standing c p (Standing.Refused x) = Outcome.Refused x
-  end_standing c p Standing.Good = outcome_of (first_refusal (ending_tests c p))
+  abbrev pub end_standing : Case → Replay → Result ⊤ Refusal → Result ⊤ Refusal
+  end_standing c p (Err x) = Err x
+  end_standing c p (Ok tt) = outcome_of (first_refusal (ending_tests c p))
 
-  unfoldable pub end_replay : Case → Replay → Outcome
+  unfoldable pub end_replay : Case → Replay → Result ⊤ Refusal
   end_replay c p = end_standing c p p.standing
 
   -- ---- many lines: the fold of step over what stands between lines
@@ -353,7 +350,7 @@ module _ (r : Rules) where
   after_lines b (t ∷ ts) = after_lines (step_between b t) ts
 
   -- each line's answer
-  abbrev pub line_answers : Between → List (List ℕ) → List Outcome
+  abbrev pub line_answers : Between → List (List ℕ) → List (Result ⊤ Refusal)
   line_answers b [] = []
   line_answers b (t ∷ ts) =
       (step_replay b.case b.table b.replay t).stepped.answer ∷ line_answers (step_between b t) ts
@@ -371,9 +368,9 @@ module _ (r : Rules) where
 
   -- ---- a block: the fold over its whole lines; with none, the number that stands, else 3 to 8 and 15 of what was handed over
 
-  abbrev pub lent_standing : Case → List ℤ → Replay → Standing → Option Refusal
-  lent_standing c w p (Standing.Refused x) = some x
-  lent_standing c w p Standing.Good = first_refusal (handed_over r (working_weight r) c w false (record_out c p))
+  abbrev pub lent_standing : Case → List ℤ → Replay → Result ⊤ Refusal → Option Refusal
+  lent_standing c w p (Err x) = Some x
+  lent_standing c w p (Ok tt) = first_refusal (handed_over r (working_weight r) c w false (record_out c p))
 
   unfoldable pub block_replay : Case → List ℤ → Replay → List ℕ → BlockCall
   block_replay c w p bytes =

@@ -1,21 +1,18 @@
 -- The replay's calls on the sample cases, on records that are handed over, and on blocks, by computation. Assumes nothing.
-use Rattle.std.specs.Prelude.{◌≡◌, refl, true, false, List, [], ◌∷◌, ◌++◌, map, ℕ, ◌+◌, ◌-◌, ℤ, pos, length, set, replicate}
+use Rattle.std.specs.Prelude.{◌≡◌, refl, true, false, List, [], ◌∷◌, ◌++◌, map, ℕ, ◌+◌, ◌-◌, ℤ, pos, length, set, replicate, Ok, Err, Option, Some, None}
 use Prim.Native.String.{String}
 use Rattle.integers.specs.Words.{joined, minus}
 use Rattle.definitions.specs.declared.Case.{Case}
 use Rattle.definitions.specs.declared.Rulebook.TheVariants.{Desk}
-use Rattle.definitions.specs.declared.Outcome.{Outcome}
 use Rattle.definitions.specs.declared.Refusal.TheVariants.{WrongLength, RaiseNotAscending}
 use Rattle.definitions.specs.Rules.{rules_in}
 use Rattle.definitions.specs.Answers.{outcome_says}
 use Rattle.definitions.specs.Case.{upper_bound}
 use Rattle.definitions.specs.Programs.{bytes_of}
-use Rattle.definitions.specs.Samples.{Input, given, full, own, Question, bound_of, run-of, replay-of, all-active, press-on, replay-on, Result}
+use Rattle.definitions.specs.Samples.{Input, given, full, own, Question, bound_of, run-of, replay-of, all-active, press-on, replay-on, Reply}
 use Rattle.definitions.specs.Samples.{replayed, samples, our_samples, answer, triangle, clash, texts, log1, log6, zeros}
-use Rattle.checker.specs.declared.LastRaised.{LastRaised}
 use Rattle.checker.specs.declared.Target.{Target}
 use Rattle.checker.specs.declared.Due.{Due}
-use Rattle.checker.specs.declared.Standing.{Standing}
 use Rattle.checker.specs.declared.Replay.{Replay}
 use Rattle.checker.specs.Checker.{
   Between,
@@ -36,12 +33,12 @@ use Rattle.checker.specs.Checker.{
 abbrev start : Input → Between
 start i = record { case = i.case; table = i.weights; replay = fresh_replay (rules_in Desk) i.case i.weights }
 
-abbrev checked : Between → List ℕ → Result
+abbrev checked : Between → List ℕ → Reply
 checked b numbers =
     replayed numbers (outcome_says (end_replay (rules_in Desk) b.case b.replay)).number b.replay.rounds (upper_bound b.case b.table)
     (own b.case b.table)
 
-abbrev answer_by_record : Question → Result
+abbrev answer_by_record : Question → Reply
 answer_by_record (replay-of i ts) =
     checked (after_lines (rules_in Desk) (start i) (texts ts)) (map (λ o. (outcome_says o).number) (line_answers (rules_in Desk) (start i) (texts ts)))
 answer_by_record (bound_of i) = answer (bound_of i)
@@ -74,17 +71,17 @@ between rounds = record {
   moved = false;
   raised = marks_of [];
   due = Due.MoveOrBound;
-  standing = Standing.Good;
+  standing = Ok tt;
 }
 
-abbrev inside : ℕ → ℤ → ℕ → LastRaised → List ℕ → Replay
+abbrev inside : ℕ → ℤ → ℕ → Option ℕ → List ℕ → Replay
 inside i a left last marks = record {
   rounds = 0;
   start = pos 4;
   moved = true;
   raised = marks_of marks;
   due = Due.Raise i (Target.Press a) left last;
-  standing = Standing.Good;
+  standing = Ok tt;
 }
 
 abbrev on_clash : Replay → String → StepCall
@@ -107,35 +104,35 @@ pub records-asked :
     ∷ on_clash (between (most + 1)) shift_line
     -- number 2 comes before the record's 5, and that before 10
     ∷ on_clash (between (most + 1)) raise2
-    ∷ on_clash (inside 0 (pos 1) 1 LastRaised.Nothing []) raise2
-    ∷ on_clash (inside 2 (pos 1) 1 LastRaised.Nothing []) raise2
-    ∷ on_clash (inside 0 (pos 0) 1 LastRaised.Nothing []) raise2
-    ∷ on_clash (inside 0 (pos 1) 0 LastRaised.Nothing []) raise2
-    ∷ on_clash (inside 0 (pos 1) 3 LastRaised.Nothing []) raise2
-    ∷ on_clash (inside 0 (pos 1) 1 (LastRaised.Scope 3) []) raise2
-    ∷ on_clash (inside 0 (pos 1) 1 (LastRaised.Scope 2) []) raise2
-    ∷ on_clash (inside 0 (pos 1) 1 LastRaised.Nothing (0 ∷ 0 ∷ 0 ∷ 1 ∷ [])) raise2
+    ∷ on_clash (inside 0 (pos 1) 1 None []) raise2
+    ∷ on_clash (inside 2 (pos 1) 1 None []) raise2
+    ∷ on_clash (inside 0 (pos 0) 1 None []) raise2
+    ∷ on_clash (inside 0 (pos 1) 0 None []) raise2
+    ∷ on_clash (inside 0 (pos 1) 3 None []) raise2
+    ∷ on_clash (inside 0 (pos 1) 1 (Some 3) []) raise2
+    ∷ on_clash (inside 0 (pos 1) 1 (Some 2) []) raise2
+    ∷ on_clash (inside 0 (pos 1) 1 None (0 ∷ 0 ∷ 0 ∷ 1 ∷ [])) raise2
     -- any byte but 0 marks a scope: with 1 raised the press is made
-    ∷ on_clash (inside 0 (pos 1) 1 LastRaised.Nothing (0 ∷ 255 ∷ [])) raise2
+    ∷ on_clash (inside 0 (pos 1) 1 None (0 ∷ 255 ∷ [])) raise2
     ∷ [])
     ≡ 0 ∷ 5 ∷ 5 ∷ 2 ∷ 10 ∷ 5 ∷ 5 ∷ 5 ∷ 5 ∷ 5 ∷ 9 ∷ 5 ∷ 0 ∷ []
 unfolding step_replay
 records-asked = refl
 
 -- a refused step changes the standing alone; a press made leaves nothing raised
-pub refused-keeps : (on_clash (inside 0 (pos 1) 2 (LastRaised.Scope 2) (0 ∷ 0 ∷ 1 ∷ [])) raise2).stepped.replay
+pub refused-keeps : (on_clash (inside 0 (pos 1) 2 (Some 2) (0 ∷ 0 ∷ 1 ∷ [])) raise2).stepped.replay
     ≡ record {
       rounds = 0;
       start = pos 4;
       moved = true;
       raised = marks_of (0 ∷ 0 ∷ 1 ∷ []);
-      due = Due.Raise 0 (Target.Press (pos 1)) 2 (LastRaised.Scope 2);
-      standing = Standing.Refused RaiseNotAscending;
+      due = Due.Raise 0 (Target.Press (pos 1)) 2 (Some 2);
+      standing = Err RaiseNotAscending;
     }
 unfolding step_replay
 refused-keeps = refl
 
-pub press-made : on_clash (inside 0 (pos 1) 1 (LastRaised.Scope 1) (0 ∷ 1 ∷ [])) raise2
+pub press-made : on_clash (inside 0 (pos 1) 1 (Some 1) (0 ∷ 1 ∷ [])) raise2
     ≡ record {
       stepped = record {
         replay = record {
@@ -144,9 +141,9 @@ pub press-made : on_clash (inside 0 (pos 1) 1 (LastRaised.Scope 1) (0 ∷ 1 ∷ 
           moved = true;
           raised = marks_of [];
           due = Due.MoveOrBound;
-          standing = Standing.Good;
+          standing = Ok tt;
         };
-        answer = Outcome.Done;
+        answer = Ok tt;
       };
       table = full 2 (pos 1 ∷ pos 0 ∷ pos 2 ∷ pos 1 ∷ minus 2 ∷ []);
     }
@@ -165,7 +162,7 @@ fresh-refused = refl
 
 pub ends :
     map (λ p. (outcome_says (end_replay (rules_in Desk) clash.case p)).number)
-    (too_high ∷ between 0 ∷ between (most + 1) ∷ inside 0 (pos 1) 1 LastRaised.Nothing [] ∷ inside 2 (pos 1) 1 LastRaised.Nothing [] ∷ [])
+    (too_high ∷ between 0 ∷ between (most + 1) ∷ inside 0 (pos 1) 1 None [] ∷ inside 2 (pos 1) 1 None [] ∷ [])
     ≡ 8 ∷ 0 ∷ 5 ∷ 14 ∷ 5 ∷ []
 unfolding fresh_replay end_replay
 ends = refl
@@ -180,7 +177,7 @@ pub ends-ask :
     ∷ (outcome_says (end_replay (rules_in Desk) (paired 48 0 1) (between 0))).number
     ∷ (outcome_says (end_replay (rules_in Desk) (paired 2 0 2) (between 0))).number
     ∷ (outcome_says (end_replay (rules_in Desk) (paired 2 1 0) (between 0))).number
-    ∷ (outcome_says (end_replay (rules_in Desk) (paired 2 1 0) (inside 0 (pos 1) 1 LastRaised.Nothing []))).number
+    ∷ (outcome_says (end_replay (rules_in Desk) (paired 2 1 0) (inside 0 (pos 1) 1 None []))).number
     ∷ (outcome_says (end_replay (rules_in Desk) (paired 2 1 0) (between (most + 1)))).number
     ∷ []
     ≡ 3 ∷ 0 ∷ 5 ∷ 6 ∷ 6 ∷ 5 ∷ []
@@ -215,7 +212,7 @@ carrying z = let c = clash.case in record { n = c.n; d = c.d; m = c.m; lower = c
 
 pub no_lines :
     without clash.case clash.weights (between 0) ""
-    ∷ without clash.case clash.weights (inside 0 (pos 1) 1 LastRaised.Nothing []) "x"
+    ∷ without clash.case clash.weights (inside 0 (pos 1) 1 None []) "x"
     -- the number that stands comes before all else
     ∷ without clash.case clash.weights too_high ""
     ∷ without (paired 49 0 1) [] too_high "x"
@@ -223,7 +220,7 @@ pub no_lines :
     ∷ without (paired 49 0 1) [] (between (most + 1)) ""
     ∷ without (paired 2 1 0) (zeros 8) (between (most + 1)) ""
     ∷ without (paired 2 1 0) (full 2 (pos 500_000_001 ∷ [])) (between (most + 1)) ""
-    ∷ without (paired 2 1 0) (full 2 (pos 500_000_001 ∷ [])) (inside 2 (pos 1) 1 LastRaised.Nothing []) "x"
+    ∷ without (paired 2 1 0) (full 2 (pos 500_000_001 ∷ [])) (inside 2 (pos 1) 1 None []) "x"
     ∷ without (paired 2 1 0) (full 2 (pos 500_000_001 ∷ [])) (between 0) ""
     ∷ without clash.case (full 2 (pos 500_000_001 ∷ [])) (between 0) ""
     ∷ without clash.case (full 2 (pos 500_000_000 ∷ [])) (between most) ""
@@ -237,7 +234,7 @@ unfolding fresh_replay fold_replay block_replay
 no_lines = refl
 
 -- refused, the standing changes alone
-pub no-line-keeps : block_replay (rules_in Desk) clash.case (zeros 8) (inside 0 (pos 1) 2 (LastRaised.Scope 2) (0 ∷ 0 ∷ 1 ∷ [])) (bytes_of "x")
+pub no-line-keeps : block_replay (rules_in Desk) clash.case (zeros 8) (inside 0 (pos 1) 2 (Some 2) (0 ∷ 0 ∷ 1 ∷ [])) (bytes_of "x")
     ≡ record {
       block = record {
         replay = record {
@@ -245,11 +242,11 @@ pub no-line-keeps : block_replay (rules_in Desk) clash.case (zeros 8) (inside 0 
           start = pos 4;
           moved = true;
           raised = marks_of (0 ∷ 0 ∷ 1 ∷ []);
-          due = Due.Raise 0 (Target.Press (pos 1)) 2 (LastRaised.Scope 2);
-          standing = Standing.Refused WrongLength;
+          due = Due.Raise 0 (Target.Press (pos 1)) 2 (Some 2);
+          standing = Err WrongLength;
         };
         lines = 0;
-        answer = Outcome.Refused WrongLength;
+        answer = Err WrongLength;
       };
       table = zeros 8;
     }

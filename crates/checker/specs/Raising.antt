@@ -1,11 +1,10 @@
 -- The raise lines of a press or a void line that are taken together from the front of a block, its last line excepted. Assumes nothing.
-use Rattle.std.specs.Prelude.{◌≡◌, not, List, ℕ, zero, suc, ℤ, T}
+use Rattle.std.specs.Prelude.{◌≡◌, not, List, ℕ, zero, suc, ℤ, T, Option, Some, None}
 use Rattle.definitions.specs.declared.Case.{Case}
 use Rattle.definitions.specs.Rules.{rules_of}
 use Rattle.definitions.specs.Case.{scope_count}
 use Rattle.definitions.specs.Valid.{working_weight}
 use Rattle.theory.proofs.Validity.{Handed}
-use Rattle.checker.specs.declared.LastRaised.{LastRaised}
 use Rattle.checker.specs.declared.Target.{Target}
 use Rattle.checker.specs.declared.Due.{Due}
 use Rattle.checker.specs.declared.Progress.{Progress}
@@ -14,13 +13,13 @@ use Rattle.checker.specs.Taken.{good_replay, bytes_per_line, more_by}
 
 -- ---- inside a press or a void line
 
-abbrev pub held_progress : Progress → ℕ → Target → ℕ → LastRaised → Progress
+abbrev pub held_progress : Progress → ℕ → Target → ℕ → Option ℕ → Progress
 held_progress q i target left last_one = record { rounds = q.rounds; start = q.start; moved = q.moved; due = Due.Raise i target left last_one }
 
 -- the last scope by the lowest one above the raised ones
-abbrev pub last_under : ℕ → LastRaised
-last_under zero = LastRaised.Nothing
-last_under (suc x) = LastRaised.Scope x
+abbrev pub last_under : ℕ → Option ℕ
+last_under zero = None
+last_under (suc x) = Some x
 
 abbrev pub raising_progress : Progress → ℕ → Target → ℕ → ℕ → Progress
 raising_progress q i target left next = held_progress q i target left (last_under next)

@@ -1,10 +1,8 @@
 -- What the private functions answer: a line taken with the record in parts, the raised scopes lent and the rest by value. Assumes nothing.
-use Rattle.std.specs.Prelude.{◌≡◌, false, not, ◌||◌, List, ◌∷◌, ℕ, ◌+◌, ℤ, pos, set}
-use Rattle.std.proofs.Math.Option.{none, some}
+use Rattle.definitions.specs.declared.Refusal.{Refusal}
+use Rattle.std.specs.Prelude.{◌≡◌, false, not, ◌||◌, List, ◌∷◌, ℕ, ◌+◌, ℤ, pos, set, Result, Ok, Err, Some, None, ⊤}
 use Rattle.definitions.specs.declared.Case.{Case}
 use Rattle.definitions.specs.declared.Line.{Line}
-use Rattle.definitions.specs.declared.Outcome.{Outcome}
-use Rattle.definitions.specs.declared.Figure.{Figure}
 use Rattle.definitions.specs.declared.Refusal.TheVariants.{NotDue, NotRefuted}
 use Rattle.definitions.specs.Rules.{rules_of}
 use Rattle.definitions.specs.Refusals.{Test, ◌when◌, first_refusal}
@@ -15,18 +13,17 @@ use Rattle.definitions.specs.Moves.{active_values}
 use Rattle.definitions.specs.Lines.{not_due, line_length}
 use Rattle.calls.specs.Calls.{is_raised}
 use Rattle.checker.specs.declared.Target.{Target}
-use Rattle.checker.specs.declared.Standing.{Standing}
 use Rattle.checker.specs.declared.Replay.{Replay}
 use Rattle.checker.specs.declared.Progress.{Progress}
 use Rattle.checker.specs.declared.Taken.{Taken}
 use Rattle.checker.specs.Checker.{StepCall, BlockCall, Asked, fresh_of, due_kinds, after_target, record_out, target_table, last_tests, of_due, step_by}
 
 -- a record stands as the last line was answered
-abbrev pub standing_after : Outcome → Standing
-standing_after Outcome.Done = Standing.Good
-standing_after (Outcome.Refused x) = Standing.Refused x
+abbrev pub standing_after : Result ⊤ Refusal → Result ⊤ Refusal
+standing_after (Ok tt) = Ok tt
+standing_after (Err x) = Err x
 
-abbrev pub replay_of : Progress → List ℕ → Standing → Replay
+abbrev pub replay_of : Progress → List ℕ → Result ⊤ Refusal → Replay
 replay_of p raised standing = record {
   rounds = p.rounds;
   start = p.start;
@@ -38,12 +35,12 @@ replay_of p raised standing = record {
 
 -- the same record while it stands good
 abbrev pub good_replay : Progress → List ℕ → Replay
-good_replay p raised = replay_of p raised Standing.Good
+good_replay p raised = replay_of p raised (Ok tt)
 
 -- a fresh record by the bound at the round's start
-abbrev pub fresh_from : Figure → Replay
-fresh_from (Figure.Value bound) = fresh_of none bound
-fresh_from (Figure.Refused x) = fresh_of (some x) (pos 0)
+abbrev pub fresh_from : Result ℤ Refusal → Replay
+fresh_from (Ok bound) = fresh_of None bound
+fresh_from (Err x) = fresh_of (Some x) (pos 0)
 
 -- the step of a line taken
 abbrev pub step_of : Taken → List ℕ → List ℤ → StepCall
@@ -54,7 +51,7 @@ step_of t raised w = record {
 
 -- the step of a line to which no number applies, by the record after it
 abbrev pub step_taken : Replay → List ℤ → StepCall
-step_taken p w = record { stepped = record { replay = p; answer = Outcome.Done }; table = w }
+step_taken p w = record { stepped = record { replay = p; answer = (Ok tt) }; table = w }
 
 -- a step of which only the numbers after 15 are left to ask
 abbrev pub step_next : List ℤ → Replay → Asked → StepCall
@@ -73,7 +70,7 @@ whole_tests c w i raised target =
     NotRefuted when (not (all_refuted c w (is_raised raised) i (active_values c w i))) ∷ last_tests (rules_of c) c w i raised target
 
 -- the answer to number 16 or 11, and the table after it
-abbrev pub TargetTaken : Case → List ℤ → ℕ → List ℕ → Target → Outcome → List ℤ → Type 0
+abbrev pub TargetTaken : Case → List ℤ → ℕ → List ℕ → Target → Result ⊤ Refusal → List ℤ → Type 0
 TargetTaken c w i raised target answer after =
     (answer ≡ outcome_of (first_refusal (last_tests (rules_of c) c w i raised target)))
     × (after ≡ unless_refused (first_refusal (last_tests (rules_of c) c w i raised target)) (target_table (rules_of c) c w i raised target) w)

@@ -1,6 +1,5 @@
 // Lines of a record that is good, on a case and a table that were checked.
-ghost use Rattle.std.specs.Prelude.{◌≡◌, not, T, length};
-ghost use Rattle.std.proofs.Math.Option.{some};
+ghost use Rattle.std.specs.Prelude.{◌≡◌, not, T, length, Ok, Some};
 ghost use Rattle.definitions.specs.Rules.{rules_of, scope_places};
 ghost use Rattle.definitions.specs.Valid.{working_weight};
 ghost use Rattle.theory.proofs.Validity.{Handed};
@@ -15,7 +14,7 @@ use crate::raise_runs::raise_on;
 use crate::ranges::line_out;
 use crate::records::{progress_of, record_of, refused, stands};
 use crate::{Block, Progress, Replay, Standing, Stepped, Taken};
-use definitions::{Case, Line, LineRead, Outcome, Refusal, SCOPE_PLACES};
+use definitions::{Case, Line, Refusal, SCOPE_PLACES};
 
 fn prepare(case: Case, table: &[i64], best: &mut [i64])
     requires handed { Handed (rules_of case) (working_weight (rules_of case)) case table.now }
@@ -38,7 +37,7 @@ fn good_read(
     requires raised_len { length raised.old ≡ scope_places }
     requires t { T (not (record_out (rules_of case) case (good_replay progress raised.old))) }
     ensures table_after { step_of result raised.new table.new
-        ≡ step_line (rules_of case) case table.old (good_replay progress raised.old) (some line) }
+        ≡ step_line (rules_of case) case table.old (good_replay progress raised.old) (Some line) }
     ensures best_of_2 { BestOf case table.new best.new }
 {
     let due = progress.due;
@@ -69,15 +68,15 @@ fn good_line(
 {
     let read = read_line(case, bytes);
     match read {
-        LineRead::Refused(_) => refused(progress, Refusal::NotInColumns),
-        LineRead::Read(line) => good_read(case, table, best, raised, progress, line),
+        Err(_) => refused(progress, Refusal::NotInColumns),
+        Ok(line) => good_read(case, table, best, raised, progress, line),
     }
 }
 
 // The lines of a block.
 pub(crate) fn good_lines(replay: Replay, case: Case, table: &mut [i64], bytes: &[u8]) -> Block
     requires handed { Handed (rules_of case) (working_weight (rules_of case)) case table.old }
-    requires standing_value { (replay.standing ≡ Standing.Good) × T (not (record_out (rules_of case) case replay)) }
+    requires standing_value { (replay.standing ≡ (Ok tt)) × T (not (record_out (rules_of case) case replay)) }
     ensures { (result ≡ (fold_replay (rules_of case) case table.old replay bytes.now).block)
         × (table.new ≡ (fold_replay (rules_of case) case table.old replay bytes.now).table) }
 {
@@ -100,9 +99,9 @@ pub(crate) fn good_lines(replay: Replay, case: Case, table: &mut [i64], bytes: &
         );
         let next = taken.progress;
         let answer = taken.answer;
-        if let Outcome::Refused(refusal) = answer {
+        if let Err(refusal) = answer {
             return Block {
-                replay: record_of(next, raised, Standing::Refused(refusal)),
+                replay: record_of(next, raised, Err(refusal)),
                 lines: done,
                 answer,
             };
@@ -113,15 +112,15 @@ pub(crate) fn good_lines(replay: Replay, case: Case, table: &mut [i64], bytes: &
         done = on.done;
     }
     Block {
-        replay: record_of(progress, raised, Standing::Good),
+        replay: record_of(progress, raised, Ok(())),
         lines: done,
-        answer: Outcome::Done,
+        answer: Ok(()),
     }
 }
 
 pub(crate) fn good_step(replay: Replay, case: Case, table: &mut [i64], bytes: &[u8]) -> Stepped
     requires handed { Handed (rules_of case) (working_weight (rules_of case)) case table.old }
-    requires standing_value { (replay.standing ≡ Standing.Good) × T (not (record_out (rules_of case) case replay)) }
+    requires standing_value { (replay.standing ≡ (Ok tt)) × T (not (record_out (rules_of case) case replay)) }
     ensures { (result ≡ (step_replay (rules_of case) case table.old replay bytes.now).stepped)
         × (table.new ≡ (step_replay (rules_of case) case table.old replay bytes.now).table) }
 {

@@ -7,7 +7,7 @@ ghost use Rattle.definitions.specs.Lines.{outside};
 ghost use Rattle.calls.specs.Calls.{read_line_answer};
 ghost use Rattle.checker.specs.Taken.{bytes_per_line};
 
-use definitions::{Case, LineRead};
+use definitions::{Case, Line, Refusal};
 
 pub(crate) fn most_rounds(case: Case) -> u64
     ensures { result ≡ (rules_of case).rounds }
@@ -23,7 +23,7 @@ pub(crate) fn line_length(case: Case) -> usize
     rules::line_length(rulebook)
 }
 
-pub(crate) fn read_line(case: Case, bytes: &[u8]) -> LineRead
+pub(crate) fn read_line(case: Case, bytes: &[u8]) -> Result<Line, Refusal>
     ensures { result ≡ read_line_answer (rules_of case) bytes.now }
 {
     let rulebook = case.rulebook;

@@ -15,9 +15,9 @@ use crate::columns::index;
 use crate::presses::raise_line;
 use crate::records::{after_bound, after_move, clear, refused, with_due};
 use crate::{Due, LastRaised, Progress, Replay, Taken, Target};
-use definitions::{Case, Figure, Line, Outcome, Refusal};
+use definitions::{Case, Line, Refusal};
 
-fn shift_made(case: Case, table: &mut [i64], best: &mut [i64], line: Line) -> Outcome
+fn shift_made(case: Case, table: &mut [i64], best: &mut [i64], line: Line) -> Result<(), Refusal>
     requires handed { Handed (rules_of case) (working_weight (rules_of case)) case table.old }
     requires best_of { BestOf case table.old best.old }
     requires t { (p : Replay) → T (not (of_shift (rules_of case) case table.old p line).out) }
@@ -51,8 +51,8 @@ fn shift_line(
 {
     let made = shift_made(case, table, best, line);
     match made {
-        Outcome::Refused(refusal) => refused(progress, refusal),
-        Outcome::Done => after_move(progress),
+        Err(refusal) => refused(progress, refusal),
+        Ok(()) => after_move(progress),
     }
 }
 
@@ -73,7 +73,7 @@ fn begin_line(raised: &mut [u8], progress: Progress, target: Target, line: Line)
             variable,
             target,
             left,
-            last: LastRaised::Nothing,
+            last: None,
         },
     )
 }
@@ -99,8 +99,8 @@ fn bound_line(case: Case, best: &[i64], progress: Progress, line: Line) -> Taken
 {
     let sum = tables::sum_of_best(case, best);
     match sum {
-        Figure::Refused(refusal) => refused(progress, refusal),
-        Figure::Value(bound) => stated_bound(progress, line, bound),
+        Err(refusal) => refused(progress, refusal),
+        Ok(bound) => stated_bound(progress, line, bound),
     }
 }
 

@@ -1,6 +1,5 @@
 // Numbers 3 to 8 of what was handed over, and a line or a block where one applies.
-ghost use Rattle.std.specs.Prelude.{◌≡◌, ◌↔◌, false, List, ℤ, T};
-ghost use Rattle.std.proofs.Math.Option.{some};
+ghost use Rattle.std.specs.Prelude.{◌≡◌, ◌↔◌, false, List, ℤ, T, Err, Some};
 ghost use Rattle.definitions.specs.Rules.{rules_of};
 ghost use Rattle.definitions.specs.Refusals.{first_refusal};
 ghost use Rattle.definitions.specs.Answers.{outcome_of};
@@ -13,16 +12,16 @@ use crate::due_lines::is_due;
 use crate::ranges::{line_out, record_out};
 use crate::records::{progress_of, record_of};
 use crate::{Block, Replay, Standing, Stepped};
-use definitions::{Case, Line, LineRead, Outcome, Refusal};
+use definitions::{Case, Line, Refusal};
 
 // Numbers 3 to 8.
-fn check_lent(replay: Replay, case: Case, table: &[i64]) -> Outcome
+fn check_lent(replay: Replay, case: Case, table: &[i64]) -> Result<(), Refusal>
     ensures { result
         ≡ outcome_of (first_refusal
         (handed_over (rules_of case) (working_weight (rules_of case)) case table.now false (record_out (rules_of case) case replay))) }
 {
     if !tables::within_limits(case) {
-        return Outcome::Refused(Refusal::OutsideLimits);
+        return Err(Refusal::OutsideLimits);
     }
     let raised = replay.raised;
     let due = replay.due;
@@ -31,13 +30,13 @@ fn check_lent(replay: Replay, case: Case, table: &[i64]) -> Outcome
 }
 
 // The number that stands, else 3 to 8.
-pub(crate) fn lent_answer(replay: Replay, case: Case, table: &[i64]) -> Outcome
+pub(crate) fn lent_answer(replay: Replay, case: Case, table: &[i64]) -> Result<(), Refusal>
     ensures { result ≡ outcome_of (lent_standing (rules_of case) case table.now replay replay.standing) }
 {
     let standing = replay.standing;
     match standing {
-        Standing::Refused(refusal) => Outcome::Refused(refusal),
-        Standing::Good => check_lent(replay, case, table),
+        Err(refusal) => Err(refusal),
+        Ok(()) => check_lent(replay, case, table),
     }
 }
 
@@ -53,8 +52,8 @@ fn is_wrong_length(refusal: Refusal) -> bool
 // The number of a line in columns, where `lent` is the first of 3 to 8 without the line's own 5.
 fn line_number(replay: Replay, case: Case, line: Line, lent: Refusal) -> Refusal
     ensures { (w : List ℤ)
-        → first_refusal (handed_over (rules_of case) (working_weight (rules_of case)) case w false (record_out (rules_of case) case replay)) ≡ some lent
-        → first_refusal (front_tests case w replay line) ≡ some result }
+        → first_refusal (handed_over (rules_of case) (working_weight (rules_of case)) case w false (record_out (rules_of case) case replay)) ≡ Some lent
+        → first_refusal (front_tests case w replay line) ≡ Some result }
 {
     let due = replay.due;
     if !is_due(due, line) {
@@ -74,45 +73,45 @@ fn line_number(replay: Replay, case: Case, line: Line, lent: Refusal) -> Refusal
 
 // The number of a line where `lent` stands or applies to what was handed over.
 pub(crate) fn first_number(replay: Replay, case: Case, bytes: &[u8], lent: Refusal) -> Refusal
-    ensures { (w : List ℤ) → lent_standing (rules_of case) case w replay replay.standing ≡ some lent
+    ensures { (w : List ℤ) → lent_standing (rules_of case) case w replay replay.standing ≡ Some lent
         → step_replay (rules_of case) case w replay bytes.now ≡ step_refused replay w result }
 {
     let standing = replay.standing;
-    if let Standing::Refused(refusal) = standing {
+    if let Err(refusal) = standing {
         return refusal;
     }
     let read = read_line(case, bytes);
     match read {
-        LineRead::Refused(_) => Refusal::NotInColumns,
-        LineRead::Read(line) => line_number(replay, case, line, lent),
+        Err(_) => Refusal::NotInColumns,
+        Ok(line) => line_number(replay, case, line, lent),
     }
 }
 
 pub(crate) fn refuse(replay: Replay, refusal: Refusal) -> Stepped
-    ensures { result ≡ record { replay = refused_replay replay refusal; answer = Outcome.Refused refusal } }
+    ensures { result ≡ record { replay = refused_replay replay refusal; answer = Err refusal } }
 {
     let raised = replay.raised;
     Stepped {
-        replay: record_of(progress_of(replay), raised, Standing::Refused(refusal)),
-        answer: Outcome::Refused(refusal),
+        replay: record_of(progress_of(replay), raised, Err(refusal)),
+        answer: Err(refusal),
     }
 }
 
 fn no_lines(replay: Replay, refusal: Refusal) -> Block
-    ensures { result ≡ record { replay = refused_replay replay refusal; lines = 0; answer = Outcome.Refused refusal } }
+    ensures { result ≡ record { replay = refused_replay replay refusal; lines = 0; answer = Err refusal } }
 {
     let stepped = refuse(replay, refusal);
     let after = stepped.replay;
     Block {
         replay: after,
         lines: 0,
-        answer: Outcome::Refused(refusal),
+        answer: Err(refusal),
     }
 }
 
 // A block where `lent` stands or applies to what was handed over.
 pub(crate) fn refused_lines(replay: Replay, case: Case, bytes: &[u8], lent: Refusal) -> Block
-    ensures { (w : List ℤ) → lent_standing (rules_of case) case w replay replay.standing ≡ some lent
+    ensures { (w : List ℤ) → lent_standing (rules_of case) case w replay replay.standing ≡ Some lent
         → (result ≡ (block_replay (rules_of case) case w replay bytes.now).block)
         × (w ≡ (block_replay (rules_of case) case w replay bytes.now).table) }
 {

@@ -20,16 +20,9 @@ ghost use Rattle.checker.specs.Taken.{fresh_from};
 ghost use Rattle.checker.specs.Checker.{fresh_replay, step_replay, end_replay, block_replay, is_short, ending_tests};
 
 use blocks::{good_lines, good_step};
-use definitions::{Case, Figure, Outcome, Refusal, SCOPE_PLACES};
+use definitions::{Case, Refusal, SCOPE_PLACES};
 use lent::{first_number, lent_answer, refuse, refused_lines};
 use ranges::record_out;
-
-// The last scope that a press or a void line has raised.
-#[derive(Clone, Copy)]
-pub enum LastRaised {
-    Nothing,
-    Scope(usize),
-}
 
 // What the last raise line completes: a press by an amount, or a void line.
 #[derive(Clone, Copy)]
@@ -47,16 +40,9 @@ pub enum Due {
         variable: usize,
         target: Target,
         left: usize,
-        last: LastRaised,
+        last: Option<usize>,
     },
     Nothing,
-}
-
-// Whether a number has been given to a line yet.
-#[derive(Clone, Copy)]
-pub enum Standing {
-    Good,
-    Refused(Refusal),
 }
 
 // The replay's record. `raised` has a byte for each scope, 0 where the press or void line begun has not raised it.
@@ -67,14 +53,14 @@ pub struct Replay {
     pub moved: bool,
     pub raised: [u8; SCOPE_PLACES],
     pub due: Due,
-    pub standing: Standing,
+    pub standing: Result<(), Refusal>,
 }
 
 // The next record with the answer to the line.
 #[derive(Clone, Copy)]
 pub struct Stepped {
     pub replay: Replay,
-    pub answer: Outcome,
+    pub answer: Result<(), Refusal>,
 }
 
 // The record after a block of lines, how many lines got no number, and the first refusal.
@@ -82,7 +68,7 @@ pub struct Stepped {
 pub struct Block {
     pub replay: Replay,
     pub lines: usize,
-    pub answer: Outcome,
+    pub answer: Result<(), Refusal>,
 }
 
 // What the record holds beside the raised scopes and the standing.
@@ -98,7 +84,7 @@ struct Progress {
 #[derive(Clone, Copy)]
 struct Taken {
     progress: Progress,
-    answer: Outcome,
+    answer: Result<(), Refusal>,
 }
 
 // What is left of a press or a void line after some of its raise lines: lines, the lowest scope above the raised ones, and where the next line begins.
@@ -132,47 +118,47 @@ fn is_short(due: Due, moved: bool) -> bool
     }
 }
 
-fn end_good(replay: Replay, case: Case) -> Outcome
+fn end_good(replay: Replay, case: Case) -> Result<(), Refusal>
     ensures { result ≡ outcome_of (first_refusal (ending_tests (rules_of case) case replay)) }
 {
     if !tables::within_limits(case) {
-        return Outcome::Refused(Refusal::OutsideLimits);
+        return Err(Refusal::OutsideLimits);
     }
     let raised = replay.raised;
     let due = replay.due;
     let out = record_out(case, &raised, replay.rounds, due);
     let checked = tables::check_edges(case, out);
     match checked {
-        Outcome::Refused(refusal) => Outcome::Refused(refusal),
-        Outcome::Done => {
+        Err(refusal) => Err(refusal),
+        Ok(()) => {
             if is_short(due, replay.moved) {
-                return Outcome::Refused(Refusal::CutShort);
+                return Err(Refusal::CutShort);
             }
-            Outcome::Done
+            Ok(())
         }
     }
 }
 
 // A fresh record with this bound at the round's start, or one that stands refused.
-fn fresh_from(start: Figure) -> Replay
+fn fresh_from(start: Result<i64, Refusal>) -> Replay
     ensures { result ≡ fresh_from start }
 {
     match start {
-        Figure::Refused(refusal) => Replay {
+        Err(refusal) => Replay {
             rounds: 0,
             start: 0,
             moved: false,
             raised: [0u8; SCOPE_PLACES],
             due: Due::MoveOrBound,
-            standing: Standing::Refused(refusal),
+            standing: Err(refusal),
         },
-        Figure::Value(bound) => Replay {
+        Ok(bound) => Replay {
             rounds: 0,
             start: bound,
             moved: false,
             raised: [0u8; SCOPE_PLACES],
             due: Due::MoveOrBound,
-            standing: Standing::Good,
+            standing: Ok(()),
         },
     }
 }
@@ -185,8 +171,8 @@ impl Replay {
     {
         let checked = tables::check_starting(case, table, false, false);
         match checked {
-            Outcome::Refused(refusal) => fresh_from(Figure::Refused(refusal)),
-            Outcome::Done => fresh_from(tables::sum_of_greatest(case, table)),
+            Err(refusal) => fresh_from(Err(refusal)),
+            Ok(()) => fresh_from(tables::sum_of_greatest(case, table)),
         }
     }
 
@@ -197,18 +183,18 @@ impl Replay {
     {
         let lent = lent_answer(self, case, table);
         match lent {
-            Outcome::Refused(refusal) => refuse(self, first_number(self, case, line, refusal)),
-            Outcome::Done => good_step(self, case, table, line),
+            Err(refusal) => refuse(self, first_number(self, case, line, refusal)),
+            Ok(()) => good_step(self, case, table, line),
         }
     }
 
-    pub fn end(self, case: Case) -> Outcome
+    pub fn end(self, case: Case) -> Result<(), Refusal>
         ensures { result ≡ end_replay (rules_of case) case self }
     {
         let standing = self.standing;
         match standing {
-            Standing::Refused(refusal) => Outcome::Refused(refusal),
-            Standing::Good => end_good(self, case),
+            Err(refusal) => Err(refusal),
+            Ok(()) => end_good(self, case),
         }
     }
 
@@ -219,8 +205,8 @@ impl Replay {
     {
         let lent = lent_answer(self, case, table);
         match lent {
-            Outcome::Refused(refusal) => refused_lines(self, case, bytes, refusal),
-            Outcome::Done => good_lines(self, case, table, bytes),
+            Err(refusal) => refused_lines(self, case, bytes, refusal),
+            Ok(()) => good_lines(self, case, table, bytes),
         }
     }
 }

@@ -18,14 +18,14 @@ ghost use Rattle.checker.specs.Taken.{good_replay, step_of, step_taken, step_nex
 use crate::columns::index;
 use crate::records::{after_move, clear, refused, with_due};
 use crate::{Due, LastRaised, Progress, Taken, Target};
-use definitions::{Case, Line, Outcome, Refusal, Verdict};
+use definitions::{Case, Line, Refusal};
 
-fn not_above(last: LastRaised, x: usize) -> bool
+fn not_above(last: Option<usize>, x: usize) -> bool
     ensures { result ≡ not_above_last last x }
 {
     match last {
-        LastRaised::Nothing => false,
-        LastRaised::Scope(y) => x <= y,
+        None => false,
+        Some(y) => x <= y,
     }
 }
 
@@ -45,9 +45,9 @@ fn all_refuted(
 {
     let verdict = arcs::values_unsupported(case, table, best, raised, variable, values);
     match verdict {
-        Verdict::Yes => true,
-        Verdict::No => false,
-        Verdict::Refused(_) => false,
+        Ok(true) => true,
+        Ok(false) => false,
+        Err(_) => false,
     }
 }
 
@@ -59,7 +59,7 @@ fn press_made(
     variable: usize,
     values: u8,
     amount: i64,
-) -> Outcome
+) -> Result<(), Refusal>
     requires handed { Handed (rules_of case) (working_weight (rules_of case)) case table.old }
     requires best_of { BestOf case table.old best.old }
     requires raised_len { (length raised.now ≡ scope_places) × (variable < case.n) × T (press_amount (rules_of case) amount) }
@@ -71,16 +71,16 @@ fn press_made(
 }
 
 // A void line with its raised scopes, unless number 16 applies.
-fn void_made(case: Case, table: &[i64], best: &[i64], raised: &[u8], variable: usize) -> Outcome
+fn void_made(case: Case, table: &[i64], best: &[i64], raised: &[u8], variable: usize) -> Result<(), Refusal>
     requires handed { Handed (rules_of case) (working_weight (rules_of case)) case table.now }
     requires best_of { BestOf case table.now best.now }
     requires raised_len { (length raised.now ≡ scope_places) × (variable < case.n) }
     ensures { result ≡ outcome_of (first_refusal (last_tests (rules_of case) case table.now variable raised.now Target.Void)) }
 {
     if bars::rest_barred(case, table, best, raised, variable) {
-        return Outcome::Done;
+        return Ok(());
     }
-    Outcome::Refused(Refusal::NotAllBarred)
+    Err(Refusal::NotAllBarred)
 }
 
 fn target_made(
@@ -91,7 +91,7 @@ fn target_made(
     variable: usize,
     values: u8,
     target: Target,
-) -> Outcome
+) -> Result<(), Refusal>
     requires handed { Handed (rules_of case) (working_weight (rules_of case)) case table.old }
     requires best_of { BestOf case table.old best.old }
     requires raised_len { (length raised.now ≡ scope_places) × (variable < case.n) × T (not (target_out (rules_of case) target)) }
@@ -113,7 +113,7 @@ fn target_whole(
     raised: &[u8],
     variable: usize,
     target: Target,
-) -> Outcome
+) -> Result<(), Refusal>
     requires handed { Handed (rules_of case) (working_weight (rules_of case)) case table.old }
     requires best_of { BestOf case table.old best.old }
     requires raised_len { (length raised.now ≡ scope_places) × (variable < case.n) × T (not (target_out (rules_of case) target)) }
@@ -125,7 +125,7 @@ fn target_whole(
 {
     let values = changes::best_values(case, table, best, variable);
     if !all_refuted(case, table, best, raised, variable, values) {
-        return Outcome::Refused(Refusal::NotRefuted);
+        return Err(Refusal::NotRefuted);
     }
     target_made(case, table, best, raised, variable, values, target)
 }
@@ -162,11 +162,11 @@ fn last_raise(
     raised[x] = 1;
     let made = target_whole(case, table, best, raised, variable, target);
     match made {
-        Outcome::Refused(refusal) => {
+        Err(refusal) => {
             raised[x] = before;
             refused(progress, refusal)
         }
-        Outcome::Done => {
+        Ok(()) => {
             clear(raised);
             after_target(progress, target)
         }
@@ -182,7 +182,7 @@ pub(crate) fn raise_line(
     variable: usize,
     target: Target,
     left: usize,
-    last: LastRaised,
+    last: Option<usize>,
     line: Line,
 ) -> Taken
     requires handed { Handed (rules_of case) (working_weight (rules_of case)) case table.old }
@@ -211,7 +211,7 @@ pub(crate) fn raise_line(
             variable,
             target,
             left: left - 1,
-            last: LastRaised::Scope(x),
+            last: Some(x),
         },
     )
 }

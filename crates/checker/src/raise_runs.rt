@@ -1,6 +1,5 @@
 // Raise lines of a press or a void line that are taken together, its last excepted.
-ghost use Rattle.std.specs.Prelude.{◌≡◌, not, false, ℕ, ◌+◌, ◌-◌, ◌≤◌, ◌<◌, T, length, drop};
-ghost use Rattle.std.proofs.Math.Option.{some};
+ghost use Rattle.std.specs.Prelude.{◌≡◌, not, false, ℕ, ◌+◌, ◌-◌, ◌≤◌, ◌<◌, T, length, drop, Some};
 ghost use Rattle.definitions.specs.Rules.{rules_in, rules_of, scope_places};
 ghost use Rattle.definitions.specs.Case.{scope_count};
 ghost use Rattle.definitions.specs.Lines.{read_line, line_length};
@@ -14,17 +13,17 @@ ghost use Rattle.checker.specs.Raising.{last_under, held_progress, raising_progr
 use crate::records::with_due;
 use crate::{Due, LastRaised, Place, Progress, Raises, Target};
 use definitions::{Case, Rulebook, SCOPE_PLACES};
-use lines::RaiseRead;
+
 
 // The scope of a raise line, or more than any scope's number.
 fn scope_or_none(bytes: &[u8], width: usize) -> usize
     requires { width_out width ≡ false }
-    ensures { result < scope_places → read_line width bytes.now ≡ some (raise_line result) }
+    ensures { result < scope_places → read_line width bytes.now ≡ Some (raise_line result) }
 {
     let scope = lines::raised_scope(bytes, width);
     match scope {
-        RaiseRead::Scope(x) => x,
-        RaiseRead::Nothing => SCOPE_PLACES,
+        Some(x) => x,
+        None => SCOPE_PLACES,
     }
 }
 
@@ -80,23 +79,23 @@ fn raise_lines(
     }
 }
 
-fn next_of(last: LastRaised) -> usize
-    requires { (x : ℕ) → last ≡ LastRaised.Scope x → x < scope_places }
+fn next_of(last: Option<usize>) -> usize
+    requires { (x : ℕ) → last ≡ Some x → x < scope_places }
     ensures { last_under result ≡ last }
 {
     match last {
-        LastRaised::Nothing => 0,
-        LastRaised::Scope(x) => x + 1,
+        None => 0,
+        Some(x) => x + 1,
     }
 }
 
-fn last_of(next: usize) -> LastRaised
+fn last_of(next: usize) -> Option<usize>
     ensures { result ≡ last_under next }
 {
     if next == 0 {
-        return LastRaised::Nothing;
+        return None;
     }
-    LastRaised::Scope(next - 1)
+    Some(next - 1)
 }
 
 // The raise lines of a press or a void line begun, its last excepted.
@@ -107,7 +106,7 @@ fn held_on(
     variable: usize,
     target: Target,
     left: usize,
-    last: LastRaised,
+    last: Option<usize>,
     bytes: &[u8],
     from: usize,
     done: usize,

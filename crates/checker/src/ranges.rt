@@ -11,13 +11,13 @@ use crate::columns::{is_outside, is_within, most_rounds};
 use crate::{Due, LastRaised, Replay, Target};
 use definitions::{Case, Line};
 
-fn last_out(case: Case, last: LastRaised) -> bool
+fn last_out(case: Case, last: Option<usize>) -> bool
     requires { Limited case }
     ensures { result ≡ last_out case last }
 {
     match last {
-        LastRaised::Nothing => false,
-        LastRaised::Scope(x) => case.n + case.m <= x,
+        None => false,
+        Some(x) => case.n + case.m <= x,
     }
 }
 
@@ -63,7 +63,7 @@ fn held_out(
     variable: usize,
     target: Target,
     left: usize,
-    last: LastRaised,
+    last: Option<usize>,
 ) -> bool
     requires { Limited case }
     ensures { result ≡ due_out (rules_of case) case raised.now (Due.Raise variable target left last) }

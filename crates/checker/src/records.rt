@@ -1,16 +1,16 @@
 // The next record, in parts and whole.
-ghost use Rattle.std.specs.Prelude.{◌≡◌, true, false, ◌+◌, ◌^◌, ◌<◌, length, replicate};
+ghost use Rattle.std.specs.Prelude.{◌≡◌, true, false, ◌+◌, ◌^◌, ◌<◌, length, replicate, Ok, Err};
 ghost use Rattle.checker.specs.Taken.{standing_after, replay_of};
 
 use crate::{Due, Progress, Replay, Standing, Taken};
-use definitions::{Outcome, Refusal, SCOPE_PLACES};
+use definitions::{Refusal, SCOPE_PLACES};
 
 pub(crate) fn refused(progress: Progress, refusal: Refusal) -> Taken
-    ensures { result ≡ record { progress = progress; answer = Outcome.Refused refusal } }
+    ensures { result ≡ record { progress = progress; answer = Err refusal } }
 {
     Taken {
         progress,
-        answer: Outcome::Refused(refusal),
+        answer: Err(refusal),
     }
 }
 
@@ -19,7 +19,7 @@ pub(crate) fn with_due(progress: Progress, due: Due) -> Taken
         ≡ record {
           progress = record
               { rounds = progress.rounds; start = progress.start; moved = progress.moved; due = due };
-          answer = Outcome.Done;
+          answer = Ok tt;
         } }
 {
     Taken {
@@ -29,7 +29,7 @@ pub(crate) fn with_due(progress: Progress, due: Due) -> Taken
             moved: progress.moved,
             due,
         },
-        answer: Outcome::Done,
+        answer: Ok(()),
     }
 }
 
@@ -39,7 +39,7 @@ pub(crate) fn after_move(progress: Progress) -> Taken
         ≡ record {
           progress = record
               { rounds = progress.rounds; start = progress.start; moved = true; due = Due.MoveOrBound };
-          answer = Outcome.Done;
+          answer = Ok tt;
         } }
 {
     Taken {
@@ -49,7 +49,7 @@ pub(crate) fn after_move(progress: Progress) -> Taken
             moved: true,
             due: Due::MoveOrBound,
         },
-        answer: Outcome::Done,
+        answer: Ok(()),
     }
 }
 
@@ -59,7 +59,7 @@ pub(crate) fn after_bound(progress: Progress, bound: i64) -> Taken
         ≡ record {
           progress = record
               { rounds = progress.rounds + 1; start = bound; moved = false; due = Due.MoveOrBound };
-          answer = Outcome.Done;
+          answer = Ok tt;
         } }
 {
     Taken {
@@ -69,7 +69,7 @@ pub(crate) fn after_bound(progress: Progress, bound: i64) -> Taken
             moved: false,
             due: Due::MoveOrBound,
         },
-        answer: Outcome::Done,
+        answer: Ok(()),
     }
 }
 
@@ -77,7 +77,7 @@ pub(crate) fn after_bound(progress: Progress, bound: i64) -> Taken
 pub(crate) fn record_of(
     progress: Progress,
     raised: [u8; SCOPE_PLACES],
-    standing: Standing,
+    standing: Result<(), Refusal>,
 ) -> Replay
     ensures { result ≡ replay_of progress raised standing }
 {
@@ -104,12 +104,12 @@ pub(crate) fn progress_of(replay: Replay) -> Progress
     }
 }
 
-pub(crate) fn stands(answer: Outcome) -> Standing
+pub(crate) fn stands(answer: Result<(), Refusal>) -> Result<(), Refusal>
     ensures { result ≡ standing_after answer }
 {
     match answer {
-        Outcome::Done => Standing::Good,
-        Outcome::Refused(refusal) => Standing::Refused(refusal),
+        Ok(()) => Ok(()),
+        Err(refusal) => Err(refusal),
     }
 }
 

@@ -1,14 +1,14 @@
 -- The calls on a case and a record as bytes. What is refused changes no byte and no weight, but where a line says so. Assumes nothing.
-use Rattle.std.specs.Prelude.{true, false, List, ◌∷◌, ℕ, ℤ, eqb, if◌then◌else◌}
+use Rattle.definitions.specs.declared.Refusal.{Refusal}
+use Rattle.definitions.specs.declared.RefusedAt.{RefusedAt}
+use Rattle.std.specs.Prelude.{true, false, List, ◌∷◌, ℕ, ℤ, eqb, if◌then◌else◌, Result, Ok, Err, ⊤}
 use Rattle.definitions.specs.declared.Rulebook.TheVariants.{Desk}
 use Rattle.definitions.specs.declared.Case.{Case}
-use Rattle.definitions.specs.declared.FileAnswer.{FileAnswer}
 use Rattle.definitions.specs.declared.CaseRead.{CaseRead}
-use Rattle.definitions.specs.declared.Outcome.{Outcome}
 use Rattle.definitions.specs.declared.Refusal.TheVariants.{CutShort}
 use Rattle.definitions.specs.Rules.{rules_of}
 use Rattle.definitions.specs.Refusals.{first_refusal}
-use Rattle.definitions.specs.Answers.{outcome_says, figure_says, file_says, outcome_of}
+use Rattle.definitions.specs.Answers.{outcome_says, figure_says, file_says, outcome_of, refused_at}
 use Rattle.definitions.specs.Valid.{working_weight, limit_test, edge_tests, handed_over}
 use Rattle.definitions.specs.CaseFiles.{read_case_alone}
 use Rattle.calls.specs.Calls.{supported_value_call}
@@ -25,9 +25,9 @@ use Rattle.checker_library.specs.Answers.{lines_of, rounds_of, value_of}
 -- ---- reading a case
 
 -- the lent bytes of a case after it was read: a refusal leaves them
-abbrev pub case_after : FileAnswer → CaseRead → List ℕ → List ℕ
-case_after (FileAnswer.Read lines) read bytes = bytes_of_case read.case
-case_after (FileAnswer.Refused x at) read bytes = bytes
+abbrev pub case_after : Result ℕ RefusedAt → CaseRead → List ℕ → List ℕ
+case_after (Ok lines) read bytes = bytes_of_case read.case
+case_after (Err x) read bytes = bytes
 
 -- what is answered, and the lent bytes of a case and the lent table after it
 pub record ReadCall : Type 0 where
@@ -92,9 +92,9 @@ replay_call case w bytes lines =
     else record { answer = record { number = not_record (case_in case) w; lines = 0 }; state = bytes; table = w }
 
 -- with so many bytes of a part line left: 14, where no other number applies
-abbrev pub end_with : ℕ → Outcome → Outcome
-end_with part Outcome.Done = if eqb part 0 then Outcome.Done else Outcome.Refused CutShort
-end_with part (Outcome.Refused x) = Outcome.Refused x
+abbrev pub end_with : ℕ → Result ⊤ Refusal → Result ⊤ Refusal
+end_with part (Ok tt) = if eqb part 0 then Ok tt else Err CutShort
+end_with part (Err x) = Err x
 
 unfoldable pub end_call : List ℕ → List ℕ → ℕ → CeilingRounds
 end_call case bytes part =

@@ -21,10 +21,8 @@ ghost use Rattle.checker_library.specs.Answers.{ceiling_size_of, lines_of, total
 ghost use Rattle.checker_library.specs.Calls.{case_after, read_call, value_call, start_record, block_answer, replay_call};
 ghost use Rattle.checker_library.specs.Calls.{not_record, not_record_at_end, end_with, end_call};
 
-use checker::{Due, Replay, Standing};
-use definitions::{
-    Case, CaseRead, CaseSize, Choice, Figure, FileAnswer, Outcome, Refusal, Span, Verdict,
-};
+use checker::{Due, Replay};
+use definitions::{Case, CaseRead, CaseSize, Choice, Refusal, RefusedAt, Span};
 use encoding::{CaseArray, RecordArray};
 
 // What the head of a case file says, with the length of the table to lend.
@@ -104,18 +102,18 @@ fn number_of(refusal: Refusal) -> u64
     integers::wide(texts::number_of(refusal))
 }
 
-fn size_of(size: CaseSize) -> CeilingSize
+fn size_of(size: Result<CaseSize, Refusal>) -> CeilingSize
     ensures { result ≡ ceiling_size_of (size_says size) }
 {
     match size {
-        CaseSize::Size { n, d, m, table } => CeilingSize {
+        Ok(CaseSize { n, d, m, table }) => CeilingSize {
             number: 0,
             n,
             d,
             m,
             table,
         },
-        CaseSize::Refused(refusal) => CeilingSize {
+        Err(refusal) => CeilingSize {
             number: number_of(refusal),
             n: 0,
             d: 0,
@@ -125,58 +123,58 @@ fn size_of(size: CaseSize) -> CeilingSize
     }
 }
 
-fn lines_of(answer: FileAnswer) -> CeilingLines
+fn lines_of(answer: Result<usize, RefusedAt>) -> CeilingLines
     ensures { result ≡ lines_of (file_says answer) }
 {
     match answer {
-        FileAnswer::Read { lines } => CeilingLines { number: 0, lines },
-        FileAnswer::Refused { refusal, line } => CeilingLines {
+        Ok(lines) => CeilingLines { number: 0, lines },
+        Err(RefusedAt { refusal, line }) => CeilingLines {
             number: number_of(refusal),
             lines: line,
         },
     }
 }
 
-fn total_of(figure: Figure) -> CeilingTotal
+fn total_of(figure: Result<i64, Refusal>) -> CeilingTotal
     ensures { result ≡ total_of (figure_says figure) }
 {
     match figure {
-        Figure::Value(total) => CeilingTotal { number: 0, total },
-        Figure::Refused(refusal) => CeilingTotal {
+        Ok(total) => CeilingTotal { number: 0, total },
+        Err(refusal) => CeilingTotal {
             number: number_of(refusal),
             total: 0,
         },
     }
 }
 
-fn outcome_number(outcome: Outcome) -> u64
+fn outcome_number(outcome: Result<(), Refusal>) -> u64
     ensures { result ≡ (outcome_says outcome).number }
 {
     match outcome {
-        Outcome::Done => 0,
-        Outcome::Refused(refusal) => number_of(refusal),
+        Ok(()) => 0,
+        Err(refusal) => number_of(refusal),
     }
 }
 
-fn standing_number(standing: Standing) -> u64
+fn standing_number(standing: Result<(), Refusal>) -> u64
     ensures { result ≡ (standing_says standing).number }
 {
     match standing {
-        Standing::Good => 0,
-        Standing::Refused(refusal) => number_of(refusal),
+        Ok(()) => 0,
+        Err(refusal) => number_of(refusal),
     }
 }
 
-fn rounds_of(rounds: u64, over: bool, outcome: Outcome) -> CeilingRounds
+fn rounds_of(rounds: u64, over: bool, outcome: Result<(), Refusal>) -> CeilingRounds
     ensures { result ≡ rounds_of rounds over (outcome_says outcome) }
 {
     match outcome {
-        Outcome::Refused(refusal) => CeilingRounds {
+        Err(refusal) => CeilingRounds {
             number: number_of(refusal),
             rounds: 0,
             void: 0,
         },
-        Outcome::Done => {
+        Ok(()) => {
             if over {
                 return CeilingRounds {
                     number: 0,
@@ -193,17 +191,17 @@ fn rounds_of(rounds: u64, over: bool, outcome: Outcome) -> CeilingRounds
     }
 }
 
-fn span_of(span: Span) -> CeilingSpan
+fn span_of(span: Result<Span, RefusedAt>) -> CeilingSpan
     ensures { result ≡ span_of (span_says span) }
 {
     match span {
-        Span::Part { from, to } => CeilingSpan {
+        Ok(Span { from, to }) => CeilingSpan {
             number: 0,
             from,
             to,
             line: 0,
         },
-        Span::Refused { refusal, line } => CeilingSpan {
+        Err(RefusedAt { refusal, line }) => CeilingSpan {
             number: number_of(refusal),
             from: 0,
             to: 0,
@@ -212,48 +210,48 @@ fn span_of(span: Span) -> CeilingSpan
     }
 }
 
-fn choice_of(choice: Choice) -> CeilingChoice
+fn choice_of(choice: Result<Choice, Refusal>) -> CeilingChoice
     ensures { result ≡ choice_of (choice_says choice) }
 {
     match choice {
-        Choice::First => CeilingChoice {
+        Ok(Choice::First) => CeilingChoice {
             number: 0,
             choice: 0,
         },
-        Choice::Second => CeilingChoice {
+        Ok(Choice::Second) => CeilingChoice {
             number: 0,
             choice: 1,
         },
-        Choice::Refused(refusal) => CeilingChoice {
+        Err(refusal) => CeilingChoice {
             number: number_of(refusal),
             choice: 0,
         },
     }
 }
 
-fn value_of(figure: Figure) -> CeilingValue
+fn value_of(figure: Result<i64, Refusal>) -> CeilingValue
     requires { lt_z (value_at (figure_says figure) 0) (pos 0) ≡ false }
     ensures { result ≡ value_of (figure_says figure) }
 {
     match figure {
-        Figure::Value(value) => CeilingValue {
+        Ok(value) => CeilingValue {
             number: 0,
             value: value as usize,
         },
-        Figure::Refused(refusal) => CeilingValue {
+        Err(refusal) => CeilingValue {
             number: number_of(refusal),
             value: 0,
         },
     }
 }
 
-fn verdict_of(verdict: Verdict) -> CeilingVerdict
+fn verdict_of(verdict: Result<bool, Refusal>) -> CeilingVerdict
     ensures { result ≡ ceiling_verdict_of (verdict_says verdict) }
 {
     match verdict {
-        Verdict::Yes => CeilingVerdict { number: 0, yes: 1 },
-        Verdict::No => CeilingVerdict { number: 0, yes: 0 },
-        Verdict::Refused(refusal) => CeilingVerdict {
+        Ok(true) => CeilingVerdict { number: 0, yes: 1 },
+        Ok(false) => CeilingVerdict { number: 0, yes: 0 },
+        Err(refusal) => CeilingVerdict {
             number: number_of(refusal),
             yes: 0,
         },
@@ -268,11 +266,11 @@ fn keep_case(read: CaseRead, case: &mut CaseArray)
 {
     let answer = read.answer;
     match answer {
-        FileAnswer::Read { lines: _ } => encoding::write_case_bytes(read.case, case),
-        FileAnswer::Refused {
+        Ok(_) => encoding::write_case_bytes(read.case, case),
+        Err(RefusedAt {
             refusal: _,
             line: _,
-        } => {}
+        }) => {}
     }
 }
 
@@ -328,17 +326,17 @@ fn is_over(due: Due) -> bool
     }
 }
 
-fn end_with(part: usize, end: Outcome) -> Outcome
+fn end_with(part: usize, end: Result<(), Refusal>) -> Result<(), Refusal>
     ensures { result ≡ end_with part end }
 {
     match end {
-        Outcome::Done => {
+        Ok(()) => {
             if part == 0 {
-                return Outcome::Done;
+                return Ok(());
             }
-            Outcome::Refused(Refusal::CutShort)
+            Err(Refusal::CutShort)
         }
-        Outcome::Refused(refusal) => Outcome::Refused(refusal),
+        Err(refusal) => Err(refusal),
     }
 }
 

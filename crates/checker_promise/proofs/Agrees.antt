@@ -3,7 +3,6 @@
 use mathlib.Core.Path.{◌≡◌, refl, sym, ap, ◌∙◌}
 use mathlib.Core.Bool.{Bool, true, false, not, ◌&&◌, or-true, or-false}
 use mathlib.Core.Logic.{⊎_elim}
-use mathlib.Core.Option.{Option, none, some}
 use mathlib.Core.List.{List, [], ◌∷◌, ◌++◌}
 use Prim.Native.Nat.{ℕ, ◌+◌, ◌-◌, ◌≤◌, ◌<◌}
 use native.Mathlib.Omega.{arith}
@@ -11,14 +10,13 @@ use lib.IntN.{ℤ, pos, neg_ℤ, ◌+ℤ◌}
 use lib.Dec.{T, eqb, eqb→eq}
 use lib.ListN.{length, drop, set, length-drop, length-set, length-replicate, get_or-replicate}
 use lib.Seq.{get_or-drop, get_or-set_same, get_or-set_other, drop-set-lt}
-use Rattle.std.specs.Prelude.{if◌then◌else◌}
+use Rattle.std.specs.Prelude.{if◌then◌else◌, Option, Some, None}
 use Rattle.integers.specs.Words.{all, last, is_in, ◌⇒◌}
 use Rattle.integers.specs.Tests.{tests, either, is_true, is_false, not-eqb-iff}
 use Rattle.integers.specs.Options.{last-append}
 use Rattle.integers.specs.Lists.{all_same, is_in-append}
 use Rattle.integers.specs.Tables.{all_get_d}
 use Rattle.definitions.specs.declared.Case.{Case}
-use Rattle.checker.specs.declared.LastRaised.{LastRaised}
 use Rattle.checker.specs.declared.Target.{Target as Aim}
 use Rattle.checker.specs.declared.Due.{Due}
 use Rattle.checker.specs.declared.Replay.{Replay}
@@ -38,9 +36,9 @@ use Rattle.theory.proofs.Replays.{Sound}
 
 -- ---- the record of a state, with these bytes for the raised scopes
 
-abbrev pub last_of : Option ℕ → LastRaised
-last_of none = LastRaised.Nothing
-last_of (some x) = LastRaised.Scope x
+abbrev pub last_of : Option ℕ → Option ℕ
+last_of None = None
+last_of (Some x) = Some x
 
 abbrev pub target_of : Target → Aim
 target_of (pressing a) = Aim.Press a
@@ -48,8 +46,8 @@ target_of voiding = Aim.Void
 
 abbrev pub due_of : Bool → Option Held → Due
 due_of true held = Due.Nothing
-due_of false none = Due.MoveOrBound
-due_of false (some h) = Due.Raise h.variable (target_of h.target) h.left (last_of (last h.raised))
+due_of false None = Due.MoveOrBound
+due_of false (Some h) = Due.Raise h.variable (target_of h.target) h.left (last_of (last h.raised))
 
 abbrev pub record_of : State → List ℕ → Replay
 record_of s bytes = record {
@@ -80,7 +78,7 @@ pub record Marked (r : Rules) (c : Case) (h : Held) (bytes : List ℕ) : Type 0 
   pub left-most : h.left ≤ scope_count c - 1
 
 abbrev pub MarkedIn : Rules → State → List ℕ → Type 0
-MarkedIn r s bytes = (h : Held) → s.held ≡ some h → Marked r s.case h bytes
+MarkedIn r s bytes = (h : Held) → s.held ≡ Some h → Marked r s.case h bytes
 
 -- ---- the two replays at the same line: the same but for the bytes, and nothing but the line's own numbers applies
 pub record Agrees (r : Rules) (s : State) (b : Between) : Type 0 where
@@ -146,5 +144,5 @@ module _ (c : Case) (w : List ℤ) {R Q : ℕ → Bool} (same : (x : ℕ) → x 
       ap (all (λ b. b)) (each-cong c x h (λ k l t. ap (λ (b : Bool). (b && not (active c w x k l)) ⇒ barred c w x k l) (same x h)))))
 
 pub above-alike : (o : Option ℕ) (x : ℕ) → not_above_last (last_of o) x ≡ not_above o x
-above-alike none x = refl
-above-alike (some y) x = refl
+above-alike None x = refl
+above-alike (Some y) x = refl

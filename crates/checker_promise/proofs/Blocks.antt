@@ -3,7 +3,6 @@
 -- lent, or the record stands refused. Every line leaves it so. Assumes nothing.
 use mathlib.Core.Path.{◌≡◌, refl, sym, ap, ◌∙◌}
 use mathlib.Core.Bool.{false, not}
-use mathlib.Core.Option.{Option, none, some}
 use mathlib.Core.List.Memᴰ
 use mathlib.Core.List.{List, [], ◌∷◌, ◌++◌, append_assoc}
 use Prim.Native.Nat.{ℕ, zero, suc, ◌+◌, ◌/◌}
@@ -15,15 +14,13 @@ use lib.Dec.{T, eqb}
 use lib.ListN.{length, take, drop, length-append}
 use borrow.Author.Tests.{ne_eqb}
 use lib.Seq.{take_at, drop_at}
-use Rattle.std.specs.Prelude.{if◌then◌else◌}
+use Rattle.std.specs.Prelude.{if◌then◌else◌, Result, Ok, Err, Option, Some, None, ⊤}
 use Rattle.integers.specs.Words.{joined}
 use Rattle.integers.specs.Options.{none-some}
 use Rattle.integers.specs.Lists.{◌∈◌}
 use Rattle.integers.specs.Tables.{Parts}
 use Rattle.definitions.specs.declared.Case.{Case}
 use Rattle.definitions.specs.declared.Refusal.{Refusal}
-use Rattle.definitions.specs.declared.Outcome.{Outcome}
-use Rattle.checker.specs.declared.Standing.{Standing}
 use Rattle.checker.specs.declared.Replay.{Replay}
 use Rattle.definitions.specs.Rules.{Rules, Coherent}
 use Rattle.definitions.specs.Refusals.{first_refusal}
@@ -59,29 +56,29 @@ lines-append width xs ys whole =
 -- ---- answers one after the other
 
 -- the first refusal of two
-abbrev pub or_else : Outcome → Outcome → Outcome
-or_else Outcome.Done o = o
-or_else (Outcome.Refused x) o = Outcome.Refused x
+abbrev pub or_else : Result ⊤ Refusal → Result ⊤ Refusal → Result ⊤ Refusal
+or_else (Ok tt) o = o
+or_else (Err x) o = Err x
 
-first-append : (os ps : List Outcome) → first_refused (os ++ ps) ≡ or_else (first_refused os) (first_refused ps)
+first-append : (os ps : List (Result ⊤ Refusal)) → first_refused (os ++ ps) ≡ or_else (first_refused os) (first_refused ps)
 first-append [] ps = refl
-first-append (Outcome.Done ∷ os) ps = first-append os ps
-first-append (Outcome.Refused x ∷ os) ps = refl
+first-append ((Ok tt) ∷ os) ps = first-append os ps
+first-append (Err x ∷ os) ps = refl
 
-never : {x : Refusal} → Outcome.Refused x ≡ Outcome.Done → ⊥
+never : {x : Refusal} → Err x ≡ Ok tt → ⊥
 never e = let z : ◌≡◌ {A = ℕ} 0 1 = cc in omega arith
 
-good-refused : {x : Refusal} → Standing.Good ≡ Standing.Refused x → ⊥
+good-refused : {x : Refusal} → Ok tt ≡ Err x → ⊥
 good-refused e = let z : ◌≡◌ {A = ℕ} 0 1 = cc in omega arith
 
 module _ (r : Rules) where
   -- a record that stands refused answers every line by the same refusal
-  step-stands : (b : Between) {x : Refusal} → b.replay.standing ≡ Standing.Refused x → (t : List ℕ)
-      → ((step_replay r b.case b.table b.replay t).stepped.answer ≡ Outcome.Refused x) × ((step_between r b t).replay.standing ≡ Standing.Refused x)
+  step-stands : (b : Between) {x : Refusal} → b.replay.standing ≡ Err x → (t : List ℕ)
+      → ((step_replay r b.case b.table b.replay t).stepped.answer ≡ Err x) × ((step_between r b t).replay.standing ≡ Err x)
   unfolding step_replay
   step-stands b e t = (rw e, rw e)
 
-  none-taken : (b : Between) {x : Refusal} → b.replay.standing ≡ Standing.Refused x → (ts us : List (List ℕ))
+  none-taken : (b : Between) {x : Refusal} → b.replay.standing ≡ Err x → (ts us : List (List ℕ))
       → taken_lines (line_answers r (after_lines r b ts) us) ≡ 0
   none-taken b e [] [] = refl
   none-taken b e [] (u ∷ us) = rw (step-stands b e u).0
@@ -93,7 +90,7 @@ module _ (r : Rules) where
 
   pub answers-append : (b : Between) (ts us : List (List ℕ)) → line_answers r b (ts ++ us) ≡ line_answers r b ts ++ line_answers r (after_lines r b ts) us
   answers-append b [] us = refl
-  answers-append b (t ∷ ts) us = ap (λ (os : List Outcome). (step_replay r b.case b.table b.replay t).stepped.answer ∷ os)
+  answers-append b (t ∷ ts) us = ap (λ (os : List (Result ⊤ Refusal)). (step_replay r b.case b.table b.replay t).stepped.answer ∷ os)
       (answers-append (step_between r b t) ts us)
 
   taken-append : (b : Between) (ts us : List (List ℕ))
@@ -102,16 +99,16 @@ module _ (r : Rules) where
   taken-append b [] us = sym (zero-add _)
   taken-append b (t ∷ ts) us = go (step_replay r b.case b.table b.replay t).stepped.answer refl (taken-append (step_between r b t) ts us)
     where
-      more : List Outcome
+      more : List (Result ⊤ Refusal)
       more = line_answers r (step_between r b t) ts
 
-      rest : List Outcome
+      rest : List (Result ⊤ Refusal)
       rest = line_answers r (after_lines r (step_between r b t) ts) us
 
-      go : (o : Outcome) → (step_replay r b.case b.table b.replay t).stepped.answer ≡ o → taken_lines (more ++ rest) ≡ taken_lines more + taken_lines rest
+      go : (o : Result ⊤ Refusal) → (step_replay r b.case b.table b.replay t).stepped.answer ≡ o → taken_lines (more ++ rest) ≡ taken_lines more + taken_lines rest
           → taken_lines (o ∷ (more ++ rest)) ≡ taken_lines (o ∷ more) + taken_lines rest
-      go Outcome.Done e i = omega arith
-      go (Outcome.Refused x) e i = sym (zero-add (taken_lines rest)
+      go (Ok tt) e i = omega arith
+      go (Err x) e i = sym (zero-add (taken_lines rest)
           ∙ none-taken (step_between r b t) (refused-stands r b.case b.table b.replay t e) ts us)
 
   case-kept : (b : Between) (ts : List (List ℕ)) → (after_lines r b ts).case ≡ b.case
@@ -164,21 +161,21 @@ module _ (r : Rules) where
 
   -- no number applies
   abbrev pub Lent : Case → List ℤ → Replay → Type 0
-  Lent c w p = lent_standing r c w p p.standing ≡ none
+  Lent c w p = lent_standing r c w p p.standing ≡ None
 
   -- it stands already
   abbrev pub Known : Case → List ℤ → Replay → Type 0
   Known c w p = standing_of (lent_standing r c w p p.standing) ≡ p.standing
 
   module _ (c : Case) (w : List ℤ) (p : Replay) where
-    pub lent-good : Lent c w p → p.standing ≡ Standing.Good
+    pub lent-good : Lent c w p → p.standing ≡ Ok tt
     lent-good e = go p.standing e
       where
-        go : (s : Standing) → lent_standing r c w p s ≡ none → s ≡ Standing.Good
-        go Standing.Good e = refl
-        go (Standing.Refused x) e = absurd (none-some (sym e))
+        go : (s : Result ⊤ Refusal) → lent_standing r c w p s ≡ None → s ≡ Ok tt
+        go (Ok tt) e = refl
+        go (Err x) e = absurd (none-some (sym e))
 
-    pub lent-handed : p.standing ≡ Standing.Good → Handed r (working_weight r) c w → T (not (record_out r c p)) → Lent c w p
+    pub lent-handed : p.standing ≡ Ok tt → Handed r (working_weight r) c w → T (not (record_out r c p)) → Lent c w p
     lent-handed g h o =
         ap (lent_standing r c w p) g
         ∙ (none-iff (first_refusal (handed_over r (working_weight r) c w false (record_out r c p)))).0
@@ -187,20 +184,20 @@ module _ (r : Rules) where
     known-lent : Lent c w p → Known c w p
     known-lent e = ap standing_of e ∙ sym (lent-good e)
 
-    lent-known : p.standing ≡ Standing.Good → Known c w p → Lent c w p
+    lent-known : p.standing ≡ Ok tt → Known c w p → Lent c w p
     lent-known g k = go (lent_standing r c w p p.standing) (k ∙ g)
       where
-        go : (o : Option Refusal) → standing_of o ≡ Standing.Good → o ≡ none
-        go none e = refl
-        go (some x) e = absurd (good-refused (sym e))
+        go : (o : Option Refusal) → standing_of o ≡ Ok tt → o ≡ None
+        go None e = refl
+        go (Some x) e = absurd (good-refused (sym e))
 
-    known-refused : {x : Refusal} → p.standing ≡ Standing.Refused x → Known c w p
+    known-refused : {x : Refusal} → p.standing ≡ Err x → Known c w p
     known-refused e = rw e
 
 module _ {r : Rules} (coherent : Coherent r) where
   -- a line leaves what is known; where it is done, no number applies
   module _ (b : Between) (t : List ℕ) where
-    step-lent : (step_replay r b.case b.table b.replay t).stepped.answer ≡ Outcome.Done
+    step-lent : (step_replay r b.case b.table b.replay t).stepped.answer ≡ Ok tt
         → Lent r b.case (step_between r b t).table (step_between r b t).replay
     step-lent e =
         let l = step-leaves coherent b.case b.table b.replay t e in
@@ -209,10 +206,10 @@ module _ {r : Rules} (coherent : Coherent r) where
     step-known : Known r b.case (step_between r b t).table (step_between r b t).replay
     step-known = go (step_replay r b.case b.table b.replay t).stepped.answer refl
       where
-        go : (o : Outcome) → (step_replay r b.case b.table b.replay t).stepped.answer ≡ o
+        go : (o : Result ⊤ Refusal) → (step_replay r b.case b.table b.replay t).stepped.answer ≡ o
             → Known r b.case (step_between r b t).table (step_between r b t).replay
-        go Outcome.Done e = known-lent r b.case (step_between r b t).table (step_between r b t).replay (step-lent e)
-        go (Outcome.Refused x) e =
+        go (Ok tt) e = known-lent r b.case (step_between r b t).table (step_between r b t).replay (step-lent e)
+        go (Err x) e =
             known-refused r b.case (step_between r b t).table (step_between r b t).replay (refused-stands r b.case b.table b.replay t e)
 
   lines-known : (b : Between) (ts : List (List ℕ)) → Known r b.case b.table b.replay
@@ -220,7 +217,7 @@ module _ {r : Rules} (coherent : Coherent r) where
   lines-known b [] k = k
   lines-known b (t ∷ ts) k = lines-known (step_between r b t) ts (step-known b t)
 
-  lines-lent : (b : Between) (ts : List (List ℕ)) → Lent r b.case b.table b.replay → first_refused (line_answers r b ts) ≡ Outcome.Done
+  lines-lent : (b : Between) (ts : List (List ℕ)) → Lent r b.case b.table b.replay → first_refused (line_answers r b ts) ≡ Ok tt
       → Lent r b.case (after_lines r b ts).table (after_lines r b ts).replay
   lines-lent b [] l e = l
   lines-lent b (t ∷ ts) l e = go (step_replay r b.case b.table b.replay t).stepped.answer refl e (λ k f. lines-lent (step_between r b t) ts k f)
@@ -228,12 +225,12 @@ module _ {r : Rules} (coherent : Coherent r) where
       Left : Type 0
       Left = Lent r b.case (after_lines r (step_between r b t) ts).table (after_lines r (step_between r b t) ts).replay
 
-      go : (o : Outcome) → (step_replay r b.case b.table b.replay t).stepped.answer ≡ o
-          → first_refused (o ∷ line_answers r (step_between r b t) ts) ≡ Outcome.Done
-          → (Lent r b.case (step_between r b t).table (step_between r b t).replay → first_refused (line_answers r (step_between r b t) ts) ≡ Outcome.Done
+      go : (o : Result ⊤ Refusal) → (step_replay r b.case b.table b.replay t).stepped.answer ≡ o
+          → first_refused (o ∷ line_answers r (step_between r b t) ts) ≡ Ok tt
+          → (Lent r b.case (step_between r b t).table (step_between r b t).replay → first_refused (line_answers r (step_between r b t) ts) ≡ Ok tt
           → Left) → Left
-      go Outcome.Done d e on = on (step-lent b t d) e
-      go (Outcome.Refused x) d e on = absurd (never e)
+      go (Ok tt) d e on = on (step-lent b t d) e
+      go (Err x) d e on = absurd (never e)
 
   module _ (c : Case) (w : List ℤ) (p : Replay) (bytes : List ℕ) where
     abbrev between : Between
@@ -255,7 +252,7 @@ module _ {r : Rules} (coherent : Coherent r) where
         go zero = ap (no_line w p) e
         go (suc n) = some-line n
 
-    pub lent-after : Lent r c w p → (fold_replay r c w p bytes).block.answer ≡ Outcome.Done
+    pub lent-after : Lent r c w p → (fold_replay r c w p bytes).block.answer ≡ Ok tt
         → Lent r c (fold_replay r c w p bytes).table (fold_replay r c w p bytes).block.replay
     unfolding fold_replay
     lent-after l e = lines-lent between (lines_in r.amount_width bytes) l e
@@ -265,17 +262,17 @@ module _ {r : Rules} (coherent : Coherent r) where
     known-after k = lines-known between (lines_in r.amount_width bytes) k
 
     -- a record that stands refused stays, and is answered by the same refusal
-    module _ {x : Refusal} (e : p.standing ≡ Standing.Refused x) where
+    module _ {x : Refusal} (e : p.standing ≡ Err x) where
       abbrev refused_block : BlockCall
-      refused_block = record { block = record { replay = p; lines = 0; answer = Outcome.Refused x }; table = w }
+      refused_block = record { block = record { replay = p; lines = 0; answer = Err x }; table = w }
 
       block-stands : block_replay r c w p bytes ≡ refused_block
       unfolding fold_replay block_replay
       block-stands = go (whole_lines r.amount_width bytes)
         where
           go : (n : ℕ) → block_at n ≡ refused_block
-          go zero = ap (λ (s : Standing). no_line w p (lent_standing r c w p s)) e
-              ∙ ap (λ (q : Replay). record { block = record { replay = q; lines = 0; answer = Outcome.Refused x }; table = w }) (stands p e)
+          go zero = ap (λ (s : Result ⊤ Refusal). no_line w p (lent_standing r c w p s)) e
+              ∙ ap (λ (q : Replay). record { block = record { replay = q; lines = 0; answer = Err x }; table = w }) (stands p e)
           go (suc n) =
               let t = take (line_length r.amount_width) bytes in
               let ts = cut_lines (line_length r.amount_width) n (drop (line_length r.amount_width) bytes) in
@@ -301,18 +298,18 @@ module _ {r : Rules} (coherent : Coherent r) where
         known : Known r c first.table first.block.replay
         known = known-after c w p xs (known-lent r c w p l)
 
-        then_at : Outcome → BlockCall
+        then_at : Result ⊤ Refusal → BlockCall
         then_at o = record { block = record { replay = first.block.replay; lines = first.block.lines + 0; answer = o }; table = first.table }
 
-        go : (s : Standing) → first.block.replay.standing ≡ s → (o : Outcome) → first.block.answer ≡ o
+        go : (s : Result ⊤ Refusal) → first.block.replay.standing ≡ s → (o : Result ⊤ Refusal) → first.block.answer ≡ o
             → then_block r first second ≡ then_block r first (block_replay r c first.table first.block.replay ys)
-        go Standing.Good d o a = ap (then_block r first) (sym (block-lent c first.table first.block.replay ys
+        go (Ok tt) d o a = ap (then_block r first) (sym (block-lent c first.table first.block.replay ys
             (lent-known r c first.table first.block.replay d known)))
-        go (Standing.Refused y) d Outcome.Done a =
+        go (Err y) d (Ok tt) a =
             absurd (good-refused (sym (lent-good r c first.table first.block.replay (lent-after c w p xs l a)) ∙ d))
-        go (Standing.Refused y) d (Outcome.Refused z) a =
+        go (Err y) d (Err z) a =
             ap (then_block r first) (fold-stands c first.table first.block.replay ys d)
-            ∙ ap (λ (o : Outcome). then_at (or_else o second.block.answer)) a ∙ ap (λ (o : Outcome). then_at (or_else o (Outcome.Refused y))) (sym a)
+            ∙ ap (λ (o : Result ⊤ Refusal). then_at (or_else o second.block.answer)) a ∙ ap (λ (o : Result ⊤ Refusal). then_at (or_else o (Err y))) (sym a)
             ∙ ap (then_block r first) (sym (block-stands c first.table first.block.replay ys d))
 
     pub blocks-join : Known r c w p
@@ -320,20 +317,20 @@ module _ {r : Rules} (coherent : Coherent r) where
         (block_replay r c (block_replay r c w p xs).table (block_replay r c w p xs).block.replay ys)
     blocks-join k = go p.standing refl
       where
-        go : (s : Standing) → p.standing ≡ s
+        go : (s : Result ⊤ Refusal) → p.standing ≡ s
             → block_replay r c w p (xs ++ ys) ≡ then_block r (block_replay r c w p xs)
             (block_replay r c (block_replay r c w p xs).table (block_replay r c w p xs).block.replay ys)
-        go (Standing.Refused x) e = rw (block-stands c w p (xs ++ ys) e, block-stands c w p xs e) (rw (block-stands c w p ys e))
-        go Standing.Good e =
+        go (Err x) e = rw (block-stands c w p (xs ++ ys) e, block-stands c w p xs e) (rw (block-stands c w p ys e))
+        go (Ok tt) e =
             let l = lent-known r c w p e k in
             rw (block-lent c w p (xs ++ ys) l, block-lent c w p xs l) (folds-join r c w p xs ys whole ∙ second_is l)
 
     pub block-known : Known r c w p → Known r c (block_replay r c w p xs).table (block_replay r c w p xs).block.replay
     block-known k = go p.standing refl
       where
-        go : (s : Standing) → p.standing ≡ s → Known r c (block_replay r c w p xs).table (block_replay r c w p xs).block.replay
-        go (Standing.Refused x) e = rw (block-stands c w p xs e) k
-        go Standing.Good e = rw (block-lent c w p xs (lent-known r c w p e k)) (known-after c w p xs k)
+        go : (s : Result ⊤ Refusal) → p.standing ≡ s → Known r c (block_replay r c w p xs).table (block_replay r c w p xs).block.replay
+        go (Err x) e = rw (block-stands c w p xs e) k
+        go (Ok tt) e = rw (block-lent c w p xs (lent-known r c w p e k)) (known-after c w p xs k)
 
   -- a log cut into blocks of whole lines, the last of which may end in a part line, is one block
   pub blocks-fold : (c : Case) (w : List ℤ) (p : Replay) (xs : List (List ℕ)) (y : List ℕ) → ((x : List ℕ) → x ∈ xs → has_part r.amount_width x ≡ false)

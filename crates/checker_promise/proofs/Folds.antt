@@ -3,14 +3,13 @@
 use mathlib.Core.Path.{◌≡◌, refl, sym, ap, ap₂, subst, ◌∙◌}
 use mathlib.Core.Bool.{Bool, true, false, not, ◌&&◌, ◌||◌, or-false}
 use mathlib.Core.Logic.{⊎_elim}
-use mathlib.Core.Option.{Option, none, some}
 use mathlib.Core.List.{List, [], ◌∷◌, ◌++◌, map}
 use Prim.Native.Nat.{ℕ, ◌-◌, ◌≤◌, ◌<◌}
 use native.Mathlib.Omega.{arith}
 use lib.IntN.{ℤ, pos, negsuc, nat_abs}
 use lib.Dec.{T, not_T, eqb, lt→ltb}
 use lib.ListN.{set}
-use Rattle.std.specs.Prelude.{if◌then◌else◌}
+use Rattle.std.specs.Prelude.{if◌then◌else◌, Option, Some, None}
 use Rattle.integers.specs.Words.{any, last, is_in, is_some, within_z}
 use Rattle.integers.specs.Lists.{any-in}
 use Rattle.integers.specs.Tests.{tests, either, is_true, is_false, not-eqb-iff, and-iff, not-or-iff, not-not-iff, and_left, and_right, if-false}
@@ -53,7 +52,7 @@ module _ {r : Rules} {range : ℤ → Bool} {c : Case} {w : List ℤ} (h : Hande
   handed-quiet : Quiet (handed_over r range c w false false)
   handed-quiet = (none-applies (handed_over r range c w false false)).0 ((handed r range c w false false).1 (h, tt, tt))
 
-  pub handed-unrefused : first_refusal (handed_over r range c w false false) ≡ none
+  pub handed-unrefused : first_refusal (handed_over r range c w false false) ≡ None
   handed-unrefused = (none-iff (first_refusal (handed_over r range c w false false))).0 ((handed r range c w false false).1 (h, tt, tt))
 
   -- but number 5 of the line itself
@@ -73,13 +72,13 @@ counted m (negsuc n) t = absurd t
 
 due-alike : (v : Bool) (h : Option Held) → due_kinds (due_of v h) ≡ kinds_due v h
 due-alike true h = refl
-due-alike false none = refl
-due-alike false (some h) = refl
+due-alike false None = refl
+due-alike false (Some h) = refl
 
 pub short-alike : (v : Bool) (h : Option Held) (m : Bool) → is_short (due_of v h) m ≡ (not v && (is_some h || m))
 short-alike true h m = refl
-short-alike false none m = refl
-short-alike false (some h) m = refl
+short-alike false None m = refl
+short-alike false (Some h) m = refl
 
 -- with nothing due number 2 applies
 nothing-due : (r : Rules) (t : Line) → not_due r [] t ≡ true
@@ -107,8 +106,8 @@ module _ {r : Rules} {s : State} {bytes : List ℕ} (placed : scopes_at_most r �
     where
       due_in : (v : Bool) (h : Option Held) → s.held ≡ h → T (not (due_out r s.case bytes (due_of v h)))
       due_in true h e = tt
-      due_in false none e = tt
-      due_in false (some h) e =
+      due_in false None e = tt
+      due_in false (Some h) e =
           let o = v.press-held h e in
           let m = k h e in
           simp (not-or-iff, not-not-iff) (
@@ -132,7 +131,7 @@ module _ {r : Rules} {s : State} {bytes : List ℕ} (placed : scopes_at_most r �
   asked h t = of_due r s.case s.weights (record_of s bytes) (due_of false h) t
 
   -- a raise line of a press or a void line held
-  module _ (t : Line) (h : Held) (e : s.held ≡ some h) where
+  module _ (t : Line) (h : Held) (e : s.held ≡ Some h) where
     abbrev marked : List ℕ
     marked = set bytes (nat_abs t.a) 1
 
@@ -147,7 +146,7 @@ module _ {r : Rules} {s : State} {bytes : List ℕ} (placed : scopes_at_most r �
       targets-alike voiding = ap (λ (b : Bool). NotAllBarred when (not b) ∷ []) (bars-alike s.case s.weights marks-same h.variable)
 
   asks-alike : (t : Line) (h : Option Held) → s.held ≡ h → first_refusal (OutOfRange when (asked h t).out ∷ (asked h t).later) ≡ first_refusal (tests_of_kind r s h t)
-  asks-alike t none e = go (is_kind 1 t) (is_kind 2 t) (is_kind 4 t)
+  asks-alike t None e = go (is_kind 1 t) (is_kind 2 t) (is_kind 4 t)
     where
       go : (a b d : Bool) → first_refusal (OutOfRange when (unheld a b d t).out ∷ (unheld a b d t).later)
           ≡ first_refusal (if a then shift_tests r s t else if b then press_tests r s t else if d then bound_tests r s t else void_tests s t)
@@ -155,7 +154,7 @@ module _ {r : Rules} {s : State} {bytes : List ℕ} (placed : scopes_at_most r �
       go false true d = refl
       go false false true = refl
       go false false false = ap (λ (b : Bool). first_refusal (OutOfRange when b ∷ [])) (or-false (begin_out s.case t))
-  asks-alike t (some h) e = go (outside (scope_count s.case) t.a) (above-alike (last h.raised) (nat_abs t.a))
+  asks-alike t (Some h) e = go (outside (scope_count s.case) t.a) (above-alike (last h.raised) (nat_abs t.a))
       (λ i. refuted-alike s.case s.weights (marks-same t h e i) h.variable) (λ i. targets-alike t h e i h.target)
     where
       go : (out : Bool) {a b d g : Bool} {x y : List Test} → a ≡ b → (T (not out) → d ≡ g) → (T (not out) → x ≡ y)
@@ -185,7 +184,7 @@ module _ {r : Rules} {s : State} {bytes : List ℕ} (placed : scopes_at_most r �
     call-going u marks e = rw e
 
     begins : (target : Target) (t : Line) → T (not (begin_out s.case t))
-        → Reaches r (step_by s.weights (record_of s bytes) (of_begin r s.case s.weights (record_of s bytes) (target_of target) t) none)
+        → Reaches r (step_by s.weights (record_of s bytes) (of_begin r s.case s.weights (record_of s bytes) (target_of target) t) None)
         (holding s (held_of target t))
     begins target t q =
         let p = simp not-or-iff at q in
@@ -196,7 +195,7 @@ module _ {r : Rules} {s : State} {bytes : List ℕ} (placed : scopes_at_most r �
               (marked-begun r s.case fits (nat_abs t.a) target (nat_abs t.b) least most),
         )
 
-    completes : (t : Line) (h : Held) (e : s.held ≡ some h) → T (not (outside (scope_count s.case) t.a)) → (target : Target)
+    completes : (t : Line) (h : Held) (e : s.held ≡ Some h) → T (not (outside (scope_count s.case) t.a)) → (target : Target)
         → Reaches r (step_taken (after_target (record_of s bytes) (target_of target))
         (target_table r s.case s.weights h.variable (marked t h e) (target_of target))) (completed s (raising h t) target)
     completes t h e i (pressing a) = (
@@ -209,11 +208,11 @@ module _ {r : Rules} {s : State} {bytes : List ℕ} (placed : scopes_at_most r �
 
     -- where none applies it leaves the same
     takes-alike : (t : Line) (h : Option Held) → s.held ≡ h → Quiet (tests_of_kind r s h t)
-        → Reaches r (step_by s.weights (record_of s bytes) (asked h t) none) (taken s h (some t))
-    takes-alike t none e q = go (is_kind 1 t) (is_kind 2 t) (is_kind 4 t) q
+        → Reaches r (step_by s.weights (record_of s bytes) (asked h t) None) (taken s h (Some t))
+    takes-alike t None e q = go (is_kind 1 t) (is_kind 2 t) (is_kind 4 t) q
       where
         go : (a b d : Bool) → Quiet (if a then shift_tests r s t else if b then press_tests r s t else if d then bound_tests r s t else void_tests s t)
-            → Reaches r (step_by s.weights (record_of s bytes) (unheld a b d t) none)
+            → Reaches r (step_by s.weights (record_of s bytes) (unheld a b d t) None)
             (if a then after_move s (shift_of t) else if b then holding s (held_of (pressing t.amount) t) else if d then after_bound s t.amount
             else holding s (held_of voiding t))
         go true b d q = (bytes, sym (call-going (after_move s (shift_of t)) bytes going), λ h e. absurd (none-some e))
@@ -222,7 +221,7 @@ module _ {r : Rules} {s : State} {bytes : List ℕ} (placed : scopes_at_most r �
             (and_left (not (begin_out s.case t || not (press_amount r t.amount))) true q)).0
         go false false true q = (bytes, sym (call-going (after_bound s t.amount) bytes going), λ h e. absurd (none-some e))
         go false false false q = begins voiding t (and_left (not (begin_out s.case t)) true q)
-    takes-alike t (some h) e q =
+    takes-alike t (Some h) e q =
         let x = nat_abs t.a in
         let within_all : T (not (outside (scope_count s.case) t.a)) = and_left (not (outside (scope_count s.case) t.a)) _ q in
         ⊎_elim
@@ -237,49 +236,49 @@ module _ {r : Rules} {s : State} {bytes : List ℕ} (placed : scopes_at_most r �
         (either (is_last h))
 
   pub line-reaches : (t : Option Line) → Reaches r (step_line r s.case s.weights (record_of s bytes) t) (step_unrefused r s t)
-  line-reaches none = (bytes, refl, k)
-  line-reaches (some t) = go s.void refl
+  line-reaches None = (bytes, refl, k)
+  line-reaches (Some t) = go s.void refl
     where
       handing : (o : Option Held)
           → first_refusal (handed_over r (working_weight r) s.case s.weights false (record_out r s.case (record_of s bytes) || (asked o t).out)
           ++ (asked o t).later) ≡ first_refusal (OutOfRange when (asked o t).out ∷ (asked o t).later)
       handing o = rw (is_false (record_out r s.case (record_of s bytes)) record-in) (handed-first hand (asked o t).out (asked o t).later)
 
-      same : s.void ≡ false → first_refusal (step_tests r s.case s.weights (record_of s bytes) t (asked s.held t)) ≡ first_refusal (line_tests r s (some t))
+      same : s.void ≡ false → first_refusal (step_tests r s.case s.weights (record_of s bytes) t (asked s.held t)) ≡ first_refusal (line_tests r s (Some t))
       same e =
           rw (due-alike s.void s.held)
-          (ap (λ (o : Option Refusal). if not_due r (kinds_due s.void s.held) t then some NotDue else o) (handing s.held ∙ asks-alike t s.held refl))
+          (ap (λ (o : Option Refusal). if not_due r (kinds_due s.void s.held) t then Some NotDue else o) (handing s.held ∙ asks-alike t s.held refl))
 
-      further : s.void ≡ false → (o : Option Refusal) → first_refusal (line_tests r s (some t)) ≡ o
-          → Reaches r (step_by s.weights (record_of s bytes) (asked s.held t) o) (answered s (some t) o)
-      further f none e = takes-alike f t s.held refl
-          (and_right (not (not_due r (kinds_due s.void s.held) t)) _ ((none-applies (line_tests r s (some t))).0 (rw e tt)))
-      further f (some x) e = (bytes, refl, k)
+      further : s.void ≡ false → (o : Option Refusal) → first_refusal (line_tests r s (Some t)) ≡ o
+          → Reaches r (step_by s.weights (record_of s bytes) (asked s.held t) o) (answered s (Some t) o)
+      further f None e = takes-alike f t s.held refl
+          (and_right (not (not_due r (kinds_due s.void s.held) t)) _ ((none-applies (line_tests r s (Some t))).0 (rw e tt)))
+      further f (Some x) e = (bytes, refl, k)
 
       asks : Asked
       asks = of_due r s.case s.weights (record_of s bytes) (due_of s.void s.held) t
 
       -- after a void line nothing is due
-      shut : s.void ≡ true → (rest : List Test) → first_refusal (NotDue when (not_due r (kinds_due s.void s.held) t) ∷ rest) ≡ some NotDue
+      shut : s.void ≡ true → (rest : List Test) → first_refusal (NotDue when (not_due r (kinds_due s.void s.held) t) ∷ rest) ≡ Some NotDue
       shut e rest = ap (λ (v : Bool). first_refusal (NotDue when (not_due r (kinds_due v s.held) t) ∷ rest)) e
           ∙ ap (λ (b : Bool). first_refusal (NotDue when b ∷ rest)) (nothing-due r t)
 
-      told : s.void ≡ true → first_refusal (step_tests r s.case s.weights (record_of s bytes) t asks) ≡ some NotDue
+      told : s.void ≡ true → first_refusal (step_tests r s.case s.weights (record_of s bytes) t asks) ≡ Some NotDue
       told e = rw (due-alike s.void s.held) (shut e (handed_over r (working_weight r) s.case s.weights false
           (record_out r s.case (record_of s bytes) || asks.out) ++ asks.later))
 
-      go : (v : Bool) → s.void ≡ v → Reaches r (step_line r s.case s.weights (record_of s bytes) (some t)) (step_unrefused r s (some t))
+      go : (v : Bool) → s.void ≡ v → Reaches r (step_line r s.case s.weights (record_of s bytes) (Some t)) (step_unrefused r s (Some t))
       go true e =
-          subst (λ (o : Option Refusal). Reaches r (step_by s.weights (record_of s bytes) asks o) (step_unrefused r s (some t)))
+          subst (λ (o : Option Refusal). Reaches r (step_by s.weights (record_of s bytes) asks o) (step_unrefused r s (Some t)))
           (sym (told e))
-          (subst (λ (o : Option Refusal). Reaches r (step_by s.weights (record_of s bytes) asks (some NotDue)) (answered s (some t) o))
+          (subst (λ (o : Option Refusal). Reaches r (step_by s.weights (record_of s bytes) asks (Some NotDue)) (answered s (Some t) o))
           (sym (shut e (tests_of_kind r s s.held t))) (bytes, refl, k))
       go false e = subst
           (λ (d : Due). Reaches r (step_by s.weights (record_of s bytes) (of_due r s.case s.weights (record_of s bytes) d t)
           (first_refusal (step_tests r s.case s.weights (record_of s bytes) t (of_due r s.case s.weights (record_of s bytes) d t))))
-          (step_unrefused r s (some t))) (sym (ap (λ (v : Bool). due_of v s.held) e))
-          (subst (λ (o : Option Refusal). Reaches r (step_by s.weights (record_of s bytes) (asked s.held t) o) (step_unrefused r s (some t))) (sym (same e))
-          (further e (first_refusal (line_tests r s (some t))) refl))
+          (step_unrefused r s (Some t))) (sym (ap (λ (v : Bool). due_of v s.held) e))
+          (subst (λ (o : Option Refusal). Reaches r (step_by s.weights (record_of s bytes) (asked s.held t) o) (step_unrefused r s (Some t))) (sym (same e))
+          (further e (first_refusal (line_tests r s (Some t))) refl))
 
   step-reaches : (t : List ℕ) → Reaches r (step_replay r s.case s.weights (record_of s bytes) t) (step r s t)
   unfolding step_replay
@@ -287,8 +286,8 @@ module _ {r : Rules} {s : State} {bytes : List ℕ} (placed : scopes_at_most r �
     where
       go : (x : Option Refusal) → s.refusal ≡ x → Reaches r (step_standing r s.case s.weights (record_of s bytes) t (standing_of x))
           (if is_some x then s else step_unrefused r s (read_line r.amount_width t))
-      go none e = line-reaches (read_line r.amount_width t)
-      go (some x) e = (bytes, rw e, k)
+      go None e = line-reaches (read_line r.amount_width t)
+      go (Some x) e = (bytes, rw e, k)
 
 -- ---- every line keeps the agreement, and its answer is the plain replay's
 
@@ -320,9 +319,9 @@ module _ {r : Rules} {s : State} {b : Between} (a : Agrees r s b) where
   end-agrees = ap (λ (d : Between). end_replay r d.case d.replay) a.same ∙ go s.refusal
     where
       go : (x : Option Refusal) → end_standing r s.case (record_of s a.bytes) (standing_of x)
-          ≡ outcome_of (if is_some x then x else if not s.void && (is_some s.held || s.moving) then some CutShort else none)
-      go (some x) = refl
-      go none =
+          ≡ outcome_of (if is_some x then x else if not s.void && (is_some s.held || s.moving) then Some CutShort else None)
+      go (Some x) = refl
+      go None =
           rw (
             is_false (record_out r s.case (record_of s a.bytes)) (record-in a.placed a.sound a.handed a.marked),
             short-alike s.void s.held s.moving,

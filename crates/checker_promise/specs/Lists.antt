@@ -2,10 +2,8 @@
 -- says it. The tender's plan, total and ceiling are assignment, objective and upper bound. It is about the definitions that the contracts of
 -- Replay::fresh, step and end name: `fresh_replay`, `step_replay` (folded by `line_answers` and `after_lines`) and `end_replay`. proofs/Accepts
 -- proves it for every valid case. Assumes nothing.
-use Rattle.std.specs.Prelude.{◌≡◌, not, ◌↔◌, List, [], ◌∷◌, map, ℕ, ℤ, pos, ◌-ℤ◌, T, ◌≤ℤ◌}
-use Rattle.std.proofs.Math.Option.{Option}
+use Rattle.std.specs.Prelude.{◌≡◌, not, ◌↔◌, List, [], ◌∷◌, map, ℕ, ℤ, pos, ◌-ℤ◌, T, ◌≤ℤ◌, Ok, Option}
 use Rattle.definitions.specs.declared.Case.{Case}
-use Rattle.definitions.specs.declared.Outcome.{Outcome}
 use Rattle.definitions.specs.declared.Refusal.{Refusal}
 use Rattle.definitions.specs.Rules.{Rules}
 use Rattle.definitions.specs.Refusals.{number_of}
@@ -22,8 +20,8 @@ begun r c w = record { case = c; table = w; replay = fresh_replay r c w }
 
 -- a list is accepted if no line's answer is a number, nor the end's
 pub record Accepted (r : Rules) (c : Case) (w : List ℤ) (ts : List (List ℕ)) : Type 0 where
-  pub each : line_answers r (begun r c w) ts ≡ map (λ t. Outcome.Done) ts
-  pub end : end_replay r c (after_lines r (begun r c w) ts).replay ≡ Outcome.Done
+  pub each : line_answers r (begun r c w) ts ≡ map (λ t. Ok tt) ts
+  pub end : end_replay r c (after_lines r (begun r c w) ts).replay ≡ Ok tt
 
 -- an answer of the plain replay as document 01 says it: the number that applies, 0 where none does, and no values
 abbrev pub number_says : Option Refusal → Says

@@ -11,14 +11,14 @@
 
 ghost use Rattle.std.specs.Prelude.{◌≤◌, ◌<◌};
 
-use checker::{Due, LastRaised, Replay, Standing, Target};
-use definitions::{Case, FileAnswer, Line, Outcome, Refusal, SCOPE_PLACES, TABLE_PLACES};
+use checker::{Due, Replay, Target};
+use definitions::{Case, Line, Refusal, RefusedAt, SCOPE_PLACES, TABLE_PLACES};
 
 // 0 where there is none.
-fn number(answer: Outcome) -> u64 {
+fn number(answer: Result<(), Refusal>) -> u64 {
     match answer {
-        Outcome::Done => 0,
-        Outcome::Refused(refusal) => drivers::number_of(refusal),
+        Ok(()) => 0,
+        Err(refusal) => drivers::number_of(refusal),
     }
 }
 
@@ -63,9 +63,9 @@ fn marks_of(scope: i64) -> [u8; SCOPE_PLACES] {
 
 fn last_of(scope: i64) -> LastRaised {
     if scope < 0 {
-        return LastRaised::Nothing;
+        return None;
     }
-    LastRaised::Scope(count(scope))
+    Some(count(scope))
 }
 
 fn raise_of(line: Line, target: Target) -> Due {
@@ -92,9 +92,9 @@ fn due_of(line: Line) -> Due {
 
 fn standing_of(number: i64) -> Standing {
     if number == 0 {
-        return Standing::Good;
+        return Ok(());
     }
-    Standing::Refused(Refusal::NotRefuted)
+    Err(Refusal::NotRefuted)
 }
 
 fn handed_over(fresh: Replay, press: Line, rest: Line) -> Replay {
@@ -118,10 +118,10 @@ fn begun(fresh: Replay, given: &[u8]) -> Replay {
     handed_over(fresh, press, rest)
 }
 
-fn print_last(last: LastRaised) {
+fn print_last(last: Option<usize>) {
     match last {
-        LastRaised::Nothing => print(b" none"),
-        LastRaised::Scope(x) => {
+        None => print(b" none"),
+        Some(x) => {
             drivers::print_count(x as u64);
         }
     }
@@ -176,10 +176,10 @@ fn print_flag(flag: bool) {
     }
 }
 
-fn standing_number(standing: Standing) -> u64 {
+fn standing_number(standing: Result<(), Refusal>) -> u64 {
     match standing {
-        Standing::Good => 0,
-        Standing::Refused(refusal) => drivers::number_of(refusal),
+        Ok(()) => 0,
+        Err(refusal) => drivers::number_of(refusal),
     }
 }
 
@@ -287,13 +287,13 @@ fn log_after(bytes: &[u8], used: usize) -> &[u8] {
     &bytes[0..0]
 }
 
-fn lines_of(answer: FileAnswer) -> usize {
+fn lines_of(answer: Result<usize, RefusedAt>) -> usize {
     match answer {
-        FileAnswer::Read { lines } => lines,
-        FileAnswer::Refused {
+        Ok(lines) => lines,
+        Err(RefusedAt {
             refusal: _,
             line: _,
-        } => 0,
+        }) => 0,
     }
 }
 

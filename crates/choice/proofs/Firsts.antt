@@ -1,14 +1,13 @@
 -- The first number that passes, and the lowest variable by narrowed sets. Assumes nothing.
 use mathlib.Core.Path.{◌≡◌, sym, ap, subst, ◌∙◌}
 use mathlib.Core.Bool.{Bool, true, false}
-use mathlib.Core.Option.{some, none}
 use mathlib.Core.Logic.{⊎_elim}
 use mathlib.Core.List.{List, ◌∷◌, ◌++◌}
 use Prim.Native.Nat.{ℕ, suc, ◌+◌, ◌-◌, ◌<◌}
 use native.Mathlib.Omega.{arith}
 use lib.Dec.{T, not_T, eqb, eqb→eq}
 use lib.ListN.{length, get_or}
-use Rattle.std.specs.Prelude.{if◌then◌else◌}
+use Rattle.std.specs.Prelude.{if◌then◌else◌, Some, None}
 use Rattle.integers.specs.Words.{from, below, any, those, first}
 use Rattle.integers.specs.Tests.{either, not-eqb-iff}
 use Rattle.integers.specs.Lists.{from-split, those-append, those-none, those-same, any_at}
@@ -16,7 +15,7 @@ use Rattle.arcs.specs.Closure.{closure_sets}
 use Rattle.choice.specs.Choice.{says_unsupported, unsupported_in, lowest_unsupported}
 use Rattle.choice.proofs.Narrowed.{narrowed-length, tried-narrowed}
 
-pub first-is : (f : ℕ → Bool) (n i : ℕ) → i < n → f i ≡ true → ((j : ℕ) → j < i → f j ≡ false) → first (those f (below n)) ≡ some i
+pub first-is : (f : ℕ → Bool) (n i : ℕ) → i < n → f i ≡ true → ((j : ℕ) → j < i → f j ≡ false) → first (those f (below n)) ≡ Some i
 first-is f n i h e less =
     let k : n ≡ i + suc (n - suc i) = omega arith in
     let z : 0 + i ≡ i = omega arith in
@@ -28,7 +27,7 @@ first-is f n i h e less =
     ∙ ap (λ (m : ℕ). first (those f (from m (suc (n - suc i))))) z
     ∙ ap (λ (b : Bool). first (if b then i ∷ those f (from (suc i) (n - suc i)) else those f (from (suc i) (n - suc i)))) e
 
-pub first-nothing : (f : ℕ → Bool) (n : ℕ) → ((j : ℕ) → j < n → f j ≡ false) → first (those f (below n)) ≡ none
+pub first-nothing : (f : ℕ → Bool) (n : ℕ) → ((j : ℕ) → j < n → f j ≡ false) → first (those f (below n)) ≡ None
 first-nothing f n less = ap first (those-none f (below n) (not_T (any f (below n)) (λ t. let (j, g, s) = any_at f n t in subst T (less j g) s)))
 
 pub passed-more : (f : ℕ → Bool) (i : ℕ) → ((j : ℕ) → j < i → f j ≡ false) → f i ≡ false → (j : ℕ) → j < i + 1 → f j ≡ false

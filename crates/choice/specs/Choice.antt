@@ -1,19 +1,17 @@
 -- The lowest variable whose values have no supported family, over value sets as bytes. Assumes nothing.
-use Rattle.std.specs.Prelude.{Bool, true, false, List, ℕ, length, get_or}
-use Rattle.std.proofs.Math.Option.{Option, none, some}
+use Rattle.std.specs.Prelude.{Bool, true, false, List, ℕ, length, get_or, Option, Some, None}
 use Rattle.integers.specs.Words.{below, those, first}
 use Rattle.arcs.specs.Tried.{tried_answer}
 use Rattle.arcs.specs.declared.Tried.{Tried}
-use Rattle.choice.specs.declared.Chosen.{Chosen}
 
 abbrev pub says_unsupported : Tried → Bool
 says_unsupported Tried.Unsupported = true
 says_unsupported Tried.Supported = false
 says_unsupported Tried.Malformed = false
 
-abbrev pub chosen_of : Option ℕ → Chosen
-chosen_of none = Chosen.Nothing
-chosen_of (some i) = Chosen.Variable i
+abbrev pub chosen_of : Option ℕ → Option ℕ
+chosen_of None = None
+chosen_of (Some i) = Some i
 
 -- the values `acts` of variable i, each fixed alone, leave no supported family inside the sets; a variable that `acts` does not reach has none, and is refuted
 abbrev pub unsupported_in : List ℕ → List ℕ → List ℕ → List ℕ → List ℕ → List ℕ → ℕ → Bool

@@ -7,13 +7,6 @@ ghost use Rattle.choice.specs.Choice.{says_unsupported, chosen_of, lowest_unsupp
 
 use arcs::Tried;
 
-// The variable to press, if there is one.
-#[derive(Clone, Copy)]
-pub enum Chosen {
-    Variable(usize),
-    Nothing,
-}
-
 // 0 from the slice's end on.
 fn byte_at(bytes: &[u8], i: usize) -> u8
     ensures { result ≡ get_or bytes.now i 0 }
@@ -31,7 +24,7 @@ fn lowest_in(
     rows: &[u8],
     edges: &[u8],
     sets: &[u8],
-) -> Chosen
+) -> Option<usize>
     ensures { result ≡ chosen_of (lowest_unsupported lower.now upper.now acts.now rows.now edges.now
         sets.now) }
 {
@@ -39,11 +32,11 @@ fn lowest_in(
     while i < sets.len() {
         let tried = arcs::none_supported(lower, upper, rows, edges, sets, i, byte_at(acts, i));
         if is_unsupported(tried) {
-            return Chosen::Variable(i);
+            return Some(i);
         }
         i += 1;
     }
-    Chosen::Nothing
+    None
 }
 
 // ---- the calls
@@ -67,7 +60,7 @@ pub fn lowest_unsupported(
     rows: &[u8],
     edges: &[u8],
     sets: &mut [u8],
-) -> Chosen
+) -> Option<usize>
     ensures value { result ≡ chosen_of (lowest_unsupported lower.now upper.now acts.now rows.now edges.now
         sets.old) }
     ensures sets_after { sets.new ≡ closure_sets lower.now upper.now rows.now edges.now sets.old }

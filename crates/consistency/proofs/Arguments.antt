@@ -1,4 +1,5 @@
 -- What `refuted` may take as known of its arguments, by what the check answers. Assumes nothing.
+use Rattle.std.specs.Prelude.{Ok}
 use mathlib.Core.Path.{◌≡◌}
 use mathlib.Core.Bool.{not}
 use mathlib.Core.List.{List}
@@ -11,7 +12,6 @@ use Rattle.integers.specs.Words.{any}
 use Rattle.integers.specs.Tests.{tests}
 use Rattle.integers.specs.Tables.{any-get_d}
 use Rattle.definitions.specs.declared.Case.{Case}
-use Rattle.definitions.specs.declared.Outcome.{Outcome}
 use Rattle.definitions.specs.Rules.{rules_of}
 use Rattle.definitions.specs.Refusals.{first_refusal}
 use Rattle.definitions.specs.Case.{scope_count}
@@ -22,7 +22,7 @@ use Rattle.tables.proofs.Answered.{known}
 use Rattle.consistency.specs.Arguments.{arguments_out}
 
 module _ (c : Case) (w : List ℤ) (raised : List ℕ) (i k : ℕ) where
-  pub arguments-known : Outcome.Done ≡ outcome_of (first_refusal (handed_over (rules_of c) (working_weight (rules_of c)) c w (not (eqb (length raised) (scope_count c)))
+  pub arguments-known : Ok tt ≡ outcome_of (first_refusal (handed_over (rules_of c) (working_weight (rules_of c)) c w (not (eqb (length raised) (scope_count c)))
       (arguments_out c raised i k)))
       → Handed (rules_of c) (working_weight (rules_of c)) c w
       × ((length raised ≡ scope_count c) × ((x : ℕ) → x < scope_count c → get_or raised x 0 ≤ 1) × (i < c.n) × (k < c.d))

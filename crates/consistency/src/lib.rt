@@ -7,7 +7,7 @@ ghost use Rattle.definitions.specs.Rules.{rules_of};
 ghost use Rattle.calls.specs.Calls.{refuted_answer};
 ghost use Rattle.consistency.specs.Arguments.{arguments_out};
 
-use definitions::{Case, Outcome, SCOPE_PLACES, Verdict};
+use definitions::{Case, Refusal, SCOPE_PLACES};
 
 fn other_length(length: usize, n: usize, m: usize) -> bool
     ensures { result ≡ not (eqb length (n + m)) }
@@ -44,15 +44,15 @@ fn arguments_out(case: Case, raised: &[u8], variable: usize, value: usize) -> bo
 }
 
 // Whether a value of a variable is refuted; `raised` has a byte for each scope, 1 where it is raised and else 0.
-pub fn refuted(case: Case, table: &[i64], raised: &[u8], variable: usize, value: usize) -> Verdict
+pub fn refuted(case: Case, table: &[i64], raised: &[u8], variable: usize, value: usize) -> Result<bool, Refusal>
     ensures { result ≡ refuted_answer (rules_of case) case table.now raised.now variable value }
 {
     let wrong = other_length(raised.len(), case.n, case.m);
     let out = arguments_out(case, raised, variable, value);
     let checked = tables::check_working(case, table, wrong, out);
     match checked {
-        Outcome::Refused(refusal) => Verdict::Refused(refusal),
-        Outcome::Done => {
+        Err(refusal) => Err(refusal),
+        Ok(()) => {
             let mut best = [0i64; SCOPE_PLACES];
             tables::greatest_weights(case, table, &mut best);
             arcs::values_unsupported(

@@ -1,9 +1,9 @@
 -- Numbers in columns, at every width: what is written is read back, what is read is what is written, and which numbers fit.
 -- Assumes nothing.
+use Rattle.std.specs.Prelude.{Some}
 use mathlib.Core.Path.{◌≡◌, refl, ap, ◌∙◌}
 use mathlib.Core.Bool.{Bool, true, false}
 use mathlib.Core.Logic.{◌≢◌, ◌↔◌, ⊎_elim}
-use mathlib.Core.Option.{some}
 use mathlib.Core.List.{List, [], ◌∷◌, ◌++◌, append_assoc, append-nil}
 use Prim.Native.Nat.{ℕ, zero, suc, ◌+◌, ◌*◌, ◌-◌, ◌/◌, ◌%◌, ◌^◌, ◌≤◌, ◌<◌}
 use native.Mathlib.Nat.{pow-succ', pow-le-pow_right}
@@ -65,12 +65,12 @@ reads_on = by-digit (λ n s. 0 < n → (t : List ℕ) → read_positive (s ++ t)
     (λ n s h r p t. rw append_assoc (r (omega arith) ((48 + n % 10) ∷ t) ∙ read_digits-digit (n / 10) (n % 10) t (omega arith)
     ∙ ap (λ (k : ℕ). read_digits k t) (omega arith)))
 
-reads-positive : (n : ℕ) → 0 < n → read_positive (decimal n) ≡ some n
+reads-positive : (n : ℕ) → 0 < n → read_positive (decimal n) ≡ Some n
 reads-positive n p = rw append-nil at (reads_on n p [])
 
 -- ---- digits that were read are those that are written
 
-digits-back : (t : List ℕ) (v m : ℕ) → 0 < v → read_digits v t ≡ some m → (0 < m) × (decimal m ≡ decimal v ++ t)
+digits-back : (t : List ℕ) (v m : ℕ) → 0 < v → read_digits v t ≡ Some m → (0 < m) × (decimal m ≡ decimal v ++ t)
 digits-back [] v m p e = let q : v ≡ m = cc in (omega arith, rw (q, append-nil))
 digits-back (b ∷ t) v m p e =
     let (d, r) = found-then (is_digit b) _ e in
@@ -81,7 +81,7 @@ digits-back (b ∷ t) v m p e =
     let last : 48 + n % 10 ≡ b = omega arith in
     (back.0, back.1 ∙ rw (decimal-last n (omega arith), front, last, append_assoc))
 
-positive_back : (t : List ℕ) (m : ℕ) → read_positive t ≡ some m → (0 < m) × (decimal m ≡ t)
+positive_back : (t : List ℕ) (m : ℕ) → read_positive t ≡ Some m → (0 < m) × (decimal m ≡ t)
 positive_back [] m e = absurd (none-some e)
 positive_back (b ∷ t) m e =
     let (z, r) = found-else (eqb b 48) _ e in
@@ -95,7 +95,7 @@ positive_back (b ∷ t) m e =
 
 -- ---- numbers
 
-number-positive : (t : List ℕ) (m : ℕ) → read_positive t ≡ some m → read_number t ≡ some (pos m)
+number-positive : (t : List ℕ) (m : ℕ) → read_positive t ≡ Some m → read_number t ≡ Some (pos m)
 number-positive [] m e = absurd (none-some e)
 number-positive (b ∷ t) m e =
     let (z, r) = found-else (eqb b 48) _ e in
@@ -103,7 +103,7 @@ number-positive (b ∷ t) m e =
     let n : b ≢ 48 = simp tests at z in
     simp (ne_eqb b 45 (omega arith), ne_eqb b 48 n, r)
 
-pub number_read : (z : ℤ) → read_number (number_text z) ≡ some z
+pub number_read : (z : ℤ) → read_number (number_text z) ≡ Some z
 number_read (pos zero) = refl
 number_read (pos (suc n)) = number-positive (decimal (suc n)) (suc n) (reads-positive (suc n) (omega arith))
 number_read (negsuc n) = rw (reads-positive (suc n) (omega arith))
@@ -112,7 +112,7 @@ minus-text : (v : ℕ) → 0 < v → number_text (minus v) ≡ 45 ∷ decimal v
 minus-text zero h = absurd (omega arith)
 minus-text (suc v) h = refl
 
-pub number-written : (t : List ℕ) (z : ℤ) → read_number t ≡ some z → number_text z ≡ t
+pub number-written : (t : List ℕ) (z : ℤ) → read_number t ≡ Some z → number_text z ≡ t
 number-written [] z e = absurd (none-some e)
 number-written (b ∷ t) z e =
     ⊎_elim
@@ -141,7 +141,7 @@ spaces-read zero t = refl
 spaces-read (suc k) t = spaces-read k t
 
 -- no number begins with a space
-number-column : (t : List ℕ) (z : ℤ) → read_number t ≡ some z → read_column t ≡ some z
+number-column : (t : List ℕ) (z : ℤ) → read_number t ≡ Some z → read_column t ≡ Some z
 number-column [] z e = e
 number-column (b ∷ t) z e =
     ⊎_elim
@@ -149,13 +149,13 @@ number-column (b ∷ t) z e =
     (λ n. if-false _ _ (eqb b 32) n ∙ e)
     (either (eqb b 32))
 
-pub column-read : (w : ℕ) (z : ℤ) → read_column (column_text w z) ≡ some z
+pub column-read : (w : ℕ) (z : ℤ) → read_column (column_text w z) ≡ Some z
 column-read w z = spaces-read (w - length (number_text z)) (number_text z) ∙ number-column (number_text z) z (number_read z)
 
 pub fits_iff : (w : ℕ) (z : ℤ) → (too_wide w z ≡ false) ↔ (length (number_text z) ≤ w)
 fits_iff w z = (ltb-false w (length (number_text z)), le-ltb w (length (number_text z)))
 
-pub column-written : (t : List ℕ) (z : ℤ) → read_column t ≡ some z → (too_wide (length t) z ≡ false) × (column_text (length t) z ≡ t)
+pub column-written : (t : List ℕ) (z : ℤ) → read_column t ≡ Some z → (too_wide (length t) z ≡ false) × (column_text (length t) z ≡ t)
 column-written [] z e = absurd (none-some e)
 column-written (b ∷ t) z e =
     ⊎_elim

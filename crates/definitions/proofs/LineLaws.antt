@@ -1,8 +1,8 @@
 -- Lines, at every width of the amount column: a line that fits is read back as it was written, a text that is read is the text of what
 -- was read, and bytes are cut into the lines that they were made of. Assumes nothing.
+use Rattle.std.specs.Prelude.{Option, Some, None}
 use mathlib.Core.Path.{◌≡◌, refl, sym, ap, ◌∙◌}
 use mathlib.Core.Bool.{false, ◌&&◌}
-use mathlib.Core.Option.{Option, none, some}
 use mathlib.Core.List.Memᴰ
 use mathlib.Core.List.{List, [], ◌∷◌, ◌++◌, append_assoc, append-nil}
 use Prim.Native.Nat.{ℕ, zero, suc, ◌+◌, ◌*◌, ◌%◌, ◌≤◌}
@@ -72,17 +72,17 @@ line-length w l h =
 
 -- a column in front of the rest
 column-front : (w : ℕ) (z : ℤ) (s r : List ℕ) (p : ℕ) → too_wide w z ≡ false → drop p s ≡ column_text w z ++ r
-    → (column_at p w s ≡ some z) × (drop (p + w) s ≡ r)
+    → (column_at p w s ≡ Some z) × (drop (p + w) s ≡ r)
 column-front w z s r p h e =
     let n = column-length w z h in (
       ap (λ x. read_column (take w x)) e ∙ ap read_column (take_at (column_text w z) r w n) ∙ column-read w z,
       sym (drop-drop w p s) ∙ ap (drop w) e ∙ drop_at (column_text w z) r w n,
     )
 
-pub line_read : (w : ℕ) (l : Line) → line_too_wide w l ≡ false → read_line w (line_text w l) ≡ some l
+pub line_read : (w : ℕ) (l : Line) → line_too_wide w l ≡ false → read_line w (line_text w l) ≡ Some l
 line_read w l h = go (line_text w l) (line-length w l h) (line-five w l)
   where
-    go : (s : List ℕ) → length s ≡ line_length w → Five s w l → read_line w s ≡ some l
+    go : (s : List ℕ) → length s ≡ line_length w → Five s w l → read_line w s ≡ Some l
     go s n e =
         let f = fits_each w l h in
         let kind = column-front 2 l.kind s _ 0 f.kind e in
@@ -95,7 +95,7 @@ line_read w l h = go (line_text w l) (line-length w l h) (line-five w l)
 
 -- ---- what was read is what is written
 
-column-back : (w : ℕ) (z : ℤ) (s : List ℕ) (p : ℕ) → p + w ≤ length s → column_at p w s ≡ some z
+column-back : (w : ℕ) (z : ℤ) (s : List ℕ) (p : ℕ) → p + w ≤ length s → column_at p w s ≡ Some z
     → (too_wide w z ≡ false) × (drop p s ≡ column_text w z ++ drop (p + w) s)
 column-back w z s p h e =
     let n : length (take w (drop p s)) ≡ w = length-take-le w (drop p s) (simp length-drop (omega arith)) in
@@ -105,16 +105,16 @@ column-back w z s p h e =
     )
 
 columns-read : (k a b c m : Option ℤ) (l : Line)
-    → (k >>= λ k. a >>= λ a. b >>= λ b. c >>= λ c. m >>= λ m. some (record { kind = k; a = a; b = b; c = c; amount = m })) ≡ some l
-    → (k ≡ some l.kind) × (a ≡ some l.a) × (b ≡ some l.b) × (c ≡ some l.c) × (m ≡ some l.amount)
-columns-read none a b c m l e = absurd (none-some e)
-columns-read (some k) none b c m l e = absurd (none-some e)
-columns-read (some k) (some a) none c m l e = absurd (none-some e)
-columns-read (some k) (some a) (some b) none m l e = absurd (none-some e)
-columns-read (some k) (some a) (some b) (some c) none l e = absurd (none-some e)
-columns-read (some k) (some a) (some b) (some c) (some m) l e = ((cc), (cc), (cc), (cc), (cc))
+    → (k >>= λ k. a >>= λ a. b >>= λ b. c >>= λ c. m >>= λ m. Some (record { kind = k; a = a; b = b; c = c; amount = m })) ≡ Some l
+    → (k ≡ Some l.kind) × (a ≡ Some l.a) × (b ≡ Some l.b) × (c ≡ Some l.c) × (m ≡ Some l.amount)
+columns-read None a b c m l e = absurd (none-some e)
+columns-read (Some k) None b c m l e = absurd (none-some e)
+columns-read (Some k) (Some a) None c m l e = absurd (none-some e)
+columns-read (Some k) (Some a) (Some b) None m l e = absurd (none-some e)
+columns-read (Some k) (Some a) (Some b) (Some c) None l e = absurd (none-some e)
+columns-read (Some k) (Some a) (Some b) (Some c) (Some m) l e = ((cc), (cc), (cc), (cc), (cc))
 
-pub line-written : (w : ℕ) (t : List ℕ) (l : Line) → read_line w t ≡ some l → (line_too_wide w l ≡ false) × (line_text w l ≡ t)
+pub line-written : (w : ℕ) (t : List ℕ) (l : Line) → read_line w t ≡ Some l → (line_too_wide w l ≡ false) × (line_text w l ≡ t)
 line-written w t l e =
     let (x, e) = found-then (eqb (length t) (line_length w) && eqb (get_or t (feed_at w) 0) 10) _ e in
     let (n, f) : (length t ≡ line_length w) × (get_or t (feed_at w) 0 ≡ 10) = simp tests at x in

@@ -1,6 +1,7 @@
 -- What each answer of the library says in document 01's terms: its number (0 where none applies) and its values. Assumes nothing.
-use Rattle.std.proofs.Math.Option.{Option, none, some}
-use Rattle.std.specs.Prelude.{List, [], ◌∷◌, ℕ, ℤ, pos, nat_abs, eqb, get_or, if◌then◌else◌}
+use Rattle.definitions.specs.declared.RefusedAt.{RefusedAt}
+use Rattle.definitions.specs.declared.Line.{Line}
+use Rattle.std.specs.Prelude.{List, [], ◌∷◌, ℕ, ℤ, pos, nat_abs, eqb, get_or, if◌then◌else◌, Result, Ok, Err, Option, Some, None, ⊤, Bool, true, false}
 use Rattle.definitions.specs.declared.Refusal.{Refusal}
 use Rattle.definitions.specs.declared.Refusal.TheVariants.{
   NotInColumns,
@@ -20,13 +21,7 @@ use Rattle.definitions.specs.declared.Refusal.TheVariants.{
   ScopeBarred,
   NotAllBarred,
 }
-use Rattle.definitions.specs.declared.Outcome.{Outcome}
-use Rattle.definitions.specs.declared.Figure.{Figure}
-use Rattle.definitions.specs.declared.Verdict.{Verdict}
-use Rattle.definitions.specs.declared.LineRead.{LineRead}
 use Rattle.definitions.specs.declared.CaseSize.{CaseSize}
-use Rattle.definitions.specs.declared.FileAnswer.{FileAnswer}
-use Rattle.definitions.specs.declared.Written.{Written}
 use Rattle.definitions.specs.declared.Span.{Span}
 use Rattle.definitions.specs.declared.Round.{Round}
 use Rattle.definitions.specs.declared.RunAnswer.{RunAnswer}
@@ -48,69 +43,69 @@ says_no_at x at = record { number = number x; values = pos at ∷ [] }
 abbrev gives : List ℤ → Says
 gives values = record { number = 0; values = values }
 
-abbrev pub outcome_says : Outcome → Says
-outcome_says Outcome.Done = gives []
-outcome_says (Outcome.Refused x) = says_no x
+abbrev pub outcome_says : Result ⊤ Refusal → Says
+outcome_says (Ok tt) = gives []
+outcome_says (Err x) = says_no x
 
-abbrev pub figure_says : Figure → Says
-figure_says (Figure.Value z) = gives (z ∷ [])
-figure_says (Figure.Refused x) = says_no x
+abbrev pub figure_says : Result ℤ Refusal → Says
+figure_says (Ok z) = gives (z ∷ [])
+figure_says (Err x) = says_no x
 
 -- yes is 1, no is 0
-abbrev pub verdict_says : Verdict → Says
-verdict_says Verdict.Yes = gives (pos 1 ∷ [])
-verdict_says Verdict.No = gives (pos 0 ∷ [])
-verdict_says (Verdict.Refused x) = says_no x
+abbrev pub verdict_says : Result Bool Refusal → Says
+verdict_says (Ok true) = gives (pos 1 ∷ [])
+verdict_says (Ok false) = gives (pos 0 ∷ [])
+verdict_says (Err x) = says_no x
 
 -- kind, a, b, c, amount
-abbrev pub line_says : LineRead → Says
-line_says (LineRead.Read l) = gives (l.kind ∷ l.a ∷ l.b ∷ l.c ∷ l.amount ∷ [])
-line_says (LineRead.Refused x) = says_no x
+abbrev pub line_says : Result Line Refusal → Says
+line_says (Ok l) = gives (l.kind ∷ l.a ∷ l.b ∷ l.c ∷ l.amount ∷ [])
+line_says (Err x) = says_no x
 
 -- n, D, m, the table's length
-abbrev pub size_says : CaseSize → Says
-size_says (CaseSize.Size n d m long) = gives (pos n ∷ pos d ∷ pos m ∷ pos long ∷ [])
-size_says (CaseSize.Refused x) = says_no x
+abbrev pub size_says : Result CaseSize Refusal → Says
+size_says (Ok s) = gives (pos s.n ∷ pos s.d ∷ pos s.m ∷ pos s.table ∷ [])
+size_says (Err x) = says_no x
 
 -- the lines used
-abbrev pub file_says : FileAnswer → Says
-file_says (FileAnswer.Read lines) = gives (pos lines ∷ [])
-file_says (FileAnswer.Refused x at) = says_no_at x at
+abbrev pub file_says : Result ℕ RefusedAt → Says
+file_says (Ok lines) = gives (pos lines ∷ [])
+file_says (Err x) = says_no_at x.refusal x.line
 
-abbrev pub written_says : Written → Says
-written_says (Written.Bytes n) = gives (pos n ∷ [])
-written_says (Written.Refused x) = says_no x
+abbrev pub written_says : Result ℕ Refusal → Says
+written_says (Ok n) = gives (pos n ∷ [])
+written_says (Err x) = says_no x
 
 -- the stretch's first byte and the byte after its last
-abbrev pub span_says : Span → Says
-span_says (Span.Part from to) = gives (pos from ∷ pos to ∷ [])
-span_says (Span.Refused x at) = says_no_at x at
+abbrev pub span_says : Result Span RefusedAt → Says
+span_says (Ok span) = gives (pos span.from ∷ pos span.to ∷ [])
+span_says (Err x) = says_no_at x.refusal x.line
 
 -- settled has no values; a round its bytes and the upper bound; a void line its bytes
-abbrev pub round_says : Round → Says
-round_says Round.Settled = gives []
-round_says (Round.Made bytes bound) = gives (pos bytes ∷ bound ∷ [])
-round_says (Round.Void bytes) = gives (pos bytes ∷ [])
-round_says (Round.Refused x) = says_no x
+abbrev pub round_says : Result Round Refusal → Says
+round_says (Ok Round.Settled) = gives []
+round_says (Ok (Round.Made bytes bound)) = gives (pos bytes ∷ bound ∷ [])
+round_says (Ok (Round.Void bytes)) = gives (pos bytes ∷ [])
+round_says (Err x) = says_no x
 
 -- settled is 0, limit is 1, void is 2
-abbrev pub run_says : RunAnswer → Says
-run_says RunAnswer.Settled = gives (pos 0 ∷ [])
-run_says RunAnswer.Limit = gives (pos 1 ∷ [])
-run_says RunAnswer.Void = gives (pos 2 ∷ [])
-run_says (RunAnswer.Refused x) = says_no x
+abbrev pub run_says : Result RunAnswer Refusal → Says
+run_says (Ok RunAnswer.Settled) = gives (pos 0 ∷ [])
+run_says (Ok RunAnswer.Limit) = gives (pos 1 ∷ [])
+run_says (Ok RunAnswer.Void) = gives (pos 2 ∷ [])
+run_says (Err x) = says_no x
 
 -- the first plan is 0, the second 1
-abbrev pub choice_says : Choice → Says
-choice_says Choice.First = gives (pos 0 ∷ [])
-choice_says Choice.Second = gives (pos 1 ∷ [])
-choice_says (Choice.Refused x) = says_no x
+abbrev pub choice_says : Result Choice Refusal → Says
+choice_says (Ok Choice.First) = gives (pos 0 ∷ [])
+choice_says (Ok Choice.Second) = gives (pos 1 ∷ [])
+choice_says (Err x) = says_no x
 
 -- the rounds and the upper bound; void has no values
-abbrev pub judgement_says : Judgement → Says
-judgement_says (Judgement.Accepted rounds bound) = gives (pos rounds ∷ bound ∷ [])
-judgement_says Judgement.Void = gives []
-judgement_says (Judgement.Refused x at) = says_no_at x at
+abbrev pub judgement_says : Result Judgement RefusedAt → Says
+judgement_says (Ok (Judgement.Accepted rounds bound)) = gives (pos rounds ∷ bound ∷ [])
+judgement_says (Ok Judgement.Void) = gives []
+judgement_says (Err x) = says_no_at x.refusal x.line
 
 -- ---- what is said, part by part
 
@@ -147,19 +142,30 @@ refusals =
     ∷ []
 
 abbrev pub refusal_among : ℕ → List Refusal → Option Refusal
-refusal_among n [] = none
-refusal_among n (x ∷ xs) = if eqb n (number x) then some x else refusal_among n xs
+refusal_among n [] = None
+refusal_among n (x ∷ xs) = if eqb n (number x) then Some x else refusal_among n xs
 
 abbrev pub refusal_of : ℕ → Option Refusal
 refusal_of n = refusal_among n refusals
 
+-- ---- answers of more than one part
+
+abbrev pub refused_at : Refusal → ℕ → RefusedAt
+refused_at x at = record { refusal = x; line = at }
+
+abbrev pub size_with : ℕ → ℕ → ℕ → ℕ → CaseSize
+size_with n d m long = record { n = n; d = d; m = m; table = long }
+
+abbrev pub from_to : ℕ → ℕ → Span
+from_to a b = record { from = a; to = b }
+
 -- ---- an answer by whether a refusal applies
 
-abbrev pub outcome_of : Option Refusal → Outcome
-outcome_of none = Outcome.Done
-outcome_of (some x) = Outcome.Refused x
+abbrev pub outcome_of : Option Refusal → Result ⊤ Refusal
+outcome_of None = Ok tt
+outcome_of (Some x) = Err x
 
 -- a, unless a refusal applies: then b
 abbrev pub unless_refused : {A : Type 0} → Option Refusal → A → A → A
-unless_refused none a b = a
-unless_refused (some x) a b = b
+unless_refused None a b = a
+unless_refused (Some x) a b = b

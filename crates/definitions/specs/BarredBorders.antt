@@ -1,6 +1,5 @@
 -- Samples of barred tuples, lawful assignments and void lines (document 02, change 2), in tables as those of Borders. Assumes nothing.
-use Rattle.std.specs.Prelude.{refl, Bool, true, false, List, [], ◌∷◌, ◌++◌, map, ℕ, ◌+◌, ◌-◌, ℤ, pos, length, take, drop, set, replicate}
-use Rattle.std.proofs.Math.Option.{none}
+use Rattle.std.specs.Prelude.{refl, Bool, true, false, List, [], ◌∷◌, ◌++◌, map, ℕ, ◌+◌, ◌-◌, ℤ, pos, length, take, drop, set, replicate, None}
 use Rattle.integers.specs.Words.{joined, minus}
 use Rattle.definitions.specs.declared.Rulebook.TheVariants.{Desk}
 use Rattle.definitions.specs.declared.Case.{Case}
@@ -214,10 +213,10 @@ pub lines :
       weights = w;
       rounds = 999_999_999_999_999_999;
       start = pos 9;
-      held = none;
+      held = None;
       moving = false;
       void = false;
-      refusal = none;
+      refusal = None;
     }
     in
     Hold

@@ -1,9 +1,9 @@
 -- Samples of the engine on cases with barred tuples (document 02, change 2): pair rounds, gaps, trims, void lines, runs at their limit, what
 -- `press` prints. Assumes nothing.
-use Rattle.std.specs.Prelude.{refl, Bool, true, false, List, [], ◌∷◌, ◌++◌, ℕ, ℤ, pos, replicate}
+use Rattle.std.specs.Prelude.{refl, Bool, true, false, List, [], ◌∷◌, ◌++◌, ℕ, ℤ, pos, replicate, Ok, Err}
 use Rattle.integers.specs.Words.{joined, minus}
 use Rattle.definitions.specs.declared.Refusal.TheVariants.{LeavesRange}
-use Rattle.definitions.specs.declared.RunAnswer.TheVariants.{Settled, Limit, Void, Refused}
+use Rattle.definitions.specs.declared.RunAnswer.TheVariants.{Settled, Limit, Void}
 use Rattle.definitions.specs.Rules.{standard}
 use Rattle.definitions.specs.Moves.{shift}
 use Rattle.definitions.specs.PairRounds.{some_choice, pair_gain, gains, pair_round, passed_over}
@@ -127,42 +127,42 @@ pub runs :
     Hold
     ( -- a pair round, and then a press whose gap is not taken against a barred tuple of the pair or of the link
     ran patchy 5 is (
-      Settled,
+      Ok Settled,
       2,
       minus 1 ∷ B ∷ zeros 2 ++ (pos 5 ∷ B ∷ pos 4 ∷ pos 5 ∷ []),
       pair_one ++ pressed (l 2 0 1 0 1) (2 ∷ []) " 4   0   0   0           4\n",
     )
-    ∷ ran patchy 1 is (Limit, 1, after_one, pair_one) ∷ paired patchy 5 is (Settled, 1, after_one, pair_one)
-    ∷ ran patchy 0 is (Limit, 0, own_weights patchy, [])
+    ∷ ran patchy 1 is (Ok Limit, 1, after_one, pair_one) ∷ paired patchy 5 is (Ok Settled, 1, after_one, pair_one)
+    ∷ ran patchy 0 is (Ok Limit, 0, own_weights patchy, [])
     -- a void line: no round, at any limit; the weights stay; runs of pair rounds only write none
-    ∷ ran locked 5 is (Void, 0, own_weights locked, void_of 0 (1 ∷ 2 ∷ []))
-    ∷ ran locked 1 is (Void, 0, own_weights locked, void_of 0 (1 ∷ 2 ∷ []))
-    ∷ ran locked 0 is (Void, 0, own_weights locked, void_of 0 (1 ∷ 2 ∷ []))
-    ∷ paired locked 5 is (Settled, 0, own_weights locked, []) ∷ paired locked 0 is (Settled, 0, own_weights locked, [])
-    ∷ ran strict 0 is (Void, 0, own_weights strict, void_of 0 (3 ∷ 4 ∷ 5 ∷ []))
+    ∷ ran locked 5 is (Ok Void, 0, own_weights locked, void_of 0 (1 ∷ 2 ∷ []))
+    ∷ ran locked 1 is (Ok Void, 0, own_weights locked, void_of 0 (1 ∷ 2 ∷ []))
+    ∷ ran locked 0 is (Ok Void, 0, own_weights locked, void_of 0 (1 ∷ 2 ∷ []))
+    ∷ paired locked 5 is (Ok Settled, 0, own_weights locked, []) ∷ paired locked 0 is (Ok Settled, 0, own_weights locked, [])
+    ∷ ran strict 0 is (Ok Void, 0, own_weights strict, void_of 0 (3 ∷ 4 ∷ 5 ∷ []))
     -- of the lowest link that is refuted
-    ∷ ran four_strict 5 is (Void, 0, own_weights four_strict, void_of 1 (4 ∷ 5 ∷ 6 ∷ []))
+    ∷ ran four_strict 5 is (Ok Void, 0, own_weights four_strict, void_of 1 (4 ∷ 5 ∷ 6 ∷ []))
     -- Link 1 is dropped, also where it has a barred value or one that sets a gap. In `locked` it is kept: its barred value is allowed without.
-    ∷ ran (no_partner (pos 0)) 1 is (Void, 0, own_weights (no_partner (pos 0)), void_of 0 (2 ∷ []))
-    ∷ ran (no_partner B) 1 is (Void, 0, own_weights (no_partner B), void_of 0 (2 ∷ []))
-    ∷ ran (no_partner (minus 1)) 1 is (Void, 0, own_weights (no_partner (minus 1)), void_of 0 (2 ∷ []))
+    ∷ ran (no_partner (pos 0)) 1 is (Ok Void, 0, own_weights (no_partner (pos 0)), void_of 0 (2 ∷ []))
+    ∷ ran (no_partner B) 1 is (Ok Void, 0, own_weights (no_partner B), void_of 0 (2 ∷ []))
+    ∷ ran (no_partner (minus 1)) 1 is (Ok Void, 0, own_weights (no_partner (minus 1)), void_of 0 (2 ∷ []))
     -- no choice, and the round would lower the upper bound
-    ∷ ran no_choice 5 is (Void, 0, own_weights no_choice, void_of 0 (1 ∷ 2 ∷ [])) ∷ paired no_choice 5 is (Settled, 0, own_weights no_choice, [])
-    ∷ ran none_below 5 is (Void, 0, own_weights none_below, void_of 0 (1 ∷ 2 ∷ [])) ∷ paired none_below 5 is (Settled, 0, own_weights none_below, [])
+    ∷ ran no_choice 5 is (Ok Void, 0, own_weights no_choice, void_of 0 (1 ∷ 2 ∷ [])) ∷ paired no_choice 5 is (Ok Settled, 0, own_weights no_choice, [])
+    ∷ ran none_below 5 is (Ok Void, 0, own_weights none_below, void_of 0 (1 ∷ 2 ∷ [])) ∷ paired none_below 5 is (Ok Settled, 0, own_weights none_below, [])
     -- the round would not lower the upper bound, and then a press
     ∷ ran not_lower 5 is (
-      Settled,
+      Ok Settled,
       1,
       minus 3 ∷ B ∷ pos 1 ∷ B ∷ replicate 4 (pos 4),
       pressed (l 2 0 1 0 3) (2 ∷ []) " 4   0   0   0           2\n",
     )
-    ∷ paired not_lower 5 is (Settled, 0, own_weights not_lower, []) ∷ paired rises 5 is (Settled, 0, own_weights rises, [])
-    ∷ ran rises 5 is (Settled, 1, minus 7 ∷ B ∷ zeros 2 ++ replicate 4 (pos 4), pressed (l 2 0 1 0 4) (2 ∷ []) " 4   0   0   0          -3\n")
+    ∷ paired not_lower 5 is (Ok Settled, 0, own_weights not_lower, []) ∷ paired rises 5 is (Ok Settled, 0, own_weights rises, [])
+    ∷ ran rises 5 is (Ok Settled, 1, minus 7 ∷ B ∷ zeros 2 ++ replicate 4 (pos 4), pressed (l 2 0 1 0 4) (2 ∷ []) " 4   0   0   0          -3\n")
     -- 11; at the limit it is not met
-    ∷ ran at_border 5 is (Refused LeavesRange, 0, own_weights at_border, []) ∷ ran at_border 0 is (Limit, 0, own_weights at_border, [])
-    ∷ paired at_border 5 is (Settled, 0, own_weights at_border, [])
+    ∷ ran at_border 5 is (Err LeavesRange, 0, own_weights at_border, []) ∷ ran at_border 0 is (Ok Limit, 0, own_weights at_border, [])
+    ∷ paired at_border 5 is (Ok Settled, 0, own_weights at_border, [])
     -- the pair leaves the range
-    ∷ ran apart 5 is (Refused LeavesRange, 0, own_weights apart, []) ∷ paired apart 5 is (Settled, 0, own_weights apart, [])
+    ∷ ran apart 5 is (Err LeavesRange, 0, own_weights apart, []) ∷ paired apart 5 is (Ok Settled, 0, own_weights apart, [])
     ∷ [])
 runs = refl
 
@@ -176,28 +176,28 @@ pub late-voids :
     let after_lower : List ℤ = pos 0 ∷ B ∷ pos 0 ∷ B ∷ zeros 2 ++ (pos 1 ∷ pos 1 ∷ pos 4 ∷ pos 4 ∷ minus 1 ∷ pos 0 ∷ minus 7 ∷ minus 9 ∷ []) in
     let higher : List ℕ = bytes_of " 1   1   1   0          -2\n" ++ l 4 0 0 0 4 in
     Hold
-    (ran late 5 is (Void, 1, after_late, by_twos 0 2 ++ void_of 0 (2 ∷ 4 ∷ [])) ∷ ran late 1 is (Void, 1, after_late, by_twos 0 2 ++ void_of 0 (2 ∷ 4 ∷ []))
-    ∷ ran late 0 is (Limit, 0, own_weights late, []) ∷ paired late 5 is (Settled, 1, after_late, by_twos 0 2) ∷ paired late 1 is (Settled, 1, after_late, by_twos 0 2)
-    ∷ ran waiting 5 is (Void, 1, after_waiting, by_twos 0 2 ++ void_of 0 (4 ∷ [])) ∷ ran waiting 1 is (Void, 1, after_waiting, by_twos 0 2 ++ void_of 0 (4 ∷ []))
-    ∷ ran waiting 0 is (Limit, 0, own_weights waiting, []) ∷ paired waiting 5 is (Settled, 1, after_waiting, by_twos 0 2)
-    ∷ ran_by presses_next waiting 0 is (Void, 0, own_weights waiting, void_of 0 (4 ∷ []))
+    (ran late 5 is (Ok Void, 1, after_late, by_twos 0 2 ++ void_of 0 (2 ∷ 4 ∷ [])) ∷ ran late 1 is (Ok Void, 1, after_late, by_twos 0 2 ++ void_of 0 (2 ∷ 4 ∷ []))
+    ∷ ran late 0 is (Ok Limit, 0, own_weights late, []) ∷ paired late 5 is (Ok Settled, 1, after_late, by_twos 0 2) ∷ paired late 1 is (Ok Settled, 1, after_late, by_twos 0 2)
+    ∷ ran waiting 5 is (Ok Void, 1, after_waiting, by_twos 0 2 ++ void_of 0 (4 ∷ [])) ∷ ran waiting 1 is (Ok Void, 1, after_waiting, by_twos 0 2 ++ void_of 0 (4 ∷ []))
+    ∷ ran waiting 0 is (Ok Limit, 0, own_weights waiting, []) ∷ paired waiting 5 is (Ok Settled, 1, after_waiting, by_twos 0 2)
+    ∷ ran_by presses_next waiting 0 is (Ok Void, 0, own_weights waiting, void_of 0 (4 ∷ []))
     -- The pair (0,1) is passed over, and then a higher pair. Of the presses scope 1 is dropped, though value 1 of link 1 is barred; of the void
     -- line it is kept: the higher pair no longer closes that value, which is allowed where scope 1 is not raised.
     ∷ ran over_no_choice 5 is (
-      Void,
+      Ok Void,
       3,
       minus 7 ∷ B ∷ pos 0 ∷ B ∷ zeros 2 ++ (B ∷ zeros 3 ++ (pos 2 ∷ pos 2 ∷ pos 2 ∷ pos 0 ∷ [])),
       by_twos 1 4 ++ pressed (l 2 0 2 0 1) (3 ∷ 4 ∷ []) " 4   0   0   0           3\n"
           ++ pressed (l 2 0 2 0 8) (3 ∷ 4 ∷ []) " 4   0   0   0          -5\n" ++ void_of 0 (1 ∷ 3 ∷ []),
     )
-    ∷ ran over_no_choice 1 is (Limit, 1, after_pair, by_twos 1 4) ∷ paired over_no_choice 5 is (Settled, 1, after_pair, by_twos 1 4)
+    ∷ ran over_no_choice 1 is (Ok Limit, 1, after_pair, by_twos 1 4) ∷ paired over_no_choice 5 is (Ok Settled, 1, after_pair, by_twos 1 4)
     ∷ ran over_not_lower 5 is (
-      Settled,
+      Ok Settled,
       2,
       minus 3 ∷ B ∷ pos 0 ∷ B ∷ zeros 2 ++ (replicate 4 (pos 4) ++ (minus 1 ∷ pos 0 ∷ minus 7 ∷ minus 9 ∷ [])),
       higher ++ pressed (l 2 0 1 0 3) (3 ∷ []) " 4   0   0   0           1\n",
     )
-    ∷ paired over_not_lower 5 is (Settled, 1, after_lower, higher)
+    ∷ paired over_not_lower 5 is (Ok Settled, 1, after_lower, higher)
     ∷ [])
 late-voids = refl
 
@@ -209,7 +209,7 @@ pub gaps :
     λ a z. given 2 3 1 (0 ∷ []) (1 ∷ []) (replicate 3 a ++ (pos 5 ∷ B ∷ pos z ∷ joined (replicate 3 (B ∷ zeros 2))))
     in
     Hold
-    (ran (own_gap 5) 5 is (Settled, 1, own_weights (own_gap 3), pressed (l 2 0 1 0 2) (2 ∷ []) " 4   0   0   0           3\n")
-    ∷ ran (kept_gap (pos 0) 3) 5 is (Settled, 1, own_weights (kept_gap (minus 2) 5), pressed (l 2 0 2 0 2) (1 ∷ 2 ∷ []) " 4   0   0   0           3\n")
+    (ran (own_gap 5) 5 is (Ok Settled, 1, own_weights (own_gap 3), pressed (l 2 0 1 0 2) (2 ∷ []) " 4   0   0   0           3\n")
+    ∷ ran (kept_gap (pos 0) 3) 5 is (Ok Settled, 1, own_weights (kept_gap (minus 2) 5), pressed (l 2 0 2 0 2) (1 ∷ 2 ∷ []) " 4   0   0   0           3\n")
     ∷ [])
 gaps = refl

@@ -1,13 +1,13 @@
 -- Samples at the borders: the rules of document 01 just inside and just outside, in tables of questions with the answers that the document
 -- gives, one theorem over each table. They rule out wrong definitions that the samples of document 01 leave alive. Assumes nothing.
-use Rattle.std.specs.Prelude.{◌≡◌, refl, Bool, true, false, List, [], ◌∷◌, ◌++◌, map, ℕ, ℤ, pos, take, drop, replicate}
-use Rattle.std.proofs.Math.Option.{none}
+use Rattle.definitions.specs.declared.Refusal.{Refusal}
+use Rattle.std.specs.Prelude.{◌≡◌, refl, Bool, true, false, List, [], ◌∷◌, ◌++◌, map, ℕ, ℤ, pos, take, drop, replicate, Result, Ok, Err, None}
 use Prim.Native.String.{String}
 use Rattle.integers.specs.Words.{joined, minus}
 use Rattle.definitions.specs.declared.Case.{Case}
 use Rattle.definitions.specs.declared.Refusal.TheVariants.{LeavesRange}
 use Rattle.definitions.specs.declared.RunAnswer.{RunAnswer}
-use Rattle.definitions.specs.declared.RunAnswer.TheVariants.{Settled, Limit, Refused}
+use Rattle.definitions.specs.declared.RunAnswer.TheVariants.{Settled, Limit}
 use Rattle.definitions.specs.Rules.{Rules, standard}
 use Rattle.definitions.specs.Refusals.{number_of}
 use Rattle.definitions.specs.Answers.{Says}
@@ -21,7 +21,7 @@ use Rattle.definitions.specs.Engine.{Next, round, stopped, presses_next, run}
 use Rattle.definitions.specs.Views.{round_span, round_view}
 use Rattle.definitions.specs.Scoring.{better_of, better}
 use Rattle.definitions.specs.Programs.{press_limit, bytes_of}
-use Rattle.definitions.specs.Samples.{Input, Question, replay-of, Result, replayed, Sample, answer}
+use Rattle.definitions.specs.Samples.{Input, Question, replay-of, Reply, replayed, Sample, answer}
 use Rattle.definitions.specs.Samples.{full, given, own, own_weights, triangle, couple, clash, texts, log5, by_two, log8, two_rounds, zeros}
 
 -- ---- questions and answers
@@ -95,7 +95,7 @@ pub lines :
     in
     let w : List ℤ = clash.weights in
     let late : ℕ → State =
-    λ n. record { case = clash.case; starting = w; weights = w; rounds = n; start = pos 9; held = none; moving = false; void = false; refusal = none }
+    λ n. record { case = clash.case; starting = w; weights = w; rounds = n; start = pos 9; held = None; moving = false; void = false; refusal = None }
     in
     Hold
     ( -- 1 and 2: kinds due and unused columns
@@ -125,11 +125,11 @@ pub lines :
 lines = refl
 
 infix 70 ◌gives◌
-abbrev ◌gives◌ : Question → Result → Sample
+abbrev ◌gives◌ : Question → Reply → Sample
 q gives a = record { ask = q; gives = a }
 
 -- each line's number and the end's; nothing is changed
-abbrev turned : List ℕ → ℕ → Result
+abbrev turned : List ℕ → ℕ → Reply
 turned numbers end = replayed numbers end 0 (pos 4) (own_weights clash)
 
 -- logs, in the form of the sample cases
@@ -234,7 +234,7 @@ two_reasons =
     (pos 2 ∷ pos 0 ∷ pos 2 ∷ pos 0 ∷ pos 2 ∷ pos 0 ∷ minus 3 ∷ zeros 3 ++ (minus 3 ∷ zeros 3))
 
 abbrev pub ToldRun : Type 0
-ToldRun = RunAnswer × ℕ × List ℤ × List ℕ
+ToldRun = Result RunAnswer Refusal × ℕ × List ℤ × List ℕ
 
 abbrev pub ran_by : (Rules → Case → List ℤ → Next) → Input → ℕ → ToldRun
 ran_by next i limit =
@@ -257,24 +257,24 @@ pub press-runs :
     (zeros 2 ++ (minus a ∷ minus a ∷ zeros 4) ++ joined (replicate 3 (minus low ∷ pos 0 ∷ pos 0 ∷ minus low ∷ [])))
     in
     Hold
-    (ran two_steps 1 is (Limit, 1, after_one, step1) ∷ ran two_steps 5 is (Settled, 2, after_two, step1 ++ step2)
-    ∷ ran (triangle_from (minus W)) 5 is (Refused LeavesRange, 0, own_weights (triangle_from (minus W)), [])
-    ∷ ran (triangle_from (minus W)) 0 is (Limit, 0, own_weights (triangle_from (minus W)), [])
-    ∷ ran last_round 5 is (Refused LeavesRange, 1, after_last, by_one)
+    (ran two_steps 1 is (Ok Limit, 1, after_one, step1) ∷ ran two_steps 5 is (Ok Settled, 2, after_two, step1 ++ step2)
+    ∷ ran (triangle_from (minus W)) 5 is (Err LeavesRange, 0, own_weights (triangle_from (minus W)), [])
+    ∷ ran (triangle_from (minus W)) 0 is (Ok Limit, 0, own_weights (triangle_from (minus W)), [])
+    ∷ ran last_round 5 is (Err LeavesRange, 1, after_last, by_one)
     -- P5 as it was before change 1: one round of amount 2, raising scopes 1 and 2
-    ∷ ran clash 5 is (Settled, 1, pos 0 ∷ pos 0 ∷ pos 2 ∷ pos 2 ∷ minus 1 ∷ zeros 3, joined (texts by_two))
+    ∷ ran clash 5 is (Ok Settled, 1, pos 0 ∷ pos 0 ∷ pos 2 ∷ pos 2 ∷ minus 1 ∷ zeros 3, joined (texts by_two))
     -- the own scope's gap is strictly least; trimmed upwards, scopes 1 and 3 are dropped
-    ∷ ran near_tie 5 is (Settled, 1, pos 1 ∷ pos 1 ∷ pos 2 ∷ pos 1 ∷ minus 2 ∷ zeros 3, pressed (l 2 0 2 0 1) (1 ∷ 2 ∷ []) " 4   0   0   0           3\n")
+    ∷ ran near_tie 5 is (Ok Settled, 1, pos 1 ∷ pos 1 ∷ pos 2 ∷ pos 1 ∷ minus 2 ∷ zeros 3, pressed (l 2 0 2 0 1) (1 ∷ 2 ∷ []) " 4   0   0   0           3\n")
     ∷ ran two_reasons 5 is (
-      Settled,
+      Ok Settled,
       1,
       pos 0 ∷ pos 0 ∷ pos 2 ∷ pos 0 ∷ pos 2 ∷ pos 2 ∷ minus 3 ∷ zeros 3 ++ (minus 1 ∷ zeros 3),
       pressed (l 2 0 2 0 2) (2 ∷ 4 ∷ []) " 4   0   0   0           4\n",
     )
     -- the gap of a scope is to its greatest inactive weight; a dropped scope's does not count; the lowest variable refuted is pressed
-    ∷ ran (three 5 9) 5 is (Settled, 1, own_weights (three 3 7), pressed (l 2 0 1 0 2) (2 ∷ []) " 4   0   0   0           3\n")
-    ∷ ran (two 2 0 3) 5 is (Settled, 1, own_weights (two 0 2 1), pressed (l 2 0 2 0 2) (2 ∷ 4 ∷ []) " 4   0   0   0           4\n")
-    ∷ ran (four 0 1) 5 is (Settled, 1, own_weights (four 1 0), pressed (l 2 1 3 0 1) (4 ∷ 5 ∷ 6 ∷ []) " 4   0   0   0          -1\n")
+    ∷ ran (three 5 9) 5 is (Ok Settled, 1, own_weights (three 3 7), pressed (l 2 0 1 0 2) (2 ∷ []) " 4   0   0   0           3\n")
+    ∷ ran (two 2 0 3) 5 is (Ok Settled, 1, own_weights (two 0 2 1), pressed (l 2 0 2 0 2) (2 ∷ 4 ∷ []) " 4   0   0   0           4\n")
+    ∷ ran (four 0 1) 5 is (Ok Settled, 1, own_weights (four 1 0), pressed (l 2 1 3 0 1) (4 ∷ 5 ∷ 6 ∷ []) " 4   0   0   0          -1\n")
     ∷ [])
 press-runs = refl
 
@@ -284,7 +284,7 @@ detour r c w = round (shift 0 1 0 (pos 3) ∷ shift 0 1 0 (minus 3) ∷ active_p
 
 pub detours :
     run standard detour clash.case 1 clash.weights
-    ≡ stopped Limit 1 (full 2 (pos 0 ∷ pos 0 ∷ pos 2 ∷ pos 2 ∷ minus 1 ∷ zeros 3))
+    ≡ stopped (Ok Limit) 1 (full 2 (pos 0 ∷ pos 0 ∷ pos 2 ∷ pos 2 ∷ minus 1 ∷ zeros 3))
     (texts (" 1   0   1   0           3\n" ∷ " 1   0   1   0          -3\n" ∷ by_two))
 detours = refl
 

@@ -1,13 +1,14 @@
 -- Document 01, "Lines": case files, written and read into a lent table, with barred tuples (document 02, change 2) and zeros past the case's own
 -- places (change 5). Assumes nothing.
-use Rattle.std.specs.Prelude.{Bool, true, false, not, ◌&&◌, ◌||◌, List, [], ◌∷◌, ◌++◌, map, ℕ, ◌+◌, ◌*◌, ◌-◌, ℤ, pos, nat_abs, ltb, eqb, length, take, drop, set, replicate, if◌then◌else◌}
-use Rattle.std.proofs.Math.Option.{Option, none, some}
+use Rattle.definitions.specs.declared.RefusedAt.{RefusedAt}
+use Rattle.definitions.specs.Answers.{refused_at}
+use Rattle.definitions.specs.Answers.{size_with}
+use Rattle.std.specs.Prelude.{Bool, true, false, not, ◌&&◌, ◌||◌, List, [], ◌∷◌, ◌++◌, map, ℕ, ◌+◌, ◌*◌, ◌-◌, ℤ, pos, nat_abs, ltb, eqb, length, take, drop, set, replicate, if◌then◌else◌, Result, Ok, Err, Option, Some, None}
 use Rattle.std.specs.Int.Signed.{lt_z}
 use Rattle.integers.specs.Words.{below, any, joined, eq_z, within_z}
 use Rattle.definitions.specs.declared.Rulebook.{Rulebook}
 use Rattle.definitions.specs.declared.Case.{Case}
 use Rattle.definitions.specs.declared.Line.{Line}
-use Rattle.definitions.specs.declared.FileAnswer.{FileAnswer}
 use Rattle.definitions.specs.declared.CaseRead.{CaseRead}
 use Rattle.definitions.specs.declared.CaseSize.{CaseSize}
 use Rattle.definitions.specs.declared.Refusal.{Refusal}
@@ -75,8 +76,8 @@ abbrev pub names : ℕ → ℤ → Bool
 names n z = eq_z z (pos n)
 
 abbrev pub head_tests : Rules → Option Line → List Test
-head_tests r none = NotInColumns when true ∷ []
-head_tests r (some t) =
+head_tests r None = NotInColumns when true ∷ []
+head_tests r (Some t) =
     NotDue when (not_due r (10 ∷ []) t)
     ∷ OutsideLimits when
     (not (within_z (pos 1) (pos r.variables) t.a && within_z (pos 1) (pos r.values) t.b && within_z (pos 0) (pos r.edges) t.c))
@@ -96,8 +97,8 @@ abbrev pub case_of : Rulebook → ℕ → ℕ → ℕ → Case
 case_of b n d m = record { n = n; d = d; m = m; lower = replicate edge_places 0; upper = replicate edge_places 0; carry = pos 0; rulebook = b }
 
 abbrev pub headed : Rulebook → Option Line → Case
-headed b none = case_of b 0 0 0
-headed b (some t) = case_of b (nat_abs t.a) (nat_abs t.b) (nat_abs t.c)
+headed b None = case_of b 0 0 0
+headed b (Some t) = case_of b (nat_abs t.a) (nat_abs t.b) (nat_abs t.c)
 
 abbrev pub with_weight : Reading → ℕ → ℕ → ℕ → ℤ → Reading
 with_weight g x k l z = record { case = g.case; table = set g.table (place g.case x k l) z }
@@ -121,10 +122,10 @@ abbrev pub weight_in : Line → ℤ
 weight_in t = if bars t then barred_weight else t.amount
 
 abbrev pub took : Reading → CaseDue → Option Line → Reading
-took g due none = g
-took g (variable-weight i k) (some t) = with_weight g i k 0 (weight_in t)
-took g (edge-ends e) (some t) = record { case = with_ends g.case e (nat_abs t.b) (nat_abs t.c); table = g.table }
-took g (edge-weight e k l) (some t) = with_weight g (g.case.n + e) k l (weight_in t)
+took g due None = g
+took g (variable-weight i k) (Some t) = with_weight g i k 0 (weight_in t)
+took g (edge-ends e) (Some t) = record { case = with_ends g.case e (nat_abs t.b) (nat_abs t.c); table = g.table }
+took g (edge-weight e k l) (Some t) = with_weight g (g.case.n + e) k l (weight_in t)
 
 -- numbers 8 and 15 of a weight line; a scope is wholly barred at its last line
 abbrev pub weight_tests : Rules → Reading → ℕ → Bool → Line → List Test
@@ -144,16 +145,16 @@ ends_tests r g e out t =
 
 -- g holds the edges and weights read so far
 abbrev pub due_tests : Rules → Reading → CaseDue → Option Line → List Test
-due_tests r g due none = NotInColumns when true ∷ []
-due_tests r g (variable-weight i k) (some t) =
+due_tests r g due None = NotInColumns when true ∷ []
+due_tests r g (variable-weight i k) (Some t) =
     NotDue when (not_due r (11 ∷ 14 ∷ []) t)
     ∷ OutOfRange when (not (names i t.a && names k t.b))
-    ∷ weight_tests r (took g (variable-weight i k) (some t)) i (eqb (k + 1) g.case.d) t
-due_tests r g (edge-ends e) (some t) = ends_tests r g e (outside g.case.n t.c) t
-due_tests r g (edge-weight e k l) (some t) =
+    ∷ weight_tests r (took g (variable-weight i k) (Some t)) i (eqb (k + 1) g.case.d) t
+due_tests r g (edge-ends e) (Some t) = ends_tests r g e (outside g.case.n t.c) t
+due_tests r g (edge-weight e k l) (Some t) =
     NotDue when (not_due r (13 ∷ 15 ∷ []) t)
     ∷ OutOfRange when (not (names e t.a && names k t.b && names l t.c))
-    ∷ weight_tests r (took g (edge-weight e k l) (some t)) (g.case.n + e) (eqb (k + 1) g.case.d && eqb (l + 1) g.case.d) t
+    ∷ weight_tests r (took g (edge-weight e k l) (Some t)) (g.case.n + e) (eqb (k + 1) g.case.d && eqb (l + 1) g.case.d) t
 
 -- what the reader answers, and the lent table after it: on a refusal the case is all zero, and the weights are as after the last good line,
 -- places not reached keeping what they held
@@ -173,34 +174,34 @@ module _ (r : Rules) where
   after_first t = drop (line_length r.amount_width) t
 
   abbrev pub head_refusal : List ℕ → Option Refusal
-  head_refusal t = if is_cut t then some CutShort else first_refusal (head_tests r (first_line t))
+  head_refusal t = if is_cut t then Some CutShort else first_refusal (head_tests r (first_line t))
 
   -- nothing is due after the last line of a case that is read alone
   abbrev pub end_tests : Option Line → List Test
-  end_tests none = NotInColumns when true ∷ []
-  end_tests (some t) = NotDue when (not_due r [] t) ∷ []
+  end_tests None = NotInColumns when true ∷ []
+  end_tests (Some t) = NotDue when (not_due r [] t) ∷ []
 
   abbrev pub rest_refusal : List ℕ → Option Refusal
   rest_refusal t =
-      if eqb (length t) 0 then none
-      else if is_cut t then some CutShort
+      if eqb (length t) 0 then None
+      else if is_cut t then Some CutShort
       else first_refusal (end_tests (first_line t))
 
 abbrev pub case_taken : Reading → ℕ → CaseCall
-case_taken g at = record { read = record { answer = FileAnswer.Read at; case = g.case }; table = g.table }
+case_taken g at = record { read = record { answer = Ok at; case = g.case }; table = g.table }
 
 -- the table with 0 from place p on
 abbrev pub zeroed_from : ℕ → List ℤ → List ℤ
 zeroed_from p w = take p w ++ replicate (length w - p) (pos 0)
 
 -- a reader writes 0 past the own places of a case that it takes
-abbrev pub zeroed_past : CaseCall → FileAnswer → CaseCall
-zeroed_past call (FileAnswer.Refused x at) = call
-zeroed_past call (FileAnswer.Read lines) = record { read = call.read; table = zeroed_from (own_length call.read.case) call.table }
+abbrev pub zeroed_past : CaseCall → Result ℕ RefusedAt → CaseCall
+zeroed_past call (Err x) = call
+zeroed_past call (Ok lines) = record { read = call.read; table = zeroed_from (own_length call.read.case) call.table }
 
 module _ (b : Rulebook) where
   abbrev pub case_refused : Refusal → ℕ → List ℤ → CaseCall
-  case_refused x at w = record { read = record { answer = FileAnswer.Refused x at; case = case_of b 0 0 0 }; table = w }
+  case_refused x at w = record { read = record { answer = Err (refused_at x at); case = case_of b 0 0 0 }; table = w }
 
   -- `at` is the line, counted from 0
   abbrev pub read_dues : Reading → ℕ → List CaseDue → List ℕ → CaseCall
@@ -210,8 +211,8 @@ module _ (b : Rulebook) where
         | true ↦ case_refused CutShort at g.table
         | false ↦
             elim (first_refusal (due_tests (rules_in b) g due (first_line (rules_in b) t))) [
-              | none ↦ read_dues (took g due (first_line (rules_in b) t)) (at + 1) dues (after_first (rules_in b) t)
-              | some x ↦ case_refused x at g.table
+              | None ↦ read_dues (took g due (first_line (rules_in b) t)) (at + 1) dues (after_first (rules_in b) t)
+              | Some x ↦ case_refused x at g.table
             ]
       ]
 
@@ -219,20 +220,20 @@ module _ (b : Rulebook) where
   abbrev pub read_lines : List ℕ → List ℤ → CaseCall
   read_lines t w =
       elim (head_refusal (rules_in b) t) [
-        | none ↦
+        | None ↦
             let c = headed b (first_line (rules_in b) t) in
             if eqb (length w) (lent_length (rules_in b) c)
             then read_dues (record { case = c; table = w }) 1 (dues c) (after_first (rules_in b) t)
             else case_refused WrongLength 0 w
-        | some x ↦ case_refused x 0 w
+        | Some x ↦ case_refused x 0 w
       ]
 
-  abbrev pub nothing_after : List ℕ → CaseCall → FileAnswer → CaseCall
-  nothing_after t call (FileAnswer.Refused x at) = call
-  nothing_after t call (FileAnswer.Read lines) =
+  abbrev pub nothing_after : List ℕ → CaseCall → Result ℕ RefusedAt → CaseCall
+  nothing_after t call (Err x) = call
+  nothing_after t call (Ok lines) =
       elim (rest_refusal (rules_in b) (drop (lines * line_length (rules_in b).amount_width) t)) [
-        | none ↦ call
-        | some x ↦ case_refused x lines call.table
+        | None ↦ call
+        | Some x ↦ case_refused x lines call.table
       ]
 
   -- a case as the front of a longer input
@@ -246,11 +247,11 @@ module _ (b : Rulebook) where
   read_case_alone t w = zeroed_past (read_lines_alone t w) (read_lines_alone t w).read.answer
 
   -- what the head says, with the length of the table to lend
-  abbrev pub case_size : List ℕ → CaseSize
+  abbrev pub case_size : List ℕ → Result CaseSize Refusal
   case_size t =
       elim (head_refusal (rules_in b) t) [
-        | none ↦
+        | None ↦
             let c = headed b (first_line (rules_in b) t) in
-            CaseSize.Size c.n c.d c.m (lent_length (rules_in b) c)
-        | some x ↦ CaseSize.Refused x
+            Ok (size_with c.n c.d c.m (lent_length (rules_in b) c))
+        | Some x ↦ Err x
       ]

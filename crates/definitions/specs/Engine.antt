@@ -1,7 +1,6 @@
 -- Document 01, "The engine's round", and its run, with pair rounds before presses (document 02, change 1) and void lines (change 2). Assumes
 -- nothing.
-use Rattle.std.specs.Prelude.{◌||◌, List, [], ◌∷◌, ◌++◌, map, ℕ, zero, suc, ◌+◌, ◌*◌, ◌<◌, ℤ, ◌-ℤ◌, T, if◌then◌else◌}
-use Rattle.std.proofs.Math.Option.{Option, none, some}
+use Rattle.std.specs.Prelude.{◌||◌, List, [], ◌∷◌, ◌++◌, map, ℕ, zero, suc, ◌+◌, ◌*◌, ◌<◌, ℤ, ◌-ℤ◌, T, if◌then◌else◌, Result, Ok, Err, Option, Some, None}
 use Rattle.integers.specs.Words.{below, is_in, those, first, joined, greatest_of, least_of}
 use Rattle.definitions.specs.declared.Case.{Case}
 use Rattle.definitions.specs.declared.Refusal.{Refusal}
@@ -59,12 +58,12 @@ pub data Next : Type 0 where
 
 -- where neither the kept scopes nor the variable's own scope set a gap: a void line
 abbrev pub press_round : Case → List ℤ → ℕ → Option ℤ → Next
-press_round c w i none = void i (kept_scopes c w i)
-press_round c w i (some a) = round (active_press c w i (kept_scopes c w i) a ∷ [])
+press_round c w i None = void i (kept_scopes c w i)
+press_round c w i (Some a) = round (active_press c w i (kept_scopes c w i) a ∷ [])
 
 abbrev pub press_next : Case → List ℤ → Option ℕ → Next
-press_next c w none = nothing
-press_next c w (some i) = press_round c w i (least_gap c w i)
+press_next c w None = nothing
+press_next c w (Some i) = press_round c w i (least_gap c w i)
 
 -- presses and void lines only
 abbrev pub presses_next : Rules → Case → List ℤ → Next
@@ -72,8 +71,8 @@ presses_next r c w = press_next c w (chosen c w)
 
 -- a pair's round, if there is a pair; else the other
 abbrev pub pair_next : Case → List ℤ → Option ℕ → Next → Next
-pair_next c w none other = other
-pair_next c w (some e) other = round (pair_round c w e)
+pair_next c w None other = other
+pair_next c w (Some e) other = round (pair_round c w e)
 
 -- before a press the engine looks for the lowest pair
 abbrev pub engine_next : Rules → Case → List ℤ → Next
@@ -101,8 +100,8 @@ pub data Made : Type 0 where
   voided : List (List ℕ) → Made
 
 abbrev pub made_of : Rules → Case → List Move → Option (List ℤ) → Made
-made_of r c moves none = refused LeavesRange
-made_of r c moves (some w) = made w (round_text r c moves w)
+made_of r c moves None = refused LeavesRange
+made_of r c moves (Some w) = made w (round_text r c moves w)
 
 abbrev pub make_next : Rules → Case → List ℤ → Next → Made
 make_next r c w nothing = settled
@@ -112,26 +111,26 @@ make_next r c w (void i raised) = voided (void_text r i raised)
 -- ---- a run on weights: `next` says what comes next
 
 pub record RunOf : Type 0 where
-  pub answer : RunAnswer
+  pub answer : Result RunAnswer Refusal
   pub rounds : ℕ
   pub weights : List ℤ
   pub log : List (List ℕ)
 
-abbrev pub stopped : RunAnswer → ℕ → List ℤ → List (List ℕ) → RunOf
+abbrev pub stopped : Result RunAnswer Refusal → ℕ → List ℤ → List (List ℕ) → RunOf
 stopped answer done w log = record { answer = answer; rounds = done; weights = w; log = log }
 
 -- at its limit a run answers settled if settled, and writes a void line if that comes next
 abbrev pub at_limit : Rules → Next → ℕ → List ℤ → List (List ℕ) → RunOf
-at_limit r nothing done w log = stopped RunAnswer.Settled done w log
-at_limit r (round moves) done w log = stopped RunAnswer.Limit done w log
-at_limit r (void i raised) done w log = stopped RunAnswer.Void done w (log ++ void_text r i raised)
+at_limit r nothing done w log = stopped (Ok RunAnswer.Settled) done w log
+at_limit r (round moves) done w log = stopped (Ok RunAnswer.Limit) done w log
+at_limit r (void i raised) done w log = stopped (Ok RunAnswer.Void) done w (log ++ void_text r i raised)
 
 -- after a round: stop, or go on with its weights and the log with its lines
 abbrev pub onward : Made → ℕ → List ℤ → List (List ℕ) → (List ℤ → List (List ℕ) → RunOf) → RunOf
-onward settled done w log go = stopped RunAnswer.Settled done w log
-onward (refused x) done w log go = stopped (RunAnswer.Refused x) done w log
+onward settled done w log go = stopped (Ok RunAnswer.Settled) done w log
+onward (refused x) done w log go = stopped (Err x) done w log
 onward (made v lines) done w log go = go v (log ++ lines)
-onward (voided lines) done w log go = stopped RunAnswer.Void done w (log ++ lines)
+onward (voided lines) done w log go = stopped (Ok RunAnswer.Void) done w (log ++ lines)
 
 module _ (r : Rules) (next : Rules → Case → List ℤ → Next) (c : Case) where
   -- with `left` rounds allowed, after `done` rounds that left the weights w and the log

@@ -1,6 +1,5 @@
 -- Document 02, change 3, "Show the partner": why a value was kept. Raised scopes are given by a test, R x, as in Consistency. Assumes nothing.
-use Rattle.std.specs.Prelude.{Bool, not, ◌&&◌, List, map, ℕ, ◌-◌, ℤ, if◌then◌else◌}
-use Rattle.std.proofs.Math.Option.{Option, none, some}
+use Rattle.std.specs.Prelude.{Bool, not, ◌&&◌, List, map, ℕ, ◌-◌, ℤ, if◌then◌else◌, Option, Some, None}
 use Rattle.integers.specs.Words.{below, any, those, first, joined, is_in, bits_of}
 use Rattle.definitions.specs.declared.Case.{Case}
 use Rattle.definitions.specs.Case.{values, active}
@@ -34,8 +33,8 @@ abbrev pub outside : ℕ
 outside = 255
 
 abbrev pub partner_byte : Option ℕ → ℕ
-partner_byte none = outside
-partner_byte (some u) = u
+partner_byte None = outside
+partner_byte (Some u) = u
 
 -- the byte of value v at that end of edge e
 abbrev pub value_byte : Case → List ℤ → (ℕ → Bool) → Family → ℕ → ℕ → ℕ → ℕ

@@ -1,6 +1,6 @@
 -- Samples of the length of lent tables, of what lies past a case's own places and of the carry (document 02, change 5), in tables as those of
 -- Borders. Assumes nothing.
-use Rattle.std.specs.Prelude.{◌≡◌, refl, Bool, true, false, List, [], ◌∷◌, ◌++◌, map, ℕ, ◌-◌, ℤ, pos, take, set, replicate}
+use Rattle.std.specs.Prelude.{◌≡◌, refl, Bool, true, false, List, [], ◌∷◌, ◌++◌, map, ℕ, ◌-◌, ℤ, pos, take, set, replicate, Ok}
 use Prim.Native.String.{String}
 use Rattle.integers.specs.Words.{from, joined, minus}
 use Rattle.definitions.specs.declared.Rulebook.TheVariants.{Desk}
@@ -14,7 +14,7 @@ use Rattle.definitions.specs.CaseFiles.{CaseCall, case_of, case_taken, zeroed_pa
 use Rattle.definitions.specs.Engine.{engine_next, pairs_next}
 use Rattle.definitions.specs.Scoring.{better_of}
 use Rattle.definitions.specs.Programs.{bytes_of, judge_log}
-use Rattle.definitions.specs.Samples.{Input, Question, bound_of, replay-of, Result, bound, replayed, Sample, answer}
+use Rattle.definitions.specs.Samples.{Input, Question, bound_of, replay-of, Reply, bound, replayed, Sample, answer}
 use Rattle.definitions.specs.Samples.{given, with_table, own_weights, triangle, couple, clash, texts, zeros, raising1and2}
 use Rattle.definitions.specs.Borders.{◌is◌, Hold, says, no, value, edges, l, xs, two_steps, pressed, after_pair, after_press, ran_by}
 use Rattle.definitions.specs.BarredBorders.{B, locked, patchy}
@@ -164,7 +164,7 @@ scores = refl
 -- ---- bound lines state the upper bound with the carry in it
 
 infix 70 ◌gives◌
-abbrev ◌gives◌ : Question → Result → Sample
+abbrev ◌gives◌ : Question → Reply → Sample
 q gives a = record { ask = q; gives = a }
 
 -- P6's press with a carry of 5, of −5 and the greatest on either side. A bound line that leaves the carry out is number 12; 13 compares bounds with
@@ -172,7 +172,7 @@ q gives a = record { ask = q; gives = a }
 abbrev carried : List Sample
 carried =
     let press : String → List String = λ stated. raising1and2 " 2   0   2   0           1\n" stated in
-    let made : ℕ → ℕ → ℤ → Result = λ last rounds z. replayed (0 ∷ 0 ∷ 0 ∷ last ∷ []) last rounds z (pos 1 ∷ pos 0 ∷ pos 2 ∷ pos 1 ∷ minus 2 ∷ zeros 3) in
+    let made : ℕ → ℕ → ℤ → Reply = λ last rounds z. replayed (0 ∷ 0 ∷ 0 ∷ last ∷ []) last rounds z (pos 1 ∷ pos 0 ∷ pos 2 ∷ pos 1 ∷ minus 2 ∷ zeros 3) in
     bound_of (carrying (pos 5) triangle) gives bound (pos 5)
     ∷ replay-of (carrying (pos 5) clash) (press " 4   0   0   0           8\n") gives made 0 1 (pos 8)
     ∷ replay-of (carrying (minus 5) clash) (press " 4   0   0   0          -2\n") gives made 0 1 (minus 2)
@@ -208,12 +208,12 @@ pub runs :
     let press_by : String → List ℕ = λ stated. pressed (l 2 0 3 0 1) (2 ∷ 3 ∷ 4 ∷ []) stated in
     Hold
     (ran (carrying (pos 5) two_steps) 5 is
-    (Settled, 2, after_press, pair_by " 4   0   0   0           5\n" ++ press_by " 4   0   0   0           4\n")
+    (Ok Settled, 2, after_press, pair_by " 4   0   0   0           5\n" ++ press_by " 4   0   0   0           4\n")
     ∷ ran (carrying (minus 5) two_steps) 5 is
-    (Settled, 2, after_press, pair_by " 4   0   0   0          -5\n" ++ press_by " 4   0   0   0          -6\n")
-    ∷ ran (carrying (minus C) two_steps) 1 is (Limit, 1, after_pair, pair_by " 4   0   0   0-20000000000\n")
-    ∷ paired (carrying (pos C) two_steps) 5 is (Settled, 1, after_pair, pair_by " 4   0   0   0 20000000000\n")
-    ∷ ran (carrying (pos 5) locked) 5 is (Void, 0, own_weights locked, void_of 0 (1 ∷ 2 ∷ []))
+    (Ok Settled, 2, after_press, pair_by " 4   0   0   0          -5\n" ++ press_by " 4   0   0   0          -6\n")
+    ∷ ran (carrying (minus C) two_steps) 1 is (Ok Limit, 1, after_pair, pair_by " 4   0   0   0-20000000000\n")
+    ∷ paired (carrying (pos C) two_steps) 5 is (Ok Settled, 1, after_pair, pair_by " 4   0   0   0 20000000000\n")
+    ∷ ran (carrying (pos 5) locked) 5 is (Ok Void, 0, own_weights locked, void_of 0 (1 ∷ 2 ∷ []))
     ∷ [])
 runs = refl
 

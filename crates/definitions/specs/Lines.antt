@@ -1,7 +1,6 @@
 -- Document 01, "Lines": numbers in columns, and lines of five columns and a line feed. `line_text` is the meaning; `read_line` takes each text
 -- back, and nothing else (proofs/LineLaws). The width of the amount column is an argument. Assumes nothing.
-use Rattle.std.specs.Prelude.{Bool, true, false, not, ◌&&◌, ◌||◌, List, [], ◌∷◌, ◌++◌, ℕ, zero, suc, ◌+◌, ◌*◌, ◌-◌, ◌/◌, ◌%◌, ℤ, pos, negsuc, ltb, eqb, length, get_or, take, drop, replicate, if◌then◌else◌}
-use Rattle.std.proofs.Math.Option.{Option, none, some}
+use Rattle.std.specs.Prelude.{Bool, true, false, not, ◌&&◌, ◌||◌, List, [], ◌∷◌, ◌++◌, ℕ, zero, suc, ◌+◌, ◌*◌, ◌-◌, ◌/◌, ◌%◌, ℤ, pos, negsuc, ltb, eqb, length, get_or, take, drop, replicate, if◌then◌else◌, Option, Some, None}
 use Rattle.std.specs.Int.Signed.{le_z, lt_z}
 use Rattle.integers.specs.Words.{within, any, is_in, minus, eq_z, ◌⇒◌, ◌>>=◌}
 use Rattle.definitions.specs.declared.Line.{Line}
@@ -41,25 +40,25 @@ is_digit b = within 48 57 b
 
 -- the number whose digits are those of v and then these
 abbrev pub read_digits : ℕ → List ℕ → Option ℕ
-read_digits v [] = some v
-read_digits v (b ∷ bs) = if is_digit b then read_digits (v * 10 + (b - 48)) bs else none
+read_digits v [] = Some v
+read_digits v (b ∷ bs) = if is_digit b then read_digits (v * 10 + (b - 48)) bs else None
 
 -- digits, of which the first is not 0
 abbrev pub read_positive : List ℕ → Option ℕ
-read_positive [] = none
-read_positive (b ∷ bs) = if eqb b 48 then none else read_digits 0 (b ∷ bs)
+read_positive [] = None
+read_positive (b ∷ bs) = if eqb b 48 then None else read_digits 0 (b ∷ bs)
 
 -- 0 by itself, or a minus and then a positive number, or a positive number
 abbrev pub read_number : List ℕ → Option ℤ
-read_number [] = none
+read_number [] = None
 read_number (b ∷ bs) =
-    if eqb b 45 then (read_positive bs >>= λ v. some (minus v))
-    else if eqb b 48 then (if eqb (length bs) 0 then some (pos 0) else none)
-    else (read_positive (b ∷ bs) >>= λ v. some (pos v))
+    if eqb b 45 then (read_positive bs >>= λ v. Some (minus v))
+    else if eqb b 48 then (if eqb (length bs) 0 then Some (pos 0) else None)
+    else (read_positive (b ∷ bs) >>= λ v. Some (pos v))
 
 -- the spaces in front are passed over
 abbrev pub read_column : List ℕ → Option ℤ
-read_column [] = none
+read_column [] = None
 read_column (b ∷ bs) = if eqb b 32 then read_column bs else read_number (b ∷ bs)
 
 -- ---- lines
@@ -93,8 +92,8 @@ read_line width t =
       b ← column_at 6 4 t
       c ← column_at 10 4 t
       amount ← column_at 14 width t
-      some (record { kind = kind; a = a; b = b; c = c; amount = amount }))
-    else none
+      Some (record { kind = kind; a = a; b = b; c = c; amount = amount }))
+    else None
 
 abbrev pub line : ℕ → ℤ → ℤ → ℤ → ℤ → Line
 line kind a b c amount = record { kind = pos kind; a = a; b = b; c = c; amount = amount }
@@ -106,8 +105,8 @@ is_kind k l = eq_z l.kind (pos k)
 
 -- what was read is a line, and of kind k
 abbrev pub has_kind : ℕ → Option Line → Bool
-has_kind k none = false
-has_kind k (some l) = is_kind k l
+has_kind k None = false
+has_kind k (Some l) = is_kind k l
 
 -- unused columns hold 0
 abbrev pub zero_unless : Bool → ℤ → Bool

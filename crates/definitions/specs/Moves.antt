@@ -1,6 +1,5 @@
 -- Document 01, "Moves": each is a difference that is added to the table. Assumes nothing.
-use Rattle.std.specs.Prelude.{Bool, not, ◌&&◌, ◌||◌, List, [], ◌∷◌, ◌++◌, map, ℕ, ◌+◌, ℤ, pos, neg_ℤ, ◌+ℤ◌, eqb, get_or, drop, if◌then◌else◌}
-use Rattle.std.proofs.Math.Option.{Option, none, some}
+use Rattle.std.specs.Prelude.{Bool, not, ◌&&◌, ◌||◌, List, [], ◌∷◌, ◌++◌, map, ℕ, ◌+◌, ℤ, pos, neg_ℤ, ◌+ℤ◌, eqb, get_or, drop, if◌then◌else◌, Option, Some, None}
 use Rattle.integers.specs.Words.{below, all, is_in, joined, minus, eq_z, within_z}
 use Rattle.definitions.specs.declared.Case.{Case}
 use Rattle.definitions.specs.Rules.{Rules}
@@ -88,5 +87,5 @@ leaves_range r c w v = not (all (λ p. keeps_range r (get_or w p (pos 0)) (get_o
 
 -- the moves one after another; none where one would take a working weight outside its range
 abbrev pub after_moves : Rules → Case → List Move → List ℤ → Option (List ℤ)
-after_moves r c [] w = some w
-after_moves r c (move ∷ moves) w = if leaves_range r c w (moved c move w) then none else after_moves r c moves (moved c move w)
+after_moves r c [] w = Some w
+after_moves r c (move ∷ moves) w = if leaves_range r c w (moved c move w) then None else after_moves r c moves (moved c move w)

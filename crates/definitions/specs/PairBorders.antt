@@ -1,9 +1,9 @@
 -- Samples of pair rounds (document 02, change 1): P5 and P10's gain, pairs that are passed over, and runs with pair rounds before presses and
 -- with pair rounds only. Assumes nothing.
-use Rattle.std.specs.Prelude.{refl, true, false, [], ◌∷◌, ◌++◌, ℤ, pos}
+use Rattle.std.specs.Prelude.{refl, true, false, [], ◌∷◌, ◌++◌, ℤ, pos, Ok, Err}
 use Rattle.integers.specs.Words.{minus}
 use Rattle.definitions.specs.declared.Refusal.TheVariants.{LeavesRange}
-use Rattle.definitions.specs.declared.RunAnswer.TheVariants.{Settled, Limit, Refused}
+use Rattle.definitions.specs.declared.RunAnswer.TheVariants.{Settled, Limit}
 use Rattle.definitions.specs.Rules.{standard}
 use Rattle.definitions.specs.Moves.{shift}
 use Rattle.definitions.specs.PairRounds.{pair_gain, pair_round, passed_over}
@@ -46,66 +46,66 @@ pub pair_runs :
     let one : Input = given 2 1 1 (0 ∷ []) (1 ∷ []) (pos 5 ∷ minus 4 ∷ minus 9 ∷ []) in
     Hold
     -- a pair round, then a press; with limit 1; pairs alone
-    (ran two_steps 5 is (Settled, 2, after_press, pair_step ++ press_step) ∷ ran two_steps 1 is (Limit, 1, after_pair, pair_step)
-    ∷ paired two_steps 5 is (Settled, 1, after_pair, pair_step) ∷ paired two_steps 1 is (Settled, 1, after_pair, pair_step)
-    ∷ paired two_steps 0 is (Limit, 0, own_weights two_steps, [])
+    (ran two_steps 5 is (Ok Settled, 2, after_press, pair_step ++ press_step) ∷ ran two_steps 1 is (Ok Limit, 1, after_pair, pair_step)
+    ∷ paired two_steps 5 is (Ok Settled, 1, after_pair, pair_step) ∷ paired two_steps 1 is (Ok Settled, 1, after_pair, pair_step)
+    ∷ paired two_steps 0 is (Ok Limit, 0, own_weights two_steps, [])
     -- the lowest pair that gains, whatever the gains; values upwards at both ends
     ∷ ran three_gain 5 is (
-      Settled,
+      Ok Settled,
       2,
       zeros 6 ++ (minus 1 ∷ minus 1 ∷ minus 3 ∷ minus 1 ∷ minus 1 ∷ pos 0 ∷ minus 1 ∷ minus 1 ∷ pos 0 ∷ minus 1 ∷ pos 0 ∷ pos 0 ∷ []),
       l 1 0 0 0 1 ++ bytes_of " 1   0   1   0          -1\n" ++ l 4 0 0 0 1
           ++ l 1 1 1 0 1 ++ bytes_of " 1   1   1   1          -2\n" ++ bytes_of " 4   0   0   0          -1\n",
     )
     -- a press is left, and no pair
-    ∷ paired triangle 5 is (Settled, 0, own_weights triangle, [])
+    ∷ paired triangle 5 is (Ok Settled, 0, own_weights triangle, [])
     -- the range is asked at each shift
     ∷ ran back_again 5 is (
-      Settled,
+      Ok Settled,
       1,
       minus 1 ∷ minus 2 ∷ pos 0 ∷ pos 0 ∷ pos W ∷ pos 3 ∷ pos 3 ∷ pos 3 ∷ [],
       pressed (l 2 0 2 0 3) (1 ∷ 2 ∷ []) " 4   0   0   0   499999999\n",
     )
-    ∷ paired back_again 5 is (Settled, 0, own_weights back_again, [])
+    ∷ paired back_again 5 is (Ok Settled, 0, own_weights back_again, [])
     -- passed over, and then a higher pair
     ∷ ran higher_pair 5 is (
-      Settled,
+      Ok Settled,
       1,
       zeros 6 ++ (pos 1 ∷ pos 0 ∷ minus W ∷ pos 0 ∷ minus 1 ∷ zeros 3),
       bytes_of " 1   1   0   0           1\n" ++ bytes_of " 4   0   0   0           1\n",
     )
     -- passed over, and then a press; in range again
     ∷ ran comes_back 5 is (
-      Settled,
+      Ok Settled,
       2,
       zeros 4 ++ (minus 1 ∷ minus 1 ∷ minus W ∷ minus W ∷ []),
       pressed (l 2 0 1 0 1) (2 ∷ []) " 4   0   0   0           0\n" ++ l 1 0 0 1 W ++ bytes_of " 4   0   0   0          -1\n",
     )
     ∷ ran comes_back 1 is (
-      Limit,
+      Ok Limit,
       1,
       pos 0 ∷ minus W ∷ pos 0 ∷ pos 0 ∷ minus 1 ∷ minus 1 ∷ pos 0 ∷ pos 0 ∷ [],
       pressed (l 2 0 1 0 1) (2 ∷ []) " 4   0   0   0           0\n",
     )
-    ∷ paired comes_back 5 is (Settled, 0, own_weights comes_back, [])
+    ∷ paired comes_back 5 is (Ok Settled, 0, own_weights comes_back, [])
     -- passed over, a press, and then a press that leaves the range
-    ∷ ran last_round 5 is (Refused LeavesRange, 1, after_last, by_one) ∷ paired last_round 5 is (Settled, 0, own_weights last_round, [])
+    ∷ ran last_round 5 is (Err LeavesRange, 1, after_last, by_one) ∷ paired last_round 5 is (Ok Settled, 0, own_weights last_round, [])
     -- exactly at the range's border is inside
     ∷ ran (clash_from (pos W)) 5 is (
-      Settled,
+      Ok Settled,
       1,
       zeros 4 ++ (pos 499_999_999 ∷ pos W ∷ pos 2 ∷ pos 0 ∷ []),
       bytes_of " 1   0   0   0  -500000000\n" ++ bytes_of " 1   0   1   0          -2\n" ++ l 4 0 0 0 W,
     )
     -- a weight below 0 is shifted upwards; weights of 0 are left out
     ∷ ran mixed 5 is (
-      Settled,
+      Ok Settled,
       1,
       zeros 6 ++ (pos 5 ∷ pos 0 ∷ pos 0 ∷ pos 6 ∷ pos 4 ∷ pos 4 ∷ pos 4 ∷ minus 1 ∷ minus 1 ∷ []),
       bytes_of " 1   0   0   1          -4\n" ++ l 1 0 0 2 1 ++ bytes_of " 1   0   1   0          -5\n" ++ l 4 0 0 0 6,
     )
     -- nothing gains
-    ∷ ran one 5 is (Settled, 0, own_weights one, []) ∷ ran example2 5 is (Settled, 0, own_weights example2, []) ∷ paired single 5 is (Settled, 0, own_weights single, [])
+    ∷ ran one 5 is (Ok Settled, 0, own_weights one, []) ∷ ran example2 5 is (Ok Settled, 0, own_weights example2, []) ∷ paired single 5 is (Ok Settled, 0, own_weights single, [])
     ∷ [])
 pair_runs = refl
 

@@ -1,6 +1,5 @@
 -- Document 02, change 1: pair rounds; change 2: they read and shift unbarred weights only. Assumes nothing.
-use Rattle.std.specs.Prelude.{Bool, false, not, ◌&&◌, ◌||◌, List, [], ◌∷◌, ◌++◌, map, ℕ, ◌+◌, ◌<◌, ℤ, pos, neg_ℤ, ◌+ℤ◌, ◌-ℤ◌, T, ◌<ℤ◌, if◌then◌else◌}
-use Rattle.std.proofs.Math.Option.{Option, none, some}
+use Rattle.std.specs.Prelude.{Bool, false, not, ◌&&◌, ◌||◌, List, [], ◌∷◌, ◌++◌, map, ℕ, ◌+◌, ◌<◌, ℤ, pos, neg_ℤ, ◌+ℤ◌, ◌-ℤ◌, T, ◌<ℤ◌, if◌then◌else◌, Option, Some, None}
 use Rattle.std.specs.Int.Signed.{lt_z}
 use Rattle.integers.specs.Words.{below, any, those, first, joined, eq_z, greatest_of}
 use Rattle.definitions.specs.declared.Case.{Case}
@@ -52,8 +51,8 @@ pair_round c w e = end_shifts c w e 0 ++ end_shifts c w e 1
 
 -- the table after the round is there, and has a lower upper bound
 abbrev pub lowers_bound : Case → List ℤ → Option (List ℤ) → Bool
-lowers_bound c w none = false
-lowers_bound c w (some v) = lt_z (upper_bound c v) (upper_bound c w)
+lowers_bound c w None = false
+lowers_bound c w (Some v) = lt_z (upper_bound c v) (upper_bound c w)
 
 -- the pair is passed over if it has no choice, or if its round would leave the working range at any shift or would not lower the upper bound
 abbrev pub passed_over : Rules → Case → List ℤ → ℕ → Bool

@@ -1,6 +1,5 @@
 -- Document 01, "Turned back, in checking order". Assumes nothing.
-use Rattle.std.specs.Prelude.{Bool, List, [], ◌∷◌, ℕ, ltb, if◌then◌else◌}
-use Rattle.std.proofs.Math.Option.{Option, none, some}
+use Rattle.std.specs.Prelude.{Bool, List, [], ◌∷◌, ℕ, ltb, if◌then◌else◌, Option, Some, None}
 use Rattle.definitions.specs.declared.Refusal.{Refusal}
 use Rattle.definitions.specs.declared.Refusal.TheVariants.{
   NotInColumns,
@@ -42,8 +41,8 @@ number NotAllBarred = 16
 
 -- 0 where no number applies
 abbrev pub number_of : Option Refusal → ℕ
-number_of none = 0
-number_of (some x) = number x
+number_of None = 0
+number_of (Some x) = number x
 
 -- a refusal, and whether it applies
 pub record Test : Type 0 where
@@ -56,8 +55,8 @@ x when b = record { refusal = x; applies = b }
 
 -- refusals are asked in the order in which they stand, and the first that applies is the answer
 abbrev pub first_refusal : List Test → Option Refusal
-first_refusal [] = none
-first_refusal (t ∷ ts) = if t.applies then some t.refusal else first_refusal ts
+first_refusal [] = None
+first_refusal (t ∷ ts) = if t.applies then Some t.refusal else first_refusal ts
 
 -- its turn in the checking order
 abbrev pub turn : Refusal → ℕ
@@ -80,6 +79,6 @@ turn CutShort = 16
 
 -- of two lists of tests, each in the checking order, the number that is asked first
 abbrev pub sooner : Option Refusal → Option Refusal → Option Refusal
-sooner none y = y
-sooner (some x) none = some x
-sooner (some x) (some y) = if ltb (turn y) (turn x) then some y else some x
+sooner None y = y
+sooner (Some x) None = Some x
+sooner (Some x) (Some y) = if ltb (turn y) (turn x) then Some y else Some x

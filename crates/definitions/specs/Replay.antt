@@ -1,6 +1,5 @@
 -- Document 01, "The plain replay", with void lines (document 02, change 2). Assumes nothing.
-use Rattle.std.specs.Prelude.{Bool, true, false, not, ◌&&◌, ◌||◌, List, [], ◌∷◌, ◌++◌, ℕ, ◌+◌, ◌-◌, ℤ, pos, nat_abs, leb, ltb, eqb, if◌then◌else◌}
-use Rattle.std.proofs.Math.Option.{Option, none, some}
+use Rattle.std.specs.Prelude.{Bool, true, false, not, ◌&&◌, ◌||◌, List, [], ◌∷◌, ◌++◌, ℕ, ◌+◌, ◌-◌, ℤ, pos, nat_abs, leb, ltb, eqb, if◌then◌else◌, Option, Some, None}
 use Rattle.std.specs.Int.Signed.{lt_z}
 use Rattle.integers.specs.Words.{all, any, last, is_in, within_z, eq_z, is_some, ◌⇒◌}
 use Rattle.definitions.specs.declared.Case.{Case}
@@ -59,10 +58,10 @@ fresh c w = record {
   weights = w;
   rounds = 0;
   start = upper_bound c w;
-  held = none;
+  held = None;
   moving = false;
   void = false;
-  refusal = none;
+  refusal = None;
 }
 
 -- the state after a move is made, a press or a void line is held, a bound line is taken, a void line is whole, a line is refused
@@ -73,10 +72,10 @@ after_move s move = record {
   weights = moved s.case move s.weights;
   rounds = s.rounds;
   start = s.start;
-  held = none;
+  held = None;
   moving = true;
   void = s.void;
-  refusal = none;
+  refusal = None;
 }
 
 abbrev pub holding : State → Held → State
@@ -86,10 +85,10 @@ holding s h = record {
   weights = s.weights;
   rounds = s.rounds;
   start = s.start;
-  held = some h;
+  held = Some h;
   moving = s.moving;
   void = s.void;
-  refusal = none;
+  refusal = None;
 }
 
 abbrev pub after_bound : State → ℤ → State
@@ -99,10 +98,10 @@ after_bound s bound = record {
   weights = s.weights;
   rounds = s.rounds + 1;
   start = bound;
-  held = none;
+  held = None;
   moving = false;
   void = s.void;
-  refusal = none;
+  refusal = None;
 }
 
 -- weights and rounds stay
@@ -113,10 +112,10 @@ after_void s = record {
   weights = s.weights;
   rounds = s.rounds;
   start = s.start;
-  held = none;
+  held = None;
   moving = s.moving;
   void = true;
-  refusal = none;
+  refusal = None;
 }
 
 abbrev pub refused : State → Refusal → State
@@ -129,14 +128,14 @@ refused s x = record {
   held = s.held;
   moving = s.moving;
   void = s.void;
-  refusal = some x;
+  refusal = Some x;
 }
 
 -- with a press or a void line held only kind 3 is due, otherwise kinds 1, 2, 4 and 5; after a whole void line nothing is due any more
 abbrev pub kinds_due : Bool → Option Held → List ℕ
 kinds_due true held = []
-kinds_due false none = 1 ∷ 2 ∷ 4 ∷ 5 ∷ []
-kinds_due false (some h) = 3 ∷ []
+kinds_due false None = 1 ∷ 2 ∷ 4 ∷ 5 ∷ []
+kinds_due false (Some h) = 3 ∷ []
 
 -- ---- kind 1: the shift is made
 
@@ -187,8 +186,8 @@ all_barred c w i refuted_ones R =
 
 -- not above the previous raise line
 abbrev pub not_above : Option ℕ → ℕ → Bool
-not_above none x = false
-not_above (some y) x = leb x y
+not_above None x = false
+not_above (Some y) x = leb x y
 
 -- with the last raise line: 11 of a press, 16 of a void line
 abbrev pub target_tests : Rules → State → Held → Target → List Test
@@ -218,31 +217,31 @@ completed s h (pressing a) = after_move s (press_of s h a)
 completed s h voiding = after_void s
 
 abbrev pub taken : State → Option Held → Option Line → State
-taken s held none = s
-taken s (some h) (some t) = if is_last h then completed s (raising h t) h.target else holding s (raising h t)
-taken s none (some t) =
+taken s held None = s
+taken s (Some h) (Some t) = if is_last h then completed s (raising h t) h.target else holding s (raising h t)
+taken s None (Some t) =
     if is_kind 1 t then after_move s (shift_of t)
     else if is_kind 2 t then holding s (held_of (pressing t.amount) t)
     else if is_kind 4 t then after_bound s t.amount
     else holding s (held_of voiding t)
 
 abbrev pub answered : State → Option Line → Option Refusal → State
-answered s t none = taken s s.held t
-answered s t (some x) = refused s x
+answered s t None = taken s s.held t
+answered s t (Some x) = refused s x
 
 module _ (r : Rules) where
   -- ---- one line, any bytes
   abbrev pub tests_of_kind : State → Option Held → Line → List Test
-  tests_of_kind s (some h) t = raise_tests r s h t
-  tests_of_kind s none t =
+  tests_of_kind s (Some h) t = raise_tests r s h t
+  tests_of_kind s None t =
       if is_kind 1 t then shift_tests r s t
       else if is_kind 2 t then press_tests r s t
       else if is_kind 4 t then bound_tests r s t
       else void_tests s t
 
   abbrev pub line_tests : State → Option Line → List Test
-  line_tests s none = NotInColumns when true ∷ []
-  line_tests s (some t) = NotDue when (not_due r (kinds_due s.void s.held) t) ∷ tests_of_kind s s.held t
+  line_tests s None = NotInColumns when true ∷ []
+  line_tests s (Some t) = NotDue when (not_due r (kinds_due s.void s.held) t) ∷ tests_of_kind s s.held t
 
   abbrev pub step_unrefused : State → Option Line → State
   step_unrefused s t = answered s t (first_refusal (line_tests s t))
@@ -265,8 +264,8 @@ module _ (r : Rules) where
 abbrev pub at_end : State → Option Refusal
 at_end s =
     if is_some s.refusal then s.refusal
-    else if not s.void && (is_some s.held || s.moving) then some CutShort
-    else none
+    else if not s.void && (is_some s.held || s.moving) then Some CutShort
+    else None
 
 -- a list with no number keeps the line rules
 abbrev pub keeps_rules : Rules → Case → List ℤ → List (List ℕ) → Bool

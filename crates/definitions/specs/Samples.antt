@@ -1,6 +1,7 @@
 -- Document 01, "Sample cases": P1 to P12 as one table of questions with the answers that the document gives, and one theorem over it.
 -- Assumes nothing.
-use Rattle.std.specs.Prelude.{◌≡◌, refl, Bool, true, ◌&&◌, List, [], ◌∷◌, ◌++◌, map, ℕ, ◌-◌, ℤ, pos, T, eqb, length, take, replicate, if◌then◌else◌}
+use Rattle.definitions.specs.declared.Refusal.{Refusal}
+use Rattle.std.specs.Prelude.{◌≡◌, refl, Bool, true, ◌&&◌, List, [], ◌∷◌, ◌++◌, map, ℕ, ◌-◌, ℤ, pos, T, eqb, length, take, replicate, if◌then◌else◌, Result, Ok}
 use Prim.Native.String.{String}
 use Rattle.integers.specs.Words.{all, joined, minus}
 use Rattle.definitions.specs.declared.Rulebook.TheVariants.{Desk}
@@ -84,14 +85,14 @@ pub data Question : Type 0 where
   press-on : List String → Question
   replay-on : List String → Question
 
-pub data Result : Type 0 where
-  bound : ℤ → Result
+pub data Reply : Type 0 where
+  bound : ℤ → Reply
   -- a run's answer, rounds, upper bound, final weights and log
-  ran : RunAnswer → ℕ → ℤ → List ℤ → List (List ℕ) → Result
+  ran : Result RunAnswer Refusal → ℕ → ℤ → List ℤ → List (List ℕ) → Reply
   -- each line's number, the end's, rounds, upper bound and final weights
-  replayed : List ℕ → ℕ → ℕ → ℤ → List ℤ → Result
-  yes-no : Bool → Result
-  prints : List ℕ → Result
+  replayed : List ℕ → ℕ → ℕ → ℤ → List ℤ → Reply
+  yes-no : Bool → Reply
+  prints : List ℕ → Reply
 
 abbrev pub texts : List String → List (List ℕ)
 texts ts = map bytes_of ts
@@ -99,16 +100,16 @@ texts ts = map bytes_of ts
 abbrev run_on : Input → ℕ → RunOf
 run_on i limit = run standard engine_next i.case limit i.weights
 
-abbrev ran_to : Input → RunOf → Result
+abbrev ran_to : Input → RunOf → Reply
 ran_to i q = ran q.answer q.rounds (upper_bound i.case q.weights) (own i.case q.weights) q.log
 
-abbrev replayed_to : Input → List ℕ → State → Result
+abbrev replayed_to : Input → List ℕ → State → Reply
 replayed_to i numbers s = replayed numbers (number_of (at_end s)) s.rounds (upper_bound i.case s.weights) (own i.case s.weights)
 
 abbrev all_active : Case → List ℤ → Bool
 all_active c w = all (λ x. all (λ b. b) (each_tuple c x (active c w x))) (scopes c)
 
-abbrev pub answer : Question → Result
+abbrev pub answer : Question → Reply
 answer (bound_of i) = bound (upper_bound i.case i.weights)
 answer (run-of i limit) = ran_to i (run_on i limit)
 answer (replay-of i ts) =
@@ -120,10 +121,10 @@ answer (replay-on ts) = prints (replay_prints Desk (joined (texts ts)))
 
 pub record Sample : Type 0 where
   pub ask : Question
-  pub gives : Result
+  pub gives : Reply
 
 infix 70 ◌gives◌
-abbrev ◌gives◌ : Question → Result → Sample
+abbrev ◌gives◌ : Question → Reply → Sample
 q gives a = record { ask = q; gives = a }
 
 -- ---- texts
@@ -219,7 +220,7 @@ samples =
     -- P1: ceiling 0; `press` prints exactly these lines; it is the run's log, which ends settled, with all active
     bound_of triangle gives bound (pos 0)
     ∷ press-on case_file gives prints (joined (texts log1))
-    ∷ run-of triangle 100_000 gives ran RunAnswer.Settled 1 (minus 1) (minus 1 ∷ minus 1 ∷ zeros 16) (texts log1)
+    ∷ run-of triangle 100_000 gives ran (Ok RunAnswer.Settled) 1 (minus 1) (minus 1 ∷ minus 1 ∷ zeros 16) (texts log1)
     ∷ all-active triangle 1 gives yes-no true
     -- P2: `replay` on the case and its log
     ∷ replay-of triangle log1 gives replayed (0 ∷ none4) 0 1 (minus 1) (minus 1 ∷ minus 1 ∷ zeros 16)
@@ -229,7 +230,7 @@ samples =
     ∷ replay-on (case_file ++ log3) gives prints (bytes_of "refused 10 24\n")
     -- P4, P5: ceiling 4; "the engine now makes one pair round of two shifts by −2, again to ceiling 2", settled
     ∷ bound_of clash gives bound (pos 4)
-    ∷ run-of clash 100_000 gives ran RunAnswer.Settled 1 (pos 2) (zeros 4 ++ (pos 1 ∷ pos 2 ∷ pos 2 ∷ pos 0 ∷ [])) (texts log5)
+    ∷ run-of clash 100_000 gives ran (Ok RunAnswer.Settled) 1 (pos 2) (zeros 4 ++ (pos 1 ∷ pos 2 ∷ pos 2 ∷ pos 0 ∷ [])) (texts log5)
     ∷ replay-of clash log5 gives replayed (0 ∷ 0 ∷ 0 ∷ []) 0 1 (pos 2) (zeros 4 ++ (pos 1 ∷ pos 2 ∷ pos 2 ∷ pos 0 ∷ []))
     ∷ replay-of clash by_two gives replayed none4 0 1 (pos 2) (pos 0 ∷ pos 0 ∷ pos 2 ∷ pos 2 ∷ minus 1 ∷ zeros 3)
     -- P6, P7, P8 "remain presses": by 1: ceiling 3; by 3: 3; by 4: 5, so number 13 at a bound line stating 5
@@ -240,12 +241,12 @@ samples =
     ∷ replay-of clash log9 gives replayed (0 ∷ 13 ∷ []) 13 0 (pos 4) (pos 0 ∷ pos 0 ∷ pos 2 ∷ pos 0 ∷ minus 1 ∷ pos 2 ∷ zeros 2)
     -- P10: ceiling 11, settled
     ∷ bound_of example2 gives bound (pos 11)
-    ∷ run-of example2 100_000 gives ran RunAnswer.Settled 0 (pos 11) (own_weights example2) []
+    ∷ run-of example2 100_000 gives ran (Ok RunAnswer.Settled) 0 (pos 11) (own_weights example2) []
     -- P11, P12: ceiling −7, settled; limit 0 here answers settled; on P1, limit
     ∷ bound_of single gives bound (minus 7)
-    ∷ run-of single 100_000 gives ran RunAnswer.Settled 0 (minus 7) (own_weights single) []
-    ∷ run-of single 0 gives ran RunAnswer.Settled 0 (minus 7) (own_weights single) []
-    ∷ run-of triangle 0 gives ran RunAnswer.Limit 0 (pos 0) (own_weights triangle) []
+    ∷ run-of single 100_000 gives ran (Ok RunAnswer.Settled) 0 (minus 7) (own_weights single) []
+    ∷ run-of single 0 gives ran (Ok RunAnswer.Settled) 0 (minus 7) (own_weights single) []
+    ∷ run-of triangle 0 gives ran (Ok RunAnswer.Limit) 0 (pos 0) (own_weights triangle) []
     ∷ []
 
 -- each question has the answer that the table gives

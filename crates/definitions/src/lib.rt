@@ -56,26 +56,11 @@ pub enum Refusal {
     NotAllBarred,
 }
 
-// The answer of a call that does something.
+// A refusal in a file or a log, and the line that it names.
 #[derive(Clone, Copy)]
-pub enum Outcome {
-    Done,
-    Refused(Refusal),
-}
-
-// The answer of a call that asks for a number.
-#[derive(Clone, Copy)]
-pub enum Figure {
-    Value(i64),
-    Refused(Refusal),
-}
-
-// The answer of a call that asks a question.
-#[derive(Clone, Copy)]
-pub enum Verdict {
-    Yes,
-    No,
-    Refused(Refusal),
+pub struct RefusedAt {
+    pub refusal: Refusal,
+    pub line: usize,
 }
 
 // The five numbers of a line.
@@ -88,81 +73,55 @@ pub struct Line {
     pub amount: i64,
 }
 
-#[derive(Clone, Copy)]
-pub enum LineRead {
-    Read(Line),
-    Refused(Refusal),
-}
-
 // What the head of a case file says, with the length of the table to lend.
 #[derive(Clone, Copy)]
-pub enum CaseSize {
-    Size {
-        n: usize,
-        d: usize,
-        m: usize,
-        table: usize,
-    },
-    Refused(Refusal),
+pub struct CaseSize {
+    pub n: usize,
+    pub d: usize,
+    pub m: usize,
+    pub table: usize,
 }
 
-// How a file was read: the lines used, or the refusal and its line.
-#[derive(Clone, Copy)]
-pub enum FileAnswer {
-    Read { lines: usize },
-    Refused { refusal: Refusal, line: usize },
-}
-
-// A case that was read; all zero where it was refused.
+// A case that was read, and the lines used; all zero where it was refused.
 #[derive(Clone, Copy)]
 pub struct CaseRead {
-    pub answer: FileAnswer,
+    pub answer: Result<usize, RefusedAt>,
     pub case: Case,
 }
 
-// The judgement of a case and a log: the rounds and the last upper bound, or void (no lawful plan exists), or the refusal and its line in the
-// whole input.
+// The judgement of a case and a log that are not refused: the rounds and the last upper bound, or void (no lawful plan exists).
 #[derive(Clone, Copy)]
 pub enum Judgement {
     Accepted { rounds: u64, bound: i64 },
     Void,
-    Refused { refusal: Refusal, line: usize },
-}
-
-// The answer of a call that writes bytes.
-#[derive(Clone, Copy)]
-pub enum Written {
-    Bytes(usize),
-    Refused(Refusal),
 }
 
 // Where the lines of a round lie in a log.
 #[derive(Clone, Copy)]
-pub enum Span {
-    Part { from: usize, to: usize },
-    Refused { refusal: Refusal, line: usize },
+pub struct Span {
+    pub from: usize,
+    pub to: usize,
 }
 
-// The answer of one round of the engine: the bytes written and the bound, if one was made; the bytes of a void line.
+// One round of the engine: the bytes written and the bound, if one was made; the bytes of a void line.
 #[derive(Clone, Copy)]
 pub enum Round {
     Settled,
     Made { bytes: usize, bound: i64 },
     Void { bytes: usize },
-    Refused(Refusal),
 }
 
+// How a run of the engine ended.
 #[derive(Clone, Copy)]
 pub enum RunAnswer {
     Settled,
     Limit,
     Void,
-    Refused(Refusal),
 }
 
 #[derive(Clone, Copy)]
 pub struct Run {
-    pub answer: RunAnswer,
+    pub answer: Result<RunAnswer, Refusal>,
     pub rounds: u64,
     pub bound: i64,
 }
@@ -172,5 +131,4 @@ pub struct Run {
 pub enum Choice {
     First,
     Second,
-    Refused(Refusal),
 }

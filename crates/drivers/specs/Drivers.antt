@@ -1,14 +1,13 @@
 -- Lines and numbers of a driver's vectors, and the checksum that it prints. Assumes nothing.
-use Rattle.std.specs.Prelude.{List, [], ◌∷◌, ℕ, ◌+◌, ◌*◌, ◌%◌, ℤ, pos, negsuc}
+use Rattle.definitions.specs.declared.Refusal.{Refusal}
+use Rattle.std.specs.Prelude.{List, [], ◌∷◌, ℕ, ◌+◌, ◌*◌, ◌%◌, ℤ, pos, negsuc, Result, Ok, Err}
 use Rattle.definitions.specs.declared.Line.{Line}
-use Rattle.definitions.specs.declared.LineRead.{LineRead}
-use Rattle.definitions.specs.declared.LineRead.TheVariants.{Read, Refused}
 use Rattle.definitions.specs.Lines.{line}
 
 -- a title stands for a line of zeros
-abbrev pub line_told : LineRead → Line
-line_told (Read l) = l
-line_told (Refused x) = line 0 (pos 0) (pos 0) (pos 0) (pos 0)
+abbrev pub line_told : Result Line Refusal → Line
+line_told (Ok l) = l
+line_told (Err x) = line 0 (pos 0) (pos 0) (pos 0) (pos 0)
 
 -- a number that is meant as a count; a negative one stands for `other`
 abbrev pub count_or : ℕ → ℤ → ℕ

@@ -11,7 +11,7 @@ ghost use Rattle.definitions.specs.CaseFiles.{case_of, with_ends};
 ghost use Rattle.drivers.specs.Drivers.{line_told, count_or, digest_from};
 ghost use Rattle.drivers.specs.Taken.{places_after, headed_by, joined_by, nothing_held, taken_call, lent_places, lent_for, not_zero};
 
-use definitions::{Case, EDGE_PLACES, Line, LineRead, Refusal, Rulebook, Written};
+use definitions::{Case, EDGE_PLACES, Line, Refusal, Rulebook};
 
 // A case that is taken line by line, and how many weights of its table are told.
 #[derive(Clone, Copy)]
@@ -29,12 +29,12 @@ fn print_first(text: &[u8], n: usize) {
 // ---- a line of a case
 
 // Zeros where there is none.
-fn told_line(read: LineRead) -> Line
+fn told_line(read: Result<Line, Refusal>) -> Line
     ensures { result ≡ line_told read }
 {
     match read {
-        LineRead::Read(line) => line,
-        LineRead::Refused(_) => Line {
+        Ok(line) => line,
+        Err(_) => Line {
             kind: 0,
             a: 0,
             b: 0,
@@ -162,7 +162,7 @@ pub fn line_of(text: &[u8]) -> Line
     ensures { result ≡ line_told (read_line_answer (rules_in Desk) text.now) }
 {
     let read = lines::read_line(text);
-    if let LineRead::Refused(_) = read {
+    if let Err(_) = read {
         io::write_all(1, text);
     }
     told_line(read)
@@ -280,7 +280,7 @@ pub fn print_alone(z: i64) -> i64
 {
     let mut text = [0u8; 20];
     let written = lines::write_number(&mut text, z);
-    if let Written::Bytes(n) = written {
+    if let Ok(n) = written {
         print_first(&text, n);
     }
     z

@@ -1,4 +1,6 @@
 -- What was written is read back, for every case and every record that the types can hold. Assumes nothing.
+use Rattle.std.specs.Prelude.{Result, Ok, Err, Option, Some, None, ⊤}
+use Rattle.definitions.specs.declared.Refusal.{Refusal}
 use mathlib.Core.Path.{◌≡◌, refl, ap, ◌∙◌}
 use mathlib.Core.Bool.{Bool, true, false}
 use mathlib.Core.List.{List, ◌++◌, append_assoc}
@@ -14,10 +16,8 @@ use Rattle.definitions.specs.declared.Rulebook.TheVariants.{Desk}
 use Rattle.definitions.specs.Rules.{edge_places, scope_places}
 use Rattle.definitions.specs.declared.Case.{Case}
 use Rattle.definitions.proofs.AnswerLaws.{numbered, same-said}
-use Rattle.checker.specs.declared.LastRaised.{LastRaised}
 use Rattle.checker.specs.declared.Target.{Target}
 use Rattle.checker.specs.declared.Due.{Due}
-use Rattle.checker.specs.declared.Standing.{Standing}
 use Rattle.checker.specs.declared.Replay.{Replay}
 use Rattle.checker.specs.Checker.{standing_says, standing_of}
 use Rattle.encoding.specs.declared.Begun.{Begun}
@@ -91,27 +91,27 @@ module _ (c : Case) (h : CaseHeld c) where
 
 due-back : (due : Due) → due_recorded (begun_recorded due) ≡ due
 due-back Due.MoveOrBound = refl
-due-back (Due.Raise i (Target.Press a) left LastRaised.Nothing) = refl
-due-back (Due.Raise i (Target.Press a) left (LastRaised.Scope x)) = refl
-due-back (Due.Raise i Target.Void left LastRaised.Nothing) = refl
-due-back (Due.Raise i Target.Void left (LastRaised.Scope x)) = refl
+due-back (Due.Raise i (Target.Press a) left None) = refl
+due-back (Due.Raise i (Target.Press a) left (Some x)) = refl
+due-back (Due.Raise i Target.Void left None) = refl
+due-back (Due.Raise i Target.Void left (Some x)) = refl
 due-back Due.Nothing = refl
 
 flag-back : (b : Bool) → eqb (flag b) 1 ≡ b
 flag-back true = refl
 flag-back false = refl
 
-standing-back : (s : Standing) → standing_at (standing_says s).number ≡ s
-standing-back Standing.Good = refl
-standing-back (Standing.Refused x) = ap standing_of (numbered x).back
+standing-back : (s : Result ⊤ Refusal) → standing_at (standing_says s).number ≡ s
+standing-back (Ok tt) = refl
+standing-back (Err x) = ap standing_of (numbered x).back
 
 flag-most : (b : Bool) → leb (flag b) 1 ≡ true
 flag-most true = refl
 flag-most false = refl
 
-last-most : (x : LastRaised) → leb (last_recorded x).known 1 ≡ true
-last-most LastRaised.Nothing = refl
-last-most (LastRaised.Scope x) = refl
+last-most : (x : Option ℕ) → leb (last_recorded x).known 1 ≡ true
+last-most None = refl
+last-most (Some x) = refl
 
 kind-most : (due : Due) → leb (begun_recorded due).kind 3 ≡ true
 kind-most Due.MoveOrBound = refl
@@ -124,12 +124,12 @@ known-most Due.MoveOrBound = refl
 known-most (Due.Raise i target left last_one) = last-most last_one
 known-most Due.Nothing = refl
 
-standing-most : (s : Standing) → leb (standing_says s).number 16 ≡ true
-standing-most Standing.Good = refl
-standing-most (Standing.Refused x) = (numbered x).most
+standing-most : (s : Result ⊤ Refusal) → leb (standing_says s).number 16 ≡ true
+standing-most (Ok tt) = refl
+standing-most (Err x) = (numbered x).most
 
 -- standings that say the same are equal, as answers are (definitions' AnswerLaws)
-pub standing-same : (a b : Standing) → standing_says a ≡ standing_says b → a ≡ b
+pub standing-same : (a b : Result ⊤ Refusal) → standing_says a ≡ standing_says b → a ≡ b
 standing-same = same-said standing_says (λ s. standing_at s.number) standing-back
 
 -- ---- the record
@@ -158,7 +158,7 @@ same-begun :
 same-begun q e f g i j k = rw (e, f, g, i, j, k)
 
 same-record :
-    (p : Replay) {n : ℕ} {z : ℤ} {b : Bool} {l : List ℕ} {d : Due} {s : Standing}
+    (p : Replay) {n : ℕ} {z : ℤ} {b : Bool} {l : List ℕ} {d : Due} {s : Result ⊤ Refusal}
     → n ≡ p.rounds
     → z ≡ p.start
     → b ≡ p.moved

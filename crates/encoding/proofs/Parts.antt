@@ -1,4 +1,6 @@
 -- Parts that are put one after the other until the output is full. Assumes nothing.
+use Rattle.std.specs.Prelude.{Result, ⊤}
+use Rattle.definitions.specs.declared.Refusal.{Refusal}
 use mathlib.Core.Path.{◌≡◌, refl, sym, ◌∙◌}
 use mathlib.Core.Bool.{Bool}
 use mathlib.Core.List.{List, ◌++◌, append-nil}
@@ -8,7 +10,6 @@ use lib.IntN.{ℤ}
 use lib.ListN.{length, drop_of_length-le}
 use Rattle.texts.specs.Texts.{placed_at}
 use Rattle.texts.proofs.Placed.{placed_first, Printed, printed-next}
-use Rattle.checker.specs.declared.Standing.{Standing}
 use Rattle.encoding.specs.declared.Begun.{Begun}
 use Rattle.encoding.specs.Numbers.{number_bytes}
 use Rattle.encoding.specs.RecordBytes.{record_numbers, record_tags}
@@ -34,6 +35,6 @@ pub numbers-length : (rounds : ℕ) (start : ℤ) (q : Begun) → length (record
 unfolding record_numbers number_bytes
 numbers-length rounds start q = refl
 
-pub tags-length : (moved : Bool) (q : Begun) (standing : Standing) → length (record_tags moved q standing) ≡ 4
+pub tags-length : (moved : Bool) (q : Begun) (standing : Result ⊤ Refusal) → length (record_tags moved q standing) ≡ 4
 unfolding record_tags
 tags-length moved q standing = refl

@@ -1,13 +1,12 @@
 -- The replay's record as bytes: its count of rounds, its bound at the round's start, the variable, amount, lines left and last scope of a press or a
 -- void line begun (0 where there is none; a void line has no amount), then a byte each for: moved, what is due, a last scope, the standing; then the
 -- marks of raised scopes, a byte for each place. Assumes nothing.
-use Rattle.std.specs.Prelude.{Bool, ◌&&◌, List, [], ◌∷◌, ◌++◌, ℕ, ℤ, pos, leb, eqb, get_or, take, drop, if◌then◌else◌}
+use Rattle.definitions.specs.declared.Refusal.{Refusal}
+use Rattle.std.specs.Prelude.{Bool, ◌&&◌, List, [], ◌∷◌, ◌++◌, ℕ, ℤ, pos, leb, eqb, get_or, take, drop, if◌then◌else◌, Result, Option, Some, None, ⊤}
 use Rattle.definitions.specs.Rules.{scope_places}
 use Rattle.definitions.specs.Answers.{refusal_of}
-use Rattle.checker.specs.declared.LastRaised.{LastRaised}
 use Rattle.checker.specs.declared.Target.{Target}
 use Rattle.checker.specs.declared.Due.{Due}
-use Rattle.checker.specs.declared.Standing.{Standing}
 use Rattle.checker.specs.declared.Replay.{Replay}
 use Rattle.checker.specs.Checker.{standing_says, standing_of}
 use Rattle.encoding.specs.declared.Last.{Last}
@@ -17,12 +16,12 @@ use Rattle.encoding.specs.Numbers.{number_bytes, number_at, word_of, signed_of}
 -- ---- what is due and what stands, as numbers
 
 -- 1 and the scope, or 0
-abbrev pub last_recorded : LastRaised → Last
-last_recorded LastRaised.Nothing = record { known = 0; scope = 0 }
-last_recorded (LastRaised.Scope x) = record { known = 1; scope = x }
+abbrev pub last_recorded : Option ℕ → Last
+last_recorded None = record { known = 0; scope = 0 }
+last_recorded (Some x) = record { known = 1; scope = x }
 
-abbrev pub raised_of : Last → LastRaised
-raised_of q = if eqb q.known 1 then LastRaised.Scope q.scope else LastRaised.Nothing
+abbrev pub raised_of : Last → Option ℕ
+raised_of q = if eqb q.known 1 then Some q.scope else None
 
 abbrev pub target_kind : Target → ℕ
 target_kind (Target.Press a) = 1
@@ -33,7 +32,7 @@ target_amount (Target.Press a) = a
 target_amount Target.Void = pos 0
 
 abbrev pub none_begun : ℕ → Begun
-none_begun kind = record { kind = kind; variable = 0; amount = pos 0; left = 0; last = last_recorded LastRaised.Nothing }
+none_begun kind = record { kind = kind; variable = 0; amount = pos 0; left = 0; last = last_recorded None }
 
 -- what is due by its kind: 0 a move, a bound or a void line, 1 a raise line of a press, 2 one of a void line, 3 nothing
 abbrev pub begun_recorded : Due → Begun
@@ -53,7 +52,7 @@ due_recorded q =
     else Due.MoveOrBound
 
 -- what stands by the number that it says, 0 where it is good
-abbrev pub standing_at : ℕ → Standing
+abbrev pub standing_at : ℕ → Result ⊤ Refusal
 standing_at n = standing_of (refusal_of n)
 
 abbrev pub flag : Bool → ℕ
@@ -66,7 +65,7 @@ record_numbers rounds start q =
     number_bytes rounds ++ number_bytes (word_of start) ++ number_bytes q.variable ++ number_bytes (word_of q.amount) ++ number_bytes q.left
     ++ number_bytes q.last.scope
 
-unfoldable pub record_tags : Bool → Begun → Standing → List ℕ
+unfoldable pub record_tags : Bool → Begun → Result ⊤ Refusal → List ℕ
 record_tags moved q standing = flag moved ∷ q.kind ∷ q.last.known ∷ (standing_says standing).number ∷ []
 
 unfoldable pub record_bytes : Replay → List ℕ

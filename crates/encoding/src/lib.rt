@@ -14,7 +14,7 @@ ghost use Rattle.encoding.specs.RecordBytes.{last_recorded, raised_of, target_ki
 ghost use Rattle.encoding.specs.RecordBytes.{raise_recorded, due_recorded, standing_at, begun_at, record_numbers, record_tags};
 ghost use Rattle.encoding.specs.RecordBytes.{record_bytes, is_record, record_in};
 
-use checker::{Due, LastRaised, Replay, Standing, Target};
+use checker::{Due, Replay, Target};
 use definitions::{Case, EDGE_PLACES, Refusal, Rulebook, SCOPE_PLACES};
 
 // The bytes of a case, and those of the replay's record.
@@ -178,12 +178,12 @@ fn marks_at(bytes: &[u8], at: usize) -> [u8; SCOPE_PLACES]
 
 // ---- what is due and what stands, as numbers
 
-fn last_recorded(last: LastRaised) -> Last
+fn last_recorded(last: Option<usize>) -> Last
     ensures { result ≡ last_recorded last }
 {
     match last {
-        LastRaised::Nothing => Last { known: 0, scope: 0 },
-        LastRaised::Scope(x) => Last { known: 1, scope: x },
+        None => Last { known: 0, scope: 0 },
+        Some(x) => Last { known: 1, scope: x },
     }
 }
 
@@ -241,13 +241,13 @@ fn begun_of(due: Due) -> Begun
     }
 }
 
-fn raised_of(last: Last) -> LastRaised
+fn raised_of(last: Last) -> Option<usize>
     ensures { result ≡ raised_of last }
 {
     if last.known == 1 {
-        LastRaised::Scope(last.scope)
+        Some(last.scope)
     } else {
-        LastRaised::Nothing
+        None
     }
 }
 
@@ -275,36 +275,36 @@ fn due_of(begun: Begun) -> Due
     }
 }
 
-fn standing_of(b: u8) -> Standing
+fn standing_of(b: u8) -> Result<(), Refusal>
     ensures { result ≡ standing_at b }
 {
     match b {
-        1 => Standing::Refused(Refusal::NotInColumns),
-        2 => Standing::Refused(Refusal::NotDue),
-        3 => Standing::Refused(Refusal::OutsideLimits),
-        4 => Standing::Refused(Refusal::WrongLength),
-        5 => Standing::Refused(Refusal::OutOfRange),
-        6 => Standing::Refused(Refusal::EndsNotAscending),
-        7 => Standing::Refused(Refusal::EdgeRepeated),
-        8 => Standing::Refused(Refusal::WeightOutOfRange),
-        9 => Standing::Refused(Refusal::RaiseNotAscending),
-        10 => Standing::Refused(Refusal::NotRefuted),
-        11 => Standing::Refused(Refusal::LeavesRange),
-        12 => Standing::Refused(Refusal::OtherBound),
-        13 => Standing::Refused(Refusal::BoundNotLower),
-        14 => Standing::Refused(Refusal::CutShort),
-        15 => Standing::Refused(Refusal::ScopeBarred),
-        16 => Standing::Refused(Refusal::NotAllBarred),
-        _ => Standing::Good,
+        1 => Err(Refusal::NotInColumns),
+        2 => Err(Refusal::NotDue),
+        3 => Err(Refusal::OutsideLimits),
+        4 => Err(Refusal::WrongLength),
+        5 => Err(Refusal::OutOfRange),
+        6 => Err(Refusal::EndsNotAscending),
+        7 => Err(Refusal::EdgeRepeated),
+        8 => Err(Refusal::WeightOutOfRange),
+        9 => Err(Refusal::RaiseNotAscending),
+        10 => Err(Refusal::NotRefuted),
+        11 => Err(Refusal::LeavesRange),
+        12 => Err(Refusal::OtherBound),
+        13 => Err(Refusal::BoundNotLower),
+        14 => Err(Refusal::CutShort),
+        15 => Err(Refusal::ScopeBarred),
+        16 => Err(Refusal::NotAllBarred),
+        _ => Ok(()),
     }
 }
 
-fn standing_number(standing: Standing) -> u8
+fn standing_number(standing: Result<(), Refusal>) -> u8
     ensures { result ≡ (standing_says standing).number }
 {
     match standing {
-        Standing::Good => 0,
-        Standing::Refused(refusal) => texts::number_of(refusal),
+        Ok(()) => 0,
+        Err(refusal) => texts::number_of(refusal),
     }
 }
 
@@ -322,7 +322,7 @@ fn put_words(out: &mut [u8], rounds: u64, start: i64, begun: Begun)
     put_word(out, 40, last.scope as u64);
 }
 
-fn tags_of(moved: bool, begun: Begun, standing: Standing) -> [u8; 4]
+fn tags_of(moved: bool, begun: Begun, standing: Result<(), Refusal>) -> [u8; 4]
     ensures { result ≡ record_tags moved begun standing }
 {
     let last = begun.last;
@@ -335,7 +335,7 @@ fn tags_of(moved: bool, begun: Begun, standing: Standing) -> [u8; 4]
 }
 
 // The bytes after its numbers.
-fn put_tags(out: &mut [u8], moved: bool, begun: Begun, standing: Standing)
+fn put_tags(out: &mut [u8], moved: bool, begun: Begun, standing: Result<(), Refusal>)
     requires { 52 ≤ length out.old }
     ensures { out.new ≡ placed_at 48 (record_tags moved begun standing) out.old }
 {

@@ -1,7 +1,7 @@
 -- Which variable is chosen: the lowest whose active values are refuted with all scopes raised. Assumes nothing.
+use Rattle.std.specs.Prelude.{Option, Some, None}
 use mathlib.Core.Path.{◌≡◌, refl, sym, ap, subst, ◌∙◌}
 use mathlib.Core.Bool.{Bool, false, not}
-use mathlib.Core.Option.{Option, some, none}
 use mathlib.Core.Logic.{⊎_elim}
 use mathlib.Core.List.{List}
 use Prim.Native.Nat.{ℕ, ◌≤◌, ◌<◌}
@@ -36,12 +36,12 @@ pub chosen-in : (c : Case) (f : ℕ → Bool) (n : ℕ) → n ≡ c.n → Chosen
 chosen-in c f n e = by (first (those f (below n))) refl
   where
     by : (o : Option ℕ) → first (those f (below n)) ≡ o → ChosenIn c (chosen_of o)
-    by none q = tt
-    by (some i) q = let h = (first-least f n q).0 in omega arith
+    by None q = tt
+    by (Some i) q = let h = (first-least f n q).0 in omega arith
 
 pub chosen-says : (c : Case) (w : List ℤ) (o : Option ℕ) → chosen c w ≡ o → ChosenIs c w (chosen_of o)
-chosen-says c w none e = e
-chosen-says c w (some i) e = e
+chosen-says c w None e = e
+chosen-says c w (Some i) e = e
 
 module _ (c : Case) (w : List ℤ) where
   -- all other scopes raised

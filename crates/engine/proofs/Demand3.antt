@@ -1,10 +1,11 @@
 -- Demand 3 holds for every valid case: the replay's half from checker_promise, the run's from engine_theory, over what comes next: the engine's
 -- round, or pair rounds only. Assumes nothing.
+use Rattle.std.specs.Prelude.{Result, Ok, Err, None}
+use Rattle.definitions.specs.declared.Refusal.{Refusal}
 use mathlib.Core.Path.{◌≡◌, refl, sym, ap, ◌∙◌}
 use mathlib.Core.Bool.{false, not}
 use mathlib.Core.Logic.Iff
 use mathlib.Core.Logic.{◌↔◌, ◌⊎◌, inl, inr, ⊎_elim}
-use mathlib.Core.Option.{none}
 use mathlib.Core.List.{List}
 use Prim.Native.Nat.{ℕ, ◌≤◌}
 use native.Mathlib.Omega.{arith}
@@ -48,20 +49,20 @@ use Rattle.engine_theory.proofs.Calls.{texts-joined, texts-count, taken-iff, sam
 use Rattle.demand3.specs.Demand3.{Follows, RunTrusted, RunIterates, RunEnds, PairsKept, ChainSettled, ChainShifted, Demand3, Guarantee}
 
 -- what a round that was made hands back
-abbrev stated_bound : Round → ℤ
-stated_bound Round.Settled = pos 0
-stated_bound (Round.Made bytes bound) = bound
-stated_bound (Round.Void bytes) = pos 0
-stated_bound (Round.Refused x) = pos 0
+abbrev stated_bound : Result Round Refusal → ℤ
+stated_bound (Ok Round.Settled) = pos 0
+stated_bound (Ok (Round.Made bytes bound)) = bound
+stated_bound (Ok (Round.Void bytes)) = pos 0
+stated_bound (Err x) = pos 0
 
 -- a void line leaves rounds and weights, and is whole just where the run answers so
-ended-keeps : (c : Case) (w₀ : List ℤ) (rounds : ℕ) (w : List ℤ) (a : RunAnswer)
+ended-keeps : (c : Case) (w₀ : List ℤ) (rounds : ℕ) (w : List ℤ) (a : Result RunAnswer Refusal)
     → ((ended a (between c w₀ rounds w)).rounds ≡ rounds) × ((ended a (between c w₀ rounds w)).weights ≡ w)
-    × (T (ended a (between c w₀ rounds w)).void ↔ a ≡ RunAnswer.Void)
-ended-keeps c w₀ rounds w RunAnswer.Settled = (refl, refl, (λ t. absurd t, λ e. differ (cc)))
-ended-keeps c w₀ rounds w RunAnswer.Limit = (refl, refl, (λ t. absurd t, λ e. differ (cc)))
-ended-keeps c w₀ rounds w RunAnswer.Void = (refl, refl, (λ t. refl, λ e. tt))
-ended-keeps c w₀ rounds w (RunAnswer.Refused x) = (refl, refl, (λ t. absurd t, λ e. differ (cc)))
+    × (T (ended a (between c w₀ rounds w)).void ↔ a ≡ Ok RunAnswer.Void)
+ended-keeps c w₀ rounds w (Ok RunAnswer.Settled) = (refl, refl, (λ t. absurd t, λ e. differ (cc)))
+ended-keeps c w₀ rounds w (Ok RunAnswer.Limit) = (refl, refl, (λ t. absurd t, λ e. differ (cc)))
+ended-keeps c w₀ rounds w (Ok RunAnswer.Void) = (refl, refl, (λ t. refl, λ e. tt))
+ended-keeps c w₀ rounds w (Err x) = (refl, refl, (λ t. absurd t, λ e. differ (cc)))
 
 -- ---- over any lawful rounds
 
@@ -73,7 +74,7 @@ record Known (r : Rules) (next : Follows) (Rest : List ℤ → Type 0) (c : Case
 
 module _ (r : Rules) (next : Follows) (c : Case) (w : List ℤ) (out : List ℕ) (bytes : ℕ) (bound : ℤ) where
   abbrev Stated : RoundCall → Type 0
-  Stated u = u.answer ≡ Round.Made bytes bound → bound ≡ upper_bound c u.table
+  Stated u = u.answer ≡ Ok (Round.Made bytes bound) → bound ≡ upper_bound c u.table
 
   made-states : (m : Made) → Stated (round_made c w out m)
   made-states settled e = cc
@@ -99,15 +100,15 @@ module _ {r : Rules} {next : Follows} {Rest : List ℤ → Type 0} {c : Case} (c
   }
 
   -- not by its limit, if that is not less than the rounds that can be
-  ends-not-limit : {w : List ℤ} {rounds limit : ℕ} {lines log : List (List ℕ)} {answer : RunAnswer} → Ends r next c w rounds limit lines answer log
-      → (answer ≡ RunAnswer.Limit → ⊥)
-      → (answer ≡ RunAnswer.Settled) ⊎ ((answer ≡ RunAnswer.Void) ⊎ (answer ≡ RunAnswer.Refused LeavesRange))
+  ends-not-limit : {w : List ℤ} {rounds limit : ℕ} {lines log : List (List ℕ)} {answer : Result RunAnswer Refusal} → Ends r next c w rounds limit lines answer log
+      → (answer ≡ Ok RunAnswer.Limit → ⊥)
+      → (answer ≡ Ok RunAnswer.Settled) ⊎ ((answer ≡ Ok RunAnswer.Void) ⊎ (answer ≡ Err LeavesRange))
   ends-not-limit (settles h e) n = inl refl
   ends-not-limit (limits h e) n = absurd (n refl)
   ends-not-limit (refuses h e f) n = inr (inr refl)
   ends-not-limit (voids h e) n = inr (inl refl)
 
-  ends : (limit : ℕ) (w : List ℤ) (out : List ℕ) → engine_refusal r next c w out ≡ none → RunEnds r next Rest c w limit (run_call r next c limit w out)
+  ends : (limit : ℕ) (w : List ℤ) (out : List ℕ) → engine_refusal r next c w out ≡ None → RunEnds r next Rest c w limit (run_call r next c limit w out)
   ends limit w out taken =
       let (h, long) = (taken-iff r next c w out).0 taken in
       let same = same-run coherent known.lawful limit w out taken in
@@ -177,7 +178,7 @@ module _ {r : Rules} (coherent : Coherent r) (c : Case) where
   pairs-known : Known r pairs_next (PairsSettled r c) c
   pairs-known = record { lawful = pairs-lawful coherent c; rest = pairs-settled r c; lessening = pairs-lessen coherent c }
 
-  pairs-kept : (limit : ℕ) (v : List ℤ) (out : List ℕ) → engine_refusal r pairs_next c v out ≡ none → PairsKept c v (run_call r pairs_next c limit v out)
+  pairs-kept : (limit : ℕ) (v : List ℤ) (out : List ℕ) → engine_refusal r pairs_next c v out ≡ None → PairsKept c v (run_call r pairs_next c limit v out)
   pairs-kept limit v out taken =
       let (h, long) = (taken-iff r pairs_next c v out).0 taken in
       let same = same-run coherent (pairs-lawful coherent c) limit v out taken in
@@ -192,7 +193,7 @@ module _ {r : Rules} (coherent : Coherent r) (c : Case) where
 
   module _ (acyclic : Acyclic c) where
     module _ (limit : ℕ) (v : List ℤ) (out : List ℕ) where
-      chain-settled : engine_refusal r engine_next c v out ≡ none → ChainSettled c (run_call r engine_next c limit v out)
+      chain-settled : engine_refusal r engine_next c v out ≡ None → ChainSettled c (run_call r engine_next c limit v out)
       chain-settled taken e =
           let (h, long) = (taken-iff r engine_next c v out).0 taken in
           let same = same-run coherent (engine-lawful coherent c) limit v out taken in
@@ -200,7 +201,7 @@ module _ {r : Rules} (coherent : Coherent r) (c : Case) where
           let (p, meets) = hilltop coherent (run-remains coherent (engine-lawful coherent c) limit v h).handed acyclic rest.presses in
           rw (same.bound, same.table) (p, meets, meets.total)
 
-      chain-pairs : engine_refusal r pairs_next c v out ≡ none
+      chain-pairs : engine_refusal r pairs_next c v out ≡ None
           → ChainShifted c v (run_call r pairs_next c limit v out).table (run_call r pairs_next c limit v out).run.bound
       chain-pairs taken rest =
           let (h, long) = (taken-iff r pairs_next c v out).0 taken in

@@ -1,7 +1,8 @@
 -- What comes next by the pair that was found, and the round of that pair as the engine's. Assumes nothing.
+use Rattle.std.specs.Prelude.{Result, Option, Some, None}
+use Rattle.definitions.specs.declared.Refusal.{Refusal}
 use mathlib.Core.Path.{◌≡◌, sym, ap, ◌∙◌}
 use mathlib.Core.Bool.{Bool, true, false}
-use mathlib.Core.Option.{Option, none, some}
 use mathlib.Core.List.{List}
 use Prim.Native.Nat.{ℕ, ◌≤◌}
 use lib.IntN.{ℤ}
@@ -20,7 +21,6 @@ use Rattle.reach_theory.proofs.Next.{engine-next-nothing}
 use Rattle.reach_theory.proofs.Counts.{lowest-ready}
 use Rattle.engine_theory.proofs.Engine.{pair-leads}
 use Rattle.engine_theory.proofs.Calls.{taken-iff, call-taken}
-use Rattle.pair_choice.specs.declared.Paired.{Paired}
 use Rattle.pair_choice.specs.PairChoice.{paired_of}
 use Rattle.pair_rounds.specs.PairCall.{pair_made, pair_call}
 use Rattle.pair_rounds.proofs.Rounds.{pair-call-taken}
@@ -28,33 +28,33 @@ use Rattle.engine.specs.Rounds.{next_in, MadeRound}
 
 -- ---- what was found
 
-pub found-pair : {e : ℕ} (o : Option ℕ) → Paired.Pair e ≡ paired_of o → o ≡ some e
-found-pair none d = cc
-found-pair (some x) d = cc
+pub found-pair : {e : ℕ} (o : Option ℕ) → Some e ≡ paired_of o → o ≡ Some e
+found-pair None d = cc
+found-pair (Some x) d = cc
 
-pub found_nothing : (o : Option ℕ) → Paired.Nothing ≡ paired_of o → o ≡ none
-found_nothing none d = cc
-found_nothing (some x) d = cc
+pub found_nothing : (o : Option ℕ) → None ≡ paired_of o → o ≡ None
+found_nothing None d = cc
+found_nothing (Some x) d = cc
 
 -- ---- what comes next
 
 module _ (c : Case) (w : List ℤ) where
-  module _ {e : ℕ} (which : lowest_pair (rules_of c) c w ≡ some e) where
+  module _ {e : ℕ} (which : lowest_pair (rules_of c) c w ≡ Some e) where
     pub next-pair : (pairs : Bool) → next_in pairs (rules_of c) c w ≡ round (pair_round c w e)
     next-pair true = ap (λ (o : Option ℕ). pair_next c w o nothing) which
     next-pair false = ap (λ (o : Option ℕ). pair_next c w o (presses_next (rules_of c) c w)) which
 
-  module _ (no-pair : lowest_pair (rules_of c) c w ≡ none) where
+  module _ (no-pair : lowest_pair (rules_of c) c w ≡ None) where
     pub next-pairs : next_in true (rules_of c) c w ≡ nothing
     next-pairs = ap (λ (o : Option ℕ). pair_next c w o nothing) no-pair
 
-    pub next-settled : chosen c w ≡ none → engine_next (rules_of c) c w ≡ nothing
+    pub next-settled : chosen c w ≡ None → engine_next (rules_of c) c w ≡ nothing
     next-settled e = (engine-next-nothing (rules_of c) c w).1 (no-pair, e)
 
 -- ---- the round of a pair
 
 module _ {c : Case} {w : List ℤ} {e : ℕ} (out : List ℕ) (h : Handed (rules_of c) (working_weight (rules_of c)) c w)
-    (long : round_bytes (rules_of c) c ≤ length out) (which : lowest_pair (rules_of c) c w ≡ some e) where
+    (long : round_bytes (rules_of c) c ≤ length out) (which : lowest_pair (rules_of c) c w ≡ Some e) where
   call-is : pair_call (rules_of c) c w out e ≡ round_made c w out (pair_made (rules_of c) c w e)
   call-is = pair-call-taken out h (lowest-ready (coherent c.rulebook) h which).0 long
 
@@ -64,7 +64,7 @@ module _ {c : Case} {w : List ℤ} {e : ℕ} (out : List ℕ) (h : Handed (rules
       ∙ sym (call-taken (rules_of c) (next_in pairs) c w out ((taken-iff (rules_of c) (next_in pairs) c w out).1 (h, long))
       ∙ ap (λ (n : Next). round_made c w out (make_next (rules_of c) c w n)) (next-pair c w which pairs))
 
-  module _ {r : Round} {after : List ℤ} {written : List ℕ} (a : r ≡ (pair_call (rules_of c) c w out e).answer)
+  module _ {r : Result Round Refusal} {after : List ℤ} {written : List ℕ} (a : r ≡ (pair_call (rules_of c) c w out e).answer)
       (t : after ≡ (pair_call (rules_of c) c w out e).table) (o : written ≡ (pair_call (rules_of c) c w out e).out) where
     pub pair-made : (pairs : Bool) → MadeRound pairs c w out after written r
     pair-made pairs = let d = pair-call pairs in record {

@@ -1,7 +1,6 @@
 -- What a call of the engine's round answers and leaves where no pair comes first, by what its press did, or its void line. Assumes nothing.
 use mathlib.Core.Path.{◌≡◌, refl, sym, ap, ap₂, subst, ◌∙◌}
 use mathlib.Core.Bool.{Bool, true, false, not, ◌&&◌}
-use mathlib.Core.Option.{Option, none, some}
 use mathlib.Core.List.Memᴰ
 use mathlib.Core.List.{List, [], ◌∷◌, ◌++◌, map, append-nil}
 use Prim.Native.Nat.{ℕ, ◌+◌, ◌*◌, ◌^◌, ◌≤◌, ◌<◌}
@@ -13,18 +12,16 @@ use lib.Signed.{mag}
 use lib.ListN.{length}
 use mir.Syntax.{w64}
 use mir.Val.{to_z, of_z, hbits}
-use Rattle.std.specs.Prelude.{if◌then◌else◌}
+use Rattle.std.specs.Prelude.{if◌then◌else◌, Result, Ok, Err, Option, Some, None, ⊤}
 use Rattle.integers.specs.Words.{any, joined, is_in}
 use Rattle.integers.specs.Tests.{false-is, same_test}
 use Rattle.integers.specs.Linear.{flat, zs, ◌▸◌, read_back}
 use Rattle.integers.specs.Lists.{◌∈◌, those-in, in-those, below_in, is_in-in}
 use Rattle.definitions.specs.declared.Case.{Case}
 use Rattle.definitions.specs.declared.Line.{Line}
-use Rattle.definitions.specs.declared.Outcome.{Outcome}
 use Rattle.definitions.specs.declared.Refusal.{Refusal}
 use Rattle.definitions.specs.declared.Refusal.TheVariants.{LeavesRange}
 use Rattle.definitions.specs.declared.Round.{Round}
-use Rattle.definitions.specs.declared.Written.{Written}
 use Rattle.definitions.specs.Rules.{coherent, rules_of}
 use Rattle.definitions.specs.Refusals.{◌when◌, first_refusal}
 use Rattle.definitions.specs.Answers.{outcome_of, unless_refused}
@@ -59,18 +56,18 @@ use Rattle.engine.specs.Rounds.{pressed_by, Found, Pressed, round_written, MadeR
 
 -- ---- which way a press went
 
-refused-way : {x : Refusal} (b : Bool) → Outcome.Refused x ≡ (if b then Outcome.Refused LeavesRange else Outcome.Done) → (b ≡ true) × (x ≡ LeavesRange)
+refused-way : {x : Refusal} (b : Bool) → Err x ≡ (if b then Err LeavesRange else Ok tt) → (b ≡ true) × (x ≡ LeavesRange)
 refused-way true e = (refl, cc)
 refused-way false e = differ (cc)
 
-done-way : (b : Bool) → Outcome.Done ≡ (if b then Outcome.Refused LeavesRange else Outcome.Done) → b ≡ false
+done-way : (b : Bool) → Ok tt ≡ (if b then Err LeavesRange else Ok tt) → b ≡ false
 done-way true e = cc
 done-way false e = refl
 
 -- what `lower_and_raise` gives on a table that was checked, of the values that `best_values` gives
 pub pressed-by : {c : Case} {w best : List ℤ} → Handed (rules_of c) (working_weight (rules_of c)) c w → BestOf c w best → (raised : List ℕ) (i : ℕ) (a : ℤ)
     → scope_count c ≤ length raised → i < c.n → T (press_amount (rules_of c) a) → (values : ℕ) → values ≡ best_values (rules_of c) c w best i
-    → {r : Outcome} {after next : List ℤ} → r ≡ (lower_and_raise_call (rules_of c) c w best raised i values a).answer
+    → {r : Result ⊤ Refusal} {after next : List ℤ} → r ≡ (lower_and_raise_call (rules_of c) c w best raised i values a).answer
     → after ≡ (lower_and_raise_call (rules_of c) c w best raised i values a).table → next ≡ (lower_and_raise_call (rules_of c) c w best raised i values a).best
     → Pressed c i raised a w after next r
 pressed-by {c} {w} {best} h b raised i a room variable amount values v e f g =
@@ -82,7 +79,7 @@ pressed-by {c} {w} {best} h b raised i a room variable amount values v e f g =
       greatest-kept = rw (f, g) k;
     }
   where
-    answers : (l : Bool) → outcome_of (first_refusal (LeavesRange when l ∷ [])) ≡ (if l then Outcome.Refused LeavesRange else Outcome.Done)
+    answers : (l : Bool) → outcome_of (first_refusal (LeavesRange when l ∷ [])) ≡ (if l then Err LeavesRange else Ok tt)
     answers true = refl
     answers false = refl
 
@@ -100,14 +97,14 @@ none-wide : (width : ℕ) (ls : List Line) → ((l : Line) → l ∈ ls → line
 none-wide width [] h = refl
 none-wide width (l ∷ ls) h = rw (h l (Memᴰ.head refl)) (none-wide width ls (λ k m. h k (Memᴰ.tail m)))
 
-module _ {c : Case} {w : List ℤ} {i : ℕ} {a : ℤ} (h : Handed (rules_of c) (working_weight (rules_of c)) c w) (which : chosen c w ≡ some i)
-    (least : least_gap c w i ≡ some a) where
+module _ {c : Case} {w : List ℤ} {i : ℕ} {a : ℤ} (h : Handed (rules_of c) (working_weight (rules_of c)) c w) (which : chosen c w ≡ Some i)
+    (least : least_gap c w i ≡ Some a) where
   pub amount-within : T (press_amount (rules_of c) a)
   amount-within =
       amount-some c w h.shape which least ▸ amount-most c w h.shape which least (rules_of c) (coherent c.rulebook) h.in-range
       ▸ (coherent c.rulebook).difference ▸ simp flat (omega zs)
 
-  module _ (no-pair : lowest_pair (rules_of c) c w ≡ none) (raised : List ℕ) (same : raised_below raised (scope_count c) ≡ kept_scopes c w i) where
+  module _ (no-pair : lowest_pair (rules_of c) c w ≡ None) (raised : List ℕ) (same : raised_below raised (scope_count c) ≡ kept_scopes c w i) where
     kept_in : (x : ℕ) → x < scope_count c → is_raised raised x ≡ is_in (kept_scopes c w i) x
     kept_in x g = same_test (is_raised raised x) (is_in (kept_scopes c w i) x)
         (λ t. subst (λ (l : List ℕ). T (is_in l x)) same ((is_in-in (raised_below raised (scope_count c)) x).1 (those-in (is_raised raised) (below_in g) t)))
@@ -129,7 +126,7 @@ module _ {c : Case} {w : List ℤ} {i : ℕ} {a : ℤ} (h : Handed (rules_of c) 
     module _ (out : List ℕ) (long : round_bytes (rules_of c) c ≤ length out) where
       call-is : (b : Bool) → leaves_range (rules_of c) c w (engine_pressed c w i a) ≡ b
           → round_call (rules_of c) engine_next c w out ≡ round_made c w out
-          (made_of (rules_of c) c (active_press c w i (kept_scopes c w i) a ∷ []) (if b then none else some (engine_pressed c w i a)))
+          (made_of (rules_of c) c (active_press c w i (kept_scopes c w i) a ∷ []) (if b then None else Some (engine_pressed c w i a)))
       call-is b e =
           call-taken (rules_of c) engine_next c w out ((taken-iff (rules_of c) engine_next c w out).1 (h, long))
           ∙ ap (λ (n : Next). round_made c w out (make_next (rules_of c) c w n))
@@ -137,23 +134,23 @@ module _ {c : Case} {w : List ℤ} {i : ℕ} {a : ℤ} (h : Handed (rules_of c) 
           ∙ ap (λ (o : Option (List ℤ)). round_made c w out (made_of (rules_of c) c (active_press c w i (kept_scopes c w i) a ∷ []) o))
           (after-press c w i a (rules_of c))
           ∙ ap (λ (q : Bool). round_made c w out
-          (made_of (rules_of c) c (active_press c w i (kept_scopes c w i) a ∷ []) (if q then none else some (engine_pressed c w i a)))) e
+          (made_of (rules_of c) c (active_press c w i (kept_scopes c w i) a ∷ []) (if q then None else Some (engine_pressed c w i a)))) e
 
       -- number 11
-      pub made-refused : {x : Refusal} {after best : List ℤ} → Pressed c i raised a w after best (Outcome.Refused x)
-          → MadeRound false c w out after out (Round.Refused x) × BestOf c after best
+      pub made-refused : {x : Refusal} {after best : List ℤ} → Pressed c i raised a w after best (Err x)
+          → MadeRound false c w out after out (Err x) × BestOf c after best
       made-refused {x} p =
           let (e, f) = refused-way (leaves_range (rules_of c) c w (pressed_by c i raised a w)) p.answer in
           let d = call-is true (ap (leaves_range (rules_of c) c w) (sym pressed-is) ∙ e) in (
             record {
-              answer = ap Round.Refused f ∙ sym (ap (λ (u : RoundCall). u.answer) d);
+              answer = ap Err f ∙ sym (ap (λ (u : RoundCall). u.answer) d);
               table = p.table ∙ ap (λ (b : Bool). if b then w else pressed_by c i raised a w) e ∙ sym (ap (λ (u : RoundCall). u.table) d);
               output = sym (ap (λ (u : RoundCall). u.out) d);
             },
             p.greatest-kept,
           )
 
-      module _ {after best : List ℤ} (p : Pressed c i raised a w after best Outcome.Done) where
+      module _ {after best : List ℤ} (p : Pressed c i raised a w after best (Ok tt)) where
         stays : leaves_range (rules_of c) c w (engine_pressed c w i a) ≡ false
         stays = ap (leaves_range (rules_of c) c w) (sym pressed-is) ∙ done-way (leaves_range (rules_of c) c w (pressed_by c i raised a w)) p.answer
 
@@ -184,7 +181,7 @@ module _ {c : Case} {w : List ℤ} {i : ℕ} {a : ℤ} (h : Handed (rules_of c) 
             ≡ joined (round_text (rules_of c) c (active_press c w i (kept_scopes c w i) a ∷ []) (engine_pressed c w i a))
         text-made = ap (λ (l : List Line). joined (map (line_text (rules_of c).amount_width) l)) lines-made
 
-        pub made-done : scope_count c ≤ length raised → {r : Round} {bound : ℤ} {written : List ℕ} → bound ≡ upper_bound c after
+        pub made-done : scope_count c ≤ length raised → {r : Result Round Refusal} {bound : ℤ} {written : List ℕ} → bound ≡ upper_bound c after
             → r ≡ round_written (write_all_call (rules_of c) c out raised i a bound).answer bound
             → written ≡ (write_all_call (rules_of c) c out raised i a bound).out
             → MadeRound false c w out after written r
@@ -192,7 +189,7 @@ module _ {c : Case} {w : List ℤ} {i : ℕ} {a : ℤ} (h : Handed (rules_of c) 
             let d = call-is false stays in
             let u : write_all_call (rules_of c) c out raised i a (upper_bound c after)
             ≡ record {
-              answer = Written.Bytes (length (joined (map (line_text (rules_of c).amount_width) lines_made)));
+              answer = Ok (length (joined (map (line_text (rules_of c).amount_width) lines_made)));
               out = overwritten (joined (map (line_text (rules_of c).amount_width) lines_made)) out;
             } =
             press-written c out raised i a (upper_bound c after) (limits-true h) room (count_room long) (chosen-some c w which).0 lines_fit in
@@ -200,7 +197,7 @@ module _ {c : Case} {w : List ℤ} {i : ℕ} {a : ℤ} (h : Handed (rules_of c) 
               answer =
                   n ∙ ap (λ (z : ℤ). round_written (write_all_call (rules_of c) c out raised i a z).answer z) e
                   ∙ ap (λ (q : WriteCall). round_written q.answer (upper_bound c after)) u
-                  ∙ ap₂ Round.Made (ap length text-made) (ap (upper_bound c) after_is) ∙ sym (ap (λ (u : RoundCall). u.answer) d);
+                  ∙ ap₂ (Ok (Round.Made (ap length text-made) (ap (upper_bound c) after_is))) ∙ sym (ap (λ (u : RoundCall). u.answer) d);
               table = after_is ∙ sym (ap (λ (u : RoundCall). u.table) d);
               output =
                   o ∙ ap (λ (z : ℤ). (write_all_call (rules_of c) c out raised i a z).out) e
@@ -213,28 +210,28 @@ module _ {c : Case} {w : List ℤ} {i : ℕ} {a : ℤ} (h : Handed (rules_of c) 
 module _ {c : Case} {w best : List ℤ} {raised : List ℕ} {i : ℕ} (f : Found c w best raised i) where
   -- nothing sets a gap just where the least gap has the bits of no_gap
   module _ {z : ℤ} (small : mag z < 2 ^ hbits w64) (answer : z ≡ else_no_gap (least_gap c w i)) where
-    pub no-gap-bits : of_z w64 z ≡ of_z w64 (pos no_gap) → least_gap c w i ≡ none
+    pub no-gap-bits : of_z w64 z ≡ of_z w64 (pos no_gap) → least_gap c w i ≡ None
     no-gap-bits b = go (least_gap c w i) refl
       where
-        go : (o : Option ℤ) → least_gap c w i ≡ o → o ≡ none
-        go none e = refl
-        go (some a) e =
+        go : (o : Option ℤ) → least_gap c w i ≡ o → o ≡ None
+        go None e = refl
+        go (Some a) e =
             let d : z ≡ pos no_gap = sym (read_back w64 z small) ∙ ap (to_z w64) b ∙ read_back w64 (pos no_gap) (lit< tt) in
             let g : z ≡ a = answer ∙ ap else_no_gap e in
             absurd (amount-less f.handed f.which e ▸ d ▸ g ▸ simp flat (omega zs))
 
-    pub some-gap-bits : (of_z w64 z ≡ of_z w64 (pos no_gap) → ⊥) → least_gap c w i ≡ some (to_z w64 (of_z w64 z))
+    pub some-gap-bits : (of_z w64 z ≡ of_z w64 (pos no_gap) → ⊥) → least_gap c w i ≡ Some (to_z w64 (of_z w64 z))
     some-gap-bits n = go (least_gap c w i) refl
       where
-        go : (o : Option ℤ) → least_gap c w i ≡ o → least_gap c w i ≡ some (to_z w64 (of_z w64 z))
-        go none e = absurd (n (ap (of_z w64) (answer ∙ ap else_no_gap e)))
-        go (some a) e = e ∙ ap some (sym (read_back w64 z small ∙ answer ∙ ap else_no_gap e))
+        go : (o : Option ℤ) → least_gap c w i ≡ o → least_gap c w i ≡ Some (to_z w64 (of_z w64 z))
+        go None e = absurd (n (ap (of_z w64) (answer ∙ ap else_no_gap e)))
+        go (Some a) e = e ∙ ap Some (sym (read_back w64 z small ∙ answer ∙ ap else_no_gap e))
 
-  pub next-pressed : {a : ℤ} → least_gap c w i ≡ some a → engine_next (rules_of c) c w ≡ round (active_press c w i (kept_scopes c w i) a ∷ [])
+  pub next-pressed : {a : ℤ} → least_gap c w i ≡ Some a → engine_next (rules_of c) c w ≡ round (active_press c w i (kept_scopes c w i) a ∷ [])
   next-pressed least =
       ap (λ (o : Option ℕ). pair_next c w o (presses_next (rules_of c) c w)) f.no-pair ∙ next-press (rules_of c) c w f.which least
 
-  module _ (least : least_gap c w i ≡ none) where
+  module _ (least : least_gap c w i ≡ None) where
     pub next-voids : engine_next (rules_of c) c w ≡ void i (kept_scopes c w i)
     next-voids = ap (λ (o : Option ℕ). pair_next c w o (presses_next (rules_of c) c w)) f.no-pair ∙ next-void (rules_of c) c w f.which least
 
@@ -242,29 +239,29 @@ module _ {c : Case} {w best : List ℤ} {raised : List ℕ} {i : ℕ} (f : Found
       abbrev text : List ℕ
       text = joined (void_text (rules_of c) i (kept_scopes c w i))
 
-      written_is : write_void_call (rules_of c) c out raised i ≡ record { answer = Written.Bytes (length text); out = overwritten text out }
+      written_is : write_void_call (rules_of c) c out raised i ≡ record { answer = Ok (length text); out = overwritten text out }
       written_is =
           let few : length (raised_below raised (scope_count c)) + 1 ≤ scope_count c =
           omega (arith, ap length f.kept, kept-fewer c w i (chosen-some c w f.which).0) in
           let most = mul-le-mul_left {m = length (raised_below raised (scope_count c)) + 1} {n = scope_count c} (line_length (rules_of c).amount_width) few in
           void-written c out raised i (limits-true f.handed) f.room (omega arith) (chosen-some c w f.which).0
-          ∙ ap (λ (xs : List ℕ). let t = joined (void_text (rules_of c) i xs) in record { answer = Written.Bytes (length t); out = overwritten t out }) f.kept
+          ∙ ap (λ (xs : List ℕ). let t = joined (void_text (rules_of c) i xs) in record { answer = Ok (length t); out = overwritten t out }) f.kept
 
       void-call : round_call (rules_of c) engine_next c w out ≡ round_made c w out (voided (void_text (rules_of c) i (kept_scopes c w i)))
       void-call =
           call-taken (rules_of c) engine_next c w out ((taken-iff (rules_of c) engine_next c w out).1 (f.handed, long))
           ∙ ap (λ (n : Next). round_made c w out (make_next (rules_of c) c w n)) next-voids
 
-      pub void-unrefused : {x : Refusal} → Written.Refused x ≡ (write_void_call (rules_of c) c out raised i).answer → ⊥
+      pub void-unrefused : {x : Refusal} → Err x ≡ (write_void_call (rules_of c) c out raised i).answer → ⊥
       void-unrefused e = let d = e ∙ ap (λ (q : WriteCall). q.answer) written_is in differ (cc)
 
-      pub void-made : {bytes : ℕ} {written : List ℕ} → Written.Bytes bytes ≡ (write_void_call (rules_of c) c out raised i).answer
-          → written ≡ (write_void_call (rules_of c) c out raised i).out → MadeRound false c w out w written (Round.Void bytes)
+      pub void-made : {bytes : ℕ} {written : List ℕ} → Ok bytes ≡ (write_void_call (rules_of c) c out raised i).answer
+          → written ≡ (write_void_call (rules_of c) c out raised i).out → MadeRound false c w out w written (Ok (Round.Void bytes))
       void-made {bytes} e o =
-          let d : Written.Bytes bytes ≡ Written.Bytes (length text) = e ∙ ap (λ (q : WriteCall). q.answer) written_is in
+          let d : Ok bytes ≡ Ok (length text) = e ∙ ap (λ (q : WriteCall). q.answer) written_is in
           let n : bytes ≡ length text = cc in
           record {
-            answer = ap Round.Void n ∙ sym (ap (λ (u : RoundCall). u.answer) void-call);
+            answer = ap (Ok (Round.Void n)) ∙ sym (ap (λ (u : RoundCall). u.answer) void-call);
             table = sym (ap (λ (u : RoundCall). u.table) void-call);
             output = o ∙ ap (λ (q : WriteCall). q.out) written_is ∙ sym (ap (λ (u : RoundCall). u.out) void-call);
           }

@@ -1,6 +1,5 @@
 -- Raised scopes and sets of values as bytes, and what the search for a press may take as known. Assumes nothing.
-use Rattle.std.specs.Prelude.{◌≡◌, Bool, true, not, ◌&&◌, ◌≢◌, List, ℕ, ◌+◌, ◌*◌, ◌≤◌, ◌<◌, ℤ, T, eqb, length, get_or, set, if◌then◌else◌}
-use Rattle.std.proofs.Math.Option.{none, some}
+use Rattle.std.specs.Prelude.{◌≡◌, Bool, true, not, ◌&&◌, ◌≢◌, List, ℕ, ◌+◌, ◌*◌, ◌≤◌, ◌<◌, ℤ, T, eqb, length, get_or, set, if◌then◌else◌, Option, Some, None}
 use Rattle.integers.specs.Words.{those}
 use Rattle.definitions.specs.declared.Case.{Case}
 use Rattle.definitions.specs.Rules.{rules_of}
@@ -13,7 +12,6 @@ use Rattle.calls.specs.Calls.{is_raised}
 use Rattle.theory.proofs.Validity.{Handed}
 use Rattle.marks.specs.Marks.{full_of}
 use Rattle.arcs.specs.Active.{active_set, active_row}
-use Rattle.choice.specs.declared.Chosen.{Chosen}
 
 -- acts holds the active values of each variable
 abbrev pub ActiveIn : Case → List ℤ → List ℕ → Type 0
@@ -42,18 +40,18 @@ abbrev pub OthersRaised : Case → ℕ → List ℕ → Type 0
 OthersRaised c x raised = (y : ℕ) → y < scope_count c → is_raised raised y ≡ not (eqb y x)
 
 -- a variable of the case, if one was chosen
-abbrev pub ChosenIn : Case → Chosen → Type 0
-ChosenIn c Chosen.Nothing = T true
-ChosenIn c (Chosen.Variable i) = i < c.n
+abbrev pub ChosenIn : Case → Option ℕ → Type 0
+ChosenIn c None = T true
+ChosenIn c (Some i) = i < c.n
 
-abbrev pub ChosenIs : Case → List ℤ → Chosen → Type 0
-ChosenIs c w Chosen.Nothing = chosen c w ≡ none
-ChosenIs c w (Chosen.Variable i) = chosen c w ≡ some i
+abbrev pub ChosenIs : Case → List ℤ → Option ℕ → Type 0
+ChosenIs c w None = chosen c w ≡ None
+ChosenIs c w (Some i) = chosen c w ≡ Some i
 
 -- the variable that was chosen, with the scopes raised that are kept
-abbrev pub FoundIs : Case → List ℤ → List ℕ → Chosen → Type 0
-FoundIs c w raised Chosen.Nothing = chosen c w ≡ none
-FoundIs c w raised (Chosen.Variable i) = (chosen c w ≡ some i) × (those (is_raised raised) (scopes c) ≡ kept_scopes c w i)
+abbrev pub FoundIs : Case → List ℤ → List ℕ → Option ℕ → Type 0
+FoundIs c w raised None = chosen c w ≡ None
+FoundIs c w raised (Some i) = (chosen c w ≡ Some i) × (those (is_raised raised) (scopes c) ≡ kept_scopes c w i)
 
 -- `enough` are raised scopes with which the active values of variable i are refuted
 pub record Enough (c : Case) (w : List ℤ) (i : ℕ) (raised enough : List ℕ) : Type 0 where

@@ -5,7 +5,7 @@ ghost use Rattle.definitions.specs.Case.{scope_count};
 ghost use Rattle.calls.specs.Calls.{is_raised};
 ghost use Rattle.engine.specs.Search.{Prepared, refutes_in, AllRaised, ChosenIn, ChosenIs};
 
-use choice::Chosen;
+
 use definitions::{Case, VARIABLE_PLACES};
 
 pub(crate) fn copy_bytes(from: &[u8], to: &mut [u8], n: usize)
@@ -65,7 +65,7 @@ pub(crate) fn refutes(case: Case, acts: &[u8], rows: &[u8], raised: &[u8], varia
 
 // The lowest variable whose active values are refuted with all other scopes raised. To a variable's active values its own scope makes no
 // difference, so that all scopes may be raised at once.
-pub(crate) fn choose(case: Case, acts: &[u8], rows: &[u8], raised: &[u8]) -> Chosen
+pub(crate) fn choose(case: Case, acts: &[u8], rows: &[u8], raised: &[u8]) -> Option<usize>
     requires { (scope_count case ≤ length raised.now) × (case.n ≤ length acts.now) × (case.n ≤ variable_places) }
     ensures { ChosenIn case result × ((w : List ℤ) → Prepared case w acts.now rows.now → AllRaised case raised.now
         → ChosenIs case w result) }

@@ -6,8 +6,7 @@ mod choosing;
 mod guess;
 mod trim;
 
-ghost use Rattle.std.specs.Prelude.{◌≡◌, Bool, false, List, ◌*◌, ◌≤◌, ◌<◌, T, ℤ, length};
-ghost use Rattle.std.proofs.Math.Option.{none, some};
+ghost use Rattle.std.specs.Prelude.{◌≡◌, Bool, false, List, ◌*◌, ◌≤◌, ◌<◌, T, ℤ, length, Some, None};
 ghost use Rattle.definitions.specs.Rules.{rules_of, variable_places, edge_places};
 ghost use Rattle.definitions.specs.Case.{scope_count};
 ghost use Rattle.definitions.specs.Valid.{working_weight};
@@ -24,11 +23,9 @@ ghost use Rattle.pair_choice.specs.PairChoice.{paired_of};
 ghost use Rattle.engine.specs.Rounds.{Found, Pressed, PressMade, round_written, MadeRound, LimitIs, RunIs, stopped_run};
 
 use arcs::ROW_PLACES;
-use choice::Chosen;
-use definitions::{
-    Case, Figure, Outcome, Round, Run, RunAnswer, SCOPE_PLACES, VARIABLE_PLACES, Written,
-};
-use pair_choice::Paired;
+
+use definitions::{Case, Refusal, Round, Run, RunAnswer, SCOPE_PLACES, VARIABLE_PLACES};
+
 
 // ---- the amount
 
@@ -39,15 +36,15 @@ fn least_gap(case: Case, table: &[i64], best: &[i64], raised: &[u8], variable: u
 {
     let gap = gaps::least_gap(case, table, best, raised, variable);
     match gap {
-        Figure::Value(amount) => amount,
-        Figure::Refused(_) => 0,
+        Ok(amount) => amount,
+        Err(_) => 0,
     }
 }
 
 // ---- the round
 
 // Writes the marks of a table, for the searches, and answers the lowest pair whose round comes before a press.
-fn prepare(case: Case, table: &[i64], best: &[i64], acts: &mut [u8], rows: &mut [u8]) -> Paired
+fn prepare(case: Case, table: &[i64], best: &[i64], acts: &mut [u8], rows: &mut [u8]) -> Option<usize>
     requires handed { Handed (rules_of case) (working_weight (rules_of case)) case table.now × BestOf case table.now best.now }
     requires n_in_bounds { (case.n ≤ length acts.old) × (16 * case.m ≤ length rows.old) }
     ensures { (result ≡ paired_of (lowest_pair (rules_of case) case table.now))
@@ -64,7 +61,7 @@ fn press(
     raised: &[u8],
     variable: usize,
     amount: i64,
-) -> Outcome
+) -> Result<(), Refusal>
     requires handed { Handed (rules_of case) (working_weight (rules_of case)) case table.old }
     requires best_of { BestOf case table.old best.old }
     requires case_in_bounds { (scope_count case ≤ length raised.now) × (variable < case.n) × T (press_amount (rules_of case) amount) }
@@ -82,14 +79,14 @@ fn write_lines(
     variable: usize,
     amount: i64,
     bound: i64,
-) -> Round
+) -> Result<Round, Refusal>
     ensures value { result ≡ round_written (write_all_call (rules_of case) case out.old raised.now variable amount bound).answer bound }
     ensures out_after { out.new ≡ (write_all_call (rules_of case) case out.old raised.now variable amount bound).out }
 {
     let written = round_lines::write_all(case, out, raised, variable, amount, bound);
     match written {
-        Written::Refused(refusal) => Round::Refused(refusal),
-        Written::Bytes(bytes) => Round::Made { bytes, bound },
+        Err(refusal) => Err(refusal),
+        Ok(bytes) => Ok(Round::Made { bytes, bound }),
     }
 }
 
@@ -101,15 +98,15 @@ fn write_pressed(
     raised: &[u8],
     variable: usize,
     amount: i64,
-) -> Round
+) -> Result<Round, Refusal>
     requires { (scope_count case ≤ length raised.now) × (round_bytes (rules_of case) case ≤ length out.old) }
     ensures { (w after : List ℤ) → PressMade case variable raised.now amount w after best.now
         → MadeRound false case w out.old after out.new result }
 {
     let sum = tables::sum_of_best(case, best);
     match sum {
-        Figure::Refused(refusal) => Round::Refused(refusal),
-        Figure::Value(bound) => write_lines(case, out, raised, variable, amount, bound),
+        Err(refusal) => Err(refusal),
+        Ok(bound) => write_lines(case, out, raised, variable, amount, bound),
     }
 }
 
@@ -122,29 +119,29 @@ fn press_round(
     raised: &[u8],
     variable: usize,
     amount: i64,
-) -> Round
-    requires found { Found case table.old best.old raised.now variable × (least_gap case table.old variable ≡ some amount) }
+) -> Result<Round, Refusal>
+    requires found { Found case table.old best.old raised.now variable × (least_gap case table.old variable ≡ Some amount) }
     requires case_in_bounds { round_bytes (rules_of case) case ≤ length out.old }
     ensures { MadeRound false case table.old out.old table.new out.new result
         × BestOf case table.new best.new }
 {
     let pressed = press(case, table, best, raised, variable, amount);
     match pressed {
-        Outcome::Refused(refusal) => Round::Refused(refusal),
-        Outcome::Done => write_pressed(case, out, best, raised, variable, amount),
+        Err(refusal) => Err(refusal),
+        Ok(()) => write_pressed(case, out, best, raised, variable, amount),
     }
 }
 
 // The void line of the chosen variable, where nothing sets a gap.
-fn void_line(case: Case, out: &mut [u8], raised: &[u8], variable: usize) -> Round
+fn void_line(case: Case, out: &mut [u8], raised: &[u8], variable: usize) -> Result<Round, Refusal>
     requires { round_bytes (rules_of case) case ≤ length out.old }
-    ensures { (w best : List ℤ) → Found case w best raised.now variable → least_gap case w variable ≡ none
+    ensures { (w best : List ℤ) → Found case w best raised.now variable → least_gap case w variable ≡ None
         → MadeRound false case w out.old w out.new result }
 {
     let written = round_lines::write_void(case, out, raised, variable);
     match written {
-        Written::Refused(refusal) => Round::Refused(refusal),
-        Written::Bytes(bytes) => Round::Void { bytes },
+        Err(refusal) => Err(refusal),
+        Ok(bytes) => Ok(Round::Void { bytes }),
     }
 }
 
@@ -155,7 +152,7 @@ fn press_or_void(
     best: &mut [i64],
     raised: &[u8],
     variable: usize,
-) -> Round
+) -> Result<Round, Refusal>
     requires { Found case table.old best.old raised.now variable × (round_bytes (rules_of case) case ≤ length out.old) }
     ensures { MadeRound false case table.old out.old table.new out.new result
         × BestOf case table.new best.new }
@@ -168,7 +165,7 @@ fn press_or_void(
 }
 
 // The variable to press, and the scopes to raise.
-fn search(case: Case, acts: &[u8], rows: &[u8], raised: &mut [u8]) -> Chosen
+fn search(case: Case, acts: &[u8], rows: &[u8], raised: &mut [u8]) -> Option<usize>
     requires { (scope_count case ≤ length raised.old) × (case.n ≤ length acts.now) × (case.n ≤ variable_places) × (case.d ≤ 8)
         × (case.m ≤ edge_places) }
     ensures { (w : List ℤ) → Prepared case w acts.now rows.now → AllRaised case raised.old
@@ -176,10 +173,10 @@ fn search(case: Case, acts: &[u8], rows: &[u8], raised: &mut [u8]) -> Chosen
 {
     let found = choosing::choose(case, acts, rows, raised);
     match found {
-        Chosen::Nothing => Chosen::Nothing,
-        Chosen::Variable(i) => {
+        None => None,
+        Some(i) => {
             trim::trim(case, acts, rows, raised, i);
-            Chosen::Variable(i)
+            Some(i)
         }
     }
 }
@@ -192,19 +189,19 @@ fn press_next(
     best: &mut [i64],
     acts: &[u8],
     rows: &[u8],
-) -> Round
+) -> Result<Round, Refusal>
     requires handed { Handed (rules_of case) (working_weight (rules_of case)) case table.old × BestOf case table.old best.old }
     requires case_in_bounds { round_bytes (rules_of case) case ≤ length out.old }
     requires prepared { Prepared case table.old acts.now rows.now × (case.n ≤ length acts.now) }
-    requires table_value { lowest_pair (rules_of case) case table.old ≡ none }
+    requires table_value { lowest_pair (rules_of case) case table.old ≡ None }
     ensures { MadeRound false case table.old out.old table.new out.new result
         × BestOf case table.new best.new }
 {
     let mut raised = [1u8; SCOPE_PLACES];
     let found = search(case, acts, rows, &mut raised);
     match found {
-        Chosen::Nothing => Round::Settled,
-        Chosen::Variable(i) => press_or_void(case, table, out, best, &raised, i),
+        None => Ok(Round::Settled),
+        Some(i) => press_or_void(case, table, out, best, &raised, i),
     }
 }
 
@@ -217,10 +214,10 @@ fn greatest_of(case: Case, table: &[i64], best: &mut [i64])
 }
 
 // The round of the lowest pair.
-fn pair_round(case: Case, table: &mut [i64], out: &mut [u8], best: &mut [i64], edge: usize) -> Round
+fn pair_round(case: Case, table: &mut [i64], out: &mut [u8], best: &mut [i64], edge: usize) -> Result<Round, Refusal>
     requires handed { Handed (rules_of case) (working_weight (rules_of case)) case table.old × BestOf case table.old best.old }
     requires case_in_bounds { round_bytes (rules_of case) case ≤ length out.old }
-    requires table_value { lowest_pair (rules_of case) case table.old ≡ some edge }
+    requires table_value { lowest_pair (rules_of case) case table.old ≡ Some edge }
     ensures { ((pairs : Bool) → MadeRound pairs case table.old out.old table.new out.new result)
         × BestOf case table.new best.new }
 {
@@ -237,7 +234,7 @@ fn round_checked(
     out: &mut [u8],
     best: &mut [i64],
     pairs: bool,
-) -> Round
+) -> Result<Round, Refusal>
     requires handed { Handed (rules_of case) (working_weight (rules_of case)) case table.old × BestOf case table.old best.old }
     requires case_in_bounds { round_bytes (rules_of case) case ≤ length out.old }
     ensures { MadeRound pairs case table.old out.old table.new out.new result
@@ -247,17 +244,17 @@ fn round_checked(
     let mut rows = [0u8; ROW_PLACES];
     let found = prepare(case, table, best, &mut acts, &mut rows);
     match found {
-        Paired::Pair(edge) => pair_round(case, table, out, best, edge),
-        Paired::Nothing => {
+        Some(edge) => pair_round(case, table, out, best, edge),
+        None => {
             if pairs {
-                return Round::Settled;
+                return Ok(Round::Settled);
             }
             press_next(case, table, out, best, &acts, &rows)
         }
     }
 }
 
-fn first_round(case: Case, table: &mut [i64], out: &mut [u8]) -> Round
+fn first_round(case: Case, table: &mut [i64], out: &mut [u8]) -> Result<Round, Refusal>
     requires handed { Handed (rules_of case) (working_weight (rules_of case)) case table.old }
     requires case_in_bounds { round_bytes (rules_of case) case ≤ length out.old }
     ensures { MadeRound false case table.old out.old table.new out.new result }
@@ -277,15 +274,15 @@ fn limit_press(
     best: &[i64],
     raised: &[u8],
     variable: usize,
-) -> RunAnswer
+) -> Result<RunAnswer, Refusal>
     requires { Found case table.now best.now raised.now variable × (round_bytes (rules_of case) case ≤ length out.old) }
     ensures { LimitIs false case table.now out.old out.new result }
 {
     if least_gap(case, table, best, raised, variable) != gaps::NO_GAP {
-        return RunAnswer::Limit;
+        return Ok(RunAnswer::Limit);
     }
     void_line(case, out, raised, variable);
-    RunAnswer::Void
+    Ok(RunAnswer::Void)
 }
 
 fn limit_next(
@@ -295,22 +292,22 @@ fn limit_next(
     best: &[i64],
     acts: &[u8],
     rows: &[u8],
-) -> RunAnswer
+) -> Result<RunAnswer, Refusal>
     requires handed { Handed (rules_of case) (working_weight (rules_of case)) case table.now × BestOf case table.now best.now }
     requires case_in_bounds { round_bytes (rules_of case) case ≤ length out.old }
     requires prepared { Prepared case table.now acts.now rows.now × (case.n ≤ length acts.now) }
-    requires table_value { lowest_pair (rules_of case) case table.now ≡ none }
+    requires table_value { lowest_pair (rules_of case) case table.now ≡ None }
     ensures { LimitIs false case table.now out.old out.new result }
 {
     let mut raised = [1u8; SCOPE_PLACES];
     let found = search(case, acts, rows, &mut raised);
     match found {
-        Chosen::Nothing => RunAnswer::Settled,
-        Chosen::Variable(i) => limit_press(case, table, out, best, &raised, i),
+        None => Ok(RunAnswer::Settled),
+        Some(i) => limit_press(case, table, out, best, &raised, i),
     }
 }
 
-fn at_limit(case: Case, table: &[i64], out: &mut [u8], best: &[i64], pairs: bool) -> RunAnswer
+fn at_limit(case: Case, table: &[i64], out: &mut [u8], best: &[i64], pairs: bool) -> Result<RunAnswer, Refusal>
     requires handed { Handed (rules_of case) (working_weight (rules_of case)) case table.now × BestOf case table.now best.now }
     requires case_in_bounds { round_bytes (rules_of case) case ≤ length out.old }
     ensures { LimitIs pairs case table.now out.old out.new result }
@@ -319,28 +316,28 @@ fn at_limit(case: Case, table: &[i64], out: &mut [u8], best: &[i64], pairs: bool
     let mut rows = [0u8; ROW_PLACES];
     let found = prepare(case, table, best, &mut acts, &mut rows);
     match found {
-        Paired::Pair(_) => RunAnswer::Limit,
-        Paired::Nothing => {
+        Some(_) => Ok(RunAnswer::Limit),
+        None => {
             if pairs {
-                return RunAnswer::Settled;
+                return Ok(RunAnswer::Settled);
             }
             limit_next(case, table, out, best, &acts, &rows)
         }
     }
 }
 
-fn stop_run(case: Case, table: &[i64], best: &[i64], answer: RunAnswer, rounds: u64) -> Run
+fn stop_run(case: Case, table: &[i64], best: &[i64], answer: Result<RunAnswer, Refusal>, rounds: u64) -> Run
     requires { Handed (rules_of case) (working_weight (rules_of case)) case table.now × BestOf case table.now best.now }
     ensures { result ≡ stopped_run case table.now answer rounds }
 {
     let sum = tables::sum_of_best(case, best);
     match sum {
-        Figure::Refused(refusal) => Run {
-            answer: RunAnswer::Refused(refusal),
+        Err(refusal) => Run {
+            answer: Err(refusal),
             rounds,
             bound: 0,
         },
-        Figure::Value(bound) => Run {
+        Ok(bound) => Run {
             answer,
             rounds,
             bound,
@@ -364,14 +361,14 @@ fn run_checked(
     while done < limit {
         let made = round_checked(case, table, out, best, pairs);
         match made {
-            Round::Settled => return stop_run(case, table, best, RunAnswer::Settled, done),
-            Round::Refused(refusal) => {
-                return stop_run(case, table, best, RunAnswer::Refused(refusal), done);
+            Ok(Round::Settled) => return stop_run(case, table, best, Ok(RunAnswer::Settled), done),
+            Err(refusal) => {
+                return stop_run(case, table, best, Err(refusal), done);
             }
-            Round::Void { bytes: _ } => {
-                return stop_run(case, table, best, RunAnswer::Void, done);
+            Ok(Round::Void { bytes: _ }) => {
+                return stop_run(case, table, best, Ok(RunAnswer::Void), done);
             }
-            Round::Made { bytes: _, bound: _ } => {}
+            Ok(Round::Made { bytes: _, bound: _ }) => {}
         }
         done += 1;
     }
@@ -395,12 +392,12 @@ fn run_asked(case: Case, table: &mut [i64], out: &mut [u8], limit: u64, pairs: b
 {
     let checked = round_lines::check_round(case, table, out.len(), false);
     match checked {
-        Outcome::Refused(refusal) => Run {
-            answer: RunAnswer::Refused(refusal),
+        Err(refusal) => Run {
+            answer: Err(refusal),
             rounds: 0,
             bound: 0,
         },
-        Outcome::Done => run_from(case, table, out, limit, pairs),
+        Ok(()) => run_from(case, table, out, limit, pairs),
     }
 }
 
@@ -408,15 +405,15 @@ fn run_asked(case: Case, table: &mut [i64], out: &mut [u8], limit: u64, pairs: b
 
 // One round, or a void line: its lines from the output's first byte. Settled or refused, table and output keep what they held; with a void line
 // the table does.
-pub fn round(case: Case, table: &mut [i64], out: &mut [u8]) -> Round
+pub fn round(case: Case, table: &mut [i64], out: &mut [u8]) -> Result<Round, Refusal>
     ensures { (result ≡ (round_call (rules_of case) engine_next case table.old out.old).answer)
         × (table.new ≡ (round_call (rules_of case) engine_next case table.old out.old).table)
         × (out.new ≡ (round_call (rules_of case) engine_next case table.old out.old).out) }
 {
     let checked = round_lines::check_round(case, table, out.len(), false);
     match checked {
-        Outcome::Refused(refusal) => Round::Refused(refusal),
-        Outcome::Done => first_round(case, table, out),
+        Err(refusal) => Err(refusal),
+        Ok(()) => first_round(case, table, out),
     }
 }
 

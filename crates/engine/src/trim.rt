@@ -1,6 +1,5 @@
 // Which scopes are kept: upwards, each is dropped without which the values stay refuted.
-ghost use Rattle.std.specs.Prelude.{◌≡◌, true, List, ℕ, ◌≤◌, ◌<◌, ℤ, length, get_or};
-ghost use Rattle.std.proofs.Math.Option.{some};
+ghost use Rattle.std.specs.Prelude.{◌≡◌, true, List, ℕ, ◌≤◌, ◌<◌, ℤ, length, get_or, Some};
 ghost use Rattle.definitions.specs.Rules.{variable_places, edge_places};
 ghost use Rattle.definitions.specs.Case.{scope_count};
 ghost use Rattle.definitions.specs.Engine.{chosen, kept_scopes};
@@ -104,7 +103,7 @@ pub(crate) fn trim(case: Case, acts: &[u8], rows: &[u8], raised: &mut [u8], vari
     requires case_in_bounds { (scope_count case ≤ length raised.old) × (case.n ≤ length acts.now) × (case.d ≤ 8) }
     requires variable_lt_n { (variable < case.n) × (case.n ≤ variable_places) × (case.m ≤ edge_places) }
     ensures { (w : List ℤ) → Prepared case w acts.now rows.now → AllRaised case raised.old
-        → chosen case w ≡ some variable → raised_below raised.new (scope_count case) ≡ kept_scopes case w variable }
+        → chosen case w ≡ Some variable → raised_below raised.new (scope_count case) ≡ kept_scopes case w variable }
 {
     let mut enough = [0u8; SCOPE_PLACES];
     raised[variable] = 0;

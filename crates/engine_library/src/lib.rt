@@ -45,29 +45,29 @@ fn number_of(refusal: Refusal) -> u64
     integers::wide(texts::number_of(refusal))
 }
 
-fn round_of(round: Round) -> CeilingRound
+fn round_of(round: Result<Round, Refusal>) -> CeilingRound
     ensures { result ≡ round_of round }
 {
     match round {
-        Round::Settled => CeilingRound {
+        Ok(Round::Settled) => CeilingRound {
             number: 0,
             bytes: 0,
             bound: 0,
             none_lawful: 0,
         },
-        Round::Made { bytes, bound } => CeilingRound {
+        Ok(Round::Made { bytes, bound }) => CeilingRound {
             number: 0,
             bytes,
             bound,
             none_lawful: 0,
         },
-        Round::Void { bytes } => CeilingRound {
+        Ok(Round::Void { bytes }) => CeilingRound {
             number: 0,
             bytes,
             bound: 0,
             none_lawful: 1,
         },
-        Round::Refused(refusal) => CeilingRound {
+        Err(refusal) => CeilingRound {
             number: number_of(refusal),
             bytes: 0,
             bound: 0,
@@ -76,36 +76,36 @@ fn round_of(round: Round) -> CeilingRound
     }
 }
 
-fn answer_number(answer: RunAnswer) -> u64
+fn answer_number(answer: Result<RunAnswer, Refusal>) -> u64
     ensures { result ≡ (run_says answer).number }
 {
     match answer {
-        RunAnswer::Settled => 0,
-        RunAnswer::Limit => 0,
-        RunAnswer::Void => 0,
-        RunAnswer::Refused(refusal) => number_of(refusal),
+        Ok(RunAnswer::Settled) => 0,
+        Ok(RunAnswer::Limit) => 0,
+        Ok(RunAnswer::Void) => 0,
+        Err(refusal) => number_of(refusal),
     }
 }
 
-fn limit_of(answer: RunAnswer) -> u64
+fn limit_of(answer: Result<RunAnswer, Refusal>) -> u64
     ensures { result ≡ by_limit answer }
 {
     match answer {
-        RunAnswer::Settled => 0,
-        RunAnswer::Limit => 1,
-        RunAnswer::Void => 0,
-        RunAnswer::Refused(_) => 0,
+        Ok(RunAnswer::Settled) => 0,
+        Ok(RunAnswer::Limit) => 1,
+        Ok(RunAnswer::Void) => 0,
+        Err(_) => 0,
     }
 }
 
-fn none_lawful_of(answer: RunAnswer) -> u64
+fn none_lawful_of(answer: Result<RunAnswer, Refusal>) -> u64
     ensures { result ≡ by_void answer }
 {
     match answer {
-        RunAnswer::Settled => 0,
-        RunAnswer::Limit => 0,
-        RunAnswer::Void => 1,
-        RunAnswer::Refused(_) => 0,
+        Ok(RunAnswer::Settled) => 0,
+        Ok(RunAnswer::Limit) => 0,
+        Ok(RunAnswer::Void) => 1,
+        Err(_) => 0,
     }
 }
 

@@ -6,7 +6,6 @@
 use mathlib.Core.Path.{◌≡◌, refl, sym, ap, ap₂, subst, ◌∙◌}
 use mathlib.Core.Bool.{Bool, true, false, not}
 use mathlib.Core.Logic.{◌↔◌}
-use mathlib.Core.Option.{Option, none, some}
 use mathlib.Core.List.Memᴰ
 use mathlib.Core.List.{List, [], ◌∷◌, ◌++◌, append_assoc, append-nil}
 use Prim.Native.Nat.{ℕ, zero, suc, ◌+◌, ◌-◌, ◌≤◌}
@@ -16,7 +15,7 @@ use lib.IntN.{ℤ}
 use lib.Dec.{T, ltb}
 use lib.ListN.{length, take, drop, length-append, length-drop, length-map}
 use lib.Seq.{take-append_seam, drop-append-add, drop-drop}
-use Rattle.std.specs.Prelude.{if◌then◌else◌}
+use Rattle.std.specs.Prelude.{if◌then◌else◌, Result, Ok, Err, Option, Some, None}
 use Rattle.integers.specs.Words.{all, joined}
 use Rattle.integers.specs.Tests.{tests, if-false, and_left, and_right}
 use Rattle.integers.specs.Options.{none-some, some_inj}
@@ -45,18 +44,18 @@ use Rattle.engine_theory.specs.Runs.{bound_lines, texts_of, texts_at_limit, call
 use Rattle.engine_theory.proofs.Runs.{RoundFrom, Lawful, round_whole, handed-on, void-whole, void-short, run-tallied}
 
 -- no number that is asked before a round is 11
-not-leaving : (ts : List Test) → T (all (λ t. not (is_leaving t.refusal)) ts) → {x : Refusal} → first_refusal ts ≡ some x → T (not (is_leaving x))
+not-leaving : (ts : List Test) → T (all (λ t. not (is_leaving t.refusal)) ts) → {x : Refusal} → first_refusal ts ≡ Some x → T (not (is_leaving x))
 not-leaving [] h e = absurd (none-some e)
 not-leaving (t ∷ ts) h {x} e = go t.applies (and_left (not (is_leaving t.refusal)) _ h) (not-leaving ts (and_right (not (is_leaving t.refusal)) _ h)) e
   where
-    go : (b : Bool) → T (not (is_leaving t.refusal)) → (first_refusal ts ≡ some x → T (not (is_leaving x)))
-        → (if b then some t.refusal else first_refusal ts) ≡ some x → T (not (is_leaving x))
+    go : (b : Bool) → T (not (is_leaving t.refusal)) → (first_refusal ts ≡ Some x → T (not (is_leaving x)))
+        → (if b then Some t.refusal else first_refusal ts) ≡ Some x → T (not (is_leaving x))
     go true h rest e = subst (λ (y : Refusal). T (not (is_leaving y))) (some_inj e) h
     go false h rest e = rest e
 
 module _ (r : Rules) (next : Rules → Case → List ℤ → Next) (c : Case) (w : List ℤ) (out : List ℕ) where
   -- what a call asks before its first round
-  pub taken-iff : engine_refusal r next c w out ≡ none ↔ Handed r (working_weight r) c w × (round_bytes r c ≤ length out)
+  pub taken-iff : engine_refusal r next c w out ≡ None ↔ Handed r (working_weight r) c w × (round_bytes r c ≤ length out)
   taken-iff =
       let h = handed r (working_weight r) c w (ltb (length out) (round_bytes r c)) false in
       let n = none-iff (engine_refusal r next c w out) in (
@@ -64,15 +63,15 @@ module _ (r : Rules) (next : Rules → Case → List ℤ → Next) (c : Case) (w
         λ (p, q). n.0 (h.1 (p, simp tests (omega arith), tt)),
       )
 
-  pub call-taken : engine_refusal r next c w out ≡ none → round_call r next c w out ≡ round_made c w out (make_next r c w (next r c w))
+  pub call-taken : engine_refusal r next c w out ≡ None → round_call r next c w out ≡ round_made c w out (make_next r c w (next r c w))
   unfolding round_call
   call-taken e = rw (e, round_call)
 
-  pub round-refused : {x : Refusal} → engine_refusal r next c w out ≡ some x → round_call r next c w out ≡ round_made c w out (refused x)
+  pub round-refused : {x : Refusal} → engine_refusal r next c w out ≡ Some x → round_call r next c w out ≡ round_made c w out (refused x)
   unfolding round_call
   round-refused e = rw (e, round_call)
 
-  pub not-eleven : {x : Refusal} → engine_refusal r next c w out ≡ some x → T (not (is_leaving x))
+  pub not-eleven : {x : Refusal} → engine_refusal r next c w out ≡ Some x → T (not (is_leaving x))
   not-eleven = not-leaving (handed_over r (working_weight r) c w (ltb (length out) (round_bytes r c)) false) tt
 
   -- what holds of a call that is refused, and of one by what comes next, holds of the call
@@ -80,72 +79,72 @@ module _ (r : Rules) (next : Rules → Case → List ℤ → Next) (c : Case) (w
   call-has P f = asked (engine_refusal r next c w out) refl
     where
       asked : (o : Option Refusal) → engine_refusal r next c w out ≡ o → P (round_call r next c w out)
-      asked none e = subst P (sym (call-taken e)) (f (make_next r c w (next r c w)))
-      asked (some x) e = subst P (sym (round-refused e)) (f (refused x))
+      asked None e = subst P (sym (call-taken e)) (f (make_next r c w (next r c w)))
+      asked (Some x) e = subst P (sym (round-refused e)) (f (refused x))
 
   -- no round was made: the table keeps what it held, and without a void line so does the output
-  pub unmade-table : ((bytes : ℕ) (bound : ℤ) → (round_call r next c w out).answer ≡ Round.Made bytes bound → ⊥) → (round_call r next c w out).table ≡ w
-  unmade-table = call-has (λ u. ((bytes : ℕ) (bound : ℤ) → u.answer ≡ Round.Made bytes bound → ⊥) → u.table ≡ w) go
+  pub unmade-table : ((bytes : ℕ) (bound : ℤ) → (round_call r next c w out).answer ≡ Ok (Round.Made bytes bound) → ⊥) → (round_call r next c w out).table ≡ w
+  unmade-table = call-has (λ u. ((bytes : ℕ) (bound : ℤ) → u.answer ≡ Ok (Round.Made bytes bound) → ⊥) → u.table ≡ w) go
     where
-      go : (m : Made) → ((bytes : ℕ) (bound : ℤ) → (round_made c w out m).answer ≡ Round.Made bytes bound → ⊥) → (round_made c w out m).table ≡ w
+      go : (m : Made) → ((bytes : ℕ) (bound : ℤ) → (round_made c w out m).answer ≡ Ok (Round.Made bytes bound) → ⊥) → (round_made c w out m).table ≡ w
       go settled n = refl
       go (refused x) n = refl
       go (made v lines) n = absurd (n _ _ refl)
       go (voided lines) n = refl
 
-  pub unmade-output : ((bytes : ℕ) (bound : ℤ) → (round_call r next c w out).answer ≡ Round.Made bytes bound → ⊥)
-      → ((bytes : ℕ) → (round_call r next c w out).answer ≡ Round.Void bytes → ⊥) → (round_call r next c w out).out ≡ out
+  pub unmade-output : ((bytes : ℕ) (bound : ℤ) → (round_call r next c w out).answer ≡ Ok (Round.Made bytes bound) → ⊥)
+      → ((bytes : ℕ) → (round_call r next c w out).answer ≡ Ok (Round.Void bytes) → ⊥) → (round_call r next c w out).out ≡ out
   unmade-output =
-      call-has (λ u. ((bytes : ℕ) (bound : ℤ) → u.answer ≡ Round.Made bytes bound → ⊥) → ((bytes : ℕ) → u.answer ≡ Round.Void bytes → ⊥) → u.out ≡ out) go
+      call-has (λ u. ((bytes : ℕ) (bound : ℤ) → u.answer ≡ Ok (Round.Made bytes bound) → ⊥) → ((bytes : ℕ) → u.answer ≡ Ok (Round.Void bytes) → ⊥) → u.out ≡ out) go
     where
-      go : (m : Made) → ((bytes : ℕ) (bound : ℤ) → (round_made c w out m).answer ≡ Round.Made bytes bound → ⊥)
-          → ((bytes : ℕ) → (round_made c w out m).answer ≡ Round.Void bytes → ⊥) → (round_made c w out m).out ≡ out
+      go : (m : Made) → ((bytes : ℕ) (bound : ℤ) → (round_made c w out m).answer ≡ Ok (Round.Made bytes bound) → ⊥)
+          → ((bytes : ℕ) → (round_made c w out m).answer ≡ Ok (Round.Void bytes) → ⊥) → (round_made c w out m).out ≡ out
       go settled n o = refl
       go (refused x) n o = refl
       go (made v lines) n o = absurd (n _ _ refl)
       go (voided lines) n o = absurd (o _ refl)
 
   -- refused before its first round, a run is refused so, with no rounds
-  pub run-refused : (limit : ℕ) {x : Refusal} → engine_refusal r next c w out ≡ some x
-      → run_call r next c limit w out ≡ stop_run r next c (RunAnswer.Refused x) 0 w out []
+  pub run-refused : (limit : ℕ) {x : Refusal} → engine_refusal r next c w out ≡ Some x
+      → run_call r next c limit w out ≡ stop_run r next c (Err x) 0 w out []
   unfolding run_call
   run-refused zero {x} e =
       ap (λ (u : RoundCall). end_at_limit r next c u.answer u 0 w out []) (round-refused e)
-      ∙ ap (λ (a : RunAnswer). stop_run r next c a 0 w out []) (if-false RunAnswer.Limit (RunAnswer.Refused x) (is_leaving x) (not-eleven e))
+      ∙ ap (λ (a : Result RunAnswer Refusal). stop_run r next c a 0 w out []) (if-false (Ok RunAnswer.Limit) (Err x) (is_leaving x) (not-eleven e))
   run-refused (suc limit) e = ap (λ (u : RoundCall). go_on r next c u.answer u 0 w out [] (λ v bytes log. run_call_from r next c limit 1 v bytes log))
       (round-refused e)
 
 -- ---- a run is the iteration of the round's call, for every table and every output
 
 module _ (r : Rules) (next : Rules → Case → List ℤ → Next) (c : Case) where
-  stop-preceded : (answer : RunAnswer) (done : ℕ) (w : List ℤ) (out log : List ℕ)
+  stop-preceded : (answer : Result RunAnswer Refusal) (done : ℕ) (w : List ℤ) (out log : List ℕ)
       → stop_run r next c answer done w out log ≡ preceded done log (stop_run r next c answer 0 w out [])
   stop-preceded answer done w out log = ap₂ (λ (n : ℕ) (l : List ℕ). stop_run r next c answer n w out l) (omega arith) (sym (append-nil log))
 
   void-preceded : (call : RoundCall) (bytes done : ℕ) (log : List ℕ)
       → stop_void r next c call bytes done log ≡ preceded done log (stop_void r next c call bytes 0 [])
   void-preceded call bytes done log =
-      ap (λ (n : ℕ). stop_run r next c RunAnswer.Void n call.table call.out (log ++ take bytes call.out)) (omega arith)
+      ap (λ (n : ℕ). stop_run r next c (Ok RunAnswer.Void) n call.table call.out (log ++ take bytes call.out)) (omega arith)
 
   from-preceded : (left done : ℕ) (w : List ℤ) (out log : List ℕ)
       → run_call_from r next c left done w out log ≡ preceded done log (run_call_from r next c left 0 w out [])
   from-preceded zero done w out log = go (round_call r next c w out).answer
     where
-      go : (a : Round) → end_at_limit r next c a (round_call r next c w out) done w out log
+      go : (a : Result Round Refusal) → end_at_limit r next c a (round_call r next c w out) done w out log
           ≡ preceded done log (end_at_limit r next c a (round_call r next c w out) 0 w out [])
-      go Round.Settled = stop-preceded RunAnswer.Settled done w out log
-      go (Round.Made bytes bound) = stop-preceded RunAnswer.Limit done w out log
-      go (Round.Void bytes) = void-preceded (round_call r next c w out) bytes done log
-      go (Round.Refused x) = stop-preceded (if is_leaving x then RunAnswer.Limit else RunAnswer.Refused x) done w out log
+      go (Ok Round.Settled) = stop-preceded (Ok RunAnswer.Settled) done w out log
+      go (Ok (Round.Made bytes bound)) = stop-preceded (Ok RunAnswer.Limit) done w out log
+      go (Ok (Round.Void bytes)) = void-preceded (round_call r next c w out) bytes done log
+      go (Err x) = stop-preceded (if is_leaving x then Ok RunAnswer.Limit else Err x) done w out log
   from-preceded (suc left) done w out log = go (λ d v o l. from-preceded left d v o l) (round_call r next c w out).answer (round_call r next c w out)
     where
       go : ((d : ℕ) (v : List ℤ) (o l : List ℕ) → run_call_from r next c left d v o l ≡ preceded d l (run_call_from r next c left 0 v o []))
-          → (a : Round) (call : RoundCall) → go_on r next c a call done w out log (λ v bytes l. run_call_from r next c left (suc done) v bytes l)
+          → (a : Result Round Refusal) (call : RoundCall) → go_on r next c a call done w out log (λ v bytes l. run_call_from r next c left (suc done) v bytes l)
           ≡ preceded done log (go_on r next c a call 0 w out [] (λ v bytes l. run_call_from r next c left 1 v bytes l))
-      go on Round.Settled call = stop-preceded RunAnswer.Settled done w out log
-      go on (Round.Refused x) call = stop-preceded (RunAnswer.Refused x) done w out log
-      go on (Round.Void bytes) call = void-preceded call bytes done log
-      go on (Round.Made bytes bound) call =
+      go on (Ok Round.Settled) call = stop-preceded (Ok RunAnswer.Settled) done w out log
+      go on (Err x) call = stop-preceded (Err x) done w out log
+      go on (Ok (Round.Void bytes)) call = void-preceded call bytes done log
+      go on (Ok (Round.Made bytes bound)) call =
           on (suc done) call.table call.out (log ++ take bytes call.out)
           ∙ ap₂ (λ (n : ℕ) (l : List ℕ). record {
             run = record { answer = rest.run.answer; rounds = n; bound = rest.run.bound };
@@ -162,30 +161,30 @@ module _ (r : Rules) (next : Rules → Case → List ℤ → Next) (c : Case) wh
   module _ (limit : ℕ) (w : List ℤ) (out : List ℕ) where
     -- a run whose first round is made is this round and then the run on the table and output that its call left, and begins its log with the
     -- bytes that the call wrote
-    pub run-made : {bytes : ℕ} {bound : ℤ} → (round_call r next c w out).answer ≡ Round.Made bytes bound
+    pub run-made : {bytes : ℕ} {bound : ℤ} → (round_call r next c w out).answer ≡ Ok (Round.Made bytes bound)
         → run_call r next c (suc limit) w out ≡ preceded 1 (take bytes (round_call r next c w out).out)
         (run_call r next c limit (round_call r next c w out).table (round_call r next c w out).out)
     unfolding run_call
     run-made {bytes} {bound} e =
-        ap (λ (a : Round). go_on r next c a (round_call r next c w out) 0 w out [] (λ v b l. run_call_from r next c limit 1 v b l)) e
+        ap (λ (a : Result Round Refusal). go_on r next c a (round_call r next c w out) 0 w out [] (λ v b l. run_call_from r next c limit 1 v b l)) e
         ∙ from-preceded limit 1 (round_call r next c w out).table (round_call r next c w out).out (take bytes (round_call r next c w out).out)
 
     -- where it is settled or refused, so is the run, with no rounds and no log
-    pub run-settled-first : (round_call r next c w out).answer ≡ Round.Settled
-        → run_call r next c (suc limit) w out ≡ stop_run r next c RunAnswer.Settled 0 w out []
+    pub run-settled-first : (round_call r next c w out).answer ≡ Ok Round.Settled
+        → run_call r next c (suc limit) w out ≡ stop_run r next c (Ok RunAnswer.Settled) 0 w out []
     unfolding run_call
-    run-settled-first e = ap (λ (a : Round). go_on r next c a (round_call r next c w out) 0 w out [] (λ v b l. run_call_from r next c limit 1 v b l)) e
+    run-settled-first e = ap (λ (a : Result Round Refusal). go_on r next c a (round_call r next c w out) 0 w out [] (λ v b l. run_call_from r next c limit 1 v b l)) e
 
-    pub run-refused-first : {x : Refusal} → (round_call r next c w out).answer ≡ Round.Refused x
-        → run_call r next c (suc limit) w out ≡ stop_run r next c (RunAnswer.Refused x) 0 w out []
+    pub run-refused-first : {x : Refusal} → (round_call r next c w out).answer ≡ Err x
+        → run_call r next c (suc limit) w out ≡ stop_run r next c (Err x) 0 w out []
     unfolding run_call
-    run-refused-first e = ap (λ (a : Round). go_on r next c a (round_call r next c w out) 0 w out [] (λ v b l. run_call_from r next c limit 1 v b l)) e
+    run-refused-first e = ap (λ (a : Result Round Refusal). go_on r next c a (round_call r next c w out) 0 w out [] (λ v b l. run_call_from r next c limit 1 v b l)) e
 
     -- a void line ends it, with no rounds and the bytes that the call wrote
-    pub run-void-first : {bytes : ℕ} → (round_call r next c w out).answer ≡ Round.Void bytes
+    pub run-void-first : {bytes : ℕ} → (round_call r next c w out).answer ≡ Ok (Round.Void bytes)
         → run_call r next c (suc limit) w out ≡ stop_void r next c (round_call r next c w out) bytes 0 []
     unfolding run_call
-    run-void-first e = ap (λ (a : Round). go_on r next c a (round_call r next c w out) 0 w out [] (λ v b l. run_call_from r next c limit 1 v b l)) e
+    run-void-first e = ap (λ (a : Result Round Refusal). go_on r next c a (round_call r next c w out) 0 w out [] (λ v b l. run_call_from r next c limit 1 v b l)) e
 
   -- with no round allowed, it ends by what the first round's call would answer
   pub run-no-round : (w : List ℤ) (out : List ℕ)
@@ -280,13 +279,13 @@ module _ {r : Rules} {next : Rules → Case → List ℤ → Next} {c : Case} (c
   wrote log lines out =
       joined-append log lines ∙ ap (λ (l : List ℕ). joined log ++ l) (sym (take-append_seam (joined lines) (drop (length (joined lines)) out)))
 
-  stops : (a : RunAnswer) (done : ℕ) (w : List ℤ) (out : List ℕ) (log : List (List ℕ)) → bound_at r next c a w ≡ upper_bound c w
+  stops : (a : Result RunAnswer Refusal) (done : ℕ) (w : List ℤ) (out : List ℕ) (log : List (List ℕ)) → bound_at r next c a w ≡ upper_bound c w
       → SameRun r c (stopped a done w log) [] out (stop_run r next c a done w out (joined log))
   stops a done w out log e = record { answer = refl; rounds = refl; bound = e; table = refl; log = refl; out = refl; out-length = refl; out-rest = refl }
 
   voids : (done : ℕ) (w : List ℤ) (out : List ℕ) (log : List (List ℕ)) {i : ℕ} {raised : List ℕ} → Handed r (working_weight r) c w → round_bytes r c ≤ length out
       → next r c w ≡ void i raised
-      → SameRun r c (stopped RunAnswer.Void done w (log ++ void_text r i raised)) (void_text r i raised ∷ []) out
+      → SameRun r c (stopped (Ok RunAnswer.Void) done w (log ++ void_text r i raised)) (void_text r i raised ∷ []) out
       (stop_void r next c (round_made c w out (voided (void_text r i raised))) (length (joined (void_text r i raised))) done (joined log))
   voids done w out log {i} {raised} h long e =
       let lines : List (List ℕ) = void_text r i raised in
@@ -310,14 +309,14 @@ module _ {r : Rules} {next : Rules → Case → List ℤ → Next} {c : Case} (c
     where
       go : (n : Next) → next r c w ≡ n → SameRun r c (at_limit r n done w log) (texts_at_limit r n) out
           (end_at_limit r next c (round_made c w out (make_next r c w n)).answer (round_made c w out (make_next r c w n)) done w out (joined log))
-      go nothing e = stops RunAnswer.Settled done w out log refl
+      go nothing e = stops (Ok RunAnswer.Settled) done w out log refl
       go (void i raised) e = voids done w out log h long e
       go (round moves) e = leads (after_moves r c moves w)
         where
-          leads : (o : Option (List ℤ)) → SameRun r c (stopped RunAnswer.Limit done w log) [] out
+          leads : (o : Option (List ℤ)) → SameRun r c (stopped (Ok RunAnswer.Limit) done w log) [] out
               (end_at_limit r next c (round_made c w out (made_of r c moves o)).answer (round_made c w out (made_of r c moves o)) done w out (joined log))
-          leads none = stops RunAnswer.Limit done w out log refl
-          leads (some v) = stops RunAnswer.Limit done w out log refl
+          leads None = stops (Ok RunAnswer.Limit) done w out log refl
+          leads (Some v) = stops (Ok RunAnswer.Limit) done w out log refl
   calls-from (suc left) done w out log h long =
       subst (λ (u : RoundCall). SameRun r c (run_from r next c (suc left) done w log) (call_texts r next c (suc left) w) out
       (go_on r next c u.answer u done w out (joined log) rest))
@@ -334,15 +333,15 @@ module _ {r : Rules} {next : Rules → Case → List ℤ → Next} {c : Case} (c
           → SameRun r c (run_from r next c left (suc done) v log) (call_texts r next c left v) out (run_call_from r next c left (suc done) v out (joined log)))
           → Same (make_next r c w n) (go_on r next c (round_made c w out (make_next r c w n)).answer
           (round_made c w out (make_next r c w n)) done w out (joined log) rest)
-      go nothing e on = stops RunAnswer.Settled done w out log refl
+      go nothing e on = stops (Ok RunAnswer.Settled) done w out log refl
       go (void i raised) e on = voids done w out log h long e
       go (round moves) e on = leads (after_moves r c moves w) refl
         where
           leads : (o : Option (List ℤ)) → after_moves r c moves w ≡ o
               → Same (made_of r c moves o) (go_on r next c (round_made c w out (made_of r c moves o)).answer
               (round_made c w out (made_of r c moves o)) done w out (joined log) rest)
-          leads none f = stops (RunAnswer.Refused LeavesRange) done w out log refl
-          leads (some v) f =
+          leads None f = stops (Err LeavesRange) done w out log refl
+          leads (Some v) f =
               let m : RoundFrom r next c w moves v = record { handed = h; comes = e; leads = f } in
               let lines : List (List ℕ) = round_text r c moves v in
               let n : length (overwritten (joined lines) out) ≡ length out = kept-length (joined lines) out (round-short m) long in
@@ -360,7 +359,7 @@ module _ {r : Rules} {next : Rules → Case → List ℤ → Next} {c : Case} (c
 
   module _ (limit : ℕ) (w : List ℤ) (out : List ℕ) where
     -- where none of numbers 3 to 8 and 15 applies
-    module _ (taken : engine_refusal r next c w out ≡ none) where
+    module _ (taken : engine_refusal r next c w out ≡ None) where
       pub same-run : SameRun r c (run r next c limit w) (call_texts r next c limit w) out (run_call r next c limit w out)
       unfolding run_call
       same-run = let (h, long) = (taken-iff r next c w out).0 taken in calls-from limit 0 w out [] h long
@@ -377,10 +376,10 @@ module _ {r : Rules} {next : Rules → Case → List ℤ → Next} {c : Case} (c
       where
         go : (o : Option Refusal) → engine_refusal r next c w out ≡ o
             → length (bound_lines r (lines_in r.amount_width (run_call r next c limit w out).log)) ≡ (run_call r next c limit w out).run.rounds
-        go none e =
+        go None e =
             ap (λ (ls : List (List ℕ)). length (bound_lines r ls)) (call-lines e)
             ∙ (run-tallied coherent lawful limit w ((taken-iff r next c w out).0 e).0).counted ∙ sym (same-run e).rounds
-        go (some x) e =
+        go (Some x) e =
             let q = run-refused r next c w out limit e in
             ap (λ (u : RunCall). length (bound_lines r (lines_in r.amount_width u.log))) q
             ∙ ap (λ (ls : List (List ℕ)). length (bound_lines r ls)) (lines-joined r.amount_width [] (λ l m. absurd (Memᴰ.not-nil m)))

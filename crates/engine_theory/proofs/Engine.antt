@@ -2,10 +2,10 @@
 -- where there is no such pair. They are lawful, and so are the engine's void lines; nothing comes next just where the state is settled; from
 -- starting weights none leaves the working range, and those of pairs only from no table; these keep every lawful objective; and from any table
 -- there are few of them. Assumes nothing.
+use Rattle.std.specs.Prelude.{Ok, Some, None}
 use mathlib.Core.Path.{◌≡◌, refl, sym, ap, subst, ◌∙◌}
 use mathlib.Core.Bool.{not}
 use mathlib.Core.Logic.{◌↔◌, ◌⊎◌, inl, inr}
-use mathlib.Core.Option.{none, some}
 use mathlib.Core.List.{List, [], ◌∷◌}
 use Prim.Native.Nat.{ℕ, ◌+◌, ◌*◌, ◌≤◌, ◌<◌}
 use native.Mathlib.Nat.{mul-le-mul_left}
@@ -47,39 +47,39 @@ use Rattle.reach_theory.proofs.Counts.{rounds_left, lowest-ready, left_less, pai
 use Rattle.engine_theory.proofs.Runs.{RoundFrom, Lawful, NeverLeaves, run-has, run_ends, ends-limit, handed-on}
 
 pub data EngineRound (r : Rules) (c : Case) (w : List ℤ) : List Move → List ℤ → Type 0 where
-  pairs : {e : ℕ} → lowest_pair r c w ≡ some e → EngineRound r c w (pair_round c w e) (pair_rounded c w e)
-  presses : {i : ℕ} {a : ℤ} → lowest_pair r c w ≡ none → chosen c w ≡ some i → least_gap c w i ≡ some a → T (not (leaves_range r c w (engine_pressed c w i a)))
+  pairs : {e : ℕ} → lowest_pair r c w ≡ Some e → EngineRound r c w (pair_round c w e) (pair_rounded c w e)
+  presses : {i : ℕ} {a : ℤ} → lowest_pair r c w ≡ None → chosen c w ≡ Some i → least_gap c w i ≡ Some a → T (not (leaves_range r c w (engine_pressed c w i a)))
       → EngineRound r c w (active_press c w i (kept_scopes c w i) a ∷ []) (engine_pressed c w i a)
 
 module _ {r : Rules} {c : Case} {w : List ℤ} (coherent : Coherent r) (h : Handed r (working_weight r) c w) where
   -- the lowest pair's round is not passed over
-  pub pair-leads : {e : ℕ} → lowest_pair r c w ≡ some e → after_moves r c (pair_round c w e) w ≡ some (pair_rounded c w e)
+  pub pair-leads : {e : ℕ} → lowest_pair r c w ≡ Some e → after_moves r c (pair_round c w e) w ≡ Some (pair_rounded c w e)
   pair-leads {e} f =
       let (l, s, n, t) = lowest-ready coherent h f in
-      after-pair coherent h l ∙ if-false none (some (pair_rounded c w e)) (pair_leaves r c w e) n
+      after-pair coherent h l ∙ if-false None (Some (pair_rounded c w e)) (pair_leaves r c w e) n
 
-  pair-round : {moves : List Move} {v : List ℤ} → IsPairRound r c w moves → after_moves r c moves w ≡ some v → EngineRound r c w moves v
+  pair-round : {moves : List Move} {v : List ℤ} → IsPairRound r c w moves → after_moves r c moves w ≡ Some v → EngineRound r c w moves v
   pair-round {moves} (e, f, q) l =
       rw (q, ← (some_inj (sym (pair-leads f) ∙ ap (λ (m : List Move). after_moves r c m w) (sym q) ∙ l))) (pairs f)
 
-  press-round : {moves : List Move} {v : List ℤ} → IsPressRound r c w moves → after_moves r c moves w ≡ some v → EngineRound r c w moves v
+  press-round : {moves : List Move} {v : List ℤ} → IsPressRound r c w moves → after_moves r c moves w ≡ Some v → EngineRound r c w moves v
   press-round {moves} {v} (n, i, a, e, g, q) l =
-      let (t, z) = found-else (leaves_range r c w (engine_pressed c w i a)) (some (engine_pressed c w i a))
+      let (t, z) = found-else (leaves_range r c w (engine_pressed c w i a)) (Some (engine_pressed c w i a))
       (sym (after-press c w i a r) ∙ ap (λ m. after_moves r c m w) (sym q) ∙ l) in
       rw (q, ← (some_inj z)) (presses n e g t)
 
-  pub engine-round : {moves : List Move} {v : List ℤ} → engine_next r c w ≡ round moves → after_moves r c moves w ≡ some v → EngineRound r c w moves v
+  pub engine-round : {moves : List Move} {v : List ℤ} → engine_next r c w ≡ round moves → after_moves r c moves w ≡ Some v → EngineRound r c w moves v
   engine-round {moves} {v} d l = go (engine-next-is r c w d)
     where
       go : IsPairRound r c w moves ⊎ IsPressRound r c w moves → EngineRound r c w moves v
       go (inl p) = pair-round p l
       go (inr p) = press-round p l
 
-  pub pairs-round : {moves : List Move} {v : List ℤ} → pairs_next r c w ≡ round moves → after_moves r c moves w ≡ some v → EngineRound r c w moves v
+  pub pairs-round : {moves : List Move} {v : List ℤ} → pairs_next r c w ≡ round moves → after_moves r c moves w ≡ Some v → EngineRound r c w moves v
   pairs-round d l = pair-round (pairs-next-is r c w d) l
 
   -- the scopes that the engine keeps refute
-  kept-refuting : {i : ℕ} → chosen c w ≡ some i → Refuting c w i (kept_scopes c w i)
+  kept-refuting : {i : ℕ} → chosen c w ≡ Some i → Refuting c w i (kept_scopes c w i)
   kept-refuting {i} e =
       let (own, refutes, _) = chosen-some c w e in
       record {
@@ -121,7 +121,7 @@ module _ {r : Rules} {c : Case} {w : List ℤ} (coherent : Coherent r) (h : Hand
 module _ {r : Rules} (coherent : Coherent r) (c : Case) where
   lawful-of : {next : Rules → Case → List ℤ → Next}
       → ((w v : List ℤ) (moves : List Move) → RoundFrom r next c w moves v → EngineRound r c w moves v)
-      → ((w : List ℤ) (i : ℕ) (raised : List ℕ) → next r c w ≡ void i raised → (chosen c w ≡ some i) × (least_gap c w i ≡ none) × (raised ≡ kept_scopes c w i))
+      → ((w : List ℤ) (i : ℕ) (raised : List ℕ) → next r c w ≡ void i raised → (chosen c w ≡ Some i) × (least_gap c w i ≡ None) × (raised ≡ kept_scopes c w i))
       → Lawful r next c
   lawful-of is voids = record {
     allowed = λ {w} {v} {moves} m. engine-allowed coherent m.handed (is w v moves m);
@@ -220,7 +220,7 @@ module _ {r : Rules} {next : Rules → Case → List ℤ → Next} {c : Case} (c
   run-few = omega (arith, few-made.few)
 
   -- so a limit that is not less is never met
-  pub run-unlimited : rounds_left c w₀ ≤ limit → (run r next c limit w₀).answer ≡ RunAnswer.Limit → ⊥
+  pub run-unlimited : rounds_left c w₀ ≤ limit → (run r next c limit w₀).answer ≡ Ok RunAnswer.Limit → ⊥
   run-unlimited enough e =
       let (n, moves, d) = (ends-limit r next c (run_ends r next c limit w₀)).0 e in
       let made = few-made in

@@ -1,8 +1,8 @@
 -- What one call of a round does, by what comes next, on a table and an output to which none of numbers 3 to 8 and 15 applies: settled where
 -- nothing comes; a void line's lines from the output's first byte; the round's moves, with its lines there, where they stay in the working
 -- range; else it is refused by 11 and keeps table and output. Assumes nothing.
+use Rattle.std.specs.Prelude.{Result, Ok, Err, Option, Some, None}
 use mathlib.Core.Path.{◌≡◌, refl, sym, ap, subst}
-use mathlib.Core.Option.{Option, none, some}
 use mathlib.Core.List.{List}
 use Prim.Native.Nat.{ℕ, ◌≤◌}
 use lib.IntN.{ℤ}
@@ -25,27 +25,27 @@ use Rattle.engine_theory.proofs.Runs.{RoundFrom, differ}
 use Rattle.engine_theory.proofs.Calls.{taken-iff, call-taken}
 
 pub data RoundIs (r : Rules) (next : Rules → Case → List ℤ → Next) (c : Case) (w : List ℤ) (out : List ℕ) : RoundCall → Type 0 where
-  settles : next r c w ≡ nothing → RoundIs r next c w out (record { answer = Round.Settled; table = w; out = out })
+  settles : next r c w ≡ nothing → RoundIs r next c w out (record { answer = Ok Round.Settled; table = w; out = out })
   makes : {moves : List Move} {v : List ℤ} → RoundFrom r next c w moves v
       → RoundIs r next c w out (record {
-        answer = Round.Made (length (joined (round_text r c moves v))) (upper_bound c v);
+        answer = Ok (Round.Made (length (joined (round_text r c moves v))) (upper_bound c v));
         table = v;
         out = overwritten (joined (round_text r c moves v)) out;
       })
   voids : {i : ℕ} {raised : List ℕ} → next r c w ≡ void i raised
       → RoundIs r next c w out (record {
-        answer = Round.Void (length (joined (void_text r i raised)));
+        answer = Ok (Round.Void (length (joined (void_text r i raised))));
         table = w;
         out = overwritten (joined (void_text r i raised)) out;
       })
-  leaves : {moves : List Move} → next r c w ≡ round moves → after_moves r c moves w ≡ none
-      → RoundIs r next c w out (record { answer = Round.Refused LeavesRange; table = w; out = out })
+  leaves : {moves : List Move} → next r c w ≡ round moves → after_moves r c moves w ≡ None
+      → RoundIs r next c w out (record { answer = Err LeavesRange; table = w; out = out })
 
-abbrev refusal_of : Round → Refusal
-refusal_of Round.Settled = LeavesRange
-refusal_of (Round.Made bytes bound) = LeavesRange
-refusal_of (Round.Void bytes) = LeavesRange
-refusal_of (Round.Refused x) = x
+abbrev refusal_of : Result Round Refusal → Refusal
+refusal_of (Ok Round.Settled) = LeavesRange
+refusal_of (Ok (Round.Made bytes bound)) = LeavesRange
+refusal_of (Ok (Round.Void bytes)) = LeavesRange
+refusal_of (Err x) = x
 
 module _ (r : Rules) (next : Rules → Case → List ℤ → Next) (c : Case) (w : List ℤ) (out : List ℕ) (h : Handed r (working_weight r) c w)
     (long : round_bytes r c ≤ length out) where
@@ -54,8 +54,8 @@ module _ (r : Rules) (next : Rules → Case → List ℤ → Next) (c : Case) (w
     where
       leads : (moves : List Move) (o : Option (List ℤ)) → next r c w ≡ round moves → after_moves r c moves w ≡ o
           → RoundIs r next c w out (round_made c w out (made_of r c moves o))
-      leads moves none e f = leaves e f
-      leads moves (some v) e f = makes (record { handed = h; comes = e; leads = f })
+      leads moves None e f = leaves e f
+      leads moves (Some v) e f = makes (record { handed = h; comes = e; leads = f })
 
       go : (n : Next) → next r c w ≡ n → RoundIs r next c w out (round_made c w out (make_next r c w n))
       go nothing e = settles e
@@ -63,10 +63,10 @@ module _ (r : Rules) (next : Rules → Case → List ℤ → Next) (c : Case) (w
       go (round moves) e = leads moves (after_moves r c moves w) e refl
 
   -- refused, by 11 alone
-  pub round-leaves : {x : Refusal} → (round_call r next c w out).answer ≡ Round.Refused x → x ≡ LeavesRange
+  pub round-leaves : {x : Refusal} → (round_call r next c w out).answer ≡ Err x → x ≡ LeavesRange
   round-leaves {x} = go round_is
     where
-      go : {u : RoundCall} → RoundIs r next c w out u → u.answer ≡ Round.Refused x → x ≡ LeavesRange
+      go : {u : RoundCall} → RoundIs r next c w out u → u.answer ≡ Err x → x ≡ LeavesRange
       go (settles f) e = differ (cc)
       go (makes m) e = differ (cc)
       go (voids f) e = differ (cc)

@@ -3,11 +3,12 @@
 -- replay takes a run's log and is left with the run's rounds and weights; the log has a bound line for each round; a run answers settled just
 -- where nothing comes next, void just where a void line does, and limit just after so many rounds with another to come. Where no move leaves
 -- the working range, a limit of the upper bound less any lawful objective is enough to settle. Assumes nothing.
+use Rattle.std.specs.Prelude.{Result, Ok, Err, Option, Some, None}
+use Rattle.definitions.specs.declared.Refusal.{Refusal}
 use mathlib.Core.Path.{◌≡◌, refl, sym, ap, subst, ◌∙◌}
 use mathlib.Core.Bool.{true, false}
 use mathlib.Core.Logic.Iff
 use mathlib.Core.Logic.{◌↔◌, ◌⊎◌, inl, inr, ⊎_elim}
-use mathlib.Core.Option.{Option, none, some}
 use mathlib.Core.List.Memᴰ
 use mathlib.Core.List.{List, [], ◌∷◌, ◌++◌, map}
 use Prim.Native.Nat.{ℕ, zero, suc, ◌+◌, ◌*◌, ◌≤◌, ◌<◌}
@@ -52,12 +53,12 @@ differ e = absurd (omega arith)
 
 module _ (r : Rules) (next : Rules → Case → List ℤ → Next) (c : Case) where
   -- with weights w after so many rounds, of which it was allowed `limit`, and with their lines, behind which those of a void line come
-  pub data Ends (w : List ℤ) (rounds limit : ℕ) (lines : List (List ℕ)) : RunAnswer → List (List ℕ) → Type 0 where
-    settles : rounds ≤ limit → next r c w ≡ nothing → Ends w rounds limit lines RunAnswer.Settled lines
-    limits : {moves : List Move} → rounds ≡ limit → next r c w ≡ round moves → Ends w rounds limit lines RunAnswer.Limit lines
-    refuses : {moves : List Move} → rounds < limit → next r c w ≡ round moves → after_moves r c moves w ≡ none
-        → Ends w rounds limit lines (RunAnswer.Refused LeavesRange) lines
-    voids : {i : ℕ} {raised : List ℕ} → rounds ≤ limit → next r c w ≡ void i raised → Ends w rounds limit lines RunAnswer.Void (lines ++ void_text r i raised)
+  pub data Ends (w : List ℤ) (rounds limit : ℕ) (lines : List (List ℕ)) : Result RunAnswer Refusal → List (List ℕ) → Type 0 where
+    settles : rounds ≤ limit → next r c w ≡ nothing → Ends w rounds limit lines (Ok RunAnswer.Settled) lines
+    limits : {moves : List Move} → rounds ≡ limit → next r c w ≡ round moves → Ends w rounds limit lines (Ok RunAnswer.Limit) lines
+    refuses : {moves : List Move} → rounds < limit → next r c w ≡ round moves → after_moves r c moves w ≡ None
+        → Ends w rounds limit lines (Err LeavesRange) lines
+    voids : {i : ℕ} {raised : List ℕ} → rounds ≤ limit → next r c w ≡ void i raised → Ends w rounds limit lines (Ok RunAnswer.Void) (lines ++ void_text r i raised)
 
   pub record Ran (P : ℕ → List ℤ → List (List ℕ) → Type 0) (limit : ℕ) (q : RunOf) : Type 0 where
     pub lines : List (List ℕ)
@@ -66,7 +67,7 @@ module _ (r : Rules) (next : Rules → Case → List ℤ → Next) (c : Case) wh
 
   -- what every round keeps, the run keeps
   module _ (P : ℕ → List ℤ → List (List ℕ) → Type 0)
-      (on : (done : ℕ) (w v : List ℤ) (log : List (List ℕ)) (moves : List Move) → P done w log → next r c w ≡ round moves → after_moves r c moves w ≡ some v
+      (on : (done : ℕ) (w v : List ℤ) (log : List (List ℕ)) (moves : List Move) → P done w log → next r c w ≡ round moves → after_moves r c moves w ≡ Some v
       → P (suc done) v (log ++ round_text r c moves v)) where
     pub run-keeps : (left : ℕ) {done limit : ℕ} {w : List ℤ} {log : List (List ℕ)} → done + left ≡ limit → P done w log
         → Ran P limit (run_from r next c left done w log)
@@ -88,36 +89,36 @@ module _ (r : Rules) (next : Rules → Case → List ℤ → Next) (c : Case) wh
           where
             leads : (o : Option (List ℤ)) → after_moves r c moves w ≡ o
                 → Ran P limit (onward (made_of r c moves o) done w log (λ v lines. run_from r next c left (suc done) v lines))
-            leads none f = record { lines = log; kept = p; ends = refuses (omega arith) e f }
-            leads (some v) f = rest v (log ++ round_text r c moves v) (on done w v log moves p e f)
+            leads None f = record { lines = log; kept = p; ends = refuses (omega arith) e f }
+            leads (Some v) f = rest v (log ++ round_text r c moves v) (on done w v log moves p e f)
 
     pub run-has : (limit : ℕ) (w : List ℤ) → P 0 w [] → Ran P limit (run r next c limit w)
     run-has limit w p = run-keeps limit {done = 0} {limit = limit} {w = w} {log = []} (omega arith) p
 
   module _ {w : List ℤ} {rounds limit : ℕ} {lines : List (List ℕ)} where
     -- settled just where nothing comes next
-    pub ends-settled : {log : List (List ℕ)} {answer : RunAnswer} → Ends w rounds limit lines answer log → answer ≡ RunAnswer.Settled ↔ next r c w ≡ nothing
+    pub ends-settled : {log : List (List ℕ)} {answer : Result RunAnswer Refusal} → Ends w rounds limit lines answer log → answer ≡ (Ok RunAnswer.Settled) ↔ next r c w ≡ nothing
     ends-settled (settles h e) = (λ a. e, λ a. refl)
     ends-settled (limits {moves} h e) = (λ a. differ (cc), λ a. differ (cc))
     ends-settled (refuses {moves} h e f) = (λ a. differ (cc), λ a. differ (cc))
     ends-settled (voids {i} {raised} h e) = (λ a. differ (cc), λ a. differ (cc))
 
     -- void just where a void line does
-    pub ends-void : {log : List (List ℕ)} {answer : RunAnswer} → Ends w rounds limit lines answer log → answer ≡ RunAnswer.Void ↔ VoidNext r next c w
+    pub ends-void : {log : List (List ℕ)} {answer : Result RunAnswer Refusal} → Ends w rounds limit lines answer log → answer ≡ (Ok RunAnswer.Void) ↔ VoidNext r next c w
     ends-void (settles h e) = (λ a. differ (cc), λ (i, raised, f). differ (cc))
     ends-void (limits {moves} h e) = (λ a. differ (cc), λ (i, raised, f). differ (cc))
     ends-void (refuses {moves} h e f) = (λ a. differ (cc), λ (i, raised, g). differ (cc))
     ends-void (voids {i} {raised} h e) = (λ a. (i, raised, e), λ a. refl)
 
     -- limit just after so many rounds with another to come
-    pub ends-limit : {log : List (List ℕ)} {answer : RunAnswer} → Ends w rounds limit lines answer log → answer ≡ RunAnswer.Limit
+    pub ends-limit : {log : List (List ℕ)} {answer : Result RunAnswer Refusal} → Ends w rounds limit lines answer log → answer ≡ Ok RunAnswer.Limit
         ↔ (rounds ≡ limit) × (moves : List Move) × (next r c w ≡ round moves)
     ends-limit (settles h e) = (λ a. differ (cc), λ (g, moves, f). differ (cc))
     ends-limit (limits {moves} h e) = (λ a. (h, moves, e), λ a. refl)
     ends-limit (refuses {moves} h e f) = (λ a. differ (cc), λ (g, u, d). absurd (omega arith))
     ends-limit (voids {i} {raised} h e) = (λ a. differ (cc), λ (g, u, d). differ (cc))
 
-    pub ends-within : {log : List (List ℕ)} {answer : RunAnswer} → Ends w rounds limit lines answer log → rounds ≤ limit
+    pub ends-within : {log : List (List ℕ)} {answer : Result RunAnswer Refusal} → Ends w rounds limit lines answer log → rounds ≤ limit
     ends-within (settles h e) = h
     ends-within (limits h e) = omega arith
     ends-within (refuses h e f) = omega arith
@@ -132,15 +133,15 @@ module _ (r : Rules) (next : Rules → Case → List ℤ → Next) (c : Case) wh
       (run r next c limit w).log
   run_ends limit w = (run_ran limit w).ends
 
-  pub run-void : (limit : ℕ) (w : List ℤ) → (run r next c limit w).answer ≡ RunAnswer.Void ↔ VoidNext r next c (run r next c limit w).weights
+  pub run-void : (limit : ℕ) (w : List ℤ) → (run r next c limit w).answer ≡ (Ok RunAnswer.Void) ↔ VoidNext r next c (run r next c limit w).weights
   run-void limit w = ends-void (run_ends limit w)
 
   -- where nothing comes next just in the states P
   module _ {P : List ℤ → Type 0} (none_left : (w : List ℤ) → next r c w ≡ nothing ↔ P w) (limit : ℕ) (w : List ℤ) where
-    pub run_settled : (run r next c limit w).answer ≡ RunAnswer.Settled ↔ P (run r next c limit w).weights
+    pub run_settled : (run r next c limit w).answer ≡ (Ok RunAnswer.Settled) ↔ P (run r next c limit w).weights
     run_settled = Iff.trans (ends-settled (run_ends limit w)) (none_left (run r next c limit w).weights)
 
-    pub run-limit : (run r next c limit w).answer ≡ RunAnswer.Limit
+    pub run-limit : (run r next c limit w).answer ≡ Ok RunAnswer.Limit
         ↔ ((run r next c limit w).rounds ≡ limit) × (P (run r next c limit w).weights → ⊥) × (VoidNext r next c (run r next c limit w).weights → ⊥)
     run-limit =
         let e = ends-limit (run_ends limit w) in
@@ -163,7 +164,7 @@ module _ (r : Rules) (next : Rules → Case → List ℤ → Next) (c : Case) wh
 pub record RoundFrom (r : Rules) (next : Rules → Case → List ℤ → Next) (c : Case) (w : List ℤ) (moves : List Move) (v : List ℤ) : Type 0 where
   pub handed : Handed r (working_weight r) c w
   pub comes : next r c w ≡ round moves
-  pub leads : after_moves r c moves w ≡ some v
+  pub leads : after_moves r c moves w ≡ Some v
 
 pub record Lawful (r : Rules) (next : Rules → Case → List ℤ → Next) (c : Case) : Type 0 where
   pub allowed : {w v : List ℤ} {moves : List Move} → RoundFrom r next c w moves v → AllAllowed r c w moves v
@@ -232,7 +233,7 @@ module _ {r : Rules} {next : Rules → Case → List ℤ → Next} {c : Case} (c
         mul-le-mul_left (line_length r.amount_width) (omega (arith, length-map raised raise_line, raised-few (lawful.refuting h e)))
 
   tallied-on : (done : ℕ) (w v : List ℤ) (log : List (List ℕ)) (moves : List Move) → Tallied r c done w log → next r c w ≡ round moves
-      → after_moves r c moves w ≡ some v
+      → after_moves r c moves w ≡ Some v
       → Tallied r c (suc done) v (log ++ round_text r c moves v)
   tallied-on done w v log moves p e f =
       let m : RoundFrom r next c w moves v = record { handed = p.handed; comes = e; leads = f } in
@@ -244,7 +245,7 @@ module _ {r : Rules} {next : Rules → Case → List ℤ → Next} {c : Case} (c
             ∙ omega (arith, p.counted, length-append (bound_lines r log) (line_text r.amount_width (bound_line (upper_bound c v)) ∷ []));
       }
 
-  ends-tallied : {limit rounds : ℕ} {w : List ℤ} {lines log : List (List ℕ)} {answer : RunAnswer} → Tallied r c rounds w lines
+  ends-tallied : {limit rounds : ℕ} {w : List ℤ} {lines log : List (List ℕ)} {answer : Result RunAnswer Refusal} → Tallied r c rounds w lines
       → Ends r next c w rounds limit lines answer log → Tallied r c rounds w log
   ends-tallied p (settles h e) = p
   ends-tallied p (limits h e) = p
@@ -290,7 +291,7 @@ module _ {r : Rules} {next : Rules → Case → List ℤ → Next} {c : Case} (c
   pub run-lawful : (p : List ℕ) → T (is_lawful c (run r next c limit w₀).weights p) → T (is_lawful c w₀ p)
   run-lawful = lawful-same c (run r next c limit w₀).weights w₀ (λ x a b u. sym (run-remains.bars x a b u)) h.shape
 
-  pub run-void-none : (run r next c limit w₀).answer ≡ RunAnswer.Void → (p : List ℕ) → T (is_lawful c w₀ p) → ⊥
+  pub run-void-none : (run r next c limit w₀).answer ≡ Ok RunAnswer.Void → (p : List ℕ) → T (is_lawful c w₀ p) → ⊥
   run-void-none e p t =
       let (i, raised, d) = (run-void r next c limit w₀).0 e in
       let k = run-remains in
@@ -308,18 +309,18 @@ between c w₀ rounds w = record {
   weights = w;
   rounds = rounds;
   start = upper_bound c w;
-  held = none;
+  held = None;
   moving = false;
   void = false;
-  refusal = none;
+  refusal = None;
 }
 
 -- there a void line may come last
-abbrev pub ended : RunAnswer → State → State
-ended RunAnswer.Settled s = s
-ended RunAnswer.Limit s = s
-ended RunAnswer.Void s = after_void s
-ended (RunAnswer.Refused x) s = s
+abbrev pub ended : Result RunAnswer Refusal → State → State
+ended (Ok RunAnswer.Settled) s = s
+ended (Ok RunAnswer.Limit) s = s
+ended (Ok RunAnswer.Void) s = after_void s
+ended (Err x) s = s
 
 -- the log leads there, to a table that every call takes, and each of its rounds has lowered the upper bound
 pub record Replayed (r : Rules) (c : Case) (w₀ : List ℤ) (rounds : ℕ) (w : List ℤ) (log : List (List ℕ)) : Type 0 where
@@ -337,22 +338,22 @@ too_many rounds limit b z e h k = e ▸ h ▸ k ▸ simp flat (omega zs)
 -- tables from which no round leaves the working range, the first among them
 pub record NeverLeaves (r : Rules) (next : Rules → Case → List ℤ → Next) (c : Case) (w₀ : List ℤ) (Reach : List ℤ → Type 0) : Type 0 where
   pub first : Reach w₀
-  pub goes : {w : List ℤ} {moves : List Move} → Reach w → next r c w ≡ round moves → (v : List ℤ) × (after_moves r c moves w ≡ some v) × Reach v
+  pub goes : {w : List ℤ} {moves : List Move} → Reach w → next r c w ≡ round moves → (v : List ℤ) × (after_moves r c moves w ≡ Some v) × Reach v
 
 module _ {r : Rules} {next : Rules → Case → List ℤ → Next} {c : Case} {w₀ : List ℤ} {Reach : List ℤ → Type 0} (stays : NeverLeaves r next c w₀ Reach) where
   pub run-reaches : (limit : ℕ) → Ran r next c (λ done w log. Reach w) limit (run r next c limit w₀)
   run-reaches limit = run-has r next c (λ done w log. Reach w) (λ done w v log moves p e f.
       let (u, g, q) = stays.goes p e in subst Reach (some_inj (sym g ∙ f)) q) limit w₀ stays.first
 
-  ends-unrefused : {w : List ℤ} {rounds limit : ℕ} {lines log : List (List ℕ)} {answer : RunAnswer} → Ends r next c w rounds limit lines answer log
-      → Reach w → (answer ≡ RunAnswer.Settled) ⊎ ((answer ≡ RunAnswer.Limit) ⊎ (answer ≡ RunAnswer.Void))
+  ends-unrefused : {w : List ℤ} {rounds limit : ℕ} {lines log : List (List ℕ)} {answer : Result RunAnswer Refusal} → Ends r next c w rounds limit lines answer log
+      → Reach w → (answer ≡ Ok RunAnswer.Settled) ⊎ ((answer ≡ Ok RunAnswer.Limit) ⊎ (answer ≡ Ok RunAnswer.Void))
   ends-unrefused (settles h e) p = inl refl
   ends-unrefused (limits h e) p = inr (inl refl)
   ends-unrefused (refuses h e f) p = let (v, g, q) = stays.goes p e in absurd (none-some (sym f ∙ g))
   ends-unrefused (voids h e) p = inr (inr refl)
 
-  pub run-never-refused : (limit : ℕ) → ((run r next c limit w₀).answer ≡ RunAnswer.Settled)
-      ⊎ (((run r next c limit w₀).answer ≡ RunAnswer.Limit) ⊎ ((run r next c limit w₀).answer ≡ RunAnswer.Void))
+  pub run-never-refused : (limit : ℕ) → ((run r next c limit w₀).answer ≡ Ok RunAnswer.Settled)
+      ⊎ (((run r next c limit w₀).answer ≡ Ok RunAnswer.Limit) ⊎ ((run r next c limit w₀).answer ≡ Ok RunAnswer.Void))
   run-never-refused limit = let q = run-reaches limit in ends-unrefused q.ends q.kept
 
 module _ {r : Rules} {next : Rules → Case → List ℤ → Next} {c : Case} (coherent : Coherent r) (kinds : MoveKinds r)
@@ -361,7 +362,7 @@ module _ {r : Rules} {next : Rules → Case → List ℤ → Next} {c : Case} (c
   first-handed = working-handed coherent (valid-facts r c w₀ t)
 
   replayed-on : (done : ℕ) (w v : List ℤ) (log : List (List ℕ)) (moves : List Move) → Replayed r c w₀ done w log → next r c w ≡ round moves
-      → after_moves r c moves w ≡ some v
+      → after_moves r c moves w ≡ Some v
       → Replayed r c w₀ (suc done) v (log ++ round_text r c moves v)
   replayed-on done w v log moves p e f =
       let m : RoundFrom r next c w moves v = record { handed = p.handed; comes = e; leads = f } in
@@ -382,7 +383,7 @@ module _ {r : Rules} {next : Rules → Case → List ℤ → Next} {c : Case} (c
   run-replayed limit =
       run-has r next c (Replayed r c w₀) replayed-on limit w₀ (record { handed = first-handed; leads = refl; fallen = simp flat (omega zs) })
 
-  ends-taken : {rounds limit : ℕ} {w : List ℤ} {lines log : List (List ℕ)} {answer : RunAnswer} → Replayed r c w₀ rounds w lines
+  ends-taken : {rounds limit : ℕ} {w : List ℤ} {lines log : List (List ℕ)} {answer : Result RunAnswer Refusal} → Replayed r c w₀ rounds w lines
       → Ends r next c w rounds limit lines answer log → after r (fresh c w₀) log ≡ ended answer (between c w₀ rounds w)
   ends-taken p (settles h e) = p.leads
   ends-taken p (limits h e) = p.leads
@@ -398,24 +399,24 @@ module _ {r : Rules} {next : Rules → Case → List ℤ → Next} {c : Case} (c
         ≡ ended (run r next c limit w₀).answer (between c w₀ (run r next c limit w₀).rounds (run r next c limit w₀).weights)
     run-log-taken = let q = run-replayed limit in ends-taken q.kept q.ends
 
-    pub run-log-ends : at_end (after r (fresh c w₀) (run r next c limit w₀).log) ≡ none
+    pub run-log-ends : at_end (after r (fresh c w₀) (run r next c limit w₀).log) ≡ None
     run-log-ends = ap at_end run-log-taken ∙ go (run r next c limit w₀).answer
       where
-        go : (a : RunAnswer) → at_end (ended a (between c w₀ (run r next c limit w₀).rounds (run r next c limit w₀).weights)) ≡ none
-        go RunAnswer.Settled = refl
-        go RunAnswer.Limit = refl
-        go RunAnswer.Void = refl
-        go (RunAnswer.Refused x) = refl
+        go : (a : Result RunAnswer Refusal) → at_end (ended a (between c w₀ (run r next c limit w₀).rounds (run r next c limit w₀).weights)) ≡ None
+        go (Ok RunAnswer.Settled) = refl
+        go (Ok RunAnswer.Limit) = refl
+        go (Ok RunAnswer.Void) = refl
+        go (Err x) = refl
 
   module _ {Reach : List ℤ → Type 0} (stays : NeverLeaves r next c w₀ Reach) where
     pub run-settles : (limit : ℕ) (p : List ℕ) → T (is_lawful c w₀ p) → upper_bound c w₀ ≤ℤ (pos limit +ℤ objective c w₀ p)
-        → (run r next c limit w₀).answer ≡ RunAnswer.Settled
+        → (run r next c limit w₀).answer ≡ Ok RunAnswer.Settled
     run-settles limit p a h = ⊎_elim (λ e. e) (⊎_elim at-limit (λ e. absurd (run-void-none coherent lawful limit w₀ first-handed e p a))) (run-never-refused stays limit)
       where
         q : RunOf
         q = run r next c limit w₀
 
-        at-limit : q.answer ≡ RunAnswer.Limit → q.answer ≡ RunAnswer.Settled
+        at-limit : q.answer ≡ Ok RunAnswer.Limit → q.answer ≡ Ok RunAnswer.Settled
         at-limit e =
             let (n, moves, d) = (ends-limit r next c (run_ends r next c limit w₀)).0 e in
             let (v, g, _) = stays.goes (run-reaches stays limit).kept d in

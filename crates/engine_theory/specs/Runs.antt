@@ -1,6 +1,7 @@
 -- Runs round by round: bound lines, what each call wrote, the output after it, a run that goes on after earlier rounds, where a void line comes
 -- next. Assumes nothing.
-use Rattle.std.specs.Prelude.{◌≡◌, List, [], ◌∷◌, ◌++◌, ℕ, zero, suc, ◌+◌, ℤ}
+use Rattle.definitions.specs.declared.Refusal.{Refusal}
+use Rattle.std.specs.Prelude.{◌≡◌, List, [], ◌∷◌, ◌++◌, ℕ, zero, suc, ◌+◌, ℤ, Result, Ok, Err}
 use Rattle.integers.specs.Words.{joined, those}
 use Rattle.definitions.specs.declared.Case.{Case}
 use Rattle.definitions.specs.declared.RunAnswer.{RunAnswer}
@@ -35,11 +36,11 @@ call_texts r next c zero w = texts_at_limit r (next r c w)
 call_texts r next c (suc left) w = texts_of (make_next r c w (next r c w)) (λ v. call_texts r next c left v)
 
 -- how many of them are those of a void line
-abbrev pub void_texts : RunAnswer → ℕ
-void_texts RunAnswer.Settled = 0
-void_texts RunAnswer.Limit = 0
-void_texts RunAnswer.Void = 1
-void_texts (RunAnswer.Refused x) = 0
+abbrev pub void_texts : Result RunAnswer Refusal → ℕ
+void_texts (Ok RunAnswer.Settled) = 0
+void_texts (Ok RunAnswer.Limit) = 0
+void_texts (Ok RunAnswer.Void) = 1
+void_texts (Err x) = 0
 
 -- an output after each call's lines were written from its first byte, one call after another
 abbrev pub written_in_turn : List (List (List ℕ)) → List ℕ → List ℕ

@@ -9,7 +9,7 @@
 // hold. The largest case's log is the peer's. What a carry and kind 26 change was worked out by hand from P1's.
 #![tactic(auto)]
 
-use definitions::{Case, Line, Round, Run, RunAnswer};
+use definitions::{Case, Line, Refusal, Round, Run, RunAnswer};
 use drivers::Held;
 
 // A checksum of the lines of all rounds so far, and the bound after the last.
@@ -24,16 +24,16 @@ struct Log {
 fn print_run(run: Run) {
     let answer = run.answer;
     match answer {
-        RunAnswer::Settled => {
+        Ok(RunAnswer::Settled) => {
             drivers::print(b" settled");
         }
-        RunAnswer::Limit => {
+        Ok(RunAnswer::Limit) => {
             drivers::print(b" limit");
         }
-        RunAnswer::Void => {
+        Ok(RunAnswer::Void) => {
             drivers::print(b" void");
         }
-        RunAnswer::Refused(refusal) => {
+        Err(refusal) => {
             drivers::print_refusal(refusal);
         }
     }
@@ -58,20 +58,20 @@ fn run_pairs(case: Case, table: &mut [i64], out: &mut [u8], limit: u64) {
     drivers::print(b"\n");
 }
 
-fn print_round(round: Round) {
+fn print_round(round: Result<Round, Refusal>) {
     match round {
-        Round::Settled => {
+        Ok(Round::Settled) => {
             drivers::print(b" settled");
         }
-        Round::Refused(refusal) => {
+        Err(refusal) => {
             drivers::print_refusal(refusal);
         }
-        Round::Made { bytes, bound } => {
+        Ok(Round::Made { bytes, bound }) => {
             drivers::print(b" made");
             drivers::print_count(bytes as u64);
             drivers::print_number(bound);
         }
-        Round::Void { bytes } => {
+        Ok(Round::Void { bytes }) => {
             drivers::print(b" void");
             drivers::print_count(bytes as u64);
         }
@@ -97,13 +97,13 @@ fn sum_of_first(earlier: u64, text: &[u8], n: usize) -> u64 {
 fn next(case: Case, table: &mut [i64], out: &mut [u8], log: Log) -> Log {
     let round = engine::round(case, table, out);
     match round {
-        Round::Made { bytes, bound } => Log {
+        Ok(Round::Made { bytes, bound }) => Log {
             sum: sum_of_first(log.sum, out, bytes),
             bound: bound,
         },
-        Round::Settled => log,
-        Round::Void { bytes: _ } => log,
-        Round::Refused(_) => log,
+        Ok(Round::Settled) => log,
+        Ok(Round::Void { bytes: _ }) => log,
+        Err(_) => log,
     }
 }
 

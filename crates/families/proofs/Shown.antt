@@ -3,7 +3,6 @@
 use mathlib.Core.Path.{◌≡◌, refl, sym, ap, ap₂, subst, ◌∙◌}
 use mathlib.Core.Bool.{Bool, true, false, not, ◌&&◌, and-false}
 use mathlib.Core.Logic.{◌⊎◌, inl, inr}
-use mathlib.Core.Option.{Option, none, some}
 use mathlib.Core.List.{List, ◌++◌, append-nil}
 use Prim.Native.Nat.{ℕ, zero, suc, ◌+◌, ◌*◌, ◌-◌, ◌≤◌, ◌<◌}
 use native.Mathlib.Omega.{arith}
@@ -12,14 +11,12 @@ use lib.IntN.{ℤ, pos}
 use lib.Dec.{T, T_not, not_T, ltb, eqb, ltb→lt}
 use lib.ListN.{length, get_or, take, replicate, length-set, length-replicate, get_or-replicate}
 use lib.Seq.{length-take-le, get_or-take}
-use Rattle.std.specs.Prelude.{if◌then◌else◌}
+use Rattle.std.specs.Prelude.{if◌then◌else◌, Result, Ok, Err, Option, Some, None}
 use Rattle.integers.specs.Words.{below, from, any, those, first, joined, is_in, bits_of}
 use Rattle.integers.specs.Tests.{tests, is_true, is_false, true-is, either, and_left}
 use Rattle.integers.specs.Lists.{any-in, in-from, those-same, those-append, those-none, from-split, map_same, first-least}
 use Rattle.integers.specs.Tables.{get_d-tab}
 use Rattle.definitions.specs.declared.Case.{Case}
-use Rattle.definitions.specs.declared.Figure.{Figure}
-use Rattle.definitions.specs.declared.Outcome.{Outcome}
 use Rattle.definitions.specs.declared.Refusal.{Refusal}
 use Rattle.definitions.specs.declared.Refusal.TheVariants.{OutOfRange}
 use Rattle.definitions.specs.Rules.{rules_of, edge_places}
@@ -43,8 +40,6 @@ use Rattle.arcs.specs.Active.{active_set, active_row}
 use Rattle.arcs.specs.Fixed.{allowed_set, fixed_set}
 use Rattle.arcs.specs.Closure.{is_malformed}
 use Rattle.arcs.specs.Partners.{is_partner, partner_of, lowest_in_both, byte_of_partner}
-use Rattle.arcs.specs.declared.Partner.{Partner}
-use Rattle.arcs.specs.declared.Partner.TheVariants.{At, Nothing}
 use Rattle.arcs.specs.declared.Closed.TheVariants.{Empty, Family as SomeFamily}
 use Rattle.arcs.proofs.Fixed.{Edges, bytes-well, closure-left, closure-answer, above-mark, below-mark}
 use Rattle.arcs.proofs.Steps.{after-set}
@@ -99,16 +94,16 @@ opened true false e = refl
 opened false a e = absurd (T_not false tt (true-is false e))
 
 byte-of : (o : Option ℕ) → byte_of_partner (partner_of o) ≡ partner_byte o
-byte-of none = refl
-byte-of (some u) = refl
+byte-of None = refl
+byte-of (Some u) = refl
 
-found_none : (o : Option ℕ) → partner_of o ≡ Nothing → o ≡ none
-found_none none e = refl
-found_none (some k) e = cc
+found_none : (o : Option ℕ) → partner_of o ≡ None → o ≡ None
+found_none None e = refl
+found_none (Some k) e = cc
 
-found_some : (o : Option ℕ) {k : ℕ} → partner_of o ≡ At k → o ≡ some k
-found_some none e = cc
-found_some (some u) e = cc
+found_some : (o : Option ℕ) {k : ℕ} → partner_of o ≡ Some k → o ≡ Some k
+found_some None e = cc
+found_some (Some u) e = cc
 
 -- ---- over the marks of a table
 
@@ -222,7 +217,7 @@ module _ (c : Case) (w : List ℤ) (h : Handed (rules_of c) (working_weight (rul
         → partner_in rows (16 * e + 8 * end) (get_or left (end_variable c e end) 0) (get_or left (end_variable c e (1 - end)) 0)
         v ≡ value_byte c w R S e end v
     byte-same e end v a b l =
-        ap₂ (λ (m : Bool) (p : Partner). if m then byte_of_partner p else outside)
+        ap₂ (λ (m : Bool) (p : Option ℕ). if m then byte_of_partner p else outside)
         (ap (λ (s : ℕ). mark s v) (held (end_variable c e end) (end-in e end a)) ∙ mark-bits_of c.d (S (end_variable c e end)) v l)
         (ap (lowest_in_both (get_or rows (16 * e + 8 * end + v) 0)) (held (end_variable c e (1 - end)) (end-in e (1 - end) a))
         ∙ lowest-same c.d few (get_or rows (16 * e + 8 * end + v) 0) (S (end_variable c e (1 - end))) (allowed_across c w R e end v)
@@ -234,16 +229,16 @@ module _ (c : Case) (w : List ℤ) (h : Handed (rules_of c) (working_weight (rul
     bytes_same = ap joined (map_same c.m (λ e a. ap joined (map_same 2 (λ end b. map_same c.d (λ v l. byte-same e end v a b l)))))
 
   -- the answers, by the value found
-  module _ (family partners : List ℕ) (value : Partner) (is : value ≡ lowest_left c rows sets i) where
-    pub shown-none : value ≡ Nothing
-        → FamilyIs (family_found c w i family partners none (supported_value c w i)) (Figure.Refused OutOfRange) family partners
+  module _ (family partners : List ℕ) (value : Option ℕ) (is : value ≡ lowest_left c rows sets i) where
+    pub shown-none : value ≡ None
+        → FamilyIs (family_found c w i family partners None (supported_value c w i)) (Err OutOfRange) family partners
     shown-none e =
         let f = found_none (supported_value c w i) (sym found-value ∙ sym is ∙ e) in
-        subst (λ (o : Option ℕ). FamilyIs (family_found c w i family partners none o) (Figure.Refused OutOfRange) family partners) (sym f) (refl, refl, refl)
+        subst (λ (o : Option ℕ). FamilyIs (family_found c w i family partners None o) (Err OutOfRange) family partners) (sym f) (refl, refl, refl)
 
-    pub shown-some : (k : ℕ) → value ≡ At k → (left family' partners' : List ℕ) → take c.n left ≡ left_sets c rows sets i k
+    pub shown-some : (k : ℕ) → value ≡ Some k → (left family' partners' : List ℕ) → take c.n left ≡ left_sets c rows sets i k
         → family' ≡ overwritten (take c.n left) family → partners' ≡ overwritten (all_bytes c rows left) partners
-        → FamilyIs (family_found c w i family partners none (supported_value c w i)) (Figure.Value (pos k)) family' partners'
+        → FamilyIs (family_found c w i family partners None (supported_value c w i)) (Ok (pos k)) family' partners'
     shown-some k e left family' partners' held a b =
         let f = found_some (supported_value c w i) (sym found-value ∙ sym is ∙ e) in
         let kept : k < c.d = (first-least (λ k. active c w i k 0 && not (refuted c w R i k)) c.d f).0 in
@@ -251,7 +246,7 @@ module _ (c : Case) (w : List ℤ) (h : Handed (rules_of c) (working_weight (rul
         let whole = held ∙ left-family k kept in
         let at : (j : ℕ) → j < c.n → get_or left j 0 ≡ bits_of c.d (S j) = λ j u.
         sym (get_or-take c.n left j 0 u) ∙ ap (λ (l : List ℕ). get_or l j 0) whole ∙ get_d-tab (λ j. bits_of c.d (S j)) c.n j 0 u in
-        subst (λ (o : Option ℕ). FamilyIs (family_found c w i family partners none o) (Figure.Value (pos k)) family' partners') (sym f) (
+        subst (λ (o : Option ℕ). FamilyIs (family_found c w i family partners None o) (Ok (pos k)) family' partners') (sym f) (
           refl,
           a ∙ ap (λ (l : List ℕ). overwritten l family) whole,
           b ∙ ap (λ (l : List ℕ). overwritten l partners) (bytes_same S left at),
@@ -263,17 +258,17 @@ module _ (c : Case) (w : List ℤ) (i : ℕ) (family partners : List ℕ) where
   abbrev pub asked : Option Refusal
   asked = first_refusal (handed_over (rules_of c) (working_weight (rules_of c)) c w (family_short c family partners) (not (ltb i c.n)))
 
-  pub call-refused : {x : Refusal} → Outcome.Refused x ≡ outcome_of asked
-      → FamilyIs (supported_value_call (rules_of c) c w i family partners) (Figure.Refused x) family partners
+  pub call-refused : {x : Refusal} → Err x ≡ outcome_of asked
+      → FamilyIs (supported_value_call (rules_of c) c w i family partners) (Err x) family partners
   unfolding supported_value_call
-  call-refused {x} e = let d : asked ≡ some x = outcome-refused e in rw d (refl, refl, refl)
+  call-refused {x} e = let d : asked ≡ Some x = outcome-refused e in rw d (refl, refl, refl)
 
-  module _ (e : Outcome.Done ≡ outcome_of asked) where
-    pub call-given : {answer : Figure} {family' partners' : List ℕ}
-        → FamilyIs (family_found c w i family partners none (supported_value c w i)) answer family' partners'
+  module _ (e : Ok tt ≡ outcome_of asked) where
+    pub call-given : {answer : Result ℤ Refusal} {family' partners' : List ℕ}
+        → FamilyIs (family_found c w i family partners None (supported_value c w i)) answer family' partners'
         → FamilyIs (supported_value_call (rules_of c) c w i family partners) answer family' partners'
     unfolding supported_value_call
-    call-given p = let d : asked ≡ none = outcome-done e in rw d p
+    call-given p = let d : asked ≡ None = outcome-done e in rw d p
 
     pub call-checked : Checked c w i family partners
     call-checked =

@@ -1,6 +1,6 @@
 -- What is left of value sets with one value alone for a variable, over a table's marks with all edges raised; and a value's partners as bytes.
 -- Assumes nothing.
-use Rattle.std.specs.Prelude.{Bool, true, false, List, map, ℕ, ◌+◌, ◌*◌, ◌-◌, ◌≤◌, ◌<◌, ℤ, length, get_or, set, take, replicate, if◌then◌else◌}
+use Rattle.std.specs.Prelude.{Bool, true, false, List, map, ℕ, ◌+◌, ◌*◌, ◌-◌, ◌≤◌, ◌<◌, ℤ, length, get_or, set, take, replicate, if◌then◌else◌, Option}
 use Rattle.integers.specs.Words.{below, joined}
 use Rattle.definitions.specs.declared.Case.{Case}
 use Rattle.definitions.specs.Rules.{rules_of, edge_places}
@@ -14,7 +14,6 @@ use Rattle.arcs.specs.Closure.{closure_answer, closure_sets}
 use Rattle.arcs.specs.Partners.{lowest_in_both, byte_of_partner}
 use Rattle.arcs.specs.declared.Closed.{Closed}
 use Rattle.arcs.specs.declared.Closed.TheVariants.{Family, Empty, Malformed}
-use Rattle.arcs.specs.declared.Partner.{Partner}
 
 abbrev pub is_family : Closed → Bool
 is_family Family = true
@@ -40,7 +39,7 @@ module _ (c : Case) (rows sets : List ℕ) (i : ℕ) where
   leaves k = is_family (left_answer k)
 
   -- the lowest value of variable i's set with which a family is left
-  abbrev pub lowest_left : Partner
+  abbrev pub lowest_left : Option ℕ
   lowest_left = lowest_in_both (get_or sets i 0) (byte_of leaves)
 
 -- the byte of value v at an end of an edge whose set is `own`, the other end's being `other`; its partners stand at place `at` + v

@@ -2,8 +2,7 @@
 // value.
 #![tactic(auto)]
 
-ghost use Rattle.std.specs.Prelude.{◌≡◌, not, ◌||◌, ℕ, ◌+◌, ◌*◌, ◌≤◌, ◌<◌, pos, ltb, length, get_or, take, replicate};
-ghost use Rattle.std.proofs.Math.Option.{none};
+ghost use Rattle.std.specs.Prelude.{◌≡◌, not, ◌||◌, ℕ, ◌+◌, ◌*◌, ◌≤◌, ◌<◌, pos, ltb, length, get_or, take, replicate, Ok, Some, None};
 ghost use Rattle.definitions.specs.Rules.{rules_of};
 ghost use Rattle.definitions.specs.Refusals.{first_refusal};
 ghost use Rattle.definitions.specs.Answers.{outcome_of};
@@ -15,8 +14,8 @@ ghost use Rattle.tables.specs.Scopes.{Limited};
 ghost use Rattle.arcs.specs.Active.{Written};
 ghost use Rattle.families.specs.Closing.{is_family, left_answer, left_sets, lowest_left, partner_in, edge_bytes, all_bytes, Joined, Checked};
 
-use arcs::{Closed, NO_PARTNER, Partner, ROW_PLACES};
-use definitions::{Case, EDGE_PLACES, Figure, Outcome, Refusal, SCOPE_PLACES, VARIABLE_PLACES};
+use arcs::{Closed, NO_PARTNER, ROW_PLACES};
+use definitions::{Case, EDGE_PLACES, Refusal, SCOPE_PLACES, VARIABLE_PLACES};
 
 // The sets that a closure left, and whether they are a family.
 #[derive(Clone, Copy)]
@@ -28,7 +27,7 @@ struct Closing {
 // The lowest value with which a family is left, and that family.
 #[derive(Clone, Copy)]
 struct Found {
-    value: Partner,
+    value: Option<u8>,
     sets: [u8; VARIABLE_PLACES],
 }
 
@@ -73,7 +72,7 @@ fn lowest_supported(case: Case, rows: &[u8], sets: [u8; VARIABLE_PLACES], variab
     requires limited { Limited case }
     requires variable_lt_n { (variable < case.n) × (get_or sets variable 0 < 256) }
     ensures { (result.value ≡ lowest_left case rows.now sets variable)
-        × ((k : ℕ) → result.value ≡ Partner.At k → take case.n result.sets ≡ left_sets case rows.now sets variable k) }
+        × ((k : ℕ) → result.value ≡ Some k → take case.n result.sets ≡ left_sets case rows.now sets variable k) }
 {
     let mut untried = sets[variable];
     while untried != 0 {
@@ -83,14 +82,14 @@ fn lowest_supported(case: Case, rows: &[u8], sets: [u8; VARIABLE_PLACES], variab
         let left = closing.sets;
         if is_family(closed) {
             return Found {
-                value: Partner::At(k),
+                value: Some(k),
                 sets: left,
             };
         }
         untried = marks::strike(untried, k);
     }
     Found {
-        value: Partner::Nothing,
+        value: None,
         sets,
     }
 }
@@ -180,12 +179,12 @@ fn too_short(case: Case, family: usize, partners: usize) -> bool
     partners < case.m * (2 * case.d)
 }
 
-fn check_call(case: Case, table: &[i64], variable: usize, family: usize, partners: usize) -> Outcome
+fn check_call(case: Case, table: &[i64], variable: usize, family: usize, partners: usize) -> Result<(), Refusal>
     ensures { result ≡ outcome_of (first_refusal (handed_over (rules_of case) (working_weight (rules_of case)) case table.now
         (ltb family case.n || ltb partners (case.m * (2 * case.d))) (not (ltb variable case.n)))) }
 {
     if !tables::within_limits(case) {
-        return Outcome::Refused(Refusal::OutsideLimits);
+        return Err(Refusal::OutsideLimits);
     }
     let short = too_short(case, family, partners);
     tables::check_working(case, table, short, !(variable < case.n))
@@ -193,10 +192,10 @@ fn check_call(case: Case, table: &[i64], variable: usize, family: usize, partner
 
 // ---- the call
 
-fn figure_of(value: u8) -> Figure
-    ensures { result ≡ Figure.Value (pos value) }
+fn figure_of(value: u8) -> Result<i64, Refusal>
+    ensures { result ≡ Ok (pos value) }
 {
-    Figure::Value(value as i64)
+    Ok(value as i64)
 }
 
 // The value of a case and a table that were checked.
@@ -206,9 +205,9 @@ fn show_value(
     variable: usize,
     family: &mut [u8],
     partners: &mut [u8],
-) -> Figure
+) -> Result<i64, Refusal>
     requires { Checked case table.now variable family.old partners.old }
-    ensures { FamilyIs (family_found case table.now variable family.old partners.old none
+    ensures { FamilyIs (family_found case table.now variable family.old partners.old None
         (supported_value case table.now variable)) result family.new partners.new }
 {
     let mut best = [0i64; SCOPE_PLACES];
@@ -219,8 +218,8 @@ fn show_value(
     let found = lowest_supported(case, &rows, sets, variable);
     let value = found.value;
     match value {
-        Partner::Nothing => Figure::Refused(Refusal::OutOfRange),
-        Partner::At(k) => {
+        None => Err(Refusal::OutOfRange),
+        Some(k) => {
             let left = found.sets;
             write_family(case, &left, family);
             write_partners(case, &rows, &left, partners);
@@ -238,13 +237,13 @@ pub fn supported_value(
     variable: usize,
     family: &mut [u8],
     partners: &mut [u8],
-) -> Figure
+) -> Result<i64, Refusal>
     ensures { FamilyIs (supported_value_call (rules_of case) case table.now variable family.old partners.old) result
         family.new partners.new }
 {
     let checked = check_call(case, table, variable, family.len(), partners.len());
     match checked {
-        Outcome::Refused(refusal) => Figure::Refused(refusal),
-        Outcome::Done => show_value(case, table, variable, family, partners),
+        Err(refusal) => Err(refusal),
+        Ok(()) => show_value(case, table, variable, family, partners),
     }
 }

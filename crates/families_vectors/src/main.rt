@@ -8,20 +8,20 @@
 // case is small, lists every family too.
 #![tactic(auto)]
 
-use definitions::{Case, Figure, Line, TABLE_PLACES};
+use definitions::{Case, Line, Refusal, TABLE_PLACES};
 use drivers::Held;
 
 // ---- what is printed
 
-fn print_figure(link: i64, answer: Figure) {
+fn print_figure(link: i64, answer: Result<i64, Refusal>) {
     drivers::print(b"link");
     drivers::print_number(link);
     match answer {
-        Figure::Value(k) => {
+        Ok(k) => {
             drivers::print(b" value");
             drivers::print_number(k);
         }
-        Figure::Refused(refusal) => {
+        Err(refusal) => {
             drivers::print_refusal(refusal);
         }
     }

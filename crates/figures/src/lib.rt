@@ -2,7 +2,7 @@
 // has no total (document 02, change 2).
 #![tactic(auto)]
 
-ghost use Rattle.std.specs.Prelude.{◌≡◌, T, ◌+◌, ◌≤◌, ◌<◌, if◌then◌else◌};
+ghost use Rattle.std.specs.Prelude.{◌≡◌, T, ◌+◌, ◌≤◌, ◌<◌, if◌then◌else◌, Ok};
 ghost use Rattle.definitions.specs.Rules.{rules_of, edge_places};
 ghost use Rattle.definitions.specs.Case.{place, weight, value_of, at_used, objective as total, active, uses_barred, is_lawful};
 ghost use Rattle.definitions.specs.Valid.{working_weight};
@@ -10,7 +10,7 @@ ghost use Rattle.calls.specs.Calls.{objective_answer, upper_bound_answer, is_act
 ghost use Rattle.theory.proofs.Validity.{Handed};
 ghost use Rattle.tables.specs.Scopes.{Limited, of_size};
 
-use definitions::{Case, Figure, Outcome, Refusal, Verdict};
+use definitions::{Case, Refusal};
 
 fn place_of(n: usize, d: usize, x: usize, k: usize, l: usize) -> usize
     requires { (n ≤ 256) × (d ≤ 8) × (x < n + edge_places) × (k < 256) × (l < 256) }
@@ -53,16 +53,16 @@ fn tuple_out(case: Case, x: usize, k: usize, l: usize) -> bool
     !(l < case.d)
 }
 
-fn has_greatest(case: Case, table: &[i64], x: usize, k: usize, l: usize) -> Verdict
+fn has_greatest(case: Case, table: &[i64], x: usize, k: usize, l: usize) -> Result<bool, Refusal>
     requires handed { Handed (rules_of case) (working_weight (rules_of case)) case table.now }
     requires x_bound { (x < case.n + case.m) × (k < case.d) × (l < case.d) }
-    ensures { result ≡ (if active case table.now x k l then Verdict.Yes else Verdict.No) }
+    ensures { result ≡ (if active case table.now x k l then Ok true else Ok false) }
 {
     let greatest = tables::greatest(tables::scope_weights(case, table, x));
     if weight_at(case, table, x, k, l) == greatest {
-        Verdict::Yes
+        Ok(true)
     } else {
-        Verdict::No
+        Ok(false)
     }
 }
 
@@ -125,37 +125,37 @@ fn sum_of_used(case: Case, table: &[i64], assignment: &[u8]) -> i64
 
 // ---- the calls
 
-pub fn objective(case: Case, table: &[i64], assignment: &[u8]) -> Figure
+pub fn objective(case: Case, table: &[i64], assignment: &[u8]) -> Result<i64, Refusal>
     ensures { result ≡ objective_answer (rules_of case) case table.now assignment.now }
 {
     if !tables::within_limits(case) {
-        return Figure::Refused(Refusal::OutsideLimits);
+        return Err(Refusal::OutsideLimits);
     }
     let wrong = assignment.len() != case.n;
     let out = tables::some_beyond(assignment, case.d) | uses_barred(case, table, assignment);
     let checked = tables::check_working(case, table, wrong, out);
     match checked {
-        Outcome::Refused(refusal) => Figure::Refused(refusal),
-        Outcome::Done => Figure::Value(sum_of_used(case, table, assignment)),
+        Err(refusal) => Err(refusal),
+        Ok(()) => Ok(sum_of_used(case, table, assignment)),
     }
 }
 
-pub fn upper_bound(case: Case, table: &[i64]) -> Figure
+pub fn upper_bound(case: Case, table: &[i64]) -> Result<i64, Refusal>
     ensures { result ≡ upper_bound_answer (rules_of case) case table.now }
 {
     let checked = tables::check_working(case, table, false, false);
     match checked {
-        Outcome::Refused(refusal) => Figure::Refused(refusal),
-        Outcome::Done => tables::sum_of_greatest(case, table),
+        Err(refusal) => Err(refusal),
+        Ok(()) => tables::sum_of_greatest(case, table),
     }
 }
 
-pub fn is_active(case: Case, table: &[i64], scope: usize, k: usize, l: usize) -> Verdict
+pub fn is_active(case: Case, table: &[i64], scope: usize, k: usize, l: usize) -> Result<bool, Refusal>
     ensures { result ≡ is_active_answer (rules_of case) case table.now scope k l }
 {
     let checked = tables::check_working(case, table, false, tuple_out(case, scope, k, l));
     match checked {
-        Outcome::Refused(refusal) => Verdict::Refused(refusal),
-        Outcome::Done => has_greatest(case, table, scope, k, l),
+        Err(refusal) => Err(refusal),
+        Ok(()) => has_greatest(case, table, scope, k, l),
     }
 }

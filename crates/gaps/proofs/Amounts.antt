@@ -1,9 +1,9 @@
 -- On a table that was checked, with each scope's greatest weight in `best`, the least gap is the amount of the engine's press, which is less than
 -- no_gap, and no_gap where there is no amount. Assumes nothing.
+use Rattle.std.specs.Prelude.{Ok, Option, Some, None}
 use mathlib.Core.Path.{◌≡◌, refl, sym, ap, subst, ◌∙◌}
 use mathlib.Core.Bool.{Bool, false, not}
 use mathlib.Core.Logic.{◌⊎◌, inl, inr, ⊎_elim}
-use mathlib.Core.Option.{Option, none, some}
 use mathlib.Core.List.Memᴰ
 use mathlib.Core.List.{List, ◌∷◌}
 use Prim.Native.Nat.{ℕ, zero, suc, ◌≤◌, ◌<◌}
@@ -18,7 +18,6 @@ use Rattle.integers.specs.Tests.{is_true, either, if-cases, and_left, and_right,
 use Rattle.integers.specs.Linear.{flat, zs, ◌▸◌, ≤ℤ-trans, ≤ℤ-antisym}
 use Rattle.integers.specs.Lists.{◌∈◌, those-in, in-those, below_in}
 use Rattle.definitions.specs.declared.Case.{Case}
-use Rattle.definitions.specs.declared.Figure.{Figure}
 use Rattle.definitions.specs.Rules.{Rules, Coherent, coherent, rules_of}
 use Rattle.definitions.proofs.RulesLaws.{rules-fit}
 use Rattle.definitions.specs.Case.{scopes, scope_count, lent_length, each_tuple, weight, greatest, active, barred, barred_weight, is_barred}
@@ -57,8 +56,8 @@ sets-free z g t = and_left (lt_z barred_weight z) (lt_z z g) t ▸ simp flat (om
 
 -- ---- an amount is less than no_gap
 
-module _ {c : Case} {w : List ℤ} (h : Handed (rules_of c) (working_weight (rules_of c)) c w) {i : ℕ} (which : chosen c w ≡ some i) where
-  pub amount-less : {a : ℤ} → least_gap c w i ≡ some a → a <ℤ pos no_gap
+module _ {c : Case} {w : List ℤ} (h : Handed (rules_of c) (working_weight (rules_of c)) c w) {i : ℕ} (which : chosen c w ≡ Some i) where
+  pub amount-less : {a : ℤ} → least_gap c w i ≡ Some a → a <ℤ pos no_gap
   amount-less e = amount-most c w h.shape which e (rules_of c) (coherent c.rulebook) h.in-range ▸ (rules-fit (coherent c.rulebook)).working
       ▸ simp flat (omega zs)
 
@@ -137,7 +136,7 @@ module _ {c : Case} {w best : List ℤ} (h : Handed (rules_of c) (working_weight
       (λ t. taken (omega arith) p t (scope-least x (omega arith) (gap_below c w best raised i x))) (λ t. passed (omega arith) p t)
 
   -- ---- the amount
-  module _ (which : chosen c w ≡ some i) (same : those (λ x. not (eqb (get_or raised x 0) 0)) (scopes c) ≡ kept_scopes c w i) where
+  module _ (which : chosen c w ≡ Some i) (same : those (λ x. not (eqb (get_or raised x 0) 0)) (scopes c) ≡ kept_scopes c w i) where
     abbrev is_raised : ℕ → Bool
     is_raised x = not (eqb (get_or raised x 0) 0)
 
@@ -160,9 +159,9 @@ module _ {c : Case} {w best : List ℤ} (h : Handed (rules_of c) (working_weight
         p = least-below (scope_count c) (omega arith)
 
         go : (o : Option ℤ) → least_gap c w i ≡ o → r ≡ else_no_gap o
-        go none e = ⊎_elim (λ q. q)
+        go None e = ⊎_elim (λ q. q)
             (λ (y, k, l, s, v, n, f, q). absurd (T_not (barred c w y k l) f (no-gap c w e (limiting-in v.scope s) v n))) p.reached
-        go (some a) e =
+        go (Some a) e =
             let (x, k, l, m, u, t, f, d) = amount-reached c w h.shape which e in
             let low : r ≤ℤ a = gap-low (weight c w x k l) r (greatest c w x) a (p.room x k l u.scope (in-limiting m) u t f) d in
             ≤ℤ-antisym low (⊎_elim
@@ -171,7 +170,7 @@ module _ {c : Case} {w best : List ℤ} (h : Handed (rules_of c) (working_weight
             (amount-room c w h.shape which e (limiting-in v.scope s) v n f) q)
             p.reached)
 
-    answered : scope_count c ≤ length raised → least_gap_answer (rules_of c) c w best raised i ≡ Figure.Value (gap_below c w best raised i (scope_count c))
+    answered : scope_count c ≤ length raised → least_gap_answer (rules_of c) c w best raised i ≡ Ok (gap_below c w best raised i (scope_count c))
     unfolding least_gap_answer
     answered room =
         rw (
@@ -191,5 +190,5 @@ module _ {c : Case} {w best : List ℤ} (h : Handed (rules_of c) (working_weight
             ap not (is_true (in_working (rules_of c) (best_at best x)) t))
 
     -- what is answered then
-    pub gap-answer : scope_count c ≤ length raised → least_gap_answer (rules_of c) c w best raised i ≡ Figure.Value (else_no_gap (least_gap c w i))
-    gap-answer room = answered room ∙ ap Figure.Value amount-is
+    pub gap-answer : scope_count c ≤ length raised → least_gap_answer (rules_of c) c w best raised i ≡ Ok (else_no_gap (least_gap c w i))
+    gap-answer room = answered room ∙ ap Ok amount-is

@@ -1,8 +1,8 @@
 -- What is asked of the case, the lengths and the numbers in `best`. Assumes nothing.
+use Rattle.std.specs.Prelude.{Ok, Err, Option, Some, None}
 use mathlib.Core.Path.{◌≡◌, refl, sym, ap, ◌∙◌}
 use mathlib.Core.Bool.{Bool, true, false, not, ◌||◌}
 use mathlib.Core.Logic.{⊎_elim}
-use mathlib.Core.Option.{Option, none, some}
 use mathlib.Core.List.{List, [], ◌∷◌, map}
 use Prim.Native.Nat.{ℕ, ◌≤◌, ◌<◌}
 use native.Mathlib.Omega.{arith}
@@ -13,7 +13,6 @@ use borrow.Author.Tests.{eq-eqb, lt-ltb, le-ltb}
 use Rattle.integers.specs.Words.{sum}
 use Rattle.integers.specs.Tests.{tests, either, is_true}
 use Rattle.definitions.specs.declared.Case.{Case}
-use Rattle.definitions.specs.declared.Figure.{Figure}
 use Rattle.definitions.specs.declared.Refusal.{Refusal}
 use Rattle.definitions.specs.declared.Refusal.TheVariants.{OutOfRange, WeightOutOfRange}
 use Rattle.definitions.specs.Rules.{rules_of}
@@ -33,15 +32,15 @@ part-known c w x l long h = rw (limits-hold c l, eq-eqb (length w) (lent_length 
 
 -- ---- a figure tells whether a refusal applies
 
-refused-alike : (o : Option Refusal) {x : Refusal} (y z : ℤ) → Figure.Refused x ≡ figure_of o y → Figure.Refused x ≡ figure_of o z
-refused-alike none y z e = cc
-refused-alike (some x) y z e = e
+refused-alike : (o : Option Refusal) {x : Refusal} (y z : ℤ) → Err x ≡ figure_of o y → Err x ≡ figure_of o z
+refused-alike None y z e = cc
+refused-alike (Some x) y z e = e
 
-unrefused : (o : Option Refusal) (y : ℤ) {z : ℤ} → Figure.Value z ≡ figure_of o y → o ≡ none
-unrefused none y e = refl
-unrefused (some x) y e = cc
+unrefused : (o : Option Refusal) (y : ℤ) {z : ℤ} → Ok z ≡ figure_of o y → o ≡ None
+unrefused None y e = refl
+unrefused (Some x) y e = cc
 
-not-asked : (a b : Bool) (x y : Refusal) → first_refusal (x when a ∷ y when b ∷ []) ≡ none → b ≡ false
+not-asked : (a b : Bool) (x y : Refusal) → first_refusal (x when a ∷ y when b ∷ []) ≡ None → b ≡ false
 not-asked true b x y e = cc
 not-asked false true x y e = cc
 not-asked false false x y e = refl
@@ -59,8 +58,8 @@ module _ (c : Case) (best : List ℤ) (l : Limited c) (room : scope_count c ≤ 
   abbrev summed : ℤ
   summed = sum (map (best_at best) (scopes c)) +ℤ c.carry
 
-  module _ {z : ℤ} (e : Figure.Value z ≡ best_sum (rules_of c) c best) where
-    none-asked : asked ≡ none
+  module _ {z : ℤ} (e : Ok z ≡ best_sum (rules_of c) c best) where
+    none-asked : asked ≡ None
     none-asked = unrefused asked summed (e ∙ sum-asked)
 
     pub all-working : AllWorking (rules_of c) c best
@@ -73,11 +72,11 @@ module _ (c : Case) (best : List ℤ) (l : Limited c) (room : scope_count c ≤ 
         (either (in_working (rules_of c) (best_at best x)))
 
     pub range-right : (w : List ℤ) (raised : List ℕ) (i : ℕ)
-        → Figure.Value (gap_below c w best raised i (scope_count c)) ≡ gap_in_range (rules_of c) c w best raised i
+        → Ok (gap_below c w best raised i (scope_count c)) ≡ gap_in_range (rules_of c) c w best raised i
     range-right w raised i = sym (ap (λ (o : Option Refusal). figure_of o (gap_below c w best raised i (scope_count c))) none-asked)
 
-  pub range-wrong : {x : Refusal} → Figure.Refused x ≡ best_sum (rules_of c) c best
-      → (w : List ℤ) (raised : List ℕ) (i : ℕ) → Figure.Refused x ≡ gap_in_range (rules_of c) c w best raised i
+  pub range-wrong : {x : Refusal} → Err x ≡ best_sum (rules_of c) c best
+      → (w : List ℤ) (raised : List ℕ) (i : ℕ) → Err x ≡ gap_in_range (rules_of c) c w best raised i
   range-wrong e w raised i = refused-alike asked summed (gap_below c w best raised i (scope_count c)) (e ∙ sum-asked)
 
 -- ---- lengths that are right

@@ -1,11 +1,10 @@
 -- The least gap of a variable's own scope and raised scopes, on all input. A weight's gap is how far it lies below its scope's number in
 -- `best`; a barred tuple's number sets none. Assumes nothing.
-use Rattle.std.specs.Prelude.{Bool, not, ◌&&◌, ◌||◌, List, [], ◌∷◌, ℕ, zero, suc, ◌^◌, ◌<◌, ℤ, pos, ◌-ℤ◌, T, eqb, ltb, ◌≤ℤ◌, length, get_or, if◌then◌else◌}
-use Rattle.std.proofs.Math.Option.{Option, none, some}
+use Rattle.definitions.specs.declared.Refusal.{Refusal}
+use Rattle.std.specs.Prelude.{Bool, not, ◌&&◌, ◌||◌, List, [], ◌∷◌, ℕ, zero, suc, ◌^◌, ◌<◌, ℤ, pos, ◌-ℤ◌, T, eqb, ltb, ◌≤ℤ◌, length, get_or, if◌then◌else◌, Result, Option, Some, None}
 use Rattle.std.specs.Int.Signed.{le_z, lt_z}
 use Rattle.integers.specs.Words.{minus, min_z, within_z}
 use Rattle.definitions.specs.declared.Case.{Case}
-use Rattle.definitions.specs.declared.Figure.{Figure}
 use Rattle.definitions.specs.declared.Refusal.TheVariants.{OutOfRange}
 use Rattle.definitions.specs.Rules.{Rules}
 use Rattle.definitions.specs.Refusals.{◌when◌, first_refusal}
@@ -20,8 +19,8 @@ no_gap = 4_611_686_018_427_387_904
 
 -- the engine's amount as it is answered, if there is one (proofs/Amounts)
 abbrev pub else_no_gap : Option ℤ → ℤ
-else_no_gap none = pos no_gap
-else_no_gap (some a) = a
+else_no_gap None = pos no_gap
+else_no_gap (Some a) = a
 
 -- weights from which no_gap can be subtracted in 64 bits
 abbrev pub small_weight : ℤ → Bool
@@ -65,11 +64,11 @@ module _ (r : Rules) where
   abbrev pub AllWorking : Case → List ℤ → Type 0
   AllWorking c best = (x : ℕ) → x < scope_count c → T (in_working r (best_at best x))
 
-  abbrev pub gap_in_range : Case → List ℤ → List ℤ → List ℕ → ℕ → Figure
+  abbrev pub gap_in_range : Case → List ℤ → List ℤ → List ℕ → ℕ → Result ℤ Refusal
   gap_in_range c w best raised i = figure_of (first_refusal (carry_test r c ∷ range_test r c (best_at best) ∷ [])) (gap_below c w best raised i (scope_count c))
 
   -- numbers 3, 4, 5 of the arguments and the carry, and 8 of the numbers in `best`
-  unfoldable pub least_gap_answer : Case → List ℤ → List ℤ → List ℕ → ℕ → Figure
+  unfoldable pub least_gap_answer : Case → List ℤ → List ℤ → List ℕ → ℕ → Result ℤ Refusal
   least_gap_answer c w best raised i =
       figure_of
       (first_refusal (

@@ -1,6 +1,7 @@
 -- Samples of change 4: a chain whose ceiling pair rounds lower to the best total; one that is pressed, and whose ceiling is the greatest working
 -- total but above every starting total; and four links with loops, where no press and no void line is left and no plan uses active combinations
 -- only. Assumes nothing.
+use Rattle.definitions.specs.declared.Refusal.{Refusal}
 use mathlib.Core.Path.{◌≡◌, refl}
 use mathlib.Core.Bool.{false, not}
 use mathlib.Core.List.{List, [], ◌∷◌, ◌++◌, map}
@@ -8,7 +9,7 @@ use Prim.Native.Nat.{ℕ, zero, suc, ◌<◌}
 use native.Mathlib.Omega.{arith}
 use lib.IntN.{ℤ, pos}
 use lib.Dec.{T, eqb, lit≤}
-use Rattle.std.specs.Prelude.{if◌then◌else◌}
+use Rattle.std.specs.Prelude.{if◌then◌else◌, Result, Ok}
 use Rattle.integers.specs.Words.{all, any, choices, is_in, minus, greatest_of}
 use Rattle.definitions.specs.declared.Case.{Case}
 use Rattle.definitions.specs.declared.RunAnswer.{RunAnswer}
@@ -45,20 +46,20 @@ abbrev licensed : Input
 licensed = couple (pos 3 ∷ pos 0 ∷ pos 2 ∷ barred_weight ∷ minus 9 ∷ pos 0 ∷ pos 0 ∷ minus 4 ∷ [])
 
 -- how a run ends: its answer, its rounds, its upper bound, the greatest objective in its weights, and that in the starting weights
-abbrev ends : (Rules → Case → List ℤ → Next) → Input → RunAnswer × ℕ × ℤ × ℤ × ℤ
+abbrev ends : (Rules → Case → List ℤ → Next) → Input → Result RunAnswer Refusal × ℕ × ℤ × ℤ × ℤ
 ends next i =
     let u = run standard next i.case 9 i.weights in
     (u.answer, u.rounds, upper_bound i.case u.weights, best i u.weights, best i i.weights)
 
 pub chains-end : Hold (
     -- two pair rounds, by which no objective changes; no press is left
-    ends pairs_next shifted is (RunAnswer.Settled, 2, pos 9, pos 9, pos 9)
-    ∷ ends engine_next shifted is (RunAnswer.Settled, 2, pos 9, pos 9, pos 9)
+    ends pairs_next shifted is (Ok RunAnswer.Settled, 2, pos 9, pos 9, pos 9)
+    ∷ ends engine_next shifted is (Ok RunAnswer.Settled, 2, pos 9, pos 9, pos 9)
     -- no pair gains; one press
-    ∷ ends pairs_next pressed is (RunAnswer.Settled, 0, pos 10, pos 7, pos 7)
-    ∷ ends engine_next pressed is (RunAnswer.Settled, 1, pos 8, pos 8, pos 7)
+    ∷ ends pairs_next pressed is (Ok RunAnswer.Settled, 0, pos 10, pos 7, pos 7)
+    ∷ ends engine_next pressed is (Ok RunAnswer.Settled, 1, pos 8, pos 8, pos 7)
     -- a pair round and a press, with a barred channel
-    ∷ ends engine_next licensed is (RunAnswer.Settled, 2, pos 2, pos 2, pos 2)
+    ∷ ends engine_next licensed is (Ok RunAnswer.Settled, 2, pos 2, pos 2, pos 2)
     ∷ []
     )
 chains-end = refl

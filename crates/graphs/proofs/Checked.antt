@@ -2,15 +2,12 @@
 -- (`acyclic-yes`, `acyclic-no`). Assumes nothing.
 use mathlib.Core.Path.{◌≡◌, refl, sym, ap}
 use mathlib.Core.Bool.{Bool, true, false}
-use mathlib.Core.Option.{Option, none, some}
 use mathlib.Core.List.{◌∷◌}
 use lib.Dec.{T_not}
-use Rattle.std.specs.Prelude.{if◌then◌else◌}
+use Rattle.std.specs.Prelude.{if◌then◌else◌, Ok, Err, Option, Some, None}
 use Rattle.integers.specs.Tests.{tests, true-is, false-is}
 use Rattle.definitions.specs.declared.Case.{Case}
 use Rattle.definitions.specs.declared.Refusal.{Refusal}
-use Rattle.definitions.specs.declared.Outcome.{Outcome}
-use Rattle.definitions.specs.declared.Verdict.{Verdict}
 use Rattle.definitions.specs.Rules.{rules_of}
 use Rattle.definitions.specs.Refusals.{first_refusal}
 use Rattle.definitions.specs.Answers.{outcome_of}
@@ -28,18 +25,18 @@ module _ (c : Case) where
   abbrev asked : Option Refusal
   asked = first_refusal (limit_test (rules_of c) c ∷ edge_tests (rules_of c) c false)
 
-  pub acyclic-refused : {x : Refusal} → Outcome.Refused x ≡ outcome_of asked → Verdict.Refused x ≡ is_acyclic_answer (rules_of c) c
+  pub acyclic-refused : {x : Refusal} → Err x ≡ outcome_of asked → Err x ≡ is_acyclic_answer (rules_of c) c
   unfolding is_acyclic_answer
-  acyclic-refused {x} e = let d : asked ≡ some x = outcome-refused e in rw d
+  acyclic-refused {x} e = let d : asked ≡ Some x = outcome-refused e in rw d
 
-  module _ (e : Outcome.Done ≡ outcome_of asked) where
-    pub acyclic-given : {b : Bool} → b ≡ is_acyclic c → (if b then Verdict.Yes else Verdict.No) ≡ is_acyclic_answer (rules_of c) c
+  module _ (e : Ok tt ≡ outcome_of asked) where
+    pub acyclic-given : {b : Bool} → b ≡ is_acyclic c → (if b then Ok true else Ok false) ≡ is_acyclic_answer (rules_of c) c
     unfolding is_acyclic_answer
-    acyclic-given i = let d : asked ≡ none = outcome-done e in rw (d, i)
+    acyclic-given i = let d : asked ≡ None = outcome-done e in rw (d, i)
 
     pub checked : Shape c × Limited c
     checked =
-        let d : asked ≡ none = outcome-done e in
+        let d : asked ≡ None = outcome-done e in
         let p = simp (tests, not-and-iff, none_below) at ((none-applies (limit_test (rules_of c) c ∷ edge_tests (rules_of c) c false)).0 (rw d tt)) in (
           record {
             some-variable = p.0.0.0.0;
@@ -52,19 +49,19 @@ module _ (c : Case) where
 
   -- ---- the answers speak of walks
 
-  told : (o : Option Refusal) (b d : Bool) → verdict_of o b ≡ (if d then Verdict.Yes else Verdict.No) → (o ≡ none) × (b ≡ d)
-  told none true true q = (refl, refl)
-  told none true false q = (refl, cc)
-  told none false true q = (refl, cc)
-  told none false false q = (refl, refl)
-  told (some x) b true q = (cc, cc)
-  told (some x) b false q = (cc, cc)
+  told : (o : Option Refusal) (b d : Bool) → verdict_of o b ≡ (if d then Ok true else Ok false) → (o ≡ None) × (b ≡ d)
+  told None true true q = (refl, refl)
+  told None true false q = (refl, cc)
+  told None false true q = (refl, cc)
+  told None false false q = (refl, refl)
+  told (Some x) b true q = (cc, cc)
+  told (Some x) b false q = (cc, cc)
 
-  pub acyclic-yes : is_acyclic_answer (rules_of c) c ≡ Verdict.Yes → Acyclic c
+  pub acyclic-yes : is_acyclic_answer (rules_of c) c ≡ Ok true → Acyclic c
   unfolding is_acyclic_answer
   acyclic-yes q = let (d, e) = told asked (is_acyclic c) true q in (acyclic-iff c (checked (ap outcome_of (sym d))).0).0 (true-is (is_acyclic c) e)
 
-  pub acyclic-no : is_acyclic_answer (rules_of c) c ≡ Verdict.No → Acyclic c → ⊥
+  pub acyclic-no : is_acyclic_answer (rules_of c) c ≡ Ok false → Acyclic c → ⊥
   unfolding is_acyclic_answer
   acyclic-no q acyclic =
       let (d, e) = told asked (is_acyclic c) false q in

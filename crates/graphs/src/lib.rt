@@ -9,7 +9,7 @@ ghost use Rattle.calls.specs.Calls.{is_acyclic_answer};
 ghost use Rattle.theory.proofs.Shape.{Shape};
 ghost use Rattle.tables.specs.Scopes.{Limited};
 
-use definitions::{Case, Outcome, VARIABLE_PLACES, Verdict};
+use definitions::{Case, Refusal, VARIABLE_PLACES};
 
 // Each variable has a label, at first its own number.
 fn label_apart(labels: &mut [u8])
@@ -63,19 +63,19 @@ fn join_edges(case: Case, labels: &mut [u8]) -> bool
 }
 
 // Yes if the edges form no cycle.
-pub fn is_acyclic(case: Case) -> Verdict
+pub fn is_acyclic(case: Case) -> Result<bool, Refusal>
     ensures { result ≡ is_acyclic_answer (rules_of case) case }
 {
     let checked = tables::check_edges(case, false);
     match checked {
-        Outcome::Refused(refusal) => Verdict::Refused(refusal),
-        Outcome::Done => {
+        Err(refusal) => Err(refusal),
+        Ok(()) => {
             let n = case.n;
             let mut labels = [0u8; VARIABLE_PLACES];
             if join_edges(case, &mut labels[..n]) {
-                Verdict::Yes
+                Ok(true)
             } else {
-                Verdict::No
+                Ok(false)
             }
         }
     }

@@ -1,8 +1,8 @@
 -- Lists: elements, tests of all and of some elements, lists made by a test or by joining, all lists of a length, numbers in order.
 -- `x ∈ xs` is a place of x in xs. A law `NAME-in` makes such a place, and a law `in-NAME` says what one tells. Assumes nothing.
-use Rattle.std.specs.Prelude.{◌≡◌, refl, Bool, true, false, not, ◌&&◌, ◌||◌, ◌≢◌, ◌↔◌, ◌⊎◌, ℕ, zero, suc, ◌+◌, ◌≤◌, ◌<◌, T, eqb, length, if◌then◌else◌}
+use Rattle.std.proofs.lemmas.Option.{same_Some, none-some as not-some}
+use Rattle.std.specs.Prelude.{◌≡◌, refl, Bool, true, false, not, ◌&&◌, ◌||◌, ◌≢◌, ◌↔◌, ◌⊎◌, ℕ, zero, suc, ◌+◌, ◌≤◌, ◌<◌, T, eqb, length, if◌then◌else◌, Some, None}
 use Rattle.std.proofs.Common.{sym, ap, ap₂, subst, ◌∙◌, inl, inr, add-zero, zero-add, add-suc, suc-add, add-one, arith, eqb→eq}
-use Rattle.std.proofs.Math.Option.{none, some, none-ne-some, some-ne-none, some-injective}
 use mathlib.Core.List.Memᴰ
 use mathlib.Core.List.{List, [], ◌∷◌, ◌++◌, map, append_assoc, Memᴰ}
 use Rattle.std.proofs.Math.Dec.{not_T, eqb_refl}
@@ -99,19 +99,19 @@ module _ {A : Type 0} where
         go false h = omega arith
 
     -- the first of them
-    pub first-those : {x : A} (xs : List A) → first (those f xs) ≡ some x → x ∈ xs × T (f x)
+    pub first-those : {x : A} (xs : List A) → first (those f xs) ≡ Some x → x ∈ xs × T (f x)
     first-those xs e = in-those xs (go (those f xs) e)
       where
-        go : {x : A} (l : List A) → first l ≡ some x → x ∈ l
-        go {x} [] e = absurd (none-ne-some x e)
-        go {x} (y ∷ l) e = Memᴰ.head (sym (some-injective y x e))
+        go : {x : A} (l : List A) → first l ≡ Some x → x ∈ l
+        go {x} [] e = absurd (not-some x e)
+        go {x} (y ∷ l) e = Memᴰ.head (sym (same_Some y x e))
 
-    pub first-none : (xs : List A) → first (those f xs) ≡ none → T (not (any f xs))
+    pub first-none : (xs : List A) → first (those f xs) ≡ None → T (not (any f xs))
     first-none xs e = not_T (any f xs) (λ t. let (x, m, s) = any-to xs t in go (those f xs) e (those-in m s))
       where
-        go : {x : A} (l : List A) → first l ≡ none → x ∈ l → ⊥
+        go : {x : A} (l : List A) → first l ≡ None → x ∈ l → ⊥
         go [] e m = Memᴰ.not-nil m
-        go (y ∷ l) e m = some-ne-none y e
+        go (y ∷ l) e m = not-some y (sym e)
 
   -- ---- tests that agree
   module _ {f g : A → Bool} where
@@ -217,13 +217,13 @@ pub length_from : (a n : ℕ) → length (from a n) ≡ n
 length_from a zero = refl
 length_from a (suc n) = ap suc (length_from (suc a) n)
 
-least : (f : ℕ → Bool) (a n : ℕ) {x : ℕ} → first (those f (from a n)) ≡ some x → (y : ℕ) → a ≤ y → y < x → T (not (f y))
-least f a zero {x} e y l u = absurd (none-ne-some x e)
+least : (f : ℕ → Bool) (a n : ℕ) {x : ℕ} → first (those f (from a n)) ≡ Some x → (y : ℕ) → a ≤ y → y < x → T (not (f y))
+least f a zero {x} e y l u = absurd (not-some x e)
 least f a (suc n) {x} e y l u = go (f a) refl e (either (eqb y a)) (λ d. least f (suc a) n d y)
   where
-    go : (b : Bool) → f a ≡ b → first (if b then a ∷ those f (from (suc a) n) else those f (from (suc a) n)) ≡ some x → T (eqb y a) ⊎ T (not (eqb y a))
-        → (first (those f (from (suc a) n)) ≡ some x → suc a ≤ y → y < x → T (not (f y))) → T (not (f y))
-    go true p d t r = absurd (omega (arith, some-injective a x d))
+    go : (b : Bool) → f a ≡ b → first (if b then a ∷ those f (from (suc a) n) else those f (from (suc a) n)) ≡ Some x → T (eqb y a) ⊎ T (not (eqb y a))
+        → (first (those f (from (suc a) n)) ≡ Some x → suc a ≤ y → y < x → T (not (f y))) → T (not (f y))
+    go true p d t r = absurd (omega (arith, same_Some a x d))
     go false p d (inl t) r = rw (eqb→eq y a t, p) tt
     go false p d (inr t) r = r d (omega (arith, (not-eqb-iff y a).0 t)) u
 
@@ -250,7 +250,7 @@ module _ (f : ℕ → Bool) (n : ℕ) where
   any_of {x} h t = any_below.1 (x, h, t)
 
   -- the first of them is the least
-  pub first-least : {x : ℕ} → first (those f (below n)) ≡ some x → (x < n) × T (f x) × ((y : ℕ) → y < x → T (not (f y)))
+  pub first-least : {x : ℕ} → first (those f (below n)) ≡ Some x → (x < n) × T (f x) × ((y : ℕ) → y < x → T (not (f y)))
   first-least e = let (m, t) = first-those f (below n) e in (in-below n m, t, λ y h. least f 0 n e y (omega arith) h)
 
 module _ {f g : ℕ → Bool} (n : ℕ) (h : (x : ℕ) → x < n → f x ≡ g x) where

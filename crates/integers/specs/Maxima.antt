@@ -1,8 +1,8 @@
 -- The greater and the lesser of two whole numbers, the greatest of a list that is not empty, and the least of a list.
 -- `mx a b` and `mn a b` tell omega what `max_z a b` and `min_z a b` are. Assumes nothing.
-use Rattle.std.specs.Prelude.{◌≡◌, refl, Bool, true, false, ◌↔◌, ◌⊎◌, List, [], ◌∷◌, ◌++◌, ◌+◌, min, max, ℤ, ◌≤ℤ◌, if◌then◌else◌}
+use Rattle.std.proofs.lemmas.Option.{same_Some, none-some as not-some}
+use Rattle.std.specs.Prelude.{◌≡◌, refl, Bool, true, false, ◌↔◌, ◌⊎◌, List, [], ◌∷◌, ◌++◌, ◌+◌, min, max, ℤ, ◌≤ℤ◌, if◌then◌else◌, Some, None}
 use Rattle.std.proofs.Common.{sym, ap, ◌∙◌, inl, inr}
-use Rattle.std.proofs.Math.Option.{none, some, none-ne-some, some-ne-none, some-injective}
 use mathlib.Core.List.Memᴰ
 use mathlib.Core.List.{cons≢nil}
 use Rattle.std.specs.Int.Signed.{le_z}
@@ -100,7 +100,7 @@ greatest-append xs ys m n = greatest-is (xs ++ ys) (has (max_cases (greatest_of 
     tops (inr k) = ≤ℤ-trans (greatest-above ys k) (max-right (greatest_of xs) (greatest_of ys))
 
 -- ---- the least of a list
-least-of : (z : ℤ) (l : List ℤ) → (m : ℤ) × (least_of (z ∷ l) ≡ some m) × m ∈ (z ∷ l) × ((y : ℤ) → y ∈ (z ∷ l) → m ≤ℤ y)
+least-of : (z : ℤ) (l : List ℤ) → (m : ℤ) × (least_of (z ∷ l) ≡ Some m) × m ∈ (z ∷ l) × ((y : ℤ) → y ∈ (z ∷ l) → m ≤ℤ y)
 least-of z [] = (z, refl, Memᴰ.head refl, λ y m. go m)
   where
     go : {y : ℤ} → y ∈ (z ∷ []) → z ≤ℤ y
@@ -108,7 +108,7 @@ least-of z [] = (z, refl, Memᴰ.head refl, λ y m. go m)
     go (Memᴰ.tail m) = absurd (Memᴰ.not-nil m)
 least-of z (y ∷ l) =
     let (m, e, i, u) = least-of y l in
-    (min_z z m, ap (λ o. o >>= λ m. some (min_z z m)) e, has m (min_cases z m) i, λ x k. tops m u k)
+    (min_z z m, ap (λ o. o >>= λ m. Some (min_z z m)) e, has m (min_cases z m) i, λ x k. tops m u k)
   where
     has : (m : ℤ) → (min_z z m ≡ z) ⊎ (min_z z m ≡ m) → m ∈ (y ∷ l) → min_z z m ∈ (z ∷ y ∷ l)
     has m (inl e) i = Memᴰ.head e
@@ -118,14 +118,14 @@ least-of z (y ∷ l) =
     tops m u (Memᴰ.head e) = ≤ℤ-trans (min-left z m) (≤ℤ-of-eq (sym e))
     tops m u {x} (Memᴰ.tail k) = ≤ℤ-trans (min-right z m) (u x k)
 
-pub least-below : {m z : ℤ} (l : List ℤ) → least_of l ≡ some m → z ∈ l → m ≤ℤ z
+pub least-below : {m z : ℤ} (l : List ℤ) → least_of l ≡ Some m → z ∈ l → m ≤ℤ z
 least-below [] e k = absurd (Memᴰ.not-nil k)
-least-below {m} {z} (y ∷ l) e k = let (j, d, i, u) = least-of y l in ≤ℤ-trans (≤ℤ-of-eq (some-injective m j (sym e ∙ d))) (u z k)
+least-below {m} {z} (y ∷ l) e k = let (j, d, i, u) = least-of y l in ≤ℤ-trans (≤ℤ-of-eq (same_Some m j (sym e ∙ d))) (u z k)
 
-pub least-attained : {m : ℤ} (l : List ℤ) → least_of l ≡ some m → m ∈ l
-least-attained {m} [] e = absurd (none-ne-some m e)
-least-attained {m} (y ∷ l) e = let (j, d, i, u) = least-of y l in Memᴰ.cast (some-injective m j (sym e ∙ d)) i
+pub least-attained : {m : ℤ} (l : List ℤ) → least_of l ≡ Some m → m ∈ l
+least-attained {m} [] e = absurd (not-some m e)
+least-attained {m} (y ∷ l) e = let (j, d, i, u) = least-of y l in Memᴰ.cast (same_Some m j (sym e ∙ d)) i
 
-pub least-none : (l : List ℤ) → least_of l ≡ none ↔ l ≡ []
+pub least-none : (l : List ℤ) → least_of l ≡ None ↔ l ≡ []
 least-none [] = (λ e. refl, λ e. refl)
-least-none (y ∷ l) = (λ e. let (j, d, i, u) = least-of y l in absurd (some-ne-none j (sym d ∙ e)), λ e. absurd (cons≢nil e))
+least-none (y ∷ l) = (λ e. let (j, d, i, u) = least-of y l in absurd (not-some j (sym (sym d ∙ e))), λ e. absurd (cons≢nil e))

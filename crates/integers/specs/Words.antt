@@ -1,7 +1,6 @@
 -- Small words that the definitions of document 01 are written with: tests, lists, whole numbers. Assumes nothing.
-use Rattle.std.specs.Prelude.{if◌then◌else◌}
+use Rattle.std.specs.Prelude.{if◌then◌else◌, Option, Some, None}
 use Rattle.std.specs.Prelude.{Bool, true, false, ◌&&◌, ◌||◌, List, [], ◌∷◌, ◌++◌, map, ℕ, zero, suc, ◌+◌, ◌*◌, ℤ, pos, negsuc, neg_ℤ, ◌+ℤ◌, leb, eqb}
-use Rattle.std.proofs.Math.Option.{Option, none, some}
 use Rattle.std.specs.Int.Signed.{le_z}
 
 -- ---- tests
@@ -20,12 +19,12 @@ within a b x = leb a x && leb x b
 -- what follows a value that may be missing
 infixl 10 ◌>>=◌
 abbrev pub ◌>>=◌ : {A B : Type 0} → Option A → (A → Option B) → Option B
-none >>= f = none
-some a >>= f = f a
+None >>= f = None
+Some a >>= f = f a
 
 abbrev pub is_some : {A : Type 0} → Option A → Bool
-is_some none = false
-is_some (some a) = true
+is_some None = false
+is_some (Some a) = true
 
 -- ---- lists
 
@@ -53,12 +52,12 @@ module _ {A : Type 0} where
 
   -- the first and the last element of a list, which may have none
   abbrev pub first : List A → Option A
-  first [] = none
-  first (x ∷ xs) = some x
+  first [] = None
+  first (x ∷ xs) = Some x
 
   abbrev pub last : List A → Option A
-  last [] = none
-  last (x ∷ []) = some x
+  last [] = None
+  last (x ∷ []) = Some x
   last (x ∷ y ∷ ys) = last (y ∷ ys)
 
   -- lists one after the other
@@ -119,6 +118,6 @@ smallest_of (z ∷ y ∷ zs) = min_z z (smallest_of (y ∷ zs))
 
 -- the least of a list, which may have none
 abbrev pub least_of : List ℤ → Option ℤ
-least_of [] = none
-least_of (z ∷ []) = some z
-least_of (z ∷ y ∷ zs) = least_of (y ∷ zs) >>= λ m. some (min_z z m)
+least_of [] = None
+least_of (z ∷ []) = Some z
+least_of (z ∷ y ∷ zs) = least_of (y ∷ zs) >>= λ m. Some (min_z z m)

@@ -1,7 +1,7 @@
 -- The working weights handed over in the middle of a join, step by step. Assumes nothing.
+use Rattle.std.specs.Prelude.{Err, None}
 use mathlib.Core.Path.{◌≡◌, refl, sym, ap, ◌∙◌}
 use mathlib.Core.Bool.{Bool, true, false, not, ◌&&◌, ◌||◌}
-use mathlib.Core.Option.{none}
 use mathlib.Core.List.{List, [], ◌∷◌, ◌++◌}
 use Prim.Native.Nat.{ℕ}
 use lib.IntN.{ℤ}
@@ -10,7 +10,6 @@ use lib.ListN.{length}
 use Rattle.integers.specs.Words.{any}
 use Rattle.integers.specs.Tests.{is_true, eqb-iff}
 use Rattle.definitions.specs.declared.Case.{Case}
-use Rattle.definitions.specs.declared.Outcome.{Outcome}
 use Rattle.definitions.specs.declared.Refusal.{Refusal}
 use Rattle.definitions.specs.declared.Refusal.TheVariants.{WeightOutOfRange, ScopeBarred}
 use Rattle.definitions.specs.Rules.{rules_of}
@@ -35,7 +34,7 @@ scopes-then false false b = refl
 module _ (c : Case) (l : Limited c) where
   module _ (w₀ w : List ℤ) (p : ℕ) where
     -- ---- 8 of the working weights, then 15
-    module _ (count : ℕ) (long : length w ≡ lent_length (rules_of c) c) (q : first_refusal (edge_tests (rules_of c) c false) ≡ none) where
+    module _ (count : ℕ) (long : length w ≡ lent_length (rules_of c) c) (q : first_refusal (edge_tests (rules_of c) c false) ≡ None) where
       abbrev own : List Test
       own = weight_test (working_weight (rules_of c)) c w ∷ scope_test c w ∷ []
 
@@ -47,7 +46,7 @@ module _ (c : Case) (l : Limited c) where
       working-split = scopes-then (not (all_weights (working_weight (rules_of c)) c w && zeros_from (own_length c) w))
           (any (wholly_barred c w) (scopes c)) (waiting_barred c w₀ p count)
 
-      pub working-refused : {y : Refusal} → Outcome.Refused y ≡ outcome_of (first_refusal (handed_over (rules_of c) (working_weight (rules_of c)) c w false false))
-          → Outcome.Refused y ≡ outcome_of (first_refusal (working_tests (rules_of c) c w₀ w p count))
+      pub working-refused : {y : Refusal} → Err y ≡ outcome_of (first_refusal (handed_over (rules_of c) (working_weight (rules_of c)) c w false false))
+          → Err y ≡ outcome_of (first_refusal (working_tests (rules_of c) c w₀ w p count))
       working-refused d = ap outcome_of (sym (working-split
           ∙ first_stops (ScopeBarred when (waiting_barred c w₀ p count) ∷ []) own (sym working-is ∙ outcome-refused d)))

@@ -2,7 +2,6 @@
 use mathlib.Core.Path.{◌≡◌, refl, sym, ap, ap₂, subst, ◌∙◌}
 use mathlib.Core.Bool.{Bool, true, false, not, ◌&&◌, ◌||◌, true≢false, and-true, and-false}
 use mathlib.Core.Logic.{⊎_elim}
-use mathlib.Core.Option.{none, some}
 use mathlib.Core.List.{List, [], ◌∷◌, ◌++◌, map}
 use Prim.Native.Nat.{ℕ, ◌+◌, ◌*◌, ◌-◌, ◌≤◌, ◌<◌}
 use native.Mathlib.Omega.{arith}
@@ -11,7 +10,7 @@ use lib.Dec.{T, eqb, ltb, ltb→lt, nltb→le}
 use lib.Signed.{lt_z}
 use lib.ListN.{length, get_or, take, drop, set, replicate, length-append, length-drop, length-replicate, get_or-append}
 use lib.Seq.{drop-set-add, drop-drop}
-use Rattle.std.specs.Prelude.{if◌then◌else◌}
+use Rattle.std.specs.Prelude.{if◌then◌else◌, Some, None}
 use Rattle.integers.specs.Words.{all, any, below}
 use Rattle.integers.specs.Tests.{tests, is_true, is_false, either, same_test, or_left, or_right, or_cases}
 use Rattle.integers.specs.Linear.{T-eq}
@@ -53,17 +52,17 @@ module _ (c : Case) (w₀ : List ℤ) (p : ℕ) (lower : List ℕ) (t : Line) wh
         ≡ (if has_place c (length w₀) p x then first_refusal (NotDue when (off x) ∷ rest_tests c w₀ p x lower t) else first_refusal (NotDue when (off x) ∷ []))
     refusal_is = ap (λ (ts : List Test). if has_place c (length w₀) p x then first_refusal ts else first_refusal (take 1 ts)) (tests-split x)
 
-    pub line_refused : off x ≡ true → some NotDue ≡ line_refusal c w₀ p x lower t
+    pub line_refused : off x ≡ true → Some NotDue ≡ line_refusal c w₀ p x lower t
     line_refused e = sym (refusal_is ∙ rw e (go (has_place c (length w₀) p x)))
       where
-        go : (b : Bool) → (if b then some NotDue else some NotDue) ≡ some NotDue
+        go : (b : Bool) → (if b then Some NotDue else Some NotDue) ≡ Some NotDue
         go true = refl
         go false = refl
 
     pub line-placed : off x ≡ false → has_place c (length w₀) p x ≡ true → first_refusal (rest_tests c w₀ p x lower t) ≡ line_refusal c w₀ p x lower t
     line-placed e h = sym (refusal_is ∙ rw (h, e))
 
-    pub line-free : off x ≡ false → has_place c (length w₀) p x ≡ false → none ≡ line_refusal c w₀ p x lower t
+    pub line-free : off x ≡ false → has_place c (length w₀) p x ≡ false → None ≡ line_refusal c w₀ p x lower t
     line-free e h = sym (refusal_is ∙ rw (h, e))
 
 -- ---- a weight's line
@@ -102,8 +101,8 @@ module _ {c : Case} {p : ℕ} (w₀ : List ℤ) (h : Placed c (length w₀) p) w
     no_ends = replicate edge_places 0
 
     variable-after : (i k : ℕ) → i < 1 → k < c.d
-        → wholly_barred (took (read_so_far c w₀ p (variable-weight i k) lower) (renumbered c (variable-weight i k)) (some t)).case
-        (took (read_so_far c w₀ p (variable-weight i k) lower) (renumbered c (variable-weight i k)) (some t)).table (c.n + i)
+        → wholly_barred (took (read_so_far c w₀ p (variable-weight i k) lower) (renumbered c (variable-weight i k)) (Some t)).case
+        (took (read_so_far c w₀ p (variable-weight i k) lower) (renumbered c (variable-weight i k)) (Some t)).table (c.n + i)
         ≡ wholly_barred (small_case c p) (set (waiting_weights c w₀) (place (small_case c p) i k 0) (weight_in t)) i
     variable-after i k u v =
         ap (λ (g : Reading). wholly_barred g.case g.table (c.n + i))
@@ -116,8 +115,8 @@ module _ {c : Case} {p : ℕ} (w₀ : List ℤ) (h : Placed c (length w₀) p) w
         other q = let z : ◌≡◌ {A = ℕ} 0 1 = cc in omega arith
 
     edge-after : (e k l : ℕ) → e < p → k < c.d → l < c.d
-        → wholly_barred (took (read_so_far c w₀ p (edge-weight e k l) lower) (renumbered c (edge-weight e k l)) (some t)).case
-        (took (read_so_far c w₀ p (edge-weight e k l) lower) (renumbered c (edge-weight e k l)) (some t)).table (c.n + 1 + (c.m + e))
+        → wholly_barred (took (read_so_far c w₀ p (edge-weight e k l) lower) (renumbered c (edge-weight e k l)) (Some t)).case
+        (took (read_so_far c w₀ p (edge-weight e k l) lower) (renumbered c (edge-weight e k l)) (Some t)).table (c.n + 1 + (c.m + e))
         ≡ wholly_barred (small_case c p) (set (waiting_weights c w₀) (place (small_case c p) (1 + e) k l) (weight_in t)) (1 + e)
     edge-after e k l u v g =
         ap (λ (g : Reading). wholly_barred g.case g.table (c.n + 1 + (c.m + e)))
@@ -210,10 +209,10 @@ second-off true b d q = absurd (true≢false q)
 second-off false true d q = absurd (true≢false q)
 second-off false false d q = refl
 
-pub first_off : (t : Test) (ts : List Test) → first_refusal (t ∷ ts) ≡ none → t.applies ≡ false
+pub first_off : (t : Test) (ts : List Test) → first_refusal (t ∷ ts) ≡ None → t.applies ≡ false
 first_off t ts = go t.applies
   where
-    go : (b : Bool) → (if b then some t.refusal else first_refusal ts) ≡ none → b ≡ false
+    go : (b : Bool) → (if b then Some t.refusal else first_refusal ts) ≡ None → b ≡ false
     go true e = let z : ◌≡◌ {A = ℕ} 0 1 = cc in absurd (omega arith)
     go false e = refl
 
@@ -246,7 +245,7 @@ module _ (c : Case) (w₀ : List ℤ) (p e : ℕ) (lower : List ℕ) (t : Line) 
   pub lower-inside : out ≡ false → outside (c.n + 1) t.b ≡ false
   lower-inside h = second-off (not (names (c.m + e) t.a)) (outside (c.n + 1) t.b) (not (names c.n t.c)) h
 
-  inside : first_refusal (rest_tests c w₀ p (edge-ends e) lower t) ≡ none → outside (c.n + 1) t.b ≡ false
+  inside : first_refusal (rest_tests c w₀ p (edge-ends e) lower t) ≡ None → outside (c.n + 1) t.b ≡ false
   inside h = lower-inside (first_off (OutOfRange when out) (EndsNotAscending when (not (lt_z t.b t.c)) ∷ EdgeRepeated when repeats ∷ []) (ends-shape ∙ h))
 
 -- ---- a line that is taken: its weight waits as the definition says, and its lower end, which is a byte, is kept
@@ -256,18 +255,18 @@ below_more n k (pos a) h e = is_false (outside k (pos a)) (let q = simp tests at
 below_more n k (negsuc a) h e = absurd (true≢false e)
 
 module _ (c : Case) (w₀ : List ℤ) (p : ℕ) (lower : List ℕ) (t : Line) where
-  lower-taken : Placed c (length w₀) p → (x : CaseDue) → first_refusal (rest_tests c w₀ p x lower t) ≡ none → lower_stored x t lower ≡ lower_kept x t lower
+  lower-taken : Placed c (length w₀) p → (x : CaseDue) → first_refusal (rest_tests c w₀ p x lower t) ≡ None → lower_stored x t lower ≡ lower_kept x t lower
   lower-taken h (variable-weight i k) e = refl
   lower-taken h (edge-weight f k l) e = refl
   lower-taken h (edge-ends f) e = rw (below_more (c.n + 1) 256 t.b (omega (arith, variables-fit h)) (inside c w₀ p f lower t e))
 
   module _ (x : CaseDue) (h : has_place c (length w₀) p x ≡ true) where
-    pub lower-kept : line_refusal c w₀ p x lower t ≡ none → lower_with c (length w₀) p x lower t ≡ lower_kept x t lower
+    pub lower-kept : line_refusal c w₀ p x lower t ≡ None → lower_with c (length w₀) p x lower t ≡ lower_kept x t lower
     lower-kept e = rw h (lower-taken (placed-known c p (length w₀) x h).0 x (rest-none (off c w₀ p lower t x) (sym split ∙ e)))
       where
         split : line_refusal c w₀ p x lower t ≡ first_refusal (NotDue when (off c w₀ p lower t x) ∷ rest_tests c w₀ p x lower t)
         split = refusal_is c w₀ p lower t x ∙ rw h
 
-        rest-none : (b : Bool) → first_refusal (NotDue when b ∷ rest_tests c w₀ p x lower t) ≡ none → first_refusal (rest_tests c w₀ p x lower t) ≡ none
+        rest-none : (b : Bool) → first_refusal (NotDue when b ∷ rest_tests c w₀ p x lower t) ≡ None → first_refusal (rest_tests c w₀ p x lower t) ≡ None
         rest-none true e = let z : ◌≡◌ {A = ℕ} 0 1 = cc in absurd (omega arith)
         rest-none false e = e

@@ -1,6 +1,5 @@
 -- The case lines of a join on all input: what one is asked, and what it leaves in the starting table and among the lower ends. Assumes nothing.
-use Rattle.std.specs.Prelude.{Bool, not, ◌&&◌, List, ℕ, ◌+◌, ℤ, nat_abs, length, take, set, if◌then◌else◌}
-use Rattle.std.proofs.Math.Option.{Option}
+use Rattle.std.specs.Prelude.{Bool, not, ◌&&◌, List, ℕ, ◌+◌, ℤ, nat_abs, length, take, set, if◌then◌else◌, Option}
 use Rattle.definitions.specs.declared.Case.{Case}
 use Rattle.definitions.specs.declared.Line.{Line}
 use Rattle.definitions.specs.declared.Refusal.{Refusal}

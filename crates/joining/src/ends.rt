@@ -10,7 +10,7 @@ ghost use Rattle.joining.specs.Joining.{lower_stored};
 ghost use Rattle.joining.specs.Steps.{Placed, rest_tests, joined_before, end_before};
 
 use crate::columns;
-use definitions::{Case, EDGE_PLACES, Line, Outcome, Refusal};
+use definitions::{Case, EDGE_PLACES, Line, Refusal};
 use growing::Ends;
 
 fn ends_out(line: Line, n: usize, e: usize) -> bool
@@ -111,20 +111,20 @@ pub(crate) fn check_ends(
     lower: &Ends,
     e: usize,
     line: Line,
-) -> Outcome
+) -> Result<(), Refusal>
     requires placed { Placed case starting edges }
     requires e_lt_edges { e < edges }
     ensures { (w₀ : List ℤ)
         → result ≡ outcome_of (first_refusal (rest_tests case w₀ edges (edge-ends e) lower.now line)) }
 {
     if ends_out(line, case.n, case.m + e) {
-        return Outcome::Refused(Refusal::OutOfRange);
+        return Err(Refusal::OutOfRange);
     }
     if !ascending(line) {
-        return Outcome::Refused(Refusal::EndsNotAscending);
+        return Err(Refusal::EndsNotAscending);
     }
     if is_joined(case, lower, e, end_of(line.b)) {
-        return Outcome::Refused(Refusal::EdgeRepeated);
+        return Err(Refusal::EdgeRepeated);
     }
-    Outcome::Done
+    Ok(())
 }

@@ -21,7 +21,7 @@ ghost use Rattle.joining.specs.Joining.{line_refusal, starting_with, lower_store
 ghost use Rattle.joining.specs.Steps.{small_sizes, Placed, rest_tests};
 
 use case_lines::Awaited;
-use definitions::{Case, Line, Outcome, Refusal};
+use definitions::{Case, Line, Refusal};
 use growing::Ends;
 
 // The numbers of a line of a kind that is due, which has a place.
@@ -32,7 +32,7 @@ fn check_placed<'a>(
     due: Awaited,
     lower: &'a Ends,
     line: Line,
-) -> Outcome
+) -> Result<(), Refusal>
     requires placed { Placed case (length starting.now) edges }
     requires in_case { InCase (small_sizes case edges) due }
     ensures { result ≡ outcome_of (first_refusal (rest_tests case starting.now edges (due_awaited due) lower.now line)) }
@@ -77,19 +77,19 @@ fn put_placed(
 }
 
 // The numbers of a join's first line.
-pub fn check_join(case: Case, line: Line) -> Outcome
+pub fn check_join(case: Case, line: Line) -> Result<(), Refusal>
     ensures { result ≡ outcome_of (first_refusal (NotDue when (not_due (rules_of case) (8 ∷ []) line) ∷ join_tests (rules_of case) case line)) }
 {
     if !columns::is_join(line) {
-        return Outcome::Refused(Refusal::NotDue);
+        return Err(Refusal::NotDue);
     }
     if room::too_many(case, line.a) {
-        return Outcome::Refused(Refusal::OutsideLimits);
+        return Err(Refusal::OutsideLimits);
     }
     if columns::is_below(line.a, case.n + 1) {
-        return Outcome::Done;
+        return Ok(());
     }
-    Outcome::Refused(Refusal::OutOfRange)
+    Err(Refusal::OutOfRange)
 }
 
 // Numbers 3 to 8 and 15 of what is handed over in the middle of a join; `out`: number 5 applies to the record.
@@ -101,18 +101,18 @@ pub fn check_waiting<'a>(
     due: Awaited,
     lower: &'a Ends,
     out: bool,
-) -> Outcome
+) -> Result<(), Refusal>
     ensures { result ≡ outcome_of (first_refusal
         (waiting_tests (rules_of case) case starting.now table.now edges (due_awaited due) lower.now out)) }
 {
     if !room::can_grow(case, edges) {
-        return Outcome::Refused(Refusal::OutsideLimits);
+        return Err(Refusal::OutsideLimits);
     }
     if !tables::is_sized(case, table.len()) {
-        return Outcome::Refused(Refusal::WrongLength);
+        return Err(Refusal::WrongLength);
     }
     if !tables::is_sized(case, starting.len()) {
-        return Outcome::Refused(Refusal::WrongLength);
+        return Err(Refusal::WrongLength);
     }
     waiting::check_lent(case, starting, table, edges, due, lower, out)
 }
@@ -125,16 +125,16 @@ pub fn check_line<'a>(
     due: Awaited,
     lower: &'a Ends,
     line: Line,
-) -> Outcome
+) -> Result<(), Refusal>
     ensures { result ≡ outcome_of (line_refusal case starting.now edges (due_awaited due) lower.now line) }
 {
     if !columns::is_due(due, line) {
-        return Outcome::Refused(Refusal::NotDue);
+        return Err(Refusal::NotDue);
     }
     if room::has_place(case, starting.len(), edges, due) {
         return check_placed(case, starting, edges, due, lower, line);
     }
-    Outcome::Done
+    Ok(())
 }
 
 // Takes a case line of a join: its weight waits, or its lower end is kept.

@@ -1,6 +1,5 @@
 // What is handed over in the middle of a join.
-ghost use Rattle.std.specs.Prelude.{◌≡◌, false, ◌+◌, ◌≤◌, ◌<◌, pos, length, get_or};
-ghost use Rattle.std.proofs.Math.Option.{none};
+ghost use Rattle.std.specs.Prelude.{◌≡◌, false, ◌+◌, ◌≤◌, ◌<◌, pos, length, get_or, None};
 ghost use Rattle.integers.specs.Words.{below, all};
 ghost use Rattle.definitions.specs.Rules.{rules_of, edge_places};
 ghost use Rattle.definitions.specs.Refusals.{first_refusal};
@@ -15,7 +14,7 @@ ghost use Rattle.joining.specs.Steps.{working_tests, held_tests, lent_tests};
 
 use crate::room;
 use case_lines::Awaited;
-use definitions::{Case, Outcome, Refusal};
+use definitions::{Case, Refusal};
 use growing::Ends;
 
 // How many edges' ends and whole scopes were read before the line.
@@ -215,21 +214,21 @@ fn working_outcome<'a>(
     table: &'a [i64],
     edges: usize,
     count: usize,
-) -> Outcome
+) -> Result<(), Refusal>
     requires placed { Placed case (length starting.now) edges }
     requires table_len { length table.now ≡ lent_length (rules_of case) case }
-    requires false_value { first_refusal (edge_tests (rules_of case) case false) ≡ none }
+    requires false_value { first_refusal (edge_tests (rules_of case) case false) ≡ None }
     requires count_bound { count ≤ edges + 1 }
     ensures { result ≡ outcome_of (first_refusal (working_tests (rules_of case) case starting.now table.now edges count)) }
 {
     let working = tables::check_working(case, table, false, false);
     match working {
-        Outcome::Refused(refusal) => Outcome::Refused(refusal),
-        Outcome::Done => {
+        Err(refusal) => Err(refusal),
+        Ok(()) => {
             if some_barred(case, starting, edges, count) {
-                return Outcome::Refused(Refusal::ScopeBarred);
+                return Err(Refusal::ScopeBarred);
             }
-            Outcome::Done
+            Ok(())
         }
     }
 }
@@ -242,23 +241,23 @@ fn held_outcome<'a>(
     edges: usize,
     due: Awaited,
     lower: &'a Ends,
-) -> Outcome
+) -> Result<(), Refusal>
     requires placed { Placed case (length starting.now) edges }
     requires table_len { length table.now ≡ lent_length (rules_of case) case }
-    requires false_value { first_refusal (edge_tests (rules_of case) case false) ≡ none }
+    requires false_value { first_refusal (edge_tests (rules_of case) case false) ≡ None }
     requires in_case { InCase (small_sizes case edges) due }
     ensures { result ≡ outcome_of (first_refusal
         (held_tests (rules_of case) case starting.now table.now edges (due_awaited due) lower.now)) }
 {
     if some_repeated(lower, ends_read(case, edges, due)) {
-        return Outcome::Refused(Refusal::EdgeRepeated);
+        return Err(Refusal::EdgeRepeated);
     }
     let waiting = room::weights_read(case, edges, due);
     if first_held(case, starting, table, waiting) {
         let count = scopes_read(case, edges, due);
         return working_outcome(case, starting, table, edges, count);
     }
-    Outcome::Refused(Refusal::WeightOutOfRange)
+    Err(Refusal::WeightOutOfRange)
 }
 
 // Numbers 5 to 8 and 15, of tables of the right length; `out` says that 5 applies to the record.
@@ -270,7 +269,7 @@ pub(crate) fn check_lent<'a>(
     due: Awaited,
     lower: &'a Ends,
     out: bool,
-) -> Outcome
+) -> Result<(), Refusal>
     requires placed { Placed case (length starting.now) edges }
     requires table_len { length table.now ≡ lent_length (rules_of case) case }
     ensures { result ≡ outcome_of (first_refusal
@@ -279,7 +278,7 @@ pub(crate) fn check_lent<'a>(
     let beyond = record_out(case, edges, due, lower, out);
     let front = tables::check_edges(case, beyond);
     match front {
-        Outcome::Refused(refusal) => Outcome::Refused(refusal),
-        Outcome::Done => held_outcome(case, starting, table, edges, due, lower),
+        Err(refusal) => Err(refusal),
+        Ok(()) => held_outcome(case, starting, table, edges, due, lower),
     }
 }

@@ -8,7 +8,7 @@ ghost use Rattle.definitions.specs.CaseFiles.{names as names_place, weight_in, v
 ghost use Rattle.joining.specs.Steps.{Placed, rest_tests, others_barred, placed_tests};
 
 use crate::{columns, room};
-use definitions::{Case, Line, Outcome, Refusal, Rulebook};
+use definitions::{Case, Line, Refusal, Rulebook};
 
 // What the line says that waits.
 fn weight_in(line: Line) -> i64
@@ -60,23 +60,23 @@ fn check_placed(
     others: usize,
     place: usize,
     line: Line,
-) -> Outcome
+) -> Result<(), Refusal>
     requires { (others ≤ place) × (place < length starting.now) }
     ensures { result ≡ outcome_of (first_refusal (placed_tests rulebook starting.now out last others place line)) }
 {
     if out {
-        return Outcome::Refused(Refusal::OutOfRange);
+        return Err(Refusal::OutOfRange);
     }
     if columns::bars(line) {
         if others_barred(last, others, place, starting) {
-            return Outcome::Refused(Refusal::ScopeBarred);
+            return Err(Refusal::ScopeBarred);
         }
-        return Outcome::Done;
+        return Ok(());
     }
     if is_starting(rulebook, line) {
-        return Outcome::Done;
+        return Ok(());
     }
-    Outcome::Refused(Refusal::WeightOutOfRange)
+    Err(Refusal::WeightOutOfRange)
 }
 
 fn names_value(line: Line, i: usize, k: usize) -> bool
@@ -101,7 +101,7 @@ pub(crate) fn check_value(
     i: usize,
     k: usize,
     line: Line,
-) -> Outcome
+) -> Result<(), Refusal>
     requires placed { Placed case (length starting.now) edges }
     requires i_bound { (i < 1) × (k < case.d) }
     ensures { (lower : List ℕ)
@@ -123,7 +123,7 @@ pub(crate) fn check_tuple(
     k: usize,
     l: usize,
     line: Line,
-) -> Outcome
+) -> Result<(), Refusal>
     requires placed { Placed case (length starting.now) edges }
     requires e_lt_edges { (e < edges) × (k < case.d) × (l < case.d) }
     ensures { (lower : List ℕ)

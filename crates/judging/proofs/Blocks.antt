@@ -1,4 +1,7 @@
 -- Blocks handed over one after another, beside the fold over all their lines, where no number applies to what is lent. Assumes nothing.
+use Rattle.std.specs.Prelude.{Result, Ok, Err, ⊤}
+use Rattle.definitions.specs.declared.RefusedAt.{RefusedAt}
+use Rattle.definitions.specs.Answers.{refused_at}
 use mathlib.Core.Path.{◌≡◌, refl, sym, ap, ap₂, ◌∙◌}
 use mathlib.Core.Bool.{false}
 use mathlib.Core.List.Memᴰ
@@ -11,8 +14,6 @@ use lib.ListN.{length, drop}
 use Rattle.integers.specs.Words.{joined}
 use Rattle.integers.specs.Lists.{◌∈◌}
 use Rattle.definitions.specs.declared.Case.{Case}
-use Rattle.definitions.specs.declared.FileAnswer.{FileAnswer}
-use Rattle.definitions.specs.declared.Outcome.{Outcome}
 use Rattle.definitions.specs.declared.Refusal.{Refusal}
 use Rattle.definitions.specs.Rules.{Rules, coherent, rules_of}
 use Rattle.definitions.specs.Lines.{line_length, cut_lines, whole_lines, lines_in, has_part}
@@ -29,15 +30,15 @@ lines-count : (long n : ℕ) (t : List ℕ) → length (cut_lines long n t) ≡ 
 lines-count long zero t = refl
 lines-count long (suc n) t = ap suc (lines-count long n (drop long t))
 
-taken_refused : (os ps : List Outcome) {x : Refusal} → first_refused os ≡ Outcome.Refused x → taken_lines (os ++ ps) ≡ taken_lines os
+taken_refused : (os ps : List (Result ⊤ Refusal)) {x : Refusal} → first_refused os ≡ Err x → taken_lines (os ++ ps) ≡ taken_lines os
 taken_refused [] ps e = cc
-taken_refused (Outcome.Done ∷ os) ps e = ap (λ (n : ℕ). 1 + n) (taken_refused os ps e)
-taken_refused (Outcome.Refused x ∷ os) ps e = refl
+taken_refused ((Ok tt) ∷ os) ps e = ap (λ (n : ℕ). 1 + n) (taken_refused os ps e)
+taken_refused (Err x ∷ os) ps e = refl
 
-taken-most : (os : List Outcome) → taken_lines os ≤ length os
+taken-most : (os : List (Result ⊤ Refusal)) → taken_lines os ≤ length os
 taken-most [] = omega arith
-taken-most (Outcome.Done ∷ os) = omega (arith, taken-most os)
-taken-most (Outcome.Refused x ∷ os) = omega arith
+taken-most ((Ok tt) ∷ os) = omega (arith, taken-most os)
+taken-most (Err x ∷ os) = omega arith
 
 counted-more : (at m n : ℕ) → lines_counted (lines_counted at m) n ≡ lines_counted at (m + n)
 counted-more at m n = omega arith
@@ -59,7 +60,7 @@ module _ (r : Rules) where
         omega (arith, taken-most (line_answers r b ts), answers-count b ts, lines-count (line_length r.amount_width) (whole_lines r.amount_width bytes) bytes)
 
     -- a line refused in xs is the first
-    fold-refused : (xs ys : List ℕ) → has_part r.amount_width xs ≡ false → {x : Refusal} → (fold_replay r c w p xs).block.answer ≡ Outcome.Refused x
+    fold-refused : (xs ys : List ℕ) → has_part r.amount_width xs ≡ false → {x : Refusal} → (fold_replay r c w p xs).block.answer ≡ Err x
         → (fold_replay r c w p (xs ++ ys)).block.lines ≡ (fold_replay r c w p xs).block.lines
     unfolding fold_replay
     fold-refused xs ys whole e =
@@ -71,7 +72,7 @@ module _ (r : Rules) where
 
     -- no whole line
     fold-short : (bytes : List ℕ) → length bytes < line_length r.amount_width
-        → fold_replay r c w p bytes ≡ record { block = record { replay = p; lines = 0; answer = Outcome.Done }; table = w }
+        → fold_replay r c w p bytes ≡ record { block = record { replay = p; lines = 0; answer = (Ok tt) }; table = w }
     unfolding fold_replay
     fold-short bytes h = let n : whole_lines r.amount_width bytes ≡ 0 = div-eq_of_lt h in rw n
 
@@ -80,20 +81,20 @@ module _ (r : Rules) where
 -- what stands after blocks, beside the fold over them all from line `at`
 pub record Stands (g : JudgingState) (c : Case) (at : ℕ) (call : BlockCall) : Type 0 where
   pub answer : g.answer ≡ answer_at (lines_counted at call.block.lines) call.block.answer
-  pub case-kept : call.block.answer ≡ Outcome.Done → g.case ≡ c
-  pub replay : call.block.answer ≡ Outcome.Done → g.replay ≡ call.block.replay
-  pub table : call.block.answer ≡ Outcome.Done → g.weights ≡ call.table
+  pub case-kept : call.block.answer ≡ Ok tt → g.case ≡ c
+  pub replay : call.block.answer ≡ Ok tt → g.replay ≡ call.block.replay
+  pub table : call.block.answer ≡ Ok tt → g.weights ≡ call.table
 
 -- once refused, nothing changes
-block-stays : (g : JudgingState) {x : Refusal} {at : ℕ} → g.answer ≡ FileAnswer.Refused x at → (y : List ℕ) → block_judging g y ≡ g
+block-stays : (g : JudgingState) {x : Refusal} {at : ℕ} → g.answer ≡ Err (refused_at x at) → (y : List ℕ) → block_judging g y ≡ g
 unfolding block_judging
 block-stays g e y = ap (block_from g y) e
 
-pub stays : (g : JudgingState) {x : Refusal} {at : ℕ} → g.answer ≡ FileAnswer.Refused x at → (xs : List (List ℕ)) → after_blocks g xs ≡ g
+pub stays : (g : JudgingState) {x : Refusal} {at : ℕ} → g.answer ≡ Err (refused_at x at) → (xs : List (List ℕ)) → after_blocks g xs ≡ g
 stays g e [] = refl
 stays g e (y ∷ ys) = ap (λ (k : JudgingState). after_blocks k ys) (block-stays g e y) ∙ stays g e ys
 
-block-first : (g : JudgingState) (x : List ℕ) {at : ℕ} → g.answer ≡ FileAnswer.Read at → block_judging g x ≡ block_from g x (FileAnswer.Read at)
+block-first : (g : JudgingState) (x : List ℕ) {at : ℕ} → g.answer ≡ Ok at → block_judging g x ≡ block_from g x (Ok at)
 unfolding block_judging
 block-first g x e = ap (block_from g x) e
 
@@ -108,7 +109,7 @@ module _ (c : Case) (w : List ℤ) (p : Replay) (at : ℕ) (x rest : List ℕ) (
   abbrev second : BlockCall
   second = fold_replay r c first.table first.block.replay rest
 
-  abbrev next : Outcome → JudgingState
+  abbrev next : Result ⊤ Refusal → JudgingState
   next o = record {
     case = c;
     weights = first.table;
@@ -116,7 +117,7 @@ module _ (c : Case) (w : List ℤ) (p : Replay) (at : ℕ) (x rest : List ℕ) (
     answer = answer_at (lines_counted at first.block.lines) o;
   }
 
-  stand-done : {g : JudgingState} → first.block.answer ≡ Outcome.Done → Stands g c (lines_counted at first.block.lines) second
+  stand-done : {g : JudgingState} → first.block.answer ≡ Ok tt → Stands g c (lines_counted at first.block.lines) second
       → Stands g c at (fold_replay r c w p (x ++ rest))
   stand-done {g} d i =
       let a : or_else first.block.answer second.block.answer ≡ second.block.answer = rw d in
@@ -128,38 +129,38 @@ module _ (c : Case) (w : List ℤ) (p : Replay) (at : ℕ) (x rest : List ℕ) (
         table = λ e. i.table (sym a ∙ e);
       })
 
-  never : {y : Refusal} → Outcome.Refused y ≡ Outcome.Done → ⊥
+  never : {y : Refusal} → Err y ≡ Ok tt → ⊥
   never e = let z : ◌≡◌ {A = ℕ} 0 1 = cc in omega arith
 
-  stand-refused : {y : Refusal} → first.block.answer ≡ Outcome.Refused y → Stands (next (Outcome.Refused y)) c at (fold_replay r c w p (x ++ rest))
+  stand-refused : {y : Refusal} → first.block.answer ≡ Err y → Stands (next (Err y)) c at (fold_replay r c w p (x ++ rest))
   stand-refused {y} d =
-      let a : (fold_replay r c w p (x ++ rest)).block.answer ≡ Outcome.Refused y = ap (λ (k : BlockCall). k.block.answer) (folds-join r c w p x rest whole)
-      ∙ ap (λ (o : Outcome). or_else o second.block.answer) d in
+      let a : (fold_replay r c w p (x ++ rest)).block.answer ≡ Err y = ap (λ (k : BlockCall). k.block.answer) (folds-join r c w p x rest whole)
+      ∙ ap (λ (o : Result ⊤ Refusal). or_else o second.block.answer) d in
       record {
-        answer = sym (ap₂ (λ (n : ℕ) (o : Outcome). answer_at (lines_counted at n) o) (fold-refused r c w p x rest whole d) a);
+        answer = sym (ap₂ (λ (n : ℕ) (o : Result ⊤ Refusal). answer_at (lines_counted at n) o) (fold-refused r c w p x rest whole d) a);
         case-kept = λ e. absurd (never (sym a ∙ e));
         replay = λ e. absurd (never (sym a ∙ e));
         table = λ e. absurd (never (sym a ∙ e));
       }
 
-  stand-next : (xs : List (List ℕ)) → (first.block.answer ≡ Outcome.Done
-      → Stands (after_blocks (next Outcome.Done) xs) c (lines_counted at first.block.lines) second)
-      → (o : Outcome) → first.block.answer ≡ o → Stands (after_blocks (next o) xs) c at (fold_replay r c w p (x ++ rest))
-  stand-next xs i Outcome.Done d = stand-done d (i d)
-  stand-next xs i (Outcome.Refused y) d = rw (stays (next (Outcome.Refused y)) refl xs) (stand-refused d)
+  stand-next : (xs : List (List ℕ)) → (first.block.answer ≡ Ok tt
+      → Stands (after_blocks (next (Ok tt)) xs) c (lines_counted at first.block.lines) second)
+      → (o : Result ⊤ Refusal) → first.block.answer ≡ o → Stands (after_blocks (next o) xs) c at (fold_replay r c w p (x ++ rest))
+  stand-next xs i (Ok tt) d = stand-done d (i d)
+  stand-next xs i (Err y) d = rw (stays (next (Err y)) refl xs) (stand-refused d)
 
 -- blocks of whole lines, and fewer bytes than a line
 module _ (c : Case) (tail : List ℕ) (short : length tail < line_length (rules_of c).amount_width) where
-  abbrev stood : Replay → FileAnswer → List ℤ → JudgingState
+  abbrev stood : Replay → Result ℕ RefusedAt → List ℤ → JudgingState
   stood p a w = record { case = c; weights = w; replay = p; answer = a }
 
   pub blocks-stand : (xs : List (List ℕ)) → ((x : List ℕ) → x ∈ xs → has_part (rules_of c).amount_width x ≡ false)
-      → (p : Replay) (a : FileAnswer) (w : List ℤ) (at : ℕ) → a ≡ FileAnswer.Read at → at ≤ greatest_count → Lent (rules_of c) c w p
+      → (p : Replay) (a : Result ℕ RefusedAt) (w : List ℤ) (at : ℕ) → a ≡ Ok at → at ≤ greatest_count → Lent (rules_of c) c w p
       → Stands (after_blocks (stood p a w) xs) c at (fold_replay (rules_of c) c w p (joined xs ++ tail))
   blocks-stand [] whole p a w at e few l =
       rw (fold-short (rules_of c) c w p tail short)
       (record {
-        answer = e ∙ ap FileAnswer.Read (sym (counted-few at 0 (omega arith) ∙ omega arith));
+        answer = e ∙ ap Ok (sym (counted-few at 0 (omega arith) ∙ omega arith));
         case-kept = λ d. refl;
         replay = λ d. refl;
         table =
@@ -169,8 +170,8 @@ module _ (c : Case) (tail : List ℕ) (short : length tail < line_length (rules_
       let r : Rules = rules_of c in
       let rest : List ℕ = joined xs ++ tail in
       let all_whole = whole x (Memᴰ.head refl) in
-      let g : JudgingState = next c w p at x rest all_whole Outcome.Done in
-      let i : (fold_replay r c w p x).block.answer ≡ Outcome.Done → Stands (after_blocks g xs) c (lines_counted at (fold_replay r c w p x).block.lines)
+      let g : JudgingState = next c w p at x rest all_whole (Ok tt) in
+      let i : (fold_replay r c w p x).block.answer ≡ Ok tt → Stands (after_blocks g xs) c (lines_counted at (fold_replay r c w p x).block.lines)
       (second c w p at x rest all_whole) =
       λ d. blocks-stand xs (λ k m. whole k (Memᴰ.tail m)) g.replay g.answer g.weights
       (lines_counted at (fold_replay r c w p x).block.lines) refl (omega arith) (lent-after (coherent c.rulebook) c w p x l d) in

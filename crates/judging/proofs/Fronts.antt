@@ -1,9 +1,11 @@
 -- The reader of a case looks only at the lines that are due, so a front that holds the longest case is read as the whole input is. The line of a
 -- case's refusal, and the lines used, are at most those of the longest case. Assumes nothing.
+use Rattle.definitions.specs.declared.RefusedAt.{RefusedAt}
+use Rattle.definitions.specs.Answers.{refused_at}
+use Rattle.definitions.specs.Answers.{size_with}
 use mathlib.Core.Path.{◌≡◌, refl, sym, ap, ap₂, ◌∙◌}
 use mathlib.Core.Bool.{Bool, true, false}
 use mathlib.Core.Logic.{◌⊎◌, inl, inr}
-use mathlib.Core.Option.{Option, none, some}
 use mathlib.Core.List.{List, [], ◌∷◌, ◌++◌, append-nil}
 use Prim.Native.Nat.{ℕ, suc, ◌+◌, ◌*◌, ◌≤◌}
 use native.Mathlib.Nat.{mul-le-mul, mul-le-mul_left, mul-le-mul_right, mul_comm}
@@ -13,12 +15,11 @@ use lib.Dec.{eqb}
 use lib.ListN.{length, drop, length-append, length-drop}
 use lib.Seq.{take-append-le, drop-append-le}
 use borrow.Author.Tests.{le-ltb, ne_eqb}
-use Rattle.std.specs.Prelude.{if◌then◌else◌}
+use Rattle.std.specs.Prelude.{if◌then◌else◌, Result, Ok, Err, Option, Some, None}
 use Rattle.integers.specs.Options.{none-some}
 use Rattle.definitions.specs.declared.Case.{Case}
 use Rattle.definitions.specs.declared.Rulebook.{Rulebook}
 use Rattle.definitions.specs.declared.Line.{Line}
-use Rattle.definitions.specs.declared.FileAnswer.{FileAnswer}
 use Rattle.definitions.specs.declared.CaseRead.{CaseRead}
 use Rattle.definitions.specs.declared.CaseSize.{CaseSize}
 use Rattle.definitions.specs.declared.Refusal.{Refusal}
@@ -36,9 +37,9 @@ use Rattle.case_theory.proofs.CaseTests.{CaseKinds, case-kinds, head_passed}
 use Rattle.case_theory.proofs.CaseReads.{zeroed_call, zeroed-read}
 
 -- the line of a refusal, or the lines used
-abbrev pub front_line : FileAnswer → ℕ
-front_line (FileAnswer.Read lines) = lines
-front_line (FileAnswer.Refused x at) = at
+abbrev pub front_line : Result ℕ RefusedAt → ℕ
+front_line (Ok lines) = lines
+front_line (Err x) = x.line
 
 module _ (r : Rules) where
   -- a front that holds a line
@@ -69,8 +70,8 @@ module _ (book : Rulebook) where
           | true ↦ case_refused book CutShort at g.table
           | false ↦
               elim o [
-                | none ↦ read_dues book (took g due l) (at + 1) ds s
-                | some x ↦ case_refused book x at g.table
+                | None ↦ read_dues book (took g due l) (at + 1) ds s
+                | Some x ↦ case_refused book x at g.table
               ]
         ]
 
@@ -82,16 +83,16 @@ module _ (book : Rulebook) where
         → read_dues book (took g due l) (at + 1) ds s ≡ read_dues book (took g due l) (at + 1) ds t → turn b l o s ≡ turn b l o t
     unfolding turn
     turn-same true l o s t e = refl
-    turn-same false l none s t e = e
-    turn-same false l (some x) s t e = refl
+    turn-same false l None s t e = e
+    turn-same false l (Some x) s t e = refl
 
     turn-line : (b : Bool) (l : Option Line) (o : Option Refusal) (s : List ℕ)
         → front_line (read_dues book (took g due l) (at + 1) ds s).read.answer ≤ at + 1 + length ds
         → front_line (turn b l o s).read.answer ≤ at + suc (length ds)
     unfolding turn
     turn-line true l o s h = omega arith
-    turn-line false l none s h = omega arith
-    turn-line false l (some x) s h = omega arith
+    turn-line false l None s h = omega arith
+    turn-line false l (Some x) s h = omega arith
 
   dues-front : (ds : List CaseDue) (g : Reading) (at : ℕ) (s rest : List ℕ) → length ds * line_length r.amount_width ≤ length s
       → read_dues book g at ds (s ++ rest) ≡ read_dues book g at ds s
@@ -120,11 +121,11 @@ module _ (book : Rulebook) where
     opened : Option Refusal → Option Line → List ℕ → CaseCall
     opened o l s =
         elim o [
-          | none ↦
+          | None ↦
               if eqb (length w) (lent_length r (headed book l))
               then read_dues book (record { case = headed book l; table = w }) 1 (dues (headed book l)) s
               else case_refused book WrongLength 0 w
-          | some x ↦ case_refused book x 0 w
+          | Some x ↦ case_refused book x 0 w
         ]
 
     opens : (t : List ℕ) → read_lines book t w ≡ opened (head_refusal r t) (first_line r t) (after_first r t)
@@ -133,11 +134,11 @@ module _ (book : Rulebook) where
 
     opened-same : (l : Option Line) (s t : List ℕ) → read_dues book (record { case = headed book l; table = w }) 1 (dues (headed book l)) s ≡ read_dues book
         (record { case = headed book l; table = w }) 1 (dues (headed book l)) t
-        → opened none l s ≡ opened none l t
+        → opened None l s ≡ opened None l t
     unfolding opened
     opened-same l s t e = ap (λ (x : CaseCall). if eqb (length w) (lent_length r (headed book l)) then x else case_refused book WrongLength 0 w) e
 
-    opened-line : (l : Option Line) (s : List ℕ) (k : ℕ) → 1 + length (dues (headed book l)) ≤ k → front_line (opened none l s).read.answer ≤ k
+    opened-line : (l : Option Line) (s : List ℕ) (k : ℕ) → 1 + length (dues (headed book l)) ≤ k → front_line (opened None l s).read.answer ≤ k
     unfolding opened
     opened-line l s k h = go (eqb (length w) (lent_length r (headed book l)))
       where
@@ -148,20 +149,20 @@ module _ (book : Rulebook) where
         go true = omega (arith, dues-line (dues (headed book l)) g 1 s)
         go false = omega arith
 
-    opened-refused : (x : Refusal) (l : Option Line) (s t : List ℕ) → opened (some x) l s ≡ opened (some x) l t
+    opened-refused : (x : Refusal) (l : Option Line) (s t : List ℕ) → opened (Some x) l s ≡ opened (Some x) l t
     unfolding opened
     opened-refused x l s t = refl
 
-    refused-line : (x : Refusal) (l : Option Line) (s : List ℕ) → front_line (opened (some x) l s).read.answer ≡ 0
+    refused-line : (x : Refusal) (l : Option Line) (s : List ℕ) → front_line (opened (Some x) l s).read.answer ≡ 0
     unfolding opened
     refused-line x l s = refl
 
 -- the size by the head's refusal and its line
-unfoldable pub front-sized : Rulebook → Option Refusal → Option Line → CaseSize
+unfoldable pub front-sized : Rulebook → Option Refusal → Option Line → Result CaseSize Refusal
 front-sized b o l =
     elim o [
-      | none ↦ CaseSize.Size (headed b l).n (headed b l).d (headed b l).m (lent_length (rules_in b) (headed b l))
-      | some x ↦ CaseSize.Refused x
+      | None ↦ Ok (size_with (headed b l).n (headed b l).d (headed b l).m (lent_length (rules_in b) (headed b l)))
+      | Some x ↦ Err x
     ]
 
 module _ (book : Rulebook) where
@@ -172,13 +173,13 @@ module _ (book : Rulebook) where
   kinds = case-kinds (coherent book)
 
   -- a head that is taken asks for no more
-  head-lines : (b : Bool) (l : Option Line) → (if b then some CutShort else first_refusal (head_tests rules l)) ≡ none
+  head-lines : (b : Bool) (l : Option Line) → (if b then Some CutShort else first_refusal (head_tests rules l)) ≡ None
       → 1 + length (dues (headed book l)) ≤ longest_lines rules
   head-lines true l e = absurd (none-some (sym e))
-  head-lines false none e = absurd (none-some (sym e))
-  head-lines false (some l) e =
+  head-lines false None e = absurd (none-some (sym e))
+  head-lines false (Some l) e =
       let (same, limits) = head_passed kinds l e in
-      let c : Case = headed book (some l) in
+      let c : Case = headed book (Some l) in
       let p : c.n * c.d ≤ rules.variables * rules.values = mul-le-mul limits.variables-most limits.values-most in
       let q : c.d * c.d ≤ rules.values * rules.values = mul-le-mul limits.values-most limits.values-most in
       let u : c.m * (1 + c.d * c.d) ≤ rules.edges * (1 + rules.values * rules.values) =
@@ -192,8 +193,8 @@ module _ (book : Rulebook) where
     where
       go : (o : Option Refusal) → head_refusal rules t ≡ o → front_line
           (opened book w o (first_line rules t) (after_first rules t)).read.answer ≤ longest_lines rules
-      go none e = opened-line book w (first_line rules t) (after_first rules t) (longest_lines rules) (head-lines (is_cut rules t) (first_line rules t) e)
-      go (some x) e = omega (arith, refused-line book w x (first_line rules t) (after_first rules t))
+      go None e = opened-line book w (first_line rules t) (after_first rules t) (longest_lines rules) (head-lines (is_cut rules t) (first_line rules t) e)
+      go (Some x) e = omega (arith, refused-line book w x (first_line rules t) (after_first rules t))
 
   pub case-line : (t : List ℕ) (w : List ℤ) → front_line (read_case book t w).read.answer ≤ longest_lines rules
   case-line t w = omega (arith, ap (λ (x : CaseRead). front_line x.answer) (zeroed-read (read_lines book t w)), lines-line t w)
@@ -204,7 +205,7 @@ module _ (book : Rulebook) where
     long = omega (arith, mul-le-mul_left {m = 1} {n = longest_lines rules} (line_length rules.amount_width) (omega arith))
 
     head-front : head_refusal rules (front ++ rest) ≡ head_refusal rules front
-    head-front = ap₂ (λ (b : Bool) (l : Option Line). if b then some CutShort else first_refusal (head_tests rules l)) (cut-front rules front rest long)
+    head-front = ap₂ (λ (b : Bool) (l : Option Line). if b then Some CutShort else first_refusal (head_tests rules l)) (cut-front rules front rest long)
         (line-front rules front rest long)
 
     dues-fit : (k : ℕ) → 1 + k ≤ longest_lines rules → k * line_length rules.amount_width ≤ length (after_first rules front)
@@ -224,8 +225,8 @@ module _ (book : Rulebook) where
       where
         go : (o : Option Refusal) → head_refusal rules front ≡ o → opened book w o (first_line rules front) (after_first rules front ++ rest) ≡ opened book w o
             (first_line rules front) (after_first rules front)
-        go (some x) e = opened-refused book w x (first_line rules front) (after_first rules front ++ rest) (after_first rules front)
-        go none e =
+        go (Some x) e = opened-refused book w x (first_line rules front) (after_first rules front ++ rest) (after_first rules front)
+        go None e =
             let l : Option Line = first_line rules front in
             opened-same book w l (after_first rules front ++ rest) (after_first rules front)
             (dues-front book (dues (headed book l)) (record { case = headed book l; table = w }) 1 (after_first rules front) rest
@@ -246,7 +247,7 @@ module _ (book : Rulebook) where
 -- ---- a case that is read alone, as by `press`
 module _ (r : Rules) where
   ending : ℕ → Bool → Option Line → Option Refusal
-  ending n b l = if eqb n 0 then none else if b then some CutShort else first_refusal (end_tests r l)
+  ending n b l = if eqb n 0 then None else if b then Some CutShort else first_refusal (end_tests r l)
 
   -- a line is left
   rest-front : (s rest : List ℕ) → line_length r.amount_width ≤ length s → rest_refusal r (s ++ rest) ≡ rest_refusal r s
@@ -255,7 +256,7 @@ module _ (r : Rules) where
       let p : eqb (length (s ++ rest)) 0 ≡ eqb (length s) 0 =
       ne_eqb (length (s ++ rest)) 0 (λ z. omega (arith, length-append s rest)) ∙ sym (ne_eqb (length s) 0 (λ z. omega arith)) in
       ap₂ (λ (b : Bool) (l : Option Line). ending (length (s ++ rest)) b l) (cut-front r s rest h) (line-front r s rest h)
-      ∙ ap (λ (e : Bool). if e then none else if is_cut r s then some CutShort else first_refusal (end_tests r (first_line r s))) p
+      ∙ ap (λ (e : Bool). if e then None else if is_cut r s then Some CutShort else first_refusal (end_tests r (first_line r s))) p
 
 module _ (book : Rulebook) (front rest : List ℕ) (h : longest_case (rules_in book) + line_length (rules_in book).amount_width ≤ length front) where
   abbrev under : Rules
@@ -263,8 +264,8 @@ module _ (book : Rulebook) (front rest : List ℕ) (h : longest_case (rules_in b
 
   ended : CaseCall → ℕ → Option Refusal → CaseCall
   ended call lines o = elim o [
-    | none ↦ call
-    | some x ↦ case_refused book x lines call.table
+    | None ↦ call
+    | Some x ↦ case_refused book x lines call.table
   ]
 
   line-left : (lines : ℕ) → lines ≤ longest_lines under → line_length under.amount_width ≤ length (drop (lines * line_length under.amount_width) front)
@@ -273,10 +274,10 @@ module _ (book : Rulebook) (front rest : List ℕ) (h : longest_case (rules_in b
       let m : lines * l ≤ longest_lines under * l = mul-le-mul_right l few in
       rw length-drop (omega (arith, mul_comm (longest_lines under) l))
 
-  ends-front : (call : CaseCall) (a : FileAnswer) → front_line a ≤ longest_lines under → nothing_after book (front ++ rest) call a ≡ nothing_after book front call a
+  ends-front : (call : CaseCall) (a : Result ℕ RefusedAt) → front_line a ≤ longest_lines under → nothing_after book (front ++ rest) call a ≡ nothing_after book front call a
   unfolding ended
-  ends-front call (FileAnswer.Refused x at) few = refl
-  ends-front call (FileAnswer.Read lines) few =
+  ends-front call (Err x) few = refl
+  ends-front call (Ok lines) few =
       let k : ℕ = lines * line_length under.amount_width in
       let left = line-left lines few in
       ap (ended call lines) (ap (rest_refusal under) (drop-append-le k front rest (omega (arith, length-drop k front)))
@@ -295,5 +296,5 @@ press-front book front rest (inr e) = let n : front ++ rest ≡ front = rw e (ap
 press-front book front rest (inl h) =
     let long : longest_case (rules_in book) ≤ length front = omega arith in
     ap (λ (k : CaseCall). press_read k k.read.answer)
-    (ap (λ (s : CaseSize). read_case_alone book (front ++ rest) (table_for s)) (size-front book front rest long)
+    (ap (λ (s : Result CaseSize Refusal). read_case_alone book (front ++ rest) (table_for s)) (size-front book front rest long)
     ∙ alone-front book front rest h (table_for (case_size book front)))

@@ -1,4 +1,6 @@
 -- The start, the blocks and the finish print what document 01 says of the whole input, for every cut of it. Assumes nothing.
+use Rattle.definitions.specs.declared.RefusedAt.{RefusedAt}
+use Rattle.definitions.specs.Answers.{refused_at}
 use mathlib.Core.Path.{◌≡◌, refl, sym, ap, subst, ◌∙◌}
 use mathlib.Core.Bool.{Bool, true, false, not}
 use mathlib.Core.List.Memᴰ
@@ -10,15 +12,12 @@ use lib.IntN.{ℤ}
 use lib.Dec.{T, eqb}
 use lib.ListN.{length, take, drop, length-append, length-drop, length-take}
 use borrow.Author.Tests.{eqb-true}
-use Rattle.std.specs.Prelude.{if◌then◌else◌}
+use Rattle.std.specs.Prelude.{if◌then◌else◌, Result, Ok, Err, ⊤}
 use Rattle.integers.specs.Words.{joined}
 use Rattle.integers.specs.Lists.{◌∈◌}
 use Rattle.definitions.specs.declared.Rulebook.{Rulebook}
 use Rattle.definitions.specs.declared.Case.{Case}
-use Rattle.definitions.specs.declared.FileAnswer.{FileAnswer}
-use Rattle.definitions.specs.declared.Outcome.{Outcome}
 use Rattle.definitions.specs.declared.Refusal.{Refusal}
-use Rattle.definitions.specs.declared.Written.{Written}
 use Rattle.definitions.specs.Rules.{Rules, Coherent, coherent, rules_in, rules_of, edge_places}
 use Rattle.definitions.specs.Case.{upper_bound}
 use Rattle.definitions.specs.Valid.{working_weight, valid}
@@ -75,7 +74,7 @@ module _ (width : ℕ) where
       rw length-drop (omega arith)
 
 -- the lines of a case that is read lie in the input's front
-pub lines-within : (book : Rulebook) (front : List ℕ) (w : List ℤ) {lines : ℕ} → (read_case book front w).read.answer ≡ FileAnswer.Read lines
+pub lines-within : (book : Rulebook) (front : List ℕ) (w : List ℤ) {lines : ℕ} → (read_case book front w).read.answer ≡ Ok lines
     → lines * line_length (rules_in book).amount_width ≤ length front
 lines-within book front w {lines} e =
     let c : Case = (read_case book front w).read.case in
@@ -90,23 +89,23 @@ lines-within book front w {lines} e =
 -- ---- the text of a judgement
 
 -- the count in it
-abbrev count_of : Judgement → ℕ
-count_of (Judgement.Accepted rounds bound) = rounds
-count_of Judgement.Void = 0
-count_of (Judgement.Refused x at) = at
+abbrev count_of : Result Judgement RefusedAt → ℕ
+count_of (Ok (Judgement.Accepted rounds bound)) = rounds
+count_of (Ok Judgement.Void) = 0
+count_of (Err x) = x.line
 
-judged-written : (out : List ℕ) (j : Judgement) → text_room ≤ length out → count_of j ≤ greatest_count
-    → write_judgement_call out j ≡ record { answer = Written.Bytes (length (judgement_text j)); out = overwritten (judgement_text j) out }
+judged-written : (out : List ℕ) (j : Result Judgement RefusedAt) → text_room ≤ length out → count_of j ≤ greatest_count
+    → write_judgement_call out j ≡ record { answer = Ok (length (judgement_text j)); out = overwritten (judgement_text j) out }
 unfolding write_refused_call write_accepted_call write_void_call
-judged-written out (Judgement.Accepted rounds bound) h g = text-done out rounds (judgement_text (Judgement.Accepted rounds bound)) h g
-judged-written out Judgement.Void h g = text-done out 0 (judgement_text Judgement.Void) h g
-judged-written out (Judgement.Refused x at) h g = text-done out at (judgement_text (Judgement.Refused x at)) h g
+judged-written out (Ok (Judgement.Accepted rounds bound)) h g = text-done out rounds (judgement_text (Ok (Judgement.Accepted rounds bound))) h g
+judged-written out (Ok Judgement.Void) h g = text-done out 0 (judgement_text (Ok Judgement.Void)) h g
+judged-written out (Err x) h g = text-done out x.line (judgement_text (Err x)) h g
 
-log-count : (k at : ℕ) (answer end : Outcome) (part : Bool) (good : Judgement) → at ≤ k → count_of good ≤ k → count_of (log_judged at answer end part good) ≤ k
-log-count k at (Outcome.Refused x) end part good p q = p
-log-count k at Outcome.Done (Outcome.Refused x) part good p q = p
-log-count k at Outcome.Done Outcome.Done true good p q = p
-log-count k at Outcome.Done Outcome.Done false good p q = q
+log-count : (k at : ℕ) (answer end : Result ⊤ Refusal) (part : Bool) (good : Result Judgement RefusedAt) → at ≤ k → count_of good ≤ k → count_of (log_judged at answer end part good) ≤ k
+log-count k at (Err x) end part good p q = p
+log-count k at (Ok tt) (Err x) part good p q = p
+log-count k at (Ok tt) (Ok tt) true good p q = p
+log-count k at (Ok tt) (Ok tt) false good p q = q
 
 -- every case has few lines
 pub few-lines : {r : Rules} → Coherent r → longest_lines r ≤ greatest_count
@@ -140,7 +139,7 @@ module _ (c : Case) (w : List ℤ) (v : T (valid (rules_of c) c w)) (log : List 
   good-few : count_of (good_in c all.block.replay all.table) ≤ greatest_count
   good-few = go (is_void all.block.replay.due)
     where
-      go : (over : Bool) → count_of (if over then Judgement.Void else Judgement.Accepted all.block.replay.rounds (upper_bound c all.table)) ≤ greatest_count
+      go : (over : Bool) → count_of (if over then Ok Judgement.Void else Ok (Judgement.Accepted all.block.replay.rounds (upper_bound c all.table))) ≤ greatest_count
       go true = omega arith
       go false = rounds-few
 
@@ -152,12 +151,12 @@ module _ (c : Case) (w : List ℤ) (v : T (valid (rules_of c) c w)) (log : List 
   stands-judged {g} {lines} part s h =
       go all.block.answer refl (s.answer ∙ ap (λ (n : ℕ). answer_at n all.block.answer) (counted-few lines all.block.lines h))
     where
-      go : (o : Outcome) → all.block.answer ≡ o → g.answer ≡ answer_at (lines + all.block.lines) o
+      go : (o : Result ⊤ Refusal) → all.block.answer ≡ o → g.answer ≡ answer_at (lines + all.block.lines) o
           → judgement_from g part g.answer
           ≡ log_judged (lines + all.block.lines) o (end_replay rules c all.block.replay) part
           (good_in c all.block.replay all.table)
-      go (Outcome.Refused x) d e = ap (judgement_from g part) e
-      go Outcome.Done d e =
+      go (Err x) d e = ap (judgement_from g part) e
+      go (Ok tt) d e =
           ap (judgement_from g part) e
           ∙ rw (s.case-kept d, s.replay d, s.table d)
           (finish-judged c all.table all.block.replay handed-all (lines + all.block.lines) part
@@ -174,7 +173,7 @@ module _ (book : Rulebook) (t : List ℕ) (cut : Cut book t) (short : whole_line
   abbrev after : JudgingState
   after = after_blocks (start_judging book cut.front lent) cut.blocks
 
-  abbrev judged : Judgement
+  abbrev judged : Result Judgement RefusedAt
   judged = judgement_of after (not (eqb (length cut.tail) 0))
 
   -- the whole input is read as the front is
@@ -203,18 +202,18 @@ module _ (book : Rulebook) (t : List ℕ) (cut : Cut book t) (short : whole_line
   unfolding start_judging
   begins = refl
 
-  right-refused : {x : Refusal} {at : ℕ} → call.read.answer ≡ FileAnswer.Refused x at → Right
+  right-refused : {x : Refusal} {at : ℕ} → call.read.answer ≡ Err (refused_at x at) → Right
   unfolding judgement_of
   right-refused {x} {at} e =
       let stay : after ≡ begun = ap (λ (g : JudgingState). after_blocks g cut.blocks) begins ∙ stays begun e cut.blocks in
-      let is : judge book t ≡ Judgement.Refused x at = judge-is ∙ ap (judge_read t call) e in
+      let is : judge book t ≡ (Err (refused_at x at)) = judge-is ∙ ap (judge_read t call) e in
       let line : at ≤ longest_lines (rules_in book) = rw e at (case-line book cut.front lent) in (
         ap (λ (g : JudgingState). judgement_from g (not (eqb (length cut.tail) 0)) g.answer) stay
             ∙ ap (judgement_from begun (not (eqb (length cut.tail) 0))) e ∙ sym is,
         rw is (omega (arith, few-lines (coherent book))),
       )
 
-  module _ {lines : ℕ} (e : call.read.answer ≡ FileAnswer.Read lines) where
+  module _ {lines : ℕ} (e : call.read.answer ≡ Ok lines) where
     abbrev log : List ℕ
     log = joined cut.blocks ++ cut.tail
 
@@ -267,14 +266,14 @@ module _ (book : Rulebook) (t : List ℕ) (cut : Cut book t) (short : whole_line
               (good_in c b.block.replay b.table) lines-few (good-few c w text.accepted log)),
         )
 
-  right : (a : FileAnswer) → call.read.answer ≡ a → Right
-  right (FileAnswer.Refused x at) e = right-refused e
-  right (FileAnswer.Read lines) e = right-read e
+  right : (a : Result ℕ RefusedAt) → call.read.answer ≡ a → Right
+  right (Err x) e = right-refused e
+  right (Ok lines) e = right-read e
 
   -- for every input of at most so many lines and every cut of it, what is written is what `replay` prints
   pub replay-printed : (out : List ℕ) → text_room ≤ length out
       → replay_printed book cut.front cut.blocks cut.tail out ≡ record
-      { answer = Written.Bytes (length (replay_prints book t)); out = overwritten (replay_prints book t) out }
+      { answer = Ok (length (replay_prints book t)); out = overwritten (replay_prints book t) out }
   unfolding finish_judging
   replay-printed out room =
       let (p, q) = right call.read.answer refl in

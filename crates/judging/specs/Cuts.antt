@@ -1,9 +1,8 @@
 -- An input to `replay` cut into a front, blocks of whole lines and a part line, and what is printed of it. Assumes nothing.
-use Rattle.std.specs.Prelude.{◌≡◌, ◌⊎◌, false, not, List, [], ◌∷◌, ◌++◌, ℕ, ◌*◌, ◌≤◌, ◌<◌, eqb, length, drop}
+use Rattle.std.specs.Prelude.{◌≡◌, ◌⊎◌, false, not, List, [], ◌∷◌, ◌++◌, ℕ, ◌*◌, ◌≤◌, ◌<◌, eqb, length, drop, Ok}
 use Rattle.integers.specs.Words.{joined}
 use Rattle.integers.specs.Lists.{◌∈◌}
 use Rattle.definitions.specs.declared.Rulebook.{Rulebook}
-use Rattle.definitions.specs.declared.FileAnswer.{FileAnswer}
 use Rattle.definitions.specs.Rules.{rules_in}
 use Rattle.calls.specs.Calls.{WriteCall}
 use Rattle.definitions.specs.Lines.{line_length, has_part}
@@ -24,7 +23,7 @@ pub record Cut (b : Rulebook) (t : List ℕ) : Type 0 where
   pub tail : List ℕ
   pub lines-whole : (x : List ℕ) → x ∈ blocks → has_part (rules_in b).amount_width x ≡ false
   pub tail-short : length tail < line_length (rules_in b).amount_width
-  pub log : (lines : ℕ) → (read_case b front (table_for (case_size b front))).read.answer ≡ FileAnswer.Read lines
+  pub log : (lines : ℕ) → (read_case b front (table_for (case_size b front))).read.answer ≡ Ok lines
       → drop (lines * line_length (rules_in b).amount_width) t ≡ joined blocks ++ tail
 
 -- one block after another, each from what the last one left

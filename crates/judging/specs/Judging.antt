@@ -1,19 +1,18 @@
 -- The program `replay` as a start, a block and a finish, on all input. Assumes nothing.
-use Rattle.std.specs.Prelude.{Bool, false, ◌||◌, List, [], ◌∷◌, ◌++◌, ℕ, ◌+◌, min, ℤ}
+use Rattle.definitions.specs.declared.Refusal.{Refusal}
+use Rattle.definitions.specs.declared.RefusedAt.{RefusedAt}
+use Rattle.std.specs.Prelude.{Bool, false, ◌||◌, List, [], ◌∷◌, ◌++◌, ℕ, ◌+◌, min, ℤ, Result, Ok, Err, ⊤}
 use Rattle.definitions.specs.declared.Rulebook.{Rulebook}
 use Rattle.definitions.specs.declared.Case.{Case}
-use Rattle.definitions.specs.declared.FileAnswer.{FileAnswer}
-use Rattle.definitions.specs.declared.Outcome.{Outcome}
 use Rattle.definitions.specs.declared.Refusal.TheVariants.{CutShort}
 use Rattle.definitions.specs.Rules.{rules_of}
 use Rattle.definitions.specs.Refusals.{Test, ◌when◌, first_refusal}
-use Rattle.definitions.specs.Answers.{outcome_of}
+use Rattle.definitions.specs.Answers.{outcome_of, refused_at}
 use Rattle.definitions.specs.Valid.{working_weight, handed_over}
 use Rattle.calls.specs.Calls.{WriteCall}
 use Rattle.definitions.specs.CaseFiles.{read_case}
 use Rattle.definitions.specs.declared.Judgement.{Judgement}
 use Rattle.checker.specs.declared.Replay.{Replay}
-use Rattle.checker.specs.declared.Standing.{Standing}
 use Rattle.checker.specs.Checker.{is_short, good_in, record_out, fresh_replay, block_replay}
 use Rattle.texts.specs.Texts.{greatest_count, write_judgement_call}
 use Rattle.judging.specs.declared.Judging.{Judging}
@@ -24,7 +23,7 @@ pub record JudgingState : Type 0 where
   pub case : Case
   pub weights : List ℤ
   pub replay : Replay
-  pub answer : FileAnswer
+  pub answer : Result ℕ RefusedAt
 
 -- held by value, and the lent table
 abbrev pub state_of : Judging → List ℤ → JudgingState
@@ -35,14 +34,14 @@ abbrev pub lines_counted : ℕ → ℕ → ℕ
 lines_counted at more = min greatest_count (at + more)
 
 -- after lines of which the first with a number, if any, is line `at`
-abbrev pub answer_at : ℕ → Outcome → FileAnswer
-answer_at at Outcome.Done = FileAnswer.Read at
-answer_at at (Outcome.Refused x) = FileAnswer.Refused x at
+abbrev pub answer_at : ℕ → Result ⊤ Refusal → Result ℕ RefusedAt
+answer_at at (Ok tt) = Ok at
+answer_at at (Err x) = Err (refused_at x at)
 
 -- the end's number belongs to the line after the last
-abbrev pub end_judged : ℕ → Outcome → Judgement → Judgement
-end_judged at (Outcome.Refused x) good = Judgement.Refused x at
-end_judged at Outcome.Done good = good
+abbrev pub end_judged : ℕ → Result ⊤ Refusal → Result Judgement RefusedAt → Result Judgement RefusedAt
+end_judged at (Err x) good = Err (refused_at x at)
+end_judged at (Ok tt) good = good
 
 -- the case is read as the front of the input, under a rulebook; all that follows is by the rules of the case
 unfoldable pub start_judging : Rulebook → List ℕ → List ℤ → JudgingState
@@ -56,9 +55,9 @@ start_judging b front w =
     }
 
 -- once refused, nothing changes
-abbrev pub block_from : JudgingState → List ℕ → FileAnswer → JudgingState
-block_from s bytes (FileAnswer.Refused x at) = s
-block_from s bytes (FileAnswer.Read lines) =
+abbrev pub block_from : JudgingState → List ℕ → Result ℕ RefusedAt → JudgingState
+block_from s bytes (Err x) = s
+block_from s bytes (Ok lines) =
     let call = block_replay (rules_of s.case) s.case s.weights s.replay bytes in
     record {
       case = s.case;
@@ -77,20 +76,20 @@ finish_tests c w p part =
     handed_over (rules_of c) (working_weight (rules_of c)) c w false (record_out (rules_of c) c p)
     ++ (CutShort when (is_short p.due p.moved || part) ∷ [])
 
-abbrev pub finish_standing : Case → List ℤ → Replay → Bool → Standing → Outcome
-finish_standing c w p part (Standing.Refused x) = Outcome.Refused x
-finish_standing c w p part Standing.Good = outcome_of (first_refusal (finish_tests c w p part))
+abbrev pub finish_standing : Case → List ℤ → Replay → Bool → Result ⊤ Refusal → Result ⊤ Refusal
+finish_standing c w p part (Err x) = Err x
+finish_standing c w p part (Ok tt) = outcome_of (first_refusal (finish_tests c w p part))
 
-abbrev pub judgement_from : JudgingState → Bool → FileAnswer → Judgement
-judgement_from s part (FileAnswer.Refused x at) = Judgement.Refused x at
-judgement_from s part (FileAnswer.Read lines) =
+abbrev pub judgement_from : JudgingState → Bool → Result ℕ RefusedAt → Result Judgement RefusedAt
+judgement_from s part (Err x) = Err x
+judgement_from s part (Ok lines) =
     end_judged
     lines
     (finish_standing s.case s.weights s.replay part s.replay.standing)
     (good_in s.case s.replay s.weights)
 
 -- the judgement where the input ends here, and its text
-unfoldable pub judgement_of : JudgingState → Bool → Judgement
+unfoldable pub judgement_of : JudgingState → Bool → Result Judgement RefusedAt
 judgement_of s part = judgement_from s part s.answer
 
 unfoldable pub finish_judging : JudgingState → Bool → List ℕ → WriteCall

@@ -2,7 +2,7 @@
 // between blocks is a record by value and the lent table.
 #![tactic(auto)]
 
-ghost use Rattle.std.specs.Prelude.{◌≡◌, ◌↔◌, ◌≤◌, T, length};
+ghost use Rattle.std.specs.Prelude.{◌≡◌, ◌↔◌, ◌≤◌, T, length, Ok, Err};
 ghost use Rattle.definitions.specs.declared.Rulebook.TheVariants.{Desk};
 ghost use Rattle.definitions.specs.Rules.{rules_of};
 ghost use Rattle.definitions.specs.Refusals.{first_refusal};
@@ -16,8 +16,8 @@ ghost use Rattle.checker.specs.Checker.{is_void, good_in};
 ghost use Rattle.judging.specs.Judging.{lines_counted, answer_at, state_of, start_judging, block_from, block_judging, finish_tests, finish_standing};
 ghost use Rattle.judging.specs.Judging.{judgement_from, judgement_of, finish_judging};
 
-use checker::{Due, Replay, Standing};
-use definitions::{Case, CaseSize, Figure, FileAnswer, Judgement, Outcome, Refusal, Written};
+use checker::{Due, Replay};
+use definitions::{Case, CaseSize, Judgement, Refusal, RefusedAt};
 
 // The greatest count of lines.
 const GREATEST: usize = 9_223_372_036_854_775_807;
@@ -28,7 +28,7 @@ const GREATEST: usize = 9_223_372_036_854_775_807;
 pub struct Judging {
     pub case: Case,
     pub replay: Replay,
-    pub answer: FileAnswer,
+    pub answer: Result<usize, RefusedAt>,
 }
 
 // ---- a block
@@ -45,18 +45,18 @@ fn count(at: usize, more: usize) -> usize
     at + more
 }
 
-fn answer_at(at: usize, answer: Outcome) -> FileAnswer
+fn answer_at(at: usize, answer: Result<(), Refusal>) -> Result<usize, RefusedAt>
     ensures { result ≡ answer_at at answer }
 {
     match answer {
-        Outcome::Done => FileAnswer::Read { lines: at },
-        Outcome::Refused(refusal) => FileAnswer::Refused { refusal, line: at },
+        Ok(()) => Ok(at),
+        Err(refusal) => Err(RefusedAt { refusal, line: at }),
     }
 }
 
 // A block after so many lines that got no number.
 fn block_from(judging: Judging, table: &mut [i64], bytes: &[u8], passed: usize) -> Judging
-    ensures { state_of result table.new ≡ block_from (state_of judging table.old) bytes.now (FileAnswer.Read passed) }
+    ensures { state_of result table.new ≡ block_from (state_of judging table.old) bytes.now (Ok passed) }
 {
     let case = judging.case;
     let replay = judging.replay;
@@ -74,12 +74,12 @@ fn block_from(judging: Judging, table: &mut [i64], bytes: &[u8], passed: usize) 
 // ---- the end
 
 // Whether the end's number is 5.
-fn is_out(ended: Outcome) -> bool
-    ensures { T result ↔ (ended ≡ Outcome.Refused Refusal.OutOfRange) }
+fn is_out(ended: Result<(), Refusal>) -> bool
+    ensures { T result ↔ (ended ≡ Err Refusal.OutOfRange) }
 {
     match ended {
-        Outcome::Done => false,
-        Outcome::Refused(refusal) => match refusal {
+        Ok(()) => false,
+        Err(refusal) => match refusal {
             Refusal::OutOfRange => true,
             _ => false,
         },
@@ -87,28 +87,28 @@ fn is_out(ended: Outcome) -> bool
 }
 
 // A record that is good. The end asks 5 of the record, the carry and the edges, which are asked here again with the table.
-fn finish_good(case: Case, table: &[i64], replay: Replay, part: bool) -> Outcome
-    requires { replay.standing ≡ Standing.Good }
+fn finish_good(case: Case, table: &[i64], replay: Replay, part: bool) -> Result<(), Refusal>
+    requires { replay.standing ≡ (Ok tt) }
     ensures { result ≡ outcome_of (first_refusal (finish_tests case table.now replay part)) }
 {
     let ended = replay.end(case);
     let checked = tables::check_working(case, table, false, is_out(ended));
-    if let Outcome::Refused(refusal) = checked {
-        return Outcome::Refused(refusal);
+    if let Err(refusal) = checked {
+        return Err(refusal);
     }
     if part {
-        return Outcome::Refused(Refusal::CutShort);
+        return Err(Refusal::CutShort);
     }
     ended
 }
 
-fn finish_standing(case: Case, table: &[i64], replay: Replay, part: bool) -> Outcome
+fn finish_standing(case: Case, table: &[i64], replay: Replay, part: bool) -> Result<(), Refusal>
     ensures { result ≡ finish_standing case table.now replay part replay.standing }
 {
     let standing = replay.standing;
     match standing {
-        Standing::Refused(refusal) => Outcome::Refused(refusal),
-        Standing::Good => finish_good(case, table, replay, part),
+        Err(refusal) => Err(refusal),
+        Ok(()) => finish_good(case, table, replay, part),
     }
 }
 
@@ -129,40 +129,40 @@ fn is_over(due: Due) -> bool
 }
 
 // The judgement where neither a line nor the end has a number.
-fn good_judgement(case: Case, table: &[i64], replay: Replay, passed: usize) -> Judgement
+fn good_judgement(case: Case, table: &[i64], replay: Replay, passed: usize) -> Result<Judgement, RefusedAt>
     requires { Handed (rules_of case) (working_weight (rules_of case)) case table.now }
     ensures { result ≡ good_in case replay table.now }
 {
     let due = replay.due;
     if is_over(due) {
-        return Judgement::Void;
+        return Ok(Judgement::Void);
     }
     let sum = tables::sum_of_greatest(case, table);
     match sum {
-        Figure::Refused(refusal) => Judgement::Refused {
+        Err(refusal) => Err(RefusedAt {
             refusal,
             line: passed,
-        },
-        Figure::Value(bound) => Judgement::Accepted {
+        }),
+        Ok(bound) => Ok(Judgement::Accepted {
             rounds: replay.rounds,
             bound,
-        },
+        }),
     }
 }
 
 // The judgement where no line has a number.
-fn end_judgement(judging: Judging, table: &[i64], part: bool, passed: usize) -> Judgement
-    ensures { result ≡ judgement_from (state_of judging table.now) part (FileAnswer.Read passed) }
+fn end_judgement(judging: Judging, table: &[i64], part: bool, passed: usize) -> Result<Judgement, RefusedAt>
+    ensures { result ≡ judgement_from (state_of judging table.now) part (Ok passed) }
 {
     let case = judging.case;
     let replay = judging.replay;
     let ended = finish_standing(case, table, replay, part);
     match ended {
-        Outcome::Refused(refusal) => Judgement::Refused {
+        Err(refusal) => Err(RefusedAt {
             refusal,
             line: passed,
-        },
-        Outcome::Done => good_judgement(case, table, replay, passed),
+        }),
+        Ok(()) => good_judgement(case, table, replay, passed),
     }
 }
 
@@ -174,13 +174,13 @@ pub fn table_length(front: &[u8]) -> usize
 {
     let size = casefile::case_size(front);
     match size {
-        CaseSize::Refused(_) => 0,
-        CaseSize::Size {
+        Err(_) => 0,
+        Ok(CaseSize {
             n: _,
             d: _,
             m: _,
             table,
-        } => table,
+        }) => table,
     }
 }
 
@@ -205,27 +205,27 @@ pub fn block(judging: Judging, table: &mut [i64], bytes: &[u8]) -> Judging
 {
     let answer = judging.answer;
     match answer {
-        FileAnswer::Refused {
+        Err(RefusedAt {
             refusal: _,
             line: _,
-        } => judging,
-        FileAnswer::Read { lines: passed } => block_from(judging, table, bytes, passed),
+        }) => judging,
+        Ok(passed) => block_from(judging, table, bytes, passed),
     }
 }
 
 // The judgement where the input ends here; `part`: fewer bytes than a line are left.
-pub fn judge(judging: Judging, table: &[i64], part: bool) -> Judgement
+pub fn judge(judging: Judging, table: &[i64], part: bool) -> Result<Judgement, RefusedAt>
     ensures { result ≡ judgement_of (state_of judging table.now) part }
 {
     let answer = judging.answer;
     match answer {
-        FileAnswer::Refused { refusal, line } => Judgement::Refused { refusal, line },
-        FileAnswer::Read { lines: passed } => end_judgement(judging, table, part, passed),
+        Err(RefusedAt { refusal, line }) => Err(RefusedAt { refusal, line }),
+        Ok(passed) => end_judgement(judging, table, part, passed),
     }
 }
 
 // Writes what `replay` prints where the input ends here: the text of the judgement.
-pub fn finish(judging: Judging, table: &[i64], part: bool, out: &mut [u8]) -> Written
+pub fn finish(judging: Judging, table: &[i64], part: bool, out: &mut [u8]) -> Result<usize, Refusal>
     ensures { (result ≡ (finish_judging (state_of judging table.now) part out.old).answer)
         × (out.new ≡ (finish_judging (state_of judging table.now) part out.old).out) }
 {

@@ -10,7 +10,7 @@
 
 ghost use Rattle.std.specs.Prelude.{◌-◌, ◌≤◌, ◌<◌, length};
 
-use definitions::{FileAnswer, Judgement, Line, TABLE_PLACES, Written};
+use definitions::{Judgement, Line, Refusal, RefusedAt, TABLE_PLACES};
 use judging::Judging;
 use pressing::Pressing;
 
@@ -30,13 +30,13 @@ fn print_first(text: &[u8], n: usize) {
 }
 
 // Prints what a call wrote, and answers whether it was refused.
-fn print_written(written: Written, out: &[u8]) -> bool {
+fn print_written(written: Result<usize, Refusal>, out: &[u8]) -> bool {
     match written {
-        Written::Bytes(n) => {
+        Ok(n) => {
             print_first(out, n);
             false
         }
-        Written::Refused(refusal) => {
+        Err(refusal) => {
             drivers::print_refusal(refusal);
             drivers::print(b"\n");
             true
@@ -47,15 +47,15 @@ fn print_written(written: Written, out: &[u8]) -> bool {
 // ---- kinds 20 and 22
 
 // Where the case ends.
-fn case_end(answer: FileAnswer, most: usize) -> usize
+fn case_end(answer: Result<usize, RefusedAt>, most: usize) -> usize
     ensures { result ≤ most }
 {
     match answer {
-        FileAnswer::Refused {
+        Err(RefusedAt {
             refusal: _,
             line: _,
-        } => most,
-        FileAnswer::Read { lines } => { if lines <= most / 27 { lines * 27 } else { most } }
+        }) => most,
+        Ok(lines) => { if lines <= most / 27 { lines * 27 } else { most } }
     }
 }
 
@@ -86,16 +86,16 @@ fn judge_blocks(begun: Judging, table: &mut [i64], log: &[u8], bytes: usize) -> 
     judging
 }
 
-fn print_judgement(judgement: Judgement) {
+fn print_judgement(judgement: Result<Judgement, RefusedAt>) {
     match judgement {
-        Judgement::Accepted { rounds, bound } => {
+        Ok(Judgement::Accepted { rounds, bound }) => {
             drivers::print_count(rounds);
             drivers::print_number(bound);
         }
-        Judgement::Void => {
+        Ok(Judgement::Void) => {
             drivers::print(b" void");
         }
-        Judgement::Refused { refusal, line } => {
+        Err(RefusedAt { refusal, line }) => {
             drivers::print_refusal(refusal);
             drivers::print_count(line as u64);
         }
@@ -145,12 +145,12 @@ fn press_on(first: Pressing, table: &mut [i64], out: &mut [u8]) -> Tally {
     Tally { calls, pressing }
 }
 
-fn print_answer(written: Written) {
+fn print_answer(written: Result<usize, Refusal>) {
     match written {
-        Written::Bytes(n) => {
+        Ok(n) => {
             drivers::print_count(n as u64);
         }
-        Written::Refused(refusal) => {
+        Err(refusal) => {
             drivers::print_refusal(refusal);
         }
     }

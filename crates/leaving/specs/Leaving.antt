@@ -1,8 +1,6 @@
 -- A link leaves, on all input: what is answered, and what is left of the case and of both tables. Assumes nothing.
-use Rattle.std.specs.Prelude.{not, List, ◌∷◌, ℕ, ℤ, ltb}
-use Rattle.std.proofs.Math.Option.{Option}
+use Rattle.std.specs.Prelude.{not, List, ◌∷◌, ℕ, ℤ, ltb, Result, Option, ⊤}
 use Rattle.definitions.specs.declared.Case.{Case}
-use Rattle.definitions.specs.declared.Outcome.{Outcome}
 use Rattle.definitions.specs.declared.Refusal.{Refusal}
 use Rattle.definitions.specs.declared.Refusal.TheVariants.{OutsideLimits}
 use Rattle.definitions.specs.Rules.{rules_of}
@@ -16,7 +14,7 @@ abbrev pub leave_refusal : Case → List ℤ → List ℤ → ℕ → Option Ref
 leave_refusal c w₀ w i = first_refusal (OutsideLimits when (not (ltb 1 c.n)) ∷ both_handed_over (rules_of c) c w₀ w (not (ltb i c.n)))
 
 pub record LeaveCall : Type 0 where
-  pub answer : Outcome
+  pub answer : Result ⊤ Refusal
   pub after : WeightedCase
 
 unfoldable pub leave_call : Case → List ℤ → List ℤ → ℕ → LeaveCall

@@ -14,12 +14,12 @@ ghost use Rattle.logs.specs.Leave.{left_by};
 ghost use Rattle.theory.proofs.Validity.{Handed, BothHanded};
 ghost use Rattle.leaving.specs.Leaving.{leave_call};
 
-use definitions::{Case, Figure, Outcome, Refusal};
+use definitions::{Case, Refusal};
 
 // The answer, and the case that is left; where it was refused, the case as it was.
 #[derive(Clone, Copy)]
 pub struct Left {
-    pub answer: Outcome,
+    pub answer: Result<(), Refusal>,
     pub case: Case,
 }
 
@@ -29,8 +29,8 @@ fn bound(case: Case, table: &[i64]) -> i64
 {
     let sum = tables::sum_of_greatest(case, table);
     match sum {
-        Figure::Value(bound) => bound,
-        Figure::Refused(_) => 0,
+        Ok(bound) => bound,
+        Err(_) => 0,
     }
 }
 
@@ -84,18 +84,18 @@ pub fn leave(case: Case, starting: &mut [i64], table: &mut [i64], variable: usiz
         × (table.new ≡ (leave_call case starting.old table.old variable).after.weights) }
 {
     if case.n <= 1 {
-        let answer = Outcome::Refused(Refusal::OutsideLimits);
+        let answer = Err(Refusal::OutsideLimits);
         return Left { answer, case };
     }
     let out = case.n <= variable;
     let answer = tables::check_both(case, starting, table, out);
     match answer {
-        Outcome::Refused(refusal) => Left {
-            answer: Outcome::Refused(refusal),
+        Err(refusal) => Left {
+            answer: Err(refusal),
             case,
         },
-        Outcome::Done => Left {
-            answer: Outcome::Done,
+        Ok(()) => Left {
+            answer: Ok(()),
             case: leave_checked(case, starting, table, variable),
         },
     }

@@ -1,8 +1,9 @@
 -- What the calls answer at width w: at each way out of the code. Assumes nothing.
+use Rattle.std.specs.Prelude.{Result, Ok, Err, Option}
+use Rattle.definitions.specs.declared.Refusal.{Refusal}
 use mathlib.Core.Path.{◌≡◌, sym, ◌∙◌}
 use mathlib.Core.Bool.{Bool, true, false, ◌||◌}
 use mathlib.Core.Logic.{◌≢◌}
-use mathlib.Core.Option.{Option}
 use mathlib.Core.List.{List}
 use Prim.Native.Nat.{ℕ, ◌+◌, ◌≤◌, ◌<◌}
 use native.Mathlib.Omega.{arith}
@@ -12,9 +13,6 @@ use lib.ListN.{length, get_or}
 use borrow.Author.Tests.{lt-ltb, le-ltb, eq-eqb, ne_eqb}
 use Rattle.integers.specs.Tests.{false-is, tests}
 use Rattle.definitions.specs.declared.Line.{Line}
-use Rattle.definitions.specs.declared.LineRead.{LineRead}
-use Rattle.definitions.specs.declared.Outcome.{Outcome}
-use Rattle.definitions.specs.declared.Written.{Written}
 use Rattle.definitions.specs.declared.Refusal.TheVariants.{NotInColumns, WrongLength, OutOfRange}
 use Rattle.definitions.specs.Lines.{number_text, line_text, line_too_wide, column_at, read_line, overwritten}
 use Rattle.lines.specs.Found.{line_found, line_answer}
@@ -35,7 +33,7 @@ line-within w l f = right-false (width_out w) (line_too_wide w l) f
 
 module _ (w : ℕ) where
   module _ (t : List ℕ) where
-    pub read-width : width_out w ≡ true → LineRead.Refused NotInColumns ≡ read_line_at w t
+    pub read-width : width_out w ≡ true → Err NotInColumns ≡ read_line_at w t
     unfolding read_line_at
     read-width f = rw f
 
@@ -44,38 +42,38 @@ module _ (w : ℕ) where
       unfolding read_line_at
       read_is = rw i
 
-      pub read_length : length t ≢ 14 + w + 1 → LineRead.Refused NotInColumns ≡ read_line_at w t
+      pub read_length : length t ≢ 14 + w + 1 → Err NotInColumns ≡ read_line_at w t
       read_length h = sym (read_is ∙ simp (ne_eqb (length t) (15 + w) (λ q. h (omega arith))))
 
-      pub read-feed : length t ≡ 14 + w + 1 → get_or t (14 + w) 0 ≢ 10 → LineRead.Refused NotInColumns ≡ read_line_at w t
+      pub read-feed : length t ≡ 14 + w + 1 → get_or t (14 + w) 0 ≢ 10 → Err NotInColumns ≡ read_line_at w t
       read-feed h n = sym (read_is ∙ simp (eq-eqb (length t) (15 + w) (omega arith), ne_eqb _ _ n))
 
-      pub read-columns : length t ≡ 14 + w + 1 → get_or t (14 + w) 0 ≡ 10 → {kind a b c amount : Option ℤ} {r : LineRead}
+      pub read-columns : length t ≡ 14 + w + 1 → get_or t (14 + w) 0 ≡ 10 → {kind a b c amount : Option ℤ} {r : Result Line Refusal}
           → kind ≡ column_at 0 2 t → a ≡ column_at 2 4 t → b ≡ column_at 6 4 t → c ≡ column_at 10 4 t → amount ≡ column_at 14 w t
           → r ≡ line_answer (line_found kind a b c amount) → r ≡ read_line_at w t
       read-columns h f p q u v x y =
           rw (p, q, u, v, x) at y ∙ sym (read_is ∙ simp (eq-eqb (length t) (15 + w) (omega arith), eq-eqb _ _ f))
 
   module _ (out : List ℕ) (l : Line) where
-    pub write-short : ltb (length out) (15 + w) ≡ true → write_line_at w out l ≡ record { answer = Outcome.Refused WrongLength; out = out }
+    pub write-short : ltb (length out) (15 + w) ≡ true → write_line_at w out l ≡ record { answer = Err WrongLength; out = out }
     unfolding write_line_at
     write-short s = rw s
 
-    pub write-wide : ltb (length out) (15 + w) ≡ false → line_out w l ≡ true → write_line_at w out l ≡ record { answer = Outcome.Refused OutOfRange; out = out }
+    pub write-wide : ltb (length out) (15 + w) ≡ false → line_out w l ≡ true → write_line_at w out l ≡ record { answer = Err OutOfRange; out = out }
     unfolding write_line_at
     write-wide s t = rw (s, t)
 
     pub write_done : ltb (length out) (15 + w) ≡ false → line_out w l ≡ false
-        → write_line_at w out l ≡ record { answer = Outcome.Done; out = overwritten (line_text w l) out }
+        → write_line_at w out l ≡ record { answer = Ok tt; out = overwritten (line_text w l) out }
     unfolding write_line_at
     write_done s t = rw (s, t)
 
 module _ (out : List ℕ) (z : ℤ) where
-  pub number_short : length out < length (number_text z) → write_number_call out z ≡ record { answer = Written.Refused WrongLength; out = out }
+  pub number_short : length out < length (number_text z) → write_number_call out z ≡ record { answer = Err WrongLength; out = out }
   unfolding write_number_call
   number_short h = simp (lt-ltb _ _ h)
 
   pub number-done : length (number_text z) ≤ length out → write_number_call out z ≡ record
-      { answer = Written.Bytes (length (number_text z)); out = overwritten (number_text z) out }
+      { answer = Ok (length (number_text z)); out = overwritten (number_text z) out }
   unfolding write_number_call
   number-done h = simp (le-ltb _ _ h)

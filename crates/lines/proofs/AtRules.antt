@@ -1,14 +1,13 @@
 -- At the width of coherent rules the calls are those under the rules. Assumes nothing.
+use Rattle.std.specs.Prelude.{Ok, Err, Option, Some, None}
 use mathlib.Core.Path.{◌≡◌, refl, ap, ◌∙◌}
 use mathlib.Core.Bool.{false}
-use mathlib.Core.Option.{Option, none, some}
 use mathlib.Core.List.{List, ◌++◌, append-nil}
 use Prim.Native.Nat.{ℕ}
 use native.Mathlib.Omega.{arith}
 use lib.ListN.{length, drop_of_length-le}
 use borrow.Author.Tests.{le-leb, le-ltb}
 use Rattle.definitions.specs.declared.Line.{Line}
-use Rattle.definitions.specs.declared.LineRead.{LineRead}
 use Rattle.definitions.specs.declared.Refusal.TheVariants.{NotInColumns}
 use Rattle.definitions.specs.Rules.{Rules, Coherent}
 use Rattle.definitions.specs.Lines.{line_length, line_text, line_too_wide, read_line}
@@ -18,9 +17,9 @@ use Rattle.lines.specs.Found.{line_answer}
 use Rattle.lines.specs.AtWidth.{width_out, line_out, read_line_at, write_refusal_at, write_line_at}
 use Rattle.lines.proofs.Answers.{write_done}
 
-answer-is : (o : Option Line) → line_answer o ≡ (elim o [ none ↦ LineRead.Refused NotInColumns | some l ↦ LineRead.Read l ])
-answer-is none = refl
-answer-is (some l) = refl
+answer-is : (o : Option Line) → line_answer o ≡ (elim o [ None ↦ Err NotInColumns | Some l ↦ Ok l ])
+answer-is None = refl
+answer-is (Some l) = refl
 
 module _ (r : Rules) (coherent : Coherent r) {width : ℕ} (e : width ≡ r.amount_width) where
   pub width-in : width_out width ≡ false

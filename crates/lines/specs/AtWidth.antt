@@ -1,10 +1,8 @@
 -- A line read and written at any width of the amount column, on all input. At the width of coherent rules these are the calls under the rules
 -- (proofs/AtRules). Assumes nothing.
-use Rattle.std.specs.Prelude.{Bool, not, ◌||◌, List, [], ◌∷◌, ℕ, ltb, length, if◌then◌else◌}
-use Rattle.std.proofs.Math.Option.{Option, none}
+use Rattle.std.specs.Prelude.{Bool, not, ◌||◌, List, [], ◌∷◌, ℕ, ltb, length, if◌then◌else◌, Result, Option, None}
 use Rattle.integers.specs.Words.{within}
 use Rattle.definitions.specs.declared.Line.{Line}
-use Rattle.definitions.specs.declared.LineRead.{LineRead}
 use Rattle.definitions.specs.declared.Refusal.{Refusal}
 use Rattle.definitions.specs.declared.Refusal.TheVariants.{WrongLength, OutOfRange}
 use Rattle.definitions.specs.Refusals.{◌when◌, first_refusal}
@@ -17,8 +15,8 @@ abbrev pub width_out : ℕ → Bool
 width_out width = not (within 1 18 width)
 
 -- at such a width nothing is in columns
-unfoldable pub read_line_at : ℕ → List ℕ → LineRead
-read_line_at width bytes = line_answer (if width_out width then none else read_line width bytes)
+unfoldable pub read_line_at : ℕ → List ℕ → Result Line Refusal
+read_line_at width bytes = line_answer (if width_out width then None else read_line width bytes)
 
 -- no line of this width holds the line
 abbrev pub line_out : ℕ → Line → Bool

@@ -1,33 +1,28 @@
 -- The crate's own answers as values that may be missing, as the definitions have them. Assumes nothing.
-use Rattle.std.proofs.Math.Option.{Option, none, some}
-use Rattle.std.specs.Prelude.{ℕ, ℤ, pos}
+use Rattle.definitions.specs.declared.Refusal.{Refusal}
+use Rattle.std.specs.Prelude.{ℕ, ℤ, pos, Result, Ok, Err, Option, Some, None}
 use Rattle.integers.specs.Words.{minus, ◌>>=◌}
 use Rattle.definitions.specs.declared.Line.{Line}
-use Rattle.definitions.specs.declared.LineRead.{LineRead}
 use Rattle.definitions.specs.declared.Refusal.TheVariants.{NotInColumns}
-use Rattle.lines.specs.declared.Digits.{Digits}
-use Rattle.lines.specs.declared.Digits.TheVariants.{Are, Not}
-use Rattle.lines.specs.declared.Column.{Column}
-use Rattle.lines.specs.declared.Column.TheVariants.{Number, Bad}
 
-abbrev pub digits_found : Digits → Option ℕ
-digits_found (Are v) = some v
-digits_found Not = none
+abbrev pub digits_found : Option ℕ → Option ℕ
+digits_found (Some v) = Some v
+digits_found None = None
 
 -- 0 where there is none
-abbrev pub digits_value : Digits → ℕ
-digits_value (Are v) = v
-digits_value Not = 0
+abbrev pub digits_value : Option ℕ → ℕ
+digits_value (Some v) = v
+digits_value None = 0
 
 abbrev pub plain_found : Option ℕ → Option ℤ
-plain_found o = o >>= λ v. some (pos v)
+plain_found o = o >>= λ v. Some (pos v)
 
 abbrev pub negative_found : Option ℕ → Option ℤ
-negative_found o = o >>= λ v. some (minus v)
+negative_found o = o >>= λ v. Some (minus v)
 
-abbrev pub column_found : Column → Option ℤ
-column_found (Number z) = some z
-column_found Bad = none
+abbrev pub column_found : Option ℤ → Option ℤ
+column_found (Some z) = Some z
+column_found None = None
 
 -- the line of five numbers that may be missing
 abbrev pub line_found : Option ℤ → Option ℤ → Option ℤ → Option ℤ → Option ℤ → Option Line
@@ -37,8 +32,8 @@ line_found kind a b c amount = do
   b ← b
   c ← c
   amount ← amount
-  some (record { kind = kind; a = a; b = b; c = c; amount = amount })
+  Some (record { kind = kind; a = a; b = b; c = c; amount = amount })
 
-abbrev pub line_answer : Option Line → LineRead
-line_answer none = LineRead.Refused NotInColumns
-line_answer (some l) = LineRead.Read l
+abbrev pub line_answer : Option Line → Result Line Refusal
+line_answer None = Err NotInColumns
+line_answer (Some l) = Ok l

@@ -1,6 +1,5 @@
 -- A number written as text without padding, on all input. Assumes nothing.
-use Rattle.std.proofs.Math.Option.{Option}
-use Rattle.std.specs.Prelude.{List, [], ◌∷◌, ℕ, ℤ, length}
+use Rattle.std.specs.Prelude.{List, [], ◌∷◌, ℕ, ℤ, length, Option}
 use Rattle.definitions.specs.declared.Refusal.{Refusal}
 use Rattle.definitions.specs.declared.Refusal.TheVariants.{WrongLength}
 use Rattle.definitions.specs.Refusals.{◌when◌, first_refusal}

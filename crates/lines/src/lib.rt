@@ -2,8 +2,7 @@
 // `read_line` and `write_line` are at the desk's.
 #![tactic(auto)]
 
-ghost use Rattle.std.specs.Prelude.{◌≡◌, true, false, [], ◌∷◌, ◌++◌, ℕ, ◌+◌, ◌-◌, ◌≤◌, ◌<◌, ◌^◌, ltb, pos, nat_abs, length, take, drop, replicate};
-ghost use Rattle.std.proofs.Math.Option.{some};
+ghost use Rattle.std.specs.Prelude.{◌≡◌, true, false, [], ◌∷◌, ◌++◌, ℕ, ◌+◌, ◌-◌, ◌≤◌, ◌<◌, ◌^◌, ltb, pos, nat_abs, length, take, drop, replicate, Ok, Some};
 ghost use Rattle.integers.specs.Words.{within};
 ghost use Rattle.definitions.specs.declared.Rulebook.TheVariants.{Desk};
 ghost use Rattle.definitions.specs.Rules.{rules_in};
@@ -18,7 +17,7 @@ ghost use Rattle.lines.specs.Words.{Word};
 ghost use Rattle.lines.specs.Digits.{four_digits, sign_byte};
 ghost use Rattle.lines.specs.Raises.{is_raise, scope_from, raise_of, raised_at, small_numbers, Digit, Small, RaiseText};
 
-use definitions::{Line, LineRead, Outcome, Refusal, Rulebook, Written};
+use definitions::{Line, Refusal, Rulebook};
 
 // Four spaces, and three spaces and a 0, as words.
 const BLANKS: u64 = 538976288;
@@ -27,27 +26,6 @@ const ZERO: u64 = 807411744;
 
 // More than three digits make.
 const NONE: u64 = 1000;
-
-// The scope of a raise line, or another text.
-#[derive(Clone, Copy)]
-pub enum RaiseRead {
-    Scope(usize),
-    Nothing,
-}
-
-// Digits, or something else.
-#[derive(Clone, Copy)]
-enum Digits {
-    Are(u64),
-    Not,
-}
-
-// The number in a column, or something else.
-#[derive(Clone, Copy)]
-enum Column {
-    Number(i64),
-    Bad,
-}
 
 // ---- reading
 
@@ -92,62 +70,62 @@ fn blanks(t: &[u8]) -> usize
 }
 
 // The positive number from byte `from` to the end.
-fn positive(t: &[u8], from: usize) -> Digits
+fn positive(t: &[u8], from: usize) -> Option<u64>
     requires { (from ≤ length t.now) × (length t.now ≤ 18) }
     ensures { (digits_found result ≡ read_positive (drop from t.now)) × (digits_value result < 10 ^ 18) }
 {
     if from == t.len() {
-        return Digits::Not;
+        return None;
     }
     if t[from] == 48 {
-        return Digits::Not;
+        return None;
     }
     let mut v: u64 = 0;
     let mut i = from;
     while i < t.len() {
         let b = t[i];
         if b < 48 {
-            return Digits::Not;
+            return None;
         }
         if 57 < b {
-            return Digits::Not;
+            return None;
         }
         v = v * 10 + (integers::wide(b) - 48);
         i += 1;
     }
-    Digits::Are(v)
+    Some(v)
 }
 
-fn plain(d: Digits) -> Column
+fn plain(d: Option<u64>) -> Option<i64>
     requires { digits_value d < 10 ^ 18 }
     ensures { column_found result ≡ plain_found (digits_found d) }
 {
     match d {
-        Digits::Are(v) => Column::Number(v as i64),
-        Digits::Not => Column::Bad,
+        Some(v) => Some(v as i64),
+        None => None,
     }
 }
 
-fn negative(d: Digits) -> Column
+fn negative(d: Option<u64>) -> Option<i64>
     requires { digits_value d < 10 ^ 18 }
     ensures { column_found result ≡ negative_found (digits_found d) }
 {
     match d {
-        Digits::Are(v) => {
+        Some(v) => {
             let z = v as i64;
-            Column::Number(0 - z)
+            Some(0 - z)
         }
-        Digits::Not => Column::Bad,
+        None => None,
     }
 }
 
-fn read_column(t: &[u8]) -> Column
+fn read_column(t: &[u8]) -> Option<i64>
     requires { length t.now ≤ 18 }
     ensures { column_found result ≡ read_column t.now }
 {
     let i = blanks(t);
     if i == t.len() {
-        return Column::Bad;
+        return None;
     }
     let b = t[i];
     if b == 45 {
@@ -155,14 +133,14 @@ fn read_column(t: &[u8]) -> Column
     }
     if b == 48 {
         if i + 1 == t.len() {
-            return Column::Number(0);
+            return Some(0);
         }
-        return Column::Bad;
+        return None;
     }
     plain(positive(t, i))
 }
 
-fn read_column_at(bytes: &[u8], from: usize, width: usize) -> Column
+fn read_column_at(bytes: &[u8], from: usize, width: usize) -> Option<i64>
     requires { (from + width ≤ length bytes.now) × (width ≤ 18) }
     ensures { column_found result ≡ column_at from width bytes.now }
 {
@@ -177,23 +155,23 @@ fn is_digit(b: u64, least: u64) -> bool
 }
 
 // A column of two bytes, which mostly holds one digit or two.
-fn read_pair(bytes: &[u8], from: usize) -> Column
+fn read_pair(bytes: &[u8], from: usize) -> Option<i64>
     requires { from + 2 ≤ length bytes.now }
     ensures { column_found result ≡ column_at from 2 bytes.now }
 {
     let c = integers::wide(bytes[from]);
     let d = integers::wide(bytes[from + 1]);
     if c == 32 && is_digit(d, 48) {
-        return plain(Digits::Are(d - 48));
+        return plain(Some(d - 48));
     }
     if is_digit(c, 49) && is_digit(d, 48) {
-        return plain(Digits::Are((c - 48) * 10 + (d - 48)));
+        return plain(Some((c - 48) * 10 + (d - 48)));
     }
     read_column_at(bytes, from, 2)
 }
 
 // A column of four bytes, which mostly begins with two spaces.
-fn read_narrow(bytes: &[u8], from: usize) -> Column
+fn read_narrow(bytes: &[u8], from: usize) -> Option<i64>
     requires { from + 4 ≤ length bytes.now }
     ensures { column_found result ≡ column_at from 4 bytes.now }
 {
@@ -204,7 +182,7 @@ fn read_narrow(bytes: &[u8], from: usize) -> Column
 }
 
 // A column of any width, which mostly begins with many spaces.
-fn read_wide(t: &[u8]) -> Column
+fn read_wide(t: &[u8]) -> Option<i64>
     requires { length t.now ≤ 18 }
     ensures { column_found result ≡ read_column t.now }
 {
@@ -216,25 +194,25 @@ fn read_wide(t: &[u8]) -> Column
 }
 
 // The line of five columns, if each is a number.
-fn line_of(kind: Column, a: Column, b: Column, c: Column, amount: Column) -> LineRead
+fn line_of(kind: Option<i64>, a: Option<i64>, b: Option<i64>, c: Option<i64>, amount: Option<i64>) -> Result<Line, Refusal>
     ensures { result ≡ line_answer (line_found (column_found kind) (column_found a) (column_found b) (column_found c) (column_found amount)) }
 {
-    let Column::Number(kind) = kind else {
-        return LineRead::Refused(Refusal::NotInColumns);
+    let Some(kind) = kind else {
+        return Err(Refusal::NotInColumns);
     };
-    let Column::Number(a) = a else {
-        return LineRead::Refused(Refusal::NotInColumns);
+    let Some(a) = a else {
+        return Err(Refusal::NotInColumns);
     };
-    let Column::Number(b) = b else {
-        return LineRead::Refused(Refusal::NotInColumns);
+    let Some(b) = b else {
+        return Err(Refusal::NotInColumns);
     };
-    let Column::Number(c) = c else {
-        return LineRead::Refused(Refusal::NotInColumns);
+    let Some(c) = c else {
+        return Err(Refusal::NotInColumns);
     };
-    let Column::Number(amount) = amount else {
-        return LineRead::Refused(Refusal::NotInColumns);
+    let Some(amount) = amount else {
+        return Err(Refusal::NotInColumns);
     };
-    LineRead::Read(Line {
+    Ok(Line {
         kind,
         a,
         b,
@@ -248,7 +226,7 @@ fn line_of(kind: Column, a: Column, b: Column, c: Column, amount: Column) -> Lin
 // Whether the amount column, which has four bytes or more and ends before byte `end`, holds a 0.
 fn no_amount(t: &[u8], end: usize) -> bool
     requires { (18 ≤ end) × (end ≤ length t.now) }
-    ensures { result ≡ true → column_at 14 (end - 14) t.now ≡ some (pos 0) }
+    ensures { result ≡ true → column_at 14 (end - 14) t.now ≡ Some (pos 0) }
 {
     let last = end - 4;
     let mut blank = true;
@@ -321,7 +299,7 @@ fn small_number(a: u8, b: u8, c: u8) -> u64
 
 // The scope of a raise line, or NONE or more where another way must tell.
 fn quick_scope(t: &[u8]) -> u64
-    ensures { (width : ℕ) → length t.now ≡ line_length width → result < small_numbers → read_line width t.now ≡ some (raise_line result) }
+    ensures { (width : ℕ) → length t.now ≡ line_length width → result < small_numbers → read_line width t.now ≡ Some (raise_line result) }
 {
     if t.len() < 19 {
         return NONE;
@@ -338,30 +316,30 @@ fn is_raise_line(line: Line) -> bool
     (line.kind == 3) & (line.b == 0) & (line.c == 0) & (line.amount == 0)
 }
 
-fn scope_from(a: i64) -> RaiseRead
+fn scope_from(a: i64) -> Option<usize>
     ensures { result ≡ scope_from a }
 {
     if a < 0 {
-        return RaiseRead::Nothing;
+        return None;
     }
-    RaiseRead::Scope(a as usize)
+    Some(a as usize)
 }
 
-fn line_scope(line: Line) -> RaiseRead
-    ensures { result ≡ raise_of (LineRead.Read line) }
+fn line_scope(line: Line) -> Option<usize>
+    ensures { result ≡ raise_of (Ok line) }
 {
     if !is_raise_line(line) {
-        return RaiseRead::Nothing;
+        return None;
     }
     scope_from(line.a)
 }
 
-fn scope_of(read: LineRead) -> RaiseRead
+fn scope_of(read: Result<Line, Refusal>) -> Option<usize>
     ensures { result ≡ raise_of read }
 {
     match read {
-        LineRead::Refused(_) => RaiseRead::Nothing,
-        LineRead::Read(line) => line_scope(line),
+        Err(_) => None,
+        Ok(line) => line_scope(line),
     }
 }
 
@@ -557,15 +535,15 @@ fn put_line(out: &mut [u8], line: Line, width: usize)
 }
 
 // Writes z without padding at out's first bytes, and answers how many they are.
-pub fn write_number(out: &mut [u8], z: i64) -> Written
+pub fn write_number(out: &mut [u8], z: i64) -> Result<usize, Refusal>
     ensures { (result ≡ (write_number_call out.old z).answer) × (out.new ≡ (write_number_call out.old z).out) }
 {
     let n = text_length(z);
     if out.len() < n {
-        return Written::Refused(Refusal::WrongLength);
+        return Err(Refusal::WrongLength);
     }
     put_column(&mut out[..n], z);
-    Written::Bytes(n)
+    Ok(n)
 }
 
 // ---- the calls at any width
@@ -578,18 +556,18 @@ pub fn width_out(width: usize) -> bool
 }
 
 // A line whose amount column has this width.
-pub fn read_line_in(bytes: &[u8], width: usize) -> LineRead
+pub fn read_line_in(bytes: &[u8], width: usize) -> Result<Line, Refusal>
     ensures { result ≡ read_line_at width bytes.now }
 {
     if width_out(width) {
-        return LineRead::Refused(Refusal::NotInColumns);
+        return Err(Refusal::NotInColumns);
     }
     let end = 14 + width;
     if bytes.len() != end + 1 {
-        return LineRead::Refused(Refusal::NotInColumns);
+        return Err(Refusal::NotInColumns);
     }
     if bytes[end] != 10 {
-        return LineRead::Refused(Refusal::NotInColumns);
+        return Err(Refusal::NotInColumns);
     }
     let kind = read_pair(bytes, 0);
     let a = read_narrow(bytes, 2);
@@ -600,46 +578,46 @@ pub fn read_line_in(bytes: &[u8], width: usize) -> LineRead
 }
 
 // The scope of a line whose amount column has this width, if it is a raise line.
-pub fn raised_scope(bytes: &[u8], width: usize) -> RaiseRead
+pub fn raised_scope(bytes: &[u8], width: usize) -> Option<usize>
     ensures { result ≡ raised_at width bytes.now }
 {
     if width_out(width) {
-        return RaiseRead::Nothing;
+        return None;
     }
     if bytes.len() != 15 + width {
-        return RaiseRead::Nothing;
+        return None;
     }
     let x = quick_scope(bytes);
     if x < NONE {
-        return RaiseRead::Scope(x as usize);
+        return Some(x as usize);
     }
     scope_of(read_line_in(bytes, width))
 }
 
 // Writes the line at out's first bytes, with an amount column of this width.
-pub fn write_line_in(out: &mut [u8], line: Line, width: usize) -> Outcome
+pub fn write_line_in(out: &mut [u8], line: Line, width: usize) -> Result<(), Refusal>
     ensures { (result ≡ (write_line_at width out.old line).answer) × (out.new ≡ (write_line_at width out.old line).out) }
 {
     if is_short(out.len(), width) {
-        return Outcome::Refused(Refusal::WrongLength);
+        return Err(Refusal::WrongLength);
     }
     if line_out(line, width) {
-        return Outcome::Refused(Refusal::OutOfRange);
+        return Err(Refusal::OutOfRange);
     }
     put_line(out, line, width);
-    Outcome::Done
+    Ok(())
 }
 
 // ---- the calls at the desk's width
 
-pub fn read_line(bytes: &[u8]) -> LineRead
+pub fn read_line(bytes: &[u8]) -> Result<Line, Refusal>
     ensures { result ≡ read_line_answer (rules_in Desk) bytes.now }
 {
     read_line_in(bytes, rules::amount_width(Rulebook::Desk))
 }
 
 // Writes the line at out's first bytes.
-pub fn write_line(out: &mut [u8], line: Line) -> Outcome
+pub fn write_line(out: &mut [u8], line: Line) -> Result<(), Refusal>
     ensures { (result ≡ (write_line_call (rules_in Desk) out.old line).answer)
         × (out.new ≡ (write_line_call (rules_in Desk) out.old line).out) }
 {

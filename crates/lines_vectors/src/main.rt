@@ -12,7 +12,7 @@
 // The file `stdout` is what document 01 says.
 #![tactic(auto)]
 
-use definitions::{Line, LineRead, Outcome, Written};
+use definitions::Line;
 
 // ---- what is printed
 
@@ -26,8 +26,8 @@ fn print_line(line: Line) {
 fn read(text: &[u8]) {
     let answer = lines::read_line(text);
     match answer {
-        LineRead::Read(line) => print_line(line),
-        LineRead::Refused(refusal) => {
+        Ok(line) => print_line(line),
+        Err(refusal) => {
             drivers::print(b"refused");
             drivers::print_count(drivers::number_of(refusal));
         }
@@ -40,12 +40,12 @@ fn line_to(out: &mut [u8], line: Line) {
     let answer = lines::write_line(out, line);
     drivers::print(out);
     match answer {
-        Outcome::Done => {
+        Ok(()) => {
             if 27 < out.len() {
                 drivers::print(b"\n");
             }
         }
-        Outcome::Refused(refusal) => {
+        Err(refusal) => {
             drivers::print_refusal(refusal);
             drivers::print(b"\n");
         }
@@ -57,10 +57,10 @@ fn number_to(out: &mut [u8], z: i64) {
     let answer = lines::write_number(out, z);
     drivers::print(out);
     match answer {
-        Written::Bytes(n) => {
+        Ok(n) => {
             drivers::print_count(n as u64);
         }
-        Written::Refused(refusal) => {
+        Err(refusal) => {
             drivers::print_refusal(refusal);
         }
     }

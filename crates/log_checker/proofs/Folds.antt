@@ -1,8 +1,8 @@
 -- The fold of the replay over the lines of a block: by its first line, and by the fold of the stretch, up to the line that this refuses. Assumes
 -- nothing.
+use Rattle.std.specs.Prelude.{Result, Ok, Err, Option, Some, None, ⊤}
 use mathlib.Core.Path.{◌≡◌, refl, sym, ap, subst, ◌∙◌}
 use mathlib.Core.Logic.{◌≢◌, ⊎_elim}
-use mathlib.Core.Option.{Option, none, some}
 use mathlib.Core.List.{List, [], ◌∷◌}
 use Prim.Native.Nat.{ℕ, zero, suc, ◌+◌, ◌*◌, ◌≤◌, ◌<◌}
 use native.Mathlib.Omega.{arith}
@@ -14,13 +14,11 @@ use lib.Seq.{drop-drop}
 use Rattle.integers.specs.Tests.{either}
 use Rattle.definitions.specs.declared.Case.{Case}
 use Rattle.definitions.specs.declared.Line.{Line}
-use Rattle.definitions.specs.declared.Outcome.{Outcome}
 use Rattle.definitions.specs.declared.Refusal.{Refusal}
 use Rattle.definitions.specs.declared.Refusal.TheVariants.{NotDue}
 use Rattle.definitions.specs.Rules.{Rules, rules_of}
 use Rattle.definitions.specs.Refusals.{first_refusal, sooner}
 use Rattle.definitions.specs.Lines.{read_line, line_length, whole_lines, lines_in}
-use Rattle.checker.specs.declared.Standing.{Standing}
 use Rattle.checker.specs.declared.Replay.{Replay as Stretch}
 use Rattle.checker.specs.Checker.{StepCall as StretchCall, BlockCall as StretchLines, Asked, step_refused as refused_step, step_by as stretch_by}
 use Rattle.checker.specs.Checker.{step_tests, of_due, step_line as stretch_line, step_standing as stretch_standing, step_replay as step_stretch, fold_replay as fold_stretch}
@@ -42,30 +40,30 @@ more-none x = ap (λ (j : ℕ). record { lines = j; answer = x.answer; after = x
 -- ---- a refused line leaves a record that stands refused, and that answers every line by the same refusal
 
 module _ (r : Rules) (b : Between) {x : Refusal} where
-  by_number : (a : LineAsked) (o : Option Refusal) → (step_by r b a o).answer ≡ Outcome.Refused x
-      → (step_by r b a o).after.replay.stretch.standing ≡ Standing.Refused x
-  by_number a none e = cc
-  by_number a (some y) e = cc
+  by_number : (a : LineAsked) (o : Option Refusal) → (step_by r b a o).answer ≡ Err x
+      → (step_by r b a o).after.replay.stretch.standing ≡ Err x
+  by_number a None e = cc
+  by_number a (Some y) e = cc
 
-  by-line : (l : Option Line) → (step_line r b l).answer ≡ Outcome.Refused x → (step_line r b l).after.replay.stretch.standing ≡ Standing.Refused x
-  by-line none e = cc
-  by-line (some l) e =
+  by-line : (l : Option Line) → (step_line r b l).answer ≡ Err x → (step_line r b l).after.replay.stretch.standing ≡ Err x
+  by-line None e = cc
+  by-line (Some l) e =
       let a = of_line r b b.replay.joining l in by_number a (sooner (lent_number r b) (first_refusal a.tests)) e
 
-  pub refused-stands : (t : List ℕ) → (step_replay r b t).answer ≡ Outcome.Refused x → (step_replay r b t).after.replay.stretch.standing ≡ Standing.Refused x
+  pub refused-stands : (t : List ℕ) → (step_replay r b t).answer ≡ Err x → (step_replay r b t).after.replay.stretch.standing ≡ Err x
   unfolding step_replay
   refused-stands t = go b.replay.stretch.standing refl
     where
-      go : (s : Standing) → b.replay.stretch.standing ≡ s → (step_standing r b t s).answer ≡ Outcome.Refused x
-          → (step_standing r b t s).after.replay.stretch.standing ≡ Standing.Refused x
-      go Standing.Good d e = by-line (read_line r.amount_width t) e
-      go (Standing.Refused y) d e = cc
+      go : (s : Result ⊤ Refusal) → b.replay.stretch.standing ≡ s → (step_standing r b t s).answer ≡ Err x
+          → (step_standing r b t s).after.replay.stretch.standing ≡ Err x
+      go (Ok tt) d e = by-line (read_line r.amount_width t) e
+      go (Err y) d e = cc
 
-  stays : b.replay.stretch.standing ≡ Standing.Refused x → (t : List ℕ) → (step_replay r b t).after ≡ b
+  stays : b.replay.stretch.standing ≡ Err x → (t : List ℕ) → (step_replay r b t).after ≡ b
   unfolding step_replay
   stays e t = rw e
 
-pub all_stay : (r : Rules) (b : Between) {x : Refusal} → b.replay.stretch.standing ≡ Standing.Refused x → (ts : List (List ℕ)) → after_lines r b ts ≡ b
+pub all_stay : (r : Rules) (b : Between) {x : Refusal} → b.replay.stretch.standing ≡ Err x → (ts : List (List ℕ)) → after_lines r b ts ≡ b
 all_stay r b e [] = refl
 all_stay r b e (t ∷ ts) = ap (λ (d : Between). after_lines r d ts) (stays r b e t) ∙ all_stay r b e ts
 
@@ -75,7 +73,7 @@ module _ (r : Rules) (b : Between) (t : List ℕ) where
   abbrev long : ℕ
   long = line_length r.amount_width
 
-  pub fold-none : length t < long → fold_replay r b t ≡ record { lines = 0; answer = Outcome.Done; after = b }
+  pub fold-none : length t < long → fold_replay r b t ≡ record { lines = 0; answer = Ok tt; after = b }
   unfolding fold_replay
   fold-none h = rw (no-line r.amount_width t h)
 
@@ -105,34 +103,34 @@ module _ (r : Rules) (b : Between) (t : List ℕ) where
         (first-line r.amount_width t h)
         ∙ ap stepped s
 
-    pub fold_done : call.answer ≡ Outcome.Done → fold_replay r b t ≡ more_by 1 (fold_replay r call.after (drop long t))
+    pub fold_done : call.answer ≡ Ok tt → fold_replay r b t ≡ more_by 1 (fold_replay r call.after (drop long t))
     unfolding fold_replay
     fold_done e = first_step ∙ rw e
 
-    pub fold-refused : {x : Refusal} → call.answer ≡ Outcome.Refused x → fold_replay r b t ≡ ends_with call
+    pub fold-refused : {x : Refusal} → call.answer ≡ Err x → fold_replay r b t ≡ ends_with call
     fold-refused {x} e =
-        let f : call.after.replay.stretch.standing ≡ Standing.Refused x =
+        let f : call.after.replay.stretch.standing ≡ Err x =
         ap (λ (k : StepCall). k.after.replay.stretch.standing) (sym s) ∙ refused-stands r b (take long t) (ap (λ (k : StepCall). k.answer) s ∙ e) in
         first_step ∙ rw (e, all_stay r call.after f (lines_in r.amount_width (drop long t)))
 
 -- ---- a line that the stretch refuses changes nothing but the standing
 
 module _ (r : Rules) (c : Case) (w : List ℤ) (p : Stretch) {x : Refusal} where
-  refused-by : (a : Asked) (o : Option Refusal) → (stretch_by w p a o).stepped.answer ≡ Outcome.Refused x → stretch_by w p a o ≡ refused_step p w x
-  refused-by a none e = cc
-  refused-by a (some y) e = let d : y ≡ x = cc in ap (refused_step p w) d
+  refused-by : (a : Asked) (o : Option Refusal) → (stretch_by w p a o).stepped.answer ≡ Err x → stretch_by w p a o ≡ refused_step p w x
+  refused-by a None e = cc
+  refused-by a (Some y) e = let d : y ≡ x = cc in ap (refused_step p w) d
 
-  refused-line : (l : Option Line) → (stretch_line r c w p l).stepped.answer ≡ Outcome.Refused x → stretch_line r c w p l ≡ refused_step p w x
-  refused-line none e = ap (refused_step p w) (cc)
-  refused-line (some l) e = refused-by (of_due r c w p p.due l) (first_refusal (step_tests r c w p l (of_due r c w p p.due l))) e
+  refused-line : (l : Option Line) → (stretch_line r c w p l).stepped.answer ≡ Err x → stretch_line r c w p l ≡ refused_step p w x
+  refused-line None e = ap (refused_step p w) (cc)
+  refused-line (Some l) e = refused-by (of_due r c w p p.due l) (first_refusal (step_tests r c w p l (of_due r c w p p.due l))) e
 
-  pub refused-only : (t : List ℕ) → (step_stretch r c w p t).stepped.answer ≡ Outcome.Refused x → step_stretch r c w p t ≡ refused_step p w x
+  pub refused-only : (t : List ℕ) → (step_stretch r c w p t).stepped.answer ≡ Err x → step_stretch r c w p t ≡ refused_step p w x
   unfolding step_stretch
   refused-only t = go p.standing
     where
-      go : (s : Standing) → (stretch_standing r c w p t s).stepped.answer ≡ Outcome.Refused x → stretch_standing r c w p t s ≡ refused_step p w x
-      go Standing.Good e = refused-line (read_line r.amount_width t) e
-      go (Standing.Refused y) e = let d : y ≡ x = cc in ap (refused_step p w) d
+      go : (s : Result ⊤ Refusal) → (stretch_standing r c w p t s).stepped.answer ≡ Err x → stretch_standing r c w p t s ≡ refused_step p w x
+      go (Ok tt) e = refused-line (read_line r.amount_width t) e
+      go (Err y) e = let d : y ≡ x = cc in ap (refused_step p w) d
 
 -- ---- by the fold of the stretch
 
@@ -147,7 +145,7 @@ stretch_fold b t = fold_stretch (rules_of b.case) b.case b.table b.replay.stretc
 pub record Stops (b : Between) (t : List ℕ) (x : Refusal) (f : StretchLines) : Type 0 where
   pub room : f.block.lines * bytes_per_line b.case + bytes_per_line b.case ≤ length t
   pub settled : Settled (moved_to b f.table (standing_good f.block.replay))
-  pub stands : f.block.replay.standing ≡ Standing.Refused x
+  pub stands : f.block.replay.standing ≡ Err x
   pub goes : fold_replay (rules_of b.case) b t
       ≡ more_by f.block.lines
       (fold_replay (rules_of b.case) (moved_to b f.table (standing_good f.block.replay)) (drop (f.block.lines * bytes_per_line b.case) t))
@@ -155,7 +153,7 @@ pub record Stops (b : Between) (t : List ℕ) (x : Refusal) (f : StretchLines) :
       (take (bytes_per_line b.case) (drop (f.block.lines * bytes_per_line b.case) t))
       ≡ refused_step (standing_good f.block.replay) f.table x
 
-never : {x : Refusal} → Outcome.Done ≡ Outcome.Refused x → ⊥
+never : {x : Refusal} → Ok tt ≡ Err x → ⊥
 never {x} e = let z : ◌≡◌ {A = ℕ} 0 1 = cc in omega arith
 
 module _ (b : Between) (s : Settled b) (t : List ℕ) where
@@ -171,24 +169,24 @@ module _ (b : Between) (s : Settled b) (t : List ℕ) where
   abbrev next : Between
   next = moved_to b first.table first.stepped.replay
 
-  by-stretch : (h : size ≤ length t) → first.stepped.answer ≡ Outcome.Done → stretch_fold b t ≡ more_lines 1 (stretch_fold next (drop size t))
+  by-stretch : (h : size ≤ length t) → first.stepped.answer ≡ Ok tt → stretch_fold b t ≡ more_lines 1 (stretch_fold next (drop size t))
   by-stretch h e = stretch-done b.case b.table b.replay.stretch t h first refl e
 
-  by-replay : (h : size ≤ length t) → first.stepped.answer ≡ Outcome.Done → fold_replay r b t ≡ more_by 1 (fold_replay r next (drop size t))
+  by-replay : (h : size ≤ length t) → first.stepped.answer ≡ Ok tt → fold_replay r b t ≡ more_by 1 (fold_replay r next (drop size t))
   by-replay h e = fold_done r b t h (lifted b first) (lift-done b s (take size t) e) e
 
   -- the first line is refused
-  first-refused : {x : Refusal} → size ≤ length t → first.stepped.answer ≡ Outcome.Refused x
+  first-refused : {x : Refusal} → size ≤ length t → first.stepped.answer ≡ Err x
       → stretch_fold b t ≡ stretch_ends (refused_step b.replay.stretch b.table x)
   first-refused {x} h e = stretch-refused b.case b.table b.replay.stretch t h (refused_step b.replay.stretch b.table x)
       (refused-only r b.case b.table b.replay.stretch (take size t) e) refl refl
 
-  stop-here : {x : Refusal} → size ≤ length t → first.stepped.answer ≡ Outcome.Refused x → Stops b t x (stretch_fold b t)
+  stop-here : {x : Refusal} → size ≤ length t → first.stepped.answer ≡ Err x → Stops b t x (stretch_fold b t)
   stop-here {x} h e =
       let p = b.replay.stretch in
       let k = refused-only r b.case b.table p (take size t) e in
       let g : standing_good p ≡ p =
-      ap (λ (y : Standing). record { rounds = p.rounds; start = p.start; moved = p.moved; raised = p.raised; due = p.due; standing = y })
+      ap (λ (y : Result ⊤ Refusal). record { rounds = p.rounds; start = p.start; moved = p.moved; raised = p.raised; due = p.due; standing = y })
       (sym s.lent.good) in
       let z : 0 * size ≡ 0 = omega arith in
       subst (Stops b t x) (sym (first-refused h e)) (record {
@@ -202,7 +200,7 @@ module _ (b : Between) (s : Settled b) (t : List ℕ) where
       })
 
   -- a later one is
-  stop-later : {x : Refusal} → size ≤ length t → first.stepped.answer ≡ Outcome.Done → Stops next (drop size t) x (stretch_fold next (drop size t))
+  stop-later : {x : Refusal} → size ≤ length t → first.stepped.answer ≡ Ok tt → Stops next (drop size t) x (stretch_fold next (drop size t))
       → Stops b t x (stretch_fold b t)
   stop-later {x} h e q =
       let f = stretch_fold next (drop size t) in
@@ -222,12 +220,12 @@ module _ (b : Between) (s : Settled b) (t : List ℕ) where
       })
 
   -- no line is left
-  no_lines : length t < size → ((stretch_fold b t).block.answer ≡ Outcome.Done) × (fold_replay r b t ≡ lifted_lines b (stretch_fold b t))
+  no_lines : length t < size → ((stretch_fold b t).block.answer ≡ Ok tt) × (fold_replay r b t ≡ lifted_lines b (stretch_fold b t))
   no_lines h = let e = stretch-none b.case b.table b.replay.stretch t h in
       (ap (λ (k : StretchLines). k.block.answer) e, fold-none r b t h ∙ sym (ap (lifted_lines b) e))
 
 -- the stretch's lines up to one that is refused
-whole : (b : Between) (f : StretchLines) {x : Refusal} → f.block.answer ≡ Outcome.Refused x → f.block.replay.standing ≡ Standing.Refused x
+whole : (b : Between) (f : StretchLines) {x : Refusal} → f.block.answer ≡ Err x → f.block.replay.standing ≡ Err x
     → more_by f.block.lines (ends_with (lifted b (refused_step (standing_good f.block.replay) f.table x))) ≡ lifted_lines b f
 whole b f e d = let z : f.block.lines + 0 ≡ f.block.lines = omega arith in rw (z, ← e, ← d)
 
@@ -236,8 +234,8 @@ size_in b = bytes_per_line b.case
 
 -- so many bytes at most
 by_lines : (P : Between → List ℕ → Type 0) → ((b : Between) (s : Settled b) (t : List ℕ) → length t < size_in b → P b t)
-    → ((b : Between) (s : Settled b) (t : List ℕ) → size_in b ≤ length t → (o : Outcome) → (first b s t).stepped.answer ≡ o
-    → (o ≡ Outcome.Done → P (next b s t) (drop (size_in b) t)) → P b t)
+    → ((b : Between) (s : Settled b) (t : List ℕ) → size_in b ≤ length t → (o : Result ⊤ Refusal) → (first b s t).stepped.answer ≡ o
+    → (o ≡ Ok tt → P (next b s t) (drop (size_in b) t)) → P b t)
     → (n : ℕ) (b : Between) → Settled b → (t : List ℕ) → length t ≤ n → P b t
 by_lines P short long zero b s t l = short b s t (omega arith)
 by_lines P short long (suc n) b s t l = ⊎_elim
@@ -248,42 +246,42 @@ by_lines P short long (suc n) b s t l = ⊎_elim
     (either (ltb (length t) (size_in b)))
 
 module _ (b : Between) (s : Settled b) (t : List ℕ) where
-  pub stops : {x : Refusal} → (stretch_fold b t).block.answer ≡ Outcome.Refused x → Stops b t x (stretch_fold b t)
-  stops {x} = by_lines (λ b t. (stretch_fold b t).block.answer ≡ Outcome.Refused x → Stops b t x (stretch_fold b t))
+  pub stops : {x : Refusal} → (stretch_fold b t).block.answer ≡ Err x → Stops b t x (stretch_fold b t)
+  stops {x} = by_lines (λ b t. (stretch_fold b t).block.answer ≡ Err x → Stops b t x (stretch_fold b t))
       (λ b s t h e. absurd (never (sym (no_lines b s t h).0 ∙ e))) at_first (length t) b s t (omega arith)
     where
-      at_first : (b : Between) (s : Settled b) (t : List ℕ) → size_in b ≤ length t → (o : Outcome) → (first b s t).stepped.answer ≡ o
-          → (o ≡ Outcome.Done → (stretch_fold (next b s t) (drop (size_in b) t)).block.answer ≡ Outcome.Refused x
+      at_first : (b : Between) (s : Settled b) (t : List ℕ) → size_in b ≤ length t → (o : Result ⊤ Refusal) → (first b s t).stepped.answer ≡ o
+          → (o ≡ Ok tt → (stretch_fold (next b s t) (drop (size_in b) t)).block.answer ≡ Err x
           → Stops (next b s t) (drop (size_in b) t) x (stretch_fold (next b s t) (drop (size_in b) t)))
-          → (stretch_fold b t).block.answer ≡ Outcome.Refused x → Stops b t x (stretch_fold b t)
-      at_first b s t h Outcome.Done d q e =
+          → (stretch_fold b t).block.answer ≡ Err x → Stops b t x (stretch_fold b t)
+      at_first b s t h (Ok tt) d q e =
           stop-later b s t h d (q refl (ap (λ (k : StretchLines). k.block.answer) (sym (by-stretch b s t h d)) ∙ e))
-      at_first b s t h (Outcome.Refused y) d q e =
-          let z : Outcome.Refused y ≡ Outcome.Refused x = ap (λ (k : StretchLines). k.block.answer) (sym (first-refused b s t h d)) ∙ e in
+      at_first b s t h (Err y) d q e =
+          let z : Err y ≡ Err x = ap (λ (k : StretchLines). k.block.answer) (sym (first-refused b s t h d)) ∙ e in
           stop-here b s t h (d ∙ z)
 
-  taken : (stretch_fold b t).block.answer ≡ Outcome.Done → fold_replay (rules_of b.case) b t ≡ lifted_lines b (stretch_fold b t)
-  taken = by_lines (λ b t. (stretch_fold b t).block.answer ≡ Outcome.Done → fold_replay (rules_of b.case) b t ≡ lifted_lines b (stretch_fold b t))
+  taken : (stretch_fold b t).block.answer ≡ Ok tt → fold_replay (rules_of b.case) b t ≡ lifted_lines b (stretch_fold b t)
+  taken = by_lines (λ b t. (stretch_fold b t).block.answer ≡ Ok tt → fold_replay (rules_of b.case) b t ≡ lifted_lines b (stretch_fold b t))
       (λ b s t h e. (no_lines b s t h).1) at_first (length t) b s t (omega arith)
     where
-      at_first : (b : Between) (s : Settled b) (t : List ℕ) → size_in b ≤ length t → (o : Outcome) → (first b s t).stepped.answer ≡ o
-          → (o ≡ Outcome.Done → (stretch_fold (next b s t) (drop (size_in b) t)).block.answer ≡ Outcome.Done
+      at_first : (b : Between) (s : Settled b) (t : List ℕ) → size_in b ≤ length t → (o : Result ⊤ Refusal) → (first b s t).stepped.answer ≡ o
+          → (o ≡ Ok tt → (stretch_fold (next b s t) (drop (size_in b) t)).block.answer ≡ Ok tt
           → fold_replay (rules_of b.case) (next b s t) (drop (size_in b) t) ≡ lifted_lines b (stretch_fold (next b s t) (drop (size_in b) t)))
-          → (stretch_fold b t).block.answer ≡ Outcome.Done → fold_replay (rules_of b.case) b t ≡ lifted_lines b (stretch_fold b t)
-      at_first b s t h Outcome.Done d q e =
+          → (stretch_fold b t).block.answer ≡ Ok tt → fold_replay (rules_of b.case) b t ≡ lifted_lines b (stretch_fold b t)
+      at_first b s t h (Ok tt) d q e =
           let k = by-stretch b s t h d in
           by-replay b s t h d ∙ ap (more_by 1) (q refl (ap (λ (k : StretchLines). k.block.answer) (sym k) ∙ e)) ∙ sym (ap (lifted_lines b) k)
-      at_first b s t h (Outcome.Refused y) d q e =
+      at_first b s t h (Err y) d q e =
           absurd (never (sym e ∙ ap (λ (k : StretchLines). k.block.answer) (first-refused b s t h d)))
 
   -- the fold is that of the stretch, unless this refuses a line by number 2 between rounds
-  pub fold-lifted : ((x : Refusal) → (stretch_fold b t).block.answer ≡ Outcome.Refused x → T (is_between (stretch_fold b t).block.replay) → x ≢ NotDue)
+  pub fold-lifted : ((x : Refusal) → (stretch_fold b t).block.answer ≡ Err x → T (is_between (stretch_fold b t).block.replay) → x ≢ NotDue)
       → fold_replay (rules_of b.case) b t ≡ lifted_lines b (stretch_fold b t)
   fold-lifted n = go (stretch_fold b t).block.answer refl
     where
-      go : (o : Outcome) → (stretch_fold b t).block.answer ≡ o → fold_replay (rules_of b.case) b t ≡ lifted_lines b (stretch_fold b t)
-      go Outcome.Done e = taken e
-      go (Outcome.Refused x) e =
+      go : (o : Result ⊤ Refusal) → (stretch_fold b t).block.answer ≡ o → fold_replay (rules_of b.case) b t ≡ lifted_lines b (stretch_fold b t)
+      go (Ok tt) e = taken e
+      go (Err x) e =
           let q = stops e in
           let f = stretch_fold b t in
           let d = moved_to b f.table (standing_good f.block.replay) in

@@ -1,9 +1,9 @@
 -- Where nothing handed over is refused and no join is begun, a line that changes no links is the stretch's: the step is that of the stretch, and
 -- what it leaves is good again. Lines that change links are never due in a stretch. Assumes nothing.
+use Rattle.std.specs.Prelude.{Result, Ok, Err, Option, Some, None, ⊤}
 use mathlib.Core.Path.{◌≡◌, refl, sym, ap, subst, ◌∙◌}
 use mathlib.Core.Logic.{◌≢◌, ⊎_elim}
 use mathlib.Core.Bool.{Bool, true, false, not, ◌&&◌, ◌||◌}
-use mathlib.Core.Option.{Option, none, some}
 use mathlib.Core.List.{List, ◌∷◌}
 use Prim.Native.Nat.{ℕ}
 use native.Mathlib.Omega.{arith}
@@ -14,7 +14,6 @@ use Rattle.integers.specs.Lists.{any-in}
 use Rattle.integers.specs.Tests.{is_true, and_left, and_right, or_cases}
 use Rattle.integers.specs.Linear.{T-eq}
 use Rattle.definitions.specs.declared.Line.{Line}
-use Rattle.definitions.specs.declared.Outcome.{Outcome}
 use Rattle.definitions.specs.declared.Refusal.{Refusal}
 use Rattle.definitions.specs.declared.Refusal.TheVariants.{NotDue, OutOfRange}
 use Rattle.definitions.specs.Rules.{Rules, coherent, rules_of}
@@ -24,7 +23,6 @@ use Rattle.definitions.specs.Lines.{read_line, not_due, is_kind, unused_zero}
 use Rattle.theory.proofs.Validity.{BothHanded, both-handed}
 use Rattle.theory.proofs.Replays.{none-iff}
 use Rattle.checker.specs.declared.Due.{Due}
-use Rattle.checker.specs.declared.Standing.{Standing}
 use Rattle.checker.specs.declared.Replay.{Replay as Stretch}
 use Rattle.checker.specs.Checker.{Asked, due_kinds, record_out, of_due}
 use Rattle.checker.specs.Checker.{StepCall as StretchCall, step_refused as refused_step, step_by as stretch_by, step_line as stretch_line}
@@ -48,7 +46,7 @@ module _ (r : Rules) (t : Line) where
       let e : k ≡ q.kind = cc in
       T_not (is_in due k) (rw n tt) (subst (λ (j : ℕ). T (is_in due j)) (sym e) (and_right (is_kind q.kind t) (is_in due q.kind) v))))
 
-  pub never-due : (due : Due) → T (changes_links (some t)) → not_due r (due_kinds due) t ≡ true
+  pub never-due : (due : Due) → T (changes_links (Some t)) → not_due r (due_kinds due) t ≡ true
   never-due due h = ⊎_elim (λ u. other-kind 7 (due_kinds due) u (seven due)) (λ u. other-kind 8 (due_kinds due) u (eight due))
       (or_cases (is_kind 7 t) (is_kind 8 t) h)
     where
@@ -66,7 +64,7 @@ module _ (r : Rules) (t : Line) where
 
 module _ (b : Between) where
   -- of both tables and the record, by whether a number applies
-  pub lent_both : b.replay.joining ≡ Joining.Nothing → lent_number (rules_of b.case) b ≡ none
+  pub lent_both : b.replay.joining ≡ Joining.Nothing → lent_number (rules_of b.case) b ≡ None
       → BothHanded (rules_of b.case) b.case b.starting b.table × T (not (record_out (rules_of b.case) b.case b.replay.stretch))
   lent_both j e =
       let r = rules_of b.case in
@@ -76,7 +74,7 @@ module _ (b : Between) where
       (ap (λ (k : Joining). first_refusal (lent_tests r b k)) (sym j) ∙ e))
 
   pub both-lent : b.replay.joining ≡ Joining.Nothing → BothHanded (rules_of b.case) b.case b.starting b.table
-      → T (not (record_out (rules_of b.case) b.case b.replay.stretch)) → lent_number (rules_of b.case) b ≡ none
+      → T (not (record_out (rules_of b.case) b.case b.replay.stretch)) → lent_number (rules_of b.case) b ≡ None
   both-lent j h o =
       let r = rules_of b.case in
       let out = record_out r b.case b.replay.stretch in
@@ -99,7 +97,7 @@ module _ (b : Between) (s : Settled b) where
   abbrev p : Stretch
   p = b.replay.stretch
 
-  pub refused-alone : (x : Refusal) (a : LineAsked) → step_by r b a (some x) ≡ step_refused b x
+  pub refused-alone : (x : Refusal) (a : LineAsked) → step_by r b a (Some x) ≡ step_refused b x
   refused-alone x a = rw (s.lent.unrefused, s.unjoined)
 
   module _ (t : Line) where
@@ -111,22 +109,22 @@ module _ (b : Between) (s : Settled b) where
     number = first_refusal (of_move r b asked t).tests
 
     by_number : (o : Option Refusal) → step_by r b (of_move r b asked t) o ≡ lifted b (stretch_by b.table p asked o)
-    by_number none = refl
-    by_number (some x) = refused-alone x (of_move r b asked t)
+    by_number None = refl
+    by_number (Some x) = refused-alone x (of_move r b asked t)
 
-    same_number : stretch_line r b.case b.table p (some t) ≡ stretch_by b.table p asked number
+    same_number : stretch_line r b.case b.table p (Some t) ≡ stretch_by b.table p asked number
     unfolding number
     same_number = go (not_due r (due_kinds p.due) t) asked.out refl refl
       where
         go : (x y : Bool) → not_due r (due_kinds p.due) t ≡ x → asked.out ≡ y
-            → stretch_line r b.case b.table p (some t)
+            → stretch_line r b.case b.table p (Some t)
             ≡ stretch_by b.table p asked (first_refusal (NotDue when x ∷ OutOfRange when y ∷ asked.later))
         go true y d e = good-not-due b.case b.table p t d
         go false true d e = good-out b.case b.table p t (settled-both b s).now (settled-in b s) d e
         go false false d e = good-next b.case b.table p t (settled-both b s).now (settled-in b s) d e
 
     lift-line : (is_between p && is_kind 7 t) ≡ false → (is_between p && is_kind 8 t) ≡ false
-        → step_line r b (some t) ≡ lifted b (stretch_line r b.case b.table p (some t))
+        → step_line r b (Some t) ≡ lifted b (stretch_line r b.case b.table p (Some t))
     unfolding number
     lift-line d e =
         let f : of_line r b b.replay.joining t ≡ of_move r b asked t = ap (λ (j : Joining). of_line r b j t) s.unjoined ∙ rw (d, e) in
@@ -142,7 +140,7 @@ module _ (b : Between) (s : Settled b) where
   unfolding step_replay step_stretch
   lift-step bytes n =
       ap (step_standing r b bytes) s.lent.good ∙ go (read bytes) n
-      ∙ ap (λ (x : Standing). lifted b (stretch_standing r b.case b.table p bytes x)) (sym s.lent.good)
+      ∙ ap (λ (x : Result ⊤ Refusal). lifted b (stretch_standing r b.case b.table p bytes x)) (sym s.lent.good)
     where
       neither : (x y z : Bool) → T (not (x && (y || z))) → ((x && y) ≡ false) × ((x && z) ≡ false)
       neither true true z t = absurd t
@@ -151,37 +149,37 @@ module _ (b : Between) (s : Settled b) where
       neither false y z t = (refl, refl)
 
       go : (o : Option Line) → T (not (is_between p && changes_links o)) → step_line r b o ≡ lifted b (stretch_line r b.case b.table p o)
-      go none t = rw (s.lent.unrefused, s.unjoined)
-      go (some t) u = let (d, e) = neither (is_between p) (is_kind 7 t) (is_kind 8 t) u in lift-line t d e
+      go None t = rw (s.lent.unrefused, s.unjoined)
+      go (Some t) u = let (d, e) = neither (is_between p) (is_kind 7 t) (is_kind 8 t) u in lift-line t d e
 
   pub links-not-due : (bytes : List ℕ) → T (changes_links (read bytes)) → step_stretch r b.case b.table p bytes ≡ refused_step p b.table NotDue
   unfolding step_stretch
   links-not-due bytes h = ap (stretch_standing r b.case b.table p bytes) s.lent.good ∙ go (read bytes) h
     where
       go : (o : Option Line) → T (changes_links o) → stretch_line r b.case b.table p o ≡ refused_step p b.table NotDue
-      go none u = absurd u
-      go (some t) u = good-not-due b.case b.table p t (never-due r t p.due u)
+      go None u = absurd u
+      go (Some t) u = good-not-due b.case b.table p t (never-due r t p.due u)
 
   abbrev step : List ℕ → StretchCall
   step bytes = step_stretch r b.case b.table p bytes
 
-  never : {x : Refusal} → Outcome.Refused x ≡ Outcome.Done → ⊥
+  never : {x : Refusal} → Err x ≡ Ok tt → ⊥
   never {x} e = let z : ◌≡◌ {A = ℕ} 0 1 = cc in omega arith
 
   -- a line that the stretch takes
-  pub lift-done : (bytes : List ℕ) → (step bytes).stepped.answer ≡ Outcome.Done → step_replay r b bytes ≡ lifted b (step bytes)
+  pub lift-done : (bytes : List ℕ) → (step bytes).stepped.answer ≡ Ok tt → step_replay r b bytes ≡ lifted b (step bytes)
   lift-done bytes e = lift-step bytes (not_T (is_between p && changes_links (read bytes)) (λ t.
       never (ap (λ (k : StretchCall). k.stepped.answer) (sym (links-not-due bytes (and_right (is_between p) (changes_links (read bytes)) t))) ∙ e)))
 
   -- a line that it refuses, but by number 2 between rounds
-  pub lift-refused : (bytes : List ℕ) {x : Refusal} → (step bytes).stepped.answer ≡ Outcome.Refused x → (T (is_between p) → x ≢ NotDue)
+  pub lift-refused : (bytes : List ℕ) {x : Refusal} → (step bytes).stepped.answer ≡ Err x → (T (is_between p) → x ≢ NotDue)
       → step_replay r b bytes ≡ lifted b (step bytes)
   lift-refused bytes {x} e n = lift-step bytes (not_T (is_between p && changes_links (read bytes)) (λ t.
       let d = ap (λ (k : StretchCall). k.stepped.answer) (sym (links-not-due bytes (and_right (is_between p) (changes_links (read bytes)) t))) ∙ e in
       n (and_left (is_between p) (changes_links (read bytes)) t) (cc)))
 
   -- what it leaves
-  pub settled-after : (bytes : List ℕ) → (step bytes).stepped.answer ≡ Outcome.Done → Settled (lifted b (step bytes)).after
+  pub settled-after : (bytes : List ℕ) → (step bytes).stepped.answer ≡ Ok tt → Settled (lifted b (step bytes)).after
   settled-after bytes e =
       let h = settled-both b s in
       let l = step-leaves (coherent b.case.rulebook) b.case b.table p bytes e in

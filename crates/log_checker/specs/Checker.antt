@@ -1,17 +1,15 @@
 -- The replay's calls on all input: a fresh record, a step on one line of any bytes, the end, and a block of lines. They go by the record and the
 -- tables that are handed over, whatever these hold, and take nothing from the plain replay. Assumes nothing.
-use Rattle.std.specs.Prelude.{Bool, true, false, not, ◌&&◌, ◌||◌, List, [], ◌∷◌, ℕ, ℤ, nat_abs, eqb, replicate, if◌then◌else◌}
-use Rattle.std.proofs.Math.Option.{Option, none, some}
+use Rattle.definitions.specs.declared.RefusedAt.{RefusedAt}
+use Rattle.std.specs.Prelude.{Bool, true, false, not, ◌&&◌, ◌||◌, List, [], ◌∷◌, ℕ, ℤ, nat_abs, eqb, replicate, if◌then◌else◌, Result, Ok, Err, Option, Some, None, ⊤}
 use Rattle.definitions.specs.declared.Case.{Case}
 use Rattle.definitions.specs.declared.Line.{Line}
 use Rattle.definitions.specs.declared.Refusal.{Refusal}
 use Rattle.definitions.specs.declared.Refusal.TheVariants.{NotInColumns, NotDue, OutOfRange, CutShort}
-use Rattle.definitions.specs.declared.Outcome.{Outcome}
 use Rattle.definitions.specs.declared.Judgement.{Judgement}
 use Rattle.case_lines.specs.declared.Awaited.{Awaited}
 use Rattle.case_lines.specs.declared.Sizes.{Sizes}
 use Rattle.checker.specs.declared.Due.{Due}
-use Rattle.checker.specs.declared.Standing.{Standing}
 use Rattle.checker.specs.declared.Replay.{Replay as Stretch}
 use Rattle.log_checker.specs.declared.Joining.{Joining}
 use Rattle.log_checker.specs.declared.LogRecord.{LogRecord}
@@ -36,16 +34,16 @@ pub record Between : Type 0 where
 
 -- a step, the end and a block, with what is left of what was lent
 pub record StepCall : Type 0 where
-  pub answer : Outcome
+  pub answer : Result ⊤ Refusal
   pub after : Between
 
 pub record EndCall : Type 0 where
-  pub answer : Outcome
+  pub answer : Result ⊤ Refusal
   pub starting : List ℤ
 
 pub record BlockCall : Type 0 where
   pub lines : ℕ
-  pub answer : Outcome
+  pub answer : Result ⊤ Refusal
   pub after : Between
 
 -- what a line is asked, in checking order, and what it leaves where no number applies
@@ -82,7 +80,7 @@ next_stretch s bound = record {
   moved = false;
   raised = s.raised;
   due = Due.MoveOrBound;
-  standing = Standing.Good;
+  standing = Ok tt;
 }
 
 -- with the case and the weights that a stretch begins with
@@ -104,10 +102,10 @@ waiting_at c w₀ Joining.Nothing = w₀
 waiting_at c w₀ (Joining.Lines p due) = zeroed_from (own_length c) w₀
 
 -- the judgement of a log with no number, by what stands after it
-abbrev pub good_in : Between → Judgement
+abbrev pub good_in : Between → Result Judgement RefusedAt
 good_in b =
-    if is_void b.replay.stretch.due then Judgement.Void
-    else Judgement.Accepted b.replay.stretch.rounds (upper_bound b.case b.table)
+    if is_void b.replay.stretch.due then Ok Judgement.Void
+    else Ok (Judgement.Accepted b.replay.stretch.rounds (upper_bound b.case b.table))
 
 module _ (r : Rules) where
   -- ---- fresh: refused, the record stands refused and is zero else
@@ -155,7 +153,7 @@ module _ (r : Rules) where
         tests = join_line_tests r g own t;
         next =
             if is_last_due b.case p small
-            then begun_with b.replay (grown_by b.case b.table (took g own (some t)))
+            then begun_with b.replay (grown_by b.case b.table (took g own (Some t)))
             else record {
               case = b.case;
               starting = weight_waits b.case b.starting p small t;
@@ -188,32 +186,32 @@ module _ (r : Rules) where
 
   abbrev pub refused_by : Between → Refusal → Option Refusal → StepCall
   refused_by b x lent = record {
-    answer = Outcome.Refused x;
+    answer = Err x;
     after = record {
       case = b.case;
-      starting = elim lent [ none ↦ waiting_at b.case b.starting b.replay.joining | some y ↦ b.starting ];
+      starting = elim lent [ None ↦ waiting_at b.case b.starting b.replay.joining | Some y ↦ b.starting ];
       table = b.table;
       replay = refused_replay b.replay x;
     };
   }
 
   abbrev pub step_by : Between → LineAsked → Option Refusal → StepCall
-  step_by b asked none = record { answer = Outcome.Done; after = asked.next }
-  step_by b asked (some x) = refused_by b x (lent_number b)
+  step_by b asked None = record { answer = Ok tt; after = asked.next }
+  step_by b asked (Some x) = refused_by b x (lent_number b)
 
   abbrev pub step_line : Between → Option Line → StepCall
-  step_line b none = refused_by b NotInColumns (lent_number b)
-  step_line b (some t) =
+  step_line b None = refused_by b NotInColumns (lent_number b)
+  step_line b (Some t) =
       let asked = of_line b b.replay.joining t in
       step_by b asked (sooner (lent_number b) (first_refusal asked.tests))
 
   -- a number that stands is the answer to every line, and nothing changes any more
   abbrev pub stands : Between → Refusal → StepCall
-  stands b x = record { answer = Outcome.Refused x; after = b }
+  stands b x = record { answer = Err x; after = b }
 
-  abbrev pub step_standing : Between → List ℕ → Standing → StepCall
-  step_standing b bytes (Standing.Refused x) = stands b x
-  step_standing b bytes Standing.Good = step_line b (read_line r.amount_width bytes)
+  abbrev pub step_standing : Between → List ℕ → Result ⊤ Refusal → StepCall
+  step_standing b bytes (Err x) = stands b x
+  step_standing b bytes (Ok tt) = step_line b (read_line r.amount_width bytes)
 
   unfoldable pub step_replay : Between → List ℕ → StepCall
   step_replay b bytes = step_standing b bytes b.replay.stretch.standing
@@ -226,15 +224,15 @@ module _ (r : Rules) where
   is_cut_short p (Joining.Lines edges due) = true
 
   abbrev pub end_lent : Between → Option Refusal → EndCall
-  end_lent b (some x) = record { answer = Outcome.Refused x; starting = b.starting }
-  end_lent b none =
+  end_lent b (Some x) = record { answer = Err x; starting = b.starting }
+  end_lent b None =
       if is_cut_short b.replay b.replay.joining
-      then record { answer = Outcome.Refused CutShort; starting = waiting_at b.case b.starting b.replay.joining }
-      else record { answer = Outcome.Done; starting = b.starting }
+      then record { answer = Err CutShort; starting = waiting_at b.case b.starting b.replay.joining }
+      else record { answer = Ok tt; starting = b.starting }
 
-  abbrev pub end_standing : Between → Standing → EndCall
-  end_standing b (Standing.Refused x) = record { answer = Outcome.Refused x; starting = b.starting }
-  end_standing b Standing.Good = end_lent b (lent_number b)
+  abbrev pub end_standing : Between → Result ⊤ Refusal → EndCall
+  end_standing b (Err x) = record { answer = Err x; starting = b.starting }
+  end_standing b (Ok tt) = end_lent b (lent_number b)
 
   unfoldable pub end_replay : Between → EndCall
   end_replay b = end_standing b b.replay.stretch.standing
@@ -246,7 +244,7 @@ module _ (r : Rules) where
   after_lines b (t ∷ ts) = after_lines (step_replay b t).after ts
 
   -- each line's answer
-  abbrev pub line_answers : Between → List (List ℕ) → List Outcome
+  abbrev pub line_answers : Between → List (List ℕ) → List (Result ⊤ Refusal)
   line_answers b [] = []
   line_answers b (t ∷ ts) = (step_replay b t).answer ∷ line_answers (step_replay b t).after ts
 
@@ -259,15 +257,15 @@ module _ (r : Rules) where
 
   -- ---- a block: the fold over its whole lines; with none, the number that stands, else 3 to 8 and 15 of what was handed over
 
-  abbrev pub lent_standing : Between → Standing → Option Refusal
-  lent_standing b (Standing.Refused x) = some x
-  lent_standing b Standing.Good = lent_number b
+  abbrev pub lent_standing : Between → Result ⊤ Refusal → Option Refusal
+  lent_standing b (Err x) = Some x
+  lent_standing b (Ok tt) = lent_number b
 
   abbrev pub no_line : Between → Option Refusal → BlockCall
-  no_line b none = record { lines = 0; answer = Outcome.Done; after = b }
-  no_line b (some x) = record {
+  no_line b None = record { lines = 0; answer = Ok tt; after = b }
+  no_line b (Some x) = record {
     lines = 0;
-    answer = Outcome.Refused x;
+    answer = Err x;
     after = record { case = b.case; starting = b.starting; table = b.table; replay = refused_replay b.replay x };
   }
 

@@ -1,6 +1,6 @@
 -- Samples of the replay's calls on all input, with links that leave and join (document 02, change 5), in tables as those of Borders. Assumes
 -- nothing.
-use Rattle.std.specs.Prelude.{refl, Bool, true, false, ◌&&◌, List, [], ◌∷◌, ◌++◌, map, ℕ, ◌+◌, ◌-◌, ℤ, pos, eqb, length, take, replicate, if◌then◌else◌}
+use Rattle.std.specs.Prelude.{refl, Bool, true, false, ◌&&◌, List, [], ◌∷◌, ◌++◌, map, ℕ, ◌+◌, ◌-◌, ℤ, pos, eqb, length, take, replicate, if◌then◌else◌, Ok, None}
 use Rattle.integers.specs.Words.{joined, minus}
 use Rattle.definitions.specs.Rules.{standard}
 use Rattle.definitions.specs.Answers.{outcome_says}
@@ -12,10 +12,8 @@ use Rattle.definitions.specs.BarredBorders.{B}
 use Rattle.definitions.specs.LengthBorders.{put_at, carrying, C1, small, crowd}
 use Rattle.logs.specs.LeaveSamples.{ToldCase, told_case, paired}
 use Rattle.case_lines.specs.declared.Awaited.{Awaited}
-use Rattle.checker.specs.declared.LastRaised.{LastRaised}
 use Rattle.checker.specs.declared.Target.{Target}
 use Rattle.checker.specs.declared.Due.{Due}
-use Rattle.checker.specs.declared.Standing.{Standing}
 use Rattle.checker.specs.declared.Replay.{Replay as Stretch}
 use Rattle.checker.specs.Checker.{none_raised, standing_says, fresh_replay as fresh_stretch}
 use Rattle.log_checker.specs.declared.Joining.{Joining}
@@ -25,7 +23,7 @@ use Rattle.log_checker.specs.Checker.{Between, fresh_replay, step_replay, end_re
 
 -- a record of a stretch, with a round's start of 6
 abbrev stretch_at : ℕ → Bool → Due → Stretch
-stretch_at rounds moved due = record { rounds = rounds; start = pos 6; moved = moved; raised = none_raised; due = due; standing = Standing.Good }
+stretch_at rounds moved due = record { rounds = rounds; start = pos 6; moved = moved; raised = none_raised; due = due; standing = (Ok tt) }
 
 abbrev quiet : Stretch
 quiet = stretch_at 0 false Due.MoveOrBound
@@ -93,7 +91,7 @@ pub records :
     ∷ lent (middle 2 (ends 0) (255 ∷ []) (tens 1)) is 0 ∷ lent (middle 2 (ends 1) (0 ∷ 255 ∷ []) (tens 2)) is 0
     -- 5: a stretch that is not between rounds, too many rounds, a carry
     ∷ lent (handing small small (stretch_at 0 true Due.MoveOrBound) (Joining.Lines 2 link) []) is 5
-    ∷ lent (handing small small (stretch_at 0 false (Due.Raise 0 (Target.Press (pos 1)) 1 LastRaised.Nothing)) (Joining.Lines 2 link) []) is 5
+    ∷ lent (handing small small (stretch_at 0 false (Due.Raise 0 (Target.Press (pos 1)) 1 None)) (Joining.Lines 2 link) []) is 5
     ∷ lent (handing small small (stretch_at 0 false Due.Nothing) (Joining.Lines 2 link) []) is 5
     ∷ lent (handing small small (stretch_at 999_999_999_999_999_999 false Due.MoveOrBound) (Joining.Lines 2 link) []) is 0
     ∷ lent (handing small small (stretch_at 1_000_000_000_000_000_000 false Due.MoveOrBound) (Joining.Lines 2 link) []) is 5
@@ -245,7 +243,7 @@ pub kept :
     -- no join: between rounds, after a move, in a press, after a void line; 4, 5, 8 and 15 before 14
     ∷ ended (handing small small quiet Joining.Nothing []) is waits 0 0
     ∷ ended (handing small small (stretch_at 0 true Due.MoveOrBound) Joining.Nothing []) is waits 14 0
-    ∷ ended (handing small small (stretch_at 0 false (Due.Raise 0 (Target.Press (pos 1)) 1 LastRaised.Nothing)) Joining.Nothing []) is waits 14 0
+    ∷ ended (handing small small (stretch_at 0 false (Due.Raise 0 (Target.Press (pos 1)) 1 None)) Joining.Nothing []) is waits 14 0
     ∷ ended (handing small small (stretch_at 0 true Due.Nothing) Joining.Nothing []) is waits 0 0
     ∷ ended (handing (waiting (tens 1)) small (stretch_at 0 true Due.MoveOrBound) Joining.Nothing []) is waits 8 1
     ∷ ended (handing small (with_table small []) (stretch_at 0 true Due.MoveOrBound) Joining.Nothing []) is waits 4 0
@@ -262,7 +260,7 @@ pub orders :
     let past : Input = put_at 3 (pos 1) small in
     let barred : Input = put_at 0 B small in
     let in_press : Input → Between =
-    λ i. handing i i (stretch_at 0 true (Due.Raise 0 (Target.Press (pos 1)) 1 LastRaised.Nothing)) Joining.Nothing [] in
+    λ i. handing i i (stretch_at 0 true (Due.Raise 0 (Target.Press (pos 1)) 1 None)) Joining.Nothing [] in
     Hold
     ( -- a line's 1 and 2 before all; 3 of the line before 4, after 3; 5 of the line after 4, before 8
     number (none wide small) [] is 1 ∷ number (none (given 49 1 0 [] [] []) small) (l 7 0 0 0 1) is 2

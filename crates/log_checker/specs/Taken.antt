@@ -1,12 +1,9 @@
 -- What the private functions answer: a step of the stretch with the rest as it was, and a block with lines before it. Assumes nothing.
-use Rattle.std.specs.Prelude.{◌≡◌, Bool, ◌||◌, ℕ, ◌+◌}
-use Rattle.std.proofs.Math.Option.{Option, none}
+use Rattle.std.specs.Prelude.{◌≡◌, Bool, ◌||◌, ℕ, ◌+◌, Ok, Err, Option, None}
 use Rattle.definitions.specs.declared.Line.{Line}
 use Rattle.definitions.specs.declared.Refusal.{Refusal}
-use Rattle.definitions.specs.declared.Outcome.{Outcome}
 use Rattle.definitions.specs.Rules.{rules_of}
 use Rattle.definitions.specs.Lines.{has_kind}
-use Rattle.checker.specs.declared.Standing.{Standing}
 use Rattle.checker.specs.declared.Replay.{Replay as Stretch}
 use Rattle.checker.specs.Checker.{StepCall as StretchCall, BlockCall as StretchLines}
 use Rattle.log_checker.specs.declared.Joining.{Joining}
@@ -14,8 +11,8 @@ use Rattle.log_checker.specs.Checker.{Between, StepCall, BlockCall, with_stretch
 
 -- no number stands, and none applies to what was handed over
 pub record Lent (b : Between) : Type 0 where
-  pub good : b.replay.stretch.standing ≡ Standing.Good
-  pub unrefused : lent_number (rules_of b.case) b ≡ none
+  pub good : b.replay.stretch.standing ≡ Ok tt
+  pub unrefused : lent_number (rules_of b.case) b ≡ None
 
 -- and no join is begun
 pub record Settled (b : Between) : Type 0 where
@@ -30,7 +27,7 @@ standing_good s = record {
   moved = s.moved;
   raised = s.raised;
   due = s.due;
-  standing = Standing.Good;
+  standing = Ok tt;
 }
 
 -- a link leaves or joins
@@ -40,7 +37,7 @@ changes_links t = has_kind 7 t || has_kind 8 t
 -- nothing changes but the standing
 abbrev pub step_refused : Between → Refusal → StepCall
 step_refused b x = record {
-  answer = Outcome.Refused x;
+  answer = Err x;
   after = record { case = b.case; starting = b.starting; table = b.table; replay = refused_replay b.replay x };
 }
 

@@ -4,7 +4,7 @@
 
 use case_lines::Awaited;
 use checker::Replay;
-use definitions::{Case, EDGE_PLACES, Outcome};
+use definitions::{Case, EDGE_PLACES, Refusal};
 
 // The join begun: how many edges it has, and the line of it that is due.
 #[derive(Clone, Copy)]
@@ -26,7 +26,7 @@ pub struct LogRecord {
 pub struct Stepped {
     pub replay: LogRecord,
     pub case: Case,
-    pub answer: Outcome,
+    pub answer: Result<(), Refusal>,
 }
 
 // The record and the case after a block of lines, how many lines got no number, and the first refusal.
@@ -35,5 +35,5 @@ pub struct Block {
     pub replay: LogRecord,
     pub case: Case,
     pub lines: usize,
-    pub answer: Outcome,
+    pub answer: Result<(), Refusal>,
 }

@@ -1,8 +1,8 @@
 -- The checker's promise holds for every valid case and every list of byte strings, whoever wrote them. Assumes nothing.
+use Rattle.std.specs.Prelude.{Ok, Option, Some, None}
 use mathlib.Core.Path.{◌≡◌, refl, sym, ap, subst, ◌∙◌}
 use mathlib.Core.Bool.{Bool, true, false, not, ◌&&◌}
 use mathlib.Core.Logic.{◌↔◌}
-use mathlib.Core.Option.{Option, none, some}
 use mathlib.Core.List.{List, [], ◌∷◌, ◌++◌, map}
 use Prim.Native.Nat.{ℕ}
 use native.Mathlib.Omega.{arith}
@@ -14,8 +14,6 @@ use Rattle.integers.specs.Linear.{flat, zs, ◌▸◌}
 use Rattle.integers.specs.Lists.{map-map, map-cong}
 use Rattle.definitions.specs.declared.Case.{Case}
 use Rattle.definitions.specs.declared.Refusal.{Refusal}
-use Rattle.definitions.specs.declared.Outcome.{Outcome}
-use Rattle.definitions.specs.declared.Figure.{Figure}
 use Rattle.definitions.specs.Rules.{Rules, coherent, rules_of}
 use Rattle.definitions.specs.Answers.{outcome_of, outcome_says, figure_says}
 use Rattle.definitions.specs.Case.{own_length, upper_bound}
@@ -41,27 +39,27 @@ use Rattle.checker_promise.proofs.Folds.{handed-unrefused}
 use Rattle.log_promise.proofs.LogAgrees.{AgreesLog, agrees-fresh, fold-agrees, answers_agree, end-agrees, end-starting}
 
 -- the library's upper bound of a table that every call takes
-bound-answered : {r : Rules} (c : Case) (v : List ℤ) → Handed r (working_weight r) c v → upper_bound_answer r c v ≡ Figure.Value (upper_bound c v)
+bound-answered : {r : Rules} (c : Case) (v : List ℤ) → Handed r (working_weight r) c v → upper_bound_answer r c v ≡ Ok (upper_bound c v)
 unfolding upper_bound_answer
 bound-answered {r} c v h = ap (λ (o : Option Refusal). figure_of o (upper_bound c v)) (handed-unrefused h)
 
 outcome-says : (o : Option Refusal) → outcome_says (outcome_of o) ≡ number_says o
-outcome-says none = refl
-outcome-says (some x) = refl
+outcome-says None = refl
+outcome-says (Some x) = refl
 
-done_none : (o : Option Refusal) → outcome_of o ≡ Outcome.Done → o ≡ none
-done_none none e = refl
-done_none (some x) e = cc
+done_none : (o : Option Refusal) → outcome_of o ≡ Ok tt → o ≡ None
+done_none None e = refl
+done_none (Some x) e = cc
 
 nothing-void : (v : Bool) (h : Option Held) → due_of v h ≡ Due.Nothing ↔ T v
 nothing-void true h = (λ e. tt, λ t. refl)
-nothing-void false none = (λ e. let z : ◌≡◌ {A = ℕ} 0 1 = cc in absurd (omega arith), λ t. absurd t)
-nothing-void false (some h) = (λ e. let z : ◌≡◌ {A = ℕ} 0 1 = cc in absurd (omega arith), λ t. absurd t)
+nothing-void false None = (λ e. let z : ◌≡◌ {A = ℕ} 0 1 = cc in absurd (omega arith), λ t. absurd t)
+nothing-void false (Some h) = (λ e. let z : ◌≡◌ {A = ℕ} 0 1 = cc in absurd (omega arith), λ t. absurd t)
 
 over-due : (v : Bool) (h : Option Held) → is_void (due_of v h) ≡ v
 over-due true h = refl
-over-due false none = refl
-over-due false (some h) = refl
+over-due false None = refl
+over-due false (Some h) = refl
 
 -- ---- lists of lines
 
@@ -94,12 +92,12 @@ module _ (r : Rules) where
       never false = tt
 
 -- no number at the end: none before it
-end_none : (s : LogState) → log_end s ≡ none → s.stretch.refusal ≡ none
+end_none : (s : LogState) → log_end s ≡ None → s.stretch.refusal ≡ None
 end_none s e = go s.stretch.refusal refl
   where
-    go : (o : Option Refusal) → s.stretch.refusal ≡ o → s.stretch.refusal ≡ none
-    go none d = d
-    go (some x) d = let f : log_end s ≡ some x = rw d in absurd (none-some (sym e ∙ f))
+    go : (o : Option Refusal) → s.stretch.refusal ≡ o → s.stretch.refusal ≡ None
+    go None d = d
+    go (Some x) d = let f : log_end s ≡ Some x = rw d in absurd (none-some (sym e ∙ f))
 
 module _ (c : Case) (w : List ℤ) (t : T (valid (rules_of c) c w)) where
   abbrev r : Rules
@@ -146,7 +144,7 @@ module _ (c : Case) (w : List ℤ) (t : T (valid (rules_of c) c w)) where
       λ k.
           let e = (none-iff (log_end left)).0 k in
           record {
-            each = answers-are ∙ ap (map outcome_of) ((log-no-number r (fresh_log c w) ts).0 (end_none left e)).1 ∙ map-map outcome_of (λ t. none) ts;
+            each = answers-are ∙ ap (map outcome_of) ((log-no-number r (fresh_log c w) ts).0 (end_none left e)).1 ∙ map-map outcome_of (λ t. None) ts;
             end = end_is ∙ ap outcome_of e;
           },
     )

@@ -2,7 +2,6 @@
 -- anywhere. This holds of everything that stands between lines beside a state of the plain replay, of a fresh record first. Assumes nothing.
 use mathlib.Core.Path.{◌≡◌, refl, sym, ap, subst, ◌∙◌}
 use mathlib.Core.Bool.{false}
-use mathlib.Core.Option.{Option, none, some}
 use mathlib.Core.List.Memᴰ
 use mathlib.Core.List.{List, [], ◌∷◌, ◌++◌, append_assoc}
 use Prim.Native.Nat.{ℕ, zero, suc, ◌+◌, ◌/◌}
@@ -13,18 +12,16 @@ use lib.Dec.{eqb}
 use lib.ListN.{length, take, drop, length-append}
 use borrow.Author.Tests.{ne_eqb}
 use lib.Seq.{take_at, drop_at}
-use Rattle.std.specs.Prelude.{if◌then◌else◌}
+use Rattle.std.specs.Prelude.{if◌then◌else◌, Result, Ok, Err, Option, Some, None, ⊤}
 use Rattle.integers.specs.Words.{joined}
 use Rattle.integers.specs.Options.{none-some}
 use Rattle.integers.specs.Lists.{◌∈◌}
 use Rattle.integers.specs.Tables.{Parts as InParts}
 use Rattle.definitions.specs.declared.Refusal.{Refusal}
-use Rattle.definitions.specs.declared.Outcome.{Outcome}
 use Rattle.definitions.specs.Rules.{Rules}
 use Rattle.definitions.specs.Lines.{line_length, cut_lines, whole_lines, lines_in, has_part}
 use Rattle.definitions.specs.Answers.{outcome_of}
 use Rattle.logs.specs.Logs.{LogState, step_log, after_log}
-use Rattle.checker.specs.declared.Standing.{Standing}
 use Rattle.checker.specs.declared.Replay.{Replay as Stretch}
 use Rattle.checker.specs.Checker.{standing_of, taken_lines, first_refused}
 use Rattle.checker.proofs.Fold.{stands}
@@ -55,23 +52,23 @@ lines-append width xs ys whole =
 -- ---- answers one after the other
 
 -- the first refusal of two
-abbrev pub or_else : Outcome → Outcome → Outcome
-or_else Outcome.Done o = o
-or_else (Outcome.Refused x) o = Outcome.Refused x
+abbrev pub or_else : Result ⊤ Refusal → Result ⊤ Refusal → Result ⊤ Refusal
+or_else (Ok tt) o = o
+or_else (Err x) o = Err x
 
-first-append : (os ps : List Outcome) → first_refused (os ++ ps) ≡ or_else (first_refused os) (first_refused ps)
+first-append : (os ps : List (Result ⊤ Refusal)) → first_refused (os ++ ps) ≡ or_else (first_refused os) (first_refused ps)
 first-append [] ps = refl
-first-append (Outcome.Done ∷ os) ps = first-append os ps
-first-append (Outcome.Refused x ∷ os) ps = refl
+first-append ((Ok tt) ∷ os) ps = first-append os ps
+first-append (Err x ∷ os) ps = refl
 
 module _ (r : Rules) where
   -- a record that stands refused answers every line by the same refusal
-  step-stands : (b : Between) {x : Refusal} → b.replay.stretch.standing ≡ Standing.Refused x → (t : List ℕ)
-      → step_replay r b t ≡ record { answer = Outcome.Refused x; after = b }
+  step-stands : (b : Between) {x : Refusal} → b.replay.stretch.standing ≡ Err x → (t : List ℕ)
+      → step_replay r b t ≡ record { answer = Err x; after = b }
   unfolding step_replay
   step-stands b e t = rw e
 
-  none-taken : (b : Between) {x : Refusal} → b.replay.stretch.standing ≡ Standing.Refused x → (us : List (List ℕ)) → taken_lines (line_answers r b us) ≡ 0
+  none-taken : (b : Between) {x : Refusal} → b.replay.stretch.standing ≡ Err x → (us : List (List ℕ)) → taken_lines (line_answers r b us) ≡ 0
   none-taken b e [] = refl
   none-taken b e (u ∷ us) = rw (step-stands b e u)
 
@@ -81,7 +78,7 @@ module _ (r : Rules) where
 
   pub answers-append : (b : Between) (ts us : List (List ℕ)) → line_answers r b (ts ++ us) ≡ line_answers r b ts ++ line_answers r (after_lines r b ts) us
   answers-append b [] us = refl
-  answers-append b (t ∷ ts) us = ap (λ (os : List Outcome). (step_replay r b t).answer ∷ os) (answers-append (step_replay r b t).after ts us)
+  answers-append b (t ∷ ts) us = ap (λ (os : List (Result ⊤ Refusal)). (step_replay r b t).answer ∷ os) (answers-append (step_replay r b t).after ts us)
 
   taken-append : (b : Between) (ts us : List (List ℕ))
       → taken_lines (line_answers r b ts ++ line_answers r (after_lines r b ts) us)
@@ -92,16 +89,16 @@ module _ (r : Rules) where
       next : Between
       next = (step_replay r b t).after
 
-      more : List Outcome
+      more : List (Result ⊤ Refusal)
       more = line_answers r next ts
 
-      rest : List Outcome
+      rest : List (Result ⊤ Refusal)
       rest = line_answers r (after_lines r next ts) us
 
-      go : (o : Outcome) → (step_replay r b t).answer ≡ o → taken_lines (more ++ rest) ≡ taken_lines more + taken_lines rest
+      go : (o : Result ⊤ Refusal) → (step_replay r b t).answer ≡ o → taken_lines (more ++ rest) ≡ taken_lines more + taken_lines rest
           → taken_lines (o ∷ (more ++ rest)) ≡ taken_lines (o ∷ more) + taken_lines rest
-      go Outcome.Done e i = omega arith
-      go (Outcome.Refused x) e i =
+      go (Ok tt) e i = omega arith
+      go (Err x) e i =
           let s = refused-stands r b t e in
           sym (zero-add (taken_lines rest) ∙ ap (λ (d : Between). taken_lines (line_answers r d us)) (all_stay r next s ts) ∙ none-taken next s us)
 
@@ -147,7 +144,7 @@ module _ (r : Rules) where
     some-line n = rw (ne_eqb (suc n) 0 (λ e. omega arith))
 
     -- where no number applies to what is handed over, a block is the fold
-    pub block-lent : lent_standing r b b.replay.stretch.standing ≡ none → block_replay r b bytes ≡ fold_replay r b bytes
+    pub block-lent : lent_standing r b b.replay.stretch.standing ≡ None → block_replay r b bytes ≡ fold_replay r b bytes
     unfolding fold_replay block_replay
     block-lent e = go (whole_lines width bytes)
       where
@@ -156,17 +153,17 @@ module _ (r : Rules) where
         go (suc n) = some-line n
 
     -- a record that stands refused stays, and is answered by the same refusal
-    module _ {x : Refusal} (e : b.replay.stretch.standing ≡ Standing.Refused x) where
-      block-stands : block_replay r b bytes ≡ record { lines = 0; answer = Outcome.Refused x; after = b }
+    module _ {x : Refusal} (e : b.replay.stretch.standing ≡ Err x) where
+      block-stands : block_replay r b bytes ≡ record { lines = 0; answer = Err x; after = b }
       unfolding fold_replay block_replay
       block-stands = go (whole_lines width bytes)
         where
-          go : (n : ℕ) → block_at n ≡ record { lines = 0; answer = Outcome.Refused x; after = b }
+          go : (n : ℕ) → block_at n ≡ record { lines = 0; answer = Err x; after = b }
           go zero =
-              ap (λ (s : Standing). no_line r b (lent_standing r b s)) e
+              ap (λ (s : Result ⊤ Refusal). no_line r b (lent_standing r b s)) e
               ∙ ap (λ (q : Stretch). record {
                 lines = 0;
-                answer = Outcome.Refused x;
+                answer = Err x;
                 after = record {
                   case = b.case;
                   starting = b.starting;
@@ -189,9 +186,9 @@ module _ (r : Rules) where
     pub agrees-standing : b.replay.stretch.standing ≡ standing_of s.stretch.refusal
     agrees-standing = ap (λ (b : Between). b.replay.stretch.standing) a.same
 
-    pub agrees-lent : s.stretch.refusal ≡ none → lent_standing r b b.replay.stretch.standing ≡ none
+    pub agrees-lent : s.stretch.refusal ≡ None → lent_standing r b b.replay.stretch.standing ≡ None
     agrees-lent e =
-        ap (lent_standing r b) (agrees-standing ∙ ap standing_of e) ∙ subst (λ (x : Between). lent_number r x ≡ none) (sym a.same) (a.parts.lent e)
+        ap (lent_standing r b) (agrees-standing ∙ ap standing_of e) ∙ subst (λ (x : Between). lent_number r x ≡ None) (sym a.same) (a.parts.lent e)
 
   -- a block keeps the agreement
   module _ {s : LogState} {b : Between} (a : AgreesLog r s b) (bytes : List ℕ) where
@@ -206,27 +203,27 @@ module _ (r : Rules) where
     block-agrees = go s.stretch.refusal refl
       where
         go : (o : Option Refusal) → s.stretch.refusal ≡ o → (u : LogState) × AgreesLog r u (block_replay r b bytes).after
-        go none e = (later, subst (λ (x : BlockCall). AgreesLog r later x.after) (sym (block-lent b bytes (agrees-lent a e))) fold-later)
-        go (some x) e =
+        go None e = (later, subst (λ (x : BlockCall). AgreesLog r later x.after) (sym (block-lent b bytes (agrees-lent a e))) fold-later)
+        go (Some x) e =
             (s, subst (λ (k : BlockCall). AgreesLog r s k.after) (sym (block-stands b bytes (agrees-standing a ∙ ap standing_of e))) a)
 
 -- where no line was answered by a number, none has applied
-none-applied : {r : Rules} {s : LogState} {b : Between} → AgreesLog r s b → (ts : List (List ℕ)) → s.stretch.refusal ≡ none
-    → first_refused (line_answers r b ts) ≡ Outcome.Done → (after_log r s ts).stretch.refusal ≡ none
+none-applied : {r : Rules} {s : LogState} {b : Between} → AgreesLog r s b → (ts : List (List ℕ)) → s.stretch.refusal ≡ None
+    → first_refused (line_answers r b ts) ≡ Ok tt → (after_log r s ts).stretch.refusal ≡ None
 none-applied a [] e d = e
 none-applied {r} {s} {b} a (t ∷ ts) e d = go (step_log r s t).stretch.refusal refl (answer-agrees a t) (none-applied {s = step_log r s t} (agrees-step a t) ts)
   where
-    first : Outcome → Outcome
+    first : Result ⊤ Refusal → Result ⊤ Refusal
     first o = first_refused (o ∷ line_answers r (step_replay r b t).after ts)
 
     go : (o : Option Refusal) → (step_log r s t).stretch.refusal ≡ o → (step_replay r b t).answer ≡ outcome_of (step_log r s t).stretch.refusal
-        → ((step_log r s t).stretch.refusal ≡ none → first_refused (line_answers r (step_replay r b t).after ts) ≡ Outcome.Done
-        → (after_log r (step_log r s t) ts).stretch.refusal ≡ none) → (after_log r (step_log r s t) ts).stretch.refusal ≡ none
-    go none f g more = more f (sym (ap first (g ∙ ap outcome_of f)) ∙ d)
-    go (some x) f g more = let z = sym (ap first (g ∙ ap outcome_of f)) ∙ d in cc
+        → ((step_log r s t).stretch.refusal ≡ None → first_refused (line_answers r (step_replay r b t).after ts) ≡ Ok tt
+        → (after_log r (step_log r s t) ts).stretch.refusal ≡ None) → (after_log r (step_log r s t) ts).stretch.refusal ≡ None
+    go None f g more = more f (sym (ap first (g ∙ ap outcome_of f)) ∙ d)
+    go (Some x) f g more = let z = sym (ap first (g ∙ ap outcome_of f)) ∙ d in cc
 
-pub fold-none : {r : Rules} {s : LogState} {b : Between} (a : AgreesLog r s b) (bytes : List ℕ) → s.stretch.refusal ≡ none
-    → (fold_replay r b bytes).answer ≡ Outcome.Done → (later r a bytes).stretch.refusal ≡ none
+pub fold-none : {r : Rules} {s : LogState} {b : Between} (a : AgreesLog r s b) (bytes : List ℕ) → s.stretch.refusal ≡ None
+    → (fold_replay r b bytes).answer ≡ Ok tt → (later r a bytes).stretch.refusal ≡ None
 unfolding fold_replay
 fold-none {r} a bytes e d = none-applied a (lines_in r.amount_width bytes) e d
 
@@ -239,22 +236,22 @@ module _ {r : Rules} where
     second = fold_replay r first.after ys
 
     -- the second block after the first fold
-    second_is : s.stretch.refusal ≡ none → then_block r first second ≡ then_block r first (block_replay r first.after ys)
+    second_is : s.stretch.refusal ≡ None → then_block r first second ≡ then_block r first (block_replay r first.after ys)
     second_is e = go (later r a xs).stretch.refusal refl
       where
         go : (o : Option Refusal) → (later r a xs).stretch.refusal ≡ o → then_block r first second ≡ then_block r first (block_replay r first.after ys)
-        go none f = ap (then_block r first) (sym (block-lent r first.after ys (agrees-lent r (fold-later r a xs) f)))
-        go (some x) f =
-            let z : first.after.replay.stretch.standing ≡ Standing.Refused x = agrees-standing r (fold-later r a xs) ∙ ap standing_of f in
+        go None f = ap (then_block r first) (sym (block-lent r first.after ys (agrees-lent r (fold-later r a xs) f)))
+        go (Some x) f =
+            let z : first.after.replay.stretch.standing ≡ Err x = agrees-standing r (fold-later r a xs) ∙ ap standing_of f in
             told first.answer refl z
           where
-            told : (o : Outcome) → first.answer ≡ o → first.after.replay.stretch.standing ≡ Standing.Refused x
+            told : (o : Result ⊤ Refusal) → first.answer ≡ o → first.after.replay.stretch.standing ≡ Err x
                 → then_block r first second ≡ then_block r first (block_replay r first.after ys)
-            told Outcome.Done d z = absurd (none-some (sym (fold-none a xs e d) ∙ f))
-            told (Outcome.Refused y) d z =
+            told (Ok tt) d z = absurd (none-some (sym (fold-none a xs e d) ∙ f))
+            told (Err y) d z =
                 ap (then_block r first) (fold-stands r first.after ys z)
-                ∙ ap (λ (o : Outcome). record { lines = first.lines + 0; answer = or_else o second.answer; after = first.after }) d
-                ∙ sym (ap (λ (o : Outcome). record { lines = first.lines + 0; answer = or_else o (Outcome.Refused x); after = first.after }) d)
+                ∙ ap (λ (o : Result ⊤ Refusal). record { lines = first.lines + 0; answer = or_else o second.answer; after = first.after }) d
+                ∙ sym (ap (λ (o : Result ⊤ Refusal). record { lines = first.lines + 0; answer = or_else o (Err x); after = first.after }) d)
                 ∙ ap (then_block r first) (sym (block-stands r first.after ys z))
 
     pub blocks-join : block_replay r b (xs ++ ys) ≡ then_block r (block_replay r b xs) (block_replay r (block_replay r b xs).after ys)
@@ -262,10 +259,10 @@ module _ {r : Rules} where
       where
         go : (o : Option Refusal) → s.stretch.refusal ≡ o
             → block_replay r b (xs ++ ys) ≡ then_block r (block_replay r b xs) (block_replay r (block_replay r b xs).after ys)
-        go (some x) e =
+        go (Some x) e =
             let z = agrees-standing r a ∙ ap standing_of e in
             rw (block-stands r b (xs ++ ys) z, block-stands r b xs z) (rw (block-stands r b ys z))
-        go none e =
+        go None e =
             let l = agrees-lent r a e in
             rw (block-lent r b (xs ++ ys) l, block-lent r b xs l) (folds-join r b xs ys whole ∙ second_is e)
 

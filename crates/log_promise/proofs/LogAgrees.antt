@@ -3,7 +3,6 @@
 use mathlib.Core.Path.{◌≡◌, refl, sym, ap, ap₂, subst, ◌∙◌}
 use mathlib.Core.Bool.{Bool, true, false, not, ◌&&◌, ◌||◌}
 use mathlib.Core.Logic.{◌↔◌, ⊎_elim}
-use mathlib.Core.Option.{Option, none, some}
 use mathlib.Core.List.{List, [], ◌∷◌, map}
 use Prim.Native.Nat.{ℕ, zero, suc, ◌+◌, ◌-◌, ◌≤◌, ◌<◌}
 use native.Mathlib.Nat.{suc-sub-suc}
@@ -11,7 +10,7 @@ use native.Mathlib.Omega.{arith}
 use lib.IntN.{ℤ, pos, nat_abs}
 use lib.Dec.{T}
 use lib.ListN.{length, drop, length-drop, length-replicate}
-use Rattle.std.specs.Prelude.{if◌then◌else◌}
+use Rattle.std.specs.Prelude.{if◌then◌else◌, Ok, Err, Option, Some, None}
 use Rattle.integers.specs.Words.{is_some, eq_z}
 use Rattle.integers.specs.Linear.{T-eq}
 use Rattle.integers.specs.Tests.{is_true, is_false, either, and_left, and_right}
@@ -20,7 +19,6 @@ use Rattle.definitions.specs.declared.Case.{Case}
 use Rattle.definitions.specs.declared.Line.{Line}
 use Rattle.definitions.specs.declared.Refusal.{Refusal}
 use Rattle.definitions.specs.declared.Refusal.TheVariants.{NotInColumns, NotDue, CutShort}
-use Rattle.definitions.specs.declared.Outcome.{Outcome}
 use Rattle.definitions.specs.Rules.{Rules, coherent, rules_of, scopes_at_most, scope_places, edge_places}
 use Rattle.definitions.specs.Refusals.{first_refusal, sooner}
 use Rattle.definitions.specs.Answers.{outcome_of}
@@ -78,8 +76,8 @@ pub record JoinAt (c : Case) (w₀ : List ℤ) (edges : ℕ) (x : CaseDue) (lowe
   pub reading : j.reading ≡ read_so_far c w₀ edges x lower
 
 abbrev pub JoinSame : State → List ℤ → Joining → List ℕ → Option PlainJoin → Type 0
-JoinSame s w₀ join lower none = (join ≡ Joining.Nothing) × (w₀ ≡ s.starting)
-JoinSame s w₀ join lower (some j) =
+JoinSame s w₀ join lower None = (join ≡ Joining.Nothing) × (w₀ ≡ s.starting)
+JoinSame s w₀ join lower (Some j) =
     (edges : ℕ) × (due : Awaited) × (join ≡ Joining.Lines edges due) × JoinAt s.case w₀ edges (due_awaited due) lower j
 
 -- the parts agree with the state; a refused line leaves nothing to be asked
@@ -88,9 +86,9 @@ pub record Parts (r : Rules) (s : LogState) (bytes : List ℕ) (w₀ : List ℤ)
   pub long : length w₀ ≡ lent_length r s.stretch.case
   pub many : length lower ≡ edge_places
   pub starting : zeroed_from (own_length s.stretch.case) w₀ ≡ s.stretch.starting
-  pub cleared : (x : Refusal) → s.stretch.refusal ≡ some x → w₀ ≡ s.stretch.starting
-  pub lent : s.stretch.refusal ≡ none → lent_number r (log_between s bytes w₀ join lower) ≡ none
-  pub joins : s.stretch.refusal ≡ none → JoinSame s.stretch w₀ join lower s.joining
+  pub cleared : (x : Refusal) → s.stretch.refusal ≡ Some x → w₀ ≡ s.stretch.starting
+  pub lent : s.stretch.refusal ≡ None → lent_number r (log_between s bytes w₀ join lower) ≡ None
+  pub joins : s.stretch.refusal ≡ None → JoinSame s.stretch w₀ join lower s.joining
 
 pub record AgreesLog (r : Rules) (s : LogState) (b : Between) : Type 0 where
   pub bytes : List ℕ
@@ -115,12 +113,12 @@ between-alike : (s : State) (bytes : List ℕ) → is_between (record_of s bytes
 between-alike s bytes = go s.void s.held s.moving
   where
     go : (v : Bool) (h : Option Held) (m : Bool) → (not (is_short (due_of v h) m) && not (is_void (due_of v h))) ≡ (not (is_some h) && not m && not v)
-    go true none true = refl
-    go true none false = refl
-    go true (some h) m = refl
-    go false none true = refl
-    go false none false = refl
-    go false (some h) m = refl
+    go true None true = refl
+    go true None false = refl
+    go true (Some h) m = refl
+    go false None true = refl
+    go false None false = refl
+    go false (Some h) m = refl
 
 -- ---- a stretch's line in a log
 
@@ -135,16 +133,16 @@ module _ (r : Rules) (c : Case) (w₀ w : List ℤ) (p : Stretch) (lower : List 
   at = record { case = c; starting = w₀; table = w; replay = record { stretch = p; joining = Joining.Nothing; lower = lower } }
 
   -- nothing applies to what is handed over
-  both-lent : lent_number r at ≡ none ↔ BothHanded r c w₀ w × T (not (record_out r c p))
+  both-lent : lent_number r at ≡ None ↔ BothHanded r c w₀ w × T (not (record_out r c p))
   both-lent = (
     λ e. (both-handed r c w₀ w (record_out r c p)).0 ((none-iff (first_refusal (both_handed_over r c w₀ w (record_out r c p)))).1 e),
     λ h. (none-iff (first_refusal (both_handed_over r c w₀ w (record_out r c p)))).0 ((both-handed r c w₀ w (record_out r c p)).1 h),
   )
 
-  module _ (lent : lent_number r at ≡ none) where
+  module _ (lent : lent_number r at ≡ None) where
     by-lifts : (asked : Asked) (o : Option Refusal) (t : Line) → step_by r at (of_move r at asked t) o ≡ lifted at (stretch_by w p asked o)
-    by-lifts asked none t = refl
-    by-lifts asked (some x) t = rw lent
+    by-lifts asked None t = refl
+    by-lifts asked (Some x) t = rw lent
 
     number-lifts : (t : Line) → let asked = of_due r c w p p.due t in
         sooner (lent_number r at) (first_refusal (of_move r at asked t).tests) ≡ first_refusal (step_tests r c w p t asked)
@@ -152,11 +150,11 @@ module _ (r : Rules) (c : Case) (w₀ w : List ℤ) (p : Stretch) (lower : List 
         let (h, i) = both-lent.0 lent in
         let asked = of_due r c w p p.due t in
         let e = handed-first h.now asked.out asked.later in
-        rw (lent, is_false (record_out r c p) i) (ap (λ (o : Option Refusal). if not_due r (due_kinds p.due) t then some NotDue else o) (sym e))
+        rw (lent, is_false (record_out r c p) i) (ap (λ (o : Option Refusal). if not_due r (due_kinds p.due) t then Some NotDue else o) (sym e))
 
     line-lifts : (l : Option Line) → T (not (is_between p && moves_link l)) → step_line r at l ≡ lifted at (stretch_line r c w p l)
-    line-lifts none n = rw lent
-    line-lifts (some t) n =
+    line-lifts None n = rw lent
+    line-lifts (Some t) n =
         ap (λ (asked : LineAsked). step_by r at asked (sooner (lent_number r at) (first_refusal asked.tests))) (ordinary _ _ (is_between p) (is_kind 7 t) (is_kind 8 t) n)
         ∙ by-lifts (of_due r c w p p.due t) (sooner (lent_number r at) (first_refusal (of_move r at (of_due r c w p p.due t) t).tests)) t
         ∙ ap (λ (o : Option Refusal). lifted at (stretch_by w p (of_due r c w p p.due t) o)) (number-lifts t)
@@ -189,12 +187,12 @@ zeroed-again p w = zeroed-self p (zeroed_from p w) (zeroed-zeros p w)
 -- what waits goes, and the case's own weights are left
 waiting-goes : (s : State) (w₀ : List ℤ) (lower : List ℕ) → zeroed_from (own_length s.case) w₀ ≡ s.starting → (join : Joining) (o : Option PlainJoin)
     → JoinSame s w₀ join lower o → waiting_at s.case w₀ join ≡ s.starting
-waiting-goes s w₀ lower e Joining.Nothing none (f, g) = g
-waiting-goes s w₀ lower e Joining.Nothing (some j) (edges, due, f, g) = let z : ◌≡◌ {A = ℕ} 0 1 = cc in absurd (omega arith)
+waiting-goes s w₀ lower e Joining.Nothing None (f, g) = g
+waiting-goes s w₀ lower e Joining.Nothing (Some j) (edges, due, f, g) = let z : ◌≡◌ {A = ℕ} 0 1 = cc in absurd (omega arith)
 waiting-goes s w₀ lower e (Joining.Lines p due) o m = e
 
 module _ {r : Rules} {s : LogState} {bytes : List ℕ} {w₀ : List ℤ} {join : Joining} {lower : List ℕ} (k : Parts r s bytes w₀ join lower)
-    (unrefused : s.stretch.refusal ≡ none) where
+    (unrefused : s.stretch.refusal ≡ None) where
   abbrev here : Between
   here = log_between s bytes w₀ join lower
 
@@ -228,8 +226,8 @@ module _ {r : Rules} {s : LogState} {bytes : List ℕ} {w₀ : List ℤ} {join :
     ),
   )
 
-line-same-as : (r : Rules) (s : State) (l : Line) → T (not (between_rounds s && moves_link (some l)))
-    → line_between r s l ≡ in_stretch (step_unrefused r s (some l))
+line-same-as : (r : Rules) (s : State) (l : Line) → T (not (between_rounds s && moves_link (Some l)))
+    → line_between r s l ≡ in_stretch (step_unrefused r s (Some l))
 line-same-as r s l n = go (between_rounds s) (is_kind 7 l) (is_kind 8 l) _ _ _ n
   where
     go : (b seven eight : Bool) (x y u : LogState) → T (not (b && (seven || eight))) → (if b && seven then x else if b && eight then y else u) ≡ u
@@ -243,13 +241,13 @@ line-same-as r s l n = go (between_rounds s) (is_kind 7 l) (is_kind 8 l) _ _ _ n
 module _ {r : Rules} (placed : scopes_at_most r ≤ scope_places) where
   -- no number applies to what is handed over
   nothing_lent : {u : State} {bytes : List ℕ} → SoundLog r (in_stretch u) → MarkedIn r u bytes → (lower : List ℕ)
-      → lent_number r (log_between (in_stretch u) bytes u.starting Joining.Nothing lower) ≡ none
+      → lent_number r (log_between (in_stretch u) bytes u.starting Joining.Nothing lower) ≡ None
   nothing_lent {u} {bytes} v m lower = (both-lent r u.case u.starting u.weights (record_of u bytes) lower).1
       (v.both, record-in placed v.sound v.both.now m)
 
   -- a stretch begins
   new-reaches : (s : State) (bytes : List ℕ) (join : Joining) (lower : List ℕ) → length lower ≡ edge_places → (v : WeightedCase) → SoundLog r (new_stretch s v)
-      → Reaches r (record { answer = Outcome.Done; after = begun_with (record { stretch = record_of s bytes; joining = join; lower = lower }) v }) (new_stretch s v)
+      → Reaches r (record { answer = Ok tt; after = begun_with (record { stretch = record_of s bytes; joining = join; lower = lower }) v }) (new_stretch s v)
   new-reaches s bytes join lower many v sound =
       let m : MarkedIn r (new_stretch s v).stretch bytes = λ h e. absurd (none-some e) in (
         refl,
@@ -271,15 +269,15 @@ module _ {r : Rules} (placed : scopes_at_most r ≤ scope_places) where
         ),
       )
 
-  module _ {s : State} {bytes : List ℕ} {lower : List ℕ} (sound : SoundLog r (in_stretch s)) (unrefused : s.refusal ≡ none)
+  module _ {s : State} {bytes : List ℕ} {lower : List ℕ} (sound : SoundLog r (in_stretch s)) (unrefused : s.refusal ≡ None)
       (k : Parts r (in_stretch s) bytes s.starting Joining.Nothing lower) where
     abbrev now : Between
     now = log_between (in_stretch s) bytes s.starting Joining.Nothing lower
 
     leave-reaches : (t : Line) (o : Option Refusal) → SoundLog r (unless_number r (in_stretch s) (after_leave r s t) o)
         → Reaches r (step_by r now (of_leave r now t) o) (unless_number r (in_stretch s) (after_leave r s t) o)
-    leave-reaches t none v = new-reaches s bytes Joining.Nothing lower k.many (left_by r s.case (nat_abs t.a) s.starting s.weights) v
-    leave-reaches t (some x) v = refused-reaches k unrefused x
+    leave-reaches t None v = new-reaches s bytes Joining.Nothing lower k.many (left_by r s.case (nat_abs t.a) s.starting s.weights) v
+    leave-reaches t (Some x) v = refused-reaches k unrefused x
 
     -- a line of the stretch
     move-reaches : (bs : List ℕ) (l : Option Line) → read_line r.amount_width bs ≡ l → T (not (between_rounds s && moves_link l))
@@ -309,7 +307,7 @@ module _ {r : Rules} (placed : scopes_at_most r ≤ scope_places) where
               many = k.many;
               starting = ap (λ (c : Case). zeroed_from (own_length c) s.starting) c ∙ k.starting ∙ sym w;
               cleared = λ x e. sym w;
-              lent = λ f. subst (λ (w₀ : List ℤ). lent_number r (log_between (in_stretch u) marks w₀ Joining.Nothing lower) ≡ none) w (nothing_lent v m lower);
+              lent = λ f. subst (λ (w₀ : List ℤ). lent_number r (log_between (in_stretch u) marks w₀ Joining.Nothing lower) ≡ None) w (nothing_lent v m lower);
               joins = λ f. (refl, sym w);
             },
           ),
@@ -319,19 +317,19 @@ module _ {r : Rules} (placed : scopes_at_most r ≤ scope_places) where
     module _ (t : Line)
         (begins : (o : Option Refusal) → first_refusal (begin_join_tests r s t) ≡ o → SoundLog r (unless_number r (in_stretch s) (after_join s t) o)
         → Reaches r (step_by r now (of_join r now t) o) (unless_number r (in_stretch s) (after_join s t) o)) where
-      special-reaches : T (between_rounds s && moves_link (some t)) → SoundLog r (line_between r s t) → Reaches r (step_line r now (some t)) (line_between r s t)
+      special-reaches : T (between_rounds s && moves_link (Some t)) → SoundLog r (line_between r s t) → Reaches r (step_line r now (Some t)) (line_between r s t)
       special-reaches b v =
           rw (k.lent unrefused, between-alike s bytes, is_true (between_rounds s) (and_left (between_rounds s) _ b))
           (go (is_kind 7 t) (is_kind 8 t) (and_right (between_rounds s) _ b) (rw (is_true (between_rounds s) (and_left (between_rounds s) _ b)) at v))
         where
           go : (x y : Bool) → T (x || y)
               → SoundLog r (if x then unless_number r (in_stretch s) (after_leave r s t) (first_refusal (leave_line_tests r s t))
-              else if y then unless_number r (in_stretch s) (after_join s t) (first_refusal (begin_join_tests r s t)) else in_stretch (step_unrefused r s (some t)))
+              else if y then unless_number r (in_stretch s) (after_join s t) (first_refusal (begin_join_tests r s t)) else in_stretch (step_unrefused r s (Some t)))
               → Reaches r (let asked = if x then of_leave r now t else if y then of_join r now t
               else of_move r now (of_due r s.case s.weights (record_of s bytes) (due_of s.void s.held) t) t in
               step_by r now asked (first_refusal asked.tests))
               (if x then unless_number r (in_stretch s) (after_leave r s t) (first_refusal (leave_line_tests r s t))
-              else if y then unless_number r (in_stretch s) (after_join s t) (first_refusal (begin_join_tests r s t)) else in_stretch (step_unrefused r s (some t)))
+              else if y then unless_number r (in_stretch s) (after_join s t) (first_refusal (begin_join_tests r s t)) else in_stretch (step_unrefused r s (Some t)))
           go true y q v = leave-reaches t (first_refusal (leave_line_tests r s t)) v
           go false true q v = begins (first_refusal (begin_join_tests r s t)) refl v
           go false false q v = absurd q
@@ -345,10 +343,10 @@ drop_all (suc n) [] h = refl
 drop_all (suc n) (x ∷ xs) h = drop_all n xs (omega arith)
 
 -- no number applies in the middle of a join
-waits : (r : Rules) (s : LogState) (j : PlainJoin) → SoundLog r s → s.joining ≡ some j → (w₀ : List ℤ) (edges : ℕ) (x : CaseDue) (lower : List ℕ)
+waits : (r : Rules) (s : LogState) (j : PlainJoin) → SoundLog r s → s.joining ≡ Some j → (w₀ : List ℤ) (edges : ℕ) (x : CaseDue) (lower : List ℕ)
     → length w₀ ≡ lent_length r s.stretch.case → length lower ≡ edge_places → zeroed_from (own_length s.stretch.case) w₀ ≡ s.stretch.starting
     → JoinAt s.stretch.case w₀ edges x lower j
-    → first_refusal (waiting_tests r s.stretch.case w₀ s.stretch.weights edges x lower false) ≡ none
+    → first_refusal (waiting_tests r s.stretch.case w₀ s.stretch.weights edges x lower false) ≡ None
 waits r s j v e w₀ edges x lower long many own at =
     let c : Case = s.stretch.case in
     let k = (v.join j e).1 in
@@ -364,13 +362,13 @@ waits r s j v e w₀ edges x lower long many own at =
       k.some-due,
       rank_below 1 c.d k.added x at'.in-join,
     ) in
-    subst (λ (p : ℕ). first_refusal (waiting_tests r c w₀ s.stretch.weights p x lower false) ≡ none) d
+    subst (λ (p : ℕ). first_refusal (waiting_tests r c w₀ s.stretch.weights p x lower false) ≡ None) d
     (waits-quiet v.under v.both k x at'.in-join q w₀ long own at'.past lower many at'.reading)
 
 module _ {r : Rules} (placed : scopes_at_most r ≤ scope_places) where
   -- a join is on its way: what agrees is all that is asked
   joining-parts : {s : LogState} {j : PlainJoin} {bytes : List ℕ} (w₀ : List ℤ) (edges : ℕ) (due : Awaited) (lower : List ℕ) → SoundLog r s
-      → s.stretch.refusal ≡ none → s.joining ≡ some j → MarkedIn r s.stretch bytes → length w₀ ≡ lent_length r s.stretch.case → length lower ≡ edge_places
+      → s.stretch.refusal ≡ None → s.joining ≡ Some j → MarkedIn r s.stretch bytes → length w₀ ≡ lent_length r s.stretch.case → length lower ≡ edge_places
       → zeroed_from (own_length s.stretch.case) w₀ ≡ s.stretch.starting → JoinAt s.stretch.case w₀ edges (due_awaited due) lower j
       → Parts r s bytes w₀ (Joining.Lines edges due) lower
   joining-parts {s} {j} {bytes} w₀ edges due lower v free e m long many own at = record {
@@ -388,12 +386,12 @@ module _ {r : Rules} (placed : scopes_at_most r ≤ scope_places) where
   }
 
   -- kind 8: no line of it is read yet
-  begin-reaches : {s : State} {bytes : List ℕ} {lower : List ℕ} → SoundLog r (in_stretch s) → s.refusal ≡ none
+  begin-reaches : {s : State} {bytes : List ℕ} {lower : List ℕ} → SoundLog r (in_stretch s) → s.refusal ≡ None
       → (k : Parts r (in_stretch s) bytes s.starting Joining.Nothing lower) → (t : Line) (o : Option Refusal)
       → SoundLog r (unless_number r (in_stretch s) (after_join s t) o)
       → let now = log_between (in_stretch s) bytes s.starting Joining.Nothing lower in
       Reaches r (step_by r now (of_join r now t) o) (unless_number r (in_stretch s) (after_join s t) o)
-  begin-reaches {s} {bytes} {lower} sound unrefused k t none v =
+  begin-reaches {s} {bytes} {lower} sound unrefused k t None v =
       let p = nat_abs t.a in
       let due = first_due (join_sizes s.case p) in
       let (in-join, at) = first-rank s.case p sound.both.first.shape.some-value in (
@@ -412,11 +410,11 @@ module _ {r : Rules} (placed : scopes_at_most r ≤ scope_places) where
           }),
         ),
       )
-  begin-reaches sound unrefused k t (some x) v = refused-reaches k unrefused x
+  begin-reaches sound unrefused k t (Some x) v = refused-reaches k unrefused x
 
   -- a case line of the join
   module _ {s : LogState} {j : PlainJoin} {bytes : List ℕ} {w₀ : List ℤ} {edges : ℕ} {due : Awaited} {lower : List ℕ} (sound : SoundLog r s)
-      (begun : s.joining ≡ some j) (unrefused : s.stretch.refusal ≡ none) (k : Parts r s bytes w₀ (Joining.Lines edges due) lower)
+      (begun : s.joining ≡ Some j) (unrefused : s.stretch.refusal ≡ None) (k : Parts r s bytes w₀ (Joining.Lines edges due) lower)
       (at : JoinAt s.stretch.case w₀ edges (due_awaited due) lower j) (t : Line) where
     abbrev c : Case
     c = s.stretch.case
@@ -440,7 +438,7 @@ module _ {r : Rules} (placed : scopes_at_most r ≤ scope_places) where
         at.dues ∙ d ∙ ap (λ (y : CaseDue). renumbered c y ∷ rest) (rank-apart (small_case c edges) y x u at.in-join e)
 
     line_same : line_of_join r s j.reading j.dues t
-        ≡ unless_number r s (joined_by s.stretch (took g (renumbered c x) (some t)) rest) (first_refusal (join_line_tests r g (renumbered c x) t))
+        ≡ unless_number r s (joined_by s.stretch (took g (renumbered c x) (Some t)) rest) (first_refusal (join_line_tests r g (renumbered c x) t))
     line_same = rw (at.reading, due-same)
 
     -- the case has room for the join
@@ -464,15 +462,15 @@ module _ {r : Rules} (placed : scopes_at_most r ≤ scope_places) where
         (subst (λ (r : Rules). c.d ≤ r.values) sound.under sound.both.first.values-most) room
 
     abbrev after : Reading
-    after = took g (renumbered c x) (some t)
+    after = took g (renumbered c x) (Some t)
 
-    module _ (pass : first_refusal (join_line_tests r g (renumbered c x) t) ≡ none) where
+    module _ (pass : first_refusal (join_line_tests r g (renumbered c x) t) ≡ None) where
       read-on : (y : CaseDue) → ends_read y ≡ ends_after x → after ≡ read_so_far c (weight_waits c w₀ edges x t) edges y (lower_kept x t lower)
       read-on = took-waits c w₀ edges full one_more room lower k.many x at.in-join t
-          (upper-joins c g refl x t (subst (λ (r : Rules). first_refusal (join_line_tests r g (renumbered c x) t) ≡ none) sound.under pass))
+          (upper-joins c g refl x t (subst (λ (r : Rules). first_refusal (join_line_tests r g (renumbered c x) t) ≡ None) sound.under pass))
 
       more-reaches : is_last_due c edges x ≡ false → SoundLog r (joined_by s.stretch after rest)
-          → Reaches r (record { answer = Outcome.Done; after = (of_join_line r mid edges due t).next }) (joined_by s.stretch after rest)
+          → Reaches r (record { answer = Ok tt; after = (of_join_line r mid edges due t).next }) (joined_by s.stretch after rest)
       more-reaches more v =
           let (in-join, next, ends) = due-next c edges limited due (rank 1 c.d edges x) at.in-join refl more in
           let later = next_due (join_sizes c edges) due in
@@ -499,7 +497,7 @@ module _ {r : Rules} (placed : scopes_at_most r ≤ scope_places) where
           )
 
       last-reaches : is_last_due c edges x ≡ true → SoundLog r (joined_by s.stretch after rest)
-          → Reaches r (record { answer = Outcome.Done; after = (of_join_line r mid edges due t).next }) (joined_by s.stretch after rest)
+          → Reaches r (record { answer = Ok tt; after = (of_join_line r mid edges due t).next }) (joined_by s.stretch after rest)
       last-reaches last v =
           let n : suc (rank 1 c.d edges x) ≡ join_lines c edges = (last-due c edges limited.some-value x at.in-join).0 last in
           let none_left : rest ≡ [] = drop_all (suc (rank 1 c.d edges x)) (join_dues c edges) (omega (arith, join-length c edges)) in
@@ -509,53 +507,53 @@ module _ {r : Rules} (placed : scopes_at_most r ≤ scope_places) where
     line_joins : (o : Option Refusal) → first_refusal (join_line_tests r g (renumbered c x) t) ≡ o
         → SoundLog r (unless_number r s (joined_by s.stretch after rest) o)
         → Reaches r (step_by r mid (of_join_line r mid edges due t) o) (unless_number r s (joined_by s.stretch after rest) o)
-    line_joins none e v = go (is_last_due c edges x) refl
+    line_joins None e v = go (is_last_due c edges x) refl
       where
         go : (b : Bool) → is_last_due c edges x ≡ b
-            → Reaches r (step_by r mid (of_join_line r mid edges due t) none) (unless_number r s (joined_by s.stretch after rest) none)
+            → Reaches r (step_by r mid (of_join_line r mid edges due t) None) (unless_number r s (joined_by s.stretch after rest) None)
         go true l = last-reaches e l v
         go false l = more-reaches e l v
-    line_joins (some y) e v = refused-reaches k unrefused y
+    line_joins (Some y) e v = refused-reaches k unrefused y
 
-    join-reaches : SoundLog r (line_of_join r s j.reading j.dues t) → Reaches r (step_line r mid (some t)) (line_of_join r s j.reading j.dues t)
+    join-reaches : SoundLog r (line_of_join r s j.reading j.dues t) → Reaches r (step_line r mid (Some t)) (line_of_join r s j.reading j.dues t)
     join-reaches v = rw (line_same, k.lent unrefused) (line_joins (first_refusal (join_line_tests r g (renumbered c x) t)) refl (rw line_same at v))
 
   -- ---- every line
 
   module _ {s : LogState} (sound : SoundLog r s) {bytes : List ℕ} {w₀ : List ℤ} {join : Joining} {lower : List ℕ} (k : Parts r s bytes w₀ join lower)
-      (unrefused : s.stretch.refusal ≡ none) (t : List ℕ) where
+      (unrefused : s.stretch.refusal ≡ None) (t : List ℕ) where
     abbrev alone : LogState
     alone = in_stretch s.stretch
 
     -- no join is begun
-    alone-reaches : SoundLog r alone → Parts r alone bytes s.stretch.starting Joining.Nothing lower → (l : Line) → read_line r.amount_width t ≡ some l
+    alone-reaches : SoundLog r alone → Parts r alone bytes s.stretch.starting Joining.Nothing lower → (l : Line) → read_line r.amount_width t ≡ Some l
         → SoundLog r (line_between r s.stretch l)
-        → Reaches r (step_line r (log_between alone bytes s.stretch.starting Joining.Nothing lower) (some l)) (line_between r s.stretch l)
+        → Reaches r (step_line r (log_between alone bytes s.stretch.starting Joining.Nothing lower) (Some l)) (line_between r s.stretch l)
     alone-reaches sound' k' l q v = ⊎_elim
         (λ b. special-reaches placed sound' unrefused k' l (λ o f. begin-reaches sound' unrefused k' l o) b v)
         (λ n. let f = line-same-as r s.stretch l n in
-        subst (Reaches r (step_line r (log_between alone bytes s.stretch.starting Joining.Nothing lower) (some l))) (sym f)
-        (move-reaches placed sound' unrefused k' t (some l) q n (subst (SoundLog r) f v)))
-        (either (between_rounds s.stretch && moves_link (some l)))
+        subst (Reaches r (step_line r (log_between alone bytes s.stretch.starting Joining.Nothing lower) (Some l))) (sym f)
+        (move-reaches placed sound' unrefused k' t (Some l) q n (subst (SoundLog r) f v)))
+        (either (between_rounds s.stretch && moves_link (Some l)))
 
-    by-join : (l : Line) → read_line r.amount_width t ≡ some l → (o : Option PlainJoin) → s.joining ≡ o → JoinSame s.stretch w₀ join lower o
-        → SoundLog r (line_by r s o l) → Reaches r (step_line r (log_between s bytes w₀ join lower) (some l)) (line_by r s o l)
-    by-join l q none e (none-begun, same) v =
+    by-join : (l : Line) → read_line r.amount_width t ≡ Some l → (o : Option PlainJoin) → s.joining ≡ o → JoinSame s.stretch w₀ join lower o
+        → SoundLog r (line_by r s o l) → Reaches r (step_line r (log_between s bytes w₀ join lower) (Some l)) (line_by r s o l)
+    by-join l q None e (none-begun, same) v =
         let d : s ≡ alone = ap (λ (o : Option PlainJoin). record { stretch = s.stretch; joining = o }) e in
         let k' : Parts r alone bytes s.stretch.starting Joining.Nothing lower =
         subst (λ (w : List ℤ). Parts r alone bytes w Joining.Nothing lower) same
         (subst (λ (x : Joining). Parts r alone bytes w₀ x lower) none-begun (subst (λ (u : LogState). Parts r u bytes w₀ join lower) d k)) in
-        subst (λ (x : Joining). Reaches r (step_line r (log_between s bytes w₀ x lower) (some l)) (line_between r s.stretch l)) (sym none-begun)
-        (subst (λ (w : List ℤ). Reaches r (step_line r (log_between s bytes w Joining.Nothing lower) (some l)) (line_between r s.stretch l)) (sym same)
+        subst (λ (x : Joining). Reaches r (step_line r (log_between s bytes w₀ x lower) (Some l)) (line_between r s.stretch l)) (sym none-begun)
+        (subst (λ (w : List ℤ). Reaches r (step_line r (log_between s bytes w Joining.Nothing lower) (Some l)) (line_between r s.stretch l)) (sym same)
         (alone-reaches (subst (SoundLog r) d sound) k' l q v))
-    by-join l q (some j) e (edges, due, held, mark) v =
-        subst (λ (x : Joining). Reaches r (step_line r (log_between s bytes w₀ x lower) (some l)) (line_of_join r s j.reading j.dues l)) (sym held)
+    by-join l q (Some j) e (edges, due, held, mark) v =
+        subst (λ (x : Joining). Reaches r (step_line r (log_between s bytes w₀ x lower) (Some l)) (line_of_join r s j.reading j.dues l)) (sym held)
         (join-reaches sound e unrefused (subst (λ (x : Joining). Parts r s bytes w₀ x lower) held k) mark l v)
 
     read-reaches : (l : Option Line) → read_line r.amount_width t ≡ l → SoundLog r (line_read r s l)
         → Reaches r (step_line r (log_between s bytes w₀ join lower) l) (line_read r s l)
-    read-reaches none q v = refused-reaches k unrefused NotInColumns
-    read-reaches (some l) q v = by-join l q s.joining refl (k.joins unrefused) v
+    read-reaches None q v = refused-reaches k unrefused NotInColumns
+    read-reaches (Some l) q v = by-join l q s.joining refl (k.joins unrefused) v
 
 -- ---- every line keeps the agreement, and its answer is the plain replay's
 
@@ -569,8 +567,8 @@ module _ {r : Rules} {s : LogState} {b : Between} (a : AgreesLog r s b) where
     where
       go : (x : Option Refusal) → s.stretch.refusal ≡ x → SoundLog r (if is_some x then s else line_read r s (read_line r.amount_width t))
           → Reaches r (step_standing r standing t (standing_of x)) (if is_some x then s else line_read r s (read_line r.amount_width t))
-      go none e v = read-reaches a.placed a.sound a.parts e t (read_line r.amount_width t) refl v
-      go (some x) e v = (ap outcome_of (sym e), (a.bytes, a.waiting, a.join, a.lower, refl, a.parts))
+      go None e v = read-reaches a.placed a.sound a.parts e t (read_line r.amount_width t) refl v
+      go (Some x) e v = (ap outcome_of (sym e), (a.bytes, a.waiting, a.join, a.lower, refl, a.parts))
 
   pub agrees-step : (t : List ℕ) → AgreesLog r (step_log r s t) (step_replay r b t).after
   agrees-step t =
@@ -593,26 +591,26 @@ module _ {r : Rules} {s : LogState} {b : Between} (a : AgreesLog r s b) where
   unfolding end_replay
   end-agrees = ap (λ (d : Between). (end_replay r d).answer) a.same ∙ go s.stretch.refusal refl
     where
-      cut : (b : Bool) (u v : List ℤ) → (if◌then◌else◌ {A = EndCall} b (record { answer = Outcome.Refused CutShort; starting = u })
-          (record { answer = Outcome.Done; starting = v })).answer ≡ outcome_of (if b then some CutShort else none)
+      cut : (b : Bool) (u v : List ℤ) → (if◌then◌else◌ {A = EndCall} b (record { answer = Err CutShort; starting = u })
+          (record { answer = Ok tt; starting = v })).answer ≡ outcome_of (if b then Some CutShort else None)
       cut true u v = refl
       cut false u v = refl
 
-      short : (join : Joining) (o : Option PlainJoin) → JoinSame s.stretch a.waiting join a.lower o → s.stretch.refusal ≡ none
-          → outcome_of (if is_cut_short r standing.replay join then some CutShort else none)
-          ≡ outcome_of (if is_some o then some CutShort else at_end s.stretch)
-      short join none (f, w) e =
-          ap (λ (x : Joining). outcome_of (if is_cut_short r standing.replay x then some CutShort else none)) f
+      short : (join : Joining) (o : Option PlainJoin) → JoinSame s.stretch a.waiting join a.lower o → s.stretch.refusal ≡ None
+          → outcome_of (if is_cut_short r standing.replay join then Some CutShort else None)
+          ≡ outcome_of (if is_some o then Some CutShort else at_end s.stretch)
+      short join None (f, w) e =
+          ap (λ (x : Joining). outcome_of (if is_cut_short r standing.replay x then Some CutShort else None)) f
           ∙ rw (e, short-alike s.stretch.void s.stretch.held s.stretch.moving)
-      short join (some j) (edges, due, f, mark) e = ap (λ (x : Joining). outcome_of (if is_cut_short r standing.replay x then some CutShort else none)) f
+      short join (Some j) (edges, due, f, mark) e = ap (λ (x : Joining). outcome_of (if is_cut_short r standing.replay x then Some CutShort else None)) f
 
       go : (x : Option Refusal) → s.stretch.refusal ≡ x
-          → (end_standing r standing (standing_of x)).answer ≡ outcome_of (if is_some x then x else if is_some s.joining then some CutShort else at_end s.stretch)
-      go none e =
+          → (end_standing r standing (standing_of x)).answer ≡ outcome_of (if is_some x then x else if is_some s.joining then Some CutShort else at_end s.stretch)
+      go None e =
           ap (λ (o : Option Refusal). (end_lent r standing o).answer) (a.parts.lent e)
           ∙ cut (is_cut_short r standing.replay a.join) (waiting_at s.stretch.case a.waiting a.join) a.waiting
           ∙ short a.join s.joining (a.parts.joins e) e
-      go (some x) e = refl
+      go (Some x) e = refl
 
   -- the end leaves the case's own starting weights
   pub end-starting : (end_replay r b).starting ≡ s.stretch.starting
@@ -621,20 +619,20 @@ module _ {r : Rules} {s : LogState} {b : Between} (a : AgreesLog r s b) where
     where
       left : (join : Joining) (o : Option PlainJoin) → JoinSame s.stretch a.waiting join a.lower o
           → (if◌then◌else◌ {A = EndCall} (is_cut_short r standing.replay join)
-          (record { answer = Outcome.Refused CutShort; starting = waiting_at s.stretch.case a.waiting join })
-          (record { answer = Outcome.Done; starting = a.waiting })).starting ≡ s.stretch.starting
+          (record { answer = Err CutShort; starting = waiting_at s.stretch.case a.waiting join })
+          (record { answer = Ok tt; starting = a.waiting })).starting ≡ s.stretch.starting
       left Joining.Nothing o m = same (is_cut_short r standing.replay Joining.Nothing)
           ∙ waiting-goes s.stretch a.waiting a.lower a.parts.starting Joining.Nothing o m
         where
-          same : (b : Bool) → (if◌then◌else◌ {A = EndCall} b (record { answer = Outcome.Refused CutShort; starting = a.waiting })
-              (record { answer = Outcome.Done; starting = a.waiting })).starting ≡ a.waiting
+          same : (b : Bool) → (if◌then◌else◌ {A = EndCall} b (record { answer = Err CutShort; starting = a.waiting })
+              (record { answer = Ok tt; starting = a.waiting })).starting ≡ a.waiting
           same true = refl
           same false = refl
       left (Joining.Lines p due) o m = a.parts.starting
 
       go : (x : Option Refusal) → s.stretch.refusal ≡ x → (end_standing r standing (standing_of x)).starting ≡ s.stretch.starting
-      go none e = ap (λ (o : Option Refusal). (end_lent r standing o).starting) (a.parts.lent e) ∙ left a.join s.joining (a.parts.joins e)
-      go (some x) e = a.parts.cleared x e
+      go None e = ap (λ (o : Option Refusal). (end_lent r standing o).starting) (a.parts.lent e) ∙ left a.join s.joining (a.parts.joins e)
+      go (Some x) e = a.parts.cleared x e
 
 -- ---- lists of lines
 

@@ -1,23 +1,22 @@
 -- A log from a fresh record, as one fold (`log_fold`), beside the plain replay of its lines: the table, the rounds, the first refusal and its
 -- line, the end's answer, and so the judgement that the program `replay` prints. With Blocks the same holds of a log cut into blocks. Assumes
 -- nothing.
+use Rattle.definitions.specs.declared.RefusedAt.{RefusedAt}
 use mathlib.Core.Path.{◌≡◌, sym, ap, ap₂, ◌∙◌}
 use mathlib.Core.Bool.{Bool}
-use mathlib.Core.Option.{Option, none, some}
 use mathlib.Core.List.{List, [], ◌∷◌, map}
 use Prim.Native.Nat.{ℕ, ◌+◌}
 use native.Mathlib.Nat.{add-zero}
 use native.Mathlib.Omega.{arith}
 use lib.IntN.{ℤ}
 use lib.Dec.{T}
-use Rattle.std.specs.Prelude.{if◌then◌else◌}
+use Rattle.std.specs.Prelude.{if◌then◌else◌, Result, Ok, Err, Option, Some, None, ⊤}
 use Rattle.definitions.specs.declared.Case.{Case}
 use Rattle.definitions.specs.declared.Refusal.{Refusal}
 use Rattle.definitions.specs.declared.Refusal.TheVariants.{CutShort}
-use Rattle.definitions.specs.declared.Outcome.{Outcome}
 use Rattle.definitions.specs.declared.Judgement.{Judgement}
 use Rattle.definitions.specs.Rules.{Rules, rules_of}
-use Rattle.definitions.specs.Answers.{outcome_of}
+use Rattle.definitions.specs.Answers.{outcome_of, refused_at}
 use Rattle.definitions.specs.Case.{upper_bound}
 use Rattle.definitions.specs.Valid.{valid}
 use Rattle.definitions.specs.Lines.{lines_in, has_part}
@@ -30,19 +29,19 @@ use Rattle.log_promise.specs.Lists.{begun}
 use Rattle.log_promise.proofs.Accepts.{answers-are, end_is, case-is, weights-are, rounds-are, void-told}
 
 -- the judgement of a log whose lines, but for those taken, begin at `at`: the first refusal, else the end's, else 14 where a part line is left
-abbrev pub log_judged : ℕ → Outcome → Outcome → Bool → Judgement → Judgement
-log_judged at (Outcome.Refused x) end part good = Judgement.Refused x at
-log_judged at Outcome.Done (Outcome.Refused x) part good = Judgement.Refused x at
-log_judged at Outcome.Done Outcome.Done part good = if part then Judgement.Refused CutShort at else good
+abbrev pub log_judged : ℕ → Result ⊤ Refusal → Result ⊤ Refusal → Bool → Result Judgement RefusedAt → Result Judgement RefusedAt
+log_judged at (Err x) end part good = Err (refused_at x at)
+log_judged at (Ok tt) (Err x) part good = Err (refused_at x at)
+log_judged at (Ok tt) (Ok tt) part good = if part then Err (refused_at CutShort at) else good
 
-number-judged : (at : ℕ) (os : List (Option Refusal)) (end : Option Refusal) (part : Bool) (good : Judgement)
+number-judged : (at : ℕ) (os : List (Option Refusal)) (end : Option Refusal) (part : Bool) (good : Result Judgement RefusedAt)
     → first_number at os end part good ≡ log_judged (at + taken_lines (map outcome_of os)) (first_refused (map outcome_of os)) (outcome_of end) part good
-number-judged at [] none part good = ap (λ (n : ℕ). if part then Judgement.Refused CutShort n else good) (sym (add-zero at))
-number-judged at [] (some x) part good = ap (Judgement.Refused x) (sym (add-zero at))
-number-judged at (none ∷ os) end part good =
+number-judged at [] None part good = ap (λ (n : ℕ). if part then Err (refused_at CutShort n) else good) (sym (add-zero at))
+number-judged at [] (Some x) part good = ap (Judgement.Refused x) (sym (add-zero at))
+number-judged at (None ∷ os) end part good =
     number-judged (at + 1) os end part good
     ∙ ap (λ (n : ℕ). log_judged n (first_refused (map outcome_of os)) (outcome_of end) part good) (omega arith)
-number-judged at (some x ∷ os) end part good = ap (Judgement.Refused x) (sym (add-zero at))
+number-judged at (Some x ∷ os) end part good = ap (Judgement.Refused x) (sym (add-zero at))
 
 -- the fold over the log, and the plain replay's state after its lines
 abbrev pub log_fold : Case → List ℤ → List ℕ → BlockCall
@@ -63,10 +62,9 @@ module _ (c : Case) (w : List ℤ) (t : T (valid (rules_of c) c w)) (log : List 
   good-same : good_in (log_fold c w log).after ≡ good_log (log_left c w log)
   unfolding fold_replay
   good-same =
-      ap₂ (λ (over : Bool) (rounds : ℕ). if over then Judgement.Void else Judgement.Accepted rounds
-      (upper_bound (log_fold c w log).after.case (log_fold c w log).after.table)) (void-told c w t lines) (rounds-are c w t lines)
-      ∙ ap₂ (λ (d : Case) (v : List ℤ). if (log_left c w log).stretch.void then Judgement.Void
-      else Judgement.Accepted (log_left c w log).stretch.rounds (upper_bound d v)) (case-is c w t lines) (weights-are c w t lines)
+      ap₂ (λ (over : Bool) (rounds : ℕ). if over then Ok Judgement.Void else Ok (Judgement.Accepted rounds (upper_bound (log_fold c w log).after.case (log_fold c w log).after.table))) (void-told c w t lines) (rounds-are c w t lines)
+      ∙ ap₂ (λ (d : Case) (v : List ℤ). if (log_left c w log).stretch.void then Ok Judgement.Void
+      else Ok (Judgement.Accepted (log_left c w log).stretch.rounds (upper_bound d v))) (case-is c w t lines) (weights-are c w t lines)
 
   pub log-end : (end_replay r (log_fold c w log).after).answer ≡ outcome_of (log_end (log_left c w log))
   unfolding fold_replay
@@ -78,7 +76,7 @@ module _ (c : Case) (w : List ℤ) (t : T (valid (rules_of c) c w)) (log : List 
   unfolding fold_replay
   log-judged at =
       number-judged at (log_answers r (fresh_log c w) lines) (log_end (log_left c w log)) (has_part r.amount_width log) (good_log (log_left c w log))
-      ∙ sym (ap₂ (λ (os : List Outcome) (end : Outcome). log_judged (at + taken_lines os) (first_refused os) end (has_part r.amount_width log)
+      ∙ sym (ap₂ (λ (os : List (Result ⊤ Refusal)) (end : Result ⊤ Refusal). log_judged (at + taken_lines os) (first_refused os) end (has_part r.amount_width log)
       (good_in (log_fold c w log).after)) (answers-are c w t lines) log-end
       ∙ ap (log_judged (at + taken_lines (map outcome_of (log_answers r (fresh_log c w) lines)))
       (first_refused (map outcome_of (log_answers r (fresh_log c w) lines))) (outcome_of (log_end (log_left c w log))) (has_part r.amount_width log)) good-same)

@@ -1,5 +1,6 @@
 -- The judgement of a log with lines of kind 7 and 8 (document 02, change 5). Assumes nothing.
-use Rattle.std.specs.Prelude.{List, ℕ, ℤ, if◌then◌else◌}
+use Rattle.definitions.specs.declared.RefusedAt.{RefusedAt}
+use Rattle.std.specs.Prelude.{List, ℕ, ℤ, if◌then◌else◌, Result, Ok}
 use Rattle.definitions.specs.declared.Case.{Case}
 use Rattle.definitions.specs.declared.Judgement.{Judgement}
 use Rattle.definitions.specs.Rules.{rules_of}
@@ -9,12 +10,12 @@ use Rattle.logs.specs.Logs.{LogState, fresh_log, after_log, log_answers, log_end
 use Rattle.definitions.specs.Programs.{first_number}
 
 -- a list with no number: void after a whole void line; the upper bound is that of the case as it then stands
-abbrev pub good_log : LogState → Judgement
+abbrev pub good_log : LogState → Result Judgement RefusedAt
 good_log s =
-    if s.stretch.void then Judgement.Void else Judgement.Accepted s.stretch.rounds (upper_bound s.stretch.case s.stretch.weights)
+    if s.stretch.void then Ok Judgement.Void else Ok (Judgement.Accepted s.stretch.rounds (upper_bound s.stretch.case s.stretch.weights))
 
 -- the log begins at line `at`, and is judged by the rules of its case
-abbrev pub judged_log : Case → List ℤ → ℕ → List ℕ → Judgement
+abbrev pub judged_log : Case → List ℤ → ℕ → List ℕ → Result Judgement RefusedAt
 judged_log c w at log =
     let r = rules_of c in
     let lines = lines_in r.amount_width log in

@@ -2,10 +2,8 @@
 -- order, each clause quoted above what says it. The tender's plan, total and ceiling are assignment, objective and upper bound. It is about
 -- log_checker's definitions of a log's calls on all input: `fresh_replay`, `step_replay` (folded by `line_answers` and `after_lines`) and
 -- `end_replay`. proofs/Accepts proves it for every valid case. Assumes nothing.
-use Rattle.std.specs.Prelude.{◌≡◌, not, ◌↔◌, List, [], ◌∷◌, ◌++◌, map, ℕ, ℤ, pos, ◌+ℤ◌, ◌-ℤ◌, T, ◌≤ℤ◌}
-use Rattle.std.proofs.Math.Option.{Option, some}
+use Rattle.std.specs.Prelude.{◌≡◌, not, ◌↔◌, List, [], ◌∷◌, ◌++◌, map, ℕ, ℤ, pos, ◌+ℤ◌, ◌-ℤ◌, T, ◌≤ℤ◌, Ok, Option, Some}
 use Rattle.definitions.specs.declared.Case.{Case}
-use Rattle.definitions.specs.declared.Outcome.{Outcome}
 use Rattle.definitions.specs.declared.Refusal.{Refusal}
 use Rattle.definitions.specs.Rules.{Rules}
 use Rattle.definitions.specs.Refusals.{number_of}
@@ -24,8 +22,8 @@ begun r c w = record { case = c; starting = w; table = w; replay = fresh_replay 
 
 -- a list is accepted if no line's answer is a number, nor the end's
 pub record Accepted (r : Rules) (c : Case) (w : List ℤ) (ts : List (List ℕ)) : Type 0 where
-  pub each : line_answers r (begun r c w) ts ≡ map (λ t. Outcome.Done) ts
-  pub end : (end_replay r (after_lines r (begun r c w) ts)).answer ≡ Outcome.Done
+  pub each : line_answers r (begun r c w) ts ≡ map (λ t. Ok tt) ts
+  pub end : (end_replay r (after_lines r (begun r c w) ts)).answer ≡ Ok tt
 
 -- an answer of the plain replay as document 01 says it: the number that applies, 0 where none does, and no values
 abbrev pub number_says : Option Refusal → Says
@@ -47,7 +45,7 @@ pub record LinesTrusted (r : Rules) (c : Case) (w : List ℤ) (ts : List (List �
   -- but for those of a join that wait past its places until the end, or a refused line, sets them to 0 (change 5)
   pub case : b.case ≡ s.case
   pub starting : zeroed_from (own_length b.case) b.starting ≡ s.starting
-  pub starting-refused : (x : Refusal) → s.refusal ≡ some x → b.starting ≡ s.starting
+  pub starting-refused : (x : Refusal) → s.refusal ≡ Some x → b.starting ≡ s.starting
   pub starting-end : (end_replay r b).starting ≡ s.starting
   pub weights : b.table ≡ s.weights
   pub bound : figure_says (upper_bound_answer r b.case b.table) ≡ record { number = 0; values = upper_bound s.case s.weights ∷ [] }

@@ -1,9 +1,9 @@
 -- Change 5 of document 02 of the plain replay of a log, whoever wrote it: after any lines the total of each lawful plan of the case as it then
 -- stands, plus the carry, is at least its starting total, the upper bound is at least that too, and the rounds of a stretch number at most the
 -- upper bound at its start less any such starting total. Assumes nothing.
+use Rattle.std.specs.Prelude.{Some, None}
 use mathlib.Core.Path.{◌≡◌, refl, sym, ap, ap₂, subst, ◌∙◌}
 use mathlib.Core.Bool.{false, not}
-use mathlib.Core.Option.{none, some}
 use mathlib.Core.List.{List, [], ◌∷◌}
 use Prim.Native.Nat.{ℕ, suc, ◌+◌, ◌-◌, ◌≤◌, ◌<◌}
 use native.Mathlib.Omega.{arith}
@@ -61,7 +61,7 @@ pub record SoundLog (r : Rules) (s : LogState) : Type 0 where
   pub both : BothHanded r s.stretch.case s.stretch.starting s.stretch.weights
   pub under : r ≡ rules_of s.stretch.case
   pub start-now : T (between_rounds s.stretch) → s.stretch.start ≡ upper_bound s.stretch.case s.stretch.weights
-  pub join : (j : Joining) → s.joining ≡ some j → T (between_rounds s.stretch) × SoundJoin r s.stretch.case s.stretch.starting j
+  pub join : (j : Joining) → s.joining ≡ Some j → T (between_rounds s.stretch) × SoundJoin r s.stretch.case s.stretch.starting j
 
 -- between rounds the bound at the round's start is that of the weights
 now-stepped : {r : Rules} {s u : State} → Stepped r s u → (T (between_rounds s) → s.start ≡ upper_bound s.case s.weights)
@@ -130,12 +130,12 @@ module _ {r : Rules} {c : Case} {w₀ : List ℤ} (under : r ≡ rules_of c) (v 
       }
 
   module _ {j : Joining} (k : SoundJoin r c w₀ j) {due : CaseDue} {dues : List CaseDue} (t : Line) (e : j.dues ≡ due ∷ dues)
-      (f : first_refusal (join_line_tests r j.reading due t) ≡ none) where
+      (f : first_refusal (join_line_tests r j.reading due t) ≡ None) where
     -- one more is read
     record Taken : Type 0 where
       state : Lists
       read : JoinRead c w₀ k.added (suc k.taken) state
-      reading : took j.reading due (some t) ≡ grown_reading c k.added state
+      reading : took j.reading due (Some t) ≡ grown_reading c k.added state
       later : dues ≡ drop (suc k.taken) (join_dues c k.added)
       left : length dues ≡ join_lines c k.added - suc k.taken
 
@@ -150,13 +150,13 @@ module _ {r : Rules} {c : Case} {w₀ : List ℤ} (under : r ≡ rules_of c) (v 
           read = join-next c w₀ k.added (case-kinds (coherent c.rulebook))
               (omega (arith, rw under at k.edges, (coherent c.rulebook).edges_placed)) k.taken k.state x t k.read u a
               (rw (under, k.reading, d) at f);
-          reading = ap₂ (λ (g : Reading) (y : CaseDue). took g y (some t)) k.reading d ∙ took-after c k.added k.state (renumbered c x) t;
+          reading = ap₂ (λ (g : Reading) (y : CaseDue). took g y (Some t)) k.reading d ∙ took-after c k.added k.state (renumbered c x) t;
           later = l;
           left = ap length l ∙ length-drop (suc k.taken) (join_dues c k.added) ∙ ap (λ (n : ℕ). n - suc k.taken) (join-length c k.added);
         }
 
     -- another is due
-    reads-sound : 0 < length dues → SoundJoin r c w₀ (record { reading = took j.reading due (some t); dues = dues })
+    reads-sound : 0 < length dues → SoundJoin r c w₀ (record { reading = took j.reading due (Some t); dues = dues })
     reads-sound some_left = let h = line_taken in record {
       added = k.added;
       taken = suc k.taken;
@@ -173,7 +173,7 @@ module _ {r : Rules} {c : Case} {w₀ : List ℤ} (under : r ≡ rules_of c) (v 
     -- it was the last
     ends-sound : length dues ≡ 0 → Coherent r → (s : State) → s.rounds ≤ r.rounds → (w : List ℤ) → BothHanded r c w₀ w
         → ((p : List ℕ) → T (is_lawful c w₀ p) → objective c w₀ p ≤ℤ (objective c w p +ℤ c.carry))
-        → SoundLog r (new_stretch s (grown_by c w (took j.reading due (some t))))
+        → SoundLog r (new_stretch s (grown_by c w (took j.reading due (Some t))))
     ends-sound last coherent s few w both kept =
         let h = line_taken in
         let q : suc k.taken ≡ join_lines c k.added = omega (arith, h.left, k.some-due) in

@@ -3,7 +3,6 @@
 use mathlib.Core.Path.{◌≡◌, refl, sym, ap, ap₂, subst, ◌∙◌}
 use mathlib.Core.Bool.{true, true≢false}
 use mathlib.Core.Logic.{◌≢◌, ⊎_elim}
-use mathlib.Core.Option.{none, some}
 use mathlib.Core.List.{List, [], ◌∷◌, ◌++◌, map, append-nil, append_assoc}
 use Prim.Native.Nat.{ℕ, suc, ◌+◌, ◌-◌, ◌≤◌, ◌<◌}
 use native.Mathlib.Omega.{arith}
@@ -11,7 +10,7 @@ use lib.IntN.{ℤ, pos, nat_abs}
 use lib.Dec.{T, eqb, ltb, leb, eqb→eq, eqb_refl, ltb→lt, nltb→le, le→leb}
 use lib.ListN.{length, get_or, take, set, replicate, length-append, length-replicate, length-set, replicate-append-replicate}
 use lib.Seq.{get_or-set_same, get_or-set_other, get_or-drop, set-append_seam, take-suc-set, length-take-le, take-set-le}
-use Rattle.std.specs.Prelude.{if◌then◌else◌}
+use Rattle.std.specs.Prelude.{if◌then◌else◌, Some, None}
 use Rattle.integers.specs.Words.{below}
 use Rattle.integers.specs.Tests.{tests, is_true, either, if-true, if-false, or_left, or_right, eqb-iff, not-eqb-iff}
 use Rattle.integers.specs.Linear.{T-eq}
@@ -238,7 +237,7 @@ module _ (c : Case) (w₀ : List ℤ) (p : ℕ) (long : length w₀ ≡ lent_len
   -- a line of the join is read, and its weight or its lower end kept
   pub took-waits : (lower : List ℕ) → length lower ≡ edge_places → (x : CaseDue) → IsDue 1 c.d p x → (t : Line)
       → ((e : ℕ) → x ≡ edge-ends e → nat_abs t.c ≡ c.n) → (y : CaseDue) → ends_read y ≡ ends_after x
-      → took (read_so_far c w₀ p x lower) (renumbered c x) (some t) ≡ read_so_far c (weight_waits c w₀ p x t) p y (lower_kept x t lower)
+      → took (read_so_far c w₀ p x lower) (renumbered c x) (Some t) ≡ read_so_far c (weight_waits c w₀ p x t) p y (lower_kept x t lower)
   took-waits lower many (variable-weight i k) (u, v) t new y e =
       ap₂ (λ (n : ℕ) (u : List ℤ). holding c p (in_places (lower_ends c p (take n lower))) (in_places (upper_ends c p (length (take n lower)))) u) (sym e)
       (ap (λ (x : ℕ). set (waiting_table c p w₀) (place (grown_case c p) x k 0) (weight_in t)) (sym (variable-joined c u))
@@ -295,7 +294,7 @@ lower_long (edge-weight e k l) t lower = refl
 
 -- the ends of an edge of the join: its upper end is the new variable
 pub upper-joins : (c : Case) (g : Reading) → g.case.n ≡ c.n + 1 → (x : CaseDue) (t : Line)
-    → first_refusal (join_line_tests (rules_of c) g (renumbered c x) t) ≡ none → (e : ℕ) → x ≡ edge-ends e → nat_abs t.c ≡ c.n
+    → first_refusal (join_line_tests (rules_of c) g (renumbered c x) t) ≡ None → (e : ℕ) → x ≡ edge-ends e → nat_abs t.c ≡ c.n
 upper-joins c g n x t pass e s =
     let h = simp ((case-kinds (coherent c.rulebook)).ends-due, tests, T-eq, not-and-iff, none_below) at
     ((passes (join_line_tests (rules_of c) g (renumbered c (edge-ends e)) t)).0 (rw s at pass)) in

@@ -1,9 +1,9 @@
 -- What a record in the middle of a join says where nothing is refused of it: the case and its tables, without what waits, are such as calls take, and
 -- every line of the join that stands before the one due is read and good. Assumes nothing.
+use Rattle.std.specs.Prelude.{None}
 use mathlib.Core.Path.{◌≡◌, refl, sym, ap, subst, ◌∙◌}
 use mathlib.Core.Bool.{Bool, false, not, ◌&&◌}
 use mathlib.Core.Logic.{⊎_elim}
-use mathlib.Core.Option.{none}
 use mathlib.Core.List.{List, ◌++◌, map}
 use Prim.Native.Nat.{ℕ, ◌+◌, ◌-◌, ◌≤◌, ◌<◌}
 use native.Mathlib.Omega.{arith}
@@ -68,7 +68,7 @@ bars-own c w₀ w = all_same (own_length c) (λ i h.
     ap (λ (z : ℤ). (is_barred z ⇒ is_barred (get_or w i (pos 0))) && (is_barred (get_or w i (pos 0)) ⇒ is_barred z)) (zeroed-before (own_length c) w₀ i h))
 
 module _ (c : Case) (w₀ w : List ℤ) (p : ℕ) (x : CaseDue) (lower : List ℕ) (out : Bool) where
-  pub quiet-place : first_refusal (waiting_tests (rules_of c) c w₀ w p x lower out) ≡ none → WaitingFacts c w₀ w p x lower out
+  pub quiet-place : first_refusal (waiting_tests (rules_of c) c w₀ w p x lower out) ≡ None → WaitingFacts c w₀ w p x lower out
   quiet-place quiet =
       let h = simp (tests, not-and-iff, none_below) at ((passes (waiting_tests (rules_of c) c w₀ w p x lower out)).0 quiet) in
       let ((limits, grown), (lengths, (inside, (ascending, (apart, (weights, (free, t))))))) = h in

@@ -1,8 +1,8 @@
 -- A join begun, its lines one by one and its last, and a leave, of a record and tables of which nothing is refused: nothing is refused after them.
 -- Assumes nothing.
+use Rattle.std.specs.Prelude.{Some, None}
 use mathlib.Core.Path.{◌≡◌, refl, sym, subst, ◌∙◌}
 use mathlib.Core.Bool.{true, false, true≢false}
-use mathlib.Core.Option.{none, some}
 use mathlib.Core.List.{List}
 use Prim.Native.Nat.{ℕ, suc, ◌+◌, ◌≤◌, ◌<◌}
 use native.Mathlib.Omega.{arith}
@@ -39,7 +39,7 @@ use Rattle.log_theory.proofs.WaitingReads.{WaitingFacts, quiet-place, lists_read
 
 -- ---- a link leaves
 
-pub leave-both : (c : Case) (w₀ w : List ℤ) → BothHanded (rules_of c) c w₀ w → (t : Line) → first_refusal (leave_tests c t) ≡ none
+pub leave-both : (c : Case) (w₀ w : List ℤ) → BothHanded (rules_of c) c w₀ w → (t : Line) → first_refusal (leave_tests c t) ≡ None
     → let v = left_by (rules_of c) c (nat_abs t.a) w₀ w in BothHanded (rules_of c) v.case v.starting v.weights
 leave-both c w₀ w both t quiet =
     let h = simp and-iff at ((passes (leave_tests c t)).0 quiet) in
@@ -52,15 +52,15 @@ leave-rules c i w₀ w = if-cases (λ (v : WeightedCase). rules_of v.case ≡ ru
 
 -- ---- a join is begun
 
-pub begin-quiet : (c : Case) (w₀ w : List ℤ) → BothHanded (rules_of c) c w₀ w → (t : Line) → first_refusal (join_tests (rules_of c) c t) ≡ none → (lower : List ℕ)
-    → let p = nat_abs t.a in first_refusal (waiting_tests (rules_of c) c w₀ w p (due_awaited (first_due (join_sizes c p))) lower false) ≡ none
+pub begin-quiet : (c : Case) (w₀ w : List ℤ) → BothHanded (rules_of c) c w₀ w → (t : Line) → first_refusal (join_tests (rules_of c) c t) ≡ None → (lower : List ℕ)
+    → let p = nat_abs t.a in first_refusal (waiting_tests (rules_of c) c w₀ w p (due_awaited (first_due (join_sizes c p))) lower false) ≡ None
 begin-quiet c w₀ w both t quiet lower =
     let h = simp (and-iff, not-or-iff) at ((passes (join_tests (rules_of c) c t)).0 quiet) in
     go (nat_abs t.a) (ltb→lt c.n (rules_of c).variables ((not-not-iff (ltb c.n (rules_of c).variables)).0 h.0.0))
     (room c.m (c.n + 1) (rules_of c).edges t.a h.0.1 h.1.0) (omega (arith, inside (c.n + 1) t.a h.1.0))
   where
     go : (p : ℕ) → c.n < (rules_of c).variables → c.m + p ≤ (rules_of c).edges → p ≤ c.n
-        → first_refusal (waiting_tests (rules_of c) c w₀ w p (variable-weight 0 0) lower false) ≡ none
+        → first_refusal (waiting_tests (rules_of c) c w₀ w p (variable-weight 0 0) lower false) ≡ None
     go p most held few =
         let v = both.first in
         let (u, s) = first-rank c p v.shape.some-value in
@@ -82,19 +82,19 @@ begin-quiet c w₀ w both t quiet lower =
 
 -- ---- a line of the join
 
-pub taken-rules : (g : Reading) (x : CaseDue) (t : Line) → rules_of (took g x (some t)).case ≡ rules_of g.case
+pub taken-rules : (g : Reading) (x : CaseDue) (t : Line) → rules_of (took g x (Some t)).case ≡ rules_of g.case
 taken-rules g (variable-weight i k) t = refl
 taken-rules g (edge-ends e) t = refl
 taken-rules g (edge-weight e k l) t = refl
 
 module _ (c : Case) (w₀ w : List ℤ) (p : ℕ) (due : Awaited) (lower : List ℕ) (many : length lower ≡ edge_places)
-    (quiet : first_refusal (waiting_tests (rules_of c) c w₀ w p (due_awaited due) lower false) ≡ none) (t : Line)
-    (pass : first_refusal (join_line_tests (rules_of c) (read_so_far c w₀ p (due_awaited due) lower) (renumbered c (due_awaited due)) t) ≡ none) where
+    (quiet : first_refusal (waiting_tests (rules_of c) c w₀ w p (due_awaited due) lower false) ≡ None) (t : Line)
+    (pass : first_refusal (join_line_tests (rules_of c) (read_so_far c w₀ p (due_awaited due) lower) (renumbered c (due_awaited due)) t) ≡ None) where
   abbrev x : CaseDue
   x = due_awaited due
 
   abbrev taken : Reading
-  taken = took (read_so_far c w₀ p x lower) (renumbered c x) (some t)
+  taken = took (read_so_far c w₀ p x lower) (renumbered c x) (Some t)
 
   abbrev lists_then : Lists
   lists_then = next c.rulebook (c.n + 1) c.d (c.m + p) (lists_read c w₀ p x lower) (renumbered c x) t
@@ -119,7 +119,7 @@ module _ (c : Case) (w₀ w : List ℤ) (p : ℕ) (due : Awaited) (lower : List 
   -- another is due
   pub next-quiet : is_last_due c p (due_awaited due) ≡ false
       → first_refusal (waiting_tests (rules_of c) c (weight_waits c w₀ p (due_awaited due) t) w p (due_awaited (next_due (join_sizes c p) due))
-      (lower_kept (due_awaited due) t lower) false) ≡ none
+      (lower_kept (due_awaited due) t lower) false) ≡ None
   next-quiet more =
       let y : CaseDue = due_awaited (next_due (join_sizes c p) due) in
       let v = facts.both.first in
@@ -143,7 +143,7 @@ module _ (c : Case) (w₀ w : List ℤ) (p : ℕ) (due : Awaited) (lower : List 
 
   -- it was the last
   module _ (last : is_last_due c p (due_awaited due) ≡ true) where
-    pub last-both : let v = grown_by c w (took (read_so_far c w₀ p (due_awaited due) lower) (renumbered c (due_awaited due)) (some t)) in
+    pub last-both : let v = grown_by c w (took (read_so_far c w₀ p (due_awaited due) lower) (renumbered c (due_awaited due)) (Some t)) in
         BothHanded (rules_of c) v.case v.starting v.weights
     last-both =
         let v = facts.both.first in
@@ -154,7 +154,7 @@ module _ (c : Case) (w₀ w : List ℤ) (p : ℕ) (due : Awaited) (lower : List 
         subst (λ (g : Reading). BothHanded (rules_of c) g.case g.table (grown_table c g.case w (weight g.case g.table))) (sym reading-then)
         (joined-handed g w (coherent c.rulebook) facts.both o)
 
-    pub last-read : took (read_so_far c w₀ p (due_awaited due) lower) (renumbered c (due_awaited due)) (some t)
+    pub last-read : took (read_so_far c w₀ p (due_awaited due) lower) (renumbered c (due_awaited due)) (Some t)
         ≡ read_so_far c (weight_waits c w₀ p (due_awaited due) t) p (edge-ends p) (lower_kept (due_awaited due) t lower)
     last-read = taken-waits (edge-ends p) (all-ends x last)
       where

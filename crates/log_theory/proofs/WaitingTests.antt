@@ -2,7 +2,6 @@
 use mathlib.Core.Path.{◌≡◌, refl, sym, ap, subst, ◌∙◌}
 use mathlib.Core.Bool.{Bool, true, false, not, ◌&&◌, ◌||◌}
 use mathlib.Core.Logic.{⊎_elim}
-use mathlib.Core.Option.{none}
 use mathlib.Core.List.{List, ◌++◌, map}
 use Prim.Native.Nat.{ℕ, ◌+◌, ◌-◌, ◌≤◌, ◌<◌}
 use native.Mathlib.Omega.{arith}
@@ -10,7 +9,7 @@ use lib.IntN.{ℤ, pos}
 use lib.Dec.{T, ltb, ltb→lt, nltb→le}
 use lib.ListN.{length, get_or, take, replicate, length-take, length-append, length-replicate, get_or-replicate, get_or-append}
 use lib.Seq.{get_or-append-add, get_or-take, length-take-le, get_or-drop}
-use Rattle.std.specs.Prelude.{if◌then◌else◌}
+use Rattle.std.specs.Prelude.{if◌then◌else◌, None}
 use Rattle.integers.specs.Words.{below, all, joined, ◌⇒◌}
 use Rattle.integers.specs.Tests.{tests, either, or_right}
 use Rattle.integers.specs.Lists.{map_same, all_same}
@@ -196,7 +195,7 @@ module _ {r : Rules} {c : Case} {u w : List ℤ} (under : r ≡ rules_of c) (bot
   in-join (edge-ends e) v = simp tests v
   in-join (edge-weight e a b) (v, h, g) = simp tests ((v, h), g)
 
-  pub waits-quiet : first_refusal (waiting_tests r c w₀ w k.added x lower false) ≡ none
+  pub waits-quiet : first_refusal (waiting_tests r c w₀ w k.added x lower false) ≡ None
   waits-quiet =
       let h = simp (tests, not-and-iff, none_below) at ((none-applies (both_handed_over r c u w false)).0 ((both-handed r c u w false).1 (both, tt))) in
       let (limits, (lengths, (edges, (ascending, (apart, (weights, (free, t))))))) = h in

@@ -1,7 +1,7 @@
 -- A line at a position, from a line at the first byte of the rest. Assumes nothing.
+use Rattle.std.specs.Prelude.{Ok, Err, Option, Some, None}
 use mathlib.Core.Path.{◌≡◌, refl, sym, ap, ◌∙◌}
 use mathlib.Core.Bool.{Bool, true, false}
-use mathlib.Core.Option.{Option, none, some}
 use mathlib.Core.List.{List, [], ◌∷◌, ◌++◌, append-nil}
 use Prim.Native.Nat.{ℕ, ◌+◌, ◌-◌, ◌<◌, ◌≤◌}
 use native.Mathlib.Omega.{arith}
@@ -10,7 +10,6 @@ use lib.ListN.{length, take, drop, length-append, length-drop, take-append-drop,
 use lib.Seq.{length-take-le, take_all}
 use borrow.Author.Tests.{lt-ltb, ltb-false}
 use Rattle.definitions.specs.declared.Line.{Line}
-use Rattle.definitions.specs.declared.Outcome.{Outcome}
 use Rattle.definitions.specs.declared.Refusal.{Refusal}
 use Rattle.definitions.specs.declared.Refusal.TheVariants.{WrongLength, OutOfRange}
 use Rattle.definitions.specs.Rules.{Rules, Coherent}
@@ -33,20 +32,20 @@ module _ (w : ℕ) (out : List ℕ) (at : ℕ) (l : Line) where
   unfolding put_line_in
   put-by = refl
 
-  pub put-past : length out < at → put_line_in w out at l ≡ record { answer = Outcome.Refused WrongLength; out = out; at = at }
+  pub put-past : length out < at → put_line_in w out at l ≡ record { answer = Err WrongLength; out = out; at = at }
   put-past h = let e : length out - at ≡ 0 = omega arith in put-by ∙ (rw e (simp (lt-ltb 0 (15 + w) (omega arith))))
 
   -- what is answered, and what the slice is, where the line was put into the rest
   abbrev Put-so : Put → Option Refusal → Type 0
   Put-so r o = (r ≡ put_of (line_put w out at l o)) × (take at out ++ (line_written w (drop at out) l o).out ≡ (line_put w out at l o).out)
 
-  refused-by : {x : Refusal} (o : Option Refusal) → Outcome.Refused x ≡ outcome_of o → Put-so (record { answer = Outcome.Refused x; at = at }) o
-  refused-by (some y) e = (ap (λ a. record { answer = a; at = at }) e, take-append-drop at out)
-  refused-by none e = let z : ◌≡◌ {A = ℕ} 0 1 = cc in absurd (omega arith)
+  refused-by : {x : Refusal} (o : Option Refusal) → Err x ≡ outcome_of o → Put-so (record { answer = Err x; at = at }) o
+  refused-by (Some y) e = (ap (λ a. record { answer = a; at = at }) e, take-append-drop at out)
+  refused-by None e = let z : ◌≡◌ {A = ℕ} 0 1 = cc in absurd (omega arith)
 
-  done-by : (o : Option Refusal) → Outcome.Done ≡ outcome_of o → Put-so (record { answer = Outcome.Done; at = at + line_length w }) o
-  done-by none e = (refl, refl)
-  done-by (some y) e = let z : ◌≡◌ {A = ℕ} 0 1 = cc in absurd (omega arith)
+  done-by : (o : Option Refusal) → Ok tt ≡ outcome_of o → Put-so (record { answer = Ok tt; at = at + line_length w }) o
+  done-by None e = (refl, refl)
+  done-by (Some y) e = let z : ◌≡◌ {A = ℕ} 0 1 = cc in absurd (omega arith)
 
   -- the rest as the code has it: so many bytes from the position on, and none after them
   abbrev pub rest : List ℕ
@@ -71,17 +70,17 @@ module _ (w : ℕ) (out : List ℕ) (at : ℕ) (l : Line) where
     ap (λ t. take at out ++ t) (none_after last ∙ e ∙ ap (λ c. c.out) rest-by) ∙ q ∙ ap (λ c. c.out) (sym put-by),
   )
 
-  pub put_refused : at ≤ length out → {x : Refusal} (last : List ℕ) → Outcome.Refused x ≡ (write_line_at w rest l).answer → last ≡ (write_line_at w rest l).out
-      → Put-so-code (record { answer = Outcome.Refused x; at = at }) last
+  pub put_refused : at ≤ length out → {x : Refusal} (last : List ℕ) → Err x ≡ (write_line_at w rest l).answer → last ≡ (write_line_at w rest l).out
+      → Put-so-code (record { answer = Err x; at = at }) last
   put_refused h {x} last e f =
-      so (record { answer = Outcome.Refused x; at = at }) last h f (refused-by (write_refusal_at w (length out - at) l) (e ∙ ap (λ c. c.answer) rest-by))
+      so (record { answer = Err x; at = at }) last h f (refused-by (write_refusal_at w (length out - at) l) (e ∙ ap (λ c. c.answer) rest-by))
 
   -- a line that was written had room
-  short-refused : (a b : Bool) → Outcome.Done ≡ outcome_of (first_refusal (WrongLength when a ∷ OutOfRange when b ∷ [])) → a ≡ false
+  short-refused : (a b : Bool) → Ok tt ≡ outcome_of (first_refusal (WrongLength when a ∷ OutOfRange when b ∷ [])) → a ≡ false
   short-refused false b e = refl
   short-refused true b e = let z : ◌≡◌ {A = ℕ} 0 1 = cc in absurd (omega arith)
 
-  pub done-room : at ≤ length out → Outcome.Done ≡ (write_line_at w rest l).answer → at + line_length w ≤ length out
+  pub done-room : at ≤ length out → Ok tt ≡ (write_line_at w rest l).answer → at + line_length w ≤ length out
   done-room h e =
       omega (
         arith,
@@ -89,10 +88,10 @@ module _ (w : ℕ) (out : List ℕ) (at : ℕ) (l : Line) where
             (e ∙ ap (λ c. c.answer) rest-by)),
       )
 
-  pub put-done : at ≤ length out → (last : List ℕ) → Outcome.Done ≡ (write_line_at w rest l).answer → last ≡ (write_line_at w rest l).out
-      → Put-so-code (record { answer = Outcome.Done; at = at + line_length w }) last
+  pub put-done : at ≤ length out → (last : List ℕ) → Ok tt ≡ (write_line_at w rest l).answer → last ≡ (write_line_at w rest l).out
+      → Put-so-code (record { answer = Ok tt; at = at + line_length w }) last
   put-done h last e f =
-      so (record { answer = Outcome.Done; at = at + line_length w }) last h f (done-by (write_refusal_at w (length out - at) l) (e ∙ ap (λ c. c.answer) rest-by))
+      so (record { answer = Ok tt; at = at + line_length w }) last h f (done-by (write_refusal_at w (length out - at) l) (e ∙ ap (λ c. c.answer) rest-by))
 
 -- bytes put over others leave the length
 over-length : (out text : List ℕ) (at : ℕ) → at + length text ≤ length out → length (take at out ++ overwritten text (drop at out)) ≡ length out

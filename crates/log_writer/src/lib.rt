@@ -7,7 +7,7 @@ ghost use Rattle.definitions.specs.Rules.{rules_in};
 ghost use Rattle.calls.specs.Calls.{put_line_call};
 ghost use Rattle.log_writer.specs.Writers.{put_line_in, put_of, written_to};
 
-use definitions::{Line, Outcome, Refusal, Rulebook};
+use definitions::{Line, Refusal, Rulebook};
 
 #[derive(Drop)]
 pub struct LogWriter<'a> {
@@ -18,7 +18,7 @@ pub struct LogWriter<'a> {
 // The answer to a line that was put, with the position after it.
 #[derive(Drop)]
 pub struct Put {
-    pub answer: Outcome,
+    pub answer: Result<(), Refusal>,
     pub at: usize,
 }
 
@@ -30,18 +30,18 @@ pub fn put_line_in(out: &mut [u8], at: usize, line: Line, width: usize) -> Put
 {
     if out.len() < at {
         return Put {
-            answer: Outcome::Refused(Refusal::WrongLength),
+            answer: Err(Refusal::WrongLength),
             at,
         };
     }
     let answer = lines::write_line_in(&mut out[at..], line, width);
     match answer {
-        Outcome::Refused(refusal) => Put {
-            answer: Outcome::Refused(refusal),
+        Err(refusal) => Put {
+            answer: Err(refusal),
             at,
         },
-        Outcome::Done => Put {
-            answer: Outcome::Done,
+        Ok(()) => Put {
+            answer: Ok(()),
             at: at + (15 + width),
         },
     }

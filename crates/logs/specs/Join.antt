@@ -1,6 +1,5 @@
 -- Document 02, change 5, "Links that join and leave": a link joins. Assumes nothing.
-use Rattle.std.specs.Prelude.{Bool, not, ◌||◌, List, [], ◌∷◌, ◌++◌, map, ℕ, ◌+◌, ◌-◌, ℤ, pos, ◌+ℤ◌, leb, ltb, eqb, if◌then◌else◌}
-use Rattle.std.proofs.Math.Option.{some}
+use Rattle.std.specs.Prelude.{Bool, not, ◌||◌, List, [], ◌∷◌, ◌++◌, map, ℕ, ◌+◌, ◌-◌, ℤ, pos, ◌+ℤ◌, leb, ltb, eqb, if◌then◌else◌, Some}
 use Rattle.std.specs.Int.Signed.{lt_z}
 use Rattle.integers.specs.Words.{from, below, joined}
 use Rattle.definitions.specs.declared.Case.{Case}
@@ -65,9 +64,9 @@ join_tests r c t =
 
 -- its case lines, by what is due: as in a case file, but that an edge has "the new link as its higher link (else 5)"
 abbrev pub join_line_tests : Rules → Reading → CaseDue → Line → List Test
-join_line_tests r g (variable-weight i k) t = due_tests r g (variable-weight i k) (some t)
+join_line_tests r g (variable-weight i k) t = due_tests r g (variable-weight i k) (Some t)
 join_line_tests r g (edge-ends e) t = ends_tests r g e (not (names (g.case.n - 1) t.c)) t
-join_line_tests r g (edge-weight e k l) t = due_tests r g (edge-weight e k l) (some t)
+join_line_tests r g (edge-weight e k l) t = due_tests r g (edge-weight e k l) (Some t)
 
 -- ---- "a join takes effect with its last line": the new scopes have their starting weights as working weights, and the carry stays
 

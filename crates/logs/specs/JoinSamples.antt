@@ -1,6 +1,5 @@
 -- Samples of a link that joins (document 02, change 5), in tables as those of Borders. Assumes nothing.
-use Rattle.std.specs.Prelude.{refl, List, [], ◌∷◌, ◌++◌, map, ℕ, ◌+◌, ℤ, pos, take, replicate}
-use Rattle.std.proofs.Math.Option.{none, some}
+use Rattle.std.specs.Prelude.{refl, List, [], ◌∷◌, ◌++◌, map, ℕ, ◌+◌, ℤ, pos, take, replicate, Some, None}
 use Rattle.integers.specs.Words.{from, minus}
 use Rattle.definitions.specs.declared.Line.{Line}
 use Rattle.definitions.specs.Rules.{standard}
@@ -68,8 +67,8 @@ asked g [] xs = []
 asked g (due ∷ dues) [] = []
 asked g (due ∷ dues) (x ∷ xs) =
     elim (first_refusal (join_line_tests standard g due x)) [
-      | none ↦ 0 ∷ asked (took g due (some x)) dues xs
-      | some y ↦ number y ∷ []
+      | None ↦ 0 ∷ asked (took g due (Some x)) dues xs
+      | Some y ↦ number y ∷ []
     ]
 
 abbrev numbers : Input → ℕ → List Line → List ℕ
@@ -144,7 +143,7 @@ barred-numbers = refl
 abbrev read_to : Reading → List CaseDue → List Line → Reading
 read_to g [] xs = g
 read_to g (due ∷ dues) [] = g
-read_to g (due ∷ dues) (x ∷ xs) = read_to (took g due (some x)) dues xs
+read_to g (due ∷ dues) (x ∷ xs) = read_to (took g due (Some x)) dues xs
 
 abbrev grown_after : Input → List ℤ → ℕ → List Line → WeightedCase
 grown_after i w p xs = let j = begun_join i.case i.weights p in grown_by i.case w (read_to j.reading j.dues xs)

@@ -1,6 +1,5 @@
 -- Document 02, change 5, "Links that join and leave": the plain replay of a log, whose lines of kind 7 and 8 begin a new stretch. Assumes nothing.
-use Rattle.std.specs.Prelude.{Bool, true, false, not, ◌&&◌, ◌||◌, List, [], ◌∷◌, ℕ, ℤ, nat_abs, if◌then◌else◌}
-use Rattle.std.proofs.Math.Option.{Option, none, some}
+use Rattle.std.specs.Prelude.{Bool, true, false, not, ◌&&◌, ◌||◌, List, [], ◌∷◌, ℕ, ℤ, nat_abs, if◌then◌else◌, Option, Some, None}
 use Rattle.integers.specs.Words.{any, is_some}
 use Rattle.definitions.specs.declared.Case.{Case}
 use Rattle.definitions.specs.declared.Line.{Line}
@@ -22,7 +21,7 @@ pub record LogState : Type 0 where
   pub joining : Option Joining
 
 abbrev pub in_stretch : State → LogState
-in_stretch s = record { stretch = s; joining = none }
+in_stretch s = record { stretch = s; joining = None }
 
 abbrev pub fresh_log : Case → List ℤ → LogState
 fresh_log c w = in_stretch (fresh c w)
@@ -36,10 +35,10 @@ new_stretch s v = in_stretch (record {
   weights = v.weights;
   rounds = s.rounds;
   start = upper_bound v.case v.weights;
-  held = none;
+  held = None;
   moving = false;
   void = false;
-  refusal = none;
+  refusal = None;
 })
 
 abbrev pub refused_log : LogState → Refusal → LogState
@@ -61,12 +60,12 @@ abbrev pub after_leave : Rules → State → Line → LogState
 after_leave r s t = new_stretch s (left_by r s.case (nat_abs t.a) s.starting s.weights)
 
 abbrev pub after_join : State → Line → LogState
-after_join s t = record { stretch = s; joining = some (begun_join s.case s.starting (nat_abs t.a)) }
+after_join s t = record { stretch = s; joining = Some (begun_join s.case s.starting (nat_abs t.a)) }
 
 -- a case line of the join, where `due` is due: "a join takes effect with its last line"
 abbrev pub joined_by : State → Reading → List CaseDue → LogState
 joined_by s g [] = new_stretch s (grown_by s.case s.weights g)
-joined_by s g (due ∷ dues) = record { stretch = s; joining = some (record { reading = g; dues = due ∷ dues }) }
+joined_by s g (due ∷ dues) = record { stretch = s; joining = Some (record { reading = g; dues = due ∷ dues }) }
 
 module _ (r : Rules) where
   -- ---- one line, any bytes: what is asked of it, and what it leaves where no number applies
@@ -78,26 +77,26 @@ module _ (r : Rules) where
   begin_join_tests s t = NotDue when (not_due r (8 ∷ []) t) ∷ join_tests r s.case t
 
   abbrev pub unless_number : LogState → LogState → Option Refusal → LogState
-  unless_number s u none = u
-  unless_number s u (some x) = refused_log s x
+  unless_number s u None = u
+  unless_number s u (Some x) = refused_log s x
 
   abbrev pub line_between : State → Line → LogState
   line_between s t =
       if leaves s t then unless_number (in_stretch s) (after_leave r s t) (first_refusal (leave_line_tests s t))
       else if joins s t then unless_number (in_stretch s) (after_join s t) (first_refusal (begin_join_tests s t))
-      else in_stretch (step_unrefused r s (some t))
+      else in_stretch (step_unrefused r s (Some t))
 
   abbrev pub line_of_join : LogState → Reading → List CaseDue → Line → LogState
   line_of_join s g [] t = refused_log s NotDue
-  line_of_join s g (due ∷ dues) t = unless_number s (joined_by s.stretch (took g due (some t)) dues) (first_refusal (join_line_tests r g due t))
+  line_of_join s g (due ∷ dues) t = unless_number s (joined_by s.stretch (took g due (Some t)) dues) (first_refusal (join_line_tests r g due t))
 
   abbrev pub line_by : LogState → Option Joining → Line → LogState
-  line_by s none t = line_between s.stretch t
-  line_by s (some j) t = line_of_join s j.reading j.dues t
+  line_by s None t = line_between s.stretch t
+  line_by s (Some j) t = line_of_join s j.reading j.dues t
 
   abbrev pub line_read : LogState → Option Line → LogState
-  line_read s none = refused_log s NotInColumns
-  line_read s (some t) = line_by s s.joining t
+  line_read s None = refused_log s NotInColumns
+  line_read s (Some t) = line_by s s.joining t
 
   -- a number that applied is the answer to all later lines, and nothing changes any more
   abbrev pub step_log : LogState → List ℕ → LogState
@@ -139,7 +138,7 @@ module _ (r : Rules) where
 abbrev pub log_end : LogState → Option Refusal
 log_end s =
     if is_some s.stretch.refusal then s.stretch.refusal
-    else if is_some s.joining then some CutShort
+    else if is_some s.joining then Some CutShort
     else at_end s.stretch
 
 abbrev pub keeps_log_rules : Rules → Case → List ℤ → List (List ℕ) → Bool

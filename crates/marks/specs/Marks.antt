@@ -1,6 +1,5 @@
 -- Sets of at most eight values, as marks in a byte. Assumes nothing.
-use Rattle.std.specs.Prelude.{Bool, not, ◌&&◌, ◌||◌, List, ℕ, ◌-◌, ◌/◌, ◌%◌, ◌^◌, ltb, eqb, length, if◌then◌else◌}
-use Rattle.std.proofs.Math.Option.{none, some}
+use Rattle.std.specs.Prelude.{Bool, not, ◌&&◌, ◌||◌, List, ℕ, ◌-◌, ◌/◌, ◌%◌, ◌^◌, ltb, eqb, length, if◌then◌else◌, Some, None}
 use Rattle.integers.specs.Words.{below, those, first, bits_of}
 
 -- value k is in the set s
@@ -18,8 +17,8 @@ members s = those (mark s) (below 8)
 -- the lowest value of a set, 8 if it has none
 unfoldable pub lowest_of : ℕ → ℕ
 lowest_of s = elim (first (members s)) [
-  | none ↦ 8
-  | some k ↦ k
+  | None ↦ 8
+  | Some k ↦ k
 ]
 
 unfoldable pub is_single : ℕ → Bool

@@ -7,14 +7,13 @@ use native.Mathlib.Omega.{arith}
 use lib.IntN.{ℤ, pos, neg_ℤ, ◌+ℤ◌}
 use lib.Dec.{T, T_not, not_T, eqb, ltb, ltb→lt}
 use lib.ListN.{length, get_or}
-use Rattle.std.specs.Prelude.{if◌then◌else◌}
+use Rattle.std.specs.Prelude.{if◌then◌else◌, Result, Ok, Err, ⊤}
 use Rattle.integers.specs.Words.{all, any, is_in, within}
 use Rattle.integers.specs.Tests.{not-not-iff}
 use Rattle.integers.specs.Lists.{all_in, any-in}
 use Rattle.definitions.specs.declared.Case.{Case}
 use Rattle.definitions.specs.declared.Refusal.{Refusal}
 use Rattle.definitions.specs.declared.Refusal.TheVariants.{OutsideLimits, LeavesRange}
-use Rattle.definitions.specs.declared.Outcome.{Outcome}
 use Rattle.definitions.specs.Rules.{rules_of}
 use Rattle.definitions.specs.Refusals.{Test, ◌when◌, first_refusal}
 use Rattle.definitions.specs.Answers.{outcome_of, unless_refused}
@@ -87,8 +86,8 @@ module _ (c : Case) (w : List ℤ) (i : ℕ) (raised : List ℕ) (a : ℤ) where
   abbrev asked : List Test
   asked = handed_over (rules_of c) (working_weight (rules_of c)) c w false (press_out (rules_of c) c i raised a)
 
-  pub press-refused : {x : Refusal} → Outcome.Refused x ≡ outcome_of (first_refusal asked)
-      → (Outcome.Refused x ≡ (press_call (rules_of c) c w i raised a).answer) × (w ≡ (press_call (rules_of c) c w i raised a).table)
+  pub press-refused : {x : Refusal} → Err x ≡ outcome_of (first_refusal asked)
+      → Err x ≡ (press_call (rules_of c) c w i raised a).answer × (w ≡ (press_call (rules_of c) c w i raised a).table)
   unfolding press_call
   press-refused d = (
     refused-answer (rules_of c) c w (active_press c w i raised a) asked (asked_of_press (rules_of c) c w i raised a) d,
@@ -96,7 +95,7 @@ module _ (c : Case) (w : List ℤ) (i : ℕ) (raised : List ℕ) (a : ℤ) where
         (active_press c w i raised a) asked (asked_of_press (rules_of c) c w i raised a) d,
   )
 
-  pub press-next : Outcome.Done ≡ outcome_of (first_refusal asked)
+  pub press-next : Ok tt ≡ outcome_of (first_refusal asked)
       → ((move_call (rules_of c) c w (active_press c w i raised a) (asked_of_press (rules_of c) c w i raised a)).answer ≡ (press_call (rules_of c) c w i raised
       a).answer)
       × ((move_call (rules_of c) c w (active_press c w i raised a) (asked_of_press (rules_of c) c w i raised a)).table ≡ (press_call (rules_of c) c w i raised a).table)
@@ -107,7 +106,7 @@ module _ (c : Case) (w : List ℤ) (i : ℕ) (raised : List ℕ) (a : ℤ) where
         (active_press c w i raised a) asked (asked_of_press (rules_of c) c w i raised a) d,
   )
 
-  pub outside-limits : within_limits (rules_of c) c.n c.d c.m ≡ false → Outcome.Refused OutsideLimits ≡ outcome_of (first_refusal asked)
+  pub outside-limits : within_limits (rules_of c) c.n c.d c.m ≡ false → Err OutsideLimits ≡ outcome_of (first_refusal asked)
   outside-limits e = rw e
 
   -- arguments that are not out
@@ -156,7 +155,7 @@ module _ {c : Case} {w : List ℤ} (h : Handed (rules_of c) (working_weight (rul
           (active_values c w i) values-active)
           ∙ says-yes (all_refuted c w (is_raised marks) i (active_values c w i)) ∙ marks-refute c w i marks raised marks-are
 
-      pub press-raised-is : active_refuted c w i raised ≡ true → {o : Outcome} {t : List ℤ}
+      pub press-raised-is : active_refuted c w i raised ≡ true → {o : Result ⊤ Refusal} {t : List ℤ}
           → o ≡ (lower_and_raise_call (rules_of c) c w best marks i values a).answer → t ≡ (lower_and_raise_call (rules_of c) c w best marks i values a).table
           → (o ≡ (move_call (rules_of c) c w (active_press c w i raised a) (asked_of_raised (rules_of c) c w i raised a)).answer)
           × (t ≡ (move_call (rules_of c) c w (active_press c w i raised a) (asked_of_raised (rules_of c) c w i raised a)).table)

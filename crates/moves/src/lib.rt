@@ -12,7 +12,7 @@ ghost use Rattle.theory.proofs.Validity.{Handed};
 ghost use Rattle.tables.specs.Scopes.{Limited};
 ghost use Rattle.moves.specs.Marks.{marked, says_yes, asked_of_raised, asked_of_press};
 
-use definitions::{Case, Outcome, Refusal, SCOPE_PLACES, Verdict};
+use definitions::{Case, Refusal, SCOPE_PLACES};
 
 fn scope_at(scope: u16) -> usize
     ensures { result ≡ scope }
@@ -92,13 +92,13 @@ fn mark_scopes(marks: &mut [u8], raised: &[u16])
     }
 }
 
-fn is_yes(verdict: Verdict) -> bool
+fn is_yes(verdict: Result<bool, Refusal>) -> bool
     ensures { result ≡ says_yes verdict }
 {
     match verdict {
-        Verdict::Yes => true,
-        Verdict::No => false,
-        Verdict::Refused(_) => false,
+        Ok(true) => true,
+        Ok(false) => false,
+        Err(_) => false,
     }
 }
 
@@ -111,7 +111,7 @@ fn press_raised(
     variable: usize,
     raised: &[u16],
     amount: i64,
-) -> Outcome
+) -> Result<(), Refusal>
     requires handed { Handed (rules_of case) (working_weight (rules_of case)) case table.old }
     requires variable_lt_n { (variable < case.n) × T (all (λ x. ltb x (scope_count case)) raised.now) }
     requires t { T (press_amount (rules_of case) amount) }
@@ -128,7 +128,7 @@ fn press_raised(
     tables::greatest_weights(case, table, &mut best);
     let values = changes::best_values(case, table, &best, variable);
     if !is_yes(arcs::values_unsupported(case, table, &best, &marks, variable, values)) {
-        return Outcome::Refused(Refusal::NotRefuted);
+        return Err(Refusal::NotRefuted);
     }
     changes::lower_and_raise(case, table, &mut best, &marks, variable, values, amount)
 }
@@ -140,7 +140,7 @@ fn press_checked(
     variable: usize,
     raised: &[u16],
     amount: i64,
-) -> Outcome
+) -> Result<(), Refusal>
     requires handed { Handed (rules_of case) (working_weight (rules_of case)) case table.old }
     requires variable_lt_n { (variable < case.n) × T (all (λ x. ltb x (scope_count case)) raised.now) }
     requires t { T (press_amount (rules_of case) amount) }
@@ -152,10 +152,10 @@ fn press_checked(
         (asked_of_press (rules_of case) case table.old variable raised.now amount)).table }
 {
     if !is_rising(raised) {
-        return Outcome::Refused(Refusal::RaiseNotAscending);
+        return Err(Refusal::RaiseNotAscending);
     }
     if holds(raised, variable) {
-        return Outcome::Refused(Refusal::RaiseNotAscending);
+        return Err(Refusal::RaiseNotAscending);
     }
     press_raised(case, table, variable, raised, amount)
 }
@@ -169,15 +169,15 @@ pub fn shift(
     end: usize,
     value: usize,
     amount: i64,
-) -> Outcome
+) -> Result<(), Refusal>
     ensures { (result ≡ (shift_call (rules_of case) case table.old edge end value amount).answer)
         × (table.new ≡ (shift_call (rules_of case) case table.old edge end value amount).table) }
 {
     let out = changes::transfer_out(case, edge, end, value, amount);
     let checked = tables::check_working(case, table, false, out);
     match checked {
-        Outcome::Refused(refusal) => Outcome::Refused(refusal),
-        Outcome::Done => {
+        Err(refusal) => Err(refusal),
+        Ok(()) => {
             let mut best = [0i64; SCOPE_PLACES];
             tables::greatest_weights(case, table, &mut best);
             changes::transfer(case, table, &mut best, edge, end, value, amount)
@@ -185,17 +185,17 @@ pub fn shift(
     }
 }
 
-pub fn press(case: Case, table: &mut [i64], variable: usize, raised: &[u16], amount: i64) -> Outcome
+pub fn press(case: Case, table: &mut [i64], variable: usize, raised: &[u16], amount: i64) -> Result<(), Refusal>
     ensures { (result ≡ (press_call (rules_of case) case table.old variable raised.now amount).answer)
         × (table.new ≡ (press_call (rules_of case) case table.old variable raised.now amount).table) }
 {
     if !tables::within_limits(case) {
-        return Outcome::Refused(Refusal::OutsideLimits);
+        return Err(Refusal::OutsideLimits);
     }
     let out = press_out(case, variable, raised, amount);
     let checked = tables::check_working(case, table, false, out);
     match checked {
-        Outcome::Refused(refusal) => Outcome::Refused(refusal),
-        Outcome::Done => press_checked(case, table, variable, raised, amount),
+        Err(refusal) => Err(refusal),
+        Ok(()) => press_checked(case, table, variable, raised, amount),
     }
 }

@@ -1,9 +1,9 @@
 -- Document 02, change 3: all supported families of a value together are supported, so that the largest family is one (`family-supported`,
 -- `family-holds`); each of its values has a lowest partner (`partner-found`); no press and no void line is left
 -- exactly where every variable has a value to show (`no-press-shown`, `shown-no-press`). Assumes nothing.
+use Rattle.std.specs.Prelude.{Option, Some, None}
 use mathlib.Core.Path.{◌≡◌, refl, sym, ap}
 use mathlib.Core.Bool.{Bool, not, ◌&&◌}
-use mathlib.Core.Option.{Option, none, some}
 use mathlib.Core.List.{List}
 use Prim.Native.Nat.{ℕ, zero, suc, ◌-◌, ◌<◌}
 use native.Mathlib.Omega.{arith}
@@ -24,12 +24,12 @@ use Rattle.theory.proofs.Shape.{Shape}
 use Rattle.networks.proofs.Networks.{supported_in-iff, same-family, largest-supported, in-largest, case-ends, supported-network}
 
 -- the first value below n at which f passes, where it passes somewhere
-first_found : (f : ℕ → Bool) (n : ℕ) {x : ℕ} → x < n → T (f x) → (u : ℕ) × (first (those f (below n)) ≡ some u) × (u < n)
+first_found : (f : ℕ → Bool) (n : ℕ) {x : ℕ} → x < n → T (f x) → (u : ℕ) × (first (those f (below n)) ≡ Some u) × (u < n)
 first_found f n l t = go (first (those f (below n))) refl
   where
-    go : (o : Option ℕ) → first (those f (below n)) ≡ o → (u : ℕ) × (first (those f (below n)) ≡ some u) × (u < n)
-    go none e = absurd (T_not (any f (below n)) (first-none f (below n) e) (any_of f n l t))
-    go (some u) e = (u, e, (first-least f n e).0)
+    go : (o : Option ℕ) → first (those f (below n)) ≡ o → (u : ℕ) × (first (those f (below n)) ≡ Some u) × (u < n)
+    go None e = absurd (T_not (any f (below n)) (first-none f (below n) e) (any_of f n l t))
+    go (Some u) e = (u, e, (first-least f n e).0)
 
 module _ (c : Case) (w : List ℤ) (R : ℕ → Bool) (i k : ℕ) (h : i < c.n) where
   -- the union of the definition is that of the network
@@ -59,7 +59,7 @@ module _ (c : Case) (w : List ℤ) (R : ℕ → Bool) (i k : ℕ) (h : i < c.n) 
 
       -- each of its values has a lowest partner across each edge
       pub partner-found : (e end v : ℕ) → e < c.m → end < 2 → v < c.d → T (largest_family c w R i k (end_variable c e end) v)
-          → (u : ℕ) × (lowest_partner c w R (largest_family c w R i k) e end v ≡ some u) × (u < c.d)
+          → (u : ℕ) × (lowest_partner c w R (largest_family c w R i k) e end v ≡ Some u) × (u < c.d)
       partner-found e end v g b l s =
           let (u, o, f, a) = partner end b s in
           first_found (λ u. largest_family c w R i k (end_variable c e (1 - end)) u && allowed_across c w R e end v u) c.d o
@@ -76,7 +76,7 @@ module _ (c : Case) (w : List ℤ) where
   abbrev keeps : ℕ → ℕ → Bool
   keeps i k = active c w i k 0 && not (refuted c w (is_in (others c i)) i k)
 
-  pub shown-no-press : ((i : ℕ) → i < c.n → (k : ℕ) × (supported_value c w i ≡ some k)) → NoPress c w
+  pub shown-no-press : ((i : ℕ) → i < c.n → (k : ℕ) × (supported_value c w i ≡ Some k)) → NoPress c w
   shown-no-press shown i h =
       let (k, e) = shown i h in
       let (l, t, lower) = first-least (keeps i) c.d e in
@@ -85,7 +85,7 @@ module _ (c : Case) (w : List ℤ) where
       (k, l, and_left (active c w i k 0) (not (refuted c w R i k)) t, S, p)
 
   module _ (shape : Shape c) where
-    pub no-press-shown : NoPress c w → (i : ℕ) → i < c.n → (k : ℕ) × (supported_value c w i ≡ some k) × (k < c.d)
+    pub no-press-shown : NoPress c w → (i : ℕ) → i < c.n → (k : ℕ) × (supported_value c w i ≡ Some k) × (k < c.d)
     no-press-shown rest i h =
         let (k, l, a, S, p) = rest i h in
         let R : ℕ → Bool = is_in (others c i) in

@@ -30,8 +30,8 @@ abbrev pub Within : Network → Family → Family → Type 0
 Within N F G = (j v : ℕ) → j < N.variables → v < N.values → T (F j v) → T (G j v)
 
 -- no family is supported inside G
-abbrev pub None : Network → Family → Type 0
-None N G = (S : Family) → SupportedIn N G S → ⊥
+abbrev pub NoFamily : Network → Family → Type 0
+NoFamily N G = (S : Family) → SupportedIn N G S → ⊥
 
 pub supported_in-iff : (N : Network) (G S : Family) → T (supported_in N G S) ↔ SupportedIn N G S
 supported_in-iff N G S = (
@@ -180,10 +180,10 @@ module _ (N : Network) (G : Family) where
       let (F, m, s) = (any-in (holds_at j v) (families_of N)).0 t in
       (marks F, (supported_in-iff N G (marks F)).0 (and_left (holds F) (marks F j v) s), and_right (holds F) (marks F j v) s)
 
-  pub largest-empty : None N G → (j v : ℕ) → largest N G j v ≡ false
+  pub largest-empty : NoFamily N G → (j v : ℕ) → largest N G j v ≡ false
   largest-empty none j v = is_false (largest N G j v) (not_T (largest N G j v) (λ t. let (S, p, s) = largest-in j v t in none S p))
 
-  pub none_tried : None N G → any (λ F. supported_in N G (marks F)) (families_of N) ≡ false
+  pub none_tried : NoFamily N G → any (λ F. supported_in N G (marks F)) (families_of N) ≡ false
   none_tried none =
       is_false (any holds (families_of N)) (not_T (any holds (families_of N)) (λ t.
       let (F, m, s) = (any-in holds (families_of N)).0 t in
@@ -224,7 +224,7 @@ module _ (N : Network) (G : Family) where
         (λ t. let (S, q, s) = largest-in j v t in most S q j v h g s)
 
     -- one empty set of the largest family shows that there is none
-    pub none-empty : (j : ℕ) → j < N.variables → None N G ↔ T (not (any (λ v. largest N G j v) (below N.values)))
+    pub none-empty : (j : ℕ) → j < N.variables → NoFamily N G ↔ T (not (any (λ v. largest N G j v) (below N.values)))
     none-empty j h = (
       λ none. not_T (any (largest N G j) (below N.values)) (λ t.
           let (v, g, l) = any_at (largest N G j) N.values t in
@@ -289,7 +289,7 @@ module _ (c : Case) (w : List ℤ) (R : ℕ → Bool) where
     )
 
     module _ (shape : Shape c) where
-      pub refuted-none : T (refuted c w R i k) ↔ None (network_of c w R) (fixed_sets c w R i k)
+      pub refuted-none : T (refuted c w R i k) ↔ NoFamily (network_of c w R) (fixed_sets c w R i k)
       refuted-none = (
         λ t S p. (refuted-sound c w R i k (case-ends shape) t).none-exists S (supported-network.1 p),
         λ none. refuted-complete c w R i k (record { none-exists = λ S p. none S (supported-network.0 p) }),

@@ -1,6 +1,5 @@
 -- Whether a pair's round leaves the working range, and the lowest pair whose round the engine makes, on all input. Assumes nothing.
-use Rattle.std.specs.Prelude.{◌≡◌, Bool, true, false, not, ◌&&◌, ◌||◌, List, ℕ, ◌+◌, ◌*◌, ◌≤◌, ◌<◌, ℤ, pos, ◌+ℤ◌, ◌-ℤ◌, ltb, length, get_or, if◌then◌else◌}
-use Rattle.std.proofs.Math.Option.{Option, none, some}
+use Rattle.std.specs.Prelude.{◌≡◌, Bool, true, false, not, ◌&&◌, ◌||◌, List, ℕ, ◌+◌, ◌*◌, ◌≤◌, ◌<◌, ℤ, pos, ◌+ℤ◌, ◌-ℤ◌, ltb, length, get_or, if◌then◌else◌, Option, Some, None}
 use Rattle.std.specs.Int.Signed.{le_z}
 use Rattle.integers.specs.Words.{below, any, those, first}
 use Rattle.definitions.specs.declared.Case.{Case}
@@ -11,7 +10,6 @@ use Rattle.marks.specs.Marks.{mark}
 use Rattle.tables.specs.Scopes.{best_at, is_sized}
 use Rattle.arcs.specs.Partners.{has_partner}
 use Rattle.pair_choice.specs.declared.Asked.{Asked}
-use Rattle.pair_choice.specs.declared.Paired.{Paired}
 
 -- ---- what is asked of a pair's tuples
 
@@ -57,9 +55,9 @@ leaves_by r c w e = not (is_sized r c (length w)) || (not (ltb e c.m) || round_l
 
 -- ---- the pair
 
-abbrev pub paired_of : Option ℕ → Paired
-paired_of none = Paired.Nothing
-paired_of (some e) = Paired.Pair e
+abbrev pub paired_of : Option ℕ → Option ℕ
+paired_of None = None
+paired_of (Some e) = Some e
 
 -- a value of `set` has a partner in `other`; the row of value k stands at place `at` + k
 unfoldable pub has_choice : List ℕ → ℕ → ℕ → ℕ → Bool
@@ -89,11 +87,11 @@ abbrev pub marks_short : Case → ℕ → ℕ → Bool
 marks_short c acts rows = ltb acts c.n || ltb rows (16 * c.m)
 
 -- numbers 3 and 4: nothing
-unfoldable pub lowest_pair_answer : Rules → Case → List ℤ → List ℤ → List ℕ → List ℕ → Paired
+unfoldable pub lowest_pair_answer : Rules → Case → List ℤ → List ℤ → List ℕ → List ℕ → Option ℕ
 lowest_pair_answer r c w best acts rows =
     if is_sized r c (length w) && not (ltb (length best) (scope_count c) || marks_short c (length acts) (length rows))
     then paired_of (first (those (takes_pair r c w best acts rows) (below c.m)))
-    else Paired.Nothing
+    else None
 
 -- ---- the private functions, over places in the table
 

@@ -13,20 +13,13 @@ ghost use Rattle.pair_choice.specs.PairChoice.{shifted_of, all_working, tuple_st
 ghost use Rattle.pair_choice.specs.PairChoice.{round_leaves, leaves_by, paired_of, has_choice, less_one, most_left, takes_round, takes_pair};
 ghost use Rattle.pair_choice.specs.PairChoice.{NextCandidate, marks_short, lowest_pair_answer};
 
-use definitions::{Case, Rulebook};
-
-// The pair to take, if there is one.
-#[derive(Clone, Copy)]
-pub enum Paired {
-    Pair(usize),
-    Nothing,
-}
+use definitions::{Case, Refusal, Rulebook};
 
 // What is asked of a pair's tuples: does one pass the range or this number, is one a choice.
 #[derive(Clone, Copy)]
 enum Asked {
     Passes(i64),
-    Choice,
+    Result<Choice, Refusal>,
 }
 
 // ---- a tuple
@@ -290,7 +283,7 @@ fn takes_round(case: Case, table: &[i64], best: &[i64], edge: usize) -> bool
 }
 
 // The table is looked at only for pairs that have no active choice.
-fn lowest_in(case: Case, table: &[i64], best: &[i64], acts: &[u8], rows: &[u8]) -> Paired
+fn lowest_in(case: Case, table: &[i64], best: &[i64], acts: &[u8], rows: &[u8]) -> Option<usize>
     requires { Sized case table.now × (scope_count case ≤ length best.now) × (16 * case.m ≤ length rows.now) }
     ensures { result ≡ paired_of (first (those (takes_pair (rules_of case) case table.now best.now acts.now
         rows.now) (below case.m))) }
@@ -299,11 +292,11 @@ fn lowest_in(case: Case, table: &[i64], best: &[i64], acts: &[u8], rows: &[u8]) 
     let mut e = next_candidate(case, acts, rows, 0);
     while e < m {
         if takes_round(case, table, best, e) {
-            return Paired::Pair(e);
+            return Some(e);
         }
         e = next_candidate(case, acts, rows, e + 1);
     }
-    Paired::Nothing
+    None
 }
 
 fn marks_short(case: Case, acts: usize, rows: usize) -> bool
@@ -332,17 +325,17 @@ pub fn leaves_range(case: Case, table: &[i64], edge: usize) -> bool
 
 // The lowest pair that gains and is not passed over. `best` holds each scope's greatest weight, `acts` the active values of each variable, `rows`
 // sixteen bytes for each edge, as `arcs::active_marks` writes them. Nothing where 3 applies, or 4 to the table, or one of these is too short.
-pub fn lowest_pair(case: Case, table: &[i64], best: &[i64], acts: &[u8], rows: &[u8]) -> Paired
+pub fn lowest_pair(case: Case, table: &[i64], best: &[i64], acts: &[u8], rows: &[u8]) -> Option<usize>
     ensures { result ≡ lowest_pair_answer (rules_of case) case table.now best.now acts.now rows.now }
 {
     if !tables::is_sized(case, table.len()) {
-        return Paired::Nothing;
+        return None;
     }
     if best.len() < case.n + case.m {
-        return Paired::Nothing;
+        return None;
     }
     if marks_short(case, acts.len(), rows.len()) {
-        return Paired::Nothing;
+        return None;
     }
     lowest_in(case, table, best, acts, rows)
 }

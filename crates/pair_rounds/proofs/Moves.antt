@@ -2,7 +2,6 @@
 -- be shifted; and where a value's weight stands. Assumes nothing.
 use mathlib.Core.Path.{◌≡◌, refl, sym, ap, subst, ◌∙◌}
 use mathlib.Core.Bool.{true, false, ◌&&◌}
-use mathlib.Core.Option.{none, some}
 use mathlib.Core.List.{List, [], ◌∷◌, ◌++◌, map, append-nil}
 use mathlib.Core.List.Memᴰ
 use Prim.Native.Nat.{ℕ, suc, ◌+◌, ◌*◌, ◌-◌, ◌^◌, ◌≤◌, ◌<◌}
@@ -12,7 +11,7 @@ use native.Mathlib.Omega.{arith}
 use lib.IntN.{ℤ, pos, neg_ℤ, ◌+ℤ◌, +ℤ_idr}
 use lib.Dec.{not_T, eqb, eqb→eq}
 use lib.Signed.{◌≤ℤ◌}
-use Rattle.std.specs.Prelude.{if◌then◌else◌}
+use Rattle.std.specs.Prelude.{if◌then◌else◌, Some, None}
 use Rattle.integers.specs.Words.{from, below, joined, minus}
 use Rattle.integers.specs.Tests.{if-cases, if-false, and_left, and_right, not-or-iff}
 use Rattle.integers.specs.Linear.{flat, zs, ◌▸◌}
@@ -38,10 +37,10 @@ use Rattle.pair_rounds.specs.Shifts.{left_out}
 -- ---- moves one after another
 
 module _ {r : Rules} {c : Case} where
-  pub allowed-after : {w v : List ℤ} {moves : List Move} → AllAllowed r c w moves v → after_moves r c moves w ≡ some v
+  pub allowed-after : {w v : List ℤ} {moves : List Move} → AllAllowed r c w moves v → after_moves r c moves w ≡ Some v
   allowed-after no_move = refl
   allowed-after {w} (one_more {move} {moves} k m) =
-      if-false none (after_moves r c moves (moved c move w)) (leaves_range r c w (moved c move w)) (allowed-stays r c w move k) ∙ allowed-after m
+      if-false None (after_moves r c moves (moved c move w)) (leaves_range r c w (moved c move w)) (allowed-stays r c w move k) ∙ allowed-after m
 
   pub allowed-join : {w u v : List ℤ} {xs ys : List Move} → AllAllowed r c w xs u → AllAllowed r c u ys v → AllAllowed r c w (xs ++ ys) v
   allowed-join no_move n = n

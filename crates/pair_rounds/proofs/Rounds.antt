@@ -1,7 +1,7 @@
 -- What the call of a pair's round answers and leaves: refused before, out of the range, or made. Assumes nothing.
+use Rattle.std.specs.Prelude.{Result, Ok, Err, Option, Some, None}
 use mathlib.Core.Path.{◌≡◌, refl, sym, ap, ◌∙◌}
 use mathlib.Core.Bool.{not}
-use mathlib.Core.Option.{Option, none, some}
 use mathlib.Core.List.{List, [], ◌∷◌, ◌++◌, map, append-nil}
 use Prim.Native.Nat.{ℕ, ◌+◌, ◌*◌, ◌≤◌, ◌<◌}
 use native.Mathlib.Nat.{mul-add, mul-le-mul_left}
@@ -13,7 +13,6 @@ use Rattle.integers.specs.Words.{joined}
 use Rattle.integers.specs.Tests.{tests, not-not-iff, if-true}
 use Rattle.integers.specs.Lists.{joined-append, map-append}
 use Rattle.definitions.specs.declared.Case.{Case}
-use Rattle.definitions.specs.declared.Outcome.{Outcome}
 use Rattle.definitions.specs.declared.Refusal.{Refusal}
 use Rattle.definitions.specs.declared.Refusal.TheVariants.{LeavesRange}
 use Rattle.definitions.specs.declared.Round.{Round}
@@ -47,11 +46,11 @@ module _ (c : Case) (w : List ℤ) (out : List ℕ) (e : ℕ) where
   abbrev asked : Option Refusal
   asked = pair_refusal (rules_of c) c w (length out) e
 
-  pub pair-refused : {x : Refusal} → Outcome.Refused x ≡ outcome_of asked → MadePair c w out e w out (Round.Refused x)
+  pub pair-refused : {x : Refusal} → Err x ≡ outcome_of asked → MadePair c w out e w out (Err x)
   unfolding pair_call
-  pair-refused f = let d : asked ≡ some _ = outcome-refused f in record { answer = rw (d, pair_call); table = rw (d, pair_call); output = rw (d, pair_call) }
+  pair-refused f = let d : asked ≡ Some _ = outcome-refused f in record { answer = rw (d, pair_call); table = rw (d, pair_call); output = rw (d, pair_call) }
 
-  pub pair-asked : Outcome.Done ≡ outcome_of asked
+  pub pair-asked : Ok tt ≡ outcome_of asked
       → (Handed (rules_of c) (working_weight (rules_of c)) c w × (e < c.m)) × (round_bytes (rules_of c) c ≤ length out)
   pair-asked f =
       let (h, s, t) = (handed (rules_of c) (working_weight (rules_of c)) c w (ltb (length out) (round_bytes (rules_of c) c)) (not (ltb e c.m))).0
@@ -75,7 +74,7 @@ round-text c moves v =
 
 module _ {c : Case} {w : List ℤ} {e : ℕ} (out : List ℕ) (h : Handed (rules_of c) (working_weight (rules_of c)) c w) (edge : e < c.m)
     (long : round_bytes (rules_of c) c ≤ length out) where
-  taken : pair_refusal (rules_of c) c w (length out) e ≡ none
+  taken : pair_refusal (rules_of c) c w (length out) e ≡ None
   taken = (none-iff (pair_refusal (rules_of c) c w (length out) e)).0
       ((handed (rules_of c) (working_weight (rules_of c)) c w (ltb (length out) (round_bytes (rules_of c) c)) (not (ltb e c.m))).1
       (h, simp tests (omega arith), (not-not-iff (ltb e c.m)).1 (lt→ltb e c.m edge)))
@@ -91,9 +90,9 @@ module _ {c : Case} {w : List ℤ} {e : ℕ} (out : List ℕ) (h : Handed (rules
       pair-call-taken ∙ ap (λ (u : Option (List ℤ)). round_made c w out (made_of (rules_of c) c (pair_round c w e) u)) f
 
   -- it leaves the range
-  pub pair-round-refused : T (pair_leaves (rules_of c) c w e) → MadePair c w out e w out (Round.Refused LeavesRange)
+  pub pair-round-refused : T (pair_leaves (rules_of c) c w e) → MadePair c w out e w out (Err LeavesRange)
   pair-round-refused t =
-      let d = call-is none (after-pair (coherent c.rulebook) h edge ∙ if-true none (some (pair_rounded c w e)) (pair_leaves (rules_of c) c w e) t) in
+      let d = call-is None (after-pair (coherent c.rulebook) h edge ∙ if-true None (Some (pair_rounded c w e)) (pair_leaves (rules_of c) c w e) t) in
       record {
         answer = sym (ap (λ (u : RoundCall). u.answer) d);
         table = sym (ap (λ (u : RoundCall). u.table) d);
@@ -101,15 +100,15 @@ module _ {c : Case} {w : List ℤ} {e : ℕ} (out : List ℕ) (h : Handed (rules
       }
 
   -- the shifts and the bound line were made
-  pub pair-round-made : {v best : List ℤ} {at : ℕ} {next last : List ℕ} {r : Round} → Shifted c (pair_round c w e) w v best 0 at out next
+  pub pair-round-made : {v best : List ℤ} {at : ℕ} {next last : List ℕ} {r : Result Round Refusal} → Shifted c (pair_round c w e) w v best 0 at out next
       → Bounded c v at next last r
       → MadePair c w out e v last r
   pair-round-made {v} s b =
-      let d = call-is (some v) (allowed-after s.allowed) in
+      let d = call-is (Some v) (allowed-after s.allowed) in
       let (p, q) = put-join s.put b.put [] out refl refl in
       let t = round-text c (pair_round c w e) v in
       record {
-        answer = b.answer ∙ ap (λ (n : ℕ). Round.Made n (upper_bound c v)) (sym q ∙ ap length (sym t)) ∙ sym (ap (λ (u : RoundCall). u.answer) d);
+        answer = b.answer ∙ ap (λ (n : ℕ). Ok (Round.Made n (upper_bound c v))) (sym q ∙ ap length (sym t)) ∙ sym (ap (λ (u : RoundCall). u.answer) d);
         table = sym (ap (λ (u : RoundCall). u.table) d);
         output = p ∙ ap (λ (l : List ℕ). overwritten l out) (sym t) ∙ sym (ap (λ (u : RoundCall). u.out) d);
       }

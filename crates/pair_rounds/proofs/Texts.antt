@@ -1,4 +1,6 @@
 -- Moves made with their lines put: none, one shift, and one part after the other. Assumes nothing.
+use Rattle.std.specs.Prelude.{Result, ⊤}
+use Rattle.definitions.specs.declared.Refusal.{Refusal}
 use mathlib.Core.Path.{◌≡◌, refl, sym, ap, subst, ◌∙◌}
 use mathlib.Core.Bool.{Bool, false}
 use mathlib.Core.List.Memᴰ
@@ -16,7 +18,6 @@ use Rattle.integers.specs.Tests.{false-is, is_false, not-or-iff, not-not-iff}
 use Rattle.integers.specs.Lists.{joined-append, map-append}
 use Rattle.definitions.specs.declared.Case.{Case}
 use Rattle.definitions.specs.declared.Line.{Line}
-use Rattle.definitions.specs.declared.Outcome.{Outcome}
 use Rattle.definitions.specs.Rules.{rules_of, coherent}
 use Rattle.definitions.specs.Refusals.{◌when◌, first_refusal}
 use Rattle.definitions.specs.declared.Refusal.TheVariants.{LeavesRange}
@@ -119,7 +120,7 @@ module _ {c : Case} where
       inside = is_false (shift_out (rules_of c) c e end v a)
           (simp (not-or-iff, not-not-iff) (((lt→ltb e c.m k.edge, lt→ltb end 2 k.side), lt→ltb v c.d k.value), k.amount))
 
-      pub shifted_one : {answer : Outcome} {after greatest : List ℤ} → Gives (transfer_call (rules_of c) c w best e end v a) answer after greatest
+      pub shifted_one : {answer : Result ⊤ Refusal} {after greatest : List ℤ} → Gives (transfer_call (rules_of c) c w best e end v a) answer after greatest
           → {at r : ℕ} {out next : List ℕ} → r ≡ at + line_bytes c → Put at (line_text_of c (shift_line e end v a)) (at + line_bytes c) out next
           → Shifted c (shift e end v a ∷ []) w after greatest at r out next
       shifted_one {after} {greatest} (f, g, i) {at} {r} {out} {next} n put =

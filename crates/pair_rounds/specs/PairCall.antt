@@ -1,6 +1,5 @@
 -- The round of one pair on a lent table and a lent output, on all input. Assumes nothing.
-use Rattle.std.specs.Prelude.{not, List, ℕ, ℤ, ltb, length}
-use Rattle.std.proofs.Math.Option.{Option, none, some}
+use Rattle.std.specs.Prelude.{not, List, ℕ, ℤ, ltb, length, Option, Some, None}
 use Rattle.definitions.specs.declared.Case.{Case}
 use Rattle.definitions.specs.declared.Refusal.{Refusal}
 use Rattle.definitions.specs.Rules.{Rules}
@@ -21,6 +20,6 @@ pair_made r c w e = made_of r c (pair_round c w e) (after_moves r c (pair_round 
 -- Its lines from the output's first byte; refused, table and output keep what they held.
 unfoldable pub pair_call : Rules → Case → List ℤ → List ℕ → ℕ → RoundCall
 pair_call r c w out e = elim (pair_refusal r c w (length out) e) [
-  | some x ↦ round_made c w out (refused x)
-  | none ↦ round_made c w out (pair_made r c w e)
+  | Some x ↦ round_made c w out (refused x)
+  | None ↦ round_made c w out (pair_made r c w e)
 ]

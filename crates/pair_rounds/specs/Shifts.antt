@@ -1,6 +1,7 @@
 -- What the inner functions may take as known and what they leave: moves made on a table, and their lines put one after the other. Assumes
 -- nothing.
-use Rattle.std.specs.Prelude.{◌≡◌, Bool, ◌||◌, List, map, ℕ, ◌+◌, ◌*◌, ◌<◌, ℤ, pos, length}
+use Rattle.definitions.specs.declared.Refusal.{Refusal}
+use Rattle.std.specs.Prelude.{◌≡◌, Bool, ◌||◌, List, map, ℕ, ◌+◌, ◌*◌, ◌<◌, ℤ, pos, length, Result, Ok}
 use Rattle.integers.specs.Words.{joined, eq_z}
 use Rattle.definitions.specs.declared.Case.{Case}
 use Rattle.definitions.specs.declared.Line.{Line}
@@ -59,12 +60,12 @@ abbrev pub Held : Case → List ℤ → Type 0
 Held c best = (v : List ℤ) × Handed (rules_of c) (working_weight (rules_of c)) c v × BestOf c v best
 
 -- the bound line was put at byte `at`
-pub record Bounded (c : Case) (v : List ℤ) (at : ℕ) (out next : List ℕ) (r : Round) : Type 0 where
-  pub answer : r ≡ Round.Made (at + line_bytes c) (upper_bound c v)
+pub record Bounded (c : Case) (v : List ℤ) (at : ℕ) (out next : List ℕ) (r : Result Round Refusal) : Type 0 where
+  pub answer : r ≡ Ok (Round.Made (at + line_bytes c) (upper_bound c v))
   pub put : Put at (line_text_of c (bound_line (upper_bound c v))) (at + line_bytes c) out next
 
 -- what a call of the pair's round answers and leaves
-pub record MadePair (c : Case) (w : List ℤ) (out : List ℕ) (e : ℕ) (v : List ℤ) (next : List ℕ) (r : Round) : Type 0 where
+pub record MadePair (c : Case) (w : List ℤ) (out : List ℕ) (e : ℕ) (v : List ℤ) (next : List ℕ) (r : Result Round Refusal) : Type 0 where
   pub answer : r ≡ (pair_call (rules_of c) c w out e).answer
   pub table : v ≡ (pair_call (rules_of c) c w out e).table
   pub output : next ≡ (pair_call (rules_of c) c w out e).out

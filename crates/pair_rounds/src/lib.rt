@@ -19,7 +19,7 @@ ghost use Rattle.pair_rounds.specs.PairCall.{pair_call};
 ghost use Rattle.pair_rounds.specs.Shifts.{line_bytes, line_text_of, shift_line, left_out, moves_line_count, Allows, Ready, Shifted, Held};
 ghost use Rattle.pair_rounds.specs.Shifts.{Bounded, MadePair};
 
-use definitions::{Case, Figure, Line, Outcome, Refusal, Round, SCOPE_PLACES};
+use definitions::{Case, Line, Refusal, Round, SCOPE_PLACES};
 
 // ---- lines
 
@@ -173,7 +173,7 @@ fn shift_both(case: Case, table: &mut [i64], best: &mut [i64], out: &mut [u8], e
 // ---- the round
 
 // The bound line, and what a round answers that was made.
-fn put_bound(case: Case, out: &mut [u8], best: &[i64], at: usize) -> Round
+fn put_bound(case: Case, out: &mut [u8], best: &[i64], at: usize) -> Result<Round, Refusal>
     requires case_in_bounds { at + line_bytes case ≤ length out.old }
     requires held { Held case best.now }
     ensures { (v : List ℤ) → Handed (rules_of case) (working_weight (rules_of case)) case v → BestOf case v best.now
@@ -181,16 +181,16 @@ fn put_bound(case: Case, out: &mut [u8], best: &[i64], at: usize) -> Round
 {
     let sum = tables::sum_of_best(case, best);
     match sum {
-        Figure::Refused(refusal) => Round::Refused(refusal),
-        Figure::Value(bound) => {
+        Err(refusal) => Err(refusal),
+        Ok(bound) => {
             let bytes = put_line(case, out, at, bound_line(bound));
-            Round::Made { bytes, bound }
+            Ok(Round::Made { bytes, bound })
         }
     }
 }
 
 // The round of a pair that does not leave the range.
-fn shift_pair(case: Case, table: &mut [i64], out: &mut [u8], best: &mut [i64], edge: usize) -> Round
+fn shift_pair(case: Case, table: &mut [i64], out: &mut [u8], best: &mut [i64], edge: usize) -> Result<Round, Refusal>
     requires ready { Ready case table.old best.old edge }
     requires t { T (not (pair_leaves (rules_of case) case table.old edge)) × (round_bytes (rules_of case) case ≤ length out.old) }
     ensures { MadePair case table.old out.old edge table.new out.new result }
@@ -199,13 +199,13 @@ fn shift_pair(case: Case, table: &mut [i64], out: &mut [u8], best: &mut [i64], e
     put_bound(case, out, best, at)
 }
 
-fn pair_round(case: Case, table: &mut [i64], out: &mut [u8], edge: usize) -> Round
+fn pair_round(case: Case, table: &mut [i64], out: &mut [u8], edge: usize) -> Result<Round, Refusal>
     requires handed { Handed (rules_of case) (working_weight (rules_of case)) case table.old × (edge < case.m) }
     requires case_in_bounds { round_bytes (rules_of case) case ≤ length out.old }
     ensures { MadePair case table.old out.old edge table.new out.new result }
 {
     if pair_choice::leaves_range(case, table, edge) {
-        return Round::Refused(Refusal::LeavesRange);
+        return Err(Refusal::LeavesRange);
     }
     let mut best = [0i64; SCOPE_PLACES];
     tables::greatest_weights(case, table, &mut best);
@@ -216,14 +216,14 @@ fn pair_round(case: Case, table: &mut [i64], out: &mut [u8], edge: usize) -> Rou
 
 // The round of one pair: its lines from the output's first byte. Asks 3 to 8 and 15, 4 of the output and 5 of the edge too, and 11; refused, table
 // and output keep what they held. Whether the pair gains is not asked.
-pub fn make_round(case: Case, table: &mut [i64], out: &mut [u8], edge: usize) -> Round
+pub fn make_round(case: Case, table: &mut [i64], out: &mut [u8], edge: usize) -> Result<Round, Refusal>
     ensures { (result ≡ (pair_call (rules_of case) case table.old out.old edge).answer)
         × (table.new ≡ (pair_call (rules_of case) case table.old out.old edge).table)
         × (out.new ≡ (pair_call (rules_of case) case table.old out.old edge).out) }
 {
     let checked = round_lines::check_round(case, table, out.len(), !(edge < case.m));
     match checked {
-        Outcome::Refused(refusal) => Round::Refused(refusal),
-        Outcome::Done => pair_round(case, table, out, edge),
+        Err(refusal) => Err(refusal),
+        Ok(()) => pair_round(case, table, out, edge),
     }
 }

@@ -2,7 +2,6 @@
 -- that are active together with their tuple does not; no pair is left for a round just where each that gains is passed over. Assumes nothing.
 use mathlib.Core.Path.{◌≡◌, refl, sym, ap, ap₂, subst}
 use mathlib.Core.Bool.{Bool, true, false, not, ◌&&◌}
-use mathlib.Core.Option.{none, some}
 use mathlib.Core.Logic.{◌↔◌, ⊎_elim}
 use mathlib.Core.List.Memᴰ
 use mathlib.Core.List.{List, [], ◌∷◌}
@@ -11,7 +10,7 @@ use native.Mathlib.Omega.{arith}
 use lib.IntN.{ℤ, pos, ◌+ℤ◌}
 use lib.Dec.{T, T_not, not_T}
 use lib.Signed.{◌≤ℤ◌, lt_z}
-use Rattle.std.specs.Prelude.{if◌then◌else◌}
+use Rattle.std.specs.Prelude.{if◌then◌else◌, Some, None}
 use Rattle.integers.specs.Words.{below, all, any, first}
 use Rattle.integers.specs.Tests.{either, and_intro, and_left, and_right, or_cases, not-or-iff, not-not-iff, if-true, if-false}
 use Rattle.integers.specs.Linear.{flat, zs, ◌▸◌}
@@ -139,12 +138,12 @@ module _ (r : Rules) (c : Case) (w : List ℤ) where
   abbrev ready : ℕ → Bool
   ready e = gains c w e && not (passed_over r c w e)
 
-  pub lowest-some : {e : ℕ} → lowest_pair r c w ≡ some e → (e < c.m) × T (gains c w e) × T (not (passed_over r c w e))
+  pub lowest-some : {e : ℕ} → lowest_pair r c w ≡ Some e → (e < c.m) × T (gains c w e) × T (not (passed_over r c w e))
   lowest-some {e} o =
       let (h, t, l) = first-least ready c.m o in
       (h, and_left (gains c w e) (not (passed_over r c w e)) t, and_right (gains c w e) (not (passed_over r c w e)) t)
 
-  pub pairs-settled-iff : Shape c → lowest_pair r c w ≡ none ↔ PairsSettled r c w
+  pub pairs-settled-iff : Shape c → lowest_pair r c w ≡ None ↔ PairsSettled r c w
   pairs-settled-iff shape = (
     λ o e h g. ⊎_elim (λ t. t)
         (λ t. absurd (T_not (any ready (below c.m)) (first-none ready (below c.m) o) (any_of ready c.m h

@@ -3,7 +3,6 @@
 -- round lowers the upper bound just where each sum of both ends stays below the three greatest weights. Assumes nothing.
 use mathlib.Core.Path.{◌≡◌, refl, sym, ap, ap₂, subst, ◌∙◌}
 use mathlib.Core.Bool.{Bool, true, false, not, ◌&&◌, ◌||◌}
-use mathlib.Core.Option.{Option, none, some}
 use mathlib.Core.Logic.{◌↔◌, ⊎_elim}
 use mathlib.Core.List.{List, [], ◌∷◌, ◌++◌, map, append-nil}
 use mathlib.Core.List.Memᴰ
@@ -14,7 +13,7 @@ use lib.IntN.{ℤ, pos, neg_ℤ, ◌+ℤ◌, +ℤ_idr, ◌-ℤ◌}
 use lib.Dec.{T, T_not, ltb, lt→ltb, ltb→lt, eqb}
 use lib.Signed.{lt_z}
 use lib.ListN.{length, length-append}
-use Rattle.std.specs.Prelude.{if◌then◌else◌}
+use Rattle.std.specs.Prelude.{if◌then◌else◌, Option, Some, None}
 use Rattle.integers.specs.Words.{from, below, all, any, joined, eq_z}
 use Rattle.integers.specs.Tests.{tests, same_test, either, and-iff, or_left, or_right, or_cases, not-or-iff, not-not-iff, if-true, if-false, if-cases}
 use Rattle.integers.specs.Options.{some_inj, found-else}
@@ -102,7 +101,7 @@ module _ {r : Rules} (coherent : Coherent r) (c : Case) (w : List ℤ) (e end : 
   leaves k = leaves_range r c w (at (suc k))
 
   abbrev made : ℕ → ℕ → Option (List ℤ)
-  made a n = if any leaves (from a n) then none else after_moves r c rest (at (a + n))
+  made a n = if any leaves (from a n) then None else after_moves r c rest (at (a + n))
 
   stay : (v : ℕ) → shifted c w (end_variable c e end) v ≡ pos 0 → at v ≡ at (suc v)
   stay v o = plus-cong c (spared c w (by v)) w (spared c w (by (suc v))) (λ x k l t. ap (λ (z : ℤ). if barred c w x k l then pos 0 else z)
@@ -116,10 +115,10 @@ module _ {r : Rules} (coherent : Coherent r) (c : Case) (w : List ℤ) (e end : 
       ∙ plus-cong c _ w (spared c w (by (suc v))) (λ x k l t. ap (λ (z : ℤ). if barred c w x k l then pos 0 else z) (sym (step v x k l)))
 
   after_one : (a n : ℕ) → (T (not (leaves a)) → after_moves r c (shifts (suc a) n) (at (suc a)) ≡ made (suc a) n)
-      → (if leaves a then none else after_moves r c (shifts (suc a) n) (at (suc a))) ≡ made a (suc n)
+      → (if leaves a then None else after_moves r c (shifts (suc a) n) (at (suc a))) ≡ made a (suc n)
   after_one a n f =
-      onward (leaves a) (any leaves (from (suc a) n)) none (after_moves r c (shifts (suc a) n) (at (suc a))) (after_moves r c rest (at (a + suc n)))
-      (λ t. f t ∙ ap (λ (m : ℕ). if any leaves (from (suc a) n) then none else after_moves r c rest (at m)) (omega arith))
+      onward (leaves a) (any leaves (from (suc a) n)) None (after_moves r c (shifts (suc a) n) (at (suc a))) (after_moves r c rest (at (a + suc n)))
+      (λ t. f t ∙ ap (λ (m : ℕ). if any leaves (from (suc a) n) then None else after_moves r c rest (at m)) (omega arith))
 
   after-end : (a n : ℕ) → T (not (leaves_range r c w (at a))) → after_moves r c (shifts a n) (at a) ≡ made a n
   after-end a zero t = rw (add-zero a)
@@ -130,17 +129,17 @@ module _ {r : Rules} (coherent : Coherent r) (c : Case) (w : List ℤ) (e end : 
       (is_barred z || eq_z z (pos 0)) [] (shift e end a (neg_ℤ z) ∷ [])
       (λ s.
       let o : at a ≡ at (suc a) = stay a (left_out z s) in
-      ap go o ∙ sym (if-false none _ (leaves a) (subst (λ (v : List ℤ). T (not (leaves_range r c w v))) o t)) ∙ after_one a n (after-end (suc a) n))
+      ap go o ∙ sym (if-false None _ (leaves a) (subst (λ (v : List ℤ). T (not (leaves_range r c w v))) o t)) ∙ after_one a n (after-end (suc a) n))
       (λ s.
       let o : moved c (shift e end a (neg_ℤ z)) (at a) ≡ at (suc a) =
       ap (λ (z : ℤ). moved c (shift e end a (neg_ℤ z)) (at a)) (sym (shifted-whole z s)) ∙ shift-on a t in
-      ap (λ (u : List ℤ). if leaves_range r c (at a) u then none else go u) o
-      ∙ ap (λ (b : Bool). if b then none else go (at (suc a))) (same-range coherent c w (by a) t (at (suc a)))
+      ap (λ (u : List ℤ). if leaves_range r c (at a) u then None else go u) o
+      ∙ ap (λ (b : Bool). if b then None else go (at (suc a))) (same-range coherent c w (by a) t (at (suc a)))
       ∙ after_one a n (after-end (suc a) n))
 
   after-whole : (n : ℕ) → T (not (leaves_range r c w (at 0))) → after_moves r c (shifts 0 n) (at 0)
-      ≡ (if any leaves (below n) then none else after_moves r c rest (at n))
-  after-whole n t = after-end 0 n t ∙ ap (λ (m : ℕ). if any leaves (below n) then none else after_moves r c rest (at m)) (zero-add n)
+      ≡ (if any leaves (below n) then None else after_moves r c rest (at n))
+  after-whole n t = after-end 0 n t ∙ ap (λ (m : ℕ). if any leaves (below n) then None else after_moves r c rest (at m)) (zero-add n)
 
 -- ---- the tables on the way
 
@@ -165,11 +164,11 @@ module _ (c : Case) (w : List ℤ) (e : ℕ) where
 
   none_yet : own_length c ≤ length w → part_rounded c w e 0 0 ≡ w
   none_yet long = plus-zero c (spared c w (part_by c w e 0 0)) w long (λ x k l t.
-      ap (λ (z : ℤ). if barred c w x k l then pos 0 else z) (ap₂ ◌+ℤ◌ (end-begun c w e 0 x k l) (end-begun c w e 1 x k l)) ∙ none (barred c w x k l))
+      ap (λ (z : ℤ). if barred c w x k l then pos 0 else z) (ap₂ ◌+ℤ◌ (end-begun c w e 0 x k l) (end-begun c w e 1 x k l)) ∙ None (barred c w x k l))
     where
-      none : (b : Bool) → (if b then pos 0 else pos 0) ≡ pos 0
-      none true = refl
-      none false = refl
+      None : (b : Bool) → (if b then pos 0 else pos 0) ≡ pos 0
+      None true = refl
+      None false = refl
 
 -- ---- their weights
 module _ (r : Rules) where
@@ -287,16 +286,16 @@ module _ {r : Rules} {c : Case} {w : List ℤ} {e : ℕ} (coherent : Coherent r)
   lower-end : T (not (any lower_leaves (values c))) → T (not (leaves_range r c w (part_rounded c w e c.d 0)))
   lower-end t = last_of (λ k. leaves_range r c w (part_rounded c w e k 0)) c.d h.shape.some-value t
 
-  pub after-pair : after_moves r c (pair_round c w e) w ≡ (if pair_leaves r c w e then none else some (pair_rounded c w e))
+  pub after-pair : after_moves r c (pair_round c w e) w ≡ (if pair_leaves r c w e then None else Some (pair_rounded c w e))
   after-pair =
       ap (after_moves r c (pair_round c w e)) (sym (none_yet c w e long))
       ∙ after-whole coherent c w e 0 (λ k. part_by c w e k 0) (lower-step c w e 0) (end_shifts c w e 1) c.d
       (rw (none_yet c w e long) ((stays-in-range c r w w).1 h.in-range))
-      ∙ onward (any lower_leaves (values c)) (any upper_leaves (values c)) none (after_moves r c (end_shifts c w e 1) (part_rounded c w e c.d 0))
-      (some (pair_rounded c w e)) (λ t.
+      ∙ onward (any lower_leaves (values c)) (any upper_leaves (values c)) None (after_moves r c (end_shifts c w e 1) (part_rounded c w e c.d 0))
+      (Some (pair_rounded c w e)) (λ t.
       ap (λ (l : List Move). after_moves r c l (part_rounded c w e c.d 0)) (sym (append-nil (end_shifts c w e 1)))
       ∙ after-whole coherent c w e 1 (part_by c w e c.d) (upper-step c w e c.d) [] c.d (lower-end t))
-      ∙ ap (λ (b : Bool). if b then none else some (pair_rounded c w e)) leaves-same
+      ∙ ap (λ (b : Bool). if b then None else Some (pair_rounded c w e)) leaves-same
 
   -- ---- the table after the round, where it stays in the range
   module _ (n : T (not (pair_leaves r c w e))) where
@@ -333,7 +332,7 @@ module _ {r : Rules} {c : Case} {w : List ℤ} {e : ℕ} (coherent : Coherent r)
         ▸ weight-most c (pair_rounded c w e) t' ▸ rounded-edge c w e h.shape edge k' l' t'.one t'.two free ▸ choice-three c w e k' l' i' ▸ o'
         ▸ simp flat (omega zs)
 
-    pub lowers-is : lowers_bound c w (some (pair_rounded c w e)) ≡ pair_lowers c w e
+    pub lowers-is : lowers_bound c w (Some (pair_rounded c w e)) ≡ pair_lowers c w e
     lowers-is =
         same_test _ (pair_lowers c w e)
         (λ t. all_of (λ k. all (tuple_lowers c w e k) (values c)) c.d (λ k u. all_of (tuple_lowers c w e k) c.d (λ l v.
@@ -348,8 +347,8 @@ module _ {r : Rules} {c : Case} {w : List ℤ} {e : ℕ} (coherent : Coherent r)
       ∙ ap (λ (b : Bool). not (some_choice c w e) || not b) (lowers-if (pair_leaves r c w e) (λ n. lowers-is n))
       ∙ either-not (some_choice c w e) (not (pair_leaves r c w e) && pair_lowers c w e)
     where
-      lowers-if : (b : Bool) → (T (not b) → lowers_bound c w (some (pair_rounded c w e)) ≡ pair_lowers c w e)
-          → lowers_bound c w (if b then none else some (pair_rounded c w e)) ≡ (not b && pair_lowers c w e)
+      lowers-if : (b : Bool) → (T (not b) → lowers_bound c w (Some (pair_rounded c w e)) ≡ pair_lowers c w e)
+          → lowers_bound c w (if b then None else Some (pair_rounded c w e)) ≡ (not b && pair_lowers c w e)
       lowers-if true f = refl
       lowers-if false f = f tt
 
@@ -378,7 +377,7 @@ abbrev ShiftOf : Rules → Case → Move → Type 0
 ShiftOf r c (shift e end v a) = (e < c.m) × (end < 2) × (v < c.d) × T (shift_amount r a)
 ShiftOf r c (press i lowered raised a) = ⊥
 
-shifts-allowed : (r : Rules) (c : Case) {w u : List ℤ} (moves : List Move) → ((move : Move) → move ∈ moves → ShiftOf r c move) → after_moves r c moves w ≡ some u
+shifts-allowed : (r : Rules) (c : Case) {w u : List ℤ} (moves : List Move) → ((move : Move) → move ∈ moves → ShiftOf r c move) → after_moves r c moves w ≡ Some u
     → AllAllowed r c w moves u
 shifts-allowed r c {w} {u} [] f o = subst (AllAllowed r c w []) (some_inj o) no_move
 shifts-allowed r c {w} {u} (shift e end v a ∷ moves) f o =
@@ -418,7 +417,7 @@ module _ {r : Rules} {c : Case} {w : List ℤ} {e : ℕ} (coherent : Coherent r)
   pair-allowed n =
       shifts-allowed r c (pair_round c w e) (λ move m. ⊎_elim (end-shifts 0 (omega arith) move) (end-shifts 1 (omega arith) move)
       (Memᴰ.append_cases (end_shifts c w e 0) m))
-      (after-pair coherent h edge ∙ if-false none (some (pair_rounded c w e)) (pair_leaves r c w e) n)
+      (after-pair coherent h edge ∙ if-false None (Some (pair_rounded c w e)) (pair_leaves r c w e) n)
 
 -- ---- the lines of the round
 module _ (c : Case) (w : List ℤ) (e : ℕ) where

@@ -2,17 +2,15 @@
 use mathlib.Core.Path.{◌≡◌, refl, sym, ap}
 use mathlib.Core.Bool.{Bool, true, false, not, ◌||◌}
 use mathlib.Core.Logic.{◌↔◌}
-use mathlib.Core.Option.{Option, none, some}
 use mathlib.Core.List.{List}
 use Prim.Native.Nat.{ℕ}
 use lib.IntN.{ℤ}
 use lib.Dec.{T}
-use Rattle.std.specs.Prelude.{if◌then◌else◌}
+use Rattle.std.specs.Prelude.{if◌then◌else◌, Result, Ok, Err, Option, Some, None}
 use Rattle.integers.specs.Words.{is_some}
 use Rattle.integers.specs.Tests.{not-or-iff}
 use Rattle.definitions.specs.declared.Case.{Case}
 use Rattle.definitions.specs.declared.Refusal.{Refusal}
-use Rattle.definitions.specs.declared.Outcome.{Outcome}
 use Rattle.definitions.specs.declared.Choice.{Choice}
 use Rattle.definitions.specs.Rules.{rules_of, coherent}
 use Rattle.definitions.specs.Refusals.{first_refusal}
@@ -26,11 +24,11 @@ use Rattle.tables.proofs.Order.{outcome-done, outcome-refused}
 use Rattle.plans.specs.Totals.{total_in}
 
 -- a figure has a total just where no refusal applies
-total_of : (o : Option Refusal) (b : Bool) (z : ℤ) → T (not (is_some o)) ↔ T (not b) → total_in (figure_of o z) ≡ (if b then none else some z)
-total_of none true z f = absurd (f.0 tt)
-total_of none false z f = refl
-total_of (some x) true z f = refl
-total_of (some x) false z f = absurd (f.1 tt)
+total_of : (o : Option Refusal) (b : Bool) (z : ℤ) → T (not (is_some o)) ↔ T (not b) → total_in (figure_of o z) ≡ (if b then None else Some z)
+total_of None true z f = absurd (f.0 tt)
+total_of None false z f = refl
+total_of (Some x) true z f = refl
+total_of (Some x) false z f = absurd (f.1 tt)
 
 -- an assignment's objective is refused just where it is unlawful
 pub total-given : {c : Case} {w : List ℤ} → Valid (rules_of c) c w → (p : List ℕ) → T (is_assignment c p)
@@ -49,24 +47,24 @@ module _ (c : Case) (w : List ℤ) (p q : List ℕ) where
   abbrev pub scores_asked : Option Refusal
   scores_asked = first_refusal (handed_over (rules_of c) (starting_weight (rules_of c)) c w (wrong_assignment c p || wrong_assignment c q) (value_out c p || value_out c q))
 
-  pub both-known : Outcome.Done ≡ outcome_of scores_asked → Valid (rules_of c) c w × T (is_assignment c p) × T (is_assignment c q)
+  pub both-known : Ok tt ≡ outcome_of scores_asked → Valid (rules_of c) c w × T (is_assignment c p) × T (is_assignment c q)
   both-known e =
-      let d : scores_asked ≡ none = outcome-done e in
+      let d : scores_asked ≡ None = outcome-done e in
       let (v, s, t) = (handed (rules_of c) (starting_weight (rules_of c)) c w (wrong_assignment c p || wrong_assignment c q) (value_out c p || value_out c q)).0
       (rw d tt) in
       let (s₁, s₂) = (not-or-iff (wrong_assignment c p) (wrong_assignment c q)).0 s in
       let (t₁, t₂) = (not-or-iff (value_out c p) (value_out c q)).0 t in
       (v, (lent-assignment c p).0 (s₁, t₁), (lent-assignment c q).0 (s₂, t₂))
 
-  abbrev choice_of : Option Refusal → Choice
+  abbrev choice_of : Option Refusal → Result Choice Refusal
   choice_of o = elim o [
-    | some x ↦ Choice.Refused x
-    | none ↦ if ranks_below (lawful_total c w p) (lawful_total c w q) then Choice.Second else Choice.First
+    | Some x ↦ Err x
+    | None ↦ if ranks_below (lawful_total c w p) (lawful_total c w q) then Ok Choice.Second else Ok Choice.First
   ]
 
-  pub choice-refused : {x : Refusal} → Outcome.Refused x ≡ outcome_of scores_asked → Choice.Refused x ≡ better_of (rules_of c) c w p q
-  choice-refused {x} e = let d : scores_asked ≡ some x = outcome-refused e in sym (ap choice_of d)
+  pub choice-refused : {x : Refusal} → Err x ≡ outcome_of scores_asked → Err x ≡ better_of (rules_of c) c w p q
+  choice-refused {x} e = let d : scores_asked ≡ Some x = outcome-refused e in sym (ap choice_of d)
 
-  pub choice-made : Outcome.Done ≡ outcome_of scores_asked
-      → (if ranks_below (lawful_total c w p) (lawful_total c w q) then Choice.Second else Choice.First) ≡ better_of (rules_of c) c w p q
-  choice-made e = let d : scores_asked ≡ none = outcome-done e in sym (ap choice_of d)
+  pub choice-made : Ok tt ≡ outcome_of scores_asked
+      → (if ranks_below (lawful_total c w p) (lawful_total c w q) then Ok Choice.Second else Ok Choice.First) ≡ better_of (rules_of c) c w p q
+  choice-made e = let d : scores_asked ≡ None = outcome-done e in sym (ap choice_of d)

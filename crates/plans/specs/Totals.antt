@@ -1,9 +1,8 @@
 -- The total in a figure. Assumes nothing.
-use Rattle.std.proofs.Math.Option.{Option, none, some}
-use Rattle.std.specs.Prelude.{ℤ}
-use Rattle.definitions.specs.declared.Figure.{Figure}
+use Rattle.definitions.specs.declared.Refusal.{Refusal}
+use Rattle.std.specs.Prelude.{ℤ, Result, Ok, Err, Option, Some, None}
 
 -- none where it was refused
-abbrev pub total_in : Figure → Option ℤ
-total_in (Figure.Value z) = some z
-total_in (Figure.Refused x) = none
+abbrev pub total_in : Result ℤ Refusal → Option ℤ
+total_in (Ok z) = Some z
+total_in (Err x) = None

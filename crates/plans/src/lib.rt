@@ -2,58 +2,57 @@
 // none, and are all level, below the lawful (document 02, change 2).
 #![tactic(auto)]
 
-ghost use Rattle.std.specs.Prelude.{◌≡◌, if◌then◌else◌};
-ghost use Rattle.std.proofs.Math.Option.{some};
+ghost use Rattle.std.specs.Prelude.{◌≡◌, if◌then◌else◌, Ok, Some};
 ghost use Rattle.std.specs.Int.Signed.{lt_z};
 ghost use Rattle.definitions.specs.Rules.{rules_of};
 ghost use Rattle.definitions.specs.Answers.{choice_says};
 ghost use Rattle.definitions.specs.Scoring.{ranks_below, better_of, better as better_part};
 ghost use Rattle.plans.specs.Totals.{total_in};
 
-use definitions::{Case, Choice, Figure, Outcome};
+use definitions::{Case, Choice, Refusal};
 
-fn greater(first: i64, second: i64) -> Choice
-    ensures { result ≡ (if lt_z first second then Choice.Second else Choice.First) }
+fn greater(first: i64, second: i64) -> Result<Choice, Refusal>
+    ensures { result ≡ (if lt_z first second then Ok Choice.Second else Ok Choice.First) }
 {
     if first < second {
-        Choice::Second
+        Ok(Choice::Second)
     } else {
-        Choice::First
+        Ok(Choice::First)
     }
 }
 
 // The second has a total.
-fn against(first: Figure, second: i64) -> Choice
-    ensures { result ≡ (if ranks_below (total_in first) (some second) then Choice.Second else Choice.First) }
+fn against(first: Result<i64, Refusal>, second: i64) -> Result<Choice, Refusal>
+    ensures { result ≡ (if ranks_below (total_in first) (Some second) then Ok Choice.Second else Ok Choice.First) }
 {
     match first {
-        Figure::Value(total) => greater(total, second),
-        Figure::Refused(_) => Choice::Second,
+        Ok(total) => greater(total, second),
+        Err(_) => Ok(Choice::Second),
     }
 }
 
 // By totals; a plan whose total is refused ranks below one that has a total.
-fn ranked(first: Figure, second: Figure) -> Choice
-    ensures { result ≡ (if ranks_below (total_in first) (total_in second) then Choice.Second else Choice.First) }
+fn ranked(first: Result<i64, Refusal>, second: Result<i64, Refusal>) -> Result<Choice, Refusal>
+    ensures { result ≡ (if ranks_below (total_in first) (total_in second) then Ok Choice.Second else Ok Choice.First) }
 {
     match second {
-        Figure::Value(total) => against(first, total),
-        Figure::Refused(_) => Choice::First,
+        Ok(total) => against(first, total),
+        Err(_) => Ok(Choice::First),
     }
 }
 
 // ---- the calls
 
 // The assignment with the greater objective, the first on a tie.
-pub fn better_of(case: Case, table: &[i64], first: &[u8], second: &[u8]) -> Choice
+pub fn better_of(case: Case, table: &[i64], first: &[u8], second: &[u8]) -> Result<Choice, Refusal>
     ensures { result ≡ better_of (rules_of case) case table.now first.now second.now }
 {
     let wrong = (first.len() != case.n) | (second.len() != case.n);
     let out = tables::some_beyond(first, case.d) | tables::some_beyond(second, case.d);
     let checked = tables::check_starting(case, table, wrong, out);
     match checked {
-        Outcome::Refused(refusal) => Choice::Refused(refusal),
-        Outcome::Done => ranked(
+        Err(refusal) => Err(refusal),
+        Ok(()) => ranked(
             figures::objective(case, table, first),
             figures::objective(case, table, second),
         ),
@@ -69,21 +68,21 @@ pub fn better<'a>(
     number: &mut u8,
 ) -> &'a [u8]
     ensures result_value { result.now ≡ better_part (rules_of case) case table.now first.now second.now }
-    ensures value { (better_of (rules_of case) case table.now first.now second.now ≡ Choice.First → result ≡ first.entry)
-        × (better_of (rules_of case) case table.now first.now second.now ≡ Choice.Second → result ≡ second.entry) }
+    ensures value { (better_of (rules_of case) case table.now first.now second.now ≡ (Ok Choice.First) → result ≡ first.entry)
+        × (better_of (rules_of case) case table.now first.now second.now ≡ (Ok Choice.Second) → result ≡ second.entry) }
     ensures number_after { number.new ≡ (choice_says (better_of (rules_of case) case table.now first.now second.now)).number }
 {
     let choice = better_of(case, table, first, second);
     match choice {
-        Choice::First => {
+        Ok(Choice::First) => {
             *number = 0;
             first
         }
-        Choice::Second => {
+        Ok(Choice::Second) => {
             *number = 0;
             second
         }
-        Choice::Refused(refusal) => {
+        Err(refusal) => {
             *number = texts::number_of(refusal);
             &first[0..0]
         }

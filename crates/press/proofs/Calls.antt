@@ -1,4 +1,6 @@
 -- One call more, and from the loop's contract to what is printed. Assumes nothing.
+use Rattle.std.specs.Prelude.{Result, Ok, Err}
+use Rattle.definitions.specs.declared.Refusal.{Refusal}
 use mathlib.Core.Path.{◌≡◌, refl, sym, ap, subst, ◌∙◌}
 use mathlib.Core.Bool.{Bool, true, false, not}
 use mathlib.Core.Logic.{◌⊎◌, inl, inr, ⊎_elim}
@@ -8,7 +10,6 @@ use native.Mathlib.Omega.{arith}
 use lib.IntN.{ℤ}
 use lib.Dec.{T, eqb, eqb→eq}
 use lib.ListN.{length, take, length-append, length-take}
-use Rattle.definitions.specs.declared.Written.{Written}
 use Rattle.definitions.specs.declared.Rulebook.TheVariants.{Desk}
 use Rattle.definitions.specs.Rules.{rules_in}
 use Rattle.definitions.specs.Places.{input_places, longest_round, longest_case}
@@ -25,9 +26,9 @@ use Rattle.press.specs.declared.State.{State}
 use Rattle.press.specs.Rounds.{nothing_due, NextCall, Rounds, Presses}
 
 -- the part that is printed of an output
-pub printed-part-is : (x : Written) (out : List ℕ) → printed_part x out ≡ printed_bytes x out
-printed-part-is (Written.Bytes n) out = refl
-printed-part-is (Written.Refused x) out = refl
+pub printed-part-is : (x : Result ℕ Refusal) (out : List ℕ) → printed_part x out ≡ printed_bytes x out
+printed-part-is (Ok n) out = refl
+printed-part-is (Err x) out = refl
 
 after_last : (n : ℕ) (g : PressingCall) → after_calls (suc n) g ≡ called (after_calls n g)
 after_last zero g = refl
@@ -40,9 +41,9 @@ printed-last (suc n) g =
     ∙ sym (append_assoc (text_of g) (printed_of n (called g)) (text_of (after_calls (suc (suc n)) g)))
 
 -- a text is no longer than the output
-pub text-most : (x : Written) (out : List ℕ) → length (printed_bytes x out) ≤ length out
-text-most (Written.Bytes n) out = rw length-take (omega arith)
-text-most (Written.Refused x) out = omega arith
+pub text-most : (x : Result ℕ Refusal) (out : List ℕ) → length (printed_bytes x out) ≤ length out
+text-most (Ok n) out = rw length-take (omega arith)
+text-most (Err x) out = omega arith
 
 -- the calls so far
 pub record Made (n : ℕ) (g : PressingCall) (s : State) (w : List ℤ) (out : List ℕ) : Type 0 where

@@ -3,7 +3,6 @@
 -- number, which the new greatest weight must not pass below: it does not where the press is made. Assumes nothing.
 use mathlib.Core.Path.{◌≡◌, refl, sym, ap, ap₂, subst, ◌∙◌}
 use mathlib.Core.Bool.{Bool, true, false, not, ◌&&◌, ◌||◌}
-use mathlib.Core.Option.{none, some}
 use mathlib.Core.Logic.{⊎_elim}
 use mathlib.Core.List.Memᴰ
 use mathlib.Core.List.{List, [], ◌∷◌}
@@ -12,7 +11,7 @@ use native.Mathlib.Omega.{arith}
 use lib.IntN.{ℤ, pos, neg_ℤ, ◌+ℤ◌, ◌-ℤ◌}
 use lib.Dec.{T, T_not, eqb, eqb→eq, eqb_refl}
 use lib.Signed.{◌≤ℤ◌}
-use Rattle.std.specs.Prelude.{if◌then◌else◌}
+use Rattle.std.specs.Prelude.{if◌then◌else◌, Some, None}
 use Rattle.integers.specs.Words.{is_in, minus}
 use Rattle.integers.specs.Tests.{is_true, or_cases, if-false, if-cases}
 use Rattle.integers.specs.Linear.{flat, zs, ◌▸◌, ≤ℤ-antisym, T-eq}
@@ -61,7 +60,7 @@ BarsBelow c w i a = (x k l : ℕ) → IsTuple c x k l → T (barred c w x k l) �
 
 module _ (c : Case) (w : List ℤ) (i : ℕ) (a : ℤ) where
   pub after-press : (r : Rules) → after_moves r c (active_press c w i (kept_scopes c w i) a ∷ []) w
-      ≡ (if leaves_range r c w (engine_pressed c w i a) then none else some (engine_pressed c w i a))
+      ≡ (if leaves_range r c w (engine_pressed c w i a) then None else Some (engine_pressed c w i a))
   after-press r = refl
 
   abbrev change : Difference
@@ -78,7 +77,7 @@ module _ (c : Case) (w : List ℤ) (i : ℕ) (a : ℤ) where
   free-below free x k l u t = absurd (T_not (barred c w x k l) (free x k l u) t)
 
   -- where the press is made: an active value keeps the range
-  pub made-below : {r : Rules} → Coherent r → Handed r (working_weight r) c w → chosen c w ≡ some i
+  pub made-below : {r : Rules} → Coherent r → Handed r (working_weight r) c w → chosen c w ≡ Some i
       → T (not (leaves_range r c w (engine_pressed c w i a))) → BarsBelow c w i a
   made-below {r} coherent h which n =
       let own = (chosen-some c w which).0 in
@@ -91,7 +90,7 @@ module _ (c : Case) (w : List ℤ) (i : ℕ) (a : ℤ) where
       low_below ((active-weight c w i k 0).0 t ▸ press-active (is_in (kept_scopes c w i) i) (weight c w i k 0) a
       ▸ (rw (is_true (eqb i i) (eqb_refl i), is_true (active c w i k 0) t) at e) ▸ within ▸ coherent.barred-below ▸ simp flat (omega zs))
 
-module _ (c : Case) (w : List ℤ) {i : ℕ} {a : ℤ} (shape : Shape c) (which : chosen c w ≡ some i) (least : least_gap c w i ≡ some a) where
+module _ (c : Case) (w : List ℤ) {i : ℕ} {a : ℤ} (shape : Shape c) (which : chosen c w ≡ Some i) (least : least_gap c w i ≡ Some a) where
   limits : (x : ℕ) → T (eqb x i || is_in (kept_scopes c w i) x) → x ∈ (i ∷ kept_scopes c w i)
   limits x t = ⊎_elim (λ s. Memᴰ.head (eqb→eq x i s)) (λ s. Memᴰ.tail ((is_in-in (kept_scopes c w i) x).0 s))
       (or_cases (eqb x i) (is_in (kept_scopes c w i) x) t)

@@ -4,7 +4,6 @@
 -- only, the press of that amount comes next, the void line where there is none, and nothing where no variable is chosen. Assumes nothing.
 use mathlib.Core.Path.{◌≡◌, refl, sym, ap, subst, ◌∙◌}
 use mathlib.Core.Bool.{Bool, true, false, not, ◌||◌}
-use mathlib.Core.Option.{Option, none, some}
 use mathlib.Core.Logic.{◌↔◌, ⊎_elim}
 use mathlib.Core.List.Memᴰ
 use mathlib.Core.List.{List, [], ◌∷◌, map}
@@ -13,7 +12,7 @@ use native.Mathlib.Omega.{arith}
 use lib.IntN.{ℤ, pos, ◌+ℤ◌, ◌-ℤ◌}
 use lib.Dec.{T, T_not}
 use lib.Signed.{◌≤ℤ◌}
-use Rattle.std.specs.Prelude.{if◌then◌else◌}
+use Rattle.std.specs.Prelude.{if◌then◌else◌, Option, Some, None}
 use Rattle.integers.specs.Words.{all, is_in, joined, greatest_of, ◌⇒◌}
 use Rattle.integers.specs.Tests.{if-false, either, not-or-iff, and_left, and_right, and_intro, imp_intro, or_cases}
 use Rattle.integers.specs.Linear.{flat, zs, ◌▸◌}
@@ -78,13 +77,13 @@ module _ (c : Case) (w : List ℤ) {i : ℕ} where
   gaps-in {x} m n = joined_in n (Memᴰ.map (gap c w) m)
 
   -- where nothing sets a gap, all inactive tuples are barred
-  pub no_gap : least_gap c w i ≡ none → {x k l : ℕ} → x ∈ (i ∷ kept_scopes c w i) → IsTuple c x k l → T (not (active c w x k l)) → T (barred c w x k l)
+  pub no_gap : least_gap c w i ≡ None → {x k l : ℕ} → x ∈ (i ∷ kept_scopes c w i) → IsTuple c x k l → T (not (active c w x k l)) → T (barred c w x k l)
   no_gap e {x} {k} {l} m u t = ⊎_elim (λ b. b)
       (λ f. let (y, n, h) = gap-in c w u t f in absurd (Memᴰ.not-nil (subst (λ (s : List ℤ). y ∈ s) ((least-none (gaps c w i)).0 e) (gaps-in m n))))
       (either (barred c w x k l))
 
   -- and so a void line's barring condition holds
-  pub void-bars : least_gap c w i ≡ none → chosen c w ≡ some i → T (all_barred c w i (active_values c w i) (is_in (kept_scopes c w i)))
+  pub void-bars : least_gap c w i ≡ None → chosen c w ≡ Some i → T (all_barred c w i (active_values c w i) (is_in (kept_scopes c w i)))
   void-bars e which = and_intro (all own (values c)) (all raised (scopes c))
       (all_of own c.d (λ k h. imp_intro (not (active c w i k 0)) (barred c w i k 0) (λ t.
       no_gap e (Memᴰ.head refl) (variable-tuple c i k (chosen-some c w which).0 h) t)))
@@ -102,13 +101,13 @@ module _ (c : Case) (w : List ℤ) {i : ℕ} where
       raised : ℕ → Bool
       raised x = all (λ b. b) (each_tuple c x (λ k l. forbidden c w R x k l ⇒ barred c w x k l))
 
-module _ (c : Case) (w : List ℤ) {i : ℕ} (shape : Shape c) (which : chosen c w ≡ some i) where
+module _ (c : Case) (w : List ℤ) {i : ℕ} (shape : Shape c) (which : chosen c w ≡ Some i) where
   -- the scopes that set a limit to it
   pub limiting : {x : ℕ} → x ∈ (i ∷ kept_scopes c w i) → x < scope_count c
   limiting (Memᴰ.head e) = let h = (chosen-some c w which).0 in omega arith
   limiting (Memᴰ.tail m) = (kept-scopes c w i m).0
 
-  module _ {a : ℤ} (e : least_gap c w i ≡ some a) where
+  module _ {a : ℤ} (e : least_gap c w i ≡ Some a) where
     pub amount-reached : (x k l : ℕ) × x ∈ (i ∷ kept_scopes c w i) × IsTuple c x k l × T (not (active c w x k l)) × T (not (barred c w x k l))
         × (a ≡ greatest c w x -ℤ weight c w x k l)
     amount-reached =
@@ -136,49 +135,49 @@ module _ (c : Case) (w : List ℤ) {i : ℕ} (shape : Shape c) (which : chosen c
 -- ---- what comes next of presses and void lines only
 
 module _ (r : Rules) (c : Case) (w : List ℤ) where
-  pub next-press : {i : ℕ} {a : ℤ} → chosen c w ≡ some i → least_gap c w i ≡ some a → presses_next r c w ≡ round (active_press c w i (kept_scopes c w i) a ∷ [])
+  pub next-press : {i : ℕ} {a : ℤ} → chosen c w ≡ Some i → least_gap c w i ≡ Some a → presses_next r c w ≡ round (active_press c w i (kept_scopes c w i) a ∷ [])
   next-press {i} e g = ap (press_next c w) e ∙ ap (press_round c w i) g
 
-  pub next-void : {i : ℕ} → chosen c w ≡ some i → least_gap c w i ≡ none → presses_next r c w ≡ void i (kept_scopes c w i)
+  pub next-void : {i : ℕ} → chosen c w ≡ Some i → least_gap c w i ≡ None → presses_next r c w ≡ void i (kept_scopes c w i)
   next-void {i} e g = ap (press_next c w) e ∙ ap (press_round c w i) g
 
-  pub next-nothing : presses_next r c w ≡ nothing ↔ chosen c w ≡ none
+  pub next-nothing : presses_next r c w ≡ nothing ↔ chosen c w ≡ None
   next-nothing = (go (chosen c w), ap (press_next c w))
     where
       never : (i : ℕ) (o : Option ℤ) → press_round c w i o ≡ nothing → ⊥
-      never i none d = let z : ◌≡◌ {A = ℕ} 0 1 = cc in omega arith
-      never i (some a) d = let z : ◌≡◌ {A = ℕ} 0 1 = cc in omega arith
+      never i None d = let z : ◌≡◌ {A = ℕ} 0 1 = cc in omega arith
+      never i (Some a) d = let z : ◌≡◌ {A = ℕ} 0 1 = cc in omega arith
 
-      go : (o : Option ℕ) → press_next c w o ≡ nothing → o ≡ none
-      go none d = refl
-      go (some i) d = absurd (never i (least_gap c w i) d)
+      go : (o : Option ℕ) → press_next c w o ≡ nothing → o ≡ None
+      go None d = refl
+      go (Some i) d = absurd (never i (least_gap c w i) d)
 
   pub next-round : {moves : List Move} → presses_next r c w ≡ round moves
-      → (i : ℕ) × (a : ℤ) × (chosen c w ≡ some i) × (least_gap c w i ≡ some a) × (moves ≡ active_press c w i (kept_scopes c w i) a ∷ [])
+      → (i : ℕ) × (a : ℤ) × (chosen c w ≡ Some i) × (least_gap c w i ≡ Some a) × (moves ≡ active_press c w i (kept_scopes c w i) a ∷ [])
   next-round {moves} d = go (chosen c w) refl d
     where
       Pressed : Type 0
-      Pressed = (i : ℕ) × (a : ℤ) × (chosen c w ≡ some i) × (least_gap c w i ≡ some a) × (moves ≡ active_press c w i (kept_scopes c w i) a ∷ [])
+      Pressed = (i : ℕ) × (a : ℤ) × (chosen c w ≡ Some i) × (least_gap c w i ≡ Some a) × (moves ≡ active_press c w i (kept_scopes c w i) a ∷ [])
 
-      with-gap : (i : ℕ) → chosen c w ≡ some i → (o : Option ℤ) → least_gap c w i ≡ o → press_round c w i o ≡ round moves → Pressed
-      with-gap i e none g d = let z : ◌≡◌ {A = ℕ} 0 1 = cc in absurd (omega arith)
-      with-gap i e (some a) g d = (i, a, e, g, cc)
+      with-gap : (i : ℕ) → chosen c w ≡ Some i → (o : Option ℤ) → least_gap c w i ≡ o → press_round c w i o ≡ round moves → Pressed
+      with-gap i e None g d = let z : ◌≡◌ {A = ℕ} 0 1 = cc in absurd (omega arith)
+      with-gap i e (Some a) g d = (i, a, e, g, cc)
 
       go : (o : Option ℕ) → chosen c w ≡ o → press_next c w o ≡ round moves → Pressed
-      go none e d = let z : ◌≡◌ {A = ℕ} 0 1 = cc in absurd (omega arith)
-      go (some i) e d = with-gap i e (least_gap c w i) refl d
+      go None e d = let z : ◌≡◌ {A = ℕ} 0 1 = cc in absurd (omega arith)
+      go (Some i) e d = with-gap i e (least_gap c w i) refl d
 
   pub next-voided : {i : ℕ} {raised : List ℕ} → presses_next r c w ≡ void i raised
-      → (chosen c w ≡ some i) × (least_gap c w i ≡ none) × (raised ≡ kept_scopes c w i)
+      → (chosen c w ≡ Some i) × (least_gap c w i ≡ None) × (raised ≡ kept_scopes c w i)
   next-voided {i} {raised} d = go (chosen c w) refl d
     where
       Voided : Type 0
-      Voided = (chosen c w ≡ some i) × (least_gap c w i ≡ none) × (raised ≡ kept_scopes c w i)
+      Voided = (chosen c w ≡ Some i) × (least_gap c w i ≡ None) × (raised ≡ kept_scopes c w i)
 
-      with-gap : (j : ℕ) → chosen c w ≡ some j → (o : Option ℤ) → least_gap c w j ≡ o → press_round c w j o ≡ void i raised → Voided
-      with-gap j e none g d = let q : j ≡ i = cc in (cc, cc, cc)
-      with-gap j e (some a) g d = let z : ◌≡◌ {A = ℕ} 0 1 = cc in absurd (omega arith)
+      with-gap : (j : ℕ) → chosen c w ≡ Some j → (o : Option ℤ) → least_gap c w j ≡ o → press_round c w j o ≡ void i raised → Voided
+      with-gap j e None g d = let q : j ≡ i = cc in (cc, cc, cc)
+      with-gap j e (Some a) g d = let z : ◌≡◌ {A = ℕ} 0 1 = cc in absurd (omega arith)
 
       go : (o : Option ℕ) → chosen c w ≡ o → press_next c w o ≡ void i raised → Voided
-      go none e d = let z : ◌≡◌ {A = ℕ} 0 1 = cc in absurd (omega arith)
-      go (some j) e d = with-gap j e (least_gap c w j) refl d
+      go None e d = let z : ◌≡◌ {A = ℕ} 0 1 = cc in absurd (omega arith)
+      go (Some j) e d = with-gap j e (least_gap c w j) refl d

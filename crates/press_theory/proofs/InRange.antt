@@ -2,9 +2,9 @@
 -- one: no scope's greatest weight rises, no weight falls by more than the upper bound has, and no objective falls. With starting weights of at
 -- most U on either side of 0 the upper bound begins at s·U at most and never passes below an objective, which is −s·U at least; so it falls by
 -- 2·s·U at most, and each weight stays between −(2·s + 1)·U and U. Assumes nothing.
+use Rattle.std.specs.Prelude.{Some, None}
 use mathlib.Core.Path.{◌≡◌, ap, ◌∙◌}
 use mathlib.Core.Bool.{not}
-use mathlib.Core.Option.{none, some}
 use mathlib.Core.Logic.{⊎_elim}
 use mathlib.Core.List.{List, map}
 use Prim.Native.Nat.{ℕ, ◌+◌, ◌*◌, ◌≤◌, ◌<◌}
@@ -40,7 +40,7 @@ use Rattle.press_theory.proofs.Fall.{engine_pressed, free-below, after-press, on
 -- reached from w₀ by engine presses, of tables with no barred tuple
 pub data Reached (c : Case) (w₀ : List ℤ) : List ℤ → Type 0 where
   start : Reached c w₀ w₀
-  pressed : {w : List ℤ} {i : ℕ} {a : ℤ} → Reached c w₀ w → Free c w → chosen c w ≡ some i → least_gap c w i ≡ some a → Reached c w₀ (engine_pressed c w i a)
+  pressed : {w : List ℤ} {i : ℕ} {a : ℤ} → Reached c w₀ w → Free c w → chosen c w ≡ Some i → least_gap c w i ≡ Some a → Reached c w₀ (engine_pressed c w i a)
 
 low_step : (y₀ y z b₀ b d o a : ℤ) → (y₀ -ℤ (b₀ -ℤ b)) ≤ℤ y → (y -ℤ o) ≤ℤ z → o ≤ℤ a → d ≡ b -ℤ a → (y₀ -ℤ (b₀ -ℤ d)) ≤ℤ z
 low_step y₀ y z b₀ b d o a = simp flat (omega zs)
@@ -143,19 +143,19 @@ module _ {r : Rules} {c : Case} {w₀ : List ℤ} (coherent : Coherent r) (valid
   reached-free {w} h x k l t = in-range-free coherent (weight c w x k l) (reached-working h t)
 
   -- number 11 never meets the next engine press
-  pub never-leaves : {w : List ℤ} {i : ℕ} {a : ℤ} → Reached c w₀ w → chosen c w ≡ some i → least_gap c w i ≡ some a
+  pub never-leaves : {w : List ℤ} {i : ℕ} {a : ℤ} → Reached c w₀ w → chosen c w ≡ Some i → least_gap c w i ≡ Some a
       → T (not (leaves_range r c w (engine_pressed c w i a)))
   never-leaves {w} {i} {a} h e g = (stays-in-range c r w (engine_pressed c w i a)).1 (λ x k l t.
       or_right (barred c w x k l) (in_working r (weight c (engine_pressed c w i a) x k l)) (reached-working (pressed h (reached-free h) e g) t))
 
   -- so the round of presses only is made, and the upper bound is lower after it
   pub next-made : {w : List ℤ} {moves : List Move} → Reached c w₀ w → presses_next r c w ≡ round moves
-      → (v : List ℤ) × (after_moves r c moves w ≡ some v) × Reached c w₀ v × (upper_bound c v <ℤ upper_bound c w)
+      → (v : List ℤ) × (after_moves r c moves w ≡ Some v) × Reached c w₀ v × (upper_bound c v <ℤ upper_bound c w)
   next-made {w} h d =
       let (i, a, e, g, q) = next-round r c w d in
       let v : List ℤ = engine_pressed c w i a in (
         v,
-        ap (λ l. after_moves r c l w) q ∙ after-press c w i a r ∙ if-false none (some v) (leaves_range r c w v) (never-leaves h e g),
+        ap (λ l. after_moves r c l w) q ∙ after-press c w i a r ∙ if-false None (Some v) (leaves_range r c w v) (never-leaves h e g),
         pressed h (reached-free h) e g,
         fall c w shape e g (free-below c w i a (reached-free h)) ▸ amount-some c w shape e g ▸ simp flat (omega zs),
       )

@@ -2,9 +2,9 @@
 -- scopes raised, and where there is none, every variable has an active value with a supported family; the kept scopes refute too, they rise,
 -- leave out the variable's own scope, and are never none; each of the others is kept just where the kept below it and all others above it do
 -- not refute, so that none of the kept can be left out. Assumes nothing.
+use Rattle.std.specs.Prelude.{Some, None}
 use mathlib.Core.Path.{◌≡◌, refl, sym, ap, subst}
 use mathlib.Core.Bool.{Bool, true, false, not}
-use mathlib.Core.Option.{none, some}
 use mathlib.Core.Logic.{◌≢◌, ◌↔◌, ⊎_elim}
 use mathlib.Core.List.{List, [], ◌∷◌, ◌++◌, append-nil, append_assoc}
 use mathlib.Core.List.Memᴰ
@@ -72,11 +72,11 @@ no-support c w i raised shape t k h a =
 -- ---- the variable
 
 module _ (c : Case) (w : List ℤ) where
-  pub chosen-some : {i : ℕ} → chosen c w ≡ some i
+  pub chosen-some : {i : ℕ} → chosen c w ≡ Some i
       → (i < c.n) × T (active_refuted c w i (others c i)) × ((j : ℕ) → j < i → T (not (active_refuted c w j (others c j))))
   chosen-some = first-least (λ i. active_refuted c w i (others c i)) c.n
 
-  pub chosen_none : chosen c w ≡ none ↔ ((i : ℕ) → i < c.n → T (not (active_refuted c w i (others c i))))
+  pub chosen_none : chosen c w ≡ None ↔ ((i : ℕ) → i < c.n → T (not (active_refuted c w i (others c i))))
   chosen_none = (
     λ e i h. not_T (test i) (λ t. T_not (any test (below c.n)) (first-none test (below c.n) e) (any_of test c.n h t)),
     λ f. ap first (those-none test (below c.n) (not_T (any test (below c.n)) (λ t. let (i, h, s) = any_at test c.n t in T_not (test i) (f i h) s))),
@@ -86,7 +86,7 @@ module _ (c : Case) (w : List ℤ) where
       test i = active_refuted c w i (others c i)
 
   -- no press and no void line is left, said without an algorithm
-  pub no-press-iff : Shape c → chosen c w ≡ none ↔ NoPress c w
+  pub no-press-iff : Shape c → chosen c w ≡ None ↔ NoPress c w
   no-press-iff shape = (
     λ e i h.
         let (k, g, t) = not-all (λ k. active c w i k 0 ⇒ refuted c w (is_in (others c i)) i k) c.d (chosen_none.0 e i h) in

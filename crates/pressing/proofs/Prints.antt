@@ -1,7 +1,8 @@
 -- The start and the rounds print what document 01 says of the whole input. Assumes nothing.
+use Rattle.definitions.specs.declared.RefusedAt.{RefusedAt}
+use Rattle.definitions.specs.Answers.{refused_at}
 use mathlib.Core.Path.{◌≡◌, refl, sym, ap, subst, ◌∙◌}
 use mathlib.Core.Bool.{Bool}
-use mathlib.Core.Option.{Option, none, some}
 use mathlib.Core.List.{List, [], ◌++◌, append_assoc, append-nil}
 use Prim.Native.Nat.{ℕ, zero, suc, ◌*◌, ◌-◌, ◌≤◌}
 use native.Mathlib.Nat.{mul-le-mul_left}
@@ -11,16 +12,14 @@ use lib.Dec.{eqb}
 use lib.ListN.{length, drop, length-append, length-drop}
 use lib.Seq.{take-append_seam}
 use borrow.Author.Tests.{le-ltb, ne_eqb}
-use Rattle.std.specs.Prelude.{if◌then◌else◌}
+use Rattle.std.specs.Prelude.{if◌then◌else◌, Result, Ok, Err, Option, Some, None}
 use Rattle.integers.specs.Words.{joined}
 use Rattle.integers.specs.Lists.{joined-append}
 use Rattle.definitions.specs.declared.Rulebook.{Rulebook}
 use Rattle.definitions.specs.declared.Case.{Case}
 use Rattle.definitions.specs.declared.CaseRead.{CaseRead}
-use Rattle.definitions.specs.declared.FileAnswer.{FileAnswer}
 use Rattle.definitions.specs.declared.Refusal.{Refusal}
 use Rattle.definitions.specs.declared.Refusal.TheVariants.{LeavesRange}
-use Rattle.definitions.specs.declared.Written.{Written}
 use Rattle.definitions.specs.Rules.{Rules, Coherent, coherent, rules_in, rules_of}
 use Rattle.calls.specs.Calls.{WriteCall, written_of}
 use Rattle.definitions.specs.Valid.{working_weight}
@@ -66,8 +65,8 @@ idle-text : (g : PressingCall) → text_of (idle g) ≡ []
 idle-text g = go (engine_refusal (rules_of g.pressed.pressing.case) engine_next g.pressed.pressing.case g.table g.out)
   where
     go : (o : Option Refusal) → printed_bytes (written_of o 0) g.out ≡ []
-    go none = refl
-    go (some x) = refl
+    go None = refl
+    go (Some x) = refl
 
 over-idle : (g : PressingCall) → Over g → called g ≡ idle g
 unfolding next_pressing
@@ -88,15 +87,15 @@ module _ (book : Rulebook) (t : List ℕ) (w : List ℤ) where
   -- what is left after the case, by its refusal
   rest : ℕ → Option Refusal → CaseCall
   rest lines o = elim o [
-    | none ↦ read_lines book t w
-    | some x ↦ case_refused book x lines (read_lines book t w).table
+    | None ↦ read_lines book t w
+    | Some x ↦ case_refused book x lines (read_lines book t w).table
   ]
 
-  rest-line : (lines : ℕ) (o : Option Refusal) → (read_lines book t w).read.answer ≡ FileAnswer.Read lines
+  rest-line : (lines : ℕ) (o : Option Refusal) → (read_lines book t w).read.answer ≡ Ok lines
       → front_line (rest lines o).read.answer ≤ longest_lines (rules_in book)
   unfolding rest
-  rest-line lines none e = lines-line book t w
-  rest-line lines (some x) e = omega (arith, lines-line book t w, ap front_line e)
+  rest-line lines None e = lines-line book t w
+  rest-line lines (Some x) e = omega (arith, lines-line book t w, ap front_line e)
 
   alone-line : front_line (read_case_alone book t w).read.answer ≤ longest_lines (rules_in book)
   unfolding rest
@@ -107,10 +106,10 @@ module _ (book : Rulebook) (t : List ℕ) (w : List ℤ) where
         go (read_lines book t w).read.answer refl,
       )
     where
-      go : (a : FileAnswer) → (read_lines book t w).read.answer ≡ a
+      go : (a : Result ℕ RefusedAt) → (read_lines book t w).read.answer ≡ a
           → front_line (nothing_after book t (read_lines book t w) a).read.answer ≤ longest_lines (rules_in book)
-      go (FileAnswer.Refused x at) e = lines-line book t w
-      go (FileAnswer.Read lines) e = rest-line lines (rest_refusal (rules_in book) (drop (lines * line_length (rules_in book).amount_width) t)) e
+      go (Err x) e = lines-line book t w
+      go (Ok lines) e = rest-line lines (rest_refusal (rules_in book) (drop (lines * line_length (rules_in book).amount_width) t)) e
 
 -- ---- rounds
 
@@ -122,23 +121,23 @@ module _ (c : Case) (at : ℕ) (few : at ≤ greatest_count) where
   whole = coherent c.rulebook
 
   -- so many rounds may follow
-  abbrev stand : ℕ → List ℤ → List ℕ → Written → PressingCall
+  abbrev stand : ℕ → List ℤ → List ℕ → Result ℕ Refusal → PressingCall
   stand left w out written = record { pressed = record { pressing = record { case = c; lines = at; left = left }; written = written }; table = w; out = out }
 
   abbrev written : List ℕ → List ℕ → ℕ → List ℤ → PressingCall
-  written text out left v = stand left v (overwritten text out) (Written.Bytes (length text))
+  written text out left v = stand left v (overwritten text out) (Ok (length text))
 
   -- what a call of `next` leaves where a round may follow
   data Called (left : ℕ) (w : List ℤ) (out : List ℕ) : PressingCall → Type 0 where
-    settles : engine_next r c w ≡ nothing → Called left w out (stand 0 w out (Written.Bytes 0))
-    refuses : {moves : List Move} → engine_next r c w ≡ round moves → after_moves r c moves w ≡ none
+    settles : engine_next r c w ≡ nothing → Called left w out (stand 0 w out (Ok 0))
+    refuses : {moves : List Move} → engine_next r c w ≡ round moves → after_moves r c moves w ≡ None
         → Called left w out (written (refused_text LeavesRange at) out 0 w)
     voids : {i : ℕ} {raised : List ℕ} → engine_next r c w ≡ void i raised → Called left w out (written (joined (void_text r i raised)) out 0 w)
     makes : {moves : List Move} {v : List ℤ} → RoundFrom r engine_next c w moves v → Called left w out (written (joined (round_text r c moves v)) out left v)
 
   module _ (left : ℕ) (w : List ℤ) (out : List ℕ) (h : Handed r (working_weight r) c w) (long : round_bytes r c ≤ length out) (room : text_room ≤ length out) where
     text-written : write_refused_call out LeavesRange at ≡ record {
-      answer = Written.Bytes (length (refused_text LeavesRange at));
+      answer = Ok (length (refused_text LeavesRange at));
       out =
           overwritten (refused_text LeavesRange at) out;
     }
@@ -148,7 +147,7 @@ module _ (c : Case) (at : ℕ) (few : at ≤ greatest_count) where
     abbrev told : RoundCall → PressingCall
     told u = after_round (record { case = c; lines = at; left = suc left }) u u.answer
 
-    called-told : (x : Written) → called (stand (suc left) w out x) ≡ told (round_made c w out (make_next r c w (engine_next r c w)))
+    called-told : (x : Result ℕ Refusal) → called (stand (suc left) w out x) ≡ told (round_made c w out (make_next r c w (engine_next r c w)))
     unfolding next_pressing
     called-told x =
         ap (λ (b : Bool). if b then idle (stand (suc left) w out x) else told (round_call r engine_next c w out)) (ne_eqb (suc left) 0 (λ z. omega arith))
@@ -157,19 +156,19 @@ module _ (c : Case) (at : ℕ) (few : at ≤ greatest_count) where
     abbrev leads-to : Made → PressingCall
     leads-to m = told (round_made c w out m)
 
-    called_is : (x : Written) → Called left w out (called (stand (suc left) w out x))
+    called_is : (x : Result ℕ Refusal) → Called left w out (called (stand (suc left) w out x))
     called_is x = subst (Called left w out) (sym (called-told x)) (go (engine_next r c w) refl)
       where
         leads : (moves : List Move) (o : Option (List ℤ)) → engine_next r c w ≡ round moves → after_moves r c moves w ≡ o
             → Called left w out (leads-to (made_of r c moves o))
-        leads moves none e f =
+        leads moves None e f =
             subst (Called left w out) (sym (ap (λ (k : WriteCall). record {
               pressed =
                   after_text (record { case = c; lines = at; left = suc left }) k.answer;
               table = w;
               out = k.out;
             }) text-written)) (refuses e f)
-        leads moves (some v) e f =
+        leads moves (Some v) e f =
             let less : left ≡ suc left - 1 = omega arith in
             subst (λ (k : ℕ). Called left w out (written (joined (round_text r c moves v)) out k v)) less (makes (record { handed = h; comes = e; leads = f }))
 
@@ -195,7 +194,7 @@ module _ (c : Case) (at : ℕ) (few : at ≤ greatest_count) where
       → length (overwritten (joined (round_text r c moves v)) out) ≡ length out
   kept-long m out long = simp (length-append, length-drop) (omega (arith, round-short whole (engine-lawful whole c) m))
 
-  ends-after : (left : ℕ) (w : List ℤ) (out : List ℕ) (x : Written) → Handed r (working_weight r) c w → round_bytes r c ≤ length out → text_room ≤ length out
+  ends-after : (left : ℕ) (w : List ℤ) (out : List ℕ) (x : Result ℕ Refusal) → Handed r (working_weight r) c w → round_bytes r c ≤ length out → text_room ≤ length out
       → (n : ℕ) → left ≤ n → Over (after_calls n (stand left w out x))
   ends-after zero w out x h long room n k = over-after n (stand 0 w out x) refl
   ends-after (suc left) w out x h long room zero k = absurd (omega arith)
@@ -203,7 +202,7 @@ module _ (c : Case) (at : ℕ) (few : at ≤ greatest_count) where
       go (called (stand (suc left) w out x)) (called_is left w out h long room x) (λ v bytes y g l m. ends-after left v bytes y g l m n (omega arith))
     where
       go : (g : PressingCall) → Called left w out g
-          → ((v : List ℤ) (bytes : List ℕ) (y : Written) → Handed r (working_weight r) c v → round_bytes r c ≤ length bytes → text_room ≤ length bytes
+          → ((v : List ℤ) (bytes : List ℕ) (y : Result ℕ Refusal) → Handed r (working_weight r) c v → round_bytes r c ≤ length bytes → text_room ≤ length bytes
           → Over (after_calls n (stand left v bytes y)))
           → Over (after_calls n g)
       go g (settles e) on = over-after n g refl
@@ -211,11 +210,11 @@ module _ (c : Case) (at : ℕ) (few : at ≤ greatest_count) where
       go g (voids e) on = over-after n g refl
       go g (makes {moves} {v} m) on =
           let same = kept-long m out long in
-          on v (overwritten (joined (round_text r c moves v)) out) (Written.Bytes (length (joined (round_text r c moves v))))
+          on v (overwritten (joined (round_text r c moves v)) out) (Ok (length (joined (round_text r c moves v))))
           (handed-on whole (engine-lawful whole c) m) (omega arith) (omega arith)
 
   -- where no more rounds can come than may follow, a void line does not come after the last of them
-  prints-after : (left done : ℕ) (w : List ℤ) (out : List ℕ) (x : Written) (log : List (List ℕ)) → Handed r (working_weight r) c w
+  prints-after : (left done : ℕ) (w : List ℤ) (out : List ℕ) (x : Result ℕ Refusal) (log : List (List ℕ)) → Handed r (working_weight r) c w
       → rounds_left c w ≤ left → round_bytes r c ≤ length out → text_room ≤ length out
       → (n : ℕ) → Over (after_calls n (stand left w out x)) → joined log ++ more n (stand left w out x) ≡ press_run at (run_from r engine_next c left done w log)
   prints-after zero done w out x log h enough long room n over =
@@ -231,7 +230,7 @@ module _ (c : Case) (at : ℕ) (few : at ≤ greatest_count) where
       (λ v bytes y l g e k m o. prints-after left (suc done) v bytes y l g e k m n o)
     where
       go : (g : PressingCall) → Called left w out g → Over (after_calls n g)
-          → ((v : List ℤ) (bytes : List ℕ) (y : Written) (l : List (List ℕ)) → Handed r (working_weight r) c v → rounds_left c v ≤ left
+          → ((v : List ℤ) (bytes : List ℕ) (y : Result ℕ Refusal) (l : List (List ℕ)) → Handed r (working_weight r) c v → rounds_left c v ≤ left
           → round_bytes r c ≤ length bytes → text_room ≤ length bytes
           → Over (after_calls n (stand left v bytes y)) → joined l ++ more n (stand left v bytes y) ≡ press_run at (run_from r engine_next c left (suc done) v l))
           → joined log ++ printed_of n g ≡ press_run at (onward (make_next r c w (engine_next r c w)) done w log
@@ -253,7 +252,7 @@ module _ (c : Case) (at : ℕ) (few : at ≤ greatest_count) where
           let lines : List (List ℕ) = round_text r c moves v in
           let same = kept-long m out long in
           let fewer = left_less whole h m.comes m.leads in
-          let rest = on v (overwritten (joined lines) out) (Written.Bytes (length (joined lines))) (log ++ lines) (handed-on whole (engine-lawful whole c) m)
+          let rest = on v (overwritten (joined lines) out) (Ok (length (joined lines))) (log ++ lines) (handed-on whole (engine-lawful whole c) m)
           (omega arith) (omega arith) (omega arith) over in
           ap (λ (l : List ℕ). joined log ++ l) (text-more n g
           ∙ ap (λ (l : List ℕ). l ++ more n g) (take-append_seam (joined lines) (drop (length (joined lines)) out)))
@@ -282,32 +281,32 @@ module _ (book : Rulebook) (texts-fit : text_room ≤ longest_round (rules_in bo
     unfolding start_pressing
     begins =
         ap (λ (b : Bool). if b then record {
-          pressed = record { pressing = record { case = case_of book 0 0 0; lines = 0; left = 0 }; written = Written.Refused (head_or_short (case_size book t)) };
+          pressed = record { pressing = record { case = case_of book 0 0 0; lines = 0; left = 0 }; written = Err (head_or_short (case_size book t)) };
           table = lent;
           out = out;
         } else after_case out call call.read.answer) (le-ltb (length out) text_room (omega arith))
 
-    line-few : {a : FileAnswer} → call.read.answer ≡ a → front_line a ≤ greatest_count
+    line-few : {a : Result ℕ RefusedAt} → call.read.answer ≡ a → front_line a ≤ greatest_count
     line-few e = omega (arith, alone-line book t lent, ap front_line e, few-lines (coherent book))
 
-    refused-text : (x : Refusal) (line : ℕ) → line ≤ greatest_count → text_of (after_case out call (FileAnswer.Refused x line)) ≡ refused_text x line
+    refused-text : (x : Refusal) (line : ℕ) → line ≤ greatest_count → text_of (after_case out call (Err (refused_at x line))) ≡ refused_text x line
     unfolding write_refused_call
     refused-text x line k =
         ap (λ (u : WriteCall). printed_bytes u.answer u.out) (text-done out line (refused_text x line) (omega arith) k)
         ∙ take-append_seam (refused_text x line) (drop (length (refused_text x line)) out)
 
     -- by what the case's reading answers
-    abbrev Right : FileAnswer → Type 0
+    abbrev Right : Result ℕ RefusedAt → Type 0
     Right a = Printed book t (after_case out call a)
 
-    right : (a : FileAnswer) → call.read.answer ≡ a → Right a
-    right (FileAnswer.Refused x line) e =
-        let is : text_of (after_case out call (FileAnswer.Refused x line)) ≡ refused_text x line = refused-text x line (line-few e) in
+    right : (a : Result ℕ RefusedAt) → call.read.answer ≡ a → Right a
+    right (Err x) e =
+        let is : text_of (after_case out call (Err x)) ≡ refused_text x.refusal x.line = refused-text x.refusal x.line (line-few e) in
         record {
-          ends = λ n k. over-after n (after_case out call (FileAnswer.Refused x line)) refl;
-          printed = λ n over. over-printed n (after_case out call (FileAnswer.Refused x line)) refl ∙ is ∙ sym (ap (press_read call) e);
+          ends = λ n k. over-after n (after_case out call (Err x)) refl;
+          printed = λ n over. over-printed n (after_case out call (Err x)) refl ∙ is ∙ sym (ap (press_read call) e);
         }
-    right (FileAnswer.Read lines) e =
+    right (Ok lines) e =
         let c : Case = call.read.case in
         let whole : Coherent (rules_of c) = coherent c.rulebook in
         let h : Handed (rules_of c) (working_weight (rules_of c)) c call.table =
@@ -318,10 +317,10 @@ module _ (book : Rulebook) (texts-fit : text_room ≤ longest_round (rules_in bo
         let fits = round-fits h in
         let k : lines ≤ greatest_count = line-few e in
         record {
-          ends = ends-after c lines k press_limit call.table out (Written.Bytes 0) h (omega arith) (omega arith);
+          ends = ends-after c lines k press_limit call.table out (Ok 0) h (omega arith) (omega arith);
           printed = λ n over.
-              text-more c lines k n (after_case out call (FileAnswer.Read lines))
-              ∙ prints-after c lines k press_limit 0 call.table out (Written.Bytes 0) [] h most (omega arith) (omega arith) n over
+              text-more c lines k n (after_case out call (Ok lines))
+              ∙ prints-after c lines k press_limit 0 call.table out (Ok 0) [] h most (omega arith) (omega arith) n over
               ∙ sym (ap (press_read call) e);
         }
 

@@ -1,4 +1,5 @@
 -- `press` never ends by its limit: the rounds that a run can make are fewer, by every rulebook. Assumes nothing.
+use Rattle.std.specs.Prelude.{Ok}
 use mathlib.Core.Path.{◌≡◌}
 use mathlib.Core.List.{List}
 use Prim.Native.Nat.{◌≤◌}
@@ -22,7 +23,7 @@ pub most-few : (b : Rulebook) (c : Case) → c.n ≤ (rules_in b).variables → 
 most-few Desk c n d m = omega (arith, mul-le-mul n d, mul-le-mul m (mul-le-mul d d))
 
 pub press-unlimited : {c : Case} {w : List ℤ} → Handed (rules_of c) (working_weight (rules_of c)) c w
-    → (run (rules_of c) engine_next c press_limit w).answer ≡ RunAnswer.Limit → ⊥
+    → (run (rules_of c) engine_next c press_limit w).answer ≡ Ok RunAnswer.Limit → ⊥
 press-unlimited {c} {w} h =
     run-unlimited (coherent c.rulebook) (engine-lawful (coherent c.rulebook) c) (engine-lessens (coherent c.rulebook) c) press_limit w h
     (omega (arith, left-most c w, most-few c.rulebook c h.variables-most h.values-most h.edges_most))

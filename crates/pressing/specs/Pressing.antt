@@ -1,12 +1,13 @@
 -- The program `press` as a start and rounds one after another, on all input. Assumes nothing.
-use Rattle.std.specs.Prelude.{List, ℕ, ◌-◌, ℤ, eqb, ltb, length, if◌then◌else◌}
+use Rattle.definitions.specs.declared.RefusedAt.{RefusedAt}
+use Rattle.definitions.specs.Answers.{refused_at}
+use Rattle.definitions.specs.Answers.{size_with}
+use Rattle.std.specs.Prelude.{List, ℕ, ◌-◌, ℤ, eqb, ltb, length, if◌then◌else◌, Result, Ok, Err}
 use Rattle.definitions.specs.declared.CaseSize.{CaseSize}
-use Rattle.definitions.specs.declared.FileAnswer.{FileAnswer}
 use Rattle.definitions.specs.declared.Rulebook.{Rulebook}
 use Rattle.definitions.specs.declared.Refusal.{Refusal}
 use Rattle.definitions.specs.declared.Refusal.TheVariants.{WrongLength}
 use Rattle.definitions.specs.declared.Round.{Round}
-use Rattle.definitions.specs.declared.Written.{Written}
 use Rattle.definitions.specs.Rules.{rules_of}
 use Rattle.definitions.specs.Refusals.{number}
 use Rattle.calls.specs.Calls.{WriteCall, written_of}
@@ -29,22 +30,22 @@ abbrev pub with_left : Pressing → ℕ → Pressing
 with_left p left = record { case = p.case; lines = p.lines; left = left }
 
 -- a text or a void line; nothing more is due after it
-abbrev pub after_text : Pressing → Written → Pressed
-after_text p (Written.Bytes n) = record { pressing = with_left p 0; written = Written.Bytes n }
-after_text p (Written.Refused x) = record { pressing = p; written = Written.Refused x }
+abbrev pub after_text : Pressing → Result ℕ Refusal → Pressed
+after_text p (Ok n) = record { pressing = with_left p 0; written = Ok n }
+after_text p (Err x) = record { pressing = p; written = Err x }
 
 -- number 11 is printed, at the line after the input's last; a fault of what is handed over is the call's own answer
 abbrev pub press_refusal : Refusal → ℕ → List ℕ → WriteCall
-press_refusal x lines out = if is_leaving x then write_refused_call out x lines else record { answer = Written.Refused x; out = out }
+press_refusal x lines out = if is_leaving x then write_refused_call out x lines else record { answer = Err x; out = out }
 
 -- by what the engine's round answers
-abbrev pub after_round : Pressing → RoundCall → Round → PressingCall
-after_round p call Round.Settled = record { pressed = record { pressing = with_left p 0; written = Written.Bytes 0 }; table = call.table; out = call.out }
-after_round p call (Round.Made bytes bound) =
-    record { pressed = record { pressing = with_left p (p.left - 1); written = Written.Bytes bytes }; table = call.table; out = call.out }
-after_round p call (Round.Void bytes) =
-    record { pressed = record { pressing = with_left p 0; written = Written.Bytes bytes }; table = call.table; out = call.out }
-after_round p call (Round.Refused x) =
+abbrev pub after_round : Pressing → RoundCall → Result Round Refusal → PressingCall
+after_round p call (Ok Round.Settled) = record { pressed = record { pressing = with_left p 0; written = Ok 0 }; table = call.table; out = call.out }
+after_round p call (Ok (Round.Made bytes bound)) =
+    record { pressed = record { pressing = with_left p (p.left - 1); written = Ok bytes }; table = call.table; out = call.out }
+after_round p call (Ok (Round.Void bytes)) =
+    record { pressed = record { pressing = with_left p 0; written = Ok bytes }; table = call.table; out = call.out }
+after_round p call (Err x) =
     let text : WriteCall = press_refusal x p.lines call.out in
     record { pressed = after_text p text.answer; table = call.table; out = text.out }
 
@@ -52,21 +53,21 @@ after_round p call (Round.Refused x) =
 abbrev pub short_or : Refusal → Refusal
 short_or x = if eqb (number x) 14 then WrongLength else x
 
-abbrev pub head_or_short : CaseSize → Refusal
-head_or_short (CaseSize.Refused x) = short_or x
-head_or_short (CaseSize.Size n d m long) = WrongLength
+abbrev pub head_or_short : Result CaseSize Refusal → Refusal
+head_or_short (Err x) = short_or x
+head_or_short (Ok s) = WrongLength
 
 -- a refused case is printed and nothing more is due; after a case that was read, up to 100,000 rounds
-abbrev pub after_case : List ℕ → CaseCall → FileAnswer → PressingCall
-after_case out call (FileAnswer.Refused x at) =
-    let text : WriteCall = write_refused_call out x at in
+abbrev pub after_case : List ℕ → CaseCall → Result ℕ RefusedAt → PressingCall
+after_case out call (Err x) =
+    let text : WriteCall = write_refused_call out x.refusal x.line in
     record {
-      pressed = record { pressing = record { case = call.read.case; lines = at; left = 0 }; written = text.answer };
+      pressed = record { pressing = record { case = call.read.case; lines = x.line; left = 0 }; written = text.answer };
       table = call.table;
       out = text.out;
     }
-after_case out call (FileAnswer.Read lines) = record {
-  pressed = record { pressing = record { case = call.read.case; lines = lines; left = press_limit }; written = Written.Bytes 0 };
+after_case out call (Ok lines) = record {
+  pressed = record { pressing = record { case = call.read.case; lines = lines; left = press_limit }; written = Ok 0 };
   table = call.table;
   out = out;
 }
@@ -76,7 +77,7 @@ unfoldable pub start_pressing : Rulebook → List ℕ → List ℤ → List ℕ 
 start_pressing b t w out =
     if ltb (length out) text_room
     then record {
-      pressed = record { pressing = record { case = case_of b 0 0 0; lines = 0; left = 0 }; written = Written.Refused (head_or_short (case_size b t)) };
+      pressed = record { pressing = record { case = case_of b 0 0 0; lines = 0; left = 0 }; written = Err (head_or_short (case_size b t)) };
       table = w;
       out = out;
     }

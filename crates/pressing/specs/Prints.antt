@@ -1,7 +1,7 @@
 -- What a start and the rounds after it print, and the promise of it. Assumes nothing.
-use Rattle.std.specs.Prelude.{◌≡◌, ◌⊎◌, List, [], ◌++◌, ℕ, zero, suc, ◌+◌, ◌≤◌, length, take}
+use Rattle.definitions.specs.declared.Refusal.{Refusal}
+use Rattle.std.specs.Prelude.{◌≡◌, ◌⊎◌, List, [], ◌++◌, ℕ, zero, suc, ◌+◌, ◌≤◌, length, take, Result, Ok, Err}
 use Rattle.definitions.specs.declared.Rulebook.{Rulebook}
-use Rattle.definitions.specs.declared.Written.{Written}
 use Rattle.definitions.specs.Rules.{rules_in}
 use Rattle.definitions.specs.Lines.{line_length}
 use Rattle.definitions.specs.CaseFiles.{case_size}
@@ -10,9 +10,9 @@ use Rattle.definitions.specs.Places.{longest_case, longest_round}
 use Rattle.pressing.specs.Pressing.{PressingCall, start_pressing, next_pressing}
 
 -- what a call is to print: so many of the output's first bytes
-abbrev pub printed_bytes : Written → List ℕ → List ℕ
-printed_bytes (Written.Bytes n) out = take n out
-printed_bytes (Written.Refused x) out = []
+abbrev pub printed_bytes : Result ℕ Refusal → List ℕ → List ℕ
+printed_bytes (Ok n) out = take n out
+printed_bytes (Err x) out = []
 
 abbrev pub text_of : PressingCall → List ℕ
 text_of g = printed_bytes g.pressed.written g.out

@@ -12,9 +12,7 @@ ghost use Rattle.definitions.specs.Programs.{table_for};
 ghost use Rattle.round_lines.specs.Asked.{round_refusal};
 ghost use Rattle.pressing.specs.Pressing.{with_left, after_text, press_refusal, short_or, head_or_short, start_pressing, round_next, next_pressing};
 
-use definitions::{
-    Case, CaseSize, EDGE_PLACES, FileAnswer, Outcome, Refusal, Round, Rulebook, Written,
-};
+use definitions::{Case, CaseSize, EDGE_PLACES, Refusal, RefusedAt, Round, Rulebook};
 
 // An output must have so many bytes for a text.
 const ROOM: usize = 64;
@@ -40,7 +38,7 @@ pub struct Pressing {
 #[derive(Clone, Copy)]
 pub struct Pressed {
     pub pressing: Pressing,
-    pub written: Written,
+    pub written: Result<usize, Refusal>,
 }
 
 fn no_case() -> Case
@@ -76,31 +74,31 @@ fn is_leaving(refusal: Refusal) -> bool
     texts::number_of(refusal) == LEAVES_RANGE
 }
 
-fn write_refusal(refusal: Refusal, lines: usize, out: &mut [u8]) -> Written
+fn write_refusal(refusal: Refusal, lines: usize, out: &mut [u8]) -> Result<usize, Refusal>
     ensures { (result ≡ (press_refusal refusal lines out.old).answer) × (out.new ≡ (press_refusal refusal lines out.old).out) }
 {
     if is_leaving(refusal) {
         texts::write_refused(out, refusal, lines)
     } else {
-        Written::Refused(refusal)
+        Err(refusal)
     }
 }
 
 // Nothing more is due after a text or a void line.
-fn after_text(pressing: Pressing, written: Written) -> Pressed
+fn after_text(pressing: Pressing, written: Result<usize, Refusal>) -> Pressed
     ensures { result ≡ after_text pressing written }
 {
     match written {
-        Written::Bytes(n) => {
+        Ok(n) => {
             let over = with_left(pressing, 0);
             Pressed {
                 pressing: over,
-                written: Written::Bytes(n),
+                written: Ok(n),
             }
         }
-        Written::Refused(refusal) => Pressed {
+        Err(refusal) => Pressed {
             pressing,
-            written: Written::Refused(refusal),
+            written: Err(refusal),
         },
     }
 }
@@ -114,16 +112,16 @@ fn one_round(pressing: Pressing, table: &mut [i64], out: &mut [u8]) -> Pressed
     let case = pressing.case;
     let round = engine::round(case, table, out);
     match round {
-        Round::Settled => after_text(pressing, Written::Bytes(0)),
-        Round::Made { bytes, bound: _ } => {
+        Ok(Round::Settled) => after_text(pressing, Ok(0)),
+        Ok(Round::Made { bytes, bound: _ }) => {
             let next = with_left(pressing, pressing.left - 1);
             Pressed {
                 pressing: next,
-                written: Written::Bytes(bytes),
+                written: Ok(bytes),
             }
         }
-        Round::Void { bytes } => after_text(pressing, Written::Bytes(bytes)),
-        Round::Refused(refusal) => {
+        Ok(Round::Void { bytes }) => after_text(pressing, Ok(bytes)),
+        Err(refusal) => {
             let written = write_refusal(refusal, pressing.lines, out);
             after_text(pressing, written)
         }
@@ -131,13 +129,13 @@ fn one_round(pressing: Pressing, table: &mut [i64], out: &mut [u8]) -> Pressed
 }
 
 // No round may follow: what is handed over is asked as the engine's round asks it.
-fn ask_round(case: Case, table: &[i64], length: usize) -> Written
+fn ask_round(case: Case, table: &[i64], length: usize) -> Result<usize, Refusal>
     ensures { result ≡ written_of (round_refusal (rules_of case) case table.now length false) 0 }
 {
     let asked = round_lines::check_round(case, table, length, false);
     match asked {
-        Outcome::Refused(refusal) => Written::Refused(refusal),
-        Outcome::Done => Written::Bytes(0),
+        Err(refusal) => Err(refusal),
+        Ok(()) => Ok(0),
     }
 }
 
@@ -156,13 +154,13 @@ fn head_or_short(bytes: &[u8]) -> Refusal
 {
     let size = casefile::case_size(bytes);
     match size {
-        CaseSize::Refused(refusal) => short_or(refusal),
-        CaseSize::Size {
+        Err(refusal) => short_or(refusal),
+        Ok(CaseSize {
             n: _,
             d: _,
             m: _,
             table: _,
-        } => Refusal::WrongLength,
+        }) => Refusal::WrongLength,
     }
 }
 
@@ -174,13 +172,13 @@ pub fn table_length(bytes: &[u8]) -> usize
 {
     let size = casefile::case_size(bytes);
     match size {
-        CaseSize::Refused(_) => 0,
-        CaseSize::Size {
+        Err(_) => 0,
+        Ok(CaseSize {
             n: _,
             d: _,
             m: _,
             table,
-        } => table,
+        }) => table,
     }
 }
 
@@ -198,14 +196,14 @@ pub fn start(bytes: &[u8], table: &mut [i64], out: &mut [u8]) -> Pressed
                 lines: 0,
                 left: 0,
             },
-            written: Written::Refused(refusal),
+            written: Err(refusal),
         };
     }
     let read = casefile::read_case_alone(bytes, table);
     let case = read.case;
     let answer = read.answer;
     match answer {
-        FileAnswer::Refused { refusal, line } => {
+        Err(RefusedAt { refusal, line }) => {
             let written = texts::write_refused(out, refusal, line);
             Pressed {
                 pressing: Pressing {
@@ -216,13 +214,13 @@ pub fn start(bytes: &[u8], table: &mut [i64], out: &mut [u8]) -> Pressed
                 written,
             }
         }
-        FileAnswer::Read { lines } => Pressed {
+        Ok(lines) => Pressed {
             pressing: Pressing {
                 case,
                 lines,
                 left: ROUNDS,
             },
-            written: Written::Bytes(0),
+            written: Ok(0),
         },
     }
 }

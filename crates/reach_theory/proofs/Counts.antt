@@ -5,7 +5,6 @@
 -- nothing.
 use mathlib.Core.Path.{◌≡◌, sym, ap, subst, ◌∙◌}
 use mathlib.Core.Bool.{Bool, true, false, not, ◌&&◌, ◌||◌}
-use mathlib.Core.Option.{none, some}
 use mathlib.Core.Logic.{◌≢◌, ⊎_elim}
 use mathlib.Core.List.{List}
 use Prim.Native.Nat.{ℕ, suc, ◌+◌, ◌*◌, ◌≤◌, ◌<◌}
@@ -13,7 +12,7 @@ use native.Mathlib.Omega.{arith}
 use lib.IntN.{ℤ, pos}
 use lib.Dec.{T, T_not, not_T, eqb, eqb→eq}
 use lib.Signed.{◌≤ℤ◌, le_z}
-use Rattle.std.specs.Prelude.{if◌then◌else◌}
+use Rattle.std.specs.Prelude.{if◌then◌else◌, Some, None}
 use Rattle.integers.specs.Words.{below, all, is_in}
 use Rattle.integers.specs.Tests.{either, if-cases, and_intro, and_left, and_right, or_left, or_right, or_cases, not-eqb-iff}
 use Rattle.integers.specs.Options.{some_inj, found-else}
@@ -137,8 +136,8 @@ module _ (c : Case) (w v : List ℤ) (e : ℕ) (kept : (k l : ℕ) → k < c.d �
   edge-left = summed-mono _ _ c.d (λ k p. rows_left k p)
 
 -- ---- a press
-module _ {r : Rules} {c : Case} {w : List ℤ} {i : ℕ} {a : ℤ} (coherent : Coherent r) (handed : Handed r (working_weight r) c w) (which : chosen c w ≡ some i)
-    (least : least_gap c w i ≡ some a) (stays : T (not (leaves_range r c w (engine_pressed c w i a)))) where
+module _ {r : Rules} {c : Case} {w : List ℤ} {i : ℕ} {a : ℤ} (coherent : Coherent r) (handed : Handed r (working_weight r) c w) (which : chosen c w ≡ Some i)
+    (least : least_gap c w i ≡ Some a) (stays : T (not (leaves_range r c w (engine_pressed c w i a)))) where
   abbrev v : List ℤ
   v = engine_pressed c w i a
 
@@ -319,13 +318,13 @@ module _ {r : Rules} {c : Case} {w : List ℤ} {e : ℕ} (coherent : Coherent r)
 -- ---- any round of a run
 
 -- the moves lead to u
-leads : (c : Case) (w : List ℤ) {v : List ℤ} (b : Bool) (u : List ℤ) → (if b then none else some u) ≡ some v → rounds_left c u < rounds_left c w
+leads : (c : Case) (w : List ℤ) {v : List ℤ} (b : Bool) (u : List ℤ) → (if b then None else Some u) ≡ Some v → rounds_left c u < rounds_left c w
     → rounds_left c v < rounds_left c w
-leads c w b u e = subst (λ (u : List ℤ). rounds_left c u < rounds_left c w) (some_inj (found-else b (some u) e).1)
+leads c w b u e = subst (λ (u : List ℤ). rounds_left c u < rounds_left c w) (some_inj (found-else b (Some u) e).1)
 
 module _ {r : Rules} {c : Case} {w : List ℤ} (coherent : Coherent r) (handed : Handed r (working_weight r) c w) where
   -- the lowest pair's round does not leave the range, and lowers the upper bound
-  pub lowest-ready : {e : ℕ} → lowest_pair r c w ≡ some e → (e < c.m) × T (some_choice c w e) × T (not (pair_leaves r c w e)) × T (pair_lowers c w e)
+  pub lowest-ready : {e : ℕ} → lowest_pair r c w ≡ Some e → (e < c.m) × T (some_choice c w e) × T (not (pair_leaves r c w e)) × T (pair_lowers c w e)
   lowest-ready {e} o =
       let (h, t, n) = lowest-some r c w o in
       let s = subst T (ready-is coherent handed h) (and_intro (gains c w e) (not (passed_over r c w e)) t n) in
@@ -337,7 +336,7 @@ module _ {r : Rules} {c : Case} {w : List ℤ} (coherent : Coherent r) (handed :
       )
 
   module _ {moves : List Move} where
-    pub left_less : {v : List ℤ} → engine_next r c w ≡ round moves → after_moves r c moves w ≡ some v → rounds_left c v < rounds_left c w
+    pub left_less : {v : List ℤ} → engine_next r c w ≡ round moves → after_moves r c moves w ≡ Some v → rounds_left c v < rounds_left c w
     left_less {v} d to = ⊎_elim
         (λ (e, o, q).
         let (h, t, n, s) = lowest-ready o in
@@ -346,11 +345,11 @@ module _ {r : Rules} {c : Case} {w : List ℤ} (coherent : Coherent r) (handed :
         (λ (o, i, a, f, g, q).
         let z = sym (after-press c w i a r) ∙ sym (ap (λ l. after_moves r c l w) q) ∙ to in
         leads c w (leaves_range r c w (engine_pressed c w i a)) (engine_pressed c w i a) z
-        (press-less coherent handed f g (found-else (leaves_range r c w (engine_pressed c w i a)) (some (engine_pressed c w i a)) z).0))
+        (press-less coherent handed f g (found-else (leaves_range r c w (engine_pressed c w i a)) (Some (engine_pressed c w i a)) z).0))
         (engine-next-is r c w d)
 
     -- in a run of pair rounds only
-    pub pairs-left-less : {v : List ℤ} → pairs_next r c w ≡ round moves → after_moves r c moves w ≡ some v → rounds_left c v < rounds_left c w
+    pub pairs-left-less : {v : List ℤ} → pairs_next r c w ≡ round moves → after_moves r c moves w ≡ Some v → rounds_left c v < rounds_left c w
     pairs-left-less d = left_less (pairs-are-next r c w d)
 
     -- where a round comes next, whether it is made or not, some are left

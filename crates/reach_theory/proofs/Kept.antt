@@ -2,7 +2,6 @@
 -- whose round would not lower the upper bound is such a pair after it. Assumes nothing.
 use mathlib.Core.Path.{◌≡◌, sym, ap₂, subst, ◌∙◌}
 use mathlib.Core.Bool.{Bool, true, false, not, ◌&&◌, ◌||◌}
-use mathlib.Core.Option.{some}
 use mathlib.Core.Logic.{⊎_elim}
 use mathlib.Core.List.Memᴰ
 use mathlib.Core.List.{List, ◌∷◌}
@@ -11,7 +10,7 @@ use native.Mathlib.Omega.{arith}
 use lib.IntN.{ℤ, pos, neg_ℤ, ◌+ℤ◌, ◌-ℤ◌}
 use lib.Dec.{T, not_T, eqb, eqb→eq, eqb_refl}
 use lib.Signed.{◌≤ℤ◌}
-use Rattle.std.specs.Prelude.{if◌then◌else◌}
+use Rattle.std.specs.Prelude.{if◌then◌else◌, Some}
 use Rattle.integers.specs.Words.{all, is_in}
 use Rattle.integers.specs.Tests.{either, if-true, if-false, not-or-iff, or_left, or_right}
 use Rattle.integers.specs.Linear.{flat, zs, ◌▸◌, ≤ℤ-antisym}
@@ -61,8 +60,8 @@ rise-step true false lowered false y a o e n p = rw (e tt) (simp flat (omega zs)
 rise-step false true lowered false y a o e n p = simp flat (omega zs)
 rise-step false false lowered false y a o e n p = absurd o
 
-module _ {r : Rules} {c : Case} {w : List ℤ} {i : ℕ} {a : ℤ} (coherent : Coherent r) (h : Handed r (working_weight r) c w) (which : chosen c w ≡ some i)
-    (least : least_gap c w i ≡ some a) (stays : T (not (leaves_range r c w (engine_pressed c w i a)))) where
+module _ {r : Rules} {c : Case} {w : List ℤ} {i : ℕ} {a : ℤ} (coherent : Coherent r) (h : Handed r (working_weight r) c w) (which : chosen c w ≡ Some i)
+    (least : least_gap c w i ≡ Some a) (stays : T (not (leaves_range r c w (engine_pressed c w i a)))) where
   abbrev v : List ℤ
   v = engine_pressed c w i a
 

@@ -4,9 +4,9 @@
 -- meets the range, and a press comes only where no pair's round would lower the upper bound. Late, from then on, none would any more; R is
 -- 2·s·U at most and falls by a press's amount, and the amounts are all that takes the variables' weights below −U. So every weight stays between
 -- −(2·s + 1)·U and 3·U. Assumes nothing.
+use Rattle.std.specs.Prelude.{Option, Some, None}
 use mathlib.Core.Path.{◌≡◌, refl, sym, ap, subst, ◌∙◌}
 use mathlib.Core.Bool.{Bool, not, ◌&&◌}
-use mathlib.Core.Option.{Option, none, some}
 use mathlib.Core.Logic.{◌≢◌, ◌⊎◌, inl, inr, ⊎_elim}
 use mathlib.Core.List.{List}
 use Prim.Native.Nat.{ℕ, ◌+◌, ◌*◌, ◌≤◌, ◌<◌}
@@ -221,8 +221,8 @@ choice-same : (c : Case) (w v : List ℤ) → Shape c → ((x k l : ℕ) → IsT
 choice-same c w v s bars e h = ap (any (λ b. b)) (each-cong c {f = is_choice c v e} {g = is_choice c w e} (c.n + e) (omega arith) (λ k l t.
     rw (bars _ _ _ (lower-tuple c s e h t.one), bars _ _ _ (upper-tuple c s e h t.two), bars _ _ _ t)))
 
-module _ {r : Rules} {c : Case} {w : List ℤ} {i : ℕ} {a : ℤ} (coherent : Coherent r) (h : Handed r (working_weight r) c w) (which : chosen c w ≡ some i)
-    (least : least_gap c w i ≡ some a) (late : Late r c w) where
+module _ {r : Rules} {c : Case} {w : List ℤ} {i : ℕ} {a : ℤ} (coherent : Coherent r) (h : Handed r (working_weight r) c w) (which : chosen c w ≡ Some i)
+    (least : least_gap c w i ≡ Some a) (late : Late r c w) where
   abbrev v : List ℤ
   v = engine_pressed c w i a
 
@@ -347,8 +347,8 @@ module _ {r : Rules} {c : Case} (coherent : Coherent r) where
       pub reached-passes-none : T (not (pair_leaves r c w e))
       reached-passes-none = early-stays coherent taken is-early e h t (room_for coherent taken).1
 
-      pair_made : after_moves r c (pair_round c w e) w ≡ some (pair_rounded c w e)
-      pair_made = after-pair coherent taken h ∙ if-false none (some (pair_rounded c w e)) (pair_leaves r c w e) reached-passes-none
+      pair_made : after_moves r c (pair_round c w e) w ≡ Some (pair_rounded c w e)
+      pair_made = after-pair coherent taken h ∙ if-false None (Some (pair_rounded c w e)) (pair_leaves r c w e) reached-passes-none
 
       pair-reached : EngineReached r c (pair_rounded c w e)
       pair-reached = record {
@@ -357,7 +357,7 @@ module _ {r : Rules} {c : Case} (coherent : Coherent r) where
       }
 
     -- where no pair is left, none would lower the upper bound: from then on only presses and void lines come
-    pub reached-late : lowest_pair r c w ≡ none → Late r c w
+    pub reached-late : lowest_pair r c w ≡ None → Late r c w
     reached-late o = ⊎_elim
         (λ early. record {
           remains = λ e h s. not-remains c w e (not_T (pair_lowers c w e) (λ t.
@@ -374,7 +374,7 @@ module _ {r : Rules} {c : Case} (coherent : Coherent r) where
         (λ late. late) reached.phase
 
     -- number 11 never meets the next round
-    pub reached-next : {moves : List Move} → engine_next r c w ≡ round moves → (v : List ℤ) × (after_moves r c moves w ≡ some v) × EngineReached r c v
+    pub reached-next : {moves : List Move} → engine_next r c w ≡ round moves → (v : List ℤ) × (after_moves r c moves w ≡ Some v) × EngineReached r c v
     reached-next {moves} d = ⊎_elim
         (λ (e, o, q).
         let (h, s, n, t) = lowest-ready coherent taken o in
@@ -383,27 +383,27 @@ module _ {r : Rules} {c : Case} (coherent : Coherent r) where
         let late = reached-late o in
         let v : List ℤ = engine_pressed c w i a in (
           v,
-          ap (λ l. after_moves r c l w) q ∙ after-press c w i a r ∙ if-false none (some v) (leaves_range r c w v) (press-stays coherent taken f g late),
+          ap (λ l. after_moves r c l w) q ∙ after-press c w i a r ∙ if-false None (Some v) (leaves_range r c w v) (press-stays coherent taken f g late),
           pressed-reached coherent taken f g late,
         ))
         (engine-next-is r c w d)
 
     -- ---- pair rounds come first: late there is none, and late stays late
     module _ (late : Late r c w) where
-      pub late-no-pair : lowest_pair r c w ≡ none
+      pub late-no-pair : lowest_pair r c w ≡ None
       late-no-pair = go (lowest_pair r c w) refl
         where
-          go : (o : Option ℕ) → lowest_pair r c w ≡ o → o ≡ none
-          go none e = refl
-          go (some x) e =
+          go : (o : Option ℕ) → lowest_pair r c w ≡ o → o ≡ None
+          go None e = refl
+          go (Some x) e =
               let (h, s, n, t) = lowest-ready coherent taken e in
               absurd (T_not (pair_lowers c w x) (remains-not c w x (late.remains x h s)) t)
 
-      pub late-stays : {moves : List Move} {v : List ℤ} → engine_next r c w ≡ round moves → after_moves r c moves w ≡ some v → Late r c v
+      pub late-stays : {moves : List Move} {v : List ℤ} → engine_next r c w ≡ round moves → after_moves r c moves w ≡ Some v → Late r c v
       late-stays d to = ⊎_elim
           (λ (e, o, q). absurd (none-some (sym late-no-pair ∙ o)))
           (λ (o, i, a, f, g, q).
-          let (s, e) = found-else (leaves_range r c w (engine_pressed c w i a)) (some (engine_pressed c w i a))
+          let (s, e) = found-else (leaves_range r c w (engine_pressed c w i a)) (Some (engine_pressed c w i a))
           (sym (after-press c w i a r) ∙ sym (ap (λ l. after_moves r c l w) q) ∙ to) in
           subst (λ (v : List ℤ). Late r c v) (some_inj e) (late-pressed coherent taken f g late))
           (engine-next-is r c w d)

@@ -2,7 +2,6 @@
 -- is made, lowers the sum by at least its amount. Assumes nothing.
 use mathlib.Core.Path.{◌≡◌, sym, subst}
 use mathlib.Core.Bool.{Bool, not}
-use mathlib.Core.Option.{some}
 use mathlib.Core.Logic.{⊎_elim}
 use mathlib.Core.List.{List}
 use Prim.Native.Nat.{ℕ, ◌<◌}
@@ -10,7 +9,7 @@ use native.Mathlib.Omega.{arith}
 use lib.IntN.{ℤ, pos, ◌-ℤ◌}
 use lib.Dec.{T, eqb, eqb→eq}
 use lib.Signed.{◌≤ℤ◌}
-use Rattle.std.specs.Prelude.{if◌then◌else◌}
+use Rattle.std.specs.Prelude.{if◌then◌else◌, Some}
 use Rattle.integers.specs.Words.{greatest_of}
 use Rattle.integers.specs.Tests.{either, if-false, if-cases}
 use Rattle.integers.specs.Linear.{flat, zs, ◌▸◌}
@@ -66,8 +65,8 @@ module _ (c : Case) (w : List ℤ) where
     pub total-above : {x k l : ℕ} → IsTuple c x k l → T (not (barred c w x k l)) → (greatest c w x -ℤ weight c w x k l) ≤ℤ total_spread c w
     total-above {x} u f = spread-above u f ▸ sum-above (spread c w) (scope_count c) {i = x} u.scope spread-some ▸ simp flat (omega zs)
 
-module _ {r : Rules} {c : Case} {w : List ℤ} {i : ℕ} {a : ℤ} (coherent : Coherent r) (h : Handed r (working_weight r) c w) (which : chosen c w ≡ some i)
-    (least : least_gap c w i ≡ some a) (stays : T (not (leaves_range r c w (engine_pressed c w i a)))) where
+module _ {r : Rules} {c : Case} {w : List ℤ} {i : ℕ} {a : ℤ} (coherent : Coherent r) (h : Handed r (working_weight r) c w) (which : chosen c w ≡ Some i)
+    (least : least_gap c w i ≡ Some a) (stays : T (not (leaves_range r c w (engine_pressed c w i a)))) where
   abbrev v : List ℤ
   v = engine_pressed c w i a
 

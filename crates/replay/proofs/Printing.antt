@@ -1,4 +1,7 @@
 -- From the loop's contract to the printed text: what is judged turn after turn is a cut of the whole input. Assumes nothing.
+use Rattle.std.specs.Prelude.{Result, Ok}
+use Rattle.definitions.specs.declared.Refusal.{Refusal}
+use Rattle.definitions.specs.declared.RefusedAt.{RefusedAt}
 use mathlib.Core.Path.{◌≡◌, refl, sym, ap, ap₂, subst, ◌∙◌}
 use mathlib.Core.Bool.{false, not}
 use mathlib.Core.Logic.{◌⊎◌, inl, inr}
@@ -13,8 +16,6 @@ use lib.Seq.{length-take-le, drop-append-le, take-append_seam}
 use borrow.Author.Tests.{le-leb}
 use Rattle.integers.specs.Tests.{is_false}
 use Rattle.integers.specs.Words.{joined}
-use Rattle.definitions.specs.declared.FileAnswer.{FileAnswer}
-use Rattle.definitions.specs.declared.Written.{Written}
 use Rattle.definitions.specs.declared.Rulebook.TheVariants.{Desk}
 use Rattle.definitions.specs.Rules.{rules_in}
 use Rattle.definitions.specs.Places.{input_places, longest_case, placed}
@@ -35,7 +36,7 @@ unfolding start_judging
 start-answer front w = refl
 
 -- the bytes of a case that fits
-case-fits : (lines most : ℕ) → lines * desk_line ≤ most → case_end (FileAnswer.Read lines) most ≡ lines * desk_line
+case-fits : (lines most : ℕ) → lines * desk_line ≤ most → case_end (Ok lines) most ≡ lines * desk_line
 case-fits lines most h = simp (le-leb lines (most / desk_line) (omega arith))
 
 module _ {room : ℕ} {front : List ℕ} {first : Filled} {r : Turned} {v : List ℤ} (enough : (longest_case (rules_in Desk) ≤ length front) ⊎ T (is_over first))
@@ -43,12 +44,12 @@ module _ {room : ℕ} {front : List ℕ} {first : Filled} {r : Turned} {v : List
   abbrev w : List ℤ
   w = table_for (case_size Desk front)
 
-  log_is : (lines : ℕ) → (read_case Desk front w).read.answer ≡ FileAnswer.Read lines
+  log_is : (lines : ℕ) → (read_case Desk front w).read.answer ≡ Ok lines
       → drop (lines * desk_line) (front ++ o.more) ≡ joined o.blocks ++ o.tail
   log_is lines e =
       let fits = lines-within Desk front w e in
       let at : case_end (start_judging Desk front w).answer (length front) ≡ lines * desk_line =
-      ap (λ (a : FileAnswer). case_end a (length front)) (start-answer front w ∙ e) ∙ case-fits lines (length front) fits in
+      ap (λ (a : Result ℕ RefusedAt). case_end a (length front)) (start-answer front w ∙ e) ∙ case-fits lines (length front) fits in
       drop-append-le (lines * desk_line) front o.more fits ∙ ap (λ (n : ℕ). drop n front ++ o.more) (sym at) ∙ o.all
 
   held-or-all : (longest_case (rules_in Desk) ≤ length front) ⊎ T (is_over first) → (longest_case (rules_in Desk) ≤ length front) ⊎ (o.more ≡ [])
@@ -70,7 +71,7 @@ module _ {room : ℕ} {front : List ℕ} {first : Filled} {r : Turned} {v : List
 
   finished : (out : List ℕ) → text_room ≤ length out → whole_lines (rules_in Desk).amount_width (front ++ o.more) ≤ greatest_count
       → finish_judging (state_of r.judging v) (not (eqb r.held 0)) out
-      ≡ record { answer = Written.Bytes (length (replay_prints Desk (front ++ o.more))); out = overwritten (replay_prints Desk (front ++ o.more)) out }
+      ≡ record { answer = Ok (length (replay_prints Desk (front ++ o.more))); out = overwritten (replay_prints Desk (front ++ o.more)) out }
   unfolding cut
   finished out room few =
       ap₂ (λ (s : JudgingState) (n : ℕ). finish_judging s (not (eqb n 0)) out) o.state o.held
@@ -96,7 +97,7 @@ module _ {room : ℕ} {front : List ℕ} {first : Filled} {r : Turned} {v : List
   }
 
   -- what the finish writes after the loop
-  pub judges-prints : input_places - desk_line ≤ room → is_failed r.filled ≡ false → (out : List ℕ) → text_room ≤ length out → {a : Written} {after : List ℕ}
+  pub judges-prints : input_places - desk_line ≤ room → is_failed r.filled ≡ false → (out : List ℕ) → text_room ≤ length out → {a : Result ℕ Refusal} {after : List ℕ}
       → (a ≡ (finish_judging (state_of r.judging v) (not (eqb r.held 0)) out).answer)
       × (after ≡ (finish_judging (state_of r.judging v) (not (eqb r.held 0)) out).out)
       → Prints room front first out (printed_part a after)

@@ -1,9 +1,10 @@
 -- What the loop of `replay` makes of its input: bytes are handed over as blocks of whole lines, and a part line is kept; and what is printed of it.
 -- That what is read, and the answers of the reads, are the system's, no contract can say. Assumes nothing.
-use Rattle.std.specs.Prelude.{◌≡◌, false, not, ◌⊎◌, List, [], ◌++◌, ℕ, ◌*◌, ◌-◌, ◌/◌, ◌≤◌, ◌<◌, ◌%◌, ℤ, T, eqb, leb, length, take, drop, if◌then◌else◌}
+use Rattle.definitions.specs.declared.RefusedAt.{RefusedAt}
+use Rattle.definitions.specs.Answers.{refused_at}
+use Rattle.std.specs.Prelude.{◌≡◌, false, not, ◌⊎◌, List, [], ◌++◌, ℕ, ◌*◌, ◌-◌, ◌/◌, ◌≤◌, ◌<◌, ◌%◌, ℤ, T, eqb, leb, length, take, drop, if◌then◌else◌, Result, Ok, Err}
 use Rattle.integers.specs.Words.{joined}
 use Rattle.integers.specs.Lists.{◌∈◌}
-use Rattle.definitions.specs.declared.FileAnswer.{FileAnswer}
 use Rattle.definitions.specs.declared.Rulebook.TheVariants.{Desk}
 use Rattle.definitions.specs.Rules.{rules_in}
 use Rattle.definitions.specs.Lines.{line_length, whole_lines, has_part}
@@ -26,9 +27,9 @@ abbrev pub whole_bytes : List ℕ → ℕ
 whole_bytes bytes = length bytes - length bytes % desk_line
 
 -- the bytes of a case of so many lines, all where it was refused
-abbrev pub case_end : FileAnswer → ℕ → ℕ
-case_end (FileAnswer.Refused x at) most = most
-case_end (FileAnswer.Read lines) most = if leb lines (most / desk_line) then lines * desk_line else most
+abbrev pub case_end : Result ℕ RefusedAt → ℕ → ℕ
+case_end (Err x) most = most
+case_end (Ok lines) most = if leb lines (most / desk_line) then lines * desk_line else most
 
 -- the most turns that are made after the first
 abbrev pub most_turns : ℕ

@@ -3,9 +3,8 @@
 // nothing; where a read failed nothing is printed, since what was read is not the input, and standard error tells it.
 #![tactic(auto)]
 
-ghost use Rattle.std.specs.Prelude.{◌≡◌, ◌⊎◌, ◌-◌, ◌%◌, ◌≤◌, ◌<◌, pos, T, length, take, drop, replicate};
+ghost use Rattle.std.specs.Prelude.{◌≡◌, ◌⊎◌, ◌-◌, ◌%◌, ◌≤◌, ◌<◌, pos, T, length, take, drop, replicate, Ok};
 ghost use Rattle.definitions.specs.declared.Rulebook.TheVariants.{Desk};
-ghost use Rattle.definitions.specs.declared.FileAnswer.{FileAnswer};
 ghost use Rattle.definitions.specs.Places.{input_places, table_places};
 ghost use Rattle.definitions.specs.CaseFiles.{case_size};
 ghost use Rattle.definitions.specs.Programs.{table_for};
@@ -14,7 +13,7 @@ ghost use Rattle.streams.specs.Streams.{is_over, printed_part};
 ghost use Rattle.judging.specs.Judging.{state_of};
 ghost use Rattle.replay.specs.Turns.{desk_line, case_end, most_turns, Turns, Goes, Judges, Prints};
 
-use definitions::{FileAnswer, Rulebook, Written};
+use definitions::{Refusal, RefusedAt, Rulebook};
 use judging::Judging;
 use std::io::Read;
 use streams::Filled;
@@ -73,7 +72,7 @@ fn turn(judging: Judging, table: &mut [i64], buf: &mut [u8], from: usize, filled
 
 // The bytes of so many lines, `most` where they are more.
 fn lines_bytes(lines: usize, most: usize) -> usize
-    ensures { (result ≡ case_end (FileAnswer.Read lines) most) × (result ≤ most) }
+    ensures { (result ≡ case_end (Ok lines) most) × (result ≤ most) }
 {
     let long = line_bytes();
     if lines <= most / long {
@@ -83,15 +82,15 @@ fn lines_bytes(lines: usize, most: usize) -> usize
 }
 
 // The bytes of the case at the front of the input's first `most` bytes: all of these where it was refused.
-fn case_bytes(answer: FileAnswer, most: usize) -> usize
+fn case_bytes(answer: Result<usize, RefusedAt>, most: usize) -> usize
     ensures { (result ≡ case_end answer most) × (result ≤ most) }
 {
     match answer {
-        FileAnswer::Refused {
+        Err(RefusedAt {
             refusal: _,
             line: _,
-        } => most,
-        FileAnswer::Read { lines } => lines_bytes(lines, most),
+        }) => most,
+        Ok(lines) => lines_bytes(lines, most),
     }
 }
 
@@ -138,7 +137,7 @@ fn write_text(
     table: &mut [i64],
     filled: Filled,
     text: &mut [u8],
-) -> Written
+) -> Result<usize, Refusal>
     requires to_in_bounds { (filled.to ≤ length buf.old) × ((length buf.old ≤ filled.to) ⊎ T (is_over filled)) }
     requires buf_len { (length buf.old ≡ input_places) × (text_room ≤ length text.old) }
     requires table_value { table.old ≡ table_for (case_size Desk (take filled.to buf.old)) }
@@ -148,7 +147,7 @@ fn write_text(
     let state = judge_input(input, buf, table, filled);
     let last = state.filled;
     if streams::is_failed(last) {
-        return Written::Bytes(0);
+        return Ok(0);
     }
     let judging = state.judging;
     judging::finish(judging, table, state.held != 0, text)

@@ -1,4 +1,5 @@
 -- What the calls answer and leave, by what was asked. Assumes nothing.
+use Rattle.std.specs.Prelude.{Result, Ok, Err, ⊤}
 use mathlib.Core.Path.{◌≡◌, refl, sym, ap, ap₂, ◌∙◌}
 use mathlib.Core.Bool.{Bool, true, false, not, ◌||◌}
 use mathlib.Core.List.Memᴰ
@@ -14,8 +15,6 @@ use Rattle.integers.specs.Tests.{is_false, false-is}
 use Rattle.integers.specs.Lists.{◌∈◌, any_append, map-append, map-map, joined-append, in-those, in-below}
 use Rattle.definitions.specs.declared.Case.{Case}
 use Rattle.definitions.specs.declared.Line.{Line}
-use Rattle.definitions.specs.declared.Outcome.{Outcome}
-use Rattle.definitions.specs.declared.Written.{Written}
 use Rattle.definitions.specs.declared.Refusal.{Refusal}
 use Rattle.definitions.specs.declared.Refusal.TheVariants.{OutsideLimits, WrongLength, OutOfRange}
 use Rattle.definitions.specs.Rules.{rules_of, coherent}
@@ -80,26 +79,26 @@ line-in width l t e = rw (is_false (width_out width) t, e) tt
 
 -- ---- a line tried on a text that is long enough
 module _ (width : ℕ) (text : List ℕ) (l : Line) (t : T (not (width_out width))) (room : line_length width ≤ length text) where
-  abbrev tried : Outcome
+  abbrev tried : Result ⊤ Refusal
   tried = (write_line_at width text l).answer
 
   long : ltb (length text) (15 + width) ≡ false
   long = le-ltb (length text) (15 + width) room
 
-  tried-narrow : line_too_wide width l ≡ false → tried ≡ Outcome.Done
+  tried-narrow : line_too_wide width l ≡ false → tried ≡ Ok tt
   tried-narrow e = ap (λ (c : LineCall). c.answer) (write_done width text l long (rw (is_false (width_out width) t, e)))
 
-  tried-wide : line_too_wide width l ≡ true → tried ≡ Outcome.Refused OutOfRange
+  tried-wide : line_too_wide width l ≡ true → tried ≡ Err OutOfRange
   tried-wide e = ap (λ (c : LineCall). c.answer) (write-wide width text l long (rw (is_false (width_out width) t, e)))
 
-  pub taken-narrow : Outcome.Done ≡ tried → false ≡ line_too_wide width l
+  pub taken-narrow : Ok tt ≡ tried → false ≡ line_too_wide width l
   taken-narrow d = go (line_too_wide width l) refl
     where
       go : (b : Bool) → line_too_wide width l ≡ b → false ≡ b
       go true e = let u = d ∙ tried-wide e in cc
       go false e = refl
 
-  pub refused-wide : {x : Refusal} → Outcome.Refused x ≡ tried → true ≡ line_too_wide width l
+  pub refused-wide : {x : Refusal} → Err x ≡ tried → true ≡ line_too_wide width l
   refused-wide d = go (line_too_wide width l) refl
     where
       go : (b : Bool) → line_too_wide width l ≡ b → true ≡ b
@@ -109,7 +108,7 @@ module _ (width : ℕ) (text : List ℕ) (l : Line) (t : T (not (width_out width
 -- ---- the calls, by what was asked
 
 abbrev pub Refuses : WriteCall → Refusal → List ℕ → Type 0
-Refuses call x out = (Written.Refused x ≡ call.answer) × (out ≡ call.out)
+Refuses call x out = Err x ≡ call.answer × (out ≡ call.out)
 
 -- of any lines
 module _ (c : Case) (out : List ℕ) (i : ℕ) (ls : List Line) where
@@ -142,7 +141,7 @@ module _ (c : Case) (out : List ℕ) (i : ℕ) (ls : List Line) where
       -- the lines are written where they fit
       lines-written : scope_count c ≤ length raised → line_length width * length ls ≤ length out → i < c.n → any (line_too_wide width) ls ≡ false
           → lines_call (rules_of c) c out i ls raised
-          ≡ record { answer = Written.Bytes (length (line_texts width ls)); out = overwritten (line_texts width ls) out }
+          ≡ record { answer = Ok (length (line_texts width ls)); out = overwritten (line_texts width ls) out }
       unfolding lines_call
       lines-written room long h narrow =
           rw (e, le-ltb (length raised) (scope_count c) room, le-ltb (length out) (line_length width * length ls) long, lt-ltb i c.n h, narrow)
@@ -175,7 +174,7 @@ module _ (c : Case) (out raised : List ℕ) (i : ℕ) where
       → line_length width_here * (length raised_here + 2) ≤ length out → i < c.n
       → any (line_too_wide width_here) (lines_of_press i raised_here a bound) ≡ false
       → let text = line_texts width_here (lines_of_press i raised_here a bound) in
-      write_all_call (rules_of c) c out raised i a bound ≡ record { answer = Written.Bytes (length text); out = overwritten text out }
+      write_all_call (rules_of c) c out raised i a bound ≡ record { answer = Ok (length text); out = overwritten text out }
   unfolding write_all_call
   press-written a bound e room fits h narrow =
       let n : length (lines_of_press i raised_here a bound) ≡ length raised_here + 2 = entry-count (Press a bound) i raised_here ∙ omega arith in
@@ -185,7 +184,7 @@ module _ (c : Case) (out raised : List ℕ) (i : ℕ) where
   pub void-written : within_limits (rules_of c) c.n c.d c.m ≡ true → scope_count c ≤ length raised
       → line_length width_here * (length raised_here + 1) ≤ length out → i < c.n
       → let text = joined (void_text (rules_of c) i raised_here) in
-      write_void_call (rules_of c) c out raised i ≡ record { answer = Written.Bytes (length text); out = overwritten text out }
+      write_void_call (rules_of c) c out raised i ≡ record { answer = Ok (length text); out = overwritten text out }
   unfolding write_void_call
   void-written e room fits h =
       let l = limited c e in

@@ -1,6 +1,5 @@
 -- What is asked before a round of the engine is made. Assumes nothing.
-use Rattle.std.specs.Prelude.{Bool, List, ℕ, ℤ, ltb}
-use Rattle.std.proofs.Math.Option.{Option}
+use Rattle.std.specs.Prelude.{Bool, List, ℕ, ℤ, ltb, Option}
 use Rattle.definitions.specs.declared.Case.{Case}
 use Rattle.definitions.specs.declared.Refusal.{Refusal}
 use Rattle.definitions.specs.Rules.{Rules}

@@ -16,7 +16,7 @@ ghost use Rattle.round_lines.specs.Press.{raised_from, raised_below, entry_lines
 ghost use Rattle.round_lines.specs.Press.{put_call, lines_call, checked_call, write_all_call, write_void_call};
 ghost use Rattle.round_lines.specs.Asked.{round_refusal};
 
-use definitions::{Case, Line, Outcome, Refusal, Written};
+use definitions::{Case, Line, Refusal};
 
 // A line of the widest amount column.
 const LINE_PLACES: usize = 33;
@@ -176,8 +176,8 @@ fn too_wide(line: Line, width: usize) -> bool
     let mut text = [0u8; LINE_PLACES];
     let tried = lines::write_line_in(&mut text, line, width);
     match tried {
-        Outcome::Done => false,
-        Outcome::Refused(_) => true,
+        Ok(()) => false,
+        Err(_) => true,
     }
 }
 
@@ -199,19 +199,19 @@ fn write_lines(
     first: Line,
     entry: Entry,
     width: usize,
-) -> Written
+) -> Result<usize, Refusal>
     requires scopes_in_bounds { (scopes ≤ length raised.now) × (scopes < 10 ^ 4) × T (not (width_out width)) }
     requires in_bounds { line_length width * (length (raised_below raised.now scopes) + 1 + length (last_lines entry)) ≤ length out.old }
     ensures value { result ≡ (put_call width first (last_lines entry) (raised_below raised.now scopes) out.old).answer }
     ensures out_after { out.new ≡ (put_call width first (last_lines entry) (raised_below raised.now scopes) out.old).out }
 {
     if too_wide(first, width) {
-        return Written::Refused(Refusal::OutOfRange);
+        return Err(Refusal::OutOfRange);
     }
     if last_too_wide(entry, width) {
-        return Written::Refused(Refusal::OutOfRange);
+        return Err(Refusal::OutOfRange);
     }
-    Written::Bytes(put_lines(out, raised, scopes, first, entry, width))
+    Ok(put_lines(out, raised, scopes, first, entry, width))
 }
 
 fn amount_width(case: Case) -> usize
@@ -250,7 +250,7 @@ fn write_checked(
     raised: &[u8],
     variable: usize,
     entry: Entry,
-) -> Written
+) -> Result<usize, Refusal>
     requires { Limited case × (scope_count case ≤ length raised.now) }
     ensures value { result ≡ (checked_call (rules_of case) case out.old variable
         (entry_lines entry variable (raised_below raised.now (scope_count case)))).answer }
@@ -260,26 +260,26 @@ fn write_checked(
     let scopes = case.n + case.m;
     let count = count_raised(raised, scopes);
     if out.len() < lines_length(case, line_count(entry, count)) {
-        return Written::Refused(Refusal::WrongLength);
+        return Err(Refusal::WrongLength);
     }
     if case.n <= variable {
-        return Written::Refused(Refusal::OutOfRange);
+        return Err(Refusal::OutOfRange);
     }
     let first = first_line(entry, variable, count);
     write_lines(out, raised, scopes, first, entry, amount_width(case))
 }
 
-fn write_entry(case: Case, out: &mut [u8], raised: &[u8], variable: usize, entry: Entry) -> Written
+fn write_entry(case: Case, out: &mut [u8], raised: &[u8], variable: usize, entry: Entry) -> Result<usize, Refusal>
     ensures value { result ≡ (lines_call (rules_of case) case out.old variable
         (entry_lines entry variable (raised_below raised.now (scope_count case))) raised.now).answer }
     ensures out_after { out.new ≡ (lines_call (rules_of case) case out.old variable
         (entry_lines entry variable (raised_below raised.now (scope_count case))) raised.now).out }
 {
     if !tables::within_limits(case) {
-        return Written::Refused(Refusal::OutsideLimits);
+        return Err(Refusal::OutsideLimits);
     }
     if raised.len() < case.n + case.m {
-        return Written::Refused(Refusal::WrongLength);
+        return Err(Refusal::WrongLength);
     }
     write_checked(case, out, raised, variable, entry)
 }
@@ -295,11 +295,11 @@ fn too_short(case: Case, length: usize) -> bool
 
 // Numbers 3 to 8 and 15 of a case, its working weights and an output of so many bytes, 4 also where a round may need more; 5 also where `outside`
 // says so.
-pub fn check_round(case: Case, table: &[i64], length: usize, outside: bool) -> Outcome
+pub fn check_round(case: Case, table: &[i64], length: usize, outside: bool) -> Result<(), Refusal>
     ensures { result ≡ outcome_of (round_refusal (rules_of case) case table.now length outside) }
 {
     if !tables::within_limits(case) {
-        return Outcome::Refused(Refusal::OutsideLimits);
+        return Err(Refusal::OutsideLimits);
     }
     tables::check_working(case, table, too_short(case, length), outside)
 }
@@ -314,7 +314,7 @@ pub fn write_all(
     variable: usize,
     amount: i64,
     bound: i64,
-) -> Written
+) -> Result<usize, Refusal>
     ensures value { result ≡ (write_all_call (rules_of case) case out.old raised.now variable amount bound).answer }
     ensures out_after { out.new ≡ (write_all_call (rules_of case) case out.old raised.now variable amount bound).out }
 {
@@ -322,7 +322,7 @@ pub fn write_all(
 }
 
 // As `write_all`, the lines of a void line of `variable`, which has no bound line.
-pub fn write_void(case: Case, out: &mut [u8], raised: &[u8], variable: usize) -> Written
+pub fn write_void(case: Case, out: &mut [u8], raised: &[u8], variable: usize) -> Result<usize, Refusal>
     ensures value { result ≡ (write_void_call (rules_of case) case out.old raised.now variable).answer }
     ensures out_after { out.new ≡ (write_void_call (rules_of case) case out.old raised.now variable).out }
 {

@@ -1,7 +1,7 @@
 -- What is read to a buffer, and what is printed of an output. What the system gives to standard input, no contract can say. Assumes nothing.
-use Rattle.std.specs.Prelude.{◌≡◌, Bool, ◌⊎◌, List, [], ℕ, ◌≤◌, pos, T, length, take}
+use Rattle.definitions.specs.declared.Refusal.{Refusal}
+use Rattle.std.specs.Prelude.{◌≡◌, Bool, ◌⊎◌, List, [], ℕ, ◌≤◌, pos, T, length, take, Result, Ok, Err}
 use Rattle.std.specs.Int.Signed.{lt_z, le_z}
-use Rattle.definitions.specs.declared.Written.{Written}
 use Rattle.streams.specs.declared.Filled.{Filled}
 
 -- the last read answered 0 or less and brought nothing: the input has ended, or the read failed
@@ -22,6 +22,6 @@ pub record Fills (from : ℕ) (old : List ℕ) (r : Filled) (new : List ℕ) : T
   pub unread : length old ≤ from → (r.to ≡ from) × (r.got ≡ pos 1) × (new ≡ old)
 
 -- so many of the output's first bytes, nothing where it was refused
-abbrev pub printed_part : Written → List ℕ → List ℕ
-printed_part (Written.Bytes n) out = take n out
-printed_part (Written.Refused x) out = []
+abbrev pub printed_part : Result ℕ Refusal → List ℕ → List ℕ
+printed_part (Ok n) out = take n out
+printed_part (Err x) out = []

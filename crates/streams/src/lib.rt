@@ -7,7 +7,7 @@ ghost use Rattle.io.specs.Counts.{clamp_len};
 ghost use Rattle.definitions.specs.Places.{input_places, table_places};
 ghost use Rattle.streams.specs.Streams.{is_over, is_failed, Fills, printed_part};
 
-use definitions::{INPUT_PLACES, TABLE_PLACES, Written};
+use definitions::{INPUT_PLACES, Refusal, TABLE_PLACES};
 use std::io::Read;
 
 // Where the bytes in the buffer end, and what the last read answered: a count of bytes, 0 at the end of the input, -1 where it failed. Where the
@@ -67,12 +67,12 @@ pub fn fill<R: Read>(input: &mut R, buf: &mut [u8], from: usize) -> Filled
 }
 
 // What is to be printed of an output: so many of its first bytes; nothing where it was refused.
-pub fn printed_part(written: Written, out: &[u8]) -> &[u8]
+pub fn printed_part(written: Result<usize, Refusal>, out: &[u8]) -> &[u8]
     ensures { result.now ≡ printed_part written out.now }
 {
     match written {
-        Written::Refused(_) => &out[..0],
-        Written::Bytes(n) => { if n < out.len() { &out[..n] } else { out } }
+        Err(_) => &out[..0],
+        Ok(n) => { if n < out.len() { &out[..n] } else { out } }
     }
 }
 

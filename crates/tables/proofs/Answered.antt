@@ -1,7 +1,6 @@
 -- The answer to a check: what is answered where a number applies, and what is known where none does. Assumes nothing.
 use mathlib.Core.Path.{◌≡◌, sym}
 use mathlib.Core.Bool.{Bool, true, false, not}
-use mathlib.Core.Option.{Option, none, some}
 use mathlib.Core.List.{List}
 use Prim.Native.Nat.{ℕ, ◌<◌}
 use native.Mathlib.Omega.{arith}
@@ -9,14 +8,11 @@ use lib.IntN.{ℤ, pos}
 use lib.Dec.{T}
 use lib.ListN.{length}
 use borrow.Author.Tests.{eq-eqb, lt-ltb}
-use Rattle.std.specs.Prelude.{if◌then◌else◌}
+use Rattle.std.specs.Prelude.{if◌then◌else◌, Ok, Err, Option, Some, None}
 use Rattle.integers.specs.Words.{within_z, minus}
 use Rattle.integers.specs.Tests.{tests, is_true}
 use Rattle.definitions.specs.declared.Case.{Case}
 use Rattle.definitions.specs.declared.Refusal.{Refusal}
-use Rattle.definitions.specs.declared.Outcome.{Outcome}
-use Rattle.definitions.specs.declared.Figure.{Figure}
-use Rattle.definitions.specs.declared.Verdict.{Verdict}
 use Rattle.definitions.specs.Rules.{rules_of, coherent}
 use Rattle.definitions.specs.Refusals.{first_refusal}
 use Rattle.definitions.specs.Answers.{outcome_of}
@@ -30,10 +26,10 @@ use Rattle.tables.proofs.Order.{limited-by, outcome-done, outcome-refused}
 use Rattle.tables.proofs.Bounds.{sum-given}
 
 module _ (o : Option Refusal) where
-  refused-figure : {x : Refusal} (z : ℤ) → o ≡ some x → Figure.Refused x ≡ figure_of o z
+  refused-figure : {x : Refusal} (z : ℤ) → o ≡ Some x → Err x ≡ figure_of o z
   refused-figure z e = rw e
 
-  refused-verdict : {x : Refusal} (b : Bool) → o ≡ some x → Verdict.Refused x ≡ verdict_of o b
+  refused-verdict : {x : Refusal} (b : Bool) → o ≡ Some x → Err x ≡ verdict_of o b
   refused-verdict b e = rw e
 
 -- a table of working weights
@@ -41,20 +37,20 @@ module _ (c : Case) (w : List ℤ) (wrong out : Bool) where
   abbrev asked : Option Refusal
   asked = first_refusal (handed_over (rules_of c) (working_weight (rules_of c)) c w wrong out)
 
-  pub figure-refused : {x : Refusal} (z : ℤ) → Outcome.Refused x ≡ outcome_of asked → Figure.Refused x ≡ figure_of asked z
+  pub figure-refused : {x : Refusal} (z : ℤ) → Err x ≡ outcome_of asked → Err x ≡ figure_of asked z
   figure-refused z e = refused-figure asked z (outcome-refused e)
 
-  pub figure-given : (z : ℤ) → Outcome.Done ≡ outcome_of asked → Figure.Value z ≡ figure_of asked z
-  figure-given z e = let d : asked ≡ none = outcome-done e in rw d
+  pub figure-given : (z : ℤ) → Ok tt ≡ outcome_of asked → Ok z ≡ figure_of asked z
+  figure-given z e = let d : asked ≡ None = outcome-done e in rw d
 
-  pub verdict-refused : {x : Refusal} (b : Bool) → Outcome.Refused x ≡ outcome_of asked → Verdict.Refused x ≡ verdict_of asked b
+  pub verdict-refused : {x : Refusal} (b : Bool) → Err x ≡ outcome_of asked → Err x ≡ verdict_of asked b
   verdict-refused b e = refused-verdict asked b (outcome-refused e)
 
-  pub verdict-given : (b : Bool) → Outcome.Done ≡ outcome_of asked → (if b then Verdict.Yes else Verdict.No) ≡ verdict_of asked b
-  verdict-given b e = let d : asked ≡ none = outcome-done e in rw d
+  pub verdict-given : (b : Bool) → Ok tt ≡ outcome_of asked → (if b then Ok true else Ok false) ≡ verdict_of asked b
+  verdict-given b e = let d : asked ≡ None = outcome-done e in rw d
 
-  pub known : Outcome.Done ≡ outcome_of asked → Handed (rules_of c) (working_weight (rules_of c)) c w × T (not wrong) × T (not out)
-  known e = let d : asked ≡ none = outcome-done e in (handed (rules_of c) (working_weight (rules_of c)) c w wrong out).0 (rw d tt)
+  pub known : Ok tt ≡ outcome_of asked → Handed (rules_of c) (working_weight (rules_of c)) c w × T (not wrong) × T (not out)
+  known e = let d : asked ≡ None = outcome-done e in (handed (rules_of c) (working_weight (rules_of c)) c w wrong out).0 (rw d tt)
 
 module _ {c : Case} {w : List ℤ} (h : Handed (rules_of c) (working_weight (rules_of c)) c w) where
   pub limits-known : Limited c
@@ -70,7 +66,7 @@ module _ {c : Case} {w : List ℤ} (h : Handed (rules_of c) (working_weight (rul
   carry-known = let k = is_true (within_z (minus (rules_of c).carried) (pos (rules_of c).carried) c.carry) h.carry-in in rw k
 
   -- on a table that was checked the sum of the greatest weights is the upper bound
-  pub greatest-sum-known : greatest_sum (rules_of c) c w ≡ Figure.Value (upper_bound c w)
+  pub greatest-sum-known : greatest_sum (rules_of c) c w ≡ Ok (upper_bound c w)
   unfolding greatest_sum
   greatest-sum-known = rw (limits-true, eq-eqb (length w) (lent_length (rules_of c) c) h.long) (sym (sum-given c (greatest c w) carry-known greatest-working))
 

@@ -1,4 +1,6 @@
 -- Each scope's greatest weight, kept beside the table: what is written, and the sum of it. Assumes nothing.
+use Rattle.std.specs.Prelude.{Result, Ok, Err, ⊤}
+use Rattle.definitions.specs.declared.Refusal.{Refusal}
 use mathlib.Core.Path.{◌≡◌, sym, ap, subst, ◌∙◌}
 use mathlib.Core.Bool.{true, false, not}
 use mathlib.Core.Logic.{◌⊎◌, inl, inr}
@@ -14,8 +16,6 @@ use Rattle.integers.specs.Words.{below}
 use Rattle.integers.specs.Tests.{either}
 use Rattle.integers.specs.Tables.{length-tab, get_d-tab}
 use Rattle.definitions.specs.declared.Case.{Case}
-use Rattle.definitions.specs.declared.Figure.{Figure}
-use Rattle.definitions.specs.declared.Outcome.{Outcome}
 use Rattle.definitions.specs.declared.Refusal.TheVariants.{OutsideLimits, WrongLength}
 use Rattle.definitions.specs.Rules.{rules_of}
 use Rattle.definitions.specs.Case.{scope_count, scopes, lent_length, greatest, upper_bound}
@@ -60,7 +60,7 @@ best-written c w out room = record {
 
 -- on a table that was checked the sum of these is the upper bound
 pub best-sum-known : {c : Case} {w best : List ℤ} → Handed (rules_of c) (working_weight (rules_of c)) c w → BestOf c w best
-    → best_sum (rules_of c) c best ≡ Figure.Value (upper_bound c w)
+    → best_sum (rules_of c) c best ≡ Ok (upper_bound c w)
 unfolding best_sum
 best-sum-known {c} {w} {best} h b =
     rw (limits-true h, le-ltb (length best) (scope_count c) b.enough)
@@ -74,32 +74,32 @@ sum-written c w out best room e =
 
 -- ---- the call, by what was asked
 module _ (c : Case) (w best : List ℤ) where
-  abbrev Gives : Outcome → List ℤ → Type 0
+  abbrev Gives : Result ⊤ Refusal → List ℤ → Type 0
   Gives o b = (o ≡ (greatest_call (rules_of c) c w best).answer) × (b ≡ (greatest_call (rules_of c) c w best).best)
 
-  pub greatest-outside : within_limits (rules_of c) c.n c.d c.m ≡ false → Gives (Outcome.Refused OutsideLimits) best
+  pub greatest-outside : within_limits (rules_of c) c.n c.d c.m ≡ false → Gives (Err OutsideLimits) best
   unfolding greatest_call
   greatest-outside e = (rw e, rw e)
 
   module _ (e : within_limits (rules_of c) c.n c.d c.m ≡ true) where
-    pub greatest-other-length : (length w ≡ lent_length (rules_of c) c → ⊥) → Gives (Outcome.Refused WrongLength) best
+    pub greatest-other-length : (length w ≡ lent_length (rules_of c) c → ⊥) → Gives (Err WrongLength) best
     unfolding greatest_call
     greatest-other-length n = (rw (e, ne_eqb (length w) (lent_length (rules_of c) c) n), rw (e, ne_eqb (length w) (lent_length (rules_of c) c) n))
 
     module _ (long : length w ≡ lent_length (rules_of c) c) where
-      pub greatest-short : length best < scope_count c → Gives (Outcome.Refused WrongLength) best
+      pub greatest-short : length best < scope_count c → Gives (Err WrongLength) best
       unfolding greatest_call
       greatest-short h =
           let d = lt-ltb (length best) (scope_count c) h in (rw (e, eq-eqb (length w) (lent_length (rules_of c) c) long, d), rw (e, eq-eqb (length w) (lent_length (rules_of c) c) long, d))
 
-      pub greatest-done : scope_count c ≤ length best → Gives Outcome.Done (written_over (map (greatest c w) (scopes c)) best)
+      pub greatest-done : scope_count c ≤ length best → Gives (Ok tt) (written_over (map (greatest c w) (scopes c)) best)
       unfolding greatest_call
       greatest-done h =
           let d = le-ltb (length best) (scope_count c) h in (rw (e, eq-eqb (length w) (lent_length (rules_of c) c) long, d), rw (e, eq-eqb (length w) (lent_length (rules_of c) c) long, d))
 
 -- on a table that was checked the call is done, and `best` holds the greatest weights
 pub greatest-known : {c : Case} {w : List ℤ} (best : List ℤ) → Handed (rules_of c) (working_weight (rules_of c)) c w → scope_count c ≤ length best
-    → ((greatest_call (rules_of c) c w best).answer ≡ Outcome.Done) × BestOf c w (greatest_call (rules_of c) c w best).best
+    → ((greatest_call (rules_of c) c w best).answer ≡ Ok tt) × BestOf c w (greatest_call (rules_of c) c w best).best
 greatest-known {c} {w} best h room =
     let d = greatest-done c w best (limits-true h) h.long room in
     (sym d.0, subst (λ (b : List ℤ). BestOf c w b) d.1 (best-written c w best room))

@@ -1,4 +1,5 @@
 -- Sums over scopes of numbers in the range, which fit, and sums that are refused. Assumes nothing.
+use Rattle.std.specs.Prelude.{Ok, Err}
 use mathlib.Core.Path.{◌≡◌, ap, ap₂}
 use mathlib.Core.Bool.{Bool, false, not}
 use mathlib.Core.List.{[], ◌∷◌}
@@ -17,7 +18,6 @@ use Rattle.integers.specs.Linear.{zs, flat, ◌▸◌}
 use Rattle.integers.specs.Lists.{any_same}
 use Rattle.integers.specs.Sums.{Σ, Σ-cong, Σ-last, Σ-most, Σ-least}
 use Rattle.definitions.specs.declared.Case.{Case}
-use Rattle.definitions.specs.declared.Figure.{Figure}
 use Rattle.definitions.specs.declared.Refusal.TheVariants.{WeightOutOfRange}
 use Rattle.definitions.specs.Rules.{Rules, Coherent, rules_of, scopes_at_most}
 use Rattle.definitions.proofs.RulesLaws.{rules-fit}
@@ -45,12 +45,12 @@ module _ (f : ℕ → ℤ) where
 -- a sum over scopes, by whether all numbers are in the range
 module _ (c : Case) (f : ℕ → ℤ) where
   pub sum-given : carry_out (rules_of c) c ≡ false → ((x : ℕ) → x < scope_count c → T (in_working (rules_of c) (f x)))
-      → Figure.Value (Σ f 0 (scope_count c) +ℤ c.carry) ≡ sum_in_range (rules_of c) c f
+      → Ok (Σ f 0 (scope_count c) +ℤ c.carry) ≡ sum_in_range (rules_of c) c f
   sum-given k h =
       rw (k, ← not_found (λ x. not (in_working (rules_of c) (f x))) (scope_count c) (λ x l. ap not (is_true (in_working (rules_of c) (f x)) (h x l))))
 
   pub sum-refused : carry_out (rules_of c) c ≡ false → (x : ℕ) → x < scope_count c → in_working (rules_of c) (f x) ≡ false
-      → Figure.Refused WeightOutOfRange ≡ sum_in_range (rules_of c) c f
+      → Err WeightOutOfRange ≡ sum_in_range (rules_of c) c f
   sum-refused k x l e = rw (k, ← found (λ x. not (in_working (rules_of c) (f x))) (scope_count c) x l (ap not e))
 
   pub sum_same : (g : ℕ → ℤ) → ((x : ℕ) → x < scope_count c → f x ≡ g x) → sum_in_range (rules_of c) c f ≡ sum_in_range (rules_of c) c g

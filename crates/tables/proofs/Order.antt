@@ -1,7 +1,6 @@
 -- What a check that passed says, and products within the limits. Assumes nothing.
 use mathlib.Core.Path.{◌≡◌, refl, sym, ap}
 use mathlib.Core.Bool.{Bool, true, false, not}
-use mathlib.Core.Option.{Option, none, some}
 use mathlib.Core.List.{List, [], ◌∷◌, ◌++◌}
 use Prim.Native.Nat.{ℕ, ◌*◌, ◌≤◌}
 use native.Mathlib.Nat.{mul-le-mul}
@@ -9,11 +8,10 @@ use native.Mathlib.Omega.{arith}
 use lib.IntN.{ℤ}
 use lib.Dec.{T}
 use lib.ListN.{length}
-use Rattle.std.specs.Prelude.{if◌then◌else◌}
+use Rattle.std.specs.Prelude.{if◌then◌else◌, Ok, Err, Option, Some, None}
 use Rattle.integers.specs.Tests.{tests}
 use Rattle.definitions.specs.declared.Case.{Case}
 use Rattle.definitions.specs.declared.Refusal.{Refusal}
-use Rattle.definitions.specs.declared.Outcome.{Outcome}
 use Rattle.definitions.specs.Rules.{Coherent, coherent, rules_of, edge_places}
 use Rattle.definitions.specs.Refusals.{Test, first_refusal}
 use Rattle.definitions.specs.Answers.{outcome_of}
@@ -81,31 +79,31 @@ module _ (c : Case) (l : Limited c) where
   edges-small = mul-le-mul l.edges_placed values-small
 
 -- an outcome tells whether a refusal applies
-pub outcome-done : {o : Option Refusal} → Outcome.Done ≡ outcome_of o → o ≡ none
-outcome-done {o = none} e = refl
-outcome-done {o = some x} e = cc
+pub outcome-done : {o : Option Refusal} → Ok tt ≡ outcome_of o → o ≡ None
+outcome-done {o = None} e = refl
+outcome-done {o = Some x} e = cc
 
-pub outcome-refused : {o : Option Refusal} {x : Refusal} → Outcome.Refused x ≡ outcome_of o → o ≡ some x
-outcome-refused {o = none} e = cc
-outcome-refused {o = some y} e = cc
+pub outcome-refused : {o : Option Refusal} {x : Refusal} → Err x ≡ outcome_of o → o ≡ Some x
+outcome-refused {o = None} e = cc
+outcome-refused {o = Some y} e = cc
 
 -- the tests of two lists, one after the other
 module _ (us : List Test) where
-  pub first_next : (ts : List Test) → first_refusal ts ≡ none → first_refusal (ts ++ us) ≡ first_refusal us
+  pub first_next : (ts : List Test) → first_refusal ts ≡ None → first_refusal (ts ++ us) ≡ first_refusal us
   first_next [] e = refl
   first_next (t ∷ ts) e = go t.applies e (first_next ts)
     where
-      go : (b : Bool) → (if b then some t.refusal else first_refusal ts) ≡ none → (first_refusal ts ≡ none → first_refusal (ts ++ us) ≡ first_refusal us)
-          → (if b then some t.refusal else first_refusal (ts ++ us)) ≡ first_refusal us
+      go : (b : Bool) → (if b then Some t.refusal else first_refusal ts) ≡ None → (first_refusal ts ≡ None → first_refusal (ts ++ us) ≡ first_refusal us)
+          → (if b then Some t.refusal else first_refusal (ts ++ us)) ≡ first_refusal us
       go true e r = cc
       go false e r = r e
 
-  pub first_stops : (ts : List Test) {x : Refusal} → first_refusal ts ≡ some x → first_refusal (ts ++ us) ≡ some x
+  pub first_stops : (ts : List Test) {x : Refusal} → first_refusal ts ≡ Some x → first_refusal (ts ++ us) ≡ Some x
   first_stops [] e = cc
   first_stops (t ∷ ts) {x} e = go t.applies e (λ d. first_stops ts d)
     where
-      go : (b : Bool) → (if b then some t.refusal else first_refusal ts) ≡ some x → (first_refusal ts ≡ some x → first_refusal (ts ++ us) ≡ some x)
-          → (if b then some t.refusal else first_refusal (ts ++ us)) ≡ some x
+      go : (b : Bool) → (if b then Some t.refusal else first_refusal ts) ≡ Some x → (first_refusal ts ≡ Some x → first_refusal (ts ++ us) ≡ Some x)
+          → (if b then Some t.refusal else first_refusal (ts ++ us)) ≡ Some x
       go true e r = e
       go false e r = r e
 
@@ -114,15 +112,15 @@ module _ (c : Case) (long : ℕ) (wrong out : Bool) where
   abbrev fronts : List Test
   fronts = front_tests (rules_of c) c long wrong out
 
-  pub front-known : Outcome.Done ≡ outcome_of (first_refusal fronts) → Limited c × (long ≡ lent_length (rules_of c) c) × T (not wrong)
+  pub front-known : Ok tt ≡ outcome_of (first_refusal fronts) → Limited c × (long ≡ lent_length (rules_of c) c) × T (not wrong)
   front-known e =
-      let d : first_refusal fronts ≡ none = outcome-done e in
+      let d : first_refusal fronts ≡ None = outcome-done e in
       let p = simp (tests, not-and-iff, none_below) at ((none-applies fronts).0 (rw d tt)) in
       (limited-by c p.0.0.0.0 p.0.0.0.1 p.0.0.1.0 p.0.0.1.1 p.0.1.1, p.1.0.0, p.1.0.1)
 
   module _ (us : List Test) where
-    pub front-stops : {x : Refusal} → Outcome.Refused x ≡ outcome_of (first_refusal fronts) → Outcome.Refused x ≡ outcome_of (first_refusal (fronts ++ us))
+    pub front-stops : {x : Refusal} → Err x ≡ outcome_of (first_refusal fronts) → Err x ≡ outcome_of (first_refusal (fronts ++ us))
     front-stops d = ap outcome_of (sym (first_stops us fronts (outcome-refused d)))
 
-    pub front-passes : Outcome.Done ≡ outcome_of (first_refusal fronts) → outcome_of (first_refusal us) ≡ outcome_of (first_refusal (fronts ++ us))
+    pub front-passes : Ok tt ≡ outcome_of (first_refusal fronts) → outcome_of (first_refusal us) ≡ outcome_of (first_refusal (fronts ++ us))
     front-passes d = ap outcome_of (sym (first_next us fronts (outcome-done d)))

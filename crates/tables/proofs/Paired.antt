@@ -1,4 +1,5 @@
 -- What is asked of starting weights and working weights that are lent together, one place after the other. Assumes nothing.
+use Rattle.std.specs.Prelude.{Ok}
 use mathlib.Core.Path.{◌≡◌, refl, sym, ap, subst, ◌∙◌}
 use mathlib.Core.Bool.{Bool, true, false, not, ◌&&◌, ◌||◌, true≢false}
 use mathlib.Core.Logic.{⊎_elim}
@@ -14,7 +15,6 @@ use Rattle.integers.specs.Tests.{same_test, either, is_false, and_intro, and_lef
 use Rattle.integers.specs.Lists.{all-at, all_of}
 use Rattle.integers.specs.Tables.{all_get_d}
 use Rattle.definitions.specs.declared.Case.{Case}
-use Rattle.definitions.specs.declared.Outcome.{Outcome}
 use Rattle.definitions.specs.declared.Refusal.TheVariants.{WrongLength}
 use Rattle.definitions.specs.Rules.{rules_of}
 use Rattle.definitions.specs.Refusals.{◌when◌, first_refusal}
@@ -99,7 +99,7 @@ module _ (c : Case) (w₀ w : List ℤ) (out : Bool) where
       (alike (length w) (length w₀) (lent_length (rules_of c) c))
 
   -- nothing applies before the weights
-  pub both-sized : Outcome.Done ≡ outcome_of (first_refusal (front_tests (rules_of c) c (length w) unlike out))
+  pub both-sized : Ok tt ≡ outcome_of (first_refusal (front_tests (rules_of c) c (length w) unlike out))
       → Limited c × ((length w₀ ≡ lent_length (rules_of c) c) × (length w ≡ lent_length (rules_of c) c))
   both-sized d =
       let (l, e, t) = front-known c (length w) unlike out d in

@@ -1,7 +1,7 @@
 -- The ranges of weights are above the barred number, and where all weights are in such a range nothing is asked of them further. Assumes nothing.
+use Rattle.std.specs.Prelude.{None}
 use mathlib.Core.Path.{◌≡◌, refl}
 use mathlib.Core.Bool.{true, false, not}
-use mathlib.Core.Option.{none}
 use mathlib.Core.List.{List}
 use native.Mathlib.Omega.{arith}
 use lib.IntN.{ℤ}
@@ -50,5 +50,5 @@ module _ (low high : ℤ) (w : List ℤ) (above : barred_weight <ℤ low) where
         let inside = (all-weights c (within_z low high) w (omega (arith, limited.own-lent))).0 within x 0 0 u in
         T_not (is_barred (weight c w x 0 0)) (not-barred (weight c w x 0 0) inside) ((each_all c (barred c w x) x h).0 t 0 0 u))))
 
-    pub nothing_left : first_refusal (own_tests c w low high) ≡ none
+    pub nothing_left : first_refusal (own_tests c w low high) ≡ None
     nothing_left = rw (all_held, some-free)

@@ -1,12 +1,9 @@
 -- The limits of a case as facts, the part of a table that belongs to a scope, each scope's greatest weight kept beside the table, and sums
 -- over scopes on all input. Assumes nothing.
-use Rattle.std.specs.Prelude.{◌≡◌, Bool, false, not, ◌&&◌, ◌||◌, List, [], ◌∷◌, ◌++◌, map, ℕ, ◌+◌, ◌*◌, ◌≤◌, ◌<◌, ℤ, pos, ◌+ℤ◌, eqb, ltb, length, get_or, take, drop, if◌then◌else◌}
-use Rattle.std.proofs.Math.Option.{Option}
+use Rattle.std.specs.Prelude.{◌≡◌, Bool, false, not, ◌&&◌, ◌||◌, List, [], ◌∷◌, ◌++◌, map, ℕ, ◌+◌, ◌*◌, ◌≤◌, ◌<◌, ℤ, pos, ◌+ℤ◌, eqb, ltb, length, get_or, take, drop, if◌then◌else◌, Result, Option, ⊤}
 use Rattle.integers.specs.Words.{any, sum, within_z}
 use Rattle.definitions.specs.declared.Rulebook.TheVariants.{Desk}
 use Rattle.definitions.specs.declared.Case.{Case}
-use Rattle.definitions.specs.declared.Outcome.{Outcome}
-use Rattle.definitions.specs.declared.Figure.{Figure}
 use Rattle.definitions.specs.declared.Refusal.{Refusal}
 use Rattle.definitions.specs.declared.Refusal.TheVariants.{WrongLength, OutOfRange, WeightOutOfRange}
 use Rattle.definitions.specs.Rules.{Rules, rules_of, variable_places, edge_places, scope_places}
@@ -72,7 +69,7 @@ written_over zs out = zs ++ drop (length zs) out
 
 -- a call that writes to `best`
 pub record BestCall : Type 0 where
-  pub answer : Outcome
+  pub answer : Result ⊤ Refusal
   pub best : List ℤ
 
 module _ (r : Rules) where
@@ -105,15 +102,15 @@ module _ (r : Rules) where
   carry_test c = OutOfRange when (carry_out r c)
 
   -- the sum of each scope's number and the carry, if all are in their ranges
-  abbrev pub sum_in_range : Case → (ℕ → ℤ) → Figure
+  abbrev pub sum_in_range : Case → (ℕ → ℤ) → Result ℤ Refusal
   sum_in_range c f = figure_of (first_refusal (carry_test c ∷ range_test c f ∷ [])) (sum (map f (scopes c)) +ℤ c.carry)
 
   -- of each scope's greatest weight: numbers 3, 4, 5 and 8
-  unfoldable pub greatest_sum : Case → List ℤ → Figure
+  unfoldable pub greatest_sum : Case → List ℤ → Result ℤ Refusal
   greatest_sum c w = figure_of (first_refusal (limit_test r c ∷ length_test r c w false ∷ carry_test c ∷ range_test c (greatest c w) ∷ [])) (upper_bound c w)
 
   -- of the first s numbers in `best`: numbers 3, 4, 5 and 8
-  unfoldable pub best_sum : Case → List ℤ → Figure
+  unfoldable pub best_sum : Case → List ℤ → Result ℤ Refusal
   best_sum c best =
       figure_of
       (first_refusal (limit_test r c ∷ WrongLength when (ltb (length best) (scope_count c)) ∷ carry_test c ∷ range_test c (best_at best) ∷ []))

@@ -8,7 +8,7 @@ ghost use Rattle.definitions.specs.Case.{lent_length};
 ghost use Rattle.tables.specs.Scopes.{Limited};
 ghost use Rattle.tables.specs.Both.{paired, paired_at, is_first, both_tests};
 
-use definitions::{Case, Outcome, Refusal};
+use definitions::{Case, Refusal};
 
 // The first may be held, and both are barred or neither is.
 fn is_paired(first: i64, second: i64, low: i64, high: i64) -> bool
@@ -51,7 +51,7 @@ fn is_first<'a>(case: Case, starting: &'a [i64], table: &'a [i64], low: i64, hig
 }
 
 // Numbers 8 and 15.
-pub(crate) fn both_outcome<'a>(case: Case, starting: &'a [i64], table: &'a [i64]) -> Outcome
+pub(crate) fn both_outcome<'a>(case: Case, starting: &'a [i64], table: &'a [i64]) -> Result<(), Refusal>
     requires limited { Limited case }
     requires starting_len { (length starting.now ≡ lent_length (rules_of case) case) × (length table.now ≡ lent_length (rules_of case) case) }
     ensures { result ≡ outcome_of (first_refusal (both_tests (rules_of case) case starting.now table.now)) }
@@ -64,5 +64,5 @@ pub(crate) fn both_outcome<'a>(case: Case, starting: &'a [i64], table: &'a [i64]
         let most = rules::most_working(rulebook);
         return crate::weight_outcome(case, table, least, most);
     }
-    Outcome::Refused(Refusal::WeightOutOfRange)
+    Err(Refusal::WeightOutOfRange)
 }

@@ -15,7 +15,7 @@ ghost use Rattle.tables.specs.Scopes.{Limited, of_size, size_of, holdable, front
 ghost use Rattle.tables.specs.Scopes.{written_over, greatest_call, sum_in_range, greatest_sum, best_sum};
 ghost use Rattle.tables.specs.Edges.{faulty, with_edges};
 
-use definitions::{Case, EDGE_PLACES, Figure, Outcome, Refusal, Rulebook, SCOPE_PLACES};
+use definitions::{Case, EDGE_PLACES, Refusal, Rulebook, SCOPE_PLACES};
 
 // What can be wrong with an edge.
 #[derive(Clone, Copy)]
@@ -204,7 +204,7 @@ pub fn all_zero(weights: &[i64]) -> bool
 }
 
 // Numbers 8 and 15 of the own places. Where all are in the range nothing applies, and no more is looked at.
-fn own_outcome<'a>(case: Case, table: &'a [i64], own: &'a [i64], low: i64, high: i64) -> Outcome
+fn own_outcome<'a>(case: Case, table: &'a [i64], own: &'a [i64], low: i64, high: i64) -> Result<(), Refusal>
     requires limited { Limited case }
     requires table_len { length table.now ≡ lent_length (rules_of case) case }
     requires own_value { own.now ≡ take (own_length case) table.now }
@@ -212,19 +212,19 @@ fn own_outcome<'a>(case: Case, table: &'a [i64], own: &'a [i64], low: i64, high:
     ensures { result ≡ outcome_of (first_refusal (own_tests case table.now low high)) }
 {
     if all_within(own, low, high) {
-        return Outcome::Done;
+        return Ok(());
     }
     if !all_holdable(own, low, high) {
-        return Outcome::Refused(Refusal::WeightOutOfRange);
+        return Err(Refusal::WeightOutOfRange);
     }
     if some_scope_barred(case, table) {
-        return Outcome::Refused(Refusal::ScopeBarred);
+        return Err(Refusal::ScopeBarred);
     }
-    Outcome::Done
+    Ok(())
 }
 
 // Numbers 8 and 15.
-fn weight_outcome(case: Case, table: &[i64], low: i64, high: i64) -> Outcome
+fn weight_outcome(case: Case, table: &[i64], low: i64, high: i64) -> Result<(), Refusal>
     requires limited { Limited case }
     requires table_len { length table.now ≡ lent_length (rules_of case) case }
     requires barred_weight_lt_low { barred_weight <ℤ low }
@@ -234,7 +234,7 @@ fn weight_outcome(case: Case, table: &[i64], low: i64, high: i64) -> Outcome
     if all_zero(&table[own..]) {
         own_outcome(case, table, &table[..own], low, high)
     } else {
-        Outcome::Refused(Refusal::WeightOutOfRange)
+        Err(Refusal::WeightOutOfRange)
     }
 }
 
@@ -286,43 +286,43 @@ fn some_outside(case: Case, out: bool) -> bool
     has_fault(case, Fault::Outside)
 }
 
-fn edge_outcome(case: Case, out: bool) -> Outcome
+fn edge_outcome(case: Case, out: bool) -> Result<(), Refusal>
     requires { case.m ≤ edge_places }
     ensures { result ≡ outcome_of (first_refusal (edge_tests (rules_of case) case out)) }
 {
     if some_outside(case, out) {
-        return Outcome::Refused(Refusal::OutOfRange);
+        return Err(Refusal::OutOfRange);
     }
     if has_fault(case, Fault::NotAscending) {
-        return Outcome::Refused(Refusal::EndsNotAscending);
+        return Err(Refusal::EndsNotAscending);
     }
     if has_fault(case, Fault::Repeated) {
-        return Outcome::Refused(Refusal::EdgeRepeated);
+        return Err(Refusal::EdgeRepeated);
     }
-    Outcome::Done
+    Ok(())
 }
 
 // Numbers 3 to 7, of a table of this length.
-fn front_outcome(case: Case, length: usize, wrong: bool, out: bool) -> Outcome
+fn front_outcome(case: Case, length: usize, wrong: bool, out: bool) -> Result<(), Refusal>
     ensures { result ≡ outcome_of (first_refusal (front_tests (rules_of case) case length wrong out)) }
 {
     if !within_limits(case) {
-        return Outcome::Refused(Refusal::OutsideLimits);
+        return Err(Refusal::OutsideLimits);
     }
     if length != table_length(case) || wrong {
-        return Outcome::Refused(Refusal::WrongLength);
+        return Err(Refusal::WrongLength);
     }
     edge_outcome(case, out)
 }
 
-fn check(case: Case, table: &[i64], wrong: bool, out: bool, low: i64, high: i64) -> Outcome
+fn check(case: Case, table: &[i64], wrong: bool, out: bool, low: i64, high: i64) -> Result<(), Refusal>
     requires { barred_weight <ℤ low }
     ensures { result ≡ outcome_of (first_refusal (handed_over (rules_of case) (holdable low high) case table.now wrong out)) }
 {
     let front = front_outcome(case, table.len(), wrong, out);
     match front {
-        Outcome::Refused(refusal) => Outcome::Refused(refusal),
-        Outcome::Done => weight_outcome(case, table, low, high),
+        Err(refusal) => Err(refusal),
+        Ok(()) => weight_outcome(case, table, low, high),
     }
 }
 
@@ -400,7 +400,7 @@ fn write_greatest(case: Case, table: &[i64], best: &mut [i64])
 }
 
 // The numbers are added to the carry only while they are in the range, so that the sum fits.
-fn sum_in_range(case: Case, best: &[i64]) -> Figure
+fn sum_in_range(case: Case, best: &[i64]) -> Result<i64, Refusal>
     requires limited { Limited case }
     requires case_in_bounds { scope_count case ≤ length best.now }
     ensures { result ≡ sum_in_range (rules_of case) case (best_at best.now) }
@@ -408,22 +408,22 @@ fn sum_in_range(case: Case, best: &[i64]) -> Figure
     let scopes = scope_count(case);
     let rulebook = case.rulebook;
     if carry_out(case) {
-        return Figure::Refused(Refusal::OutOfRange);
+        return Err(Refusal::OutOfRange);
     }
     let mut sum: i64 = case.carry;
     let mut x: usize = 0;
     while x < scopes {
         let weight = best[x];
         if !is_working(rulebook, weight) {
-            return Figure::Refused(Refusal::WeightOutOfRange);
+            return Err(Refusal::WeightOutOfRange);
         }
         sum += weight;
         x += 1;
     }
-    Figure::Value(sum)
+    Ok(sum)
 }
 
-fn add_greatest(case: Case, table: &[i64]) -> Figure
+fn add_greatest(case: Case, table: &[i64]) -> Result<i64, Refusal>
     requires limited { Limited case }
     requires table_len { length table.now ≡ lent_length (rules_of case) case }
     ensures { result ≡ sum_in_range (rules_of case) case (greatest_weight case table.now) }
@@ -460,7 +460,7 @@ pub fn is_sized(case: Case, length: usize) -> bool
     length == table_length(case)
 }
 
-pub fn check_starting(case: Case, table: &[i64], wrong: bool, out: bool) -> Outcome
+pub fn check_starting(case: Case, table: &[i64], wrong: bool, out: bool) -> Result<(), Refusal>
     ensures { result ≡ outcome_of (first_refusal (handed_over (rules_of case) (starting_weight (rules_of case)) case table.now wrong out)) }
 {
     let rulebook = case.rulebook;
@@ -474,7 +474,7 @@ pub fn check_starting(case: Case, table: &[i64], wrong: bool, out: bool) -> Outc
     )
 }
 
-pub fn check_working(case: Case, table: &[i64], wrong: bool, out: bool) -> Outcome
+pub fn check_working(case: Case, table: &[i64], wrong: bool, out: bool) -> Result<(), Refusal>
     ensures { result ≡ outcome_of (first_refusal (handed_over (rules_of case) (working_weight (rules_of case)) case table.now wrong out)) }
 {
     let rulebook = case.rulebook;
@@ -489,25 +489,25 @@ pub fn check_working(case: Case, table: &[i64], wrong: bool, out: bool) -> Outco
 }
 
 // Starting weights and working weights that are lent together.
-pub fn check_both<'a>(case: Case, starting: &'a [i64], table: &'a [i64], out: bool) -> Outcome
+pub fn check_both<'a>(case: Case, starting: &'a [i64], table: &'a [i64], out: bool) -> Result<(), Refusal>
     ensures { result ≡ outcome_of (first_refusal (both_handed_over (rules_of case) case starting.now table.now out)) }
 {
     let wrong = starting.len() != table.len();
     let front = front_outcome(case, table.len(), wrong, out);
     match front {
-        Outcome::Refused(refusal) => Outcome::Refused(refusal),
-        Outcome::Done => both::both_outcome(case, starting, table),
+        Err(refusal) => Err(refusal),
+        Ok(()) => both::both_outcome(case, starting, table),
     }
 }
 
 // What is asked where no table is lent.
-pub fn check_edges(case: Case, out: bool) -> Outcome
+pub fn check_edges(case: Case, out: bool) -> Result<(), Refusal>
     ensures { result ≡ outcome_of (first_refusal (limit_test (rules_of case) case ∷ edge_tests (rules_of case) case out)) }
 {
     if within_limits(case) {
         edge_outcome(case, out)
     } else {
-        Outcome::Refused(Refusal::OutsideLimits)
+        Err(Refusal::OutsideLimits)
     }
 }
 
@@ -550,32 +550,32 @@ pub fn least(weights: &[i64]) -> i64
 }
 
 // Writes each scope's greatest weight to the first n + m places of `best`.
-pub fn greatest_weights(case: Case, table: &[i64], best: &mut [i64]) -> Outcome
+pub fn greatest_weights(case: Case, table: &[i64], best: &mut [i64]) -> Result<(), Refusal>
     ensures { (result ≡ (greatest_call (rules_of case) case table.now best.old).answer)
         × (best.new ≡ (greatest_call (rules_of case) case table.now best.old).best) }
 {
     if !within_limits(case) {
-        return Outcome::Refused(Refusal::OutsideLimits);
+        return Err(Refusal::OutsideLimits);
     }
     if table.len() != table_length(case) {
-        return Outcome::Refused(Refusal::WrongLength);
+        return Err(Refusal::WrongLength);
     }
     if best.len() < scope_count(case) {
-        return Outcome::Refused(Refusal::WrongLength);
+        return Err(Refusal::WrongLength);
     }
     write_greatest(case, table, best);
-    Outcome::Done
+    Ok(())
 }
 
 // The sum of the first n + m numbers of `best` and the carry; a number outside the range of working weights is refused.
-pub fn sum_of_best(case: Case, best: &[i64]) -> Figure
+pub fn sum_of_best(case: Case, best: &[i64]) -> Result<i64, Refusal>
     ensures { result ≡ best_sum (rules_of case) case best.now }
 {
     if !within_limits(case) {
-        return Figure::Refused(Refusal::OutsideLimits);
+        return Err(Refusal::OutsideLimits);
     }
     if best.len() < scope_count(case) {
-        return Figure::Refused(Refusal::WrongLength);
+        return Err(Refusal::WrongLength);
     }
     sum_in_range(case, best)
 }
@@ -620,14 +620,14 @@ pub fn some_beyond(values: &[u8], d: usize) -> bool
 }
 
 // The sum of each scope's greatest weight and the carry; a weight outside the range of working weights is refused.
-pub fn sum_of_greatest(case: Case, table: &[i64]) -> Figure
+pub fn sum_of_greatest(case: Case, table: &[i64]) -> Result<i64, Refusal>
     ensures { result ≡ greatest_sum (rules_of case) case table.now }
 {
     if !within_limits(case) {
-        return Figure::Refused(Refusal::OutsideLimits);
+        return Err(Refusal::OutsideLimits);
     }
     if table.len() != table_length(case) {
-        return Figure::Refused(Refusal::WrongLength);
+        return Err(Refusal::WrongLength);
     }
     add_greatest(case, table)
 }

@@ -1,11 +1,11 @@
 -- The lines that the programs print, written to a lent output, on all input. Assumes nothing.
-use Rattle.std.proofs.Math.Option.{Option}
-use Rattle.std.specs.Prelude.{List, [], ◌∷◌, ◌++◌, ℕ, ℤ, ltb, length, take, drop}
+use Rattle.definitions.specs.declared.RefusedAt.{RefusedAt}
+use Rattle.std.specs.Prelude.{List, [], ◌∷◌, ◌++◌, ℕ, ℤ, ltb, length, take, drop, Result, Ok, Err, Option}
 use Rattle.definitions.specs.declared.Judgement.{Judgement}
 use Rattle.definitions.specs.declared.Refusal.{Refusal}
 use Rattle.definitions.specs.declared.Refusal.TheVariants.{WrongLength, OutOfRange}
 use Rattle.definitions.specs.Refusals.{◌when◌, first_refusal}
-use Rattle.definitions.specs.Answers.{unless_refused}
+use Rattle.definitions.specs.Answers.{unless_refused, refused_at}
 use Rattle.definitions.specs.Lines.{number_text, overwritten}
 use Rattle.calls.specs.Calls.{WriteCall, written_of}
 use Rattle.definitions.specs.Programs.{bytes_of, refused_text, accepted_text, judgement_text}
@@ -35,12 +35,12 @@ unfoldable pub write_accepted_call : List ℕ → ℕ → ℤ → WriteCall
 write_accepted_call out rounds bound = write_text_call out rounds (accepted_text rounds bound)
 
 unfoldable pub write_void_call : List ℕ → WriteCall
-write_void_call out = write_text_call out 0 (judgement_text Judgement.Void)
+write_void_call out = write_text_call out 0 (judgement_text (Ok Judgement.Void))
 
-abbrev pub write_judgement_call : List ℕ → Judgement → WriteCall
-write_judgement_call out (Judgement.Accepted rounds bound) = write_accepted_call out rounds bound
-write_judgement_call out Judgement.Void = write_void_call out
-write_judgement_call out (Judgement.Refused x line) = write_refused_call out x line
+abbrev pub write_judgement_call : List ℕ → Result Judgement RefusedAt → WriteCall
+write_judgement_call out (Ok (Judgement.Accepted rounds bound)) = write_accepted_call out rounds bound
+write_judgement_call out (Ok Judgement.Void) = write_void_call out
+write_judgement_call out (Err x) = write_refused_call out x.refusal x.line
 
 -- a word, two numbers and a line feed
 abbrev pub printed : List ℕ → ℤ → ℤ → List ℕ

@@ -7,7 +7,7 @@ ghost use Rattle.definitions.specs.Lines.{number_text, overwritten};
 ghost use Rattle.texts.specs.Texts.{text_room, printed, placed_at, write_refused_call, write_accepted_call};
 ghost use Rattle.texts.specs.Texts.{write_void_call, write_judgement_call};
 
-use definitions::{Judgement, Refusal, Written};
+use definitions::{Judgement, Refusal, RefusedAt};
 
 // An output must have so many bytes: no text is longer.
 const ROOM: usize = 64;
@@ -38,8 +38,8 @@ fn put_number(out: &mut [u8], at: usize, z: i64) -> usize
 {
     let written = lines::write_number(&mut out[at..], z);
     match written {
-        Written::Bytes(n) => at + n,
-        Written::Refused(_) => at,
+        Ok(n) => at + n,
+        Err(_) => at,
     }
 }
 
@@ -82,52 +82,52 @@ pub fn number_of(refusal: Refusal) -> u8
 }
 
 // `refused`, the number and the line, counted from 0.
-pub fn write_refused(out: &mut [u8], refusal: Refusal, line: usize) -> Written
+pub fn write_refused(out: &mut [u8], refusal: Refusal, line: usize) -> Result<usize, Refusal>
     ensures { (result ≡ (write_refused_call out.old refusal line).answer)
         × (out.new ≡ (write_refused_call out.old refusal line).out) }
 {
     if out.len() < ROOM {
-        return Written::Refused(Refusal::WrongLength);
+        return Err(Refusal::WrongLength);
     }
     let count = line as u64;
     if GREATEST < count {
-        return Written::Refused(Refusal::OutOfRange);
+        return Err(Refusal::OutOfRange);
     }
-    Written::Bytes(print(out, b"refused ", whole(number_of(refusal)), line as i64))
+    Ok(print(out, b"refused ", whole(number_of(refusal)), line as i64))
 }
 
 // `accepted`, the rounds and the upper bound.
-pub fn write_accepted(out: &mut [u8], rounds: u64, bound: i64) -> Written
+pub fn write_accepted(out: &mut [u8], rounds: u64, bound: i64) -> Result<usize, Refusal>
     ensures { (result ≡ (write_accepted_call out.old rounds bound).answer)
         × (out.new ≡ (write_accepted_call out.old rounds bound).out) }
 {
     if out.len() < ROOM {
-        return Written::Refused(Refusal::WrongLength);
+        return Err(Refusal::WrongLength);
     }
     if GREATEST < rounds {
-        return Written::Refused(Refusal::OutOfRange);
+        return Err(Refusal::OutOfRange);
     }
-    Written::Bytes(print(out, b"accepted ", rounds as i64, bound))
+    Ok(print(out, b"accepted ", rounds as i64, bound))
 }
 
 // `void`.
-pub fn write_void(out: &mut [u8]) -> Written
+pub fn write_void(out: &mut [u8]) -> Result<usize, Refusal>
     ensures { (result ≡ (write_void_call out.old).answer) × (out.new ≡ (write_void_call out.old).out) }
 {
     if out.len() < ROOM {
-        return Written::Refused(Refusal::WrongLength);
+        return Err(Refusal::WrongLength);
     }
-    Written::Bytes(put(out, 0, b"void\n"))
+    Ok(put(out, 0, b"void\n"))
 }
 
 // The text of a judgement.
-pub fn write_judgement(out: &mut [u8], judgement: Judgement) -> Written
+pub fn write_judgement(out: &mut [u8], judgement: Result<Judgement, RefusedAt>) -> Result<usize, Refusal>
     ensures { (result ≡ (write_judgement_call out.old judgement).answer)
         × (out.new ≡ (write_judgement_call out.old judgement).out) }
 {
     match judgement {
-        Judgement::Accepted { rounds, bound } => write_accepted(out, rounds, bound),
-        Judgement::Void => write_void(out),
-        Judgement::Refused { refusal, line } => write_refused(out, refusal, line),
+        Ok(Judgement::Accepted { rounds, bound }) => write_accepted(out, rounds, bound),
+        Ok(Judgement::Void) => write_void(out),
+        Err(RefusedAt { refusal, line }) => write_refused(out, refusal, line),
     }
 }

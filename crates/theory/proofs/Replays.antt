@@ -6,7 +6,6 @@
 use mathlib.Core.Path.{◌≡◌, refl, sym, ap, ap₂, subst, ◌∙◌}
 use mathlib.Core.Bool.{Bool, true, false, not, ◌&&◌, ◌||◌}
 use mathlib.Core.Logic.{◌≢◌, ◌↔◌, ◌⊎◌, inl, inr, ⊎_elim}
-use mathlib.Core.Option.{Option, none, some}
 use mathlib.Core.List.Memᴰ
 use mathlib.Core.List.{List, [], ◌∷◌, ◌++◌, map}
 use Prim.Native.Nat.{ℕ, ◌-◌, ◌≤◌, ◌<◌}
@@ -15,7 +14,7 @@ use lib.IntN.{ℤ, pos, negsuc, nat_abs, ◌+ℤ◌}
 use lib.Dec.{T, eqb, ltb, ltb→lt, lt→ltb}
 use lib.Signed.{◌≤ℤ◌, ◌<ℤ◌}
 use lib.ListN.{length, length-append}
-use Rattle.std.specs.Prelude.{if◌then◌else◌}
+use Rattle.std.specs.Prelude.{if◌then◌else◌, Option, Some, None}
 use Rattle.integers.specs.Words.{all, last, is_in, is_some}
 use Rattle.integers.specs.Tests.{false-is, and-iff, not-or-iff, not-not-iff, not-leb-iff, not-eqb-iff, if-cases, and_intro, and_left, and_right}
 use Rattle.integers.specs.Options.{some_inj, none-some}
@@ -113,13 +112,13 @@ pub data Stepped (r : Rules) (s : State) : State → Type 0 where
   refuses : (x : Refusal) → Stepped r s (refused s x)
   shifts : (e end v : ℕ) (a : ℤ) → AllowedShift r s.case s.weights e end v a → Stepped r s (after_move s (shift e end v a))
   holds : (h : Held) → HeldSound r s.case h → Stepped r s (holding s h)
-  raises : (h : Held) (x left : ℕ) → s.held ≡ some h → RaisesNext s.case h x
+  raises : (h : Held) (x left : ℕ) → s.held ≡ Some h → RaisesNext s.case h x
       → Stepped r s (holding s (record { variable = h.variable; target = h.target; raised = h.raised ++ (x ∷ []); left = left }))
-  presses : (h : Held) (a : ℤ) (x : ℕ) → s.held ≡ some h → h.target ≡ pressing a → RaisesNext s.case h x
+  presses : (h : Held) (a : ℤ) (x : ℕ) → s.held ≡ Some h → h.target ≡ pressing a → RaisesNext s.case h x
       → T (all_refuted s.case s.weights (is_in (h.raised ++ (x ∷ []))) h.variable (held_values s h))
       → T (not (leaves_range r s.case s.weights (moved s.case (press h.variable (held_values s h) (h.raised ++ (x ∷ [])) a) s.weights)))
       → Stepped r s (after_move s (press h.variable (held_values s h) (h.raised ++ (x ∷ [])) a))
-  voids : (h : Held) (x : ℕ) → s.held ≡ some h
+  voids : (h : Held) (x : ℕ) → s.held ≡ Some h
       → T (all_refuted s.case s.weights (is_in (h.raised ++ (x ∷ []))) h.variable (held_values s h))
       → T (all_barred s.case s.weights h.variable (held_values s h) (is_in (h.raised ++ (x ∷ []))))
       → Stepped r s (after_void s)
@@ -170,7 +169,7 @@ module _ (r : Rules) (s : State) (t : Line) where
       let e : t.amount ≡ upper_bound s.case s.weights = (T-eq t.amount (upper_bound s.case s.weights)).0 p.1.0 in
       bounds t.amount (ltb→lt s.rounds r.rounds p.0) e (p.1.1.0 ▸ e ▸ simp flat (omega zs))
 
-  raise-step : (h : Held) → s.held ≡ some h → Quiet (raise_tests r s h t)
+  raise-step : (h : Held) → s.held ≡ Some h → Quiet (raise_tests r s h t)
       → Stepped r s (if is_last h then completed s (raising h t) h.target else holding s (raising h t))
   raise-step h e q = go (is_last h)
       (and_right (not (not_above (last h.raised) x || eqb x h.variable)) _ (and_right (not (outside (scope_count s.case) t.a)) _ q))
@@ -202,9 +201,9 @@ module _ (r : Rules) (s : State) (t : Line) where
       go true k = complete h.target refl ((not-not-iff refutes).0 (and_left (not (not refutes)) _ k)) (and_right (not (not refutes)) _ k)
       go false k = raises h x (h.left - 1) e next
 
-  kind-step : (h : Option Held) → s.held ≡ h → Quiet (tests_of_kind r s h t) → Stepped r s (taken s h (some t))
-  kind-step (some h) e q = raise-step h e q
-  kind-step none e q = go (is_kind 1 t) (is_kind 2 t) (is_kind 4 t) q
+  kind-step : (h : Option Held) → s.held ≡ h → Quiet (tests_of_kind r s h t) → Stepped r s (taken s h (Some t))
+  kind-step (Some h) e q = raise-step h e q
+  kind-step None e q = go (is_kind 1 t) (is_kind 2 t) (is_kind 4 t) q
     where
       go : (a b d : Bool) → Quiet (if a then shift_tests r s t else if b then press_tests r s t else if d then bound_tests r s t else void_tests s t)
           → Stepped r s (if a then after_move s (shift_of t) else if b then holding s (held_of (pressing t.amount) t)
@@ -216,13 +215,13 @@ module _ (r : Rules) (s : State) (t : Line) where
 
 module _ (r : Rules) (s : State) where
   answered-step : (t : Option Line) → Stepped r s (step_unrefused r s t)
-  answered-step none = refuses NotInColumns
-  answered-step (some t) = go (first_refusal (line_tests r s (some t))) refl
+  answered-step None = refuses NotInColumns
+  answered-step (Some t) = go (first_refusal (line_tests r s (Some t))) refl
     where
-      go : (o : Option Refusal) → first_refusal (line_tests r s (some t)) ≡ o → Stepped r s (answered s (some t) o)
-      go none e = kind-step r s t s.held refl (and_right (not (not_due r (kinds_due s.void s.held) t)) _
-          ((none-applies (line_tests r s (some t))).0 (rw e tt)))
-      go (some x) e = refuses x
+      go : (o : Option Refusal) → first_refusal (line_tests r s (Some t)) ≡ o → Stepped r s (answered s (Some t) o)
+      go None e = kind-step r s t s.held refl (and_right (not (not_due r (kinds_due s.void s.held) t)) _
+          ((none-applies (line_tests r s (Some t))).0 (rw e tt)))
+      go (Some x) e = refuses x
 
   pub stepped : (t : List ℕ) → Stepped r s (step r s t)
   stepped t = if-cases (Stepped r s) (is_some s.refusal) s _ (λ _. stays) (λ _. answered-step (read_line r.amount_width t))
@@ -269,7 +268,7 @@ pub record Sound (r : Rules) (s : State) : Type 0 where
       → objective s.case s.starting p ≤ℤ (objective s.case s.weights p +ℤ s.case.carry)
   pub under : (p : List ℕ) → T (is_lawful s.case s.starting p) → objective s.case s.starting p ≤ℤ s.start
   pub few : s.rounds ≤ r.rounds
-  pub press-held : (h : Held) → s.held ≡ some h → HeldSound r s.case h
+  pub press-held : (h : Held) → s.held ≡ Some h → HeldSound r s.case h
   pub none-lawful : T s.void → (p : List ℕ) → T (is_lawful s.case s.starting p) → ⊥
 
 rising-next : (ys : List ℕ) (x : ℕ) → T (is_rising ys) → T (not (not_above (last ys) x)) → T (is_rising (ys ++ (x ∷ [])))
@@ -286,7 +285,7 @@ module _ {r : Rules} {c : Case} {h : Held} {x : ℕ} (o : HeldSound r c h) (n : 
   next-scopes y m = ⊎_elim (o.scopes y) (λ k. subst (λ (y : ℕ). (y < scope_count c) × (y ≢ h.variable)) (sym (Memᴰ.eq_of_singleton k))
       (n.scope, n.other)) (Memᴰ.append_cases h.raised m)
 
-press-allowed : {r : Rules} {s : State} → Sound r s → (h : Held) (a : ℤ) (x : ℕ) → s.held ≡ some h → h.target ≡ pressing a → RaisesNext s.case h x
+press-allowed : {r : Rules} {s : State} → Sound r s → (h : Held) (a : ℤ) (x : ℕ) → s.held ≡ Some h → h.target ≡ pressing a → RaisesNext s.case h x
     → T (all_refuted s.case s.weights (is_in (h.raised ++ (x ∷ []))) h.variable (held_values s h))
     → T (not (leaves_range r s.case s.weights (moved s.case (press h.variable (held_values s h) (h.raised ++ (x ∷ [])) a) s.weights)))
     → AllowedPress r s.case s.weights h.variable (held_values s h) (h.raised ++ (x ∷ [])) a
@@ -493,12 +492,12 @@ module _ {r : Rules} (coherent : Coherent r) (c : Case) (w : List ℤ) (t : T (v
 
 -- ---- numbers
 
-pub none-iff : {A : Type 0} (o : Option A) → T (not (is_some o)) ↔ o ≡ none
-none-iff none = (λ t. refl, λ e. tt)
-none-iff (some a) = (λ t. absurd t, λ e. absurd (none-some (sym e)))
+pub none-iff : {A : Type 0} (o : Option A) → T (not (is_some o)) ↔ o ≡ None
+none-iff None = (λ t. refl, λ e. tt)
+none-iff (Some a) = (λ t. absurd t, λ e. absurd (none-some (sym e)))
 
 -- a number stands: nothing changes any more, and it is every later answer and the end's
-module _ (r : Rules) (s : State) {x : Refusal} (e : s.refusal ≡ some x) where
+module _ (r : Rules) (s : State) {x : Refusal} (e : s.refusal ≡ Some x) where
   step-stands : (t : List ℕ) → step r s t ≡ s
   step-stands t = rw e
 
@@ -507,41 +506,41 @@ module _ (r : Rules) (s : State) {x : Refusal} (e : s.refusal ≡ some x) where
   after-stands (t ∷ ts) = rw (step-stands t) (after-stands ts)
 
 -- a list that leaves no number began with none, and no answer was one
-pub no_number : (r : Rules) (s : State) (ts : List (List ℕ)) → (after r s ts).refusal ≡ none ↔ (s.refusal ≡ none) × (answers r s ts ≡ map (λ t. none) ts)
+pub no_number : (r : Rules) (s : State) (ts : List (List ℕ)) → (after r s ts).refusal ≡ None ↔ (s.refusal ≡ None) × (answers r s ts ≡ map (λ t. None) ts)
 no_number r s [] = (λ e. (e, refl), λ p. p.0)
 no_number r s (t ∷ ts) = go (no_number r (step r s t) ts) s.refusal refl
   where
-    go : (after r s (t ∷ ts)).refusal ≡ none ↔ ((step r s t).refusal ≡ none) × (answers r (step r s t) ts ≡ map (λ t. none) ts) → (o : Option Refusal)
+    go : (after r s (t ∷ ts)).refusal ≡ None ↔ ((step r s t).refusal ≡ None) × (answers r (step r s t) ts ≡ map (λ t. None) ts) → (o : Option Refusal)
         → s.refusal ≡ o
-        → (after r s (t ∷ ts)).refusal ≡ none ↔ (s.refusal ≡ none) × (answers r s (t ∷ ts) ≡ map (λ t. none) (t ∷ ts))
-    go ih none e = (λ f. let p = ih.0 f in (e, ap₂ ◌∷◌ p.0 p.1), λ p. let q = p.1 in ih.1 ((cc), (cc)))
-    go ih (some x) e = (
+        → (after r s (t ∷ ts)).refusal ≡ None ↔ (s.refusal ≡ None) × (answers r s (t ∷ ts) ≡ map (λ t. None) (t ∷ ts))
+    go ih None e = (λ f. let p = ih.0 f in (e, ap₂ ◌∷◌ p.0 p.1), λ p. let q = p.1 in ih.1 ((cc), (cc)))
+    go ih (Some x) e = (
       λ f. absurd (none-some (sym f ∙ ap (λ (u : State). u.refusal) (after-stands r s e (t ∷ ts)) ∙ e)),
       λ p. absurd (none-some (sym p.0 ∙ e)),
     )
 
 -- the end gives no number just where none was given, and a void line is whole, or nothing is held and no move lacks its bound line
 abbrev pub Ended : State → Type 0
-Ended s = T s.void ⊎ ((s.held ≡ none) × (s.moving ≡ false))
+Ended s = T s.void ⊎ ((s.held ≡ None) × (s.moving ≡ false))
 
-end-iff : (s : State) → at_end s ≡ none ↔ (s.refusal ≡ none) × Ended s
+end-iff : (s : State) → at_end s ≡ None ↔ (s.refusal ≡ None) × Ended s
 end-iff s = go s.refusal s.void s.held s.moving
   where
     go : (x : Option Refusal) (v : Bool) (h : Option Held) (m : Bool)
-        → (if is_some x then x else if not v && (is_some h || m) then some CutShort else none) ≡ none ↔ (x ≡ none) × (T v ⊎ ((h ≡ none) × (m ≡ false)))
-    go (some x) v h m = (λ e. absurd (none-some (sym e)), λ p. p.0)
-    go none true h m = (λ e. (refl, inl tt), λ p. refl)
-    go none false (some h) m = (λ e. absurd (none-some (sym e)), λ p. absurd (⊎_elim (λ f. f) (λ q. none-some (sym q.0)) p.1))
-    go none false none true = (λ e. absurd (none-some (sym e)), λ p. absurd (⊎_elim (λ f. f) (λ q. false-is true q.1) p.1))
-    go none false none false = (λ e. (refl, inr (refl, refl)), λ p. refl)
+        → (if is_some x then x else if not v && (is_some h || m) then Some CutShort else None) ≡ None ↔ (x ≡ None) × (T v ⊎ ((h ≡ None) × (m ≡ false)))
+    go (Some x) v h m = (λ e. absurd (none-some (sym e)), λ p. p.0)
+    go None true h m = (λ e. (refl, inl tt), λ p. refl)
+    go None false (Some h) m = (λ e. absurd (none-some (sym e)), λ p. absurd (⊎_elim (λ f. f) (λ q. none-some (sym q.0)) p.1))
+    go None false None true = (λ e. absurd (none-some (sym e)), λ p. absurd (⊎_elim (λ f. f) (λ q. false-is true q.1) p.1))
+    go None false None false = (λ e. (refl, inr (refl, refl)), λ p. refl)
 
 -- a list keeps the line rules just where no line's answer is a number, and its end is whole
 module _ (r : Rules) (c : Case) (w : List ℤ) (ts : List (List ℕ)) where
-  pub accepted-iff : at_end (after r (fresh c w) ts) ≡ none ↔ (answers r (fresh c w) ts ≡ map (λ t. none) ts) × Ended (after r (fresh c w) ts)
+  pub accepted-iff : at_end (after r (fresh c w) ts) ≡ None ↔ (answers r (fresh c w) ts ≡ map (λ t. None) ts) × Ended (after r (fresh c w) ts)
   accepted-iff = (
     λ e. let p = (end-iff (after r (fresh c w) ts)).0 e in (((no_number r (fresh c w) ts).0 p.0).1, p.1),
     λ p. (end-iff (after r (fresh c w) ts)).1 ((no_number r (fresh c w) ts).1 (refl, p.0), p.1),
   )
 
-  pub keeps-iff : T (keeps_rules r c w ts) ↔ at_end (after r (fresh c w) ts) ≡ none
+  pub keeps-iff : T (keeps_rules r c w ts) ↔ at_end (after r (fresh c w) ts) ≡ None
   keeps-iff = none-iff (at_end (after r (fresh c w) ts))

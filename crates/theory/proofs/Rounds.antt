@@ -5,7 +5,6 @@
 use mathlib.Core.Path.{◌≡◌, refl, sym, ap, ap₂, subst, ◌∙◌}
 use mathlib.Core.Bool.{Bool, true, false, not, ◌&&◌, ◌||◌}
 use mathlib.Core.Logic.{◌≢◌, ◌⊎◌, inl, inr, ⊎_elim}
-use mathlib.Core.Option.{Option, none, some}
 use mathlib.Core.List.{List, [], ◌∷◌, ◌++◌, map, append_assoc}
 use mathlib.Core.List.Memᴰ
 use Prim.Native.Nat.{ℕ, suc, ◌+◌, ◌*◌, ◌-◌, ◌^◌, ◌≤◌, ◌<◌}
@@ -15,7 +14,7 @@ use lib.IntN.{ℤ, pos, negsuc, nat_abs}
 use lib.Dec.{T, eqb, eqb→eq, ltb, ltb→lt, nltb→le, lt→ltb, lit<}
 use lib.Signed.{◌≤ℤ◌, ◌<ℤ◌}
 use lib.ListN.{length}
-use Rattle.std.specs.Prelude.{if◌then◌else◌}
+use Rattle.std.specs.Prelude.{if◌then◌else◌, Option, Some, None}
 use Rattle.integers.specs.Words.{first, last, joined, is_in, is_some, minus, within_z}
 use Rattle.integers.specs.Tests.{and-iff, not-or-iff, not-not-iff, not-leb-iff, not-eqb-iff, and_intro, and_left, and_right, either, if-false, if-cases}
 use Rattle.integers.specs.Linear.{flat, zs, ◌▸◌, T-eq}
@@ -110,11 +109,11 @@ above-last r (y ∷ z ∷ ys) x xs t = above-last r (z ∷ ys) x xs (and_right (
 
 -- they are due where moves are written
 pub record MoveKinds (r : Rules) : Type 0 where
-  pub shift-due : (e end v : ℕ) (a : ℤ) → T (not (not_due r (kinds_due false none) (line 1 (pos e) (pos end) (pos v) a)))
-  pub press-due : (i k : ℕ) (a : ℤ) → T (not (not_due r (kinds_due false none) (line 2 (pos i) (pos k) (pos 0) a)))
-  pub raise-due : (h : Held) (x : ℕ) → T (not (not_due r (kinds_due false (some h)) (raise_line x)))
-  pub bound-due : (z : ℤ) → T (not (not_due r (kinds_due false none) (bound_line z)))
-  pub void-due : (i k : ℕ) → T (not (not_due r (kinds_due false none) (line 5 (pos i) (pos k) (pos 0) (pos 0))))
+  pub shift-due : (e end v : ℕ) (a : ℤ) → T (not (not_due r (kinds_due false None) (line 1 (pos e) (pos end) (pos v) a)))
+  pub press-due : (i k : ℕ) (a : ℤ) → T (not (not_due r (kinds_due false None) (line 2 (pos i) (pos k) (pos 0) a)))
+  pub raise-due : (h : Held) (x : ℕ) → T (not (not_due r (kinds_due false (Some h)) (raise_line x)))
+  pub bound-due : (z : ℤ) → T (not (not_due r (kinds_due false None) (bound_line z)))
+  pub void-due : (i k : ℕ) → T (not (not_due r (kinds_due false None) (line 5 (pos i) (pos k) (pos 0) (pos 0))))
 
 pub move-kinds : {r : Rules} → Coherent r → MoveKinds r
 move-kinds {r} coherent = record {
@@ -233,15 +232,15 @@ standing s w moving = record {
   weights = w;
   rounds = s.rounds;
   start = s.start;
-  held = none;
+  held = None;
   moving = moving;
   void = false;
-  refusal = none;
+  refusal = None;
 }
 
-stands : (s : State) → s.refusal ≡ none → s.held ≡ none → s.void ≡ false → s ≡ standing s s.weights s.moving
+stands : (s : State) → s.refusal ≡ None → s.held ≡ None → s.void ≡ false → s ≡ standing s s.weights s.moving
 stands s e f g =
-    ap₂ (λ (h : Option Held) (x : Option Refusal). again h s.void x) f e ∙ ap (λ (v : Bool). again none v none) g
+    ap₂ (λ (h : Option Held) (x : Option Refusal). again h s.void x) f e ∙ ap (λ (v : Bool). again None v None) g
   where
     again : Option Held → Bool → Option Refusal → State
     again h v x = record {
@@ -271,13 +270,13 @@ module _ {r : Rules} (coherent : Coherent r) (kinds : MoveKinds r) (s : State) w
   abbrev text : Line → List ℕ
   text l = line_text r.amount_width l
 
-  line_taken : (u : State) (l : Line) → u.refusal ≡ none → line_too_wide r.amount_width l ≡ false → T (not (not_due r (kinds_due u.void u.held) l))
+  line_taken : (u : State) (l : Line) → u.refusal ≡ None → line_too_wide r.amount_width l ≡ false → T (not (not_due r (kinds_due u.void u.held) l))
       → Quiet (tests_of_kind r u u.held l)
-      → step r u (text l) ≡ taken u u.held (some l)
+      → step r u (text l) ≡ taken u u.held (Some l)
   line_taken u l e f due q =
       if-false u (step_unrefused r u (read_line r.amount_width (text l))) (is_some u.refusal) (rw e tt)
       ∙ ap (step_unrefused r u) (line_read r.amount_width l f)
-      ∙ ap (answered u (some l)) ((none-iff (first_refusal (line_tests r u (some l)))).0 ((none-applies (line_tests r u (some l))).1
+      ∙ ap (answered u (Some l)) ((none-iff (first_refusal (line_tests r u (Some l)))).0 ((none-applies (line_tests r u (Some l))).1
       (and_intro (not (not_due r (kinds_due u.void u.held) l)) _ due q)))
 
   module _ {w : List ℤ} (h : Handed r (working_weight r) s.case w) where
@@ -407,7 +406,7 @@ module _ {r : Rules} (coherent : Coherent r) (kinds : MoveKinds r) (s : State) w
       ∙ ap (λ (u : State). after r u (map text (joined (map move_lines moves)))) (move_taken h b move k)
       ∙ moves-on true (handed_moved coherent s.case w move k h) m ∙ ap (standing s v) (or-true (is_some (first moves)))
 
-  module _ (unrefused : s.refusal ≡ none) (unheld : s.held ≡ none) (going : s.void ≡ false) (h : Handed r (working_weight r) s.case s.weights) where
+  module _ (unrefused : s.refusal ≡ None) (unheld : s.held ≡ None) (going : s.void ≡ false) (h : Handed r (working_weight r) s.case s.weights) where
     pub moves-taken : {v : List ℤ} {moves : List Move} → AllAllowed r s.case s.weights moves v
         → after r s (map (line_text r.amount_width) (joined (map move_lines moves))) ≡ standing s v (is_some (first moves) || s.moving)
     moves-taken {moves} m = ap (λ (u : State). after r u (map text (joined (map move_lines moves)))) (stands s unrefused unheld going) ∙ moves-on s.moving h m

@@ -1,12 +1,11 @@
 -- Lines of which none is a press line: no press is ever held, so that every move is a shift, and every lawful objective stays. Assumes nothing.
 use mathlib.Core.Path.{◌≡◌, refl, sym, ap, ◌∙◌}
 use mathlib.Core.Bool.{Bool, true, false, not}
-use mathlib.Core.Option.{Option, none, some}
 use mathlib.Core.List.{List, [], ◌∷◌}
 use Prim.Native.Nat.{ℕ}
 use lib.IntN.{ℤ}
 use lib.Dec.{T}
-use Rattle.std.specs.Prelude.{if◌then◌else◌}
+use Rattle.std.specs.Prelude.{if◌then◌else◌, Option, Some, None}
 use Rattle.integers.specs.Words.{is_some}
 use Rattle.integers.specs.Tests.{if-cases, not-or-iff}
 use Rattle.integers.specs.Options.{some_inj, none-some}
@@ -27,17 +26,17 @@ use Rattle.theory.proofs.Replays.{sound-after, case-after, starting-after}
 
 -- what is held is no press
 abbrev NonePressed : State → Type 0
-NonePressed s = (h : Held) → s.held ≡ some h → h.target ≡ voiding
+NonePressed s = (h : Held) → s.held ≡ Some h → h.target ≡ voiding
 
 module _ (r : Rules) (s : State) (free : NonePressed s) where
   completed-free : (h : Held) (target : Target) → NonePressed (completed s h target)
   completed-free h (pressing a) g e = absurd (none-some e)
   completed-free h voiding g e = absurd (none-some e)
 
-  taken_free : (held : Option Held) → s.held ≡ held → (t : Line) → T (not (is_kind 2 t)) → NonePressed (taken s held (some t))
-  taken_free (some h) e t n = if-cases NonePressed (is_last h) (completed s (raising h t) h.target) (holding s (raising h t))
+  taken_free : (held : Option Held) → s.held ≡ held → (t : Line) → T (not (is_kind 2 t)) → NonePressed (taken s held (Some t))
+  taken_free (Some h) e t n = if-cases NonePressed (is_last h) (completed s (raising h t) h.target) (holding s (raising h t))
       (λ b. completed-free (raising h t) h.target) (λ b g q. ap (λ (h : Held). h.target) (sym (some_inj q)) ∙ free h e)
-  taken_free none e t n = go (is_kind 1 t) (is_kind 2 t) (is_kind 4 t) n
+  taken_free None e t n = go (is_kind 1 t) (is_kind 2 t) (is_kind 4 t) n
     where
       go : (a b d : Bool) → T (not b) → NonePressed (if a then after_move s (shift_of t) else if b then holding s (held_of (pressing t.amount) t)
           else if d then after_bound s t.amount else holding s (held_of voiding t))
@@ -47,9 +46,9 @@ module _ (r : Rules) (s : State) (free : NonePressed s) where
       go false false false n h q = ap (λ (h : Held). h.target) (sym (some_inj q))
 
   answered-free : (t : Option Line) → T (not (has_kind 2 t)) → (o : Option Refusal) → NonePressed (answered s t o)
-  answered-free t n (some x) = free
-  answered-free none n none = free
-  answered-free (some t) n none = taken_free s.held refl t n
+  answered-free t n (Some x) = free
+  answered-free None n None = free
+  answered-free (Some t) n None = taken_free s.held refl t n
 
   step-free : (t : List ℕ) → T (not (has_kind 2 (read_line r.amount_width t))) → NonePressed (step r s t)
   step-free t n = if-cases NonePressed (is_some s.refusal) s (step_unrefused r s (read_line r.amount_width t)) (λ b. free)

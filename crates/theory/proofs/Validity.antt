@@ -3,7 +3,6 @@
 use mathlib.Core.Path.{◌≡◌, refl, sym, ap, subst, ◌∙◌}
 use mathlib.Core.Bool.{Bool, true, false, not, ◌&&◌, true≢false}
 use mathlib.Core.Logic.{◌↔◌, ⊎_elim}
-use mathlib.Core.Option.{some}
 use mathlib.Core.List.{List, [], ◌∷◌}
 use Prim.Native.Nat.{ℕ, ◌*◌, ◌≤◌, ◌<◌}
 use native.Mathlib.Nat.{mul-le-mul_right}
@@ -12,7 +11,7 @@ use lib.IntN.{ℤ, pos}
 use lib.Dec.{T, T_not, not_T, eqb, ltb}
 use lib.Signed.{le_z}
 use lib.ListN.{length, get_or}
-use Rattle.std.specs.Prelude.{if◌then◌else◌}
+use Rattle.std.specs.Prelude.{if◌then◌else◌, Some}
 use Rattle.integers.specs.Words.{all, within_z, minus, eq_z, is_some, ◌⇒◌}
 use Rattle.integers.specs.Tests.{tests, and_left, and_right, and_intro, or_left, or_right, or_cases, not-not-iff}
 use Rattle.integers.specs.Linear.{flat, zs, ◌▸◌, T-eq}
@@ -36,7 +35,7 @@ none-applies [] = (λ t. t, λ t. t)
 none-applies (t ∷ ts) = go t.applies (none-applies ts)
   where
     go : (b : Bool) → T (not (is_some (first_refusal ts))) ↔ T (all (λ t. not t.applies) ts)
-        → T (not (is_some (if b then some t.refusal else first_refusal ts))) ↔ T (not b && all (λ t. not t.applies) ts)
+        → T (not (is_some (if b then Some t.refusal else first_refusal ts))) ↔ T (not b && all (λ t. not t.applies) ts)
     go true r = (λ t. t, λ t. t)
     go false r = r
 

@@ -1,7 +1,10 @@
 -- What a step says of the lines from it on, and that a span lies in the log. Assumes nothing.
+use Rattle.definitions.specs.declared.Refusal.{Refusal}
+use Rattle.definitions.specs.declared.RefusedAt.{RefusedAt}
+use Rattle.definitions.specs.Answers.{refused_at}
+use Rattle.definitions.specs.Answers.{from_to}
 use mathlib.Core.Path.{◌≡◌, refl, sym, ap, subst, ◌∙◌}
 use mathlib.Core.Bool.{Bool, true, false}
-use mathlib.Core.Option.{Option, none, some}
 use mathlib.Core.List.{List, [], ◌∷◌}
 use Prim.Native.Nat.{ℕ, zero, suc, ◌+◌, ◌*◌, ◌-◌, ◌/◌, ◌^◌, ◌<◌, ◌≤◌}
 use native.Mathlib.Nat.{mul-le-mul_right, div-mul-le_self}
@@ -13,13 +16,12 @@ use lib.Dec.{eqb, eqb→eq}
 use lib.Signed.{mag}
 use mir.Syntax.{w64}
 use mir.Val.{hbits, to_z, of_z}
-use Rattle.std.specs.Prelude.{if◌then◌else◌}
+use Rattle.std.specs.Prelude.{if◌then◌else◌, Result, Ok, Err, Option, Some, None}
 use Rattle.integers.specs.Words.{eq_z}
 use Rattle.integers.specs.Tests.{eqb-iff, same_test}
 use Rattle.integers.specs.Linear.{T-eq, read_back}
 use Rattle.definitions.specs.declared.Span.{Span}
 use Rattle.definitions.specs.declared.Line.{Line}
-use Rattle.definitions.specs.declared.LineRead.{LineRead}
 use Rattle.definitions.specs.declared.Refusal.TheVariants.{NotInColumns, OutOfRange, CutShort}
 use Rattle.definitions.specs.Rules.{Rules, Coherent}
 use Rattle.definitions.specs.Lines.{line_length, read_line, is_kind, cut_lines, lines_in, has_part}
@@ -40,7 +42,7 @@ module _ (a b : ℤ) (p : mag a < 2 ^ hbits w64) (q : mag b < 2 ^ hbits w64) whe
       (λ t. (T-eq a b).1 (sym (read_back w64 a p) ∙ ap (to_z w64) (eqb→eq (of_z w64 a) (of_z w64 b) t) ∙ read_back w64 b q))
       (λ t. (eqb-iff (of_z w64 a) (of_z w64 b)).1 (ap (of_z w64) ((T-eq a b).0 t)))
 
-pub ended-now : (long at from left : ℕ) → left ≡ 0 → Stop (Span.Part (from * long) ((at + 1) * long)) ≡ ended_step long at from left
+pub ended-now : (long at from left : ℕ) → left ≡ 0 → Stop (Ok (from_to (from * long) ((at + 1) * long))) ≡ ended_step long at from left
 ended-now long at from zero e = refl
 ended-now long at from (suc fewer) e = absurd (omega arith)
 
@@ -54,13 +56,13 @@ fewer-within long a b n h l = omega (arith, l, mul-le-mul_right {m = a} {n = b} 
 
 -- ---- a span lies in a log of n bytes
 
-abbrev Inside : ℕ → Span → Type 0
-Inside n (Span.Part from to) = (from ≤ to) × (to ≤ n)
-Inside n (Span.Refused x at) = Unit
+abbrev Inside : ℕ → Result Span RefusedAt → Type 0
+Inside n (Ok span) = (span.from ≤ span.to) × (span.to ≤ n)
+Inside n (Err x) = Unit
 
-more-inside : (m n : ℕ) → m ≤ n → (s : Span) → Inside m s → Inside n s
-more-inside m n l (Span.Part from to) h = (h.0, omega arith)
-more-inside m n l (Span.Refused x at) h = tt
+more-inside : (m n : ℕ) → m ≤ n → (s : Result Span RefusedAt) → Inside m s → Inside n s
+more-inside m n l (Ok span) h = (h.0, omega arith)
+more-inside m n l (Err x) h = tt
 
 length_cut : (d n : ℕ) (t : List ℕ) → length (cut_lines d n t) ≡ n
 length_cut d zero t = refl
@@ -73,26 +75,26 @@ module _ (w : ℕ) where
   long = line_length w
 
   module _ (part : Bool) (ts : List (List ℕ)) (at from : ℕ) where
-    abbrev rest : ℕ → ℕ → Span
+    abbrev rest : ℕ → ℕ → Result Span RefusedAt
     rest f l = span_from w part (at + 1) f l ts
 
     -- the answer where line `at` reads so
-    abbrev by_left : ℕ → Span
+    abbrev by_left : ℕ → Result Span RefusedAt
     by_left left = elim left [
-      | zero ↦ Span.Part (from * long) ((at + 1) * long)
+      | zero ↦ Ok (from_to (from * long) ((at + 1) * long))
       | suc fewer ↦ rest (at + 1) fewer
     ]
 
-    abbrev by_kind : Bool → ℕ → Span
+    abbrev by_kind : Bool → ℕ → Result Span RefusedAt
     by_kind bound left = elim bound [
       | false ↦ rest from left
       | true ↦ by_left left
     ]
 
-    abbrev by-line : Option Line → ℕ → Span
+    abbrev by-line : Option Line → ℕ → Result Span RefusedAt
     by-line o left = elim o [
-      | none ↦ Span.Refused NotInColumns at
-      | some l ↦ by_kind (is_kind 4 l) left
+      | None ↦ Err (refused_at NotInColumns at)
+      | Some l ↦ by_kind (is_kind 4 l) left
     ]
 
     after-bound : (left : ℕ) → resumed rest (ended_step long at from left) ≡ by_left left
@@ -104,8 +106,8 @@ module _ (w : ℕ) where
     after-kind false left = refl
 
     after_line : (o : Option Line) (left : ℕ) → resumed rest (passed_step (line_answer o) long at from left) ≡ by-line o left
-    after_line none left = refl
-    after_line (some l) left = after-kind (is_kind 4 l) left
+    after_line None left = refl
+    after_line (Some l) left = after-kind (is_kind 4 l) left
 
   step-next : (part : Bool) (ts : List (List ℕ)) (at from : ℕ) (t : List ℕ) (left : ℕ)
       → resumed (rest part ts at from) (passed_step (line_answer (read_line w t)) long at from left) ≡ span_from w part at from left (t ∷ ts)
@@ -125,14 +127,14 @@ module _ (w : ℕ) where
     kind-inside true left = ended-inside left
     kind-inside false left = omega arith
 
-    pub passed-inside : (r : LineRead) (left : ℕ) → StepInside at (passed_step r long at from left)
-    passed-inside (LineRead.Read l) left = kind-inside (is_kind 4 l) left
-    passed-inside (LineRead.Refused x) left = tt
+    pub passed-inside : (r : Result Line Refusal) (left : ℕ) → StepInside at (passed_step r long at from left)
+    passed-inside (Ok l) left = kind-inside (is_kind 4 l) left
+    passed-inside (Err x) left = tt
 
   pub on-inside : (at from left : ℕ) {s : Step} → s ≡ On from left → StepInside at s → from ≤ at + 1
   on-inside at from left e h = rw e at h
 
-  resumed-inside : (n at : ℕ) (rest : ℕ → ℕ → Span) → (at + 1) * long ≤ n → ((f l : ℕ) → f ≤ at + 1 → Inside n (rest f l)) → (s : Step) → StepInside at s
+  resumed-inside : (n at : ℕ) (rest : ℕ → ℕ → Result Span RefusedAt) → (at + 1) * long ≤ n → ((f l : ℕ) → f ≤ at + 1 → Inside n (rest f l)) → (s : Step) → StepInside at s
       → Inside n (resumed rest s)
   resumed-inside n at rest l h (Stop span) i = more-inside ((at + 1) * long) n l span i
   resumed-inside n at rest l h (On from left) i = h from left i
@@ -151,7 +153,7 @@ module _ (w : ℕ) where
       from-inside (has_part w log) (length log) (lines_in w log) 0 0 round (omega arith)
       (fewer-within long (0 + length (lines_in w log)) (length log / long) (length log) (rw length_cut (omega arith)) (div-mul-le_self (length log) long))
 
-  pub part-inside : (log : List ℕ) (round : ℕ) {from to : ℕ} → span_in w log round ≡ Span.Part from to → (from ≤ to) × (to ≤ length log)
+  pub part-inside : (log : List ℕ) (round : ℕ) {from to : ℕ} → span_in w log round ≡ Ok (from_to from to) → (from ≤ to) × (to ≤ length log)
   part-inside log round e = rw e at (span-inside log round)
 
   -- ---- the lines from one on
@@ -165,7 +167,7 @@ module _ (w : ℕ) where
       rw (n, d)
 
   -- the answer from line `at` on
-  abbrev pub span_at : List ℕ → ℕ → ℕ → ℕ → ℕ → Span
+  abbrev pub span_at : List ℕ → ℕ → ℕ → ℕ → ℕ → Result Span RefusedAt
   span_at log whole at from left = span_from w (has_part w log) at from left (cut_lines long (whole - at) (drop (at * long) log))
 
   pub at-step : width_out w ≡ false → (log : List ℕ) (whole at from left : ℕ) → at < whole
@@ -175,14 +177,13 @@ module _ (w : ℕ) where
       rw i (step-next (has_part w log) (cut_lines long (whole - (at + 1)) (drop ((at + 1) * long) log)) at from (take long (drop (at * long) log)) left)
       ∙ ap (span_from w (has_part w log) at from left) (sym (lines_next log whole at h))
 
-  pub at-end : (log : List ℕ) (whole at from left : ℕ) → whole ≤ at → Span.Refused
-      (if has_part w log then CutShort else OutOfRange) at ≡ span_at log whole at from left
+  pub at-end : (log : List ℕ) (whole at from left : ℕ) → whole ≤ at → Err (refused_at (if has_part w log then CutShort else OutOfRange) at) ≡ span_at log whole at from left
   at-end log whole at from left h = let e : whole - at ≡ 0 = omega arith in rw e
 
 -- ---- the call on all input
 
 module _ (w : ℕ) (log : List ℕ) (round : ℕ) where
-  pub span-out : width_out w ≡ true → Span.Refused NotInColumns 0 ≡ round_span_at w log round
+  pub span-out : width_out w ≡ true → Err (refused_at NotInColumns 0) ≡ round_span_at w log round
   unfolding round_span_at
   span-out o = rw o
 

@@ -1,6 +1,10 @@
 -- What one line does to the search for a round, where lines have `long` bytes, and the round's span at any width. Assumes nothing.
-use Rattle.std.specs.Prelude.{List, ℕ, zero, suc, ◌+◌, ◌*◌, if◌then◌else◌}
-use Rattle.definitions.specs.declared.LineRead.{LineRead}
+use Rattle.definitions.specs.declared.Refusal.{Refusal}
+use Rattle.definitions.specs.declared.RefusedAt.{RefusedAt}
+use Rattle.definitions.specs.declared.Line.{Line}
+use Rattle.definitions.specs.Answers.{refused_at}
+use Rattle.definitions.specs.Answers.{from_to}
+use Rattle.std.specs.Prelude.{List, ℕ, zero, suc, ◌+◌, ◌*◌, if◌then◌else◌, Result, Ok, Err}
 use Rattle.definitions.specs.declared.Refusal.TheVariants.{NotInColumns}
 use Rattle.definitions.specs.declared.Span.{Span}
 use Rattle.definitions.specs.Lines.{is_kind}
@@ -11,19 +15,19 @@ use Rattle.views.specs.declared.Step.TheVariants.{Stop, On}
 
 -- after the bound line `at` of a round that begins at line `from`, with so many rounds still to pass
 abbrev pub ended_step : ℕ → ℕ → ℕ → ℕ → Step
-ended_step long at from zero = Stop (Span.Part (from * long) ((at + 1) * long))
+ended_step long at from zero = Stop (Ok (from_to (from * long) ((at + 1) * long)))
 ended_step long at from (suc fewer) = On (at + 1) fewer
 
 -- after line `at`
-abbrev pub passed_step : LineRead → ℕ → ℕ → ℕ → ℕ → Step
-passed_step (LineRead.Refused x) long at from left = Stop (Span.Refused NotInColumns at)
-passed_step (LineRead.Read l) long at from left = if is_kind 4 l then ended_step long at from left else On from left
+abbrev pub passed_step : Result Line Refusal → ℕ → ℕ → ℕ → ℕ → Step
+passed_step (Err x) long at from left = Stop (Err (refused_at NotInColumns at))
+passed_step (Ok l) long at from left = if is_kind 4 l then ended_step long at from left else On from left
 
 -- the answer after a step, where `rest` is that of the lines behind it
-abbrev pub resumed : (ℕ → ℕ → Span) → Step → Span
+abbrev pub resumed : (ℕ → ℕ → Result Span RefusedAt) → Step → Result Span RefusedAt
 resumed rest (Stop span) = span
 resumed rest (On from left) = rest from left
 
 -- no line is in columns at a width that no amount column has
-unfoldable pub round_span_at : ℕ → List ℕ → ℕ → Span
-round_span_at width log n = if width_out width then Span.Refused NotInColumns 0 else span_in width log n
+unfoldable pub round_span_at : ℕ → List ℕ → ℕ → Result Span RefusedAt
+round_span_at width log n = if width_out width then Err (refused_at NotInColumns 0) else span_in width log n

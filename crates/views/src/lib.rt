@@ -2,7 +2,7 @@
 // "Lines").
 #![tactic(auto)]
 
-ghost use Rattle.std.specs.Prelude.{◌≡◌, false, ℕ, ◌+◌, ◌*◌, ◌<◌, ◌≤◌, length, take, drop, if◌then◌else◌};
+ghost use Rattle.std.specs.Prelude.{◌≡◌, false, ℕ, ◌+◌, ◌*◌, ◌<◌, ◌≤◌, length, take, drop, if◌then◌else◌, Ok};
 ghost use Rattle.definitions.specs.declared.Rulebook.TheVariants.{Desk};
 ghost use Rattle.definitions.specs.Rules.{rules_in};
 ghost use Rattle.definitions.specs.Lines.{line_length, is_kind, has_part};
@@ -12,7 +12,7 @@ ghost use Rattle.definitions.specs.Views.{span_in, round_span, round_view};
 ghost use Rattle.lines.specs.AtWidth.{width_out, read_line_at};
 ghost use Rattle.views.specs.Steps.{ended_step, passed_step, round_span_at};
 
-use definitions::{Line, LineRead, Refusal, Rulebook, Span};
+use definitions::{Line, Refusal, RefusedAt, Rulebook, Span};
 
 // The kind of a bound line.
 const BOUND: i64 = 4;
@@ -20,7 +20,7 @@ const BOUND: i64 = 4;
 // After a line: the answer, or the first line of the round in which the next one lies, and the rounds still to pass.
 #[derive(Clone, Copy)]
 enum Step {
-    Stop(Span),
+    Stop(Result<Span, RefusedAt>),
     On { from: usize, left: u64 },
 }
 
@@ -30,10 +30,10 @@ fn round_ended(long: usize, at: usize, from: usize, left: u64) -> Step
     ensures { result ≡ ended_step long at from left }
 {
     if left == 0 {
-        return Step::Stop(Span::Part {
+        return Step::Stop(Ok(Span {
             from: from * long,
             to: (at + 1) * long,
-        });
+        }));
     }
     Step::On {
         from: at + 1,
@@ -47,15 +47,15 @@ fn is_bound(line: Line) -> bool
     line.kind == BOUND
 }
 
-fn passed(read: LineRead, long: usize, at: usize, from: usize, left: u64) -> Step
+fn passed(read: Result<Line, Refusal>, long: usize, at: usize, from: usize, left: u64) -> Step
     requires { (from ≤ at) × (at < 9_223_372_036_854_775_808) × ((at + 1) * long ≤ 9_223_372_036_854_775_808) }
     ensures { result ≡ passed_step read long at from left }
 {
-    let LineRead::Read(line) = read else {
-        return Step::Stop(Span::Refused {
+    let Ok(line) = read else {
+        return Step::Stop(Err(RefusedAt {
             refusal: Refusal::NotInColumns,
             line: at,
-        });
+        }));
     };
     if is_bound(line) {
         return round_ended(long, at, from, left);
@@ -92,7 +92,7 @@ fn not_there(log: &[u8], width: usize) -> Refusal
     }
 }
 
-fn span_in(log: &[u8], round: u64, width: usize) -> Span
+fn span_in(log: &[u8], round: u64, width: usize) -> Result<Span, RefusedAt>
     requires { width_out width ≡ false }
     ensures { result ≡ span_in width log.now round }
 {
@@ -114,29 +114,29 @@ fn span_in(log: &[u8], round: u64, width: usize) -> Span
         }
         at += 1;
     }
-    Span::Refused {
+    Err(RefusedAt {
         refusal: not_there(log, width),
         line: at,
-    }
+    })
 }
 
 // ---- the calls
 
 // Where the round's lines lie in the log, with an amount column of this width.
-pub fn round_span_in(log: &[u8], round: u64, width: usize) -> Span
+pub fn round_span_in(log: &[u8], round: u64, width: usize) -> Result<Span, RefusedAt>
     ensures { result ≡ round_span_at width log.now round }
 {
     if lines::width_out(width) {
-        return Span::Refused {
+        return Err(RefusedAt {
             refusal: Refusal::NotInColumns,
             line: 0,
-        };
+        });
     }
     span_in(log, round, width)
 }
 
 // The same at the desk's width.
-pub fn round_span(log: &[u8], round: u64) -> Span
+pub fn round_span(log: &[u8], round: u64) -> Result<Span, RefusedAt>
     ensures { result ≡ round_span (rules_in Desk) log.now round }
 {
     round_span_in(log, round, rules::amount_width(Rulebook::Desk))
@@ -146,19 +146,19 @@ pub fn round_span(log: &[u8], round: u64) -> Span
 // `number` and `line`.
 pub fn round_view<'a>(log: &'a [u8], round: u64, number: &mut u8, line: &mut usize) -> &'a [u8]
     ensures result_value { result.now ≡ round_view (rules_in Desk) log.now round }
-    ensures by_index { (from to : ℕ) → round_span (rules_in Desk) log.now round ≡ Span.Part from to
+    ensures by_index { (from to : ℕ) → round_span (rules_in Desk) log.now round ≡ (Ok (from_to from to))
         → result.ref_ptr ≡ (log.entry.ref_ptr.0, from + log.entry.ref_ptr.1) }
     ensures number_after { number.new ≡ (span_says (round_span (rules_in Desk) log.now round)).number }
     ensures line_after { line.new ≡ line_named (span_says (round_span (rules_in Desk) log.now round)) }
 {
     let span = round_span(log, round);
     match span {
-        Span::Part { from, to } => {
+        Ok(Span { from, to }) => {
             *number = 0;
             *line = 0;
             &log[from..to]
         }
-        Span::Refused { refusal, line: at } => {
+        Err(RefusedAt { refusal, line: at }) => {
             *number = texts::number_of(refusal);
             *line = at;
             &log[0..0]

@@ -1,7 +1,7 @@
 // Executes the log writer, the view of a round and the scoring of two plans at the borders of their numbers: a line for each call.
 #![tactic(auto)]
 
-use definitions::{Case, Choice, EDGE_PLACES, Line, Outcome, Refusal, Rulebook, Span};
+use definitions::{Case, Choice, EDGE_PLACES, Line, Refusal, RefusedAt, Rulebook, Span};
 use log_writer::Put;
 
 // ---- lines
@@ -24,8 +24,8 @@ fn print_refusal(refusal: Refusal) {
 fn show_put(put: Put) {
     let answer = put.answer;
     match answer {
-        Outcome::Done => print(b": done"),
-        Outcome::Refused(refusal) => print_refusal(refusal),
+        Ok(()) => print(b": done"),
+        Err(refusal) => print_refusal(refusal),
     }
     drivers::print_count(put.at as u64);
     print(b"\n");
@@ -95,14 +95,14 @@ fn held_puts() {
 
 // ---- the view of a round
 
-fn print_span(span: Span) {
+fn print_span(span: Result<Span, RefusedAt>) {
     match span {
-        Span::Part { from, to } => {
+        Ok(Span { from, to }) => {
             print(b":");
             drivers::print_count(from as u64);
             drivers::print_count(to as u64);
         }
-        Span::Refused { refusal, line } => {
+        Err(RefusedAt { refusal, line }) => {
             print_refusal(refusal);
             drivers::print_count(line as u64);
         }
@@ -222,11 +222,11 @@ fn full(weight: i64) -> [i64; LENT] {
     table
 }
 
-fn print_choice(choice: Choice) {
+fn print_choice(choice: Result<Choice, Refusal>) {
     match choice {
-        Choice::First => print(b": first"),
-        Choice::Second => print(b": second"),
-        Choice::Refused(refusal) => print_refusal(refusal),
+        Ok(Choice::First) => print(b": first"),
+        Ok(Choice::Second) => print(b": second"),
+        Err(refusal) => print_refusal(refusal),
     }
 }
 

@@ -4,10 +4,8 @@ use Prim.Native.Nat.{◌≤◌, ◌<◌}
 use lib.IntN.{ℤ, pos}
 use lib.ListN.{length, get_or}
 use mir.Syntax.{w64}
-use Rattle.std.specs.Prelude.{if◌then◌else◌}
+use Rattle.std.specs.Prelude.{if◌then◌else◌, Ok, true, false}
 use Rattle.integers.specs.Linear.{read_back}
-use Rattle.definitions.specs.declared.Outcome.{Outcome}
-use Rattle.definitions.specs.declared.Verdict.{Verdict}
 use Rattle.definitions.specs.Rules.{rules_of}
 use Rattle.definitions.specs.Answers.{outcome_of}
 use Rattle.definitions.specs.Case.{scope_count}
@@ -16,14 +14,14 @@ use Rattle.arcs.specs.Best.{are_unsupported, best_refusal}
 use Rattle.arcs.proofs.Best.{answer-refused, answer-given, best-arguments-known}
 use borrow.Author.Rules.{rules}
 use Rattle.arcs.proofs.best_unsupported.Goals as goal
-use Rattle.arcs.proofs.best_unsupported.Goals.{In-Done}
+use Rattle.arcs.proofs.best_unsupported.Goals.{In-Ok}
 
 -- what is known where none of the numbers applies
-right : (c : In-Done) → let a = c.args in Outcome.Done ≡ outcome_of
+right : (c : In-Ok) → let a = c.args in (Ok tt) ≡ outcome_of
     (best_refusal (rules_of a.case) a.case a.table.now a.best.now a.raised.now a.variable)
-right c = sym c.in-Done.is ∙ c.check_arguments-checked.ensures
+right c = sym c.in-Ok.is ∙ c.check_arguments-checked.ensures
 
-known : (c : In-Done) → let a = c.args in
+known : (c : In-Ok) → let a = c.args in
     Sized a.case a.table.now × ((scope_count a.case ≤ length a.best.now) × (scope_count a.case ≤ length a.raised.now))
     × (a.variable < a.case.n)
 known c = let a = c.args in best-arguments-known a.case a.table.now a.best.now a.raised.now a.variable
@@ -31,28 +29,28 @@ known c = let a = c.args in best-arguments-known a.case a.table.now a.best.now a
 
 pub set_with-values-requires : goal.set_with-values-requires
 set_with-values-requires c =
-    let h = known (goal.at.set_with-values-requires c).In-Done in
+    let h = known (goal.at.set_with-values-requires c).In-Ok in
     record { sized = h.0; j_lt_n = h.2 }
 
 pub are_unsupported-requires : goal.are_unsupported-requires
-are_unsupported-requires c = record { sized = (known (goal.at.are_unsupported-requires c).In-Done).0; case_in_bounds = (known (goal.at.are_unsupported-requires c).In-Done).1 }
+are_unsupported-requires c = record { sized = (known (goal.at.are_unsupported-requires c).In-Ok).0; case_in_bounds = (known (goal.at.are_unsupported-requires c).In-Ok).1 }
 
-pub returns-in-Refused : goal.returns-in-Refused
-returns-in-Refused c =
+pub returns-in-Err : goal.returns-in-Err
+returns-in-Err c =
     let a = c.args in
     answer-refused a.case a.table.now a.best.now a.raised.now a.variable
-    (sym c.in-Refused.is ∙ c.check_arguments-checked.ensures)
+    (sym c.in-Err.is ∙ c.check_arguments-checked.ensures)
     (set_where a.case (has_best a.case a.table.now a.best.now) a.variable)
 
-pub returns-in-Done : goal.returns-in-Done
-returns-in-Done c =
+pub returns-in-Ok : goal.returns-in-Ok
+returns-in-Ok c =
     let a = c.args in
     c.verdict.ensures
-    ∙ ap (λ (x : Bool). if x then Verdict.Yes else Verdict.No)
+    ∙ ap (λ (x : Bool). if x then Ok true else Ok false)
     (c.are_unsupported.ensures
     ∙ ap (are_unsupported a.case a.table.now a.best.now a.raised.now a.variable)
     (c.set_with-values.ensures
     ∙ ap (λ (b : ℤ). set_where a.case (has_weight a.case a.table.now b) a.variable)
     (read_back w64 (get_or a.best.now a.variable (pos 0)) (search rules))))
-    ∙ answer-given a.case a.table.now a.best.now a.raised.now a.variable (right (goal.at.returns-in-Done c).In-Done)
+    ∙ answer-given a.case a.table.now a.best.now a.raised.now a.variable (right (goal.at.returns-in-Ok c).In-Ok)
     (set_where a.case (has_best a.case a.table.now a.best.now) a.variable)

@@ -1,13 +1,13 @@
+use Rattle.std.specs.Prelude.{Ok}
 use mathlib.Core.Path.{◌≡◌, sym, ap, ap₂, ◌∙◌}
 use mathlib.Core.Bool.{Bool, ◌||◌}
-use Rattle.definitions.specs.declared.Outcome.{Outcome}
 use Rattle.definitions.specs.Rules.{rules_of}
 use Rattle.definitions.specs.Answers.{outcome_of}
 use Rattle.arcs.specs.Active.{length_refusal}
 use Rattle.arcs.specs.Best.{too_few}
 use Rattle.arcs.proofs.Prepared.{lengths-known}
 use Rattle.arcs.proofs.check_arguments.Goals as goal
-use Rattle.arcs.proofs.check_arguments.Goals.{After-check_lengths-checked, In-Done}
+use Rattle.arcs.proofs.check_arguments.Goals.{After-check_lengths-checked, In-Ok}
 
 -- what was asked of the lengths
 lengths : (c : After-check_lengths-checked) → let a = c.args in
@@ -18,9 +18,9 @@ lengths c =
     ∙ ap (λ (b : Bool). outcome_of (length_refusal (rules_of a.case) a.case a.table.now b))
     (c.either-wrong.ensures ∙ ap₂ ◌||◌ c.too_few.ensures c.too_few-2.ensures)
 
-done : (c : In-Done) → let a = c.args in
-    Outcome.Done ≡ outcome_of (length_refusal (rules_of a.case) a.case a.table.now (too_few a.case a.best.now a.raised.now))
-done c = sym c.in-Done.is ∙ lengths (goal.at.In-Done c).After-check_lengths-checked
+done : (c : In-Ok) → let a = c.args in
+    Ok tt ≡ outcome_of (length_refusal (rules_of a.case) a.case a.table.now (too_few a.case a.best.now a.raised.now))
+done c = sym c.in-Ok.is ∙ lengths (goal.at.In-Ok c).After-check_lengths-checked
 
 pub argument_outside-requires : goal.argument_outside-requires
 argument_outside-requires c =

@@ -26,14 +26,14 @@ returns-then-not-within_limits c =
 pub put_lines-requires : goal.put_lines-requires
 put_lines-requires c =
     let a = c.args in
-    let h = write-valid a.case a.table.now a.out.now (sym c.in-Done.is ∙ told (goal.at.put_lines-requires c).After-check_starting-checked) in record { valid = h.0; sizes_in_bounds = h.1 }
+    let h = write-valid a.case a.table.now a.out.now (sym c.in-Ok.is ∙ told (goal.at.put_lines-requires c).After-check_starting-checked) in record { valid = h.0; sizes_in_bounds = h.1 }
 
-pub returns-in-Refused : goal.returns-in-Refused
-returns-in-Refused c =
+pub returns-in-Err : goal.returns-in-Err
+returns-in-Err c =
     let a = c.args in
-    write-refused a.case a.table.now a.out.now (sym c.in-Refused.is ∙ told (goal.at.returns-in-Refused c).After-check_starting-checked)
+    write-refused a.case a.table.now a.out.now (sym c.in-Err.is ∙ told (goal.at.returns-in-Err c).After-check_starting-checked)
 
-pub returns-in-Done : goal.returns-in-Done
-returns-in-Done c =
+pub returns-in-Ok : goal.returns-in-Ok
+returns-in-Ok c =
     let a = c.args in
-    write-done-is a.case a.table.now a.out.now (sym c.in-Done.is ∙ told (goal.at.returns-in-Done c).After-check_starting-checked) c.file_bytes-bytes.ensures c.put_lines.ensures
+    write-done-is a.case a.table.now a.out.now (sym c.in-Ok.is ∙ told (goal.at.returns-in-Ok c).After-check_starting-checked) c.file_bytes-bytes.ensures c.put_lines.ensures

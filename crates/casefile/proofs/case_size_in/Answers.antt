@@ -2,14 +2,14 @@ use mathlib.Core.Path.{sym, ◌∙◌}
 use Rattle.casefile.proofs.Heads.{front, head-refused, size-read}
 use Rattle.casefile.proofs.case_size_in.Goals as goal
 
-pub returns-in-Refused : goal.returns-in-Refused
-returns-in-Refused c =
+pub returns-in-Err : goal.returns-in-Err
+returns-in-Err c =
     let a = c.args in
     let t = a.bytes.now in
-    head-refused a.rulebook t (front a.rulebook t) (sym c.line_at-head.ensures ∙ c.in-Refused.is)
+    head-refused a.rulebook t (front a.rulebook t) (sym c.line_at-head.ensures ∙ c.in-Err.is)
 
-pub returns-in-Read : goal.returns-in-Read
-returns-in-Read c =
+pub returns-in-Ok : goal.returns-in-Ok
+returns-in-Ok c =
     let a = c.args in
     let t = a.bytes.now in
-    c.head_answer.ensures ∙ size-read a.rulebook t (front a.rulebook t) (sym c.line_at-head.ensures ∙ c.in-Read.is)
+    c.head_answer.ensures ∙ size-read a.rulebook t (front a.rulebook t) (sym c.line_at-head.ensures ∙ c.in-Ok.is)

@@ -7,16 +7,16 @@ use Rattle.casefile.proofs.Heads.{front}
 use Rattle.casefile.proofs.Alone.{rest-refused, rest_read}
 use Rattle.casefile.proofs.check_rest.Goals as goal
 
-pub returns-in-Refused : goal.returns-in-Refused
-returns-in-Refused c =
+pub returns-in-Err : goal.returns-in-Err
+returns-in-Err c =
     let a = c.args in
     let t = drop a.from a.bytes.now in
     let n : length t ≢ 0 = λ z. c.if-from-bytes.false (omega (arith, length-drop a.from a.bytes.now, z, c.requires)) in
-    sym (ap outcome_of (rest-refused a.rulebook t n (front a.rulebook t) (sym c.line_at-read.ensures ∙ c.in-Refused.is)))
+    sym (ap outcome_of (rest-refused a.rulebook t n (front a.rulebook t) (sym c.line_at-read.ensures ∙ c.in-Err.is)))
 
-pub returns-in-Read : goal.returns-in-Read
-returns-in-Read c =
+pub returns-in-Ok : goal.returns-in-Ok
+returns-in-Ok c =
     let a = c.args in
     let t = drop a.from a.bytes.now in
     let n : length t ≢ 0 = λ z. c.if-from-bytes.false (omega (arith, length-drop a.from a.bytes.now, z, c.requires)) in
-    sym (ap outcome_of (rest_read a.rulebook t n (front a.rulebook t) (sym c.line_at-read.ensures ∙ c.in-Read.is)))
+    sym (ap outcome_of (rest_read a.rulebook t n (front a.rulebook t) (sym c.line_at-read.ensures ∙ c.in-Ok.is)))

@@ -1,27 +1,27 @@
+use Rattle.std.specs.Prelude.{Ok}
 use mathlib.Core.Path.{◌≡◌, sym, ap, ◌∙◌}
 use mathlib.Core.List.{[]}
 use Prim.Native.Nat.{◌*◌, ◌≤◌}
 use native.Mathlib.Omega.{arith}
 use lib.ListN.{length}
-use Rattle.definitions.specs.declared.FileAnswer.{FileAnswer}
 use Rattle.definitions.specs.CaseFiles.{read_lines}
 use Rattle.case_lines.specs.Dues.{bytes_of_line}
 use Rattle.tables.proofs.Order.{outcome-done, outcome-refused}
 use Rattle.casefile.proofs.Cases.{handed-same, read_whole}
 use Rattle.casefile.proofs.Alone.{alone-good, alone-more}
 use Rattle.casefile.proofs.read_lines_alone_in.Goals as goal
-use Rattle.casefile.proofs.read_lines_alone_in.Goals.{After-line_length, In-Read}
+use Rattle.casefile.proofs.read_lines_alone_in.Goals.{After-line_length, In-Ok}
 
 -- what was read, and that its lines are there
-read_here : (k : In-Read) → let a = k.args in
-    (read_lines a.rulebook a.bytes.now a.table.now).read.answer ≡ FileAnswer.Read k.in-Read.lines
-read_here k = sym (ap (λ c. c.answer) k.read_lines_in-read.ensures.0) ∙ k.in-Read.is
+read_here : (k : In-Ok) → let a = k.args in
+    (read_lines a.rulebook a.bytes.now a.table.now).read.answer ≡ Ok k.in-Ok.lines
+read_here k = sym (ap (λ c. c.answer) k.read_lines_in-read.ensures.0) ∙ k.in-Ok.is
 
-lines-here : (c : After-line_length) → let a = c.args in let lines = c.in-Read.lines in
+lines-here : (c : After-line_length) → let a = c.args in let lines = c.in-Ok.lines in
     (lines * c.line_length.result ≡ lines * bytes_of_line a.rulebook) × (lines * bytes_of_line a.rulebook ≤ length a.bytes.now)
 lines-here c =
     let a = c.args in
-    (ap (λ n. c.in-Read.lines * n) c.line_length.ensures, read_whole a.rulebook a.bytes.now a.table.now (read_here (goal.at.After-line_length c).In-Read))
+    (ap (λ n. c.in-Ok.lines * n) c.line_length.ensures, read_whole a.rulebook a.bytes.now a.table.now (read_here (goal.at.After-line_length c).In-Ok))
 
 pub overflow_mul-lines : goal.overflow_mul-lines
 overflow_mul-lines c = omega (arith, lines-here c)
@@ -29,14 +29,14 @@ overflow_mul-lines c = omega (arith, lines-here c)
 pub check_rest-rest-requires : goal.check_rest-rest-requires
 check_rest-rest-requires c = omega (arith, lines-here c)
 
-pub returns-in-Done : goal.returns-in-Done
-returns-in-Done c =
+pub returns-in-Ok : goal.returns-in-Ok
+returns-in-Ok c =
     let a = c.args in
-    handed-same (alone-good a.rulebook a.bytes.now a.table.now c.in-Read.lines (read_here (goal.at.returns-in-Done c).In-Read)
-    (outcome-done (sym c.in-Done.is ∙ (rw (lines-here (goal.at.returns-in-Done c).After-line_length).0 at c.check_rest-rest.ensures)))) c.read_lines_in-read.ensures
+    handed-same (alone-good a.rulebook a.bytes.now a.table.now c.in-Ok.lines (read_here (goal.at.returns-in-Ok c).In-Ok)
+    (outcome-done (sym c.in-Ok.is ∙ (rw (lines-here (goal.at.returns-in-Ok c).After-line_length).0 at c.check_rest-rest.ensures)))) c.read_lines_in-read.ensures
 
-pub returns-in-Refused-rest : goal.returns-in-Refused-rest
-returns-in-Refused-rest c =
+pub returns-in-Err-rest : goal.returns-in-Err-rest
+returns-in-Err-rest c =
     let a = c.args in
-    handed-same (alone-more a.rulebook a.bytes.now a.table.now c.in-Read.lines (read_here (goal.at.returns-in-Refused-rest c).In-Read)
-    (outcome-refused (sym c.in-Refused-rest.is ∙ (rw (lines-here (goal.at.returns-in-Refused-rest c).After-line_length).0 at c.check_rest-rest.ensures)))) (c.file_refused.ensures [], c.read_lines_in-read.ensures.1)
+    handed-same (alone-more a.rulebook a.bytes.now a.table.now c.in-Ok.lines (read_here (goal.at.returns-in-Err-rest c).In-Ok)
+    (outcome-refused (sym c.in-Err-rest.is ∙ (rw (lines-here (goal.at.returns-in-Err-rest c).After-line_length).0 at c.check_rest-rest.ensures)))) (c.file_refused.ensures [], c.read_lines_in-read.ensures.1)

@@ -4,8 +4,7 @@ use mathlib.Core.List.{List}
 use Prim.Native.Nat.{ℕ, ◌+◌, ◌*◌}
 use lib.IntN.{ℤ}
 use mir.Facts.{to_z-of_z}
-use Rattle.std.specs.Prelude.{if◌then◌else◌}
-use Rattle.definitions.specs.declared.Outcome.{Outcome}
+use Rattle.std.specs.Prelude.{if◌then◌else◌, Ok, Err}
 use Rattle.definitions.specs.declared.Refusal.TheVariants.{LeavesRange}
 use Rattle.tables.proofs.Order.{own-places}
 use Rattle.changes.proofs.TransferLaws.{TransferPlaces, row-places, column-places, transfer-inside, transfer-separate, transfer-is}
@@ -57,7 +56,7 @@ returns-then-end-eq0 c = let a = c.args in
     let p = row (goal.at.returns-then-end-eq0 c).Then-end-eq0 in
     let r = c.transfer_by in record {
       value = (rw (to_z-of_z c.ranges.amount) at r.ensures.value)
-          ∙ ap (λ (b : Bool). if b then Outcome.Done else Outcome.Refused LeavesRange)
+          ∙ ap (λ (b : Bool). if b then Ok tt else Err LeavesRange)
           (transfer-is a.case a.table.now (own-places a.case c.requires.limited.0 a.table.now c.requires.limited.1) a.edge a.end a.value _ _ _ a.amount c.requires.edge_lt_m.0 c.requires.edge_lt_m.2 p);
       table_after = (rw (to_z-of_z c.ranges.amount) at r.ensures.table_after)
           ∙ ap₂ (λ (b : Bool) (t : List ℤ). if b then t else a.table.now)
@@ -70,7 +69,7 @@ returns-else-end-eq0 c = let a = c.args in
     let p = column (goal.at.returns-else-end-eq0 c).Else-end-eq0 in
     let r = c.transfer_by-else-end-eq0 in record {
       value = (rw (to_z-of_z c.ranges.amount) at r.ensures.value)
-          ∙ ap (λ (b : Bool). if b then Outcome.Done else Outcome.Refused LeavesRange)
+          ∙ ap (λ (b : Bool). if b then Ok tt else Err LeavesRange)
           (transfer-is a.case a.table.now (own-places a.case c.requires.limited.0 a.table.now c.requires.limited.1) a.edge a.end a.value _ _ _ a.amount c.requires.edge_lt_m.0 c.requires.edge_lt_m.2 p);
       table_after = (rw (to_z-of_z c.ranges.amount) at r.ensures.table_after)
           ∙ ap₂ (λ (b : Bool) (t : List ℤ). if b then t else a.table.now)

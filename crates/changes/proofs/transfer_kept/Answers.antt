@@ -19,20 +19,20 @@ change s = let a = s.args in transfer_change a.case a.edge a.end a.value a.amoun
 abbrev stays : (s : Start) → Bool
 stays s = let a = s.args in stays_working (rules_of a.case) a.case a.table.now (change s)
 
-pub returns-in-Refused : goal.returns-in-Refused
-returns-in-Refused c =
+pub returns-in-Err : goal.returns-in-Err
+returns-in-Err c =
     let a = c.args in
     let r = rw (to_z-of_z c.ranges.amount) at c.transfer_checked-made.ensures in
-    kept-refused a.case a.table.now a.best.now (change (goal.at.returns-in-Refused c).Start) (stays (goal.at.returns-in-Refused c).Start) (sym c.in-Refused.is ∙ r.value) r.table_after
+    kept-refused a.case a.table.now a.best.now (change (goal.at.returns-in-Err c).Start) (stays (goal.at.returns-in-Err c).Start) (sym c.in-Err.is ∙ r.value) r.table_after
 
-pub returns-in-Done : goal.returns-in-Done
-returns-in-Done c =
+pub returns-in-Ok : goal.returns-in-Ok
+returns-in-Ok c =
     let a = c.args in
     let r = rw (to_z-of_z c.ranges.amount) at c.transfer_checked-made.ensures in
     let t = c.transfer_checked-made.new.table in
     let x = a.case.n + a.edge in
-    kept-done a.case a.table.now a.best.now (change (goal.at.returns-in-Done c).Start) (stays (goal.at.returns-in-Done c).Start) (sym c.in-Done.is ∙ r.value) r.table_after
-    (λ d. c.keep_greatest-in-Done.ensures
+    kept-done a.case a.table.now a.best.now (change (goal.at.returns-in-Ok c).Start) (stays (goal.at.returns-in-Ok c).Start) (sym c.in-Ok.is ∙ r.value) r.table_after
+    (λ d. c.keep_greatest-in-Ok.ensures
     ∙ ap (λ (b : List ℤ). set b x (greatest a.case t x))
     (c.keep_greatest.ensures ∙ ap (λ (x : ℕ). set a.best.now x (greatest a.case t x)) c.end_variable.ensures)
     ∙ transfer-best a.case a.edge a.end a.value a.amount a.table.now a.best.now c.requires.limited.2 c.requires.edge_lt_m.0 c.requires.edge_lt_m.3 d)

@@ -1,10 +1,11 @@
+use Rattle.std.specs.Prelude.{Result, Ok, ℤ}
+use Rattle.definitions.specs.declared.Refusal.{Refusal}
 use mathlib.Core.Path.{◌≡◌, sym, ◌∙◌}
 use Prim.Native.Nat.{ℕ}
 use native.Mathlib.Omega.{arith}
 use mir.Syntax.{w64}
 use borrow.Author.Rules.{rules}
 use Rattle.integers.specs.Linear.{read_back}
-use Rattle.definitions.specs.declared.Figure.{Figure}
 use Rattle.definitions.specs.Engine.{least_gap}
 use Rattle.gaps.specs.Gaps.{else_no_gap}
 use Rattle.gaps.proofs.Amounts.{gap-answer}
@@ -12,20 +13,20 @@ use Rattle.engine.proofs.least_gap.Goals as goal
 use Rattle.engine.proofs.least_gap.Goals.{After-least_gap-gap}
 
 -- the answer is the least gap
-answered : (c : After-least_gap-gap) {f : Figure} → c.least_gap-gap.result ≡ f → let a = c.args in
-    f ≡ Figure.Value (else_no_gap (least_gap a.case a.table.now a.variable))
+answered : (c : After-least_gap-gap) {f : Result ℤ Refusal} → c.least_gap-gap.result ≡ f → let a = c.args in
+    f ≡ Ok (else_no_gap (least_gap a.case a.table.now a.variable))
 answered c e =
     let p = c.requires in
     sym e ∙ c.least_gap-gap.ensures ∙ gap-answer p.handed p.greatest-held c.args.raised.now c.args.variable p.which p.kept p.room
 
-pub returns-in-Value : goal.returns-in-Value
-returns-in-Value c =
-    let e = answered (goal.at.returns-in-Value c).After-least_gap-gap c.in-Value.is in
-    let d : c.in-Value.amount ≡ else_no_gap (least_gap c.args.case c.args.table.now c.args.variable) = cc in
-    read_back w64 c.in-Value.amount (search rules) ∙ d
+pub returns-in-Ok : goal.returns-in-Ok
+returns-in-Ok c =
+    let e = answered (goal.at.returns-in-Ok c).After-least_gap-gap c.in-Ok.is in
+    let d : c.in-Ok.amount ≡ else_no_gap (least_gap c.args.case c.args.table.now c.args.variable) = cc in
+    read_back w64 c.in-Ok.amount (search rules) ∙ d
 
-pub returns-in-Refused : goal.returns-in-Refused
-returns-in-Refused c =
-    let e = answered (goal.at.returns-in-Refused c).After-least_gap-gap c.in-Refused.is in
+pub returns-in-Err : goal.returns-in-Err
+returns-in-Err c =
+    let e = answered (goal.at.returns-in-Err c).After-least_gap-gap c.in-Err.is in
     let u : ◌≡◌ {A = ℕ} 0 1 = cc in
     absurd (omega arith)

@@ -1,7 +1,7 @@
+use Rattle.std.specs.Prelude.{Option, ℕ}
 use mathlib.Core.Path.{◌≡◌, subst}
 use native.Mathlib.Omega.{arith}
 use Rattle.tables.proofs.Answered.{limits-known}
-use Rattle.choice.specs.declared.Chosen.{Chosen}
 use Rattle.engine.specs.Search.{FoundIs}
 use Rattle.engine.proofs.Raising.{ones-raised}
 use Rattle.engine.proofs.Runs.{nothing-made}
@@ -9,7 +9,7 @@ use Rattle.engine.proofs.Pairs.{next-settled}
 use Rattle.engine.proofs.press_next.Goals as goal
 use Rattle.engine.proofs.press_next.Goals.{After-search-found}
 
-found-is : (c : After-search-found) → {r : Chosen} → c.search-found.result ≡ r → FoundIs c.args.case c.args.table.now c.search-found.new.raised r
+found-is : (c : After-search-found) → {r : Option ℕ} → c.search-found.result ≡ r → FoundIs c.args.case c.args.table.now c.search-found.new.raised r
 found-is c e =
     let a = c.args in
     subst (FoundIs a.case a.table.now c.search-found.new.raised) e
@@ -18,7 +18,7 @@ found-is c e =
 
 pub press_or_void-requires : goal.press_or_void-requires
 press_or_void-requires c =
-    let (which, kept) = found-is (goal.at.press_or_void-requires c).After-search-found c.in-Variable.is in (
+    let (which, kept) = found-is (goal.at.press_or_void-requires c).After-search-found c.in-Some.is in (
       record {
         handed = c.requires.handed.0;
         greatest-held = c.requires.handed.1;

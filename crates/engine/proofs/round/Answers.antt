@@ -6,12 +6,12 @@ use Rattle.engine.proofs.round.Goals as goal
 pub first_round-requires : goal.first_round-requires
 first_round-requires c =
     let a = c.args in
-    let h = asked-done false a.case a.table.now a.out.now (sym c.in-Done.is
+    let h = asked-done false a.case a.table.now a.out.now (sym c.in-Ok.is
     ∙ c.check_round-checked.ensures) in record { handed = h.0; case_in_bounds = h.1 }
 
-pub returns-in-Refused : goal.returns-in-Refused
-returns-in-Refused c =
+pub returns-in-Err : goal.returns-in-Err
+returns-in-Err c =
     let a = c.args in
     let m = asked-refused false a.case a.table.now a.out.now
-    (sym c.in-Refused.is ∙ c.check_round-checked.ensures) in
+    (sym c.in-Err.is ∙ c.check_round-checked.ensures) in
     (m.answer, m.table, m.output)

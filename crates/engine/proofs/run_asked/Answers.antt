@@ -5,11 +5,11 @@ use Rattle.engine.proofs.run_asked.Goals as goal
 pub run_from-requires : goal.run_from-requires
 run_from-requires c =
     let a = c.args in
-    let h = asked-done a.pairs a.case a.table.now a.out.now (sym c.in-Done.is
+    let h = asked-done a.pairs a.case a.table.now a.out.now (sym c.in-Ok.is
     ∙ c.check_round-checked.ensures) in record { handed = h.0; case_in_bounds = h.1 }
 
-pub returns-in-Refused : goal.returns-in-Refused
-returns-in-Refused c =
+pub returns-in-Err : goal.returns-in-Err
+returns-in-Err c =
     let a = c.args in
-    run-is-refused a.pairs a.case a.table.now a.out.now a.limit (sym c.in-Refused.is
+    run-is-refused a.pairs a.case a.table.now a.out.now a.limit (sym c.in-Err.is
     ∙ c.check_round-checked.ensures)

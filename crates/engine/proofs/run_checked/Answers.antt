@@ -1,3 +1,5 @@
+use Rattle.std.specs.Prelude.{Result}
+use Rattle.definitions.specs.declared.Refusal.{Refusal}
 use mathlib.Core.Path.{◌≡◌, refl, subst, ◌∙◌}
 use Prim.Native.Nat.{◌≤◌}
 use native.Mathlib.Omega.{arith}
@@ -16,7 +18,7 @@ use Rattle.engine.proofs.run_checked.Goals.{After-round_checked-made, At-loop-do
 room : (c : At-loop-done) → round_bytes (rules_of c.args.case) c.args.case ≤ length c.loop-done.out
 room c = omega (arith, c.requires.case_in_bounds, c.loop-done.invariant.1.outs)
 
-did : (c : After-round_checked-made) → {r : Round} → c.round_checked-made.result ≡ r
+did : (c : After-round_checked-made) → {r : Result Round Refusal} → c.round_checked-made.result ≡ r
     → MadeRound c.args.pairs c.args.case c.loop-done.table c.loop-done.out c.round_checked-made.new.table
     c.round_checked-made.new.out r
 did c e =
@@ -57,18 +59,18 @@ returns-in-Settled c =
     c.loop-done-test.true
     (did (goal.at.returns-in-Settled c).After-round_checked-made c.in-Settled.is))
 
-pub stop_run-requires-in-Refused : goal.stop_run-requires-in-Refused
-stop_run-requires-in-Refused c =
-    (still-refused c.loop-done.invariant.2 (room (goal.at.stop_run-requires-in-Refused c).At-loop-done) (did (goal.at.stop_run-requires-in-Refused c).After-round_checked-made c.in-Refused.is), c.round_checked-made.ensures.1)
+pub stop_run-requires-in-Err : goal.stop_run-requires-in-Err
+stop_run-requires-in-Err c =
+    (still-refused c.loop-done.invariant.2 (room (goal.at.stop_run-requires-in-Err c).At-loop-done) (did (goal.at.stop_run-requires-in-Err c).After-round_checked-made c.in-Err.is), c.round_checked-made.ensures.1)
 
-pub returns-in-Refused : goal.returns-in-Refused
-returns-in-Refused c =
+pub returns-in-Err : goal.returns-in-Err
+returns-in-Err c =
     let a = c.args in
     let l = c.loop-done in
-    rw c.stop_run-in-Refused.ensures
-    (run-leaves a.pairs a.case a.limit a.table.now a.out.now l.done l.table l.out l.invariant.2 (room (goal.at.returns-in-Refused c).At-loop-done) l.invariant.4
+    rw c.stop_run-in-Err.ensures
+    (run-leaves a.pairs a.case a.limit a.table.now a.out.now l.done l.table l.out l.invariant.2 (room (goal.at.returns-in-Err c).At-loop-done) l.invariant.4
     c.loop-done-test.true
-    (did (goal.at.returns-in-Refused c).After-round_checked-made c.in-Refused.is))
+    (did (goal.at.returns-in-Err c).After-round_checked-made c.in-Err.is))
 
 pub stop_run-requires-in-Void : goal.stop_run-requires-in-Void
 stop_run-requires-in-Void c =

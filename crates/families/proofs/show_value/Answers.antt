@@ -59,10 +59,10 @@ returns-in-Nothing c =
     shown-none a.case a.table.now c.requires.handed a.variable c.requires.in-range _ _ (marks-known (goal.at.returns-in-Nothing c).After-active_marks) a.family.now a.partners.now _
     c.lowest_supported-found.ensures.0 c.in-Nothing.is
 
-pub returns-in-At : goal.returns-in-At
-returns-in-At c =
+pub returns-in-Some : goal.returns-in-Some
+returns-in-Some c =
     let a = c.args in
-    let r = shown-some a.case a.table.now c.requires.handed a.variable c.requires.in-range _ _ (marks-known (goal.at.returns-in-At c).After-active_marks) a.family.now a.partners.now _
-    c.lowest_supported-found.ensures.0 _ c.in-At.is _ _ _ (c.lowest_supported-found.ensures.1 _ c.in-At.is)
+    let r = shown-some a.case a.table.now c.requires.handed a.variable c.requires.in-range _ _ (marks-known (goal.at.returns-in-Some c).After-active_marks) a.family.now a.partners.now _
+    c.lowest_supported-found.ensures.0 _ c.in-Some.is _ _ _ (c.lowest_supported-found.ensures.1 _ c.in-Some.is)
     c.write_family.ensures c.write_partners.ensures in
     (c.figure_of.ensures ∙ r.0, r.1, r.2)

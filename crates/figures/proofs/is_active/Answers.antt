@@ -19,18 +19,18 @@ asked c = rw c.tuple_out.ensures at c.check_working-checked.ensures
 
 pub has_greatest-requires : goal.has_greatest-requires
 has_greatest-requires c = let a = c.args in
-    let k = known a.case a.table.now false (tuple_out a.case a.scope a.k a.l) (sym c.in-Done.is ∙ asked (goal.at.has_greatest-requires c).After-check_working-checked) in
+    let k = known a.case a.table.now false (tuple_out a.case a.scope a.k a.l) (sym c.in-Ok.is ∙ asked (goal.at.has_greatest-requires c).After-check_working-checked) in
     record { handed = k.0; x_bound = tuple-known k.0 a.scope a.k a.l k.2 }
 
-pub returns-in-Refused : goal.returns-in-Refused
+pub returns-in-Err : goal.returns-in-Err
 unfolding is_active_answer
-returns-in-Refused c = let a = c.args in
+returns-in-Err c = let a = c.args in
     verdict-refused a.case a.table.now false (tuple_out a.case a.scope a.k a.l) (active a.case a.table.now a.scope a.k a.l)
-    (sym c.in-Refused.is ∙ asked (goal.at.returns-in-Refused c).After-check_working-checked)
+    (sym c.in-Err.is ∙ asked (goal.at.returns-in-Err c).After-check_working-checked)
 
-pub returns-in-Done : goal.returns-in-Done
+pub returns-in-Ok : goal.returns-in-Ok
 unfolding is_active_answer
-returns-in-Done c = let a = c.args in
+returns-in-Ok c = let a = c.args in
     c.has_greatest.ensures
     ∙ verdict-given a.case a.table.now false (tuple_out a.case a.scope a.k a.l) (active a.case a.table.now a.scope a.k a.l)
-    (sym c.in-Done.is ∙ asked (goal.at.returns-in-Done c).After-check_working-checked)
+    (sym c.in-Ok.is ∙ asked (goal.at.returns-in-Ok c).After-check_working-checked)

@@ -1,3 +1,4 @@
+use Rattle.std.specs.Prelude.{Ok}
 use mathlib.Core.Path.{◌≡◌, sym, ap, ◌∙◌}
 use mathlib.Core.Bool.{Bool, not, ◌||◌}
 use mathlib.Core.List.{List}
@@ -7,7 +8,6 @@ use mir.Syntax.{w64}
 use Rattle.integers.specs.Linear.{read_back}
 use Rattle.integers.specs.Tests.{and_intro, not-or-iff}
 use Rattle.definitions.specs.declared.Case.{Case}
-use Rattle.definitions.specs.declared.Figure.{Figure}
 use Rattle.definitions.specs.Rules.{rules_of}
 use Rattle.definitions.specs.Case.{objective, is_assignment, uses_barred}
 use Rattle.definitions.specs.Refusals.{first_refusal}
@@ -41,21 +41,21 @@ pub sum_of_used-requires : goal.sum_of_used-requires
 sum_of_used-requires c = let a = c.args in
     let w = a.table.now in
     let p = a.assignment.now in
-    let (h, right, inside) = known a.case w (wrong_assignment a.case p) (out a.case w p) (sym c.in-Done.is ∙ asked (goal.at.sum_of_used-requires c).After-check_working-checked) in
+    let (h, right, inside) = known a.case w (wrong_assignment a.case p) (out a.case w p) (sym c.in-Ok.is ∙ asked (goal.at.sum_of_used-requires c).After-check_working-checked) in
     let (values, free) = (not-or-iff (value_out a.case p) (uses_barred a.case w p)).0 inside in
     record { handed = h; t = and_intro (is_assignment a.case p) (not (uses_barred a.case w p)) ((lent-assignment a.case p).0 (right, values)) free }
 
-pub returns-in-Refused : goal.returns-in-Refused
+pub returns-in-Err : goal.returns-in-Err
 unfolding objective_answer
-returns-in-Refused c = let a = c.args in
+returns-in-Err c = let a = c.args in
     let w = a.table.now in
     let p = a.assignment.now in
-    figure-refused a.case w (wrong_assignment a.case p) (out a.case w p) (objective a.case w p) (sym c.in-Refused.is ∙ asked (goal.at.returns-in-Refused c).After-check_working-checked)
+    figure-refused a.case w (wrong_assignment a.case p) (out a.case w p) (objective a.case w p) (sym c.in-Err.is ∙ asked (goal.at.returns-in-Err c).After-check_working-checked)
 
-pub returns-in-Done : goal.returns-in-Done
+pub returns-in-Ok : goal.returns-in-Ok
 unfolding objective_answer
-returns-in-Done c = let a = c.args in
+returns-in-Ok c = let a = c.args in
     let w = a.table.now in
     let p = a.assignment.now in
-    ap Figure.Value (read_back w64 c.sum_of_used.result c.sum_of_used.type_inv ∙ c.sum_of_used.ensures)
-    ∙ figure-given a.case w (wrong_assignment a.case p) (out a.case w p) (objective a.case w p) (sym c.in-Done.is ∙ asked (goal.at.returns-in-Done c).After-check_working-checked)
+    ap Ok (read_back w64 c.sum_of_used.result c.sum_of_used.type_inv ∙ c.sum_of_used.ensures)
+    ∙ figure-given a.case w (wrong_assignment a.case p) (out a.case w p) (objective a.case w p) (sym c.in-Ok.is ∙ asked (goal.at.returns-in-Ok c).After-check_working-checked)

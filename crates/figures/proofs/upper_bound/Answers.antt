@@ -5,14 +5,14 @@ use Rattle.calls.specs.Calls.{upper_bound_answer}
 use Rattle.tables.proofs.Answered.{figure-refused, figure-given, known, greatest-sum-known}
 use Rattle.figures.proofs.upper_bound.Goals as goal
 
-pub returns-in-Refused : goal.returns-in-Refused
+pub returns-in-Err : goal.returns-in-Err
 unfolding upper_bound_answer
-returns-in-Refused c = figure-refused c.args.case c.args.table.now false false (upper_bound c.args.case c.args.table.now)
-    (sym c.in-Refused.is ∙ c.check_working-checked.ensures)
+returns-in-Err c = figure-refused c.args.case c.args.table.now false false (upper_bound c.args.case c.args.table.now)
+    (sym c.in-Err.is ∙ c.check_working-checked.ensures)
 
-pub returns-in-Done : goal.returns-in-Done
+pub returns-in-Ok : goal.returns-in-Ok
 unfolding upper_bound_answer
-returns-in-Done c = let w = c.args.table.now in
-    let d = sym c.in-Done.is ∙ c.check_working-checked.ensures in
+returns-in-Ok c = let w = c.args.table.now in
+    let d = sym c.in-Ok.is ∙ c.check_working-checked.ensures in
     c.sum_of_greatest.ensures ∙ greatest-sum-known (known c.args.case w false false d).0
     ∙ figure-given c.args.case w false false (upper_bound c.args.case w) d

@@ -1,8 +1,8 @@
+use Rattle.std.specs.Prelude.{Ok}
 use mathlib.Core.Path.{◌≡◌, sym, ◌∙◌}
 use mathlib.Core.Bool.{false}
 use mathlib.Core.List.{◌∷◌}
 use lib.Seq.{length-take-le}
-use Rattle.definitions.specs.declared.Outcome.{Outcome}
 use Rattle.definitions.specs.Rules.{rules_of}
 use Rattle.definitions.specs.Refusals.{first_refusal}
 use Rattle.definitions.specs.Answers.{outcome_of}
@@ -11,28 +11,28 @@ use Rattle.theory.proofs.Shape.{Shape}
 use Rattle.tables.specs.Scopes.{Limited}
 use Rattle.graphs.proofs.Checked.{checked, acyclic-refused, acyclic-given}
 use Rattle.graphs.proofs.is_acyclic.Goals as goal
-use Rattle.graphs.proofs.is_acyclic.Goals.{In-Done}
+use Rattle.graphs.proofs.is_acyclic.Goals.{In-Ok}
 
 -- no number applies
-done : (c : In-Done) → let a = c.args in
-    Outcome.Done ≡ outcome_of (first_refusal (limit_test (rules_of a.case) a.case ∷ edge_tests (rules_of a.case) a.case false))
-done c = sym c.in-Done.is ∙ c.check_edges-checked.ensures
+done : (c : In-Ok) → let a = c.args in
+    Ok tt ≡ outcome_of (first_refusal (limit_test (rules_of a.case) a.case ∷ edge_tests (rules_of a.case) a.case false))
+done c = sym c.in-Ok.is ∙ c.check_edges-checked.ensures
 
-known : (c : In-Done) → let a = c.args in Shape a.case × Limited a.case
+known : (c : In-Ok) → let a = c.args in Shape a.case × Limited a.case
 known c = checked c.args.case (done c)
 
 pub join_edges-requires : goal.join_edges-requires
 join_edges-requires c =
-    let (shape, limits) = known (goal.at.join_edges-requires c).In-Done in
+    let (shape, limits) = known (goal.at.join_edges-requires c).In-Ok in
     record { shape = shape; limited = limits; labels_len = length-take-le _ _ limits.variables-placed }
 
-pub returns-in-Refused : goal.returns-in-Refused
-returns-in-Refused c = acyclic-refused c.args.case (sym c.in-Refused.is ∙ c.check_edges-checked.ensures)
+pub returns-in-Err : goal.returns-in-Err
+returns-in-Err c = acyclic-refused c.args.case (sym c.in-Err.is ∙ c.check_edges-checked.ensures)
 
 pub returns-then-join_edges : goal.returns-then-join_edges
 returns-then-join_edges c =
-    acyclic-given c.args.case (done (goal.at.returns-then-join_edges c).In-Done) (sym c.if-join_edges.true ∙ c.join_edges.ensures)
+    acyclic-given c.args.case (done (goal.at.returns-then-join_edges c).In-Ok) (sym c.if-join_edges.true ∙ c.join_edges.ensures)
 
 pub returns-else-join_edges : goal.returns-else-join_edges
 returns-else-join_edges c =
-    acyclic-given c.args.case (done (goal.at.returns-else-join_edges c).In-Done) (sym c.if-join_edges.false ∙ c.join_edges.ensures)
+    acyclic-given c.args.case (done (goal.at.returns-else-join_edges c).In-Ok) (sym c.if-join_edges.false ∙ c.join_edges.ensures)

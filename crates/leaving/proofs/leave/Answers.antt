@@ -25,14 +25,14 @@ checked c =
 pub leave_checked-requires : goal.leave_checked-requires
 leave_checked-requires c = let a = c.args in
     let h = leave-known a.case a.starting.now a.table.now a.variable c.if-case-le1.false
-    (sym c.in-Done.is ∙ checked (goal.at.leave_checked-requires c).After-check_both-answer) in
+    (sym c.in-Ok.is ∙ checked (goal.at.leave_checked-requires c).After-check_both-answer) in
     record { both_handed = h.0; variable_lt_n = (h.1, c.if-case-le1.false) }
 
-pub returns-in-Refused : goal.returns-in-Refused
-returns-in-Refused c = let a = c.args in
-    leave-refused a.case a.starting.now a.table.now a.variable c.if-case-le1.false (sym c.in-Refused.is ∙ checked (goal.at.returns-in-Refused c).After-check_both-answer)
+pub returns-in-Err : goal.returns-in-Err
+returns-in-Err c = let a = c.args in
+    leave-refused a.case a.starting.now a.table.now a.variable c.if-case-le1.false (sym c.in-Err.is ∙ checked (goal.at.returns-in-Err c).After-check_both-answer)
 
-pub returns-in-Done : goal.returns-in-Done
-returns-in-Done c = let a = c.args in
+pub returns-in-Ok : goal.returns-in-Ok
+returns-in-Ok c = let a = c.args in
     let e = c.leave_checked.ensures in
-    leave-done a.case a.starting.now a.table.now a.variable c.if-case-le1.false (sym c.in-Done.is ∙ checked (goal.at.returns-in-Done c).After-check_both-answer) _ _ _ e.0 e.1 e.2
+    leave-done a.case a.starting.now a.table.now a.variable c.if-case-le1.false (sym c.in-Ok.is ∙ checked (goal.at.returns-in-Ok c).After-check_both-answer) _ _ _ e.0 e.1 e.2

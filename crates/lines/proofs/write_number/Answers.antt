@@ -1,10 +1,10 @@
+use Rattle.std.specs.Prelude.{Ok}
 use mathlib.Core.Path.{◌≡◌, sym, ap, ◌∙◌}
 use Prim.Native.Nat.{◌-◌}
 use native.Mathlib.Omega.{arith}
 use lib.IntN.{ℤ}
 use lib.Seq.{length-take-le}
 use lib.ListN.{length, take}
-use Rattle.definitions.specs.declared.Written.{Written}
 use Rattle.definitions.specs.Lines.{number_text, column_text}
 use Rattle.lines.proofs.Answers.{number_short, number-done}
 use Rattle.lines.proofs.Signs.{same}
@@ -35,4 +35,4 @@ returns c =
     let p = sym (number-done c.args.out.now c.args.z (rw (text-is (goal.at.returns c).After-text_length-n) at c.if-out-n.false)) in
     let put : c.put_column.new.out ≡ number_text c.args.z = c.put_column.ensures
     ∙ rw (part-is (goal.at.returns c).Else-out-n, same c.args.z c.ranges.z) (exact c.args.z) in
-    (ap Written.Bytes (text-is (goal.at.returns c).After-text_length-n) ∙ ap (λ r. r.answer) p, rw (put, text-is (goal.at.returns c).After-text_length-n) (ap (λ r. r.out) p))
+    (ap Ok (text-is (goal.at.returns c).After-text_length-n) ∙ ap (λ r. r.answer) p, rw (put, text-is (goal.at.returns c).After-text_length-n) (ap (λ r. r.out) p))

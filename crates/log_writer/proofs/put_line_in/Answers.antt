@@ -6,7 +6,7 @@ use Rattle.definitions.specs.Lines.{line_length}
 use Rattle.log_writer.specs.Writers.{put_of}
 use Rattle.log_writer.proofs.Puts.{put-past, put_refused, done-room, put-done}
 use Rattle.log_writer.proofs.put_line_in.Goals as goal
-use Rattle.log_writer.proofs.put_line_in.Goals.{In-Done}
+use Rattle.log_writer.proofs.put_line_in.Goals.{In-Ok}
 
 pub returns-then-out-at : goal.returns-then-out-at
 returns-then-out-at c =
@@ -15,26 +15,26 @@ returns-then-out-at c =
     (ap put_of p, ap (λ r. r.out) p)
 
 -- the line had room
-room : (c : In-Done) → let a =
+room : (c : In-Ok) → let a =
     c.args in a.at + line_length a.width ≤ length a.out.now
 room c =
     let a = c.args in
-    done-room a.width a.out.now a.at a.line c.if-out-at.false (sym c.in-Done.is ∙ c.write_line_in-answer.ensures.0)
+    done-room a.width a.out.now a.at a.line c.if-out-at.false (sym c.in-Ok.is ∙ c.write_line_in-answer.ensures.0)
 
 pub overflow_add-result : goal.overflow_add-result
 overflow_add-result c = record { fits = omega (arith, room c) }
 
-pub overflow_add-result-in-Done : goal.overflow_add-result-in-Done
-overflow_add-result-in-Done c = record { fits = omega (arith, room c) }
+pub overflow_add-result-in-Ok : goal.overflow_add-result-in-Ok
+overflow_add-result-in-Ok c = record { fits = omega (arith, room c) }
 
-pub returns-in-Refused : goal.returns-in-Refused
-returns-in-Refused c =
+pub returns-in-Err : goal.returns-in-Err
+returns-in-Err c =
     let a = c.args in
     put_refused a.width a.out.now a.at a.line c.if-out-at.false c.write_line_in-answer.new.out
-    (sym c.in-Refused.is ∙ c.write_line_in-answer.ensures.0) c.write_line_in-answer.ensures.1
+    (sym c.in-Err.is ∙ c.write_line_in-answer.ensures.0) c.write_line_in-answer.ensures.1
 
-pub returns-in-Done : goal.returns-in-Done
-returns-in-Done c =
+pub returns-in-Ok : goal.returns-in-Ok
+returns-in-Ok c =
     let a = c.args in
     put-done a.width a.out.now a.at a.line c.if-out-at.false c.write_line_in-answer.new.out
-    (sym c.in-Done.is ∙ c.write_line_in-answer.ensures.0) c.write_line_in-answer.ensures.1
+    (sym c.in-Ok.is ∙ c.write_line_in-answer.ensures.0) c.write_line_in-answer.ensures.1

@@ -30,18 +30,18 @@ pub press_checked-requires : goal.press_checked-requires
 press_checked-requires c =
     let a = c.args in
     let k = known a.case a.table.now false (press_out (rules_of a.case) a.case a.variable a.raised.now a.amount)
-    (sym c.in-Done.is ∙ asked (goal.at.press_checked-requires c).After-check_working-checked) in
+    (sym c.in-Ok.is ∙ asked (goal.at.press_checked-requires c).After-check_working-checked) in
     let q = press-in a.case a.table.now a.variable a.raised.now a.amount k.2 in
     record { handed = k.0; variable_lt_n = q.0; t = rw (to_z-of_z c.ranges.amount) q.1 }
 
-pub returns-in-Refused : goal.returns-in-Refused
-returns-in-Refused c =
+pub returns-in-Err : goal.returns-in-Err
+returns-in-Err c =
     let a = c.args in
-    press-refused a.case a.table.now a.variable a.raised.now a.amount (sym c.in-Refused.is ∙ asked (goal.at.returns-in-Refused c).After-check_working-checked)
+    press-refused a.case a.table.now a.variable a.raised.now a.amount (sym c.in-Err.is ∙ asked (goal.at.returns-in-Err c).After-check_working-checked)
 
-pub returns-in-Done : goal.returns-in-Done
-returns-in-Done c =
+pub returns-in-Ok : goal.returns-in-Ok
+returns-in-Ok c =
     let a = c.args in
     let r = rw (to_z-of_z c.ranges.amount) at c.press_checked.ensures in
-    let n = press-next a.case a.table.now a.variable a.raised.now a.amount (sym c.in-Done.is ∙ asked (goal.at.returns-in-Done c).After-check_working-checked) in
+    let n = press-next a.case a.table.now a.variable a.raised.now a.amount (sym c.in-Ok.is ∙ asked (goal.at.returns-in-Ok c).After-check_working-checked) in
     (r.value ∙ n.0, r.table_after ∙ n.1)

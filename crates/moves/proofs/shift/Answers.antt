@@ -24,14 +24,14 @@ asked : (c : After-check_working-checked) → let a = c.args in
     (shift_out (rules_of a.case) a.case a.edge a.end a.value a.amount)))
 asked c = rw (c.transfer_out-out.ensures, to_z-of_z c.ranges.amount) at c.check_working-checked.ensures
 
-pub returns-in-Refused : goal.returns-in-Refused
-returns-in-Refused c = let a = c.args in
-    shift-refused a.case a.table.now a.edge a.end a.value a.amount (sym c.in-Refused.is ∙ asked (goal.at.returns-in-Refused c).After-check_working-checked)
+pub returns-in-Err : goal.returns-in-Err
+returns-in-Err c = let a = c.args in
+    shift-refused a.case a.table.now a.edge a.end a.value a.amount (sym c.in-Err.is ∙ asked (goal.at.returns-in-Err c).After-check_working-checked)
 
-pub returns-in-Done : goal.returns-in-Done
-returns-in-Done c =
+pub returns-in-Ok : goal.returns-in-Ok
+returns-in-Ok c =
     let a = c.args in
-    let d = sym c.in-Done.is ∙ asked (goal.at.returns-in-Done c).After-check_working-checked in
+    let d = sym c.in-Ok.is ∙ asked (goal.at.returns-in-Ok c).After-check_working-checked in
     let (h, right, inside) = known a.case a.table.now false (shift_out (rules_of a.case) a.case a.edge a.end a.value a.amount) d in
     let few : scope_count a.case ≤ scope_places = omega (arith, limits-known h) in
     let r = rw (to_z-of_z c.ranges.amount) at c.transfer.ensures in

@@ -1,3 +1,5 @@
+use Rattle.std.specs.Prelude.{Result, Ok}
+use Rattle.definitions.specs.declared.Refusal.{Refusal}
 use mathlib.Core.Path.{◌≡◌, sym, ◌∙◌}
 use mathlib.Core.List.{List}
 use Prim.Native.Nat.{ℕ}
@@ -6,7 +8,6 @@ use lib.IntN.{ℤ}
 use mir.Syntax.{w64}
 use mir.Val.{to_z, of_z}
 use Rattle.integers.specs.Linear.{read_back}
-use Rattle.definitions.specs.declared.Figure.{Figure}
 use Rattle.definitions.specs.Rules.{rules_of}
 use Rattle.definitions.specs.Case.{upper_bound}
 use Rattle.definitions.specs.Valid.{working_weight}
@@ -18,34 +19,34 @@ use Rattle.pair_rounds.proofs.put_bound.Goals as goal
 use Rattle.pair_rounds.proofs.put_bound.Goals.{After-bound_line, After-sum_of_best-sum}
 
 -- the sum is the upper bound
-summed : (c : After-sum_of_best-sum) {f : Figure} → c.sum_of_best-sum.result ≡ f → let a = c.args in
+summed : (c : After-sum_of_best-sum) {f : Result ℤ Refusal} → c.sum_of_best-sum.result ≡ f → let a = c.args in
     (v : List ℤ) → Handed (rules_of a.case) (working_weight (rules_of a.case)) a.case v → BestOf a.case v a.best.now
-    → f ≡ Figure.Value (upper_bound a.case v)
+    → f ≡ Ok (upper_bound a.case v)
 summed c e v h b = sym e ∙ c.sum_of_best-sum.ensures ∙ best-sum-known h b
 
 -- the bound, read back
 bound : (c : After-bound_line) → let a = c.args in
     (v : List ℤ) → Handed (rules_of a.case) (working_weight (rules_of a.case)) a.case v → BestOf a.case v a.best.now
-    → to_z w64 (of_z w64 c.in-Value.bound) ≡ upper_bound a.case v
+    → to_z w64 (of_z w64 c.in-Ok.bound) ≡ upper_bound a.case v
 bound c v h b =
-    let e = summed (goal.at.After-bound_line c).After-sum_of_best-sum c.in-Value.is v h b in
-    let d : c.in-Value.bound ≡ upper_bound c.args.case v = cc in
-    read_back w64 c.in-Value.bound c.in-Value.known_told-in-Value-1-own.given.0.1 ∙ d
+    let e = summed (goal.at.After-bound_line c).After-sum_of_best-sum c.in-Ok.is v h b in
+    let d : c.in-Ok.bound ≡ upper_bound c.args.case v = cc in
+    read_back w64 c.in-Ok.bound c.in-Ok.known_told-in-Ok-1-own.given.0.1 ∙ d
 
 pub put_line-bytes-requires : goal.put_line-bytes-requires
 put_line-bytes-requires c =
     let (v, h, b) = c.requires.held in
     (c.requires.case_in_bounds, rw (c.bound_line.ensures, bound c v h b) (bound-fits h))
 
-pub returns-in-Refused : goal.returns-in-Refused
-returns-in-Refused c v h b =
-    let e = summed (goal.at.returns-in-Refused c).After-sum_of_best-sum c.in-Refused.is v h b in
+pub returns-in-Err : goal.returns-in-Err
+returns-in-Err c v h b =
+    let e = summed (goal.at.returns-in-Err c).After-sum_of_best-sum c.in-Err.is v h b in
     let z : ◌≡◌ {A = ℕ} 0 1 = cc in
     absurd (omega arith)
 
-pub returns-in-Value : goal.returns-in-Value
-returns-in-Value c v h b =
-    let e = bound (goal.at.returns-in-Value c).After-bound_line v h b in
+pub returns-in-Ok : goal.returns-in-Ok
+returns-in-Ok c v h b =
+    let e = bound (goal.at.returns-in-Ok c).After-bound_line v h b in
     record {
       answer = rw (e, c.put_line-bytes.ensures.0);
       put = rw (c.bound_line.ensures, e) at c.put_line-bytes.ensures.1;

@@ -1,3 +1,5 @@
+use Rattle.std.specs.Prelude.{Result}
+use Rattle.definitions.specs.declared.Refusal.{Refusal}
 use mathlib.Core.Path.{◌≡◌, ap, ◌∙◌}
 use mathlib.Core.List.{List}
 use Prim.Native.Nat.{ℕ, ◌-◌}
@@ -28,7 +30,7 @@ pub run-printed-requires : goal.run-printed-requires
 run-printed-requires c =
     let filled = c.fill-filled.result.to in
     let input : List ℕ = take filled c.fill-filled.new.buf in
-    let size : CaseSize = case_size Desk input in
+    let size : (Result CaseSize Refusal) = case_size Desk input in
     let long : c.table_length-long.result - 0 ≡ length (table_for size) = omega (arith, c.table_length-long.ensures) in
     let count = length-take-le filled c.fill-filled.new.buf (c.fill-filled.ensures.fills.within (omega arith)) in (
       ap (λ (n : ℕ). take n c.weights-weights.result) long ∙ ap (take (length (table_for size))) c.weights-weights.ensures

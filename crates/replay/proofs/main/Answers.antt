@@ -1,3 +1,5 @@
+use Rattle.std.specs.Prelude.{Result}
+use Rattle.definitions.specs.declared.Refusal.{Refusal}
 use mathlib.Core.Path.{◌≡◌, ap, ◌∙◌}
 use Prim.Native.Nat.{ℕ, ◌-◌}
 use native.Mathlib.Omega.{arith}
@@ -16,7 +18,7 @@ text_of_input-part-requires c =
     let long = c.table_length-long.result in
     let filled = c.fill-filled.result.to in
     let buf = c.fill-filled.new.buf in
-    let size : CaseSize = case_size Desk (take filled buf) in
+    let size : (Result CaseSize Refusal) = case_size Desk (take filled buf) in
     let (is, most) = c.table_length-long.ensures in
     let all : filled - 0 ≡ filled = omega arith in
     let same : long ≡ length (table_for size) = is ∙ ap (λ (n : ℕ). length (table_for (case_size Desk (take n buf)))) all in

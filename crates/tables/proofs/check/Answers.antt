@@ -7,17 +7,17 @@ use Rattle.tables.proofs.check.Goals as goal
 
 pub weight_outcome-requires : goal.weight_outcome-requires
 weight_outcome-requires c = let a = c.args in
-    let k = front-known a.case (length a.table.now) a.wrong a.out (sym c.in-Done.is ∙ c.front_outcome-front.ensures) in
+    let k = front-known a.case (length a.table.now) a.wrong a.out (sym c.in-Ok.is ∙ c.front_outcome-front.ensures) in
     record { limited = k.0; table_len = k.1; barred_weight_lt_low = simp (to_z-of_z c.ranges.low) c.requires }
 
-pub returns-in-Refused : goal.returns-in-Refused
-returns-in-Refused c = let a = c.args in
+pub returns-in-Err : goal.returns-in-Err
+returns-in-Err c = let a = c.args in
     front-stops a.case (length a.table.now) a.wrong a.out (tuple_tests a.case a.table.now a.low a.high)
-    (sym c.in-Refused.is ∙ c.front_outcome-front.ensures)
+    (sym c.in-Err.is ∙ c.front_outcome-front.ensures)
 
-pub returns-in-Done : goal.returns-in-Done
-returns-in-Done c = let a = c.args in
+pub returns-in-Ok : goal.returns-in-Ok
+returns-in-Ok c = let a = c.args in
     let f = c.ranges in
     (simp (to_z-of_z f.low, to_z-of_z f.high) at c.weight_outcome.ensures)
     ∙ front-passes a.case (length a.table.now) a.wrong a.out (tuple_tests a.case a.table.now a.low a.high)
-    (sym c.in-Done.is ∙ c.front_outcome-front.ensures)
+    (sym c.in-Ok.is ∙ c.front_outcome-front.ensures)

@@ -1,3 +1,4 @@
+use Rattle.std.specs.Prelude.{Ok}
 use mathlib.Core.Path.{◌≡◌, sym, ap, ◌∙◌}
 use mathlib.Core.Bool.{false}
 use Prim.Native.Nat.{ℕ, ◌+◌, ◌<◌}
@@ -13,7 +14,6 @@ use borrow.Author.Tests.{not-true, not-false}
 use Rattle.integers.specs.Linear.{read_back}
 use Rattle.integers.specs.Tests.{true-is}
 use Rattle.integers.specs.Sums.{Σ}
-use Rattle.definitions.specs.declared.Figure.{Figure}
 use Rattle.definitions.specs.Rules.{rules_of, coherent}
 use Rattle.definitions.specs.Valid.{in_working, carry_out}
 use Rattle.tables.specs.Scopes.{best_at}
@@ -62,5 +62,5 @@ pub returns : goal.returns
 returns c = let l = c.loop-x in
     let a = c.args in
     let e : l.x ≡ a.case.n + a.case.m = omega arith in
-    ap Figure.Value (rw (e, carry-read (goal.at.returns c).After-struct_told-1) at l.invariant.2)
+    ap Ok (rw (e, carry-read (goal.at.returns c).After-struct_told-1) at l.invariant.2)
     ∙ sum-given a.case (best_at a.best.now) (carry-in (goal.at.returns c).Else-carry_out) (λ y h. l.invariant.1 y (omega arith))

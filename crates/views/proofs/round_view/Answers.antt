@@ -1,3 +1,5 @@
+use Rattle.std.specs.Prelude.{Result}
+use Rattle.definitions.specs.declared.RefusedAt.{RefusedAt}
 use mathlib.Core.Path.{◌≡◌, sym, ◌∙◌}
 use Prim.Native.Nat.{◌≤◌}
 use lib.ListN.{length}
@@ -7,18 +9,18 @@ use Rattle.definitions.specs.Rules.{rules_in}
 use Rattle.definitions.specs.Views.{round_span}
 use Rattle.views.proofs.Spans.{part-inside}
 use Rattle.views.proofs.round_view.Goals as goal
-use Rattle.views.proofs.round_view.Goals.{After-round_span-span, In-Part}
+use Rattle.views.proofs.round_view.Goals.{After-round_span-span, In-Ok}
 
 -- the span that was found is the round's
-found : (c : After-round_span-span) {x : Span} → c.round_span-span.result ≡ x → let a =
+found : (c : After-round_span-span) {x : Result Span RefusedAt} → c.round_span-span.result ≡ x → let a =
     c.args in x ≡ round_span (rules_in Desk) a.log.now a.round
 found c e = sym e ∙ c.round_span-span.ensures
 
-within : (c : In-Part) → (c.in-Part.from ≤ c.in-Part.to)
-    × (c.in-Part.to ≤ length c.args.log.now)
+within : (c : In-Ok) → (c.in-Ok.from ≤ c.in-Ok.to)
+    × (c.in-Ok.to ≤ length c.args.log.now)
 within c =
     let a = c.args in
-    part-inside (rules_in Desk).amount_width a.log.now a.round (sym (found (goal.at.In-Part c).After-round_span-span c.in-Part.is))
+    part-inside (rules_in Desk).amount_width a.log.now a.round (sym (found (goal.at.In-Ok c).After-round_span-span c.in-Ok.is))
 
 pub slice_bounds-result-count : goal.slice_bounds-result-count
 slice_bounds-result-count c = (within c).0

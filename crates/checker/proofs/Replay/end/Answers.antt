@@ -3,11 +3,11 @@ use Rattle.definitions.specs.Rules.{rules_of}
 use Rattle.checker.specs.Checker.{end_standing, end_replay}
 use Rattle.checker.proofs.Replay.end.Goals as goal
 
-pub returns-in-Refused : goal.returns-in-Refused
+pub returns-in-Err : goal.returns-in-Err
 unfolding end_replay
-returns-in-Refused c = let a = c.args in sym (ap (end_standing (rules_of a.case) a.case a.self) c.in-Refused.is)
+returns-in-Err c = let a = c.args in sym (ap (end_standing (rules_of a.case) a.case a.self) c.in-Err.is)
 
-pub returns-in-Good : goal.returns-in-Good
+pub returns-in-Ok : goal.returns-in-Ok
 unfolding end_replay
-returns-in-Good c = let a = c.args in
-    c.end_good.ensures ∙ sym (ap (end_standing (rules_of a.case) a.case a.self) c.in-Good.is)
+returns-in-Ok c = let a = c.args in
+    c.end_good.ensures ∙ sym (ap (end_standing (rules_of a.case) a.case a.self) c.in-Ok.is)

@@ -1,3 +1,4 @@
+use Rattle.std.specs.Prelude.{Ok}
 use mathlib.Core.Path.{◌≡◌, refl, sym, ap, ◌∙◌}
 use mathlib.Core.Bool.{not}
 use mathlib.Core.List.{List}
@@ -12,7 +13,6 @@ use Rattle.definitions.specs.Rules.{rules_of}
 use Rattle.definitions.specs.Valid.{working_weight}
 use Rattle.theory.proofs.Validity.{Handed}
 use Rattle.tables.proofs.Answered.{limits-known}
-use Rattle.definitions.specs.declared.Outcome.{Outcome}
 use Rattle.checker.specs.declared.Replay.{Replay}
 use Rattle.checker.specs.Checker.{BlockCall, record_out, step_replay, fold_replay}
 use Rattle.checker.specs.Taken.{good_replay, step_of, bytes_per_line, more_by}
@@ -52,7 +52,7 @@ step c =
     ≡ bytes_per_line (case c) = omega (arith, line-is (goal.at.After-good_line-taken c).After-progress_of-progress) in
     rw z at c.good_line-taken.ensures.table_after
 
-done : (c : After-good_line-taken) → (e : c.good_line-taken.result.answer ≡ Outcome.Done) → (more_by c.loop-from.done (fold_replay (rules_of (case c)) (case c) c.loop-from.table (before c) (drop c.loop-from.from (bytes c)))
+done : (c : After-good_line-taken) → (e : c.good_line-taken.result.answer ≡ Ok tt) → (more_by c.loop-from.done (fold_replay (rules_of (case c)) (case c) c.loop-from.table (before c) (drop c.loop-from.from (bytes c)))
     ≡ more_by (c.loop-from.done + 1)
     (fold_replay (rules_of (case c)) (case c) (table c) (good_replay c.good_line-taken.result.progress (raised c))
     (drop (bytes_per_line (case c)) (drop c.loop-from.from (bytes c)))))
@@ -60,12 +60,12 @@ done : (c : After-good_line-taken) → (e : c.good_line-taken.result.answer ≡ 
     × T (not (record_out (rules_of (case c)) (case c) (good_replay c.good_line-taken.result.progress (raised c))))
 done c e = turn-done (case c) c.loop-from.table (before c) (drop c.loop-from.from (bytes c)) (long c) c.good_line-taken.result (raised c) (table c) (step c) c.loop-from.done e
 
-pub returns-in-Refused : goal.returns-in-Refused
-returns-in-Refused c = let l = c.loop-from in let b = c.args in
-    let e = sym (turn-refused (case (goal.at.returns-in-Refused c).After-good_line-taken) l.table (before (goal.at.returns-in-Refused c).After-good_line-taken) (drop l.from (bytes (goal.at.returns-in-Refused c).After-good_line-taken)) (long (goal.at.returns-in-Refused c).After-good_line-taken) c.good_line-taken.result (raised (goal.at.returns-in-Refused c).After-good_line-taken) (table (goal.at.returns-in-Refused c).After-good_line-taken) (step (goal.at.returns-in-Refused c).After-good_line-taken)
-    l.done c.in-Refused.is)
+pub returns-in-Err : goal.returns-in-Err
+returns-in-Err c = let l = c.loop-from in let b = c.args in
+    let e = sym (turn-refused (case (goal.at.returns-in-Err c).After-good_line-taken) l.table (before (goal.at.returns-in-Err c).After-good_line-taken) (drop l.from (bytes (goal.at.returns-in-Err c).After-good_line-taken)) (long (goal.at.returns-in-Err c).After-good_line-taken) c.good_line-taken.result (raised (goal.at.returns-in-Err c).After-good_line-taken) (table (goal.at.returns-in-Err c).After-good_line-taken) (step (goal.at.returns-in-Err c).After-good_line-taken)
+    l.done c.in-Err.is)
     ∙ l.invariant.7
-    ∙ ap (λ (q : Replay). fold_replay (rules_of b.case) b.case b.table.now q b.bytes.now) (whole-record (goal.at.returns-in-Refused c).After-progress_of-progress) in
+    ∙ ap (λ (q : Replay). fold_replay (rules_of b.case) b.case b.table.now q b.bytes.now) (whole-record (goal.at.returns-in-Err c).After-progress_of-progress) in
     (rw c.record_of.ensures (ap (λ (x : BlockCall). x.block) e), ap (λ (x : BlockCall). x.table) e)
 
 pub raise_on-on-requires : goal.raise_on-on-requires

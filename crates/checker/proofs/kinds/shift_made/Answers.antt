@@ -1,5 +1,5 @@
+use Rattle.std.specs.Prelude.{None}
 use mathlib.Core.Path.{ap, ◌∙◌}
-use mathlib.Core.Option.{none}
 use lib.IntN.{pos, nat_abs}
 use mir.Syntax.{w64}
 use borrow.Author.Rules.{rules}
@@ -12,7 +12,7 @@ use Rattle.checker.proofs.kinds.shift_made.Goals as goal
 
 -- any record: a shift's numbers ask for none
 abbrev any : Replay
-any = fresh_of none (pos 0)
+any = fresh_of None (pos 0)
 
 pub index-edge-requires : goal.index-edge-requires
 index-edge-requires c = let a = c.args in

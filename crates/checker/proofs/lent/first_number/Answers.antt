@@ -5,17 +5,17 @@ use Rattle.checker.proofs.Front.{first-front}
 use Rattle.checker.proofs.Taking.{step-missing, step-line}
 use Rattle.checker.proofs.lent.first_number.Goals as goal
 
-pub returns-in-Refused : goal.returns-in-Refused
+pub returns-in-Err : goal.returns-in-Err
 unfolding step_replay
-returns-in-Refused c = λ w e. let a = c.args in
-    ap (step_standing (rules_of a.case) a.case w a.replay a.bytes.now) c.in-Refused.is
+returns-in-Err c = λ w e. let a = c.args in
+    ap (step_standing (rules_of a.case) a.case w a.replay a.bytes.now) c.in-Err.is
 
-pub returns-in-Refused-read : goal.returns-in-Refused-read
-returns-in-Refused-read c = λ w e. let a = c.args in
-    step-missing a.case a.bytes.now c.read_line-read.ensures w a.replay c.in_default.is c.in-Refused-read.is
+pub returns-in-Err-read : goal.returns-in-Err-read
+returns-in-Err-read c = λ w e. let a = c.args in
+    step-missing a.case a.bytes.now c.read_line-read.ensures w a.replay c.in_default.is c.in-Err-read.is
 
-pub returns-in-Read : goal.returns-in-Read
-returns-in-Read c = λ w e. let a = c.args in
-    step-line a.case a.bytes.now c.read_line-read.ensures w a.replay c.in_default.is c.in-Read.is
-    ∙ first-front a.case w a.replay c.in-Read.line
+pub returns-in-Ok : goal.returns-in-Ok
+returns-in-Ok c = λ w e. let a = c.args in
+    step-line a.case a.bytes.now c.read_line-read.ensures w a.replay c.in_default.is c.in-Ok.is
+    ∙ first-front a.case w a.replay c.in-Ok.line
     (c.line_number.ensures w (sym (ap (lent_standing (rules_of a.case) a.case w a.replay) c.in_default.is) ∙ e))

@@ -3,8 +3,7 @@ use mathlib.Core.Bool.{Bool}
 use Prim.Native.Nat.{◌+◌, ◌≤◌}
 use native.Mathlib.Omega.{arith}
 use lib.ListN.{length}
-use Rattle.std.specs.Prelude.{if◌then◌else◌}
-use Rattle.definitions.specs.declared.Verdict.{Verdict}
+use Rattle.std.specs.Prelude.{if◌then◌else◌, Ok, true, false}
 use Rattle.definitions.specs.Rules.{rules_of, edge_places}
 use Rattle.definitions.specs.Consistency.{all_refuted}
 use Rattle.definitions.specs.Moves.{active_values}
@@ -28,7 +27,7 @@ asked s =
 
 answer : (s : Start) → let a = s.args in
     values_unsupported_answer (rules_of a.case) a.case a.table.now a.best.now a.raised.now a.variable a.values
-    ≡ (if (asked s) then Verdict.Yes else Verdict.No)
+    ≡ (if (asked s) then Ok true else Ok false)
 answer s =
     let a = s.args in
     let h = s.requires.handed in
@@ -46,6 +45,6 @@ pub returns-in-No : goal.returns-in-No
 returns-in-No c =
     verdict-no (asked (goal.at.returns-in-No c).Start) (sym c.in-No.is ∙ c.values_unsupported-verdict.ensures ∙ answer (goal.at.returns-in-No c).Start)
 
-pub returns-in-Refused : goal.returns-in-Refused
-returns-in-Refused c =
-    verdict-neither (asked (goal.at.returns-in-Refused c).Start) (sym c.in-Refused.is ∙ c.values_unsupported-verdict.ensures ∙ answer (goal.at.returns-in-Refused c).Start)
+pub returns-in-Err : goal.returns-in-Err
+returns-in-Err c =
+    verdict-neither (asked (goal.at.returns-in-Err c).Start) (sym c.in-Err.is ∙ c.values_unsupported-verdict.ensures ∙ answer (goal.at.returns-in-Err c).Start)

@@ -1,6 +1,6 @@
+use Rattle.std.specs.Prelude.{Some}
 use mathlib.Core.Path.{◌≡◌, subst}
 use mathlib.Core.Logic.{◌≢◌}
-use mathlib.Core.Option.{some}
 use Prim.Native.Nat.{ℕ, ◌+◌, ◌-◌, ◌≤◌, ◌<◌}
 use native.Mathlib.Omega.{arith}
 use lib.ListN.{length, take, drop, length-set, length-drop}
@@ -23,11 +23,11 @@ abbrev line : (c : Else-not-x-scopes) → ℕ
 line c = c.line_length-line.result
 
 read : (c : Else-not-x-scopes) → (width : ℕ) → line_length width ≡ (line c)
-    → read_line width (take (line c) (drop c.loop-more.at c.args.bytes.now)) ≡ some (raise_line c.scope_or_none-x.result)
+    → read_line width (take (line c) (drop c.loop-more.at c.args.bytes.now)) ≡ Some (raise_line c.scope_or_none-x.result)
 read c width e =
     let z : (c.loop-more.at + (line c)) - c.loop-more.at ≡ (line c) = omega arith in
     let w : c.amount_width-width.result ≡ width = omega (arith, line-is (goal.at.Else-not-x-scopes c).After-amount_width-width, c.amount_width-width.ensures) in
-    subst (λ (v : ℕ). read_line v (take (line c) (drop c.loop-more.at c.args.bytes.now)) ≡ some (raise_line c.scope_or_none-x.result)) w
+    subst (λ (v : ℕ). read_line v (take (line c) (drop c.loop-more.at c.args.bytes.now)) ≡ Some (raise_line c.scope_or_none-x.result)) w
     (rw z at (c.scope_or_none-x.ensures (omega (arith, (in_order c).0, c.requires.1))))
 
 pub loop-more-preserved : goal.loop-more-preserved

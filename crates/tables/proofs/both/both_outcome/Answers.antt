@@ -1,3 +1,5 @@
+use Rattle.std.specs.Prelude.{Result, ⊤}
+use Rattle.definitions.specs.declared.Refusal.{Refusal}
 use mathlib.Core.Path.{◌≡◌, sym, ap, ap₂, ◌∙◌}
 use mathlib.Core.Bool.{Bool, not}
 use mathlib.Core.List.{List, [], ◌∷◌}
@@ -6,7 +8,6 @@ use mir.Syntax.{w64}
 use Rattle.integers.specs.Words.{minus}
 use Rattle.integers.specs.Linear.{read_back}
 use Rattle.definitions.specs.declared.Case.{Case}
-use Rattle.definitions.specs.declared.Outcome.{Outcome}
 use Rattle.definitions.specs.declared.Refusal.TheVariants.{WeightOutOfRange}
 use Rattle.definitions.specs.Rules.{rules_of}
 use Rattle.definitions.specs.Refusals.{◌when◌, first_refusal}
@@ -31,7 +32,7 @@ first c =
     (read_back w64 low.result low.type_inv ∙ low.ensures) (read_back w64 high.result high.type_inv ∙ high.ensures)
 
 -- the tests, by whether all weights are as they should be
-asked : Case → List ℤ → Bool → Outcome
+asked : Case → List ℤ → Bool → Result ⊤ Refusal
 asked c w b = outcome_of (first_refusal (WeightOutOfRange when (not b) ∷ scope_test c w ∷ []))
 
 pub returns-then-is_first : goal.returns-then-is_first
