@@ -77,7 +77,7 @@ module _ (r : Rules) where
   never : {x : Refusal} {a b : ℕ} → Err (refused_at x a) ≡ Ok b → ⊥
   never e = let z : ◌≡◌ {A = ℕ} 0 1 = cc in omega arith
 
-  pub read_same : {a b : ℕ} → Ok a ≡ Ok b → a ≡ b
+  pub read_same : {a b : ℕ} → ◌≡◌ {A = Result ℕ RefusedAt} (Ok a) (Ok b) → a ≡ b
   read_same e = cc
 
   nothing-due : (l : Line) → T (not_due r [] l)
