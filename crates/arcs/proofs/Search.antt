@@ -7,13 +7,13 @@ use Prim.Native.Nat.{ℕ, ◌+◌, ◌<◌}
 use native.Mathlib.Omega.{arith}
 use borrow.Author.Tests.{lt-ltb, le-ltb, eqb-true}
 use lib.Dec.{T, T_not, ltb, eqb, eqb→eq, ltb→lt, lt→ltb}
-use Rattle.std.specs.Prelude.{if◌then◌else◌, Option, Some, None}
+use Rattle.std.specs.Prelude.{if◌then◌else◌, Option, Some, None, is_none}
 use Rattle.integers.specs.Words.{below, any, those, first, ◌⇒◌}
 use Rattle.integers.specs.Tests.{either, is_true, is_false, true-is, and_intro, and_left, and_right, not-eqb-iff, same_test}
 use Rattle.integers.specs.Lists.{any_of, those-same, first-least, first-none}
 use Rattle.marks.specs.Marks.{mark, byte_of, lowest_of, without, in_both}
 use Rattle.marks.proofs.Laws.{mark-byte_of, mark-zero, byte_of-cong, byte-is, byte_small, strike-less, lowest-small, lowest-marked, lowest-below}
-use Rattle.arcs.specs.Partners.{is_partner, has_partner, partner_of, lowest_in_both, is_nothing}
+use Rattle.arcs.specs.Partners.{is_partner, has_partner, lowest_in_both}
 
 pub mark-without : (s v k : ℕ) → k < 8 → mark (without s v) k ≡ (mark s k && not (eqb k v))
 mark-without s v k h = mark-byte_of (λ j. mark s j && not (eqb j v)) k h
@@ -35,14 +35,14 @@ module _ (row other l : ℕ) (no : mark other l ≡ false) where
 
   pub lowest-less : lowest_in_both (without row l) other ≡ lowest_in_both row other
   unfolding lowest_in_both
-  lowest-less = ap (λ (ls : List ℕ). partner_of (first ls)) (those-same 8 partner-other)
+  lowest-less = ap (λ (ls : List ℕ). first ls) (those-same 8 partner-other)
 
 no-partner : (other k : ℕ) → is_partner 0 other k ≡ false
 no-partner other k = ap (λ (b : Bool). b && mark other k) (mark-zero k)
 
 pub lowest-none : (other : ℕ) → lowest_in_both 0 other ≡ None
 unfolding lowest_in_both
-lowest-none other = ap (λ (ls : List ℕ). partner_of (first ls)) (those-same {f = is_partner 0 other} {g = λ k. false} 8 (λ k h. no-partner other k))
+lowest-none other = ap (λ (ls : List ℕ). first ls) (those-same {f = is_partner 0 other} {g = λ k. false} 8 (λ k h. no-partner other k))
 
 -- the lowest value of the row is a partner
 module _ (row other : ℕ) (h : row < 256) (filled : 0 < row) (yes : mark other (lowest_of row) ≡ true) where
@@ -53,7 +53,7 @@ module _ (row other : ℕ) (h : row < 256) (filled : 0 < row) (yes : mark other 
   unfolding lowest_in_both
   lowest-found = go (first (those (is_partner row other) (below 8))) refl
     where
-      go : (o : Option ℕ) → first (those (is_partner row other) (below 8)) ≡ o → partner_of o ≡ Some (lowest_of row)
+      go : (o : Option ℕ) → first (those (is_partner row other) (below 8)) ≡ o → o ≡ Some (lowest_of row)
       go None e = absurd (T_not (any (is_partner row other) (below 8)) (first-none (is_partner row other) (below 8) e)
           (any_of (is_partner row other) 8 (lowest-small row h filled) is-partner))
       go (Some x) e = ap Some (same x (first-least (is_partner row other) 8 e))
@@ -98,7 +98,7 @@ module _ (row other both : ℕ) (is : both ≡ in_both row other) where
 
   lowest-both : lowest_in_both both other ≡ lowest_in_both row other
   unfolding lowest_in_both
-  lowest-both = ap (λ (ls : List ℕ). partner_of (first ls)) (those-same 8 partner-both)
+  lowest-both = ap (λ (ls : List ℕ). first ls) (those-same 8 partner-both)
 
   pub none-common : both ≡ 0 → None ≡ lowest_in_both row other
   none-common z = sym (sym lowest-both ∙ ap (λ (s : ℕ). lowest_in_both s other) z ∙ lowest-none other)
@@ -112,11 +112,11 @@ module _ (row other both : ℕ) (is : both ≡ in_both row other) where
       ∙ lowest-both
 
 -- none is found where no value is a partner
-pub nothing-found : (row other : ℕ) → is_nothing (lowest_in_both row other) ≡ not (has_partner row other)
+pub nothing-found : (row other : ℕ) → is_none (lowest_in_both row other) ≡ not (has_partner row other)
 unfolding lowest_in_both
 nothing-found row other = go (first (those (is_partner row other) (below 8))) refl
   where
-    go : (o : Option ℕ) → first (those (is_partner row other) (below 8)) ≡ o → is_nothing (partner_of o) ≡ not (any (is_partner row other) (below 8))
+    go : (o : Option ℕ) → first (those (is_partner row other) (below 8)) ≡ o → is_none o ≡ not (any (is_partner row other) (below 8))
     go None e = sym (is_true (not (any (is_partner row other) (below 8))) (first-none (is_partner row other) (below 8) e))
     go (Some x) e =
         let p = first-least (is_partner row other) 8 e in

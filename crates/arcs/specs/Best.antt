@@ -1,5 +1,6 @@
 -- Values without a supported family, where `best` holds a number for each scope and in raised scopes the tuples of another weight are
 -- forbidden. What is prepared as bytes, and the answers on all input. Assumes nothing.
+use Rattle.definitions.specs.Answers.{answer_of}
 use Rattle.std.specs.Prelude.{Bool, true, false, not, ◌||◌, List, [], ◌∷◌, map, ℕ, ◌+◌, ℤ, ltb, length, take, drop, if◌then◌else◌, Result, Option}
 use Rattle.integers.specs.Words.{below, joined}
 use Rattle.definitions.specs.declared.Case.{Case}
@@ -9,7 +10,7 @@ use Rattle.definitions.specs.Rules.{Rules}
 use Rattle.definitions.specs.Refusals.{◌when◌, first_refusal}
 use Rattle.definitions.specs.Case.{scope_count}
 use Rattle.definitions.specs.Valid.{limit_test, length_test, some_edge, end_outside}
-use Rattle.calls.specs.Calls.{verdict_of, is_raised}
+use Rattle.calls.specs.Calls.{is_raised}
 use Rattle.marks.specs.Marks.{full_of}
 use Rattle.arcs.specs.Active.{set_where, row_where, has_best}
 use Rattle.arcs.specs.Tried.{tried_answer}
@@ -49,7 +50,7 @@ module _ (r : Rules) where
       first_refusal (limit_test r c ∷ length_test r c w (too_few c best raised) ∷ OutOfRange when (not (ltb i c.n) || some_edge c (end_outside c)) ∷ [])
 
   unfoldable pub values_unsupported_answer : Case → List ℤ → List ℤ → List ℕ → ℕ → ℕ → Result Bool Refusal
-  values_unsupported_answer c w best raised i values = verdict_of (best_refusal c w best raised i) (are_unsupported c w best raised i values)
+  values_unsupported_answer c w best raised i values = answer_of (best_refusal c w best raised i) (are_unsupported c w best raised i values)
 
   -- the values whose weight is the number of the variable's own scope
   abbrev pub best_unsupported_answer : Case → List ℤ → List ℤ → List ℕ → ℕ → Result Bool Refusal

@@ -1,5 +1,5 @@
 -- The search for partners: a row holds the marks of a value's partners. Assumes nothing.
-use Rattle.std.specs.Prelude.{Bool, true, false, ◌&&◌, List, map, ℕ, ◌+◌, ltb, length, get_or, if◌then◌else◌, Option, Some, None}
+use Rattle.std.specs.Prelude.{Bool, true, false, ◌&&◌, List, map, ℕ, ◌+◌, ltb, length, get_or, if◌then◌else◌, Option, Some, None, unwrap_or}
 use Rattle.integers.specs.Words.{below, any, those, first}
 use Rattle.marks.specs.Marks.{mark, byte_of}
 
@@ -10,17 +10,9 @@ is_partner row other l = mark row l && mark other l
 abbrev pub has_partner : ℕ → ℕ → Bool
 has_partner row other = any (is_partner row other) (below 8)
 
-abbrev pub partner_of : Option ℕ → Option ℕ
-partner_of None = None
-partner_of (Some l) = Some l
-
-abbrev pub is_nothing : Option ℕ → Bool
-is_nothing None = true
-is_nothing (Some l) = false
-
 -- the lowest partner in `other`, or that there is none
 unfoldable pub lowest_in_both : ℕ → ℕ → Option ℕ
-lowest_in_both row other = partner_of (first (those (is_partner row other) (below 8)))
+lowest_in_both row other = first (those (is_partner row other) (below 8))
 
 -- the values of `set` that have a partner in `other`; the row of value k stands at place `at` + k
 unfoldable pub supported_values : List ℕ → ℕ → ℕ → ℕ → ℕ
@@ -29,8 +21,7 @@ supported_values rows at set other = byte_of (λ k. mark set k && has_partner (g
 -- ---- the lowest partner of each value, as bytes
 
 abbrev pub byte_of_partner : Option ℕ → ℕ
-byte_of_partner (Some l) = l
-byte_of_partner None = 255
+byte_of_partner found = unwrap_or found 255
 
 -- place k: the lowest partner of value k, where the set has it and there is a row for it; else what stood there
 abbrev pub partner_at : List ℕ → ℕ → ℕ → List ℕ → ℕ → ℕ

@@ -2,7 +2,7 @@
 // table. Inner functions, for other crates: each asks only what is said at it. Document 01's refutation is `consistency::refuted`.
 #![tactic(auto)]
 
-ghost use Rattle.std.specs.Prelude.{◌≡◌, not, ◌&&◌, ◌||◌, ℕ, ◌+◌, ◌*◌, ◌≤◌, ◌<◌, T, ltb, eqb, length, get_or, set, replicate, if◌then◌else◌, Ok};
+ghost use Rattle.std.specs.Prelude.{◌≡◌, not, ◌&&◌, ◌||◌, ℕ, ◌+◌, ◌*◌, ◌≤◌, ◌<◌, T, ltb, eqb, length, get_or, set, replicate, if◌then◌else◌, Ok, is_none};
 ghost use Rattle.integers.specs.Words.{below, any, eq_z};
 ghost use Rattle.definitions.specs.Rules.{rules_of};
 ghost use Rattle.definitions.specs.Case.{scope_count};
@@ -11,7 +11,7 @@ ghost use Rattle.definitions.specs.Valid.{some_edge, end_outside};
 ghost use Rattle.definitions.specs.Lines.{overwritten};
 ghost use Rattle.tables.specs.Scopes.{Limited};
 ghost use Rattle.marks.specs.Marks.{mark, without};
-ghost use Rattle.arcs.specs.Partners.{lowest_in_both, is_nothing, byte_of_partner, lowest_partners, supported_values};
+ghost use Rattle.arcs.specs.Partners.{lowest_in_both, byte_of_partner, lowest_partners, supported_values};
 ghost use Rattle.arcs.specs.Closure.{network_of_bytes, sets_of, end_missing, is_malformed, closure_answer, closure_sets};
 ghost use Rattle.arcs.specs.Tried.{has_family, none_has, tried_answer};
 ghost use Rattle.arcs.specs.declared.Tried.{Tried};
@@ -49,7 +49,7 @@ pub const NO_PARTNER: u8 = 255;
 
 // The set without value k, where no partner was found.
 fn kept_with(set: u8, k: u8, found: Option<u8>) -> u8
-    ensures { result ≡ (if is_nothing found then without set k else set) }
+    ensures { result ≡ (if is_none found then without set k else set) }
 {
     match found {
         Some(_) => set,
@@ -805,15 +805,10 @@ pub fn active_marks(
         too_few(case, best.len()),
         bytes_too_few(case, sets.len(), rows.len()),
     );
-    let checked = check_lengths(case, table, wrong);
-    match checked {
-        Err(refusal) => Err(refusal),
-        Ok(()) => {
-            write_sets(case, table, best, sets);
-            write_rows(case, table, best, rows);
-            Ok(())
-        }
-    }
+    check_lengths(case, table, wrong)?;
+    write_sets(case, table, best, sets);
+    write_rows(case, table, best, rows);
+    Ok(())
 }
 
 // Whether no value of `values` (marks), fixed alone for `variable`, has a supported family where in the scopes x whose byte in `raised` is not

@@ -8,7 +8,7 @@ use Rattle.definitions.specs.declared.Refusal.{Refusal}
 use Rattle.definitions.specs.declared.Refusal.TheVariants.{NotInColumns, WrongLength, OutOfRange, RaiseNotAscending, NotRefuted, LeavesRange}
 use Rattle.definitions.specs.Rules.{Rules}
 use Rattle.definitions.specs.Refusals.{Test, ◌when◌, first_refusal}
-use Rattle.definitions.specs.Answers.{outcome_of, unless_refused}
+use Rattle.definitions.specs.Answers.{outcome_of, unless_refused, answer_of}
 use Rattle.definitions.specs.Case.{scope_count, is_variable, objective, upper_bound, active, uses_barred}
 use Rattle.definitions.specs.Valid.{starting_weight, working_weight, wrong_assignment, value_out, limit_test, edge_tests, handed_over}
 use Rattle.definitions.specs.Consistency.{Family, refuted, others}
@@ -19,18 +19,6 @@ use Rattle.definitions.specs.Lines.{read_line, line_text, line_length, line_too_
 use Rattle.definitions.specs.CaseFiles.{case_text}
 
 -- ---- answers by whether a refusal applies
-
-abbrev pub figure_of : Option Refusal → ℤ → Result ℤ Refusal
-figure_of None z = Ok z
-figure_of (Some x) z = Err x
-
-abbrev pub verdict_of : Option Refusal → Bool → Result Bool Refusal
-verdict_of None b = if b then Ok true else Ok false
-verdict_of (Some x) b = Err x
-
-abbrev pub written_of : Option Refusal → ℕ → Result ℕ Refusal
-written_of None n = Ok n
-written_of (Some x) n = Err x
 
 -- a call that changes a lent table; one that writes to a lent output
 pub record TableCall : Type 0 where
@@ -127,19 +115,19 @@ module _ (r : Rules) where
   -- an unlawful assignment has no objective: number 5 (document 02, change 2)
   unfoldable pub objective_answer : Case → List ℤ → List ℕ → Result ℤ Refusal
   objective_answer c w p =
-      figure_of (first_refusal (handed_over r (working_weight r) c w (wrong_assignment c p) (value_out c p || uses_barred c w p))) (objective c w p)
+      answer_of (first_refusal (handed_over r (working_weight r) c w (wrong_assignment c p) (value_out c p || uses_barred c w p))) (objective c w p)
 
   unfoldable pub upper_bound_answer : Case → List ℤ → Result ℤ Refusal
-  upper_bound_answer c w = figure_of (first_refusal (handed_over r (working_weight r) c w false false)) (upper_bound c w)
+  upper_bound_answer c w = answer_of (first_refusal (handed_over r (working_weight r) c w false false)) (upper_bound c w)
 
   unfoldable pub is_active_answer : Case → List ℤ → ℕ → ℕ → ℕ → Result Bool Refusal
-  is_active_answer c w x k l = verdict_of (first_refusal (handed_over r (working_weight r) c w false (tuple_out c x k l))) (active c w x k l)
+  is_active_answer c w x k l = answer_of (first_refusal (handed_over r (working_weight r) c w false (tuple_out c x k l))) (active c w x k l)
 
   -- ---- refutation
 
   unfoldable pub refuted_answer : Case → List ℤ → List ℕ → ℕ → ℕ → Result Bool Refusal
   refuted_answer c w raised i k =
-      verdict_of
+      answer_of
       (first_refusal (handed_over r (working_weight r) c w (not (eqb (length raised) (scope_count c)))
       (any (λ b. ltb 1 b) raised || not (ltb i c.n) || not (ltb k c.d))))
       (refuted c w (is_marked raised) i k)
@@ -155,7 +143,7 @@ module _ (r : Rules) where
   -- ---- whether the edges form no cycle (document 02, change 4): asked of the case alone
 
   unfoldable pub is_acyclic_answer : Case → Result Bool Refusal
-  is_acyclic_answer c = verdict_of (first_refusal (limit_test r c ∷ edge_tests r c false)) (is_acyclic c)
+  is_acyclic_answer c = answer_of (first_refusal (limit_test r c ∷ edge_tests r c false)) (is_acyclic c)
 
   -- ---- moves
 
@@ -216,6 +204,6 @@ module _ (r : Rules) where
 
   unfoldable pub write_case_call : Case → List ℤ → List ℕ → WriteCall
   write_case_call c w out = record {
-    answer = written_of (write_case_refusal c w out) (file_bytes c);
+    answer = answer_of (write_case_refusal c w out) (file_bytes c);
     out = unless_refused (write_case_refusal c w out) (overwritten (case_text r c w) out) out;
   }

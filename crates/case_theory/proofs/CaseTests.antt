@@ -10,8 +10,8 @@ use lib.Dec.{T, T_not, eqb, eqb_refl, ltb→lt, leb→le}
 use lib.Signed.{le_z, lt_z}
 use lib.ListN.{length, get_or}
 use lib.Seq.{get_or-set_other}
-use Rattle.std.specs.Prelude.{if◌then◌else◌, Option, Some, None}
-use Rattle.integers.specs.Words.{all, is_some, eq_z, within_z, minus}
+use Rattle.std.specs.Prelude.{if◌then◌else◌, Option, Some, None, is_some}
+use Rattle.integers.specs.Words.{all, eq_z, within_z, minus}
 use Rattle.integers.specs.Tests.{tests, if-false, if-cases, and_intro, or_left, or_right, or_cases, not-not-iff}
 use Rattle.integers.specs.Linear.{flat, zs, ◌▸◌, T-eq}
 use Rattle.integers.specs.Options.{none-some}

@@ -19,11 +19,11 @@ use Rattle.definitions.specs.declared.Case.{Case}
 use Rattle.definitions.specs.declared.Refusal.{Refusal}
 use Rattle.definitions.specs.declared.Refusal.TheVariants.{OutsideLimits}
 use Rattle.definitions.specs.Refusals.{first_refusal}
-use Rattle.definitions.specs.Answers.{outcome_of, unless_refused}
+use Rattle.definitions.specs.Answers.{outcome_of, unless_refused, answer_of}
 use Rattle.definitions.specs.Valid.{starting_weight, within_limits, handed_over}
 use Rattle.definitions.specs.Rules.{rules_in, rules_of, coherent}
 use Rattle.definitions.specs.Lines.{line_text, line_too_wide, overwritten}
-use Rattle.calls.specs.Calls.{written_of, file_bytes, write_case_call}
+use Rattle.calls.specs.Calls.{file_bytes, write_case_call}
 use Rattle.definitions.specs.CaseFiles.{CaseDue, edge-ends, head_line, case_text}
 use Rattle.definitions.proofs.LineLaws.{line-length}
 use Rattle.theory.proofs.Validity.{Valid, handed}
@@ -144,18 +144,18 @@ module _ (c : Case) (w : List ℤ) (out : List ℕ) where
   bytes-are = omega arith
 
   call-is : write_case_call (rules_of c) c w out ≡ record {
-    answer = written_of write_asked (bytes_of_line c.rulebook * (lines_due sizes_of + 1));
+    answer = answer_of write_asked (bytes_of_line c.rulebook * (lines_due sizes_of + 1));
     out =
         unless_refused write_asked (overwritten (case_text (rules_of c) c w) out) out;
   }
   unfolding write_case_call
   call-is = ap (λ n.
       let o = first_refusal (handed_over (rules_of c) (starting_weight (rules_of c)) c w (ltb (length out) n) false) in
-      record { answer = written_of o n; out = unless_refused o (overwritten (case_text (rules_of c) c w) out) out }) bytes-are
+      record { answer = answer_of o n; out = unless_refused o (overwritten (case_text (rules_of c) c w) out) out }) bytes-are
 
   refused-is : {x : Refusal} → write_asked ≡ Some x → write_case_call (rules_of c) c w out ≡ record { answer = Err x; out = out }
   refused-is e = call-is ∙ ap (λ o. record {
-    answer = written_of o (bytes_of_line c.rulebook * (lines_due sizes_of + 1));
+    answer = answer_of o (bytes_of_line c.rulebook * (lines_due sizes_of + 1));
     out =
         unless_refused o (overwritten (case_text (rules_of c) c w) out) out;
   }) e
@@ -182,7 +182,7 @@ module _ (c : Case) (w : List ℤ) (out : List ℕ) where
     write-done-is p q =
         let d : write_asked ≡ None = outcome-done h in
         let e = call-is ∙ ap (λ o. record {
-          answer = written_of o (bytes_of_line c.rulebook * (lines_due sizes_of + 1));
+          answer = answer_of o (bytes_of_line c.rulebook * (lines_due sizes_of + 1));
           out =
               unless_refused o (overwritten (case_text (rules_of c) c w) out) out;
         }) d in

@@ -41,15 +41,6 @@ pub record Between : Type 0 where
   pub table : List ℤ
   pub replay : Replay
 
-abbrev pub standing_of : Option Refusal → Result ⊤ Refusal
-standing_of None = Ok tt
-standing_of (Some x) = Err x
-
--- what a standing says in document 01's terms
-abbrev pub standing_says : Result ⊤ Refusal → Says
-standing_says (Ok tt) = record { number = 0; values = [] }
-standing_says (Err x) = record { number = number x; values = [] }
-
 -- a step and a block, with the lent table after them
 pub record StepCall : Type 0 where
   pub stepped : Stepped

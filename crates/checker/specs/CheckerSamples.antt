@@ -14,19 +14,7 @@ use Rattle.definitions.specs.Samples.{replayed, samples, our_samples, answer, tr
 use Rattle.checker.specs.declared.Target.{Target}
 use Rattle.checker.specs.declared.Due.{Due}
 use Rattle.checker.specs.declared.Replay.{Replay}
-use Rattle.checker.specs.Checker.{
-  Between,
-  StepCall,
-  BlockCall,
-  standing_says,
-  fresh_replay,
-  step_replay,
-  end_replay,
-  after_lines,
-  line_answers,
-  fold_replay,
-  block_replay,
-}
+use Rattle.checker.specs.Checker.{Between, StepCall, BlockCall, fresh_replay, step_replay, end_replay, after_lines, line_answers, fold_replay, block_replay}
 
 -- ---- the samples of document 01 and ours: a replay is answered by the fold of step
 
@@ -156,7 +144,7 @@ abbrev too_high : Replay
 too_high = fresh_replay (rules_in Desk) clash.case (full 2 (pos 1_000_001 ∷ []))
 
 pub fresh-refused :
-    ◌≡◌ {A = ℤ × ℕ × ℕ} (too_high.start, (standing_says too_high.standing).number, number_of (on_clash too_high "x")) (pos 0, 8, 8)
+    ◌≡◌ {A = ℤ × ℕ × ℕ} (too_high.start, (outcome_says too_high.standing).number, number_of (on_clash too_high "x")) (pos 0, 8, 8)
 unfolding fresh_replay step_replay
 fresh-refused = refl
 
@@ -204,7 +192,7 @@ blocks = refl
 abbrev without : Case → List ℤ → Replay → String → ℕ × ℕ
 without c w p part =
     let q = block_replay (rules_in Desk) c w p (bytes_of part) in
-    ((outcome_says q.block.answer).number, (standing_says q.block.replay.standing).number)
+    ((outcome_says q.block.answer).number, (outcome_says q.block.replay.standing).number)
 
 -- the clash with a carry
 abbrev carrying : ℤ → Case

@@ -13,7 +13,7 @@ ghost use Rattle.definitions.specs.CaseFiles.{case_size};
 ghost use Rattle.calls.specs.Calls.{upper_bound_answer, objective_answer, is_acyclic_answer};
 ghost use Rattle.definitions.specs.Views.{round_span};
 ghost use Rattle.definitions.specs.Scoring.{better_of};
-ghost use Rattle.checker.specs.Checker.{standing_says, is_void, block_replay};
+ghost use Rattle.checker.specs.Checker.{is_void, block_replay};
 ghost use Rattle.encoding.specs.CaseBytes.{case_in};
 ghost use Rattle.encoding.specs.RecordBytes.{record_bytes};
 ghost use Rattle.encoding.specs.Version.{version_number};
@@ -157,7 +157,7 @@ fn outcome_number(outcome: Result<(), Refusal>) -> u64
 }
 
 fn standing_number(standing: Result<(), Refusal>) -> u64
-    ensures { result ≡ (standing_says standing).number }
+    ensures { result ≡ (outcome_says standing).number }
 {
     match standing {
         Ok(()) => 0,
@@ -441,7 +441,7 @@ pub extern "C" fn ceiling_replay_start(
     table: &[i64],
     state: &mut RecordArray,
 ) -> u64
-    ensures { (result ≡ (standing_says (start_record case.now table.now).standing).number)
+    ensures { (result ≡ (outcome_says (start_record case.now table.now).standing).number)
         × (state.new ≡ record_bytes (start_record case.now table.now)) }
 {
     let replay = Replay::fresh(encoding::case_of(case), table);

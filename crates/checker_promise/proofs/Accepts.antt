@@ -13,10 +13,10 @@ use Rattle.integers.specs.Lists.{map-map, map-cong}
 use Rattle.definitions.specs.declared.Case.{Case}
 use Rattle.definitions.specs.declared.Refusal.{Refusal}
 use Rattle.definitions.specs.Rules.{Rules, Coherent, coherent, rules_of}
-use Rattle.definitions.specs.Answers.{outcome_of, outcome_says, figure_says}
+use Rattle.definitions.specs.Answers.{outcome_of, outcome_says, figure_says, answer_of}
 use Rattle.definitions.specs.Case.{upper_bound}
 use Rattle.definitions.specs.Valid.{working_weight, valid}
-use Rattle.calls.specs.Calls.{figure_of, upper_bound_answer}
+use Rattle.calls.specs.Calls.{upper_bound_answer}
 use Rattle.definitions.specs.Replay.{Held, fresh, after, answers, at_end, keeps_rules}
 use Rattle.checker.specs.declared.Due.{Due}
 use Rattle.checker.specs.Checker.{Between, is_void, end_replay, after_lines, line_answers}
@@ -30,7 +30,7 @@ use Rattle.checker_promise.proofs.Folds.{handed-unrefused, agrees-fresh, fold-ag
 -- the library's upper bound of a table that every call takes
 bound-answered : {r : Rules} (c : Case) (v : List ℤ) → Handed r (working_weight r) c v → upper_bound_answer r c v ≡ Ok (upper_bound c v)
 unfolding upper_bound_answer
-bound-answered {r} c v h = ap (λ (o : Option Refusal). figure_of o (upper_bound c v))
+bound-answered {r} c v h = ap (λ (o : Option Refusal). answer_of o (upper_bound c v))
     (handed-unrefused h)
 
 outcome-says : (o : Option Refusal) → outcome_says (outcome_of o) ≡ number_says o

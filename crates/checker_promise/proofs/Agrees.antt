@@ -27,7 +27,7 @@ use Rattle.definitions.specs.Valid.{working_weight}
 use Rattle.definitions.specs.Consistency.{all_refuted}
 use Rattle.definitions.specs.Moves.{plus, spared, only_where, press_by, active_values}
 use Rattle.definitions.specs.Replay.{Target, pressing, voiding, Held, State, not_above, all_barred}
-use Rattle.checker.specs.Checker.{Between, StepCall, standing_of, last_out, not_above_last, none_raised}
+use Rattle.checker.specs.Checker.{Between, StepCall, last_out, not_above_last, none_raised}
 use Rattle.definitions.proofs.Refutation.{refuted-same}
 use Rattle.calls.specs.Calls.{is_raised}
 use Rattle.theory.proofs.Places.{each-cong, plus-cong}
@@ -56,7 +56,7 @@ record_of s bytes = record {
   moved = s.moving;
   raised = bytes;
   due = due_of s.void s.held;
-  standing = standing_of s.refusal;
+  standing = outcome_of s.refusal;
 }
 
 abbrev pub between_of : State → List ℕ → Between

@@ -1,6 +1,7 @@
 -- A log in blocks: the block of whole lines xs and then ys is the block of ys after that of xs, so a log may be cut into blocks of whole lines
 -- anywhere. This holds of every case, table and record where what a block of no line is asked stands already: no number applies to what is
 -- lent, or the record stands refused. Every line leaves it so. Assumes nothing.
+use Rattle.definitions.specs.Answers.{outcome_of}
 use mathlib.Core.Path.{◌≡◌, refl, sym, ap, ◌∙◌}
 use mathlib.Core.Bool.{false, not}
 use mathlib.Core.List.Memᴰ
@@ -26,7 +27,7 @@ use Rattle.definitions.specs.Rules.{Rules, Coherent}
 use Rattle.definitions.specs.Refusals.{first_refusal}
 use Rattle.definitions.specs.Valid.{working_weight, handed_over}
 use Rattle.definitions.specs.Lines.{line_length, cut_lines, whole_lines, lines_in, has_part}
-use Rattle.checker.specs.Checker.{Between, BlockCall, standing_of, taken_lines, first_refused, no_line, record_out}
+use Rattle.checker.specs.Checker.{Between, BlockCall, taken_lines, first_refused, no_line, record_out}
 use Rattle.checker.specs.Checker.{step_replay, step_between, after_lines, line_answers, fold_replay, lent_standing, block_replay}
 use Rattle.checker.proofs.Leaves.{step-leaves}
 use Rattle.checker.proofs.Fold.{stands, all_stay, refused-stands}
@@ -165,7 +166,7 @@ module _ (r : Rules) where
 
   -- it stands already
   abbrev pub Known : Case → List ℤ → Replay → Type 0
-  Known c w p = standing_of (lent_standing r c w p p.standing) ≡ p.standing
+  Known c w p = outcome_of (lent_standing r c w p p.standing) ≡ p.standing
 
   module _ (c : Case) (w : List ℤ) (p : Replay) where
     pub lent-good : Lent c w p → p.standing ≡ Ok tt
@@ -182,12 +183,12 @@ module _ (r : Rules) where
         ((handed r (working_weight r) c w false (record_out r c p)).1 (h, tt, o))
 
     known-lent : Lent c w p → Known c w p
-    known-lent e = ap standing_of e ∙ sym (lent-good e)
+    known-lent e = ap outcome_of e ∙ sym (lent-good e)
 
     lent-known : p.standing ≡ Ok tt → Known c w p → Lent c w p
     lent-known g k = go (lent_standing r c w p p.standing) (k ∙ g)
       where
-        go : (o : Option Refusal) → standing_of o ≡ Ok tt → o ≡ None
+        go : (o : Option Refusal) → outcome_of o ≡ Ok tt → o ≡ None
         go None e = refl
         go (Some x) e = absurd (good-refused (sym e))
 

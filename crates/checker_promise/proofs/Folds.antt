@@ -9,8 +9,8 @@ use native.Mathlib.Omega.{arith}
 use lib.IntN.{ℤ, pos, negsuc, nat_abs}
 use lib.Dec.{T, not_T, eqb, lt→ltb}
 use lib.ListN.{set}
-use Rattle.std.specs.Prelude.{if◌then◌else◌, Option, Some, None}
-use Rattle.integers.specs.Words.{any, last, is_in, is_some, within_z}
+use Rattle.std.specs.Prelude.{if◌then◌else◌, Option, Some, None, is_some}
+use Rattle.integers.specs.Words.{any, last, is_in, within_z}
 use Rattle.integers.specs.Lists.{any-in}
 use Rattle.integers.specs.Tests.{tests, either, is_true, is_false, not-eqb-iff, and-iff, not-or-iff, not-not-iff, and_left, and_right, if-false}
 use Rattle.integers.specs.Options.{some_inj, none-some, last-append}
@@ -32,7 +32,7 @@ use Rattle.definitions.specs.Replay.{shift_tests, begin_out, press_tests, void_t
 use Rattle.definitions.specs.Replay.{bound_tests, is_last, tests_of_kind, line_tests, taken, answered, step_unrefused, step, after, answers, at_end}
 use Rattle.checker.specs.declared.Target.{Target as Aim}
 use Rattle.checker.specs.declared.Due.{Due}
-use Rattle.checker.specs.Checker.{Between, StepCall, standing_of, Asked, due_kinds, is_short, none_raised, target_out, due_out, after_press, after_target}
+use Rattle.checker.specs.Checker.{Between, StepCall, Asked, due_kinds, is_short, none_raised, target_out, due_out, after_press, after_target}
 use Rattle.checker.specs.Checker.{record_out, fresh_replay, of_shift, of_begin, of_bound, target_table, last_tests, of_due, step_by, step_tests}
 use Rattle.checker.specs.Taken.{step_taken}
 use Rattle.checker.specs.Checker.{step_line, step_standing, step_replay, end_standing, end_replay, step_between, after_lines, line_answers}
@@ -175,7 +175,7 @@ module _ {r : Rules} {s : State} {bytes : List ℕ} (placed : scopes_at_most r �
           moved = u.moving;
           raised = marks;
           due = due_of false u.held;
-          standing = standing_of u.refusal;
+          standing = outcome_of u.refusal;
         };
         answer = outcome_of u.refusal;
       };
@@ -284,7 +284,7 @@ module _ {r : Rules} {s : State} {bytes : List ℕ} (placed : scopes_at_most r �
   unfolding step_replay
   step-reaches t = go s.refusal refl
     where
-      go : (x : Option Refusal) → s.refusal ≡ x → Reaches r (step_standing r s.case s.weights (record_of s bytes) t (standing_of x))
+      go : (x : Option Refusal) → s.refusal ≡ x → Reaches r (step_standing r s.case s.weights (record_of s bytes) t (outcome_of x))
           (if is_some x then s else step_unrefused r s (read_line r.amount_width t))
       go None e = line-reaches (read_line r.amount_width t)
       go (Some x) e = (bytes, rw e, k)
@@ -318,7 +318,7 @@ module _ {r : Rules} {s : State} {b : Between} (a : Agrees r s b) where
   unfolding end_replay
   end-agrees = ap (λ (d : Between). end_replay r d.case d.replay) a.same ∙ go s.refusal
     where
-      go : (x : Option Refusal) → end_standing r s.case (record_of s a.bytes) (standing_of x)
+      go : (x : Option Refusal) → end_standing r s.case (record_of s a.bytes) (outcome_of x)
           ≡ outcome_of (if is_some x then x else if not s.void && (is_some s.held || s.moving) then Some CutShort else None)
       go (Some x) = refl
       go None =

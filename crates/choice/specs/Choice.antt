@@ -9,10 +9,6 @@ says_unsupported Tried.Unsupported = true
 says_unsupported Tried.Supported = false
 says_unsupported Tried.Malformed = false
 
-abbrev pub chosen_of : Option ℕ → Option ℕ
-chosen_of None = None
-chosen_of (Some i) = Some i
-
 -- the values `acts` of variable i, each fixed alone, leave no supported family inside the sets; a variable that `acts` does not reach has none, and is refuted
 abbrev pub unsupported_in : List ℕ → List ℕ → List ℕ → List ℕ → List ℕ → List ℕ → ℕ → Bool
 unsupported_in lower upper acts rows edges sets i = says_unsupported (tried_answer lower upper rows edges sets i (get_or acts i 0))

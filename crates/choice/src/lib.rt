@@ -3,7 +3,7 @@
 
 ghost use Rattle.std.specs.Prelude.{◌≡◌, get_or};
 ghost use Rattle.arcs.specs.Closure.{closure_sets};
-ghost use Rattle.choice.specs.Choice.{says_unsupported, chosen_of, lowest_unsupported};
+ghost use Rattle.choice.specs.Choice.{says_unsupported, lowest_unsupported};
 
 use arcs::Tried;
 
@@ -25,7 +25,7 @@ fn lowest_in(
     edges: &[u8],
     sets: &[u8],
 ) -> Option<usize>
-    ensures { result ≡ chosen_of (lowest_unsupported lower.now upper.now acts.now rows.now edges.now
+    ensures { result ≡ (lowest_unsupported lower.now upper.now acts.now rows.now edges.now
         sets.now) }
 {
     let mut i: usize = 0;
@@ -61,7 +61,7 @@ pub fn lowest_unsupported(
     edges: &[u8],
     sets: &mut [u8],
 ) -> Option<usize>
-    ensures value { result ≡ chosen_of (lowest_unsupported lower.now upper.now acts.now rows.now edges.now
+    ensures value { result ≡ (lowest_unsupported lower.now upper.now acts.now rows.now edges.now
         sets.old) }
     ensures sets_after { sets.new ≡ closure_sets lower.now upper.now rows.now edges.now sets.old }
 {

@@ -161,9 +161,12 @@ from_to a b = record { from = a; to = b }
 
 -- ---- an answer by whether a refusal applies
 
+abbrev pub answer_of : {A : Type 0} → Option Refusal → A → Result A Refusal
+answer_of None a = Ok a
+answer_of (Some x) a = Err x
+
 abbrev pub outcome_of : Option Refusal → Result ⊤ Refusal
-outcome_of None = Ok tt
-outcome_of (Some x) = Err x
+outcome_of o = answer_of o tt
 
 -- a, unless a refusal applies: then b
 abbrev pub unless_refused : {A : Type 0} → Option Refusal → A → A → A

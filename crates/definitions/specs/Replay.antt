@@ -1,7 +1,7 @@
 -- Document 01, "The plain replay", with void lines (document 02, change 2). Assumes nothing.
-use Rattle.std.specs.Prelude.{Bool, true, false, not, ◌&&◌, ◌||◌, List, [], ◌∷◌, ◌++◌, ℕ, ◌+◌, ◌-◌, ℤ, pos, nat_abs, leb, ltb, eqb, if◌then◌else◌, Option, Some, None}
+use Rattle.std.specs.Prelude.{Bool, true, false, not, ◌&&◌, ◌||◌, List, [], ◌∷◌, ◌++◌, ℕ, ◌+◌, ◌-◌, ℤ, pos, nat_abs, leb, ltb, eqb, if◌then◌else◌, Option, Some, None, is_some}
 use Rattle.std.specs.Int.Signed.{lt_z}
-use Rattle.integers.specs.Words.{all, any, last, is_in, within_z, eq_z, is_some, ◌⇒◌}
+use Rattle.integers.specs.Words.{all, any, last, is_in, within_z, eq_z, ◌⇒◌}
 use Rattle.definitions.specs.declared.Case.{Case}
 use Rattle.definitions.specs.declared.Line.{Line}
 use Rattle.definitions.specs.declared.Refusal.{Refusal}

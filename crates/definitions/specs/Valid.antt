@@ -1,7 +1,7 @@
 -- Document 01: the limits and ranges of a case and its table, numbers 3 to 8 and 15, and which cases are valid; document 02, change 5: the carry's
 -- range, and what lies past the case's own places. Assumes nothing.
-use Rattle.std.specs.Prelude.{Bool, false, not, ◌&&◌, ◌||◌, List, [], ◌∷◌, ◌++◌, ℕ, ℤ, pos, ltb, eqb, length, get_or, take, drop}
-use Rattle.integers.specs.Words.{below, all, any, within, within_z, minus, eq_z, is_some, ◌⇒◌}
+use Rattle.std.specs.Prelude.{Bool, false, not, ◌&&◌, ◌||◌, List, [], ◌∷◌, ◌++◌, ℕ, ℤ, pos, ltb, eqb, length, get_or, take, drop, is_some}
+use Rattle.integers.specs.Words.{below, all, any, within, within_z, minus, eq_z, ◌⇒◌}
 use Rattle.definitions.specs.declared.Case.{Case}
 use Rattle.definitions.specs.declared.Refusal.TheVariants.{
   OutsideLimits,

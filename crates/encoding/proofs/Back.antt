@@ -1,4 +1,5 @@
 -- What was written is read back, for every case and every record that the types can hold. Assumes nothing.
+use Rattle.definitions.specs.Answers.{outcome_of, outcome_says}
 use Rattle.std.specs.Prelude.{Result, Ok, Err, Option, Some, None, ⊤}
 use Rattle.definitions.specs.declared.Refusal.{Refusal}
 use mathlib.Core.Path.{◌≡◌, refl, ap, ◌∙◌}
@@ -19,7 +20,6 @@ use Rattle.definitions.proofs.AnswerLaws.{numbered, same-said}
 use Rattle.checker.specs.declared.Target.{Target}
 use Rattle.checker.specs.declared.Due.{Due}
 use Rattle.checker.specs.declared.Replay.{Replay}
-use Rattle.checker.specs.Checker.{standing_says, standing_of}
 use Rattle.encoding.specs.declared.Begun.{Begun}
 use Rattle.encoding.specs.Numbers.{value_of_bytes, number_bytes, number_at, word_of, signed_of}
 use Rattle.encoding.specs.CaseBytes.{bytes_of_case, case_in}
@@ -101,9 +101,9 @@ flag-back : (b : Bool) → eqb (flag b) 1 ≡ b
 flag-back true = refl
 flag-back false = refl
 
-standing-back : (s : Result ⊤ Refusal) → standing_at (standing_says s).number ≡ s
+standing-back : (s : Result ⊤ Refusal) → standing_at (outcome_says s).number ≡ s
 standing-back (Ok tt) = refl
-standing-back (Err x) = ap standing_of (numbered x).back
+standing-back (Err x) = ap outcome_of (numbered x).back
 
 flag-most : (b : Bool) → leb (flag b) 1 ≡ true
 flag-most true = refl
@@ -124,13 +124,13 @@ known-most Due.MoveOrBound = refl
 known-most (Due.Raise i target left last_one) = last-most last_one
 known-most Due.Nothing = refl
 
-standing-most : (s : Result ⊤ Refusal) → leb (standing_says s).number 16 ≡ true
+standing-most : (s : Result ⊤ Refusal) → leb (outcome_says s).number 16 ≡ true
 standing-most (Ok tt) = refl
 standing-most (Err x) = (numbered x).most
 
 -- standings that say the same are equal, as answers are (definitions' AnswerLaws)
-pub standing-same : (a b : Result ⊤ Refusal) → standing_says a ≡ standing_says b → a ≡ b
-standing-same = same-said standing_says (λ s. standing_at s.number) standing-back
+pub standing-same : (a b : Result ⊤ Refusal) → outcome_says a ≡ outcome_says b → a ≡ b
+standing-same = same-said outcome_says (λ s. standing_at s.number) standing-back
 
 -- ---- the record
 
@@ -181,7 +181,7 @@ module _ (p : Replay) where
   unfolding number_bytes record_numbers record_tags record_bytes
   known_at = refl
 
-  standing-at : get_or (record_bytes p) 51 0 ≡ (standing_says p.standing).number
+  standing-at : get_or (record_bytes p) 51 0 ≡ (outcome_says p.standing).number
   unfolding number_bytes record_numbers record_tags record_bytes
   standing-at = refl
 

@@ -4,11 +4,10 @@
 use Rattle.definitions.specs.declared.Refusal.{Refusal}
 use Rattle.std.specs.Prelude.{Bool, ◌&&◌, List, [], ◌∷◌, ◌++◌, ℕ, ℤ, pos, leb, eqb, get_or, take, drop, if◌then◌else◌, Result, Option, Some, None, ⊤}
 use Rattle.definitions.specs.Rules.{scope_places}
-use Rattle.definitions.specs.Answers.{refusal_of}
+use Rattle.definitions.specs.Answers.{refusal_of, outcome_of, outcome_says}
 use Rattle.checker.specs.declared.Target.{Target}
 use Rattle.checker.specs.declared.Due.{Due}
 use Rattle.checker.specs.declared.Replay.{Replay}
-use Rattle.checker.specs.Checker.{standing_says, standing_of}
 use Rattle.encoding.specs.declared.Last.{Last}
 use Rattle.encoding.specs.declared.Begun.{Begun}
 use Rattle.encoding.specs.Numbers.{number_bytes, number_at, word_of, signed_of}
@@ -53,7 +52,7 @@ due_recorded q =
 
 -- what stands by the number that it says, 0 where it is good
 abbrev pub standing_at : ℕ → Result ⊤ Refusal
-standing_at n = standing_of (refusal_of n)
+standing_at n = outcome_of (refusal_of n)
 
 abbrev pub flag : Bool → ℕ
 flag b = if b then 1 else 0
@@ -66,7 +65,7 @@ record_numbers rounds start q =
     ++ number_bytes q.last.scope
 
 unfoldable pub record_tags : Bool → Begun → Result ⊤ Refusal → List ℕ
-record_tags moved q standing = flag moved ∷ q.kind ∷ q.last.known ∷ (standing_says standing).number ∷ []
+record_tags moved q standing = flag moved ∷ q.kind ∷ q.last.known ∷ (outcome_says standing).number ∷ []
 
 unfoldable pub record_bytes : Replay → List ℕ
 record_bytes p =

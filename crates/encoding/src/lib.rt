@@ -2,11 +2,11 @@
 // them. What each byte says is defined in specs/.
 #![tactic(auto)]
 
+ghost use Rattle.definitions.specs.Answers.{outcome_says};
 ghost use Rattle.std.specs.Prelude.{◌≡◌, ◌+◌, ◌%◌, ◌≤◌, ◌<◌, length, take, drop};
 ghost use Rattle.definitions.specs.Rules.{edge_places, scope_places};
 ghost use Rattle.definitions.specs.Lines.{overwritten};
 ghost use Rattle.texts.specs.Texts.{placed_at};
-ghost use Rattle.checker.specs.Checker.{standing_says};
 ghost use Rattle.encoding.specs.Numbers.{value_of_bytes, number_bytes, number_at, word_of, signed_of};
 ghost use Rattle.encoding.specs.CaseBytes.{bytes_of_case, case_in};
 ghost use Rattle.encoding.specs.Version.{version_number};
@@ -300,7 +300,7 @@ fn standing_of(b: u8) -> Result<(), Refusal>
 }
 
 fn standing_number(standing: Result<(), Refusal>) -> u8
-    ensures { result ≡ (standing_says standing).number }
+    ensures { result ≡ (outcome_says standing).number }
 {
     match standing {
         Ok(()) => 0,

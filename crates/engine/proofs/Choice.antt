@@ -25,7 +25,7 @@ use Rattle.calls.specs.Calls.{is_raised}
 use Rattle.theory.proofs.Shape.{Shape}
 use Rattle.press_theory.proofs.Raised.{own-scope}
 use Rattle.arcs.specs.Tried.{tried_answer}
-use Rattle.choice.specs.Choice.{says_unsupported, chosen_of, lowest_unsupported}
+use Rattle.choice.specs.Choice.{says_unsupported, lowest_unsupported}
 use Rattle.engine.specs.Search.{Prepared, refutes_in, AllRaised, OthersRaised, ChosenIn, ChosenIs}
 use Rattle.engine.proofs.Asking.{edges_of, asked-says}
 use Rattle.engine.proofs.Raising.{raised-here, raised-elsewhere, refutes-alike, allowing-all}

@@ -39,7 +39,7 @@ use Rattle.marks.proofs.Laws.{mark-bits_of, mark-byte_of, bits-byte}
 use Rattle.arcs.specs.Active.{active_set, active_row}
 use Rattle.arcs.specs.Fixed.{allowed_set, fixed_set}
 use Rattle.arcs.specs.Closure.{is_malformed}
-use Rattle.arcs.specs.Partners.{is_partner, partner_of, lowest_in_both, byte_of_partner}
+use Rattle.arcs.specs.Partners.{is_partner, lowest_in_both, byte_of_partner}
 use Rattle.arcs.specs.declared.Closed.TheVariants.{Empty, Family as SomeFamily}
 use Rattle.arcs.proofs.Fixed.{Edges, bytes-well, closure-left, closure-answer, above-mark, below-mark}
 use Rattle.arcs.proofs.Steps.{after-set}
@@ -69,10 +69,10 @@ module _ (d : ℕ) (few : d ≤ 8) where
 
   -- a row of partners and a set of values below d
   lowest-same : (row : ℕ) (f act : ℕ → Bool) → ((u : ℕ) → u < d → mark row u ≡ act u)
-      → lowest_in_both row (bits_of d f) ≡ partner_of (first (those (λ u. f u && act u) (below d)))
+      → lowest_in_both row (bits_of d f) ≡ first (those (λ u. f u && act u) (below d))
   unfolding lowest_in_both
   lowest-same row f act same =
-      ap (λ (xs : List ℕ). partner_of (first xs)) (those-same 8 (λ u l. by u l (either (ltb u d))) ∙ those-short (λ u. f u && act u) d 8 few)
+      ap (λ (xs : List ℕ). first xs) (those-same 8 (λ u l. by u l (either (ltb u d))) ∙ those-short (λ u. f u && act u) d 8 few)
     where
       turned : (a b : Bool) → (a && b) ≡ (b && a)
       turned true true = refl
@@ -93,15 +93,15 @@ opened true true e = refl
 opened true false e = refl
 opened false a e = absurd (T_not false tt (true-is false e))
 
-byte-of : (o : Option ℕ) → byte_of_partner (partner_of o) ≡ partner_byte o
+byte-of : (o : Option ℕ) → byte_of_partner o ≡ partner_byte o
 byte-of None = refl
 byte-of (Some u) = refl
 
-found_none : (o : Option ℕ) → partner_of o ≡ None → o ≡ None
+found_none : (o : Option ℕ) → o ≡ None → o ≡ None
 found_none None e = refl
 found_none (Some k) e = cc
 
-found_some : (o : Option ℕ) {k : ℕ} → partner_of o ≡ Some k → o ≡ Some k
+found_some : (o : Option ℕ) {k : ℕ} → o ≡ Some k → o ≡ Some k
 found_some None e = cc
 found_some (Some u) e = cc
 
@@ -172,10 +172,10 @@ module _ (c : Case) (w : List ℤ) (h : Handed (rules_of c) (working_weight (rul
         told false = refl
 
   -- the value that is found
-  found-value : lowest_left c rows sets i ≡ partner_of (supported_value c w i)
+  found-value : lowest_left c rows sets i ≡ supported_value c w i
   unfolding lowest_in_both
   found-value =
-      ap (λ (xs : List ℕ). partner_of (first xs))
+      ap (λ (xs : List ℕ). first xs)
       (those-same 8 (λ k l. by k l (either (ltb k c.d)))
       ∙ those-short (λ k. active c w i k 0 && not (refuted c w R i k)) c.d 8 few)
     where

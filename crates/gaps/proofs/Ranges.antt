@@ -1,4 +1,5 @@
 -- What is asked of the case, the lengths and the numbers in `best`. Assumes nothing.
+use Rattle.definitions.specs.Answers.{answer_of}
 use Rattle.std.specs.Prelude.{Ok, Err, Option, Some, None}
 use mathlib.Core.Path.{◌≡◌, refl, sym, ap, ◌∙◌}
 use mathlib.Core.Bool.{Bool, true, false, not, ◌||◌}
@@ -19,7 +20,6 @@ use Rattle.definitions.specs.Rules.{rules_of}
 use Rattle.definitions.specs.Refusals.{◌when◌, first_refusal}
 use Rattle.definitions.specs.Case.{scopes, scope_count, lent_length}
 use Rattle.definitions.specs.Valid.{in_working, carry_out}
-use Rattle.calls.specs.Calls.{figure_of}
 use Rattle.tables.specs.Scopes.{Limited, scope_part, scope_weights, best_at, range_test, carry_test, sum_in_range, best_sum}
 use Rattle.tables.proofs.Order.{limits-hold}
 use Rattle.tables.proofs.Search.{found}
@@ -32,11 +32,11 @@ part-known c w x l long h = rw (limits-hold c l, eq-eqb (length w) (lent_length 
 
 -- ---- a figure tells whether a refusal applies
 
-refused-alike : (o : Option Refusal) {x : Refusal} (y z : ℤ) → Err x ≡ figure_of o y → Err x ≡ figure_of o z
+refused-alike : (o : Option Refusal) {x : Refusal} (y z : ℤ) → Err x ≡ answer_of o y → Err x ≡ answer_of o z
 refused-alike None y z e = cc
 refused-alike (Some x) y z e = e
 
-unrefused : (o : Option Refusal) (y : ℤ) {z : ℤ} → Ok z ≡ figure_of o y → o ≡ None
+unrefused : (o : Option Refusal) (y : ℤ) {z : ℤ} → Ok z ≡ answer_of o y → o ≡ None
 unrefused None y e = refl
 unrefused (Some x) y e = cc
 
@@ -73,7 +73,7 @@ module _ (c : Case) (best : List ℤ) (l : Limited c) (room : scope_count c ≤ 
 
     pub range-right : (w : List ℤ) (raised : List ℕ) (i : ℕ)
         → Ok (gap_below c w best raised i (scope_count c)) ≡ gap_in_range (rules_of c) c w best raised i
-    range-right w raised i = sym (ap (λ (o : Option Refusal). figure_of o (gap_below c w best raised i (scope_count c))) none-asked)
+    range-right w raised i = sym (ap (λ (o : Option Refusal). answer_of o (gap_below c w best raised i (scope_count c))) none-asked)
 
   pub range-wrong : {x : Refusal} → Err x ≡ best_sum (rules_of c) c best
       → (w : List ℤ) (raised : List ℕ) (i : ℕ) → Err x ≡ gap_in_range (rules_of c) c w best raised i

@@ -1,5 +1,6 @@
 -- The least gap of a variable's own scope and raised scopes, on all input. A weight's gap is how far it lies below its scope's number in
 -- `best`; a barred tuple's number sets none. Assumes nothing.
+use Rattle.definitions.specs.Answers.{answer_of}
 use Rattle.definitions.specs.declared.Refusal.{Refusal}
 use Rattle.std.specs.Prelude.{Bool, not, ◌&&◌, ◌||◌, List, [], ◌∷◌, ℕ, zero, suc, ◌^◌, ◌<◌, ℤ, pos, ◌-ℤ◌, T, eqb, ltb, ◌≤ℤ◌, length, get_or, if◌then◌else◌, Result, Option, Some, None}
 use Rattle.std.specs.Int.Signed.{le_z, lt_z}
@@ -10,7 +11,6 @@ use Rattle.definitions.specs.Rules.{Rules}
 use Rattle.definitions.specs.Refusals.{◌when◌, first_refusal}
 use Rattle.definitions.specs.Case.{scope_count, barred_weight}
 use Rattle.definitions.specs.Valid.{in_working, carry_out, limit_test, length_test}
-use Rattle.calls.specs.Calls.{figure_of}
 use Rattle.tables.specs.Scopes.{scope_part, best_at, range_test, carry_test}
 
 -- more than any gap of working weights; the answer where no gap is less
@@ -65,12 +65,12 @@ module _ (r : Rules) where
   AllWorking c best = (x : ℕ) → x < scope_count c → T (in_working r (best_at best x))
 
   abbrev pub gap_in_range : Case → List ℤ → List ℤ → List ℕ → ℕ → Result ℤ Refusal
-  gap_in_range c w best raised i = figure_of (first_refusal (carry_test r c ∷ range_test r c (best_at best) ∷ [])) (gap_below c w best raised i (scope_count c))
+  gap_in_range c w best raised i = answer_of (first_refusal (carry_test r c ∷ range_test r c (best_at best) ∷ [])) (gap_below c w best raised i (scope_count c))
 
   -- numbers 3, 4, 5 of the arguments and the carry, and 8 of the numbers in `best`
   unfoldable pub least_gap_answer : Case → List ℤ → List ℤ → List ℕ → ℕ → Result ℤ Refusal
   least_gap_answer c w best raised i =
-      figure_of
+      answer_of
       (first_refusal (
       limit_test r c
       ∷ length_test r c w (ltb (length best) (scope_count c) || ltb (length raised) (scope_count c))

@@ -10,10 +10,10 @@ use Rattle.definitions.specs.declared.Case.{Case}
 use Rattle.definitions.specs.declared.Refusal.{Refusal}
 use Rattle.definitions.specs.Rules.{rules_of}
 use Rattle.definitions.specs.Refusals.{first_refusal}
-use Rattle.definitions.specs.Answers.{outcome_of}
+use Rattle.definitions.specs.Answers.{outcome_of, answer_of}
 use Rattle.definitions.specs.Valid.{limit_test, edge_tests}
 use Rattle.definitions.specs.Graph.{Acyclic, is_acyclic}
-use Rattle.calls.specs.Calls.{verdict_of, is_acyclic_answer}
+use Rattle.calls.specs.Calls.{is_acyclic_answer}
 use Rattle.theory.proofs.Words.{none_below}
 use Rattle.theory.proofs.Shape.{Shape}
 use Rattle.theory.proofs.Validity.{none-applies, not-and-iff}
@@ -49,7 +49,7 @@ module _ (c : Case) where
 
   -- ---- the answers speak of walks
 
-  told : (o : Option Refusal) (b d : Bool) → verdict_of o b ≡ (if d then Ok true else Ok false) → (o ≡ None) × (b ≡ d)
+  told : (o : Option Refusal) (b d : Bool) → answer_of o b ≡ (if d then Ok true else Ok false) → (o ≡ None) × (b ≡ d)
   told None true true q = (refl, refl)
   told None true false q = (refl, cc)
   told None false true q = (refl, cc)

@@ -22,10 +22,6 @@ abbrev pub ◌>>=◌ : {A B : Type 0} → Option A → (A → Option B) → Opti
 None >>= f = None
 Some a >>= f = f a
 
-abbrev pub is_some : {A : Type 0} → Option A → Bool
-is_some None = false
-is_some (Some a) = true
-
 -- ---- lists
 
 -- the n numbers from a upwards, and the numbers below n

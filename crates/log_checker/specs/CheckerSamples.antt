@@ -15,7 +15,7 @@ use Rattle.case_lines.specs.declared.Awaited.{Awaited}
 use Rattle.checker.specs.declared.Target.{Target}
 use Rattle.checker.specs.declared.Due.{Due}
 use Rattle.checker.specs.declared.Replay.{Replay as Stretch}
-use Rattle.checker.specs.Checker.{none_raised, standing_says, fresh_replay as fresh_stretch}
+use Rattle.checker.specs.Checker.{none_raised, fresh_replay as fresh_stretch}
 use Rattle.log_checker.specs.declared.Joining.{Joining}
 use Rattle.log_checker.specs.Checker.{Between, fresh_replay, step_replay, end_replay, after_lines, block_replay, fold_replay}
 
@@ -144,7 +144,7 @@ Told = (ℕ × Joining × List ℕ) × (List ℤ × List ℤ) × ToldCase
 
 abbrev told : Between → Told
 told b = (
-  ((standing_says b.replay.stretch.standing).number, b.replay.joining, take 3 b.replay.lower),
+  ((outcome_says b.replay.stretch.standing).number, b.replay.joining, take 3 b.replay.lower),
   (eight b.starting, eight b.table),
   told_case b.case,
 )
@@ -228,7 +228,7 @@ pub kept :
     let short : Between = handing (waiting (tens 2)) (with_table small (zeros 143)) quiet (Joining.Lines 2 (ends 1)) (0 ∷ []) in
     let after : Between → List (List ℕ) → ℕ × List ℤ = λ b ts.
     let q = after_lines standard b ts in
-    ((standing_says q.replay.stretch.standing).number, eight q.starting)
+    ((outcome_says q.replay.stretch.standing).number, eight q.starting)
     in
     let ended : Between → ℕ × List ℤ = λ b. ((outcome_says (end_replay standard b).answer).number, eight (end_replay standard b).starting) in
     let waits : ℕ → ℕ → ℕ × List ℤ = λ number n. (number, fill (map pos (1 ∷ 2 ∷ 3 ∷ []) ++ tens n)) in

@@ -15,12 +15,12 @@ use Rattle.integers.specs.Lists.{map-map, map-cong}
 use Rattle.definitions.specs.declared.Case.{Case}
 use Rattle.definitions.specs.declared.Refusal.{Refusal}
 use Rattle.definitions.specs.Rules.{Rules, coherent, rules_of}
-use Rattle.definitions.specs.Answers.{outcome_of, outcome_says, figure_says}
+use Rattle.definitions.specs.Answers.{outcome_of, outcome_says, figure_says, answer_of}
 use Rattle.definitions.specs.Case.{own_length, upper_bound}
 use Rattle.definitions.specs.CaseFiles.{zeroed_from}
 use Rattle.definitions.specs.Lines.{read_line}
 use Rattle.definitions.specs.Valid.{working_weight, valid}
-use Rattle.calls.specs.Calls.{figure_of, upper_bound_answer}
+use Rattle.calls.specs.Calls.{upper_bound_answer}
 use Rattle.definitions.specs.Replay.{Held, State, fresh, step, after}
 use Rattle.logs.specs.Logs.{LogState, in_stretch, fresh_log, between_rounds, step_log, after_log, log_answers, log_end, keeps_log_rules}
 use Rattle.logs.specs.Logs.{at_stretch, some_link}
@@ -41,7 +41,7 @@ use Rattle.log_promise.proofs.LogAgrees.{AgreesLog, agrees-fresh, fold-agrees, a
 -- the library's upper bound of a table that every call takes
 bound-answered : {r : Rules} (c : Case) (v : List ℤ) → Handed r (working_weight r) c v → upper_bound_answer r c v ≡ Ok (upper_bound c v)
 unfolding upper_bound_answer
-bound-answered {r} c v h = ap (λ (o : Option Refusal). figure_of o (upper_bound c v)) (handed-unrefused h)
+bound-answered {r} c v h = ap (λ (o : Option Refusal). answer_of o (upper_bound c v)) (handed-unrefused h)
 
 outcome-says : (o : Option Refusal) → outcome_says (outcome_of o) ≡ number_says o
 outcome-says None = refl

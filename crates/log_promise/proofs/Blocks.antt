@@ -23,7 +23,7 @@ use Rattle.definitions.specs.Lines.{line_length, cut_lines, whole_lines, lines_i
 use Rattle.definitions.specs.Answers.{outcome_of}
 use Rattle.logs.specs.Logs.{LogState, step_log, after_log}
 use Rattle.checker.specs.declared.Replay.{Replay as Stretch}
-use Rattle.checker.specs.Checker.{standing_of, taken_lines, first_refused}
+use Rattle.checker.specs.Checker.{taken_lines, first_refused}
 use Rattle.checker.proofs.Fold.{stands}
 use Rattle.log_checker.specs.Checker.{Between, BlockCall, step_replay, after_lines, line_answers, fold_replay, lent_number, lent_standing, no_line, block_replay}
 use Rattle.log_checker.proofs.Folds.{refused-stands, all_stay}
@@ -183,12 +183,12 @@ module _ (r : Rules) where
   -- ---- beside the plain replay
 
   module _ {s : LogState} {b : Between} (a : AgreesLog r s b) where
-    pub agrees-standing : b.replay.stretch.standing ≡ standing_of s.stretch.refusal
+    pub agrees-standing : b.replay.stretch.standing ≡ outcome_of s.stretch.refusal
     agrees-standing = ap (λ (b : Between). b.replay.stretch.standing) a.same
 
     pub agrees-lent : s.stretch.refusal ≡ None → lent_standing r b b.replay.stretch.standing ≡ None
     agrees-lent e =
-        ap (lent_standing r b) (agrees-standing ∙ ap standing_of e) ∙ subst (λ (x : Between). lent_number r x ≡ None) (sym a.same) (a.parts.lent e)
+        ap (lent_standing r b) (agrees-standing ∙ ap outcome_of e) ∙ subst (λ (x : Between). lent_number r x ≡ None) (sym a.same) (a.parts.lent e)
 
   -- a block keeps the agreement
   module _ {s : LogState} {b : Between} (a : AgreesLog r s b) (bytes : List ℕ) where
@@ -205,7 +205,7 @@ module _ (r : Rules) where
         go : (o : Option Refusal) → s.stretch.refusal ≡ o → (u : LogState) × AgreesLog r u (block_replay r b bytes).after
         go None e = (later, subst (λ (x : BlockCall). AgreesLog r later x.after) (sym (block-lent b bytes (agrees-lent a e))) fold-later)
         go (Some x) e =
-            (s, subst (λ (k : BlockCall). AgreesLog r s k.after) (sym (block-stands b bytes (agrees-standing a ∙ ap standing_of e))) a)
+            (s, subst (λ (k : BlockCall). AgreesLog r s k.after) (sym (block-stands b bytes (agrees-standing a ∙ ap outcome_of e))) a)
 
 -- where no line was answered by a number, none has applied
 none-applied : {r : Rules} {s : LogState} {b : Between} → AgreesLog r s b → (ts : List (List ℕ)) → s.stretch.refusal ≡ None
@@ -242,7 +242,7 @@ module _ {r : Rules} where
         go : (o : Option Refusal) → (later r a xs).stretch.refusal ≡ o → then_block r first second ≡ then_block r first (block_replay r first.after ys)
         go None f = ap (then_block r first) (sym (block-lent r first.after ys (agrees-lent r (fold-later r a xs) f)))
         go (Some x) f =
-            let z : first.after.replay.stretch.standing ≡ Err x = agrees-standing r (fold-later r a xs) ∙ ap standing_of f in
+            let z : first.after.replay.stretch.standing ≡ Err x = agrees-standing r (fold-later r a xs) ∙ ap outcome_of f in
             told first.answer refl z
           where
             told : (o : Result ⊤ Refusal) → first.answer ≡ o → first.after.replay.stretch.standing ≡ Err x
@@ -260,7 +260,7 @@ module _ {r : Rules} where
         go : (o : Option Refusal) → s.stretch.refusal ≡ o
             → block_replay r b (xs ++ ys) ≡ then_block r (block_replay r b xs) (block_replay r (block_replay r b xs).after ys)
         go (Some x) e =
-            let z = agrees-standing r a ∙ ap standing_of e in
+            let z = agrees-standing r a ∙ ap outcome_of e in
             rw (block-stands r b (xs ++ ys) z, block-stands r b xs z) (rw (block-stands r b ys z))
         go None e =
             let l = agrees-lent r a e in

@@ -10,8 +10,8 @@ use native.Mathlib.Omega.{arith}
 use lib.IntN.{ℤ, pos, nat_abs}
 use lib.Dec.{T}
 use lib.ListN.{length, drop, length-drop, length-replicate}
-use Rattle.std.specs.Prelude.{if◌then◌else◌, Ok, Err, Option, Some, None}
-use Rattle.integers.specs.Words.{is_some, eq_z}
+use Rattle.std.specs.Prelude.{if◌then◌else◌, Ok, Err, Option, Some, None, is_some}
+use Rattle.integers.specs.Words.{eq_z}
 use Rattle.integers.specs.Linear.{T-eq}
 use Rattle.integers.specs.Tests.{is_true, is_false, either, and_left, and_right}
 use Rattle.integers.specs.Options.{none-some}
@@ -38,7 +38,7 @@ use Rattle.case_lines.specs.Dues.{SizesLimited, due_awaited, first_due, next_due
 use Rattle.case_theory.proofs.JoinReads.{join_lines}
 use Rattle.checker.specs.declared.Replay.{Replay as Stretch}
 use Rattle.checker.specs.Checker.{none_raised, fresh_replay as fresh_stretch}
-use Rattle.checker.specs.Checker.{StepCall as StretchCall, Asked, standing_of, due_kinds, is_short, is_void, record_out, of_due, step_tests}
+use Rattle.checker.specs.Checker.{StepCall as StretchCall, Asked, due_kinds, is_short, is_void, record_out, of_due, step_tests}
 use Rattle.checker.specs.Checker.{step_by as stretch_by, step_line as stretch_line}
 use Rattle.log_checker.specs.declared.Joining.{Joining}
 use Rattle.log_checker.specs.Checker.{EndCall, no_ends, begun_with, join_sizes, fresh_replay, of_join, of_join_line, after_lines, line_answers}
@@ -566,7 +566,7 @@ module _ {r : Rules} {s : LogState} {b : Between} (a : AgreesLog r s b) where
   step_is t = rw a.same (go s.stretch.refusal refl (sound-log-step r s t a.sound))
     where
       go : (x : Option Refusal) → s.stretch.refusal ≡ x → SoundLog r (if is_some x then s else line_read r s (read_line r.amount_width t))
-          → Reaches r (step_standing r standing t (standing_of x)) (if is_some x then s else line_read r s (read_line r.amount_width t))
+          → Reaches r (step_standing r standing t (outcome_of x)) (if is_some x then s else line_read r s (read_line r.amount_width t))
       go None e v = read-reaches a.placed a.sound a.parts e t (read_line r.amount_width t) refl v
       go (Some x) e v = (ap outcome_of (sym e), (a.bytes, a.waiting, a.join, a.lower, refl, a.parts))
 
@@ -605,7 +605,7 @@ module _ {r : Rules} {s : LogState} {b : Between} (a : AgreesLog r s b) where
       short join (Some j) (edges, due, f, mark) e = ap (λ (x : Joining). outcome_of (if is_cut_short r standing.replay x then Some CutShort else None)) f
 
       go : (x : Option Refusal) → s.stretch.refusal ≡ x
-          → (end_standing r standing (standing_of x)).answer ≡ outcome_of (if is_some x then x else if is_some s.joining then Some CutShort else at_end s.stretch)
+          → (end_standing r standing (outcome_of x)).answer ≡ outcome_of (if is_some x then x else if is_some s.joining then Some CutShort else at_end s.stretch)
       go None e =
           ap (λ (o : Option Refusal). (end_lent r standing o).answer) (a.parts.lent e)
           ∙ cut (is_cut_short r standing.replay a.join) (waiting_at s.stretch.case a.waiting a.join) a.waiting
@@ -630,7 +630,7 @@ module _ {r : Rules} {s : LogState} {b : Between} (a : AgreesLog r s b) where
           same false = refl
       left (Joining.Lines p due) o m = a.parts.starting
 
-      go : (x : Option Refusal) → s.stretch.refusal ≡ x → (end_standing r standing (standing_of x)).starting ≡ s.stretch.starting
+      go : (x : Option Refusal) → s.stretch.refusal ≡ x → (end_standing r standing (outcome_of x)).starting ≡ s.stretch.starting
       go None e = ap (λ (o : Option Refusal). (end_lent r standing o).starting) (a.parts.lent e) ∙ left a.join s.joining (a.parts.joins e)
       go (Some x) e = a.parts.cleared x e
 

@@ -9,8 +9,8 @@ use native.Mathlib.Omega.{arith}
 use lib.IntN.{ℤ, pos, negsuc, nat_abs, ◌+ℤ◌}
 use lib.Dec.{T, ltb, ltb→lt}
 use lib.Signed.{lt_z}
-use Rattle.std.specs.Prelude.{if◌then◌else◌, Option, Some, None}
-use Rattle.integers.specs.Words.{any, is_in, is_some, eq_z}
+use Rattle.std.specs.Prelude.{if◌then◌else◌, Option, Some, None, is_some}
+use Rattle.integers.specs.Words.{any, is_in, eq_z}
 use Rattle.integers.specs.Tests.{is_true, either, if-cases, and_left, and_right, or_cases, and-iff, not-or-iff, not-not-iff}
 use Rattle.integers.specs.Options.{none-some}
 use Rattle.integers.specs.Linear.{flat, zs, ◌▸◌, T-eq}

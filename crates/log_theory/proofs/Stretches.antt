@@ -1,4 +1,5 @@
 -- The stretches of a log: which lines begin one, and what its lines keep. Assumes nothing.
+use Rattle.std.specs.Prelude.{is_some}
 use mathlib.Core.Path.{◌≡◌, refl, ◌∙◌}
 use mathlib.Core.Bool.{Bool, not, ◌&&◌, ◌||◌}
 use mathlib.Core.List.{List, [], ◌∷◌}
@@ -6,7 +7,6 @@ use Prim.Native.Nat.{ℕ}
 use lib.IntN.{pos, ◌+ℤ◌}
 use lib.Dec.{T, T_not}
 use lib.Signed.{◌≤ℤ◌}
-use Rattle.integers.specs.Words.{is_some}
 use Rattle.integers.specs.Tests.{and-iff, and_intro, and_left, and_right, or_left, or_right}
 use Rattle.integers.specs.Linear.{flat, zs, ≤ℤ-trans}
 use Rattle.definitions.specs.Rules.{Rules}

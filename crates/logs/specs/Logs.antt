@@ -1,6 +1,6 @@
 -- Document 02, change 5, "Links that join and leave": the plain replay of a log, whose lines of kind 7 and 8 begin a new stretch. Assumes nothing.
-use Rattle.std.specs.Prelude.{Bool, true, false, not, ◌&&◌, ◌||◌, List, [], ◌∷◌, ℕ, ℤ, nat_abs, if◌then◌else◌, Option, Some, None}
-use Rattle.integers.specs.Words.{any, is_some}
+use Rattle.std.specs.Prelude.{Bool, true, false, not, ◌&&◌, ◌||◌, List, [], ◌∷◌, ℕ, ℤ, nat_abs, if◌then◌else◌, Option, Some, None, is_some}
+use Rattle.integers.specs.Words.{any}
 use Rattle.definitions.specs.declared.Case.{Case}
 use Rattle.definitions.specs.declared.Line.{Line}
 use Rattle.definitions.specs.declared.Refusal.{Refusal}

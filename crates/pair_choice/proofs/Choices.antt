@@ -1,4 +1,5 @@
 -- The search for values that are active together, and the first number that passes a test. Assumes nothing.
+use Rattle.std.specs.Prelude.{is_none}
 use mathlib.Core.Path.{◌≡◌, refl, sym, ap, ap₂, ◌∙◌}
 use mathlib.Core.Bool.{Bool, true, false, not, ◌&&◌}
 use mathlib.Core.Logic.{⊎_elim}
@@ -16,7 +17,7 @@ use Rattle.definitions.specs.declared.Case.{Case}
 use Rattle.definitions.specs.Rules.{Rules}
 use Rattle.marks.specs.Marks.{mark, lowest_of, without, in_both}
 use Rattle.marks.proofs.Laws.{mark-zero, lowest-small, lowest-marked}
-use Rattle.arcs.specs.Partners.{has_partner, is_nothing}
+use Rattle.arcs.specs.Partners.{has_partner}
 use Rattle.arcs.proofs.Search.{mark-without, none-common, least-common, nothing-found}
 use Rattle.tables.proofs.Search.{found, not_found, and-next}
 use Rattle.pair_choice.specs.PairChoice.{has_choice, active_choice, takes_round, takes_pair}
@@ -33,10 +34,10 @@ module _ (rows : List ℕ) (at other : ℕ) where
     row = get_or rows (at + k) 0
 
     pub no-partner : both ≡ 0 → fits k ≡ false
-    no-partner z = not-true (fits k) (sym (nothing-found row other) ∙ ap is_nothing (sym (none-common row other both e z)))
+    no-partner z = not-true (fits k) (sym (nothing-found row other) ∙ ap is_none (sym (none-common row other both e z)))
 
     pub a-partner : (both ≡ 0 → ⊥) → fits k ≡ true
-    a-partner ne = not-false (fits k) (sym (nothing-found row other) ∙ ap is_nothing (sym (least-common row other both e ne (lowest_of both) refl)))
+    a-partner ne = not-false (fits k) (sym (nothing-found row other) ∙ ap is_none (sym (least-common row other both e ne (lowest_of both) refl)))
 
   pub no-choice : false ≡ has_choice rows at 0 other
   unfolding has_choice

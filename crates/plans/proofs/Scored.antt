@@ -6,25 +6,24 @@ use mathlib.Core.List.{List}
 use Prim.Native.Nat.{ℕ}
 use lib.IntN.{ℤ}
 use lib.Dec.{T}
-use Rattle.std.specs.Prelude.{if◌then◌else◌, Result, Ok, Err, Option, Some, None}
-use Rattle.integers.specs.Words.{is_some}
+use Rattle.std.specs.Prelude.{if◌then◌else◌, Result, Ok, Err, Option, Some, None, is_some}
 use Rattle.integers.specs.Tests.{not-or-iff}
 use Rattle.definitions.specs.declared.Case.{Case}
 use Rattle.definitions.specs.declared.Refusal.{Refusal}
 use Rattle.definitions.specs.declared.Choice.{Choice}
 use Rattle.definitions.specs.Rules.{rules_of, coherent}
 use Rattle.definitions.specs.Refusals.{first_refusal}
-use Rattle.definitions.specs.Answers.{outcome_of}
+use Rattle.definitions.specs.Answers.{outcome_of, answer_of}
 use Rattle.definitions.specs.Case.{objective, is_assignment, uses_barred}
 use Rattle.definitions.specs.Valid.{starting_weight, working_weight, wrong_assignment, value_out, handed_over}
-use Rattle.calls.specs.Calls.{objective_answer, figure_of}
+use Rattle.calls.specs.Calls.{objective_answer}
 use Rattle.definitions.specs.Scoring.{lawful_total, ranks_below, better_of}
 use Rattle.theory.proofs.Validity.{handed, Valid, working-handed, lent-assignment}
 use Rattle.tables.proofs.Order.{outcome-done, outcome-refused}
 use Rattle.plans.specs.Totals.{total_in}
 
 -- a figure has a total just where no refusal applies
-total_of : (o : Option Refusal) (b : Bool) (z : ℤ) → T (not (is_some o)) ↔ T (not b) → total_in (figure_of o z) ≡ (if b then None else Some z)
+total_of : (o : Option Refusal) (b : Bool) (z : ℤ) → T (not (is_some o)) ↔ T (not b) → total_in (answer_of o z) ≡ (if b then None else Some z)
 total_of None true z f = absurd (f.0 tt)
 total_of None false z f = refl
 total_of (Some x) true z f = refl

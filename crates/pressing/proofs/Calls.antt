@@ -1,5 +1,5 @@
 -- What the calls leave, at each way out of the code. Assumes nothing.
-use Rattle.definitions.specs.Answers.{refused_at}
+use Rattle.definitions.specs.Answers.{refused_at, answer_of}
 use mathlib.Core.Path.{◌≡◌, refl, sym, ap, ap₂, ◌∙◌}
 use mathlib.Core.Bool.{Bool}
 use mathlib.Core.List.{List}
@@ -13,7 +13,6 @@ use Rattle.definitions.specs.declared.CaseRead.{CaseRead}
 use Rattle.definitions.specs.declared.Refusal.{Refusal}
 use Rattle.definitions.specs.declared.Round.{Round}
 use Rattle.definitions.specs.Rules.{rules_of}
-use Rattle.calls.specs.Calls.{written_of}
 use Rattle.definitions.specs.CaseFiles.{CaseCall, case_of, case_size, read_case_alone}
 use Rattle.definitions.specs.Engine.{engine_next}
 use Rattle.calls.specs.EngineCalls.{RoundCall, is_leaving, engine_refusal}
@@ -75,7 +74,7 @@ module _ (p : Pressing) (call : RoundCall) {res : Result Round Refusal} {v : Lis
 -- ---- where no round may follow
 module _ (p : Pressing) (w : List ℤ) (out : List ℕ) where
   abbrev idle : PressingCall
-  idle = record { pressed = to_pressed p (written_of (engine_refusal (rules_of p.case) engine_next p.case w out) 0); table = w; out = out }
+  idle = record { pressed = to_pressed p (answer_of (engine_refusal (rules_of p.case) engine_next p.case w out) 0); table = w; out = out }
 
   pub next-is : {b : Bool} → eqb p.left 0 ≡ b → (if b then idle else round_next p w out) ≡ next_pressing p w out
   unfolding next_pressing

@@ -1,6 +1,6 @@
 -- The start and the rounds print what document 01 says of the whole input. Assumes nothing.
 use Rattle.definitions.specs.declared.RefusedAt.{RefusedAt}
-use Rattle.definitions.specs.Answers.{refused_at}
+use Rattle.definitions.specs.Answers.{refused_at, answer_of}
 use mathlib.Core.Path.{◌≡◌, refl, sym, ap, subst, ◌∙◌}
 use mathlib.Core.Bool.{Bool}
 use mathlib.Core.List.{List, [], ◌++◌, append_assoc, append-nil}
@@ -21,7 +21,7 @@ use Rattle.definitions.specs.declared.CaseRead.{CaseRead}
 use Rattle.definitions.specs.declared.Refusal.{Refusal}
 use Rattle.definitions.specs.declared.Refusal.TheVariants.{LeavesRange}
 use Rattle.definitions.specs.Rules.{Rules, Coherent, coherent, rules_in, rules_of}
-use Rattle.calls.specs.Calls.{WriteCall, written_of}
+use Rattle.calls.specs.Calls.{WriteCall}
 use Rattle.definitions.specs.Valid.{working_weight}
 use Rattle.definitions.specs.Moves.{Move, after_moves}
 use Rattle.definitions.specs.Lines.{line_length, overwritten}
@@ -54,7 +54,7 @@ idle g = record {
   pressed = record {
     pressing = g.pressed.pressing;
     written =
-        written_of (engine_refusal (rules_of g.pressed.pressing.case) engine_next g.pressed.pressing.case g.table g.out) 0;
+        answer_of (engine_refusal (rules_of g.pressed.pressing.case) engine_next g.pressed.pressing.case g.table g.out) 0;
   };
   table = g.table;
   out = g.out;
@@ -64,7 +64,7 @@ idle g = record {
 idle-text : (g : PressingCall) → text_of (idle g) ≡ []
 idle-text g = go (engine_refusal (rules_of g.pressed.pressing.case) engine_next g.pressed.pressing.case g.table g.out)
   where
-    go : (o : Option Refusal) → printed_bytes (written_of o 0) g.out ≡ []
+    go : (o : Option Refusal) → printed_bytes (answer_of o 0) g.out ≡ []
     go None = refl
     go (Some x) = refl
 

@@ -1,6 +1,6 @@
 -- The program `press` as a start and rounds one after another, on all input. Assumes nothing.
 use Rattle.definitions.specs.declared.RefusedAt.{RefusedAt}
-use Rattle.definitions.specs.Answers.{refused_at}
+use Rattle.definitions.specs.Answers.{refused_at, answer_of}
 use Rattle.definitions.specs.Answers.{size_with}
 use Rattle.std.specs.Prelude.{List, ℕ, ◌-◌, ℤ, eqb, ltb, length, if◌then◌else◌, Result, Ok, Err}
 use Rattle.definitions.specs.declared.CaseSize.{CaseSize}
@@ -10,7 +10,7 @@ use Rattle.definitions.specs.declared.Refusal.TheVariants.{WrongLength}
 use Rattle.definitions.specs.declared.Round.{Round}
 use Rattle.definitions.specs.Rules.{rules_of}
 use Rattle.definitions.specs.Refusals.{number}
-use Rattle.calls.specs.Calls.{WriteCall, written_of}
+use Rattle.calls.specs.Calls.{WriteCall}
 use Rattle.definitions.specs.CaseFiles.{CaseCall, case_of, case_size, read_case_alone}
 use Rattle.definitions.specs.Engine.{engine_next}
 use Rattle.calls.specs.EngineCalls.{RoundCall, is_leaving, engine_refusal, round_call}
@@ -96,7 +96,7 @@ unfoldable pub next_pressing : Pressing → List ℤ → List ℕ → PressingCa
 next_pressing p w out =
     if eqb p.left 0
     then record {
-      pressed = record { pressing = p; written = written_of (engine_refusal (rules_of p.case) engine_next p.case w out) 0 };
+      pressed = record { pressing = p; written = answer_of (engine_refusal (rules_of p.case) engine_next p.case w out) 0 };
       table = w;
       out = out;
     }

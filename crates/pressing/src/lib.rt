@@ -2,11 +2,11 @@
 // to be printed next to a lent output, and what stands between the calls is a record by value and the lent table.
 #![tactic(auto)]
 
+ghost use Rattle.definitions.specs.Answers.{answer_of};
 ghost use Rattle.std.specs.Prelude.{◌≡◌, false, ◌<◌, length};
 ghost use Rattle.definitions.specs.declared.Rulebook.TheVariants.{Desk};
 ghost use Rattle.definitions.specs.Rules.{rules_of};
 ghost use Rattle.definitions.specs.CaseFiles.{case_of, case_size};
-ghost use Rattle.calls.specs.Calls.{written_of};
 ghost use Rattle.calls.specs.EngineCalls.{is_leaving};
 ghost use Rattle.definitions.specs.Programs.{table_for};
 ghost use Rattle.round_lines.specs.Asked.{round_refusal};
@@ -130,7 +130,7 @@ fn one_round(pressing: Pressing, table: &mut [i64], out: &mut [u8]) -> Pressed
 
 // No round may follow: what is handed over is asked as the engine's round asks it.
 fn ask_round(case: Case, table: &[i64], length: usize) -> Result<usize, Refusal>
-    ensures { result ≡ written_of (round_refusal (rules_of case) case table.now length false) 0 }
+    ensures { result ≡ answer_of (round_refusal (rules_of case) case table.now length false) 0 }
 {
     let asked = round_lines::check_round(case, table, length, false);
     match asked {

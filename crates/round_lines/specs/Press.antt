@@ -7,12 +7,12 @@ use Rattle.definitions.specs.declared.Refusal.{Refusal}
 use Rattle.definitions.specs.declared.Refusal.TheVariants.{WrongLength, OutOfRange}
 use Rattle.definitions.specs.Rules.{Rules}
 use Rattle.definitions.specs.Refusals.{◌when◌, first_refusal}
-use Rattle.definitions.specs.Answers.{unless_refused}
+use Rattle.definitions.specs.Answers.{unless_refused, answer_of}
 use Rattle.definitions.specs.Case.{scope_count}
 use Rattle.definitions.specs.Valid.{limit_test}
 use Rattle.definitions.specs.Lines.{line, line_text, line_length, line_too_wide, overwritten}
 use Rattle.definitions.specs.RoundLines.{raise_line, bound_line, lines_of_void}
-use Rattle.calls.specs.Calls.{WriteCall, written_of, is_raised}
+use Rattle.calls.specs.Calls.{WriteCall, is_raised}
 use Rattle.round_lines.specs.declared.Entry.{Entry}
 use Rattle.round_lines.specs.declared.Entry.TheVariants.{Press, Void}
 
@@ -61,7 +61,7 @@ Put at text end out next = (p o : List ℕ) → out ≡ overwritten p o → leng
 -- ---- the call
 
 abbrev pub text_written : List ℕ → List ℕ → Option Refusal → WriteCall
-text_written text out refusal = record { answer = written_of refusal (length text); out = unless_refused refusal (overwritten text out) out }
+text_written text out refusal = record { answer = answer_of refusal (length text); out = unless_refused refusal (overwritten text out) out }
 
 abbrev pub put_call : ℕ → Line → List Line → List ℕ → List ℕ → WriteCall
 put_call width first last xs out =

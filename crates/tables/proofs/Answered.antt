@@ -15,39 +15,25 @@ use Rattle.definitions.specs.declared.Case.{Case}
 use Rattle.definitions.specs.declared.Refusal.{Refusal}
 use Rattle.definitions.specs.Rules.{rules_of, coherent}
 use Rattle.definitions.specs.Refusals.{first_refusal}
-use Rattle.definitions.specs.Answers.{outcome_of}
+use Rattle.definitions.specs.Answers.{outcome_of, answer_of}
 use Rattle.definitions.specs.Case.{scope_count, lent_length, greatest, upper_bound}
 use Rattle.definitions.specs.Valid.{in_working, working_weight, carry_out, within_limits, handed_over}
-use Rattle.calls.specs.Calls.{figure_of, verdict_of}
 use Rattle.theory.proofs.Barred.{greatest-in-range}
 use Rattle.theory.proofs.Validity.{Handed, handed}
 use Rattle.tables.specs.Scopes.{Limited, scope_part, scope_weights, greatest_sum}
 use Rattle.tables.proofs.Order.{limited-by, outcome-done, outcome-refused}
 use Rattle.tables.proofs.Bounds.{sum-given}
 
-module _ (o : Option Refusal) where
-  refused-figure : {x : Refusal} (z : ℤ) → o ≡ Some x → Err x ≡ figure_of o z
-  refused-figure z e = rw e
-
-  refused-verdict : {x : Refusal} (b : Bool) → o ≡ Some x → Err x ≡ verdict_of o b
-  refused-verdict b e = rw e
-
 -- a table of working weights
 module _ (c : Case) (w : List ℤ) (wrong out : Bool) where
   abbrev asked : Option Refusal
   asked = first_refusal (handed_over (rules_of c) (working_weight (rules_of c)) c w wrong out)
 
-  pub figure-refused : {x : Refusal} (z : ℤ) → Err x ≡ outcome_of asked → Err x ≡ figure_of asked z
-  figure-refused z e = refused-figure asked z (outcome-refused e)
+  pub answer-refused : {A : Type 0} {x : Refusal} (a : A) → Err x ≡ outcome_of asked → Err x ≡ answer_of asked a
+  answer-refused a e = let d = outcome-refused e in rw d
 
-  pub figure-given : (z : ℤ) → Ok tt ≡ outcome_of asked → Ok z ≡ figure_of asked z
-  figure-given z e = let d : asked ≡ None = outcome-done e in rw d
-
-  pub verdict-refused : {x : Refusal} (b : Bool) → Err x ≡ outcome_of asked → Err x ≡ verdict_of asked b
-  verdict-refused b e = refused-verdict asked b (outcome-refused e)
-
-  pub verdict-given : (b : Bool) → Ok tt ≡ outcome_of asked → (if b then Ok true else Ok false) ≡ verdict_of asked b
-  verdict-given b e = let d : asked ≡ None = outcome-done e in rw d
+  pub answer-given : {A : Type 0} (a : A) → Ok tt ≡ outcome_of asked → Ok a ≡ answer_of asked a
+  answer-given a e = let d : asked ≡ None = outcome-done e in rw d
 
   pub known : Ok tt ≡ outcome_of asked → Handed (rules_of c) (working_weight (rules_of c)) c w × T (not wrong) × T (not out)
   known e = let d : asked ≡ None = outcome-done e in (handed (rules_of c) (working_weight (rules_of c)) c w wrong out).0 (rw d tt)

@@ -1,4 +1,5 @@
 -- Sums over scopes of numbers in the range, which fit, and sums that are refused. Assumes nothing.
+use Rattle.definitions.specs.Answers.{answer_of}
 use Rattle.std.specs.Prelude.{Ok, Err}
 use mathlib.Core.Path.{◌≡◌, ap, ap₂}
 use mathlib.Core.Bool.{Bool, false, not}
@@ -24,7 +25,6 @@ use Rattle.definitions.proofs.RulesLaws.{rules-fit}
 use Rattle.definitions.specs.Refusals.{◌when◌, first_refusal}
 use Rattle.definitions.specs.Case.{scope_count}
 use Rattle.definitions.specs.Valid.{in_working, carry_out}
-use Rattle.calls.specs.Calls.{figure_of}
 use Rattle.tables.specs.Scopes.{carry_test, sum_in_range}
 use Rattle.tables.proofs.Search.{found, not_found}
 
@@ -55,6 +55,6 @@ module _ (c : Case) (f : ℕ → ℤ) where
 
   pub sum_same : (g : ℕ → ℤ) → ((x : ℕ) → x < scope_count c → f x ≡ g x) → sum_in_range (rules_of c) c f ≡ sum_in_range (rules_of c) c g
   sum_same g h =
-      ap₂ (λ (b : Bool) (z : ℤ). figure_of (first_refusal (carry_test (rules_of c) c ∷ WeightOutOfRange when b ∷ [])) (z +ℤ c.carry))
+      ap₂ (λ (b : Bool) (z : ℤ). answer_of (first_refusal (carry_test (rules_of c) c ∷ WeightOutOfRange when b ∷ [])) (z +ℤ c.carry))
       (any_same (scope_count c) (λ x l. ap (λ (z : ℤ). not (in_working (rules_of c) z)) (h x l)))
       (Σ-cong f g 0 (scope_count c) (λ x l u. h x (omega arith)))

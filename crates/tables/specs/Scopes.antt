@@ -8,10 +8,9 @@ use Rattle.definitions.specs.declared.Refusal.{Refusal}
 use Rattle.definitions.specs.declared.Refusal.TheVariants.{WrongLength, OutOfRange, WeightOutOfRange}
 use Rattle.definitions.specs.Rules.{Rules, rules_of, variable_places, edge_places, scope_places}
 use Rattle.definitions.specs.Refusals.{Test, ◌when◌, first_refusal}
-use Rattle.definitions.specs.Answers.{outcome_of, unless_refused}
+use Rattle.definitions.specs.Answers.{outcome_of, unless_refused, answer_of}
 use Rattle.definitions.specs.Case.{scope_count, scopes, is_variable, place, own_length, lent_length, greatest, upper_bound, is_barred}
 use Rattle.definitions.specs.Valid.{in_working, all_weights, within_limits, carry_out, limit_test, length_test, edge_tests, weight_test, scope_test}
-use Rattle.calls.specs.Calls.{figure_of}
 
 -- the case is within its rules' limits, and so within plain bounds
 pub record Limited (c : Case) : Type 0 where
@@ -103,15 +102,15 @@ module _ (r : Rules) where
 
   -- the sum of each scope's number and the carry, if all are in their ranges
   abbrev pub sum_in_range : Case → (ℕ → ℤ) → Result ℤ Refusal
-  sum_in_range c f = figure_of (first_refusal (carry_test c ∷ range_test c f ∷ [])) (sum (map f (scopes c)) +ℤ c.carry)
+  sum_in_range c f = answer_of (first_refusal (carry_test c ∷ range_test c f ∷ [])) (sum (map f (scopes c)) +ℤ c.carry)
 
   -- of each scope's greatest weight: numbers 3, 4, 5 and 8
   unfoldable pub greatest_sum : Case → List ℤ → Result ℤ Refusal
-  greatest_sum c w = figure_of (first_refusal (limit_test r c ∷ length_test r c w false ∷ carry_test c ∷ range_test c (greatest c w) ∷ [])) (upper_bound c w)
+  greatest_sum c w = answer_of (first_refusal (limit_test r c ∷ length_test r c w false ∷ carry_test c ∷ range_test c (greatest c w) ∷ [])) (upper_bound c w)
 
   -- of the first s numbers in `best`: numbers 3, 4, 5 and 8
   unfoldable pub best_sum : Case → List ℤ → Result ℤ Refusal
   best_sum c best =
-      figure_of
+      answer_of
       (first_refusal (limit_test r c ∷ WrongLength when (ltb (length best) (scope_count c)) ∷ carry_test c ∷ range_test c (best_at best) ∷ []))
       (sum (map (best_at best) (scopes c)) +ℤ c.carry)

@@ -5,9 +5,9 @@ use Rattle.definitions.specs.declared.Judgement.{Judgement}
 use Rattle.definitions.specs.declared.Refusal.{Refusal}
 use Rattle.definitions.specs.declared.Refusal.TheVariants.{WrongLength, OutOfRange}
 use Rattle.definitions.specs.Refusals.{◌when◌, first_refusal}
-use Rattle.definitions.specs.Answers.{unless_refused, refused_at}
+use Rattle.definitions.specs.Answers.{unless_refused, refused_at, answer_of}
 use Rattle.definitions.specs.Lines.{number_text, overwritten}
-use Rattle.calls.specs.Calls.{WriteCall, written_of}
+use Rattle.calls.specs.Calls.{WriteCall}
 use Rattle.definitions.specs.Programs.{bytes_of, refused_text, accepted_text, judgement_text}
 
 -- the bytes that an output must have: no line that a program prints is longer
@@ -24,7 +24,7 @@ text_refusal room count = first_refusal (WrongLength when (ltb room text_room) �
 
 abbrev pub write_text_call : List ℕ → ℕ → List ℕ → WriteCall
 write_text_call out count text = record {
-  answer = written_of (text_refusal (length out) count) (length text);
+  answer = answer_of (text_refusal (length out) count) (length text);
   out = unless_refused (text_refusal (length out) count) (overwritten text out) out;
 }
 

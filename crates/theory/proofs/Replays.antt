@@ -14,8 +14,8 @@ use lib.IntN.{ℤ, pos, negsuc, nat_abs, ◌+ℤ◌}
 use lib.Dec.{T, eqb, ltb, ltb→lt, lt→ltb}
 use lib.Signed.{◌≤ℤ◌, ◌<ℤ◌}
 use lib.ListN.{length, length-append}
-use Rattle.std.specs.Prelude.{if◌then◌else◌, Option, Some, None}
-use Rattle.integers.specs.Words.{all, last, is_in, is_some}
+use Rattle.std.specs.Prelude.{if◌then◌else◌, Option, Some, None, is_some}
+use Rattle.integers.specs.Words.{all, last, is_in}
 use Rattle.integers.specs.Tests.{false-is, and-iff, not-or-iff, not-not-iff, not-leb-iff, not-eqb-iff, if-cases, and_intro, and_left, and_right}
 use Rattle.integers.specs.Options.{some_inj, none-some}
 use Rattle.integers.specs.Linear.{flat, zs, ◌▸◌, T-eq, ≤ℤ-trans, ≤ℤ-of-eq}

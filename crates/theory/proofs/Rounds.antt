@@ -14,8 +14,8 @@ use lib.IntN.{ℤ, pos, negsuc, nat_abs}
 use lib.Dec.{T, eqb, eqb→eq, ltb, ltb→lt, nltb→le, lt→ltb, lit<}
 use lib.Signed.{◌≤ℤ◌, ◌<ℤ◌}
 use lib.ListN.{length}
-use Rattle.std.specs.Prelude.{if◌then◌else◌, Option, Some, None}
-use Rattle.integers.specs.Words.{first, last, joined, is_in, is_some, minus, within_z}
+use Rattle.std.specs.Prelude.{if◌then◌else◌, Option, Some, None, is_some}
+use Rattle.integers.specs.Words.{first, last, joined, is_in, minus, within_z}
 use Rattle.integers.specs.Tests.{and-iff, not-or-iff, not-not-iff, not-leb-iff, not-eqb-iff, and_intro, and_left, and_right, either, if-false, if-cases}
 use Rattle.integers.specs.Linear.{flat, zs, ◌▸◌, T-eq}
 use Rattle.integers.specs.Lists.{◌∈◌, map-append}

@@ -5,8 +5,7 @@ use mathlib.Core.List.{List, [], ◌∷◌}
 use Prim.Native.Nat.{ℕ}
 use lib.IntN.{ℤ}
 use lib.Dec.{T}
-use Rattle.std.specs.Prelude.{if◌then◌else◌, Option, Some, None}
-use Rattle.integers.specs.Words.{is_some}
+use Rattle.std.specs.Prelude.{if◌then◌else◌, Option, Some, None, is_some}
 use Rattle.integers.specs.Tests.{if-cases, not-or-iff}
 use Rattle.integers.specs.Options.{some_inj, none-some}
 use Rattle.definitions.specs.declared.Case.{Case}

@@ -11,8 +11,8 @@ use lib.IntN.{ℤ, pos}
 use lib.Dec.{T, T_not, not_T, eqb, ltb}
 use lib.Signed.{le_z}
 use lib.ListN.{length, get_or}
-use Rattle.std.specs.Prelude.{if◌then◌else◌, Some}
-use Rattle.integers.specs.Words.{all, within_z, minus, eq_z, is_some, ◌⇒◌}
+use Rattle.std.specs.Prelude.{if◌then◌else◌, Some, is_some}
+use Rattle.integers.specs.Words.{all, within_z, minus, eq_z, ◌⇒◌}
 use Rattle.integers.specs.Tests.{tests, and_left, and_right, and_intro, or_left, or_right, or_cases, not-not-iff}
 use Rattle.integers.specs.Linear.{flat, zs, ◌▸◌, T-eq}
 use Rattle.integers.specs.Lists.{all_in, any-in, all-at, all_of}

@@ -1,3 +1,4 @@
+use Rattle.std.proofs.lemmas.Result.{err_from_is_err_and}
 use Rattle.std.specs.Prelude.{Ok}
 use mathlib.Core.Path.{◌≡◌, sym, ap, ap₂, ◌∙◌}
 use mathlib.Core.Bool.{Bool, ◌||◌}
@@ -9,38 +10,40 @@ use Rattle.definitions.specs.Case.{scope_count}
 use Rattle.arcs.specs.Active.{Sized, length_refusal, marks_refusal}
 use Rattle.arcs.proofs.Prepared.{marks-refused, marks-done, marks-asked}
 use Rattle.arcs.proofs.active_marks.Goals as goal
-use Rattle.arcs.proofs.active_marks.Goals.{After-check_lengths-checked, In-Ok}
+use Rattle.arcs.proofs.active_marks.Goals.{After-check_lengths, In_ok-check_lengths}
 
 -- what was asked
-asked : (c : After-check_lengths-checked) → let a = c.args in
-    c.check_lengths-checked.result ≡ outcome_of (marks_refusal (rules_of a.case) a.case a.table.now a.best.now a.sets.now a.rows.now)
+asked : (c : After-check_lengths) → let a = c.args in
+    c.check_lengths.result ≡ outcome_of (marks_refusal (rules_of a.case) a.case a.table.now a.best.now a.sets.now a.rows.now)
 asked c =
     let a = c.args in
-    c.check_lengths-checked.ensures
+    c.check_lengths.ensures
     ∙ ap (λ (b : Bool). outcome_of (length_refusal (rules_of a.case) a.case a.table.now b))
     (c.either-wrong.ensures ∙ ap₂ ◌||◌ c.too_few.ensures c.bytes_too_few.ensures)
 
-done : (c : In-Ok) → let a = c.args in
+done : (c : In_ok-check_lengths) → let a = c.args in
     Ok tt ≡ outcome_of (marks_refusal (rules_of a.case) a.case a.table.now a.best.now a.sets.now a.rows.now)
-done c = sym c.in-Ok.is ∙ asked (goal.at.In-Ok c).After-check_lengths-checked
+done c = sym c.in_ok-check_lengths.was ∙ asked (goal.at.In_ok-check_lengths c).After-check_lengths
 
-known : (c : In-Ok) → let a = c.args in
+known : (c : In_ok-check_lengths) → let a = c.args in
     Sized a.case a.table.now × (scope_count a.case ≤ length a.best.now) × (a.case.n ≤ length a.sets.now)
     × (16 * a.case.m ≤ length a.rows.now)
 known c = let a = c.args in marks-asked a.case a.table.now a.best.now a.sets.now a.rows.now (done c)
 
 pub write_sets-requires : goal.write_sets-requires
-write_sets-requires c = let k = known (goal.at.write_sets-requires c).In-Ok in record { sized = k.0; case_in_bounds = (k.1, k.2) }
+write_sets-requires c = let k = known (goal.at.write_sets-requires c).In_ok-check_lengths in record { sized = k.0; case_in_bounds = (k.1, k.2) }
 
 pub write_rows-requires : goal.write_rows-requires
-write_rows-requires c = let k = known (goal.at.write_rows-requires c).In-Ok in record { sized = k.0; case_in_bounds = (k.1, k.3) }
+write_rows-requires c = let k = known (goal.at.write_rows-requires c).In_ok-check_lengths in record { sized = k.0; case_in_bounds = (k.1, k.3) }
 
-pub returns-in-Err : goal.returns-in-Err
-returns-in-Err c =
+pub returns-in_err-check_lengths : goal.returns-in_err-check_lengths
+returns-in_err-check_lengths c =
     let a = c.args in
-    marks-refused a.case a.table.now a.best.now a.sets.now a.rows.now (sym c.in-Err.is ∙ asked (goal.at.returns-in-Err c).After-check_lengths-checked)
+    let p = err_from_is_err_and c.from_residual.result c.from_residual.ensures.1 in
+    rw (p.1, p.2) (marks-refused a.case a.table.now a.best.now a.sets.now a.rows.now
+    (sym c.in_err-check_lengths.was ∙ asked (goal.at.returns-in_err-check_lengths c).After-check_lengths))
 
-pub returns-in-Ok : goal.returns-in-Ok
-returns-in-Ok c =
+pub returns : goal.returns
+returns c =
     let a = c.args in
-    marks-done a.case a.table.now a.best.now a.sets.now a.rows.now (done (goal.at.returns-in-Ok c).In-Ok) _ _ c.write_sets.ensures c.write_rows.ensures
+    marks-done a.case a.table.now a.best.now a.sets.now a.rows.now (done (goal.at.returns c).In_ok-check_lengths) _ _ c.write_sets.ensures c.write_rows.ensures

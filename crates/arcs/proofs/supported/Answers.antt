@@ -1,9 +1,10 @@
+use Rattle.std.specs.Prelude.{is_none}
 use mathlib.Core.Path.{◌≡◌, ap, ◌∙◌}
 use mathlib.Core.Bool.{Bool}
 use Prim.Native.Nat.{ℕ, ◌+◌}
 use native.Mathlib.Omega.{arith}
 use lib.ListN.{get_or}
-use Rattle.arcs.specs.Partners.{is_nothing, has_partner, supported_values}
+use Rattle.arcs.specs.Partners.{has_partner, supported_values}
 use Rattle.arcs.proofs.Search.{nothing-found, kept_below, kept-none, kept-one-more, kept-all}
 use Rattle.arcs.proofs.supported.Goals as goal
 
@@ -18,8 +19,8 @@ loop-k-preserved c =
       omega (arith, c.loop-k-test.true),
       c.kept_with-kept.ensures
           ∙ kept-one-more (λ v. has_partner (get_or a.rows.now (a.at + v) 0) a.other) a.set l.k l.kept l.invariant.1
-          (is_nothing c.lowest_partner.result)
-          (ap is_nothing c.lowest_partner.ensures ∙ nothing-found row a.other),
+          (is_none c.lowest_partner.result)
+          (ap is_none c.lowest_partner.ensures ∙ nothing-found row a.other),
     )
 
 pub returns : goal.returns

@@ -4,7 +4,7 @@ use Prim.Native.Nat.{ℕ}
 use native.Mathlib.Omega.{arith}
 use lib.ListN.{length}
 use Rattle.arcs.specs.Tried.{tried_answer}
-use Rattle.choice.specs.Choice.{says_unsupported, unsupported_in, chosen_of}
+use Rattle.choice.specs.Choice.{says_unsupported, unsupported_in}
 use Rattle.choice.proofs.Firsts.{first-is, first-nothing}
 use Rattle.choice.proofs.lowest_in.Goals as goal
 

@@ -13,7 +13,7 @@ use Rattle.definitions.specs.Consistency.{refuted as refuted_value}
 use Rattle.calls.specs.Calls.{is_marked, refuted_answer}
 use Rattle.theory.proofs.Validity.{Handed}
 use Rattle.tables.specs.Scopes.{BestOf}
-use Rattle.tables.proofs.Answered.{limits-known, verdict-refused, verdict-given}
+use Rattle.tables.proofs.Answered.{limits-known, answer-refused, answer-given}
 use Rattle.tables.proofs.Best.{greatest-known}
 use Rattle.consistency.specs.Arguments.{arguments_out}
 use Rattle.consistency.proofs.Arguments.{arguments-known}
@@ -52,7 +52,7 @@ pub returns-in-Err : goal.returns-in-Err
 unfolding refuted_answer
 returns-in-Err c =
     let a = c.args in
-    verdict-refused a.case a.table.now (not (eqb (length a.raised.now) (scope_count a.case)))
+    answer-refused a.case a.table.now (not (eqb (length a.raised.now) (scope_count a.case)))
     (arguments_out a.case a.raised.now a.variable a.value)
     (refuted_value a.case a.table.now (is_marked a.raised.now) a.variable a.value)
     (sym c.in-Err.is ∙ asked (goal.at.returns-in-Err c).After-check_working-checked)
@@ -70,7 +70,7 @@ returns-in-Ok c =
     ∙ value-unsupported-is-refuted a.case a.table.now k.0 best (best-known (goal.at.returns-in-Ok c).After-greatest_weights) a.raised.now
     (omega (arith, k.1.0)) (omega arith) (omega arith)
     (is_marked a.raised.now) (λ x u. bytes-raised a.raised.now x (k.1.1 x u)) a.variable a.value k.1.2 k.1.3
-    ∙ verdict-given a.case a.table.now (not (eqb (length a.raised.now) (scope_count a.case)))
+    ∙ answer-given a.case a.table.now (not (eqb (length a.raised.now) (scope_count a.case)))
     (arguments_out a.case a.raised.now a.variable a.value)
     (refuted_value a.case a.table.now (is_marked a.raised.now) a.variable a.value)
     (sym c.in-Ok.is

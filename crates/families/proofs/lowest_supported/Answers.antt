@@ -1,10 +1,11 @@
+use Rattle.std.specs.Prelude.{is_none}
 use mathlib.Core.Path.{◌≡◌, sym, ap, subst, ◌∙◌}
 use mathlib.Core.Bool.{Bool}
 use Prim.Native.Nat.{ℕ, ◌<◌}
 use lib.Dec.{T}
 use Rattle.marks.specs.Marks.{mark, byte_of}
 use Rattle.marks.proofs.Laws.{mark-byte_of}
-use Rattle.arcs.specs.Partners.{lowest_in_both, is_nothing, byte_of_partner}
+use Rattle.arcs.specs.Partners.{lowest_in_both, byte_of_partner}
 use Rattle.arcs.proofs.Search.{lowest-struck, lowest_step, lowest-at, lowest-none}
 use Rattle.arcs.proofs.Places.{value-small}
 use Rattle.families.specs.Closing.{is_family, leaves, left_sets}
@@ -45,5 +46,5 @@ returns c =
     let a = c.args in
     let other = byte_of (leaves a.case a.rows.now a.sets a.variable) in (
       sym (lowest-none other) ∙ ap (λ (s : ℕ). lowest_in_both s other) (sym c.loop-untried-test.false) ∙ c.loop-untried.invariant.1,
-      λ k e. absurd (subst (λ (b : Bool). T b) (ap is_nothing e) tt),
+      λ k e. absurd (subst (λ (b : Bool). T b) (ap is_none e) tt),
     )

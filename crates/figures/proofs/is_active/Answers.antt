@@ -6,7 +6,7 @@ use Rattle.definitions.specs.Refusals.{first_refusal}
 use Rattle.definitions.specs.Answers.{outcome_of}
 use Rattle.definitions.specs.Valid.{working_weight, handed_over}
 use Rattle.calls.specs.Calls.{is_active_answer, tuple_out}
-use Rattle.tables.proofs.Answered.{verdict-refused, verdict-given, known}
+use Rattle.tables.proofs.Answered.{answer-refused, answer-given, known}
 use Rattle.figures.proofs.Tuples.{tuple-known}
 use Rattle.figures.proofs.is_active.Goals as goal
 use Rattle.figures.proofs.is_active.Goals.{After-check_working-checked}
@@ -25,12 +25,12 @@ has_greatest-requires c = let a = c.args in
 pub returns-in-Err : goal.returns-in-Err
 unfolding is_active_answer
 returns-in-Err c = let a = c.args in
-    verdict-refused a.case a.table.now false (tuple_out a.case a.scope a.k a.l) (active a.case a.table.now a.scope a.k a.l)
+    answer-refused a.case a.table.now false (tuple_out a.case a.scope a.k a.l) (active a.case a.table.now a.scope a.k a.l)
     (sym c.in-Err.is ∙ asked (goal.at.returns-in-Err c).After-check_working-checked)
 
 pub returns-in-Ok : goal.returns-in-Ok
 unfolding is_active_answer
 returns-in-Ok c = let a = c.args in
     c.has_greatest.ensures
-    ∙ verdict-given a.case a.table.now false (tuple_out a.case a.scope a.k a.l) (active a.case a.table.now a.scope a.k a.l)
+    ∙ answer-given a.case a.table.now false (tuple_out a.case a.scope a.k a.l) (active a.case a.table.now a.scope a.k a.l)
     (sym c.in-Ok.is ∙ asked (goal.at.returns-in-Ok c).After-check_working-checked)

@@ -16,7 +16,7 @@ use Rattle.definitions.specs.Valid.{working_weight, wrong_assignment, value_out,
 use Rattle.calls.specs.Calls.{objective_answer}
 use Rattle.theory.proofs.Validity.{lent-assignment}
 use Rattle.tables.proofs.Order.{limited}
-use Rattle.tables.proofs.Answered.{figure-refused, figure-given, known}
+use Rattle.tables.proofs.Answered.{answer-refused, answer-given, known}
 use Rattle.figures.proofs.objective.Goals as goal
 use Rattle.figures.proofs.objective.Goals.{After-check_working-checked}
 
@@ -50,7 +50,7 @@ unfolding objective_answer
 returns-in-Err c = let a = c.args in
     let w = a.table.now in
     let p = a.assignment.now in
-    figure-refused a.case w (wrong_assignment a.case p) (out a.case w p) (objective a.case w p) (sym c.in-Err.is ∙ asked (goal.at.returns-in-Err c).After-check_working-checked)
+    answer-refused a.case w (wrong_assignment a.case p) (out a.case w p) (objective a.case w p) (sym c.in-Err.is ∙ asked (goal.at.returns-in-Err c).After-check_working-checked)
 
 pub returns-in-Ok : goal.returns-in-Ok
 unfolding objective_answer
@@ -58,4 +58,4 @@ returns-in-Ok c = let a = c.args in
     let w = a.table.now in
     let p = a.assignment.now in
     ap Ok (read_back w64 c.sum_of_used.result c.sum_of_used.type_inv ∙ c.sum_of_used.ensures)
-    ∙ figure-given a.case w (wrong_assignment a.case p) (out a.case w p) (objective a.case w p) (sym c.in-Ok.is ∙ asked (goal.at.returns-in-Ok c).After-check_working-checked)
+    ∙ answer-given a.case w (wrong_assignment a.case p) (out a.case w p) (objective a.case w p) (sym c.in-Ok.is ∙ asked (goal.at.returns-in-Ok c).After-check_working-checked)
