@@ -105,7 +105,7 @@ module _ (c : Case) (w best : List ℤ) (raised : List ℕ) (i : ℕ) where
   answer-refused {x} e values = let d : best_refusal (rules_of c) c w best raised i ≡ Some x = outcome-refused e in rw d
 
   module _ (e : Ok tt ≡ checked) where
-    pub answer-given : (values : ℕ) → (if are_unsupported c w best raised i values then Ok true else Ok false) ≡ values_unsupported_answer (rules_of c) c w
+    pub answer-given : (values : ℕ) → Ok (are_unsupported c w best raised i values) ≡ values_unsupported_answer (rules_of c) c w
         best raised i values
     unfolding values_unsupported_answer
     answer-given values = let d : best_refusal (rules_of c) c w best raised i ≡ None = outcome-done e in rw d
@@ -171,17 +171,17 @@ module _ (c : Case) (w : List ℤ) (h : Handed (rules_of c) (working_weight (rul
 
     -- the values of a set below D
     pub values-unsupported-is-refuted : (i : ℕ) → i < c.n → (values : ℕ) (set : ℕ → Bool) → ((k : ℕ) → k < 8 → mark values k ≡ (ltb k c.d && set k))
-        → values_unsupported_answer (rules_of c) c w best raised i values ≡ (if all_refuted c w R i set then Ok true else Ok false)
+        → values_unsupported_answer (rules_of c) c w best raised i values ≡ Ok (all_refuted c w R i set)
     values-unsupported-is-refuted i g values set is =
         sym (answer-given c w best raised i (taken i g) values)
-        ∙ ap (λ (x : Bool). if x then Ok true else Ok false) (unsupported-refuted i g values set is)
+        ∙ ap Ok (unsupported-refuted i g values set is)
 
     -- one value
     pub value-unsupported-is-refuted : (i k : ℕ) → i < c.n → k < c.d
-        → values_unsupported_answer (rules_of c) c w best raised i (only_of k) ≡ (if refuted c w R i k then Ok true else Ok false)
+        → values_unsupported_answer (rules_of c) c w best raised i (only_of k) ≡ Ok (refuted c w R i k)
     value-unsupported-is-refuted i k g l =
         values-unsupported-is-refuted i g (only_of k) (λ v. eqb v k) (λ v u. mark-byte_of (λ v. eqb v k) v u ∙ in-range v (eqb v k) refl)
-        ∙ ap (λ (x : Bool). if x then Ok true else Ok false) (same_test (all_refuted c w R i (λ v. eqb v k)) (refuted c w R i k)
+        ∙ ap Ok (same_test (all_refuted c w R i (λ v. eqb v k)) (refuted c w R i k)
         (λ t. imp_elim (eqb k k) (refuted c w R i k) (all-at (λ v. eqb v k ⇒ refuted c w R i v) c.d t k l) (true-is (eqb k k) (eq-eqb k k refl)))
         (λ t.
         all_of (λ v. eqb v k ⇒ refuted c w R i v) c.d
@@ -193,7 +193,7 @@ module _ (c : Case) (w : List ℤ) (h : Handed (rules_of c) (working_weight (rul
 
   -- the active values, with the scopes raised whose byte is not 0
   pub best-unsupported-is-refuted : (i : ℕ) → i < c.n → best_unsupported_answer (rules_of c) c w best raised
-      i ≡ (if all_refuted c w (is_raised raised) i (active_values c w i) then Ok true else Ok false)
+      i ≡ Ok (all_refuted c w (is_raised raised) i (active_values c w i))
   best-unsupported-is-refuted i g =
       values-unsupported-is-refuted (is_raised raised) (λ x u. refl) i g (set_where c (has_best c w best) i) (active_values c w i) (λ k l.
       ap (λ (s : ℕ). mark s k) (set-active b i g) ∙ mark-byte_of (λ v. ltb v c.d && active c w i v 0) k l)

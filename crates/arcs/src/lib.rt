@@ -664,25 +664,11 @@ fn check_arguments(
     ensures { result ≡ outcome_of (best_refusal (rules_of case) case table.now best.now raised.now variable) }
 {
     let wrong = either(too_few(case, best.len()), too_few(case, raised.len()));
-    let checked = check_lengths(case, table, wrong);
-    match checked {
-        Err(refusal) => Err(refusal),
-        Ok(()) => {
-            if argument_outside(case, variable) {
-                return Err(Refusal::OutOfRange);
-            }
-            Ok(())
-        }
+    check_lengths(case, table, wrong)?;
+    if argument_outside(case, variable) {
+        return Err(Refusal::OutOfRange);
     }
-}
-
-fn verdict(yes: bool) -> Result<bool, Refusal>
-    ensures { result ≡ (if yes then Ok true else Ok false) }
-{
-    if yes {
-        return Ok(true);
-    }
-    Ok(false)
+    Ok(())
 }
 
 // ---- the calls
@@ -823,11 +809,8 @@ pub fn values_unsupported(
 ) -> Result<bool, Refusal>
     ensures { result ≡ values_unsupported_answer (rules_of case) case table.now best.now raised.now variable values }
 {
-    let checked = check_arguments(case, table, best, raised, variable);
-    match checked {
-        Err(refusal) => Err(refusal),
-        Ok(()) => verdict(are_unsupported(case, table, best, raised, variable, values)),
-    }
+    check_arguments(case, table, best, raised, variable)?;
+    Ok(are_unsupported(case, table, best, raised, variable, values))
 }
 
 // The same of the values whose weight is best[variable].
@@ -840,12 +823,7 @@ pub fn best_unsupported(
 ) -> Result<bool, Refusal>
     ensures { result ≡ best_unsupported_answer (rules_of case) case table.now best.now raised.now variable }
 {
-    let checked = check_arguments(case, table, best, raised, variable);
-    match checked {
-        Err(refusal) => Err(refusal),
-        Ok(()) => {
-            let values = set_with(case, table, variable, best[variable]);
-            verdict(are_unsupported(case, table, best, raised, variable, values))
-        }
-    }
+    check_arguments(case, table, best, raised, variable)?;
+    let values = set_with(case, table, variable, best[variable]);
+    Ok(are_unsupported(case, table, best, raised, variable, values))
 }

@@ -80,7 +80,7 @@ fn put_at(rulebook: Rulebook, out: &mut [u8], from: usize, line: Line)
         out.old) }
 {
     let to = from + rules::line_length(rulebook);
-    lines::write_line_in(&mut out[from..to], line, rules::amount_width(rulebook));
+    let _ = lines::write_line_in(&mut out[from..to], line, rules::amount_width(rulebook));
 }
 
 fn put_lines<'a>(
@@ -137,12 +137,7 @@ pub fn write_case(case: Case, table: &[i64], out: &mut [u8]) -> Result<usize, Re
     };
     let bytes = file_bytes(sizes);
     let short = out.len() < bytes;
-    let checked = tables::check_starting(case, table, short, false);
-    match checked {
-        Err(refusal) => Err(refusal),
-        Ok(()) => {
-            put_lines(sizes, &case.lower, &case.upper, table, out);
-            Ok(bytes)
-        }
-    }
+    tables::check_starting(case, table, short, false)?;
+    put_lines(sizes, &case.lower, &case.upper, table, out);
+    Ok(bytes)
 }

@@ -135,11 +135,8 @@ fn take_at(
         (reading_of sizes lower.new upper.new table.new) }
 {
     let rulebook = sizes.rulebook;
-    let read = line_at(rulebook, bytes, rules::line_length(rulebook) * (q + 1));
-    match read {
-        Err(refusal) => Err(refusal),
-        Ok(line) => take(line, sizes, due, lower, upper, table),
-    }
+    let line = line_at(rulebook, bytes, rules::line_length(rulebook) * (q + 1))?;
+    take(line, sizes, due, lower, upper, table)
 }
 
 // All lines after the head.

@@ -119,9 +119,6 @@ pub(crate) fn take_ends(
         × (upper.new ≡ unless_refused (ends_refusal sizes.n lower.old upper.old e line)
         (set upper.old e (nat_abs line.c)) upper.old) }
 {
-    let checked = check_ends(line, sizes.n, e);
-    match checked {
-        Err(refusal) => Err(refusal),
-        Ok(()) => join(end_of(line.b), end_of(line.c), e, lower, upper),
-    }
+    check_ends(line, sizes.n, e)?;
+    join(end_of(line.b), end_of(line.c), e, lower, upper)
 }

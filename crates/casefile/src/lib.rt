@@ -88,11 +88,8 @@ fn check_rest(rulebook: Rulebook, bytes: &[u8], from: usize) -> Result<(), Refus
     if from == bytes.len() {
         return Ok(());
     }
-    let read = body::line_at(rulebook, bytes, from);
-    match read {
-        Err(refusal) => Err(refusal),
-        Ok(_) => Err(Refusal::NotDue),
-    }
+    body::line_at(rulebook, bytes, from)?;
+    Err(Refusal::NotDue)
 }
 
 // ---- the calls under any rules
@@ -100,11 +97,8 @@ fn check_rest(rulebook: Rulebook, bytes: &[u8], from: usize) -> Result<(), Refus
 fn case_size_in(rulebook: Rulebook, bytes: &[u8]) -> Result<CaseSize, Refusal>
     ensures { result ≡ case_size rulebook bytes.now }
 {
-    let head = body::line_at(rulebook, bytes, 0);
-    match head {
-        Err(refusal) => Err(refusal),
-        Ok(line) => head::head_answer(rulebook, line),
-    }
+    let line = body::line_at(rulebook, bytes, 0)?;
+    head::head_answer(rulebook, line)
 }
 
 // The table past the places of the case is left.
@@ -115,12 +109,14 @@ fn read_lines_in(rulebook: Rulebook, bytes: &[u8], table: &mut [i64]) -> CaseRea
     let size = case_size_in(rulebook, bytes);
     match size {
         Err(refusal) => file_refused(rulebook, refusal, 0),
-        Ok(CaseSize {
-            n,
-            d,
-            m,
-            table: long,
-        }) => {
+        Ok(
+            CaseSize {
+                n,
+                d,
+                m,
+                table: long,
+            },
+        ) => {
             if table.len() != long {
                 return file_refused(rulebook, Refusal::WrongLength, 0);
             }
@@ -137,10 +133,12 @@ fn read_lines_alone_in(rulebook: Rulebook, bytes: &[u8], table: &mut [i64]) -> C
     let read = read_lines_in(rulebook, bytes, table);
     let answer = read.answer;
     match answer {
-        Err(RefusedAt {
-            refusal: _,
-            line: _,
-        }) => read,
+        Err(
+            RefusedAt {
+                refusal: _,
+                line: _,
+            },
+        ) => read,
         Ok(lines) => {
             let rest = check_rest(rulebook, bytes, lines * rules::line_length(rulebook));
             match rest {

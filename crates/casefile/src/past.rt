@@ -11,10 +11,12 @@ fn is_taken(answer: Result<usize, RefusedAt>) -> bool
 {
     match answer {
         Ok(_) => true,
-        Err(RefusedAt {
-            refusal: _,
-            line: _,
-        }) => false,
+        Err(
+            RefusedAt {
+                refusal: _,
+                line: _,
+            },
+        ) => false,
     }
 }
 

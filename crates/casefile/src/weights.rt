@@ -29,7 +29,14 @@ fn starting(rulebook: Rulebook, line: Line) -> bool
 }
 
 // `due` says that the line's kind is due.
-fn weigh(rulebook: Rulebook, line: Line, due: bool, a: usize, b: usize, c: usize) -> Result<(), Refusal>
+fn weigh(
+    rulebook: Rulebook,
+    line: Line,
+    due: bool,
+    a: usize,
+    b: usize,
+    c: usize,
+) -> Result<(), Refusal>
     requires { (a < 65536) × (b < 65536) × (c < 65536) }
     ensures { result ≡ outcome_of (first_refusal (plain_tests rulebook due a b c line)) }
 {

@@ -589,15 +589,10 @@ fn transfer_kept(
     ensures { KeptBy (rules_of case) case table.old best.old (transfer_change case edge end value amount)
         result table.new best.new }
 {
-    let made = transfer_checked(case, table, edge, end, value, amount);
-    match made {
-        Err(refusal) => Err(refusal),
-        Ok(()) => {
-            keep_greatest(case, table, best, end_variable(case, edge, end));
-            keep_greatest(case, table, best, case.n + edge);
-            Ok(())
-        }
-    }
+    transfer_checked(case, table, edge, end, value, amount)?;
+    keep_greatest(case, table, best, end_variable(case, edge, end));
+    keep_greatest(case, table, best, case.n + edge);
+    Ok(())
 }
 
 fn lowering_kept(

@@ -110,24 +110,24 @@ module _ (c : Case) (w : List ℤ) (p : Replay) (t : Line) (o : T (not (of_shift
 -- ---- a verdict
 
 module _ (b : Bool) where
-  pub verdict-yes : Ok true ≡ (if b then Ok true else Ok false) → true ≡ b
+  pub verdict-yes : Ok true ≡ Ok b → true ≡ b
   verdict-yes e = told b e
     where
-      told : (b : Bool) → Ok true ≡ (if b then Ok true else Ok false) → true ≡ b
+      told : (b : Bool) → Ok true ≡ Ok b → true ≡ b
       told true e = refl
       told false e = cc
 
-  pub verdict-no : Ok false ≡ (if b then Ok true else Ok false) → false ≡ b
+  pub verdict-no : Ok false ≡ Ok b → false ≡ b
   verdict-no e = told b e
     where
-      told : (b : Bool) → Ok false ≡ (if b then Ok true else Ok false) → false ≡ b
+      told : (b : Bool) → Ok false ≡ Ok b → false ≡ b
       told true e = cc
       told false e = refl
 
-  pub verdict-neither : {x : Refusal} → Err x ≡ (if b then Ok true else Ok false) → false ≡ b
+  pub verdict-neither : {x : Refusal} → Err x ≡ Ok b → false ≡ b
   verdict-neither {x} e = told b e
     where
-      told : (b : Bool) → Err x ≡ (if b then Ok true else Ok false) → false ≡ b
+      told : (b : Bool) → Err x ≡ Ok b → false ≡ b
       told true e = cc
       told false e = refl
 

@@ -21,7 +21,7 @@ fn prepare(case: Case, table: &[i64], best: &mut [i64])
     requires best_len { length best.old ≡ scope_places }
     ensures { BestOf case table.now best.new }
 {
-    tables::greatest_weights(case, table, best);
+    let _ = tables::greatest_weights(case, table, best);
 }
 
 fn good_read(

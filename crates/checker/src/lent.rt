@@ -33,11 +33,8 @@ fn check_lent(replay: Replay, case: Case, table: &[i64]) -> Result<(), Refusal>
 pub(crate) fn lent_answer(replay: Replay, case: Case, table: &[i64]) -> Result<(), Refusal>
     ensures { result ≡ outcome_of (lent_standing (rules_of case) case table.now replay replay.standing) }
 {
-    let standing = replay.standing;
-    match standing {
-        Err(refusal) => Err(refusal),
-        Ok(()) => check_lent(replay, case, table),
-    }
+    replay.standing?;
+    check_lent(replay, case, table)
 }
 
 fn is_wrong_length(refusal: Refusal) -> bool

@@ -127,16 +127,11 @@ fn end_good(replay: Replay, case: Case) -> Result<(), Refusal>
     let raised = replay.raised;
     let due = replay.due;
     let out = record_out(case, &raised, replay.rounds, due);
-    let checked = tables::check_edges(case, out);
-    match checked {
-        Err(refusal) => Err(refusal),
-        Ok(()) => {
-            if is_short(due, replay.moved) {
-                return Err(Refusal::CutShort);
-            }
-            Ok(())
-        }
+    tables::check_edges(case, out)?;
+    if is_short(due, replay.moved) {
+        return Err(Refusal::CutShort);
     }
+    Ok(())
 }
 
 // A fresh record with this bound at the round's start, or one that stands refused.

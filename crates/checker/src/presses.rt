@@ -71,7 +71,13 @@ fn press_made(
 }
 
 // A void line with its raised scopes, unless number 16 applies.
-fn void_made(case: Case, table: &[i64], best: &[i64], raised: &[u8], variable: usize) -> Result<(), Refusal>
+fn void_made(
+    case: Case,
+    table: &[i64],
+    best: &[i64],
+    raised: &[u8],
+    variable: usize,
+) -> Result<(), Refusal>
     requires handed { Handed (rules_of case) (working_weight (rules_of case)) case table.now }
     requires best_of { BestOf case table.now best.now }
     requires raised_len { (length raised.now ≡ scope_places) × (variable < case.n) }

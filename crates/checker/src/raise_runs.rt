@@ -14,7 +14,6 @@ use crate::records::with_due;
 use crate::{Due, LastRaised, Place, Progress, Raises, Target};
 use definitions::{Case, Rulebook, SCOPE_PLACES};
 
-
 // The scope of a raise line, or more than any scope's number.
 fn scope_or_none(bytes: &[u8], width: usize) -> usize
     requires { width_out width ≡ false }

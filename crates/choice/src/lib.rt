@@ -25,8 +25,8 @@ fn lowest_in(
     edges: &[u8],
     sets: &[u8],
 ) -> Option<usize>
-    ensures { result ≡ (lowest_unsupported lower.now upper.now acts.now rows.now edges.now
-        sets.now) }
+    ensures { result ≡ lowest_unsupported lower.now upper.now acts.now rows.now edges.now
+        sets.now }
 {
     let mut i: usize = 0;
     while i < sets.len() {
@@ -61,8 +61,8 @@ pub fn lowest_unsupported(
     edges: &[u8],
     sets: &mut [u8],
 ) -> Option<usize>
-    ensures value { result ≡ (lowest_unsupported lower.now upper.now acts.now rows.now edges.now
-        sets.old) }
+    ensures value { result ≡ lowest_unsupported lower.now upper.now acts.now rows.now edges.now
+        sets.old }
     ensures sets_after { sets.new ≡ closure_sets lower.now upper.now rows.now edges.now sets.old }
 {
     arcs::closure(lower, upper, rows, edges, sets);

@@ -44,25 +44,26 @@ fn arguments_out(case: Case, raised: &[u8], variable: usize, value: usize) -> bo
 }
 
 // Whether a value of a variable is refuted; `raised` has a byte for each scope, 1 where it is raised and else 0.
-pub fn refuted(case: Case, table: &[i64], raised: &[u8], variable: usize, value: usize) -> Result<bool, Refusal>
+pub fn refuted(
+    case: Case,
+    table: &[i64],
+    raised: &[u8],
+    variable: usize,
+    value: usize,
+) -> Result<bool, Refusal>
     ensures { result ≡ refuted_answer (rules_of case) case table.now raised.now variable value }
 {
     let wrong = other_length(raised.len(), case.n, case.m);
     let out = arguments_out(case, raised, variable, value);
-    let checked = tables::check_working(case, table, wrong, out);
-    match checked {
-        Err(refusal) => Err(refusal),
-        Ok(()) => {
-            let mut best = [0i64; SCOPE_PLACES];
-            tables::greatest_weights(case, table, &mut best);
-            arcs::values_unsupported(
-                case,
-                table,
-                &best,
-                raised,
-                variable,
-                marks::only(value as u8),
-            )
-        }
-    }
+    tables::check_working(case, table, wrong, out)?;
+    let mut best = [0i64; SCOPE_PLACES];
+    let _ = tables::greatest_weights(case, table, &mut best);
+    arcs::values_unsupported(
+        case,
+        table,
+        &best,
+        raised,
+        variable,
+        marks::only(value as u8),
+    )
 }

@@ -103,7 +103,7 @@ pub figure-same : (a b : Result ℤ Refusal) → figure_says a ≡ figure_says b
 figure-same = same-said figure_says figure_from figure-back
 
 abbrev verdict_from : Says → Result Bool Refusal
-verdict_from s = from s (if eq_z (value_at s 0) (pos 1) then Ok true else Ok false) Err
+verdict_from s = from s (Ok (eq_z (value_at s 0) (pos 1))) Err
 
 verdict-back : (a : Result Bool Refusal) → verdict_from (verdict_says a) ≡ a
 verdict-back (Ok true) = refl

@@ -70,7 +70,7 @@ module _ {pairs : Bool} {c : Case} {w : List ℤ} {out : List ℕ} (h : Handed (
   nothing-made e = let (a, t, o) = go (round_is (rules_of c) (next_in pairs) c w out h long) in
       record { answer = a; table = t; output = o }
     where
-      go : {u : RoundCall} → RoundIs (rules_of c) (next_in pairs) c w out u → (Ok Round.Settled ≡ u.answer) × (w ≡ u.table) × (out ≡ u.out)
+      go : {u : RoundCall} → RoundIs (rules_of c) (next_in pairs) c w out u → Ok Round.Settled ≡ u.answer × (w ≡ u.table) × (out ≡ u.out)
       go (settles f) = (refl, refl, refl)
       go (makes m) = let d = m.comes in differ (cc)
       go (voids f) = differ (cc)
@@ -122,7 +122,7 @@ module _ {pairs : Bool} {c : Case} {w : List ℤ} {out : List ℕ} (h : Handed (
   pub limit-round : {moves : List Move} → next_in pairs (rules_of c) c w ≡ round moves → LimitIs pairs c w out out (Ok RunAnswer.Limit)
   limit-round {moves} e = let (a, o) = go (round_is (rules_of c) (next_in pairs) c w out h long) in record { answer = a; output = o }
     where
-      go : {u : RoundCall} → RoundIs (rules_of c) (next_in pairs) c w out u → (Ok RunAnswer.Limit ≡ limit_answer u.answer)
+      go : {u : RoundCall} → RoundIs (rules_of c) (next_in pairs) c w out u → Ok RunAnswer.Limit ≡ limit_answer u.answer
           × (out ≡ limit_output u.answer u.out out)
       go (settles f) = differ (cc)
       go (makes m) = (refl, refl)
@@ -132,7 +132,7 @@ module _ {pairs : Bool} {c : Case} {w : List ℤ} {out : List ℕ} (h : Handed (
   pub limit-settled : next_in pairs (rules_of c) c w ≡ nothing → LimitIs pairs c w out out (Ok RunAnswer.Settled)
   limit-settled e = let (a, o) = go (round_is (rules_of c) (next_in pairs) c w out h long) in record { answer = a; output = o }
     where
-      go : {u : RoundCall} → RoundIs (rules_of c) (next_in pairs) c w out u → (Ok RunAnswer.Settled ≡ limit_answer u.answer)
+      go : {u : RoundCall} → RoundIs (rules_of c) (next_in pairs) c w out u → Ok RunAnswer.Settled ≡ limit_answer u.answer
           × (out ≡ limit_output u.answer u.out out)
       go (settles f) = (refl, refl)
       go (makes m) = let d = m.comes in differ (cc)
@@ -144,7 +144,7 @@ module _ {pairs : Bool} {c : Case} {w : List ℤ} {out : List ℕ} (h : Handed (
       → LimitIs pairs c w out written (Ok RunAnswer.Void)
   limit-void {i} {raised} e f = let (a, o) = go (round_is (rules_of c) (next_in pairs) c w out h long) in record { answer = a; output = f ∙ o }
     where
-      go : {u : RoundCall} → RoundIs (rules_of c) (next_in pairs) c w out u → (Ok RunAnswer.Void ≡ limit_answer u.answer)
+      go : {u : RoundCall} → RoundIs (rules_of c) (next_in pairs) c w out u → Ok RunAnswer.Void ≡ limit_answer u.answer
           × (u.out ≡ limit_output u.answer u.out out)
       go (settles f) = differ (cc)
       go (makes m) = let d = m.comes in differ (cc)

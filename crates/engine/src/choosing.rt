@@ -5,7 +5,6 @@ ghost use Rattle.definitions.specs.Case.{scope_count};
 ghost use Rattle.calls.specs.Calls.{is_raised};
 ghost use Rattle.engine.specs.Search.{Prepared, refutes_in, AllRaised, ChosenIn, ChosenIs};
 
-
 use definitions::{Case, VARIABLE_PLACES};
 
 pub(crate) fn copy_bytes(from: &[u8], to: &mut [u8], n: usize)

@@ -23,9 +23,7 @@ ghost use Rattle.pair_choice.specs.PairChoice.{paired_of};
 ghost use Rattle.engine.specs.Rounds.{Found, Pressed, PressMade, round_written, MadeRound, LimitIs, RunIs, stopped_run};
 
 use arcs::ROW_PLACES;
-
 use definitions::{Case, Refusal, Round, Run, RunAnswer, SCOPE_PLACES, VARIABLE_PLACES};
-
 
 // ---- the amount
 
@@ -44,7 +42,13 @@ fn least_gap(case: Case, table: &[i64], best: &[i64], raised: &[u8], variable: u
 // ---- the round
 
 // Writes the marks of a table, for the searches, and answers the lowest pair whose round comes before a press.
-fn prepare(case: Case, table: &[i64], best: &[i64], acts: &mut [u8], rows: &mut [u8]) -> Option<usize>
+fn prepare(
+    case: Case,
+    table: &[i64],
+    best: &[i64],
+    acts: &mut [u8],
+    rows: &mut [u8],
+) -> Option<usize>
     requires handed { Handed (rules_of case) (working_weight (rules_of case)) case table.now × BestOf case table.now best.now }
     requires n_in_bounds { (case.n ≤ length acts.old) × (16 * case.m ≤ length rows.old) }
     ensures { (result ≡ paired_of (lowest_pair (rules_of case) case table.now))
@@ -83,11 +87,8 @@ fn write_lines(
     ensures value { result ≡ round_written (write_all_call (rules_of case) case out.old raised.now variable amount bound).answer bound }
     ensures out_after { out.new ≡ (write_all_call (rules_of case) case out.old raised.now variable amount bound).out }
 {
-    let written = round_lines::write_all(case, out, raised, variable, amount, bound);
-    match written {
-        Err(refusal) => Err(refusal),
-        Ok(bytes) => Ok(Round::Made { bytes, bound }),
-    }
+    let bytes = round_lines::write_all(case, out, raised, variable, amount, bound)?;
+    Ok(Round::Made { bytes, bound })
 }
 
 // The lines of a press that was made, with the bound after it.
@@ -103,11 +104,8 @@ fn write_pressed(
     ensures { (w after : List ℤ) → PressMade case variable raised.now amount w after best.now
         → MadeRound false case w out.old after out.new result }
 {
-    let sum = tables::sum_of_best(case, best);
-    match sum {
-        Err(refusal) => Err(refusal),
-        Ok(bound) => write_lines(case, out, raised, variable, amount, bound),
-    }
+    let bound = tables::sum_of_best(case, best)?;
+    write_lines(case, out, raised, variable, amount, bound)
 }
 
 // The press of the chosen variable by its least gap, and its lines.
@@ -125,11 +123,8 @@ fn press_round(
     ensures { MadeRound false case table.old out.old table.new out.new result
         × BestOf case table.new best.new }
 {
-    let pressed = press(case, table, best, raised, variable, amount);
-    match pressed {
-        Err(refusal) => Err(refusal),
-        Ok(()) => write_pressed(case, out, best, raised, variable, amount),
-    }
+    press(case, table, best, raised, variable, amount)?;
+    write_pressed(case, out, best, raised, variable, amount)
 }
 
 // The void line of the chosen variable, where nothing sets a gap.
@@ -138,11 +133,8 @@ fn void_line(case: Case, out: &mut [u8], raised: &[u8], variable: usize) -> Resu
     ensures { (w best : List ℤ) → Found case w best raised.now variable → least_gap case w variable ≡ None
         → MadeRound false case w out.old w out.new result }
 {
-    let written = round_lines::write_void(case, out, raised, variable);
-    match written {
-        Err(refusal) => Err(refusal),
-        Ok(bytes) => Ok(Round::Void { bytes }),
-    }
+    let bytes = round_lines::write_void(case, out, raised, variable)?;
+    Ok(Round::Void { bytes })
 }
 
 fn press_or_void(
@@ -210,11 +202,17 @@ fn greatest_of(case: Case, table: &[i64], best: &mut [i64])
     requires { Handed (rules_of case) (working_weight (rules_of case)) case table.now × (scope_count case ≤ length best.old) }
     ensures { BestOf case table.now best.new }
 {
-    tables::greatest_weights(case, table, best);
+    let _ = tables::greatest_weights(case, table, best);
 }
 
 // The round of the lowest pair.
-fn pair_round(case: Case, table: &mut [i64], out: &mut [u8], best: &mut [i64], edge: usize) -> Result<Round, Refusal>
+fn pair_round(
+    case: Case,
+    table: &mut [i64],
+    out: &mut [u8],
+    best: &mut [i64],
+    edge: usize,
+) -> Result<Round, Refusal>
     requires handed { Handed (rules_of case) (working_weight (rules_of case)) case table.old × BestOf case table.old best.old }
     requires case_in_bounds { round_bytes (rules_of case) case ≤ length out.old }
     requires table_value { lowest_pair (rules_of case) case table.old ≡ Some edge }
@@ -281,7 +279,7 @@ fn limit_press(
     if least_gap(case, table, best, raised, variable) != gaps::NO_GAP {
         return Ok(RunAnswer::Limit);
     }
-    void_line(case, out, raised, variable);
+    let _ = void_line(case, out, raised, variable);
     Ok(RunAnswer::Void)
 }
 
@@ -307,7 +305,13 @@ fn limit_next(
     }
 }
 
-fn at_limit(case: Case, table: &[i64], out: &mut [u8], best: &[i64], pairs: bool) -> Result<RunAnswer, Refusal>
+fn at_limit(
+    case: Case,
+    table: &[i64],
+    out: &mut [u8],
+    best: &[i64],
+    pairs: bool,
+) -> Result<RunAnswer, Refusal>
     requires handed { Handed (rules_of case) (working_weight (rules_of case)) case table.now × BestOf case table.now best.now }
     requires case_in_bounds { round_bytes (rules_of case) case ≤ length out.old }
     ensures { LimitIs pairs case table.now out.old out.new result }
@@ -326,7 +330,13 @@ fn at_limit(case: Case, table: &[i64], out: &mut [u8], best: &[i64], pairs: bool
     }
 }
 
-fn stop_run(case: Case, table: &[i64], best: &[i64], answer: Result<RunAnswer, Refusal>, rounds: u64) -> Run
+fn stop_run(
+    case: Case,
+    table: &[i64],
+    best: &[i64],
+    answer: Result<RunAnswer, Refusal>,
+    rounds: u64,
+) -> Run
     requires { Handed (rules_of case) (working_weight (rules_of case)) case table.now × BestOf case table.now best.now }
     ensures { result ≡ stopped_run case table.now answer rounds }
 {
@@ -410,11 +420,8 @@ pub fn round(case: Case, table: &mut [i64], out: &mut [u8]) -> Result<Round, Ref
         × (table.new ≡ (round_call (rules_of case) engine_next case table.old out.old).table)
         × (out.new ≡ (round_call (rules_of case) engine_next case table.old out.old).out) }
 {
-    let checked = round_lines::check_round(case, table, out.len(), false);
-    match checked {
-        Err(refusal) => Err(refusal),
-        Ok(()) => first_round(case, table, out),
-    }
+    round_lines::check_round(case, table, out.len(), false)?;
+    first_round(case, table, out)
 }
 
 // Rounds one after another, at most `limit`; a void line ends them, and is written even at the limit.

@@ -144,7 +144,7 @@ fn call(case: Case, table: &mut [i64], out: &mut [u8], line: Line) {
     if line.kind == 20 {
         run(case, table, out, most);
     } else if line.kind == 21 {
-        round(case, table, out);
+        let _ = round(case, table, out);
     } else if line.kind == 24 {
         run_pairs(case, table, out, most);
     } else {

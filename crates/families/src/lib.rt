@@ -88,10 +88,7 @@ fn lowest_supported(case: Case, rows: &[u8], sets: [u8; VARIABLE_PLACES], variab
         }
         untried = marks::strike(untried, k);
     }
-    Found {
-        value: None,
-        sets,
-    }
+    Found { value: None, sets }
 }
 
 // ---- the bytes
@@ -179,7 +176,13 @@ fn too_short(case: Case, family: usize, partners: usize) -> bool
     partners < case.m * (2 * case.d)
 }
 
-fn check_call(case: Case, table: &[i64], variable: usize, family: usize, partners: usize) -> Result<(), Refusal>
+fn check_call(
+    case: Case,
+    table: &[i64],
+    variable: usize,
+    family: usize,
+    partners: usize,
+) -> Result<(), Refusal>
     ensures { result ≡ outcome_of (first_refusal (handed_over (rules_of case) (working_weight (rules_of case)) case table.now
         (ltb family case.n || ltb partners (case.m * (2 * case.d))) (not (ltb variable case.n)))) }
 {
@@ -213,7 +216,7 @@ fn show_value(
     let mut best = [0i64; SCOPE_PLACES];
     let mut sets = [0u8; VARIABLE_PLACES];
     let mut rows = [0u8; ROW_PLACES];
-    tables::greatest_weights(case, table, &mut best);
+    let _ = tables::greatest_weights(case, table, &mut best);
     arcs::active_marks(case, table, &best, &mut sets, &mut rows);
     let found = lowest_supported(case, &rows, sets, variable);
     let value = found.value;
@@ -241,9 +244,6 @@ pub fn supported_value(
     ensures { FamilyIs (supported_value_call (rules_of case) case table.now variable family.old partners.old) result
         family.new partners.new }
 {
-    let checked = check_call(case, table, variable, family.len(), partners.len());
-    match checked {
-        Err(refusal) => Err(refusal),
-        Ok(()) => show_value(case, table, variable, family, partners),
-    }
+    check_call(case, table, variable, family.len(), partners.len())?;
+    show_value(case, table, variable, family, partners)
 }

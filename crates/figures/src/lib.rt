@@ -56,14 +56,10 @@ fn tuple_out(case: Case, x: usize, k: usize, l: usize) -> bool
 fn has_greatest(case: Case, table: &[i64], x: usize, k: usize, l: usize) -> Result<bool, Refusal>
     requires handed { Handed (rules_of case) (working_weight (rules_of case)) case table.now }
     requires x_bound { (x < case.n + case.m) × (k < case.d) × (l < case.d) }
-    ensures { result ≡ (if active case table.now x k l then Ok true else Ok false) }
+    ensures { result ≡ Ok (active case table.now x k l) }
 {
     let greatest = tables::greatest(tables::scope_weights(case, table, x));
-    if weight_at(case, table, x, k, l) == greatest {
-        Ok(true)
-    } else {
-        Ok(false)
-    }
+    Ok(weight_at(case, table, x, k, l) == greatest)
 }
 
 // ---- the objective
@@ -133,29 +129,26 @@ pub fn objective(case: Case, table: &[i64], assignment: &[u8]) -> Result<i64, Re
     }
     let wrong = assignment.len() != case.n;
     let out = tables::some_beyond(assignment, case.d) | uses_barred(case, table, assignment);
-    let checked = tables::check_working(case, table, wrong, out);
-    match checked {
-        Err(refusal) => Err(refusal),
-        Ok(()) => Ok(sum_of_used(case, table, assignment)),
-    }
+    tables::check_working(case, table, wrong, out)?;
+    Ok(sum_of_used(case, table, assignment))
 }
 
 pub fn upper_bound(case: Case, table: &[i64]) -> Result<i64, Refusal>
     ensures { result ≡ upper_bound_answer (rules_of case) case table.now }
 {
-    let checked = tables::check_working(case, table, false, false);
-    match checked {
-        Err(refusal) => Err(refusal),
-        Ok(()) => tables::sum_of_greatest(case, table),
-    }
+    tables::check_working(case, table, false, false)?;
+    tables::sum_of_greatest(case, table)
 }
 
-pub fn is_active(case: Case, table: &[i64], scope: usize, k: usize, l: usize) -> Result<bool, Refusal>
+pub fn is_active(
+    case: Case,
+    table: &[i64],
+    scope: usize,
+    k: usize,
+    l: usize,
+) -> Result<bool, Refusal>
     ensures { result ≡ is_active_answer (rules_of case) case table.now scope k l }
 {
-    let checked = tables::check_working(case, table, false, tuple_out(case, scope, k, l));
-    match checked {
-        Err(refusal) => Err(refusal),
-        Ok(()) => has_greatest(case, table, scope, k, l),
-    }
+    tables::check_working(case, table, false, tuple_out(case, scope, k, l))?;
+    has_greatest(case, table, scope, k, l)
 }

@@ -111,16 +111,19 @@ fn gap_of_scopes(case: Case, table: &[i64], best: &[i64], raised: &[u8], variabl
 }
 
 // The sum of `best` is refused where a number is outside the range of working weights or the carry outside its own.
-fn gap_in_range(case: Case, table: &[i64], best: &[i64], raised: &[u8], variable: usize) -> Result<i64, Refusal>
+fn gap_in_range(
+    case: Case,
+    table: &[i64],
+    best: &[i64],
+    raised: &[u8],
+    variable: usize,
+) -> Result<i64, Refusal>
     requires limited { Limited case × (length table.now ≡ lent_length (rules_of case) case) }
     requires case_in_bounds { (scope_count case ≤ length best.now) × (scope_count case ≤ length raised.now) }
     ensures { result ≡ gap_in_range (rules_of case) case table.now best.now raised.now variable }
 {
-    let sum = tables::sum_of_best(case, best);
-    match sum {
-        Err(refusal) => Err(refusal),
-        Ok(_) => Ok(gap_of_scopes(case, table, best, raised, variable)),
-    }
+    tables::sum_of_best(case, best)?;
+    Ok(gap_of_scopes(case, table, best, raised, variable))
 }
 
 fn lengths_wrong(case: Case, table: usize, best: usize, raised: usize) -> bool
@@ -138,7 +141,13 @@ fn lengths_wrong(case: Case, table: usize, best: usize, raised: usize) -> bool
 
 // The least of NO_GAP and the gaps in the scope of `variable` and in each scope x whose byte in `raised` is not 0: how far a weight lies below
 // best[x], barred weights left out. Asks 3, 4, 5 of the arguments and the carry, and 8 of the first n + m numbers in `best`.
-pub fn least_gap(case: Case, table: &[i64], best: &[i64], raised: &[u8], variable: usize) -> Result<i64, Refusal>
+pub fn least_gap(
+    case: Case,
+    table: &[i64],
+    best: &[i64],
+    raised: &[u8],
+    variable: usize,
+) -> Result<i64, Refusal>
     ensures { result ≡ least_gap_answer (rules_of case) case table.now best.now raised.now variable }
 {
     if !tables::within_limits(case) {

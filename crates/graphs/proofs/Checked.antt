@@ -30,7 +30,7 @@ module _ (c : Case) where
   acyclic-refused {x} e = let d : asked ≡ Some x = outcome-refused e in rw d
 
   module _ (e : Ok tt ≡ outcome_of asked) where
-    pub acyclic-given : {b : Bool} → b ≡ is_acyclic c → (if b then Ok true else Ok false) ≡ is_acyclic_answer (rules_of c) c
+    pub acyclic-given : {b : Bool} → b ≡ is_acyclic c → Ok b ≡ is_acyclic_answer (rules_of c) c
     unfolding is_acyclic_answer
     acyclic-given i = let d : asked ≡ None = outcome-done e in rw (d, i)
 
@@ -49,7 +49,7 @@ module _ (c : Case) where
 
   -- ---- the answers speak of walks
 
-  told : (o : Option Refusal) (b d : Bool) → answer_of o b ≡ (if d then Ok true else Ok false) → (o ≡ None) × (b ≡ d)
+  told : (o : Option Refusal) (b d : Bool) → answer_of o b ≡ Ok d → (o ≡ None) × (b ≡ d)
   told None true true q = (refl, refl)
   told None true false q = (refl, cc)
   told None false true q = (refl, cc)

@@ -66,17 +66,8 @@ fn join_edges(case: Case, labels: &mut [u8]) -> bool
 pub fn is_acyclic(case: Case) -> Result<bool, Refusal>
     ensures { result ≡ is_acyclic_answer (rules_of case) case }
 {
-    let checked = tables::check_edges(case, false);
-    match checked {
-        Err(refusal) => Err(refusal),
-        Ok(()) => {
-            let n = case.n;
-            let mut labels = [0u8; VARIABLE_PLACES];
-            if join_edges(case, &mut labels[..n]) {
-                Ok(true)
-            } else {
-                Ok(false)
-            }
-        }
-    }
+    tables::check_edges(case, false)?;
+    let n = case.n;
+    let mut labels = [0u8; VARIABLE_PLACES];
+    Ok(join_edges(case, &mut labels[..n]))
 }

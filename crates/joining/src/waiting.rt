@@ -221,16 +221,11 @@ fn working_outcome<'a>(
     requires count_bound { count ≤ edges + 1 }
     ensures { result ≡ outcome_of (first_refusal (working_tests (rules_of case) case starting.now table.now edges count)) }
 {
-    let working = tables::check_working(case, table, false, false);
-    match working {
-        Err(refusal) => Err(refusal),
-        Ok(()) => {
-            if some_barred(case, starting, edges, count) {
-                return Err(Refusal::ScopeBarred);
-            }
-            Ok(())
-        }
+    tables::check_working(case, table, false, false)?;
+    if some_barred(case, starting, edges, count) {
+        return Err(Refusal::ScopeBarred);
     }
+    Ok(())
 }
 
 // Number 7 of the lower ends, 8 and 15.
@@ -276,9 +271,6 @@ pub(crate) fn check_lent<'a>(
         (lent_tests (rules_of case) case starting.now table.now edges (due_awaited due) lower.now out)) }
 {
     let beyond = record_out(case, edges, due, lower, out);
-    let front = tables::check_edges(case, beyond);
-    match front {
-        Err(refusal) => Err(refusal),
-        Ok(()) => held_outcome(case, starting, table, edges, due, lower),
-    }
+    tables::check_edges(case, beyond)?;
+    held_outcome(case, starting, table, edges, due, lower)
 }

@@ -105,11 +105,8 @@ fn finish_good(case: Case, table: &[i64], replay: Replay, part: bool) -> Result<
 fn finish_standing(case: Case, table: &[i64], replay: Replay, part: bool) -> Result<(), Refusal>
     ensures { result ≡ finish_standing case table.now replay part replay.standing }
 {
-    let standing = replay.standing;
-    match standing {
-        Err(refusal) => Err(refusal),
-        Ok(()) => finish_good(case, table, replay, part),
-    }
+    replay.standing?;
+    finish_good(case, table, replay, part)
 }
 
 // Whether a void line is whole.
@@ -129,7 +126,12 @@ fn is_over(due: Due) -> bool
 }
 
 // The judgement where neither a line nor the end has a number.
-fn good_judgement(case: Case, table: &[i64], replay: Replay, passed: usize) -> Result<Judgement, RefusedAt>
+fn good_judgement(
+    case: Case,
+    table: &[i64],
+    replay: Replay,
+    passed: usize,
+) -> Result<Judgement, RefusedAt>
     requires { Handed (rules_of case) (working_weight (rules_of case)) case table.now }
     ensures { result ≡ good_in case replay table.now }
 {
@@ -151,7 +153,12 @@ fn good_judgement(case: Case, table: &[i64], replay: Replay, passed: usize) -> R
 }
 
 // The judgement where no line has a number.
-fn end_judgement(judging: Judging, table: &[i64], part: bool, passed: usize) -> Result<Judgement, RefusedAt>
+fn end_judgement(
+    judging: Judging,
+    table: &[i64],
+    part: bool,
+    passed: usize,
+) -> Result<Judgement, RefusedAt>
     ensures { result ≡ judgement_from (state_of judging table.now) part (Ok passed) }
 {
     let case = judging.case;
@@ -175,12 +182,14 @@ pub fn table_length(front: &[u8]) -> usize
     let size = casefile::case_size(front);
     match size {
         Err(_) => 0,
-        Ok(CaseSize {
-            n: _,
-            d: _,
-            m: _,
-            table,
-        }) => table,
+        Ok(
+            CaseSize {
+                n: _,
+                d: _,
+                m: _,
+                table,
+            },
+        ) => table,
     }
 }
 
@@ -205,10 +214,12 @@ pub fn block(judging: Judging, table: &mut [i64], bytes: &[u8]) -> Judging
 {
     let answer = judging.answer;
     match answer {
-        Err(RefusedAt {
-            refusal: _,
-            line: _,
-        }) => judging,
+        Err(
+            RefusedAt {
+                refusal: _,
+                line: _,
+            },
+        ) => judging,
         Ok(passed) => block_from(judging, table, bytes, passed),
     }
 }

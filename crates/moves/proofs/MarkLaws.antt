@@ -65,6 +65,6 @@ pub marks-refute : (c : Case) (w : List ℤ) (i : ℕ) (marks raised : List ℕ)
 marks-refute c w i marks raised same = all_same c.d
     (λ k h. ap (λ (b : Bool). active_values c w i k ⇒ b) (refuted-same c w w (is_raised marks) (is_in raised) i k (λ p g. refl) (λ x g. same x)))
 
-pub says-yes : (b : Bool) → says_yes (if b then Ok true else Ok false) ≡ b
+pub says-yes : (b : Bool) → says_yes (Ok b) ≡ b
 says-yes true = refl
 says-yes false = refl

@@ -125,7 +125,7 @@ fn press_raised(
     let mut marks = [0u8; SCOPE_PLACES];
     mark_scopes(&mut marks, raised);
     let mut best = [0i64; SCOPE_PLACES];
-    tables::greatest_weights(case, table, &mut best);
+    let _ = tables::greatest_weights(case, table, &mut best);
     let values = changes::best_values(case, table, &best, variable);
     if !is_yes(arcs::values_unsupported(case, table, &best, &marks, variable, values)) {
         return Err(Refusal::NotRefuted);
@@ -174,18 +174,19 @@ pub fn shift(
         × (table.new ≡ (shift_call (rules_of case) case table.old edge end value amount).table) }
 {
     let out = changes::transfer_out(case, edge, end, value, amount);
-    let checked = tables::check_working(case, table, false, out);
-    match checked {
-        Err(refusal) => Err(refusal),
-        Ok(()) => {
-            let mut best = [0i64; SCOPE_PLACES];
-            tables::greatest_weights(case, table, &mut best);
-            changes::transfer(case, table, &mut best, edge, end, value, amount)
-        }
-    }
+    tables::check_working(case, table, false, out)?;
+    let mut best = [0i64; SCOPE_PLACES];
+    let _ = tables::greatest_weights(case, table, &mut best);
+    changes::transfer(case, table, &mut best, edge, end, value, amount)
 }
 
-pub fn press(case: Case, table: &mut [i64], variable: usize, raised: &[u16], amount: i64) -> Result<(), Refusal>
+pub fn press(
+    case: Case,
+    table: &mut [i64],
+    variable: usize,
+    raised: &[u16],
+    amount: i64,
+) -> Result<(), Refusal>
     ensures { (result ≡ (press_call (rules_of case) case table.old variable raised.now amount).answer)
         × (table.new ≡ (press_call (rules_of case) case table.old variable raised.now amount).table) }
 {
@@ -193,9 +194,6 @@ pub fn press(case: Case, table: &mut [i64], variable: usize, raised: &[u16], amo
         return Err(Refusal::OutsideLimits);
     }
     let out = press_out(case, variable, raised, amount);
-    let checked = tables::check_working(case, table, false, out);
-    match checked {
-        Err(refusal) => Err(refusal),
-        Ok(()) => press_checked(case, table, variable, raised, amount),
-    }
+    tables::check_working(case, table, false, out)?;
+    press_checked(case, table, variable, raised, amount)
 }

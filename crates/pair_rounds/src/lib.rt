@@ -179,18 +179,19 @@ fn put_bound(case: Case, out: &mut [u8], best: &[i64], at: usize) -> Result<Roun
     ensures { (v : List ℤ) → Handed (rules_of case) (working_weight (rules_of case)) case v → BestOf case v best.now
         → Bounded case v at out.old out.new result }
 {
-    let sum = tables::sum_of_best(case, best);
-    match sum {
-        Err(refusal) => Err(refusal),
-        Ok(bound) => {
-            let bytes = put_line(case, out, at, bound_line(bound));
-            Ok(Round::Made { bytes, bound })
-        }
-    }
+    let bound = tables::sum_of_best(case, best)?;
+    let bytes = put_line(case, out, at, bound_line(bound));
+    Ok(Round::Made { bytes, bound })
 }
 
 // The round of a pair that does not leave the range.
-fn shift_pair(case: Case, table: &mut [i64], out: &mut [u8], best: &mut [i64], edge: usize) -> Result<Round, Refusal>
+fn shift_pair(
+    case: Case,
+    table: &mut [i64],
+    out: &mut [u8],
+    best: &mut [i64],
+    edge: usize,
+) -> Result<Round, Refusal>
     requires ready { Ready case table.old best.old edge }
     requires t { T (not (pair_leaves (rules_of case) case table.old edge)) × (round_bytes (rules_of case) case ≤ length out.old) }
     ensures { MadePair case table.old out.old edge table.new out.new result }
@@ -208,7 +209,7 @@ fn pair_round(case: Case, table: &mut [i64], out: &mut [u8], edge: usize) -> Res
         return Err(Refusal::LeavesRange);
     }
     let mut best = [0i64; SCOPE_PLACES];
-    tables::greatest_weights(case, table, &mut best);
+    let _ = tables::greatest_weights(case, table, &mut best);
     shift_pair(case, table, out, &mut best, edge)
 }
 
@@ -216,14 +217,16 @@ fn pair_round(case: Case, table: &mut [i64], out: &mut [u8], edge: usize) -> Res
 
 // The round of one pair: its lines from the output's first byte. Asks 3 to 8 and 15, 4 of the output and 5 of the edge too, and 11; refused, table
 // and output keep what they held. Whether the pair gains is not asked.
-pub fn make_round(case: Case, table: &mut [i64], out: &mut [u8], edge: usize) -> Result<Round, Refusal>
+pub fn make_round(
+    case: Case,
+    table: &mut [i64],
+    out: &mut [u8],
+    edge: usize,
+) -> Result<Round, Refusal>
     ensures { (result ≡ (pair_call (rules_of case) case table.old out.old edge).answer)
         × (table.new ≡ (pair_call (rules_of case) case table.old out.old edge).table)
         × (out.new ≡ (pair_call (rules_of case) case table.old out.old edge).out) }
 {
-    let checked = round_lines::check_round(case, table, out.len(), !(edge < case.m));
-    match checked {
-        Err(refusal) => Err(refusal),
-        Ok(()) => pair_round(case, table, out, edge),
-    }
+    round_lines::check_round(case, table, out.len(), !(edge < case.m))?;
+    pair_round(case, table, out, edge)
 }

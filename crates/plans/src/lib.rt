@@ -49,14 +49,11 @@ pub fn better_of(case: Case, table: &[i64], first: &[u8], second: &[u8]) -> Resu
 {
     let wrong = (first.len() != case.n) | (second.len() != case.n);
     let out = tables::some_beyond(first, case.d) | tables::some_beyond(second, case.d);
-    let checked = tables::check_starting(case, table, wrong, out);
-    match checked {
-        Err(refusal) => Err(refusal),
-        Ok(()) => ranked(
-            figures::objective(case, table, first),
-            figures::objective(case, table, second),
-        ),
-    }
+    tables::check_starting(case, table, wrong, out)?;
+    ranked(
+        figures::objective(case, table, first),
+        figures::objective(case, table, second),
+    )
 }
 
 // That one itself; an empty part where it is refused. The number (0 where none applies) is written to `number`.

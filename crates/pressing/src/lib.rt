@@ -132,11 +132,8 @@ fn one_round(pressing: Pressing, table: &mut [i64], out: &mut [u8]) -> Pressed
 fn ask_round(case: Case, table: &[i64], length: usize) -> Result<usize, Refusal>
     ensures { result ≡ answer_of (round_refusal (rules_of case) case table.now length false) 0 }
 {
-    let asked = round_lines::check_round(case, table, length, false);
-    match asked {
-        Err(refusal) => Err(refusal),
-        Ok(()) => Ok(0),
-    }
+    round_lines::check_round(case, table, length, false)?;
+    Ok(0)
 }
 
 // 4 of the output, unless the head is refused by what is asked before it.
@@ -155,12 +152,14 @@ fn head_or_short(bytes: &[u8]) -> Refusal
     let size = casefile::case_size(bytes);
     match size {
         Err(refusal) => short_or(refusal),
-        Ok(CaseSize {
-            n: _,
-            d: _,
-            m: _,
-            table: _,
-        }) => Refusal::WrongLength,
+        Ok(
+            CaseSize {
+                n: _,
+                d: _,
+                m: _,
+                table: _,
+            },
+        ) => Refusal::WrongLength,
     }
 }
 
@@ -173,12 +172,14 @@ pub fn table_length(bytes: &[u8]) -> usize
     let size = casefile::case_size(bytes);
     match size {
         Err(_) => 0,
-        Ok(CaseSize {
-            n: _,
-            d: _,
-            m: _,
-            table,
-        }) => table,
+        Ok(
+            CaseSize {
+                n: _,
+                d: _,
+                m: _,
+                table,
+            },
+        ) => table,
     }
 }
 

@@ -51,7 +51,11 @@ fn is_first<'a>(case: Case, starting: &'a [i64], table: &'a [i64], low: i64, hig
 }
 
 // Numbers 8 and 15.
-pub(crate) fn both_outcome<'a>(case: Case, starting: &'a [i64], table: &'a [i64]) -> Result<(), Refusal>
+pub(crate) fn both_outcome<'a>(
+    case: Case,
+    starting: &'a [i64],
+    table: &'a [i64],
+) -> Result<(), Refusal>
     requires limited { Limited case }
     requires starting_len { (length starting.now ≡ lent_length (rules_of case) case) × (length table.now ≡ lent_length (rules_of case) case) }
     ensures { result ≡ outcome_of (first_refusal (both_tests (rules_of case) case starting.now table.now)) }

@@ -204,7 +204,13 @@ pub fn all_zero(weights: &[i64]) -> bool
 }
 
 // Numbers 8 and 15 of the own places. Where all are in the range nothing applies, and no more is looked at.
-fn own_outcome<'a>(case: Case, table: &'a [i64], own: &'a [i64], low: i64, high: i64) -> Result<(), Refusal>
+fn own_outcome<'a>(
+    case: Case,
+    table: &'a [i64],
+    own: &'a [i64],
+    low: i64,
+    high: i64,
+) -> Result<(), Refusal>
     requires limited { Limited case }
     requires table_len { length table.now ≡ lent_length (rules_of case) case }
     requires own_value { own.now ≡ take (own_length case) table.now }
@@ -315,15 +321,19 @@ fn front_outcome(case: Case, length: usize, wrong: bool, out: bool) -> Result<()
     edge_outcome(case, out)
 }
 
-fn check(case: Case, table: &[i64], wrong: bool, out: bool, low: i64, high: i64) -> Result<(), Refusal>
+fn check(
+    case: Case,
+    table: &[i64],
+    wrong: bool,
+    out: bool,
+    low: i64,
+    high: i64,
+) -> Result<(), Refusal>
     requires { barred_weight <ℤ low }
     ensures { result ≡ outcome_of (first_refusal (handed_over (rules_of case) (holdable low high) case table.now wrong out)) }
 {
-    let front = front_outcome(case, table.len(), wrong, out);
-    match front {
-        Err(refusal) => Err(refusal),
-        Ok(()) => weight_outcome(case, table, low, high),
-    }
+    front_outcome(case, table.len(), wrong, out)?;
+    weight_outcome(case, table, low, high)
 }
 
 // ---- scopes
@@ -489,15 +499,17 @@ pub fn check_working(case: Case, table: &[i64], wrong: bool, out: bool) -> Resul
 }
 
 // Starting weights and working weights that are lent together.
-pub fn check_both<'a>(case: Case, starting: &'a [i64], table: &'a [i64], out: bool) -> Result<(), Refusal>
+pub fn check_both<'a>(
+    case: Case,
+    starting: &'a [i64],
+    table: &'a [i64],
+    out: bool,
+) -> Result<(), Refusal>
     ensures { result ≡ outcome_of (first_refusal (both_handed_over (rules_of case) case starting.now table.now out)) }
 {
     let wrong = starting.len() != table.len();
-    let front = front_outcome(case, table.len(), wrong, out);
-    match front {
-        Err(refusal) => Err(refusal),
-        Ok(()) => both::both_outcome(case, starting, table),
-    }
+    front_outcome(case, table.len(), wrong, out)?;
+    both::both_outcome(case, starting, table)
 }
 
 // What is asked where no table is lent.

@@ -1,3 +1,4 @@
+use Rattle.std.proofs.lemmas.Result.{err_from_is_err_and}
 use mathlib.Core.Path.{◌≡◌, sym, ap, ◌∙◌}
 use mathlib.Core.Bool.{Bool}
 use Prim.Native.Nat.{◌≤◌, ◌<◌}
@@ -14,14 +15,14 @@ use Rattle.arcs.specs.Best.{are_unsupported, best_refusal}
 use Rattle.arcs.proofs.Best.{answer-refused, answer-given, best-arguments-known}
 use borrow.Author.Rules.{rules}
 use Rattle.arcs.proofs.best_unsupported.Goals as goal
-use Rattle.arcs.proofs.best_unsupported.Goals.{In-Ok}
+use Rattle.arcs.proofs.best_unsupported.Goals.{In_ok-check_arguments}
 
 -- what is known where none of the numbers applies
-right : (c : In-Ok) → let a = c.args in (Ok tt) ≡ outcome_of
+right : (c : In_ok-check_arguments) → let a = c.args in (Ok tt) ≡ outcome_of
     (best_refusal (rules_of a.case) a.case a.table.now a.best.now a.raised.now a.variable)
-right c = sym c.in-Ok.is ∙ c.check_arguments-checked.ensures
+right c = sym c.in_ok-check_arguments.was ∙ c.check_arguments.ensures
 
-known : (c : In-Ok) → let a = c.args in
+known : (c : In_ok-check_arguments) → let a = c.args in
     Sized a.case a.table.now × ((scope_count a.case ≤ length a.best.now) × (scope_count a.case ≤ length a.raised.now))
     × (a.variable < a.case.n)
 known c = let a = c.args in best-arguments-known a.case a.table.now a.best.now a.raised.now a.variable
@@ -29,28 +30,28 @@ known c = let a = c.args in best-arguments-known a.case a.table.now a.best.now a
 
 pub set_with-values-requires : goal.set_with-values-requires
 set_with-values-requires c =
-    let h = known (goal.at.set_with-values-requires c).In-Ok in
+    let h = known (goal.at.set_with-values-requires c).In_ok-check_arguments in
     record { sized = h.0; j_lt_n = h.2 }
 
 pub are_unsupported-requires : goal.are_unsupported-requires
-are_unsupported-requires c = record { sized = (known (goal.at.are_unsupported-requires c).In-Ok).0; case_in_bounds = (known (goal.at.are_unsupported-requires c).In-Ok).1 }
+are_unsupported-requires c = record { sized = (known (goal.at.are_unsupported-requires c).In_ok-check_arguments).0; case_in_bounds = (known (goal.at.are_unsupported-requires c).In_ok-check_arguments).1 }
 
-pub returns-in-Err : goal.returns-in-Err
-returns-in-Err c =
+pub returns-in_err-check_arguments : goal.returns-in_err-check_arguments
+returns-in_err-check_arguments c =
     let a = c.args in
-    answer-refused a.case a.table.now a.best.now a.raised.now a.variable
-    (sym c.in-Err.is ∙ c.check_arguments-checked.ensures)
-    (set_where a.case (has_best a.case a.table.now a.best.now) a.variable)
+    let p = err_from_is_err_and c.from_residual.result c.from_residual.ensures.1 in
+    rw (p.1, p.2) (answer-refused a.case a.table.now a.best.now a.raised.now a.variable
+    (sym c.in_err-check_arguments.was ∙ c.check_arguments.ensures)
+    (set_where a.case (has_best a.case a.table.now a.best.now) a.variable))
 
-pub returns-in-Ok : goal.returns-in-Ok
-returns-in-Ok c =
+pub returns : goal.returns
+returns c =
     let a = c.args in
-    c.verdict.ensures
-    ∙ ap (λ (x : Bool). if x then Ok true else Ok false)
+    ap Ok
     (c.are_unsupported.ensures
     ∙ ap (are_unsupported a.case a.table.now a.best.now a.raised.now a.variable)
     (c.set_with-values.ensures
     ∙ ap (λ (b : ℤ). set_where a.case (has_weight a.case a.table.now b) a.variable)
     (read_back w64 (get_or a.best.now a.variable (pos 0)) (search rules))))
-    ∙ answer-given a.case a.table.now a.best.now a.raised.now a.variable (right (goal.at.returns-in-Ok c).In-Ok)
+    ∙ answer-given a.case a.table.now a.best.now a.raised.now a.variable (right (goal.at.returns c).In_ok-check_arguments)
     (set_where a.case (has_best a.case a.table.now a.best.now) a.variable)

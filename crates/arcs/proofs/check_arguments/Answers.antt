@@ -7,20 +7,20 @@ use Rattle.arcs.specs.Active.{length_refusal}
 use Rattle.arcs.specs.Best.{too_few}
 use Rattle.arcs.proofs.Prepared.{lengths-known}
 use Rattle.arcs.proofs.check_arguments.Goals as goal
-use Rattle.arcs.proofs.check_arguments.Goals.{After-check_lengths-checked, In-Ok}
+use Rattle.arcs.proofs.check_arguments.Goals.{After-check_lengths, In_ok-check_lengths}
 
 -- what was asked of the lengths
-lengths : (c : After-check_lengths-checked) → let a = c.args in
-    c.check_lengths-checked.result ≡ outcome_of (length_refusal (rules_of a.case) a.case a.table.now (too_few a.case a.best.now a.raised.now))
+lengths : (c : After-check_lengths) → let a = c.args in
+    c.check_lengths.result ≡ outcome_of (length_refusal (rules_of a.case) a.case a.table.now (too_few a.case a.best.now a.raised.now))
 lengths c =
     let a = c.args in
-    c.check_lengths-checked.ensures
+    c.check_lengths.ensures
     ∙ ap (λ (b : Bool). outcome_of (length_refusal (rules_of a.case) a.case a.table.now b))
     (c.either-wrong.ensures ∙ ap₂ ◌||◌ c.too_few.ensures c.too_few-2.ensures)
 
-done : (c : In-Ok) → let a = c.args in
+done : (c : In_ok-check_lengths) → let a = c.args in
     Ok tt ≡ outcome_of (length_refusal (rules_of a.case) a.case a.table.now (too_few a.case a.best.now a.raised.now))
-done c = sym c.in-Ok.is ∙ lengths (goal.at.In-Ok c).After-check_lengths-checked
+done c = sym c.in_ok-check_lengths.was ∙ lengths (goal.at.In_ok-check_lengths c).After-check_lengths
 
 pub argument_outside-requires : goal.argument_outside-requires
 argument_outside-requires c =

@@ -1,3 +1,4 @@
+use Rattle.std.proofs.lemmas.Result.{err_from_is_err_and}
 use mathlib.Core.Path.{◌≡◌, sym, ap, ◌∙◌}
 use mathlib.Core.Bool.{Bool}
 use Prim.Native.Nat.{◌≤◌, ◌<◌}
@@ -10,14 +11,14 @@ use Rattle.arcs.specs.Active.{Sized}
 use Rattle.arcs.specs.Best.{best_refusal}
 use Rattle.arcs.proofs.Best.{answer-refused, answer-given, best-arguments-known}
 use Rattle.arcs.proofs.values_unsupported.Goals as goal
-use Rattle.arcs.proofs.values_unsupported.Goals.{In-Ok}
+use Rattle.arcs.proofs.values_unsupported.Goals.{In_ok-check_arguments}
 
 -- what is known where none of the numbers applies
-right : (c : In-Ok) → let a = c.args in (Ok tt) ≡ outcome_of
+right : (c : In_ok-check_arguments) → let a = c.args in (Ok tt) ≡ outcome_of
     (best_refusal (rules_of a.case) a.case a.table.now a.best.now a.raised.now a.variable)
-right c = sym c.in-Ok.is ∙ c.check_arguments-checked.ensures
+right c = sym c.in_ok-check_arguments.was ∙ c.check_arguments.ensures
 
-known : (c : In-Ok) → let a = c.args in
+known : (c : In_ok-check_arguments) → let a = c.args in
     Sized a.case a.table.now × ((scope_count a.case ≤ length a.best.now) × (scope_count a.case ≤ length a.raised.now))
     × (a.variable < a.case.n)
 known c = let a = c.args in best-arguments-known a.case a.table.now a.best.now a.raised.now a.variable
@@ -26,15 +27,15 @@ known c = let a = c.args in best-arguments-known a.case a.table.now a.best.now a
 pub are_unsupported-requires : goal.are_unsupported-requires
 are_unsupported-requires c = record { sized = (known c).0; case_in_bounds = (known c).1 }
 
-pub returns-in-Err : goal.returns-in-Err
-returns-in-Err c =
+pub returns-in_err-check_arguments : goal.returns-in_err-check_arguments
+returns-in_err-check_arguments c =
     let a = c.args in
-    answer-refused a.case a.table.now a.best.now a.raised.now a.variable
-    (sym c.in-Err.is ∙ c.check_arguments-checked.ensures) a.values
+    let p = err_from_is_err_and c.from_residual.result c.from_residual.ensures.1 in
+    rw (p.1, p.2) (answer-refused a.case a.table.now a.best.now a.raised.now a.variable
+    (sym c.in_err-check_arguments.was ∙ c.check_arguments.ensures) a.values)
 
-pub returns-in-Ok : goal.returns-in-Ok
-returns-in-Ok c =
+pub returns : goal.returns
+returns c =
     let a = c.args in
-    c.verdict.ensures
-    ∙ ap (λ (b : Bool). if b then Ok true else Ok false) c.are_unsupported.ensures
-    ∙ answer-given a.case a.table.now a.best.now a.raised.now a.variable (right (goal.at.returns-in-Ok c).In-Ok) a.values
+    ap Ok c.are_unsupported.ensures
+    ∙ answer-given a.case a.table.now a.best.now a.raised.now a.variable (right (goal.at.returns c).In_ok-check_arguments) a.values

@@ -1,3 +1,4 @@
+use Rattle.std.proofs.lemmas.Result.{err_from_is_err_and}
 use mathlib.Core.Path.{sym, ap, ◌∙◌}
 use mathlib.Core.Bool.{Bool}
 use mathlib.Core.List.{List}
@@ -19,19 +20,20 @@ change s = let a = s.args in transfer_change a.case a.edge a.end a.value a.amoun
 abbrev stays : (s : Start) → Bool
 stays s = let a = s.args in stays_working (rules_of a.case) a.case a.table.now (change s)
 
-pub returns-in-Err : goal.returns-in-Err
-returns-in-Err c =
+pub returns-in_err-transfer_checked : goal.returns-in_err-transfer_checked
+returns-in_err-transfer_checked c =
     let a = c.args in
-    let r = rw (to_z-of_z c.ranges.amount) at c.transfer_checked-made.ensures in
-    kept-refused a.case a.table.now a.best.now (change (goal.at.returns-in-Err c).Start) (stays (goal.at.returns-in-Err c).Start) (sym c.in-Err.is ∙ r.value) r.table_after
+    let r = rw (to_z-of_z c.ranges.amount) at c.transfer_checked.ensures in
+    let p = err_from_is_err_and c.from_residual.result c.from_residual.ensures.1 in
+    rw (p.1, p.2) (kept-refused a.case a.table.now a.best.now (change (goal.at.returns-in_err-transfer_checked c).Start) (stays (goal.at.returns-in_err-transfer_checked c).Start) (sym c.in_err-transfer_checked.was ∙ r.value) r.table_after)
 
-pub returns-in-Ok : goal.returns-in-Ok
-returns-in-Ok c =
+pub returns : goal.returns
+returns c =
     let a = c.args in
-    let r = rw (to_z-of_z c.ranges.amount) at c.transfer_checked-made.ensures in
-    let t = c.transfer_checked-made.new.table in
+    let r = rw (to_z-of_z c.ranges.amount) at c.transfer_checked.ensures in
+    let t = c.transfer_checked.new.table in
     let x = a.case.n + a.edge in
-    kept-done a.case a.table.now a.best.now (change (goal.at.returns-in-Ok c).Start) (stays (goal.at.returns-in-Ok c).Start) (sym c.in-Ok.is ∙ r.value) r.table_after
+    kept-done a.case a.table.now a.best.now (change (goal.at.returns c).Start) (stays (goal.at.returns c).Start) (sym c.in_ok-transfer_checked.was ∙ r.value) r.table_after
     (λ d. c.keep_greatest-in-Ok.ensures
     ∙ ap (λ (b : List ℤ). set b x (greatest a.case t x))
     (c.keep_greatest.ensures ∙ ap (λ (x : ℕ). set a.best.now x (greatest a.case t x)) c.end_variable.ensures)

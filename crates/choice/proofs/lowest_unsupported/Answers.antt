@@ -9,8 +9,8 @@ pub returns : goal.returns
 returns c =
     let a = c.args in record {
       value = c.lowest_in.ensures
-          ∙ ap (λ (l : List ℕ). chosen_of (lowest_unsupported a.lower.now a.upper.now a.acts.now a.rows.now a.edges.now l))
+          ∙ ap (lowest_unsupported a.lower.now a.upper.now a.acts.now a.rows.now a.edges.now)
           c.closure.ensures.sets_after
-          ∙ ap chosen_of (lowest-narrowed a.lower.now a.upper.now a.acts.now a.rows.now a.edges.now a.sets.now);
+          ∙ lowest-narrowed a.lower.now a.upper.now a.acts.now a.rows.now a.edges.now a.sets.now;
       sets_after = c.closure.ensures.sets_after;
     }

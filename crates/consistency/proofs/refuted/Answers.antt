@@ -1,3 +1,4 @@
+use Rattle.std.proofs.lemmas.Result.{err_from_is_err_and}
 use mathlib.Core.Path.{◌≡◌, sym, ap, subst, ◌∙◌}
 use mathlib.Core.Bool.{not}
 use Prim.Native.Nat.{ℕ, ◌≤◌, ◌<◌}
@@ -21,57 +22,58 @@ use Rattle.arcs.specs.Best.{values_unsupported_answer}
 use Rattle.arcs.proofs.Best.{value-unsupported-is-refuted, bytes-raised}
 use borrow.Author.Rules.{rules}
 use Rattle.consistency.proofs.refuted.Goals as goal
-use Rattle.consistency.proofs.refuted.Goals.{After-check_working-checked, After-greatest_weights, In-Ok, Start}
+use Rattle.consistency.proofs.refuted.Goals.{After-check_working, After-greatest_weights, In_ok-check_working, Start}
 
 -- what was checked, with the definitions for the arguments
-asked : (c : After-check_working-checked) → let a = c.args in
-    c.check_working-checked.result ≡ outcome_of (first_refusal (handed_over (rules_of a.case) (working_weight (rules_of a.case)) a.case a.table.now
+asked : (c : After-check_working) → let a = c.args in
+    c.check_working.result ≡ outcome_of (first_refusal (handed_over (rules_of a.case) (working_weight (rules_of a.case)) a.case a.table.now
     (not (eqb (length a.raised.now) (scope_count a.case))) (arguments_out a.case a.raised.now a.variable a.value)))
-asked c = rw (c.other_length-wrong.ensures, c.arguments_out-out.ensures) at c.check_working-checked.ensures
+asked c = rw (c.other_length-wrong.ensures, c.arguments_out-out.ensures) at c.check_working.ensures
 
-known : (c : In-Ok) → let a = c.args in
+known : (c : In_ok-check_working) → let a = c.args in
     Handed (rules_of a.case) (working_weight (rules_of a.case)) a.case a.table.now
     × ((length a.raised.now ≡ scope_count a.case) × ((x : ℕ) → x < scope_count a.case → get_or a.raised.now x 0 ≤ 1) × (a.variable < a.case.n)
     × (a.value < a.case.d))
 known c =
     let a = c.args in
-    arguments-known a.case a.table.now a.raised.now a.variable a.value (sym c.in-Ok.is ∙ asked (goal.at.In-Ok c).After-check_working-checked)
+    arguments-known a.case a.table.now a.raised.now a.variable a.value (sym c.in_ok-check_working.was ∙ asked (goal.at.In_ok-check_working c).After-check_working)
 
 best-known : (c : After-greatest_weights) → let a = c.args in
     BestOf a.case a.table.now c.greatest_weights.new.best
 best-known c =
     let a = c.args in
-    let h = (known (goal.at.After-greatest_weights c).In-Ok).0 in
+    let h = (known (goal.at.After-greatest_weights c).In_ok-check_working).0 in
     let room : scope_count a.case ≤ scope_places = omega (arith, (limits-known h).scopes-placed) in
     subst (BestOf a.case a.table.now) (sym c.greatest_weights.ensures.1) (greatest-known _ h room).1
 
 ends : (c : Start) → (length c.args.case.lower ≡ edge_places) × (length c.args.case.upper ≡ edge_places)
 ends c = (search rules, search rules)
 
-pub returns-in-Err : goal.returns-in-Err
+pub returns-in_err-check_working : goal.returns-in_err-check_working
 unfolding refuted_answer
-returns-in-Err c =
+returns-in_err-check_working c =
     let a = c.args in
-    answer-refused a.case a.table.now (not (eqb (length a.raised.now) (scope_count a.case)))
+    let p = err_from_is_err_and c.from_residual.result c.from_residual.ensures.1 in
+    rw (p.1, p.2) (answer-refused a.case a.table.now (not (eqb (length a.raised.now) (scope_count a.case)))
     (arguments_out a.case a.raised.now a.variable a.value)
     (refuted_value a.case a.table.now (is_marked a.raised.now) a.variable a.value)
-    (sym c.in-Err.is ∙ asked (goal.at.returns-in-Err c).After-check_working-checked)
+    (sym c.in_err-check_working.was ∙ asked (goal.at.returns-in_err-check_working c).After-check_working))
 
-pub returns-in-Ok : goal.returns-in-Ok
+pub returns : goal.returns
 unfolding refuted_answer
-returns-in-Ok c =
+returns c =
     let a = c.args in
-    let k = known (goal.at.returns-in-Ok c).In-Ok in
+    let k = known (goal.at.returns c).In_ok-check_working in
     let few = (limits-known k.0).edges_placed in
-    let e = ends (goal.at.returns-in-Ok c).Start in
+    let e = ends (goal.at.returns c).Start in
     let best = c.greatest_weights.new.best in
     c.values_unsupported.ensures
     ∙ ap (values_unsupported_answer (rules_of a.case) a.case a.table.now best a.raised.now a.variable) c.only.ensures
-    ∙ value-unsupported-is-refuted a.case a.table.now k.0 best (best-known (goal.at.returns-in-Ok c).After-greatest_weights) a.raised.now
+    ∙ value-unsupported-is-refuted a.case a.table.now k.0 best (best-known (goal.at.returns c).After-greatest_weights) a.raised.now
     (omega (arith, k.1.0)) (omega arith) (omega arith)
     (is_marked a.raised.now) (λ x u. bytes-raised a.raised.now x (k.1.1 x u)) a.variable a.value k.1.2 k.1.3
     ∙ answer-given a.case a.table.now (not (eqb (length a.raised.now) (scope_count a.case)))
     (arguments_out a.case a.raised.now a.variable a.value)
     (refuted_value a.case a.table.now (is_marked a.raised.now) a.variable a.value)
-    (sym c.in-Ok.is
-    ∙ asked (goal.at.returns-in-Ok c).After-check_working-checked)
+    (sym c.in_ok-check_working.was
+    ∙ asked (goal.at.returns c).After-check_working)

@@ -1,3 +1,4 @@
+use Rattle.std.proofs.lemmas.Result.{err_from_is_err_and}
 use mathlib.Core.Path.{◌≡◌, sym, ◌∙◌}
 use mathlib.Core.Bool.{false}
 use Prim.Native.Nat.{◌≤◌}
@@ -15,23 +16,25 @@ use Rattle.calls.specs.Calls.{shift_out}
 use Rattle.tables.proofs.Answered.{known, limits-known}
 use Rattle.moves.proofs.ShiftLaws.{shift-refused, shift-given}
 use Rattle.moves.proofs.shift.Goals as goal
-use Rattle.moves.proofs.shift.Goals.{After-check_working-checked}
+use Rattle.moves.proofs.shift.Goals.{After-check_working}
 
 -- what was checked, with the definition for the argument
-asked : (c : After-check_working-checked) → let a = c.args in
-    c.check_working-checked.result ≡ outcome_of (first_refusal
+asked : (c : After-check_working) → let a = c.args in
+    c.check_working.result ≡ outcome_of (first_refusal
     (handed_over (rules_of a.case) (working_weight (rules_of a.case)) a.case a.table.now false
     (shift_out (rules_of a.case) a.case a.edge a.end a.value a.amount)))
-asked c = rw (c.transfer_out-out.ensures, to_z-of_z c.ranges.amount) at c.check_working-checked.ensures
+asked c = rw (c.transfer_out-out.ensures, to_z-of_z c.ranges.amount) at c.check_working.ensures
 
-pub returns-in-Err : goal.returns-in-Err
-returns-in-Err c = let a = c.args in
-    shift-refused a.case a.table.now a.edge a.end a.value a.amount (sym c.in-Err.is ∙ asked (goal.at.returns-in-Err c).After-check_working-checked)
-
-pub returns-in-Ok : goal.returns-in-Ok
-returns-in-Ok c =
+pub returns-in_err-check_working : goal.returns-in_err-check_working
+returns-in_err-check_working c =
     let a = c.args in
-    let d = sym c.in-Ok.is ∙ asked (goal.at.returns-in-Ok c).After-check_working-checked in
+    let p = err_from_is_err_and c.from_residual.result c.from_residual.ensures.1 in
+    rw (p.1, p.2) (shift-refused a.case a.table.now a.edge a.end a.value a.amount (sym c.in_err-check_working.was ∙ asked (goal.at.returns-in_err-check_working c).After-check_working))
+
+pub returns : goal.returns
+returns c =
+    let a = c.args in
+    let d = sym c.in_ok-check_working.was ∙ asked (goal.at.returns c).After-check_working in
     let (h, right, inside) = known a.case a.table.now false (shift_out (rules_of a.case) a.case a.edge a.end a.value a.amount) d in
     let few : scope_count a.case ≤ scope_places = omega (arith, limits-known h) in
     let r = rw (to_z-of_z c.ranges.amount) at c.transfer.ensures in

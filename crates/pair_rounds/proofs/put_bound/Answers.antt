@@ -16,22 +16,22 @@ use Rattle.tables.specs.Scopes.{BestOf}
 use Rattle.tables.proofs.Best.{best-sum-known}
 use Rattle.pair_rounds.proofs.Texts.{bound-fits}
 use Rattle.pair_rounds.proofs.put_bound.Goals as goal
-use Rattle.pair_rounds.proofs.put_bound.Goals.{After-bound_line, After-sum_of_best-sum}
+use Rattle.pair_rounds.proofs.put_bound.Goals.{After-bound_line, After-sum_of_best}
 
 -- the sum is the upper bound
-summed : (c : After-sum_of_best-sum) {f : Result ℤ Refusal} → c.sum_of_best-sum.result ≡ f → let a = c.args in
+summed : (c : After-sum_of_best) {f : Result ℤ Refusal} → c.sum_of_best.result ≡ f → let a = c.args in
     (v : List ℤ) → Handed (rules_of a.case) (working_weight (rules_of a.case)) a.case v → BestOf a.case v a.best.now
     → f ≡ Ok (upper_bound a.case v)
-summed c e v h b = sym e ∙ c.sum_of_best-sum.ensures ∙ best-sum-known h b
+summed c e v h b = sym e ∙ c.sum_of_best.ensures ∙ best-sum-known h b
 
 -- the bound, read back
 bound : (c : After-bound_line) → let a = c.args in
     (v : List ℤ) → Handed (rules_of a.case) (working_weight (rules_of a.case)) a.case v → BestOf a.case v a.best.now
-    → to_z w64 (of_z w64 c.in-Ok.bound) ≡ upper_bound a.case v
+    → to_z w64 (of_z w64 c.in_ok-bound.bound) ≡ upper_bound a.case v
 bound c v h b =
-    let e = summed (goal.at.After-bound_line c).After-sum_of_best-sum c.in-Ok.is v h b in
-    let d : c.in-Ok.bound ≡ upper_bound c.args.case v = cc in
-    read_back w64 c.in-Ok.bound c.in-Ok.known_told-in-Ok-1-own.given.0.1 ∙ d
+    let e = summed (goal.at.After-bound_line c).After-sum_of_best c.in_ok-bound.was v h b in
+    let d : c.in_ok-bound.bound ≡ upper_bound c.args.case v = cc in
+    read_back w64 c.in_ok-bound.bound c.in_ok-bound.known_told-in-Ok-1-own.given.0.1 ∙ d
 
 pub put_line-bytes-requires : goal.put_line-bytes-requires
 put_line-bytes-requires c =
@@ -40,13 +40,13 @@ put_line-bytes-requires c =
 
 pub returns-in-Err : goal.returns-in-Err
 returns-in-Err c v h b =
-    let e = summed (goal.at.returns-in-Err c).After-sum_of_best-sum c.in-Err.is v h b in
+    let e = summed (goal.at.returns-in-Err c).After-sum_of_best c.in_err-bound.was v h b in
     let z : ◌≡◌ {A = ℕ} 0 1 = cc in
     absurd (omega arith)
 
-pub returns-in-Ok : goal.returns-in-Ok
-returns-in-Ok c v h b =
-    let e = bound (goal.at.returns-in-Ok c).After-bound_line v h b in
+pub returns : goal.returns
+returns c v h b =
+    let e = bound (goal.at.returns c).After-bound_line v h b in
     record {
       answer = rw (e, c.put_line-bytes.ensures.0);
       put = rw (c.bound_line.ensures, e) at c.put_line-bytes.ensures.1;

@@ -1,3 +1,4 @@
+use Rattle.std.proofs.lemmas.Result.{err_from_is_err_and}
 use Rattle.case_lines.specs.Dues.{bytes_of_line}
 use mathlib.Core.Path.{◌≡◌, sym, ap, ◌∙◌}
 use Prim.Native.Nat.{◌+◌, ◌*◌}
@@ -13,16 +14,17 @@ line-at-byte : (c : After-line_length) → let a = c.args in
     c.line_length.result * (a.q + 1) ≡ bytes_of_line a.sizes.rulebook * (a.q + 1)
 line-at-byte c = ap (λ n. n * (c.args.q + 1)) c.line_length.ensures
 
-pub returns-in-Err : goal.returns-in-Err
-returns-in-Err c =
+pub returns-in_err-line : goal.returns-in_err-line
+returns-in_err-line c =
     let a = c.args in
     let t = drop (bytes_of_line a.sizes.rulebook * (a.q + 1)) a.bytes.now in
-    at-refused a.sizes a.lower.now a.upper.now a.table.now t (due_awaited a.due) (front a.sizes.rulebook t)
-    (sym (rw (line-at-byte (goal.at.returns-in-Err c).After-line_length) at c.line_at-read.ensures) ∙ c.in-Err.is)
+    let p = err_from_is_err_and c.from_residual.result c.from_residual.ensures.1 in
+    rw (p.1, p.2) (at-refused a.sizes a.lower.now a.upper.now a.table.now t (due_awaited a.due) (front a.sizes.rulebook t)
+    (sym (rw (line-at-byte (goal.at.returns-in_err-line c).After-line_length) at c.line_at.ensures) ∙ c.in_err-line.was))
 
-pub returns-in-Ok : goal.returns-in-Ok
-returns-in-Ok c =
+pub returns : goal.returns
+returns c =
     let a = c.args in
     let t = drop (bytes_of_line a.sizes.rulebook * (a.q + 1)) a.bytes.now in
     at_read a.sizes a.lower.now a.upper.now a.table.now t (due_awaited a.due) (front a.sizes.rulebook t)
-    (sym (rw (line-at-byte (goal.at.returns-in-Ok c).After-line_length) at c.line_at-read.ensures) ∙ c.in-Ok.is) c.take.ensures
+    (sym (rw (line-at-byte (goal.at.returns c).After-line_length) at c.line_at.ensures) ∙ c.in_ok-line.was) c.take.ensures

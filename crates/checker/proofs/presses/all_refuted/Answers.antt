@@ -27,7 +27,7 @@ asked s =
 
 answer : (s : Start) → let a = s.args in
     values_unsupported_answer (rules_of a.case) a.case a.table.now a.best.now a.raised.now a.variable a.values
-    ≡ (if (asked s) then Ok true else Ok false)
+    ≡ Ok (asked s)
 answer s =
     let a = s.args in
     let h = s.requires.handed in
