@@ -160,21 +160,25 @@ module _ (c : Case) (w best : List ℤ) (m : Change) (b : Bool) where
   pub kept-left : b ≡ false → KeptIs c w best m b (Err LeavesRange) w best
   kept-left e = (rw e, rw e, rw e)
 
-  pub kept-refused : {x : Refusal} {t : List ℤ} → Err x ≡ (if b then Ok tt else Err LeavesRange)
+  -- the answer where all that changes stays in the range, or not
+  abbrev stays_or_not : Bool → Result ⊤ Refusal
+  stays_or_not b = if b then Ok tt else Err LeavesRange
+
+  pub kept-refused : {x : Refusal} {t : List ℤ} → Err x ≡ stays_or_not b
       → t ≡ (if b then table_after c w m else w)
       → KeptIs c w best m b (Err x) t best
   kept-refused {x} {t} = go b
     where
-      go : (b : Bool) → Err x ≡ (if b then Ok tt else Err LeavesRange) → t ≡ (if b then table_after c w m else w)
+      go : (b : Bool) → Err x ≡ stays_or_not b → t ≡ (if b then table_after c w m else w)
           → KeptIs c w best m b (Err x) t best
       go true e d = absurd (let z : ◌≡◌ {A = ℕ} 0 1 = cc in omega arith)
       go false e d = (e, d, refl)
 
-  pub kept-done : {t u : List ℤ} → Ok tt ≡ (if b then Ok tt else Err LeavesRange) → t ≡ (if b then table_after c w m else w)
+  pub kept-done : {t u : List ℤ} → Ok tt ≡ stays_or_not b → t ≡ (if b then table_after c w m else w)
       → (t ≡ table_after c w m → u ≡ best_after c w best m) → KeptIs c w best m b (Ok tt) t u
   kept-done {t} {u} = go b
     where
-      go : (b : Bool) → Ok tt ≡ (if b then Ok tt else Err LeavesRange) → t ≡ (if b then table_after c w m else w)
+      go : (b : Bool) → Ok tt ≡ stays_or_not b → t ≡ (if b then table_after c w m else w)
           → (t ≡ table_after c w m → u ≡ best_after c w best m) → KeptIs c w best m b (Ok tt) t u
       go true e d f = (refl, d, f d)
       go false e d f = absurd (let z : ◌≡◌ {A = ℕ} 0 1 = cc in omega arith)

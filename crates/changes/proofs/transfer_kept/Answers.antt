@@ -34,7 +34,7 @@ returns c =
     let t = c.transfer_checked.new.table in
     let x = a.case.n + a.edge in
     kept-done a.case a.table.now a.best.now (change (goal.at.returns c).Start) (stays (goal.at.returns c).Start) (sym c.in_ok-transfer_checked.was ∙ r.value) r.table_after
-    (λ d. c.keep_greatest-in-Ok.ensures
+    (λ d. c.keep_greatest-2.ensures
     ∙ ap (λ (b : List ℤ). set b x (greatest a.case t x))
     (c.keep_greatest.ensures ∙ ap (λ (x : ℕ). set a.best.now x (greatest a.case t x)) c.end_variable.ensures)
     ∙ transfer-best a.case a.edge a.end a.value a.amount a.table.now a.best.now c.requires.limited.2 c.requires.edge_lt_m.0 c.requires.edge_lt_m.3 d)

@@ -52,8 +52,8 @@ returns-in_err-check_working c =
     let a = c.args in
     let w = a.table.now in
     let p = a.assignment.now in
-    let p = err_from_is_err_and c.from_residual.result c.from_residual.ensures.1 in
-    rw (p.1, p.2) (answer-refused a.case w (wrong_assignment a.case p) (out a.case w p) (objective a.case w p) (sym c.in_err-check_working.was ∙ asked (goal.at.returns-in_err-check_working c).After-check_working))
+    let q = err_from_is_err_and c.from_residual.result c.from_residual.ensures.1 in
+    rw (q.1, q.2) (answer-refused a.case w (wrong_assignment a.case p) (out a.case w p) (objective a.case w p) (sym c.in_err-check_working.was ∙ asked (goal.at.returns-in_err-check_working c).After-check_working))
 
 pub returns : goal.returns
 unfolding objective_answer

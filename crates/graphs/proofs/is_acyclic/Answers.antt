@@ -32,10 +32,5 @@ returns-in_err-check_edges c =
     let p = err_from_is_err_and c.from_residual.result c.from_residual.ensures.1 in
     rw (p.1, p.2) (acyclic-refused c.args.case (sym c.in_err-check_edges.was ∙ c.check_edges.ensures))
 
-pub returns-then-join_edges : goal.returns-then-join_edges
-returns-then-join_edges c =
-    acyclic-given c.args.case (done (goal.at.returns-then-join_edges c).In_ok-check_edges) (sym c.if-join_edges.true ∙ c.join_edges.ensures)
-
-pub returns-else-join_edges : goal.returns-else-join_edges
-returns-else-join_edges c =
-    acyclic-given c.args.case (done (goal.at.returns-else-join_edges c).In_ok-check_edges) (sym c.if-join_edges.false ∙ c.join_edges.ensures)
+pub returns : goal.returns
+returns c = acyclic-given c.args.case (done (goal.at.returns c).In_ok-check_edges) c.join_edges.ensures
