@@ -48,7 +48,7 @@ use Rattle.checker.specs.Checker.{
   fold_replay,
   block_replay,
 }
-use Rattle.checker.specs.Taken.{standing_after, replay_of, good_replay, step_of, bytes_per_line, more_by}
+use Rattle.checker.specs.Taken.{replay_of, good_replay, step_of, bytes_per_line, more_by}
 use Rattle.checker.proofs.Leaves.{Left, step-leaves}
 
 pub more-by : (n : ℕ) (x : BlockCall) → more_by n (more_by 1 x) ≡ more_by (n + 1) x
@@ -195,7 +195,7 @@ module _ (c : Case) (w : List ℤ) (p : Replay) (t : List ℕ) (h : bytes_per_li
   turn-done n e =
       let l = subst (Left (rules_of c) c w) (sym s)
       (step-leaves (coherent c.rulebook) c w p (take (bytes_per_line c) t) (ap (λ (x : StepCall). x.stepped.answer) (sym s) ∙ e)) in
-      let g = ap standing_after e in (
+      let g = e in (
         ap (more_by n)
             (fold_done c w p t h (step_of k raised v) (sym s) e
             ∙ ap (λ (d : Result ⊤ Refusal). more_by 1 (fold_replay (rules_of c) c v (replay_of k.progress raised d) (drop (bytes_per_line c) t))) g)
@@ -212,8 +212,8 @@ module _ (c : Case) (w : List ℤ) (p : Replay) (t : List ℕ) (h : bytes_per_li
         table = v;
       }
   turn-refused n e =
-      ap (more_by n) (fold-refused c w p t h (step_of k raised v) (sym s) e (ap standing_after e))
-      ∙ ap (λ (o : Result ⊤ Refusal). record { block = record { replay = replay_of k.progress raised (standing_after o); lines = n + 0; answer = o }; table = v }) e
+      ap (more_by n) (fold-refused c w p t h (step_of k raised v) (sym s) e e)
+      ∙ ap (λ (o : Result ⊤ Refusal). record { block = record { replay = replay_of k.progress raised o; lines = n + 0; answer = o }; table = v }) e
       ∙ ended n _ _ v
 
 -- ---- a block by what applies to what was handed over: nothing, and a number

@@ -41,7 +41,7 @@ use Rattle.checker.proofs.Numbers.{count-in-range}
 use Rattle.checker.proofs.Front.{neither, lent-known}
 use Rattle.checker.proofs.LineKinds.{twice-not, nothing-due}
 
-never : {x : Refusal} → Err x ≡ Ok tt → ⊥
+never : {x : Refusal} → ◌≡◌ {A = Result ⊤ Refusal} (Err x) (Ok tt) → ⊥
 never {x} e = let z : ◌≡◌ {A = ℕ} 0 1 = cc in omega arith
 
 -- no number of two lists applies

@@ -107,30 +107,6 @@ module _ (c : Case) (w : List ℤ) (p : Replay) (t : Line) (o : T (not (of_shift
       )
       (is_false (not (shift_amount (rules_of c) t.amount)) m)
 
--- ---- a verdict
-
-module _ (b : Bool) where
-  pub verdict-yes : Ok true ≡ Ok b → true ≡ b
-  verdict-yes e = told b e
-    where
-      told : (b : Bool) → Ok true ≡ Ok b → true ≡ b
-      told true e = refl
-      told false e = cc
-
-  pub verdict-no : Ok false ≡ Ok b → false ≡ b
-  verdict-no e = told b e
-    where
-      told : (b : Bool) → Ok false ≡ Ok b → false ≡ b
-      told true e = cc
-      told false e = refl
-
-  pub verdict-neither : {x : Refusal} → Err x ≡ Ok b → false ≡ b
-  verdict-neither {x} e = told b e
-    where
-      told : (b : Bool) → Err x ≡ Ok b → false ≡ b
-      told true e = cc
-      told false e = refl
-
 -- ---- the line that begins a press or a void line
 
 pub begin-counts : (c : Case) (t : Line) → T (not (begin_out c t)) → (lt_z t.a (pos 0) ≡ false) × (lt_z t.b (pos 0) ≡ false)
@@ -138,13 +114,13 @@ begin-counts c t o =
     let (a, b) = simp not-or-iff at o in
     (inside-from-zero c.n t.a a, (count-in-range (scope_count c - 1) t.b ((not-not-iff (within_z (pos 1) (pos (scope_count c - 1)) t.b)).0 b)).0)
 
-pub begin-record : (c : Case) (w : List ℤ) (q : Progress) (raised : List ℕ) (target : Target) (t : Line) {i n : ℕ} {None : List ℕ} → i ≡ nat_abs t.a
-    → n ≡ nat_abs t.b → None ≡ none_raised
-    → good_replay (record { rounds = q.rounds; start = q.start; moved = q.moved; due = Due.Raise i target n None }) None
+pub begin-record : (c : Case) (w : List ℤ) (q : Progress) (raised : List ℕ) (target : Target) (t : Line) {i n : ℕ} {zeros : List ℕ} → i ≡ nat_abs t.a
+    → n ≡ nat_abs t.b → zeros ≡ none_raised
+    → good_replay (record { rounds = q.rounds; start = q.start; moved = q.moved; due = Due.Raise i target n None }) zeros
     ≡ (of_begin (rules_of c) c w (good_replay q raised) target t).next
-begin-record c w q raised target t {n} {None} d f g =
-    ap (λ (i : ℕ). in_press (good_replay q raised) None (Due.Raise i target n None)) d
-    ∙ ap (λ (n : ℕ). in_press (good_replay q raised) None (Due.Raise (nat_abs t.a) target n None)) f
+begin-record c w q raised target t {n} {zeros} d f g =
+    ap (λ (i : ℕ). in_press (good_replay q raised) zeros (Due.Raise i target n None)) d
+    ∙ ap (λ (n : ℕ). in_press (good_replay q raised) zeros (Due.Raise (nat_abs t.a) target n None)) f
     ∙ ap (λ (l : List ℕ). in_press (good_replay q raised) l (Due.Raise (nat_abs t.a) target (nat_abs t.b) None)) g
 
 -- ---- a raise line
@@ -199,11 +175,14 @@ put_back (y ∷ l) (suc x) v = ap (λ (k : List ℕ). y ∷ k) (put_back l x v)
 
 -- ---- a line that was read
 
-found : (o : Option Line) {t : Line} → elim o [ None ↦ Err NotInColumns | Some l ↦ Ok l ] ≡ Ok t → o ≡ Some t
+abbrev read_or_not : Option Line → Result Line Refusal
+read_or_not o = elim o [ None ↦ Err NotInColumns | Some l ↦ Ok l ]
+
+found : (o : Option Line) {t : Line} → read_or_not o ≡ Ok t → o ≡ Some t
 found None e = cc
 found (Some l) e = cc
 
-missing : (o : Option Line) {x : Refusal} → elim o [ None ↦ Err NotInColumns | Some l ↦ Ok l ] ≡ Err x → o ≡ None
+missing : (o : Option Line) {x : Refusal} → read_or_not o ≡ Err x → o ≡ None
 missing None e = refl
 missing (Some l) e = cc
 

@@ -18,11 +18,6 @@ use Rattle.checker.specs.declared.Progress.{Progress}
 use Rattle.checker.specs.declared.Taken.{Taken}
 use Rattle.checker.specs.Checker.{StepCall, BlockCall, Asked, fresh_of, due_kinds, after_target, record_out, target_table, last_tests, of_due, step_by}
 
--- a record stands as the last line was answered
-abbrev pub standing_after : Result ⊤ Refusal → Result ⊤ Refusal
-standing_after (Ok tt) = Ok tt
-standing_after (Err x) = Err x
-
 abbrev pub replay_of : Progress → List ℕ → Result ⊤ Refusal → Replay
 replay_of p raised standing = record {
   rounds = p.rounds;
@@ -45,7 +40,7 @@ fresh_from (Err x) = fresh_of (Some x) (pos 0)
 -- the step of a line taken
 abbrev pub step_of : Taken → List ℕ → List ℤ → StepCall
 step_of t raised w = record {
-  stepped = record { replay = replay_of t.progress raised (standing_after t.answer); answer = t.answer };
+  stepped = record { replay = replay_of t.progress raised t.answer; answer = t.answer };
   table = w;
 }
 

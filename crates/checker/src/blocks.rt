@@ -12,8 +12,8 @@ use crate::due_lines::is_due;
 use crate::kinds::take_line;
 use crate::raise_runs::raise_on;
 use crate::ranges::line_out;
-use crate::records::{progress_of, record_of, refused, stands};
-use crate::{Block, Progress, Replay, Standing, Stepped, Taken};
+use crate::records::{progress_of, record_of, refused};
+use crate::{Block, Progress, Replay, Stepped, Taken};
 use definitions::{Case, Line, Refusal, SCOPE_PLACES};
 
 fn prepare(case: Case, table: &[i64], best: &mut [i64])
@@ -132,7 +132,7 @@ pub(crate) fn good_step(replay: Replay, case: Case, table: &mut [i64], bytes: &[
     let after = taken.progress;
     let answer = taken.answer;
     Stepped {
-        replay: record_of(after, raised, stands(answer)),
+        replay: record_of(after, raised, answer),
         answer,
     }
 }

@@ -14,7 +14,7 @@ ghost use Rattle.checker.specs.Taken.{good_replay, step_of, step_next};
 use crate::columns::index;
 use crate::presses::raise_line;
 use crate::records::{after_bound, after_move, clear, refused, with_due};
-use crate::{Due, LastRaised, Progress, Replay, Taken, Target};
+use crate::{Due, Progress, Replay, Taken, Target};
 use definitions::{Case, Line, Refusal};
 
 fn shift_made(case: Case, table: &mut [i64], best: &mut [i64], line: Line) -> Result<(), Refusal>

@@ -11,7 +11,7 @@ use crate::columns::{line_length, read_line};
 use crate::due_lines::is_due;
 use crate::ranges::{line_out, record_out};
 use crate::records::{progress_of, record_of};
-use crate::{Block, Replay, Standing, Stepped};
+use crate::{Block, Replay, Stepped};
 use definitions::{Case, Line, Refusal};
 
 // Numbers 3 to 8.

@@ -186,11 +186,8 @@ impl Replay {
     pub fn end(self, case: Case) -> Result<(), Refusal>
         ensures { result ≡ end_replay (rules_of case) case self }
     {
-        let standing = self.standing;
-        match standing {
-            Err(refusal) => Err(refusal),
-            Ok(()) => end_good(self, case),
-        }
+        self.standing?;
+        end_good(self, case)
     }
 
     // A block of whole lines; a part line at its end is not looked at.

@@ -17,16 +17,13 @@ ghost use Rattle.checker.specs.Taken.{good_replay, step_of, step_taken, step_nex
 
 use crate::columns::index;
 use crate::records::{after_move, clear, refused, with_due};
-use crate::{Due, LastRaised, Progress, Taken, Target};
+use crate::{Due, Progress, Taken, Target};
 use definitions::{Case, Line, Refusal};
 
 fn not_above(last: Option<usize>, x: usize) -> bool
     ensures { result ≡ not_above_last last x }
 {
-    match last {
-        None => false,
-        Some(y) => x <= y,
-    }
+    last.is_some_and(|y| x <= y)
 }
 
 fn all_refuted(
@@ -43,12 +40,7 @@ fn all_refuted(
     requires marks_of { MarksOf case (active_values case table.now variable) values }
     ensures { result ≡ all_refuted case table.now (is_raised raised.now) variable (active_values case table.now variable) }
 {
-    let verdict = arcs::values_unsupported(case, table, best, raised, variable, values);
-    match verdict {
-        Ok(true) => true,
-        Ok(false) => false,
-        Err(_) => false,
-    }
+    arcs::values_unsupported(case, table, best, raised, variable, values).unwrap_or(false)
 }
 
 fn press_made(

@@ -11,7 +11,7 @@ ghost use Rattle.checker.specs.Taken.{good_replay, bytes_per_line};
 ghost use Rattle.checker.specs.Raising.{last_under, held_progress, raising_progress, Onward};
 
 use crate::records::with_due;
-use crate::{Due, LastRaised, Place, Progress, Raises, Target};
+use crate::{Due, Place, Progress, Raises, Target};
 use definitions::{Case, Rulebook, SCOPE_PLACES};
 
 // The scope of a raise line, or more than any scope's number.
@@ -19,11 +19,7 @@ fn scope_or_none(bytes: &[u8], width: usize) -> usize
     requires { width_out width ≡ false }
     ensures { result < scope_places → read_line width bytes.now ≡ Some (raise_line result) }
 {
-    let scope = lines::raised_scope(bytes, width);
-    match scope {
-        Some(x) => x,
-        None => SCOPE_PLACES,
-    }
+    lines::raised_scope(bytes, width).unwrap_or(SCOPE_PLACES)
 }
 
 // Takes raise lines from the front of a block while more than one is left and they are in order.

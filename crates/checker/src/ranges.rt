@@ -8,7 +8,7 @@ ghost use Rattle.definitions.specs.Replay.{begin_out};
 ghost use Rattle.checker.specs.Checker.{last_out, target_out, due_out, of_shift, of_due};
 
 use crate::columns::{is_outside, is_within, most_rounds};
-use crate::{Due, LastRaised, Replay, Target};
+use crate::{Due, Replay, Target};
 use definitions::{Case, Line};
 
 fn last_out(case: Case, last: Option<usize>) -> bool

@@ -1,8 +1,8 @@
 // The next record, in parts and whole.
 ghost use Rattle.std.specs.Prelude.{◌≡◌, true, false, ◌+◌, ◌^◌, ◌<◌, length, replicate, Ok, Err};
-ghost use Rattle.checker.specs.Taken.{standing_after, replay_of};
+ghost use Rattle.checker.specs.Taken.{replay_of};
 
-use crate::{Due, Progress, Replay, Standing, Taken};
+use crate::{Due, Progress, Replay, Taken};
 use definitions::{Refusal, SCOPE_PLACES};
 
 pub(crate) fn refused(progress: Progress, refusal: Refusal) -> Taken
@@ -101,15 +101,6 @@ pub(crate) fn progress_of(replay: Replay) -> Progress
         start: replay.start,
         moved: replay.moved,
         due,
-    }
-}
-
-pub(crate) fn stands(answer: Result<(), Refusal>) -> Result<(), Refusal>
-    ensures { result ≡ standing_after answer }
-{
-    match answer {
-        Ok(()) => Ok(()),
-        Err(refusal) => Err(refusal),
     }
 }
 

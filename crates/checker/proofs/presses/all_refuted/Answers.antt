@@ -1,9 +1,11 @@
-use mathlib.Core.Path.{◌≡◌, refl, sym, ◌∙◌}
+use mathlib.Core.Path.{◌≡◌, refl, ap, ◌∙◌}
 use mathlib.Core.Bool.{Bool}
 use Prim.Native.Nat.{◌+◌, ◌≤◌}
 use native.Mathlib.Omega.{arith}
 use lib.ListN.{length}
-use Rattle.std.specs.Prelude.{if◌then◌else◌, Ok, true, false}
+use Rattle.std.specs.Prelude.{Result, Ok, false}
+use Rattle.std.specs.Result.{result_unwrap_or}
+use Rattle.definitions.specs.declared.Refusal.{Refusal}
 use Rattle.definitions.specs.Rules.{rules_of, edge_places}
 use Rattle.definitions.specs.Consistency.{all_refuted}
 use Rattle.definitions.specs.Moves.{active_values}
@@ -11,7 +13,6 @@ use Rattle.calls.specs.Calls.{is_raised}
 use Rattle.tables.proofs.Answered.{limits-known}
 use Rattle.arcs.specs.Best.{values_unsupported_answer}
 use Rattle.arcs.proofs.Best.{values-unsupported-is-refuted}
-use Rattle.checker.proofs.Taking.{verdict-yes, verdict-no, verdict-neither}
 use borrow.Author.Rules.{rules}
 use Rattle.checker.proofs.presses.all_refuted.Goals as goal
 use Rattle.checker.proofs.presses.all_refuted.Goals.{Start}
@@ -37,14 +38,5 @@ answer s =
     (omega (arith, l.edges_placed, (ends s).0)) (omega (arith, l.edges_placed, (ends s).1)) (is_raised a.raised.now) (λ x u. refl)
     a.variable s.requires.raised_len.1 a.values (active_values a.case a.table.now a.variable) s.requires.marks_of
 
-pub returns-in-Yes : goal.returns-in-Yes
-returns-in-Yes c =
-    verdict-yes (asked (goal.at.returns-in-Yes c).Start) (sym c.in-Yes.is ∙ c.values_unsupported-verdict.ensures ∙ answer (goal.at.returns-in-Yes c).Start)
-
-pub returns-in-No : goal.returns-in-No
-returns-in-No c =
-    verdict-no (asked (goal.at.returns-in-No c).Start) (sym c.in-No.is ∙ c.values_unsupported-verdict.ensures ∙ answer (goal.at.returns-in-No c).Start)
-
-pub returns-in-Err : goal.returns-in-Err
-returns-in-Err c =
-    verdict-neither (asked (goal.at.returns-in-Err c).Start) (sym c.in-Err.is ∙ c.values_unsupported-verdict.ensures ∙ answer (goal.at.returns-in-Err c).Start)
+pub returns : goal.returns
+returns c = c.unwrap_or.ensures ∙ ap (λ (r : Result Bool Refusal). result_unwrap_or r false) (c.values_unsupported.ensures ∙ answer (goal.at.returns c).Start)
