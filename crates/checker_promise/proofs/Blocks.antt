@@ -66,10 +66,10 @@ first-append [] ps = refl
 first-append ((Ok tt) ∷ os) ps = first-append os ps
 first-append (Err x ∷ os) ps = refl
 
-never : {x : Refusal} → Err x ≡ Ok tt → ⊥
+never : {x : Refusal} → ◌≡◌ {A = Result ⊤ Refusal} (Err x) (Ok tt) → ⊥
 never e = let z : ◌≡◌ {A = ℕ} 0 1 = cc in omega arith
 
-good-refused : {x : Refusal} → Ok tt ≡ Err x → ⊥
+good-refused : {x : Refusal} → ◌≡◌ {A = Result ⊤ Refusal} (Ok tt) (Err x) → ⊥
 good-refused e = let z : ◌≡◌ {A = ℕ} 0 1 = cc in omega arith
 
 module _ (r : Rules) where

@@ -33,17 +33,17 @@ use Rattle.checker_promise.proofs.Accepts.{answers-are, end_is, weights-are, rou
 -- the judgement of a log whose lines, but for those taken, begin at `at`: the first refusal, else the end's, else 14 where a part line is left
 abbrev pub log_judged : ℕ → Result ⊤ Refusal → Result ⊤ Refusal → Bool → Result Judgement RefusedAt → Result Judgement RefusedAt
 log_judged at (Err x) end part good = Err (refused_at x at)
-log_judged at (Ok tt) (Err x) part good = Err (refused_at x at)
-log_judged at (Ok tt) (Ok tt) part good = if part then Err (refused_at CutShort at) else good
+log_judged at (Ok _) (Err x) part good = Err (refused_at x at)
+log_judged at (Ok _) (Ok _) part good = if part then Err (refused_at CutShort at) else good
 
-number-judged : (at : ℕ) (os : List (Option Refusal)) (end : Option Refusal) (part : Bool) (good : Result Judgement RefusedAt)
+pub number-judged : (at : ℕ) (os : List (Option Refusal)) (end : Option Refusal) (part : Bool) (good : Result Judgement RefusedAt)
     → first_number at os end part good ≡ log_judged (at + taken_lines (map outcome_of os)) (first_refused (map outcome_of os)) (outcome_of end) part good
 number-judged at [] None part good = ap (λ (n : ℕ). if part then Err (refused_at CutShort n) else good) (sym (add-zero at))
-number-judged at [] (Some x) part good = ap (Judgement.Refused x) (sym (add-zero at))
+number-judged at [] (Some x) part good = ap (λ (n : ℕ). Err (refused_at x n)) (sym (add-zero at))
 number-judged at (None ∷ os) end part good =
     number-judged (at + 1) os end part good
     ∙ ap (λ (n : ℕ). log_judged n (first_refused (map outcome_of os)) (outcome_of end) part good) (omega arith)
-number-judged at (Some x ∷ os) end part good = ap (Judgement.Refused x) (sym (add-zero at))
+number-judged at (Some x ∷ os) end part good = ap (λ (n : ℕ). Err (refused_at x n)) (sym (add-zero at))
 
 -- the fold over the log, and the plain replay's state after its lines
 module _ (r : Rules) (c : Case) (w : List ℤ) (log : List ℕ) where

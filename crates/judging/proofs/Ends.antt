@@ -183,7 +183,7 @@ module _ (c : Case) (w : List ℤ) (p : Replay) where
   pub finish-done : (part : Bool) (s : Result ⊤ Refusal) → Ok tt ≡ finish_standing c w p part s → Handed r (working_weight r) c w
   finish-done part (Err x) e = absurd (never e)
     where
-      never : Ok tt ≡ Err x → ⊥
+      never : ◌≡◌ {A = Result ⊤ Refusal} (Ok tt) (Err x) → ⊥
       never e = let z : ◌≡◌ {A = ℕ} 0 1 = cc in omega arith
   finish-done part (Ok tt) e =
       ((handed r (working_weight r) c w false (record_out r c p)).0 ((none-iff (first_refusal checks)).1 (go (first_refusal checks) refl))).0

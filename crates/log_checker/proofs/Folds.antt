@@ -153,7 +153,7 @@ pub record Stops (b : Between) (t : List ℕ) (x : Refusal) (f : StretchLines) :
       (take (bytes_per_line b.case) (drop (f.block.lines * bytes_per_line b.case) t))
       ≡ refused_step (standing_good f.block.replay) f.table x
 
-never : {x : Refusal} → Ok tt ≡ Err x → ⊥
+never : {x : Refusal} → ◌≡◌ {A = Result ⊤ Refusal} (Ok tt) (Err x) → ⊥
 never {x} e = let z : ◌≡◌ {A = ℕ} 0 1 = cc in omega arith
 
 module _ (b : Between) (s : Settled b) (t : List ℕ) where
@@ -227,7 +227,7 @@ module _ (b : Between) (s : Settled b) (t : List ℕ) where
 -- the stretch's lines up to one that is refused
 whole : (b : Between) (f : StretchLines) {x : Refusal} → f.block.answer ≡ Err x → f.block.replay.standing ≡ Err x
     → more_by f.block.lines (ends_with (lifted b (refused_step (standing_good f.block.replay) f.table x))) ≡ lifted_lines b f
-whole b f e d = let z : f.block.lines + 0 ≡ f.block.lines = omega arith in rw (z, ← e, ← d)
+whole b f e d = let z : f.block.lines + 0 ≡ f.block.lines = omega arith in rw (z, e, d)
 
 abbrev size_in : Between → ℕ
 size_in b = bytes_per_line b.case

@@ -163,7 +163,7 @@ module _ (b : Between) (s : Settled b) where
   abbrev step : List ℕ → StretchCall
   step bytes = step_stretch r b.case b.table p bytes
 
-  never : {x : Refusal} → Err x ≡ Ok tt → ⊥
+  never : {x : Refusal} → ◌≡◌ {A = Result ⊤ Refusal} (Err x) (Ok tt) → ⊥
   never {x} e = let z : ◌≡◌ {A = ℕ} 0 1 = cc in omega arith
 
   -- a line that the stretch takes

@@ -3,7 +3,7 @@ use Rattle.std.proofs.Common.{◌≡◌, sym, ap, subst, ◌∙◌, ℕ, ◌+◌
 use Rattle.std.proofs.lemmas.List.{drop-take, take-append-le, drop-append-le}
 use Rattle.std.proofs.Math.Seq.{take-take, drop_at}
 use borrow.Rule.Slice.PartMut.{put_mid, post_of}
-use Rattle.std.specs.Prelude.{Option, NoFamily, Some}
+use Rattle.std.specs.Prelude.{Option, None, Some}
 use Rattle.std.specs.Io.KnownBytes.{Consumes}
 
 -- the bytes before `from` are kept
@@ -28,9 +28,9 @@ two_reads from at to old new h k l e =
 
 -- a stretch, and then another
 pub consumes_next : (a b c : Option (List ℕ)) (xs ys : List ℕ) → Consumes a b xs → Consumes b c ys → Consumes a c (xs ++ ys)
-consumes_next NoFamily b c xs ys p q = tt
-consumes_next (Some a) NoFamily c xs ys p q = absurd p
-consumes_next (Some a) (Some b) NoFamily xs ys p q = absurd q
+consumes_next None b c xs ys p q = tt
+consumes_next (Some a) None c xs ys p q = absurd p
+consumes_next (Some a) (Some b) None xs ys p q = absurd q
 consumes_next (Some a) (Some b) (Some c) xs ys p q = p ∙ ap (λ t. xs ++ t) q ∙ sym (append_assoc xs ys c)
 
 pub reads_next : (a b c : Option (List ℕ)) (from at to : ℕ) (old new : List ℕ) → from ≤ at → at ≤ to → at ≤ length new → take at new ≡ take at old
