@@ -72,7 +72,7 @@ module _ (d : ℕ) (few : d ≤ 8) where
       → lowest_in_both row (bits_of d f) ≡ first (those (λ u. f u && act u) (below d))
   unfolding lowest_in_both
   lowest-same row f act same =
-      ap (λ (xs : List ℕ). first xs) (those-same 8 (λ u l. by u l (either (ltb u d))) ∙ those-short (λ u. f u && act u) d 8 few)
+      ap first (those-same 8 (λ u l. by u l (either (ltb u d))) ∙ those-short (λ u. f u && act u) d 8 few)
     where
       turned : (a b : Bool) → (a && b) ≡ (b && a)
       turned true true = refl
@@ -96,14 +96,6 @@ opened false a e = absurd (T_not false tt (true-is false e))
 byte-of : (o : Option ℕ) → byte_of_partner o ≡ partner_byte o
 byte-of None = refl
 byte-of (Some u) = refl
-
-found_none : (o : Option ℕ) → o ≡ None → o ≡ None
-found_none None e = refl
-found_none (Some k) e = cc
-
-found_some : (o : Option ℕ) {k : ℕ} → o ≡ Some k → o ≡ Some k
-found_some None e = cc
-found_some (Some u) e = cc
 
 -- ---- over the marks of a table
 
@@ -175,7 +167,7 @@ module _ (c : Case) (w : List ℤ) (h : Handed (rules_of c) (working_weight (rul
   found-value : lowest_left c rows sets i ≡ supported_value c w i
   unfolding lowest_in_both
   found-value =
-      ap (λ (xs : List ℕ). first xs)
+      ap first
       (those-same 8 (λ k l. by k l (either (ltb k c.d)))
       ∙ those-short (λ k. active c w i k 0 && not (refuted c w R i k)) c.d 8 few)
     where
@@ -233,14 +225,14 @@ module _ (c : Case) (w : List ℤ) (h : Handed (rules_of c) (working_weight (rul
     pub shown-none : value ≡ None
         → FamilyIs (family_found c w i family partners None (supported_value c w i)) (Err OutOfRange) family partners
     shown-none e =
-        let f = found_none (supported_value c w i) (sym found-value ∙ sym is ∙ e) in
+        let f : supported_value c w i ≡ None = sym found-value ∙ sym is ∙ e in
         subst (λ (o : Option ℕ). FamilyIs (family_found c w i family partners None o) (Err OutOfRange) family partners) (sym f) (refl, refl, refl)
 
     pub shown-some : (k : ℕ) → value ≡ Some k → (left family' partners' : List ℕ) → take c.n left ≡ left_sets c rows sets i k
         → family' ≡ overwritten (take c.n left) family → partners' ≡ overwritten (all_bytes c rows left) partners
         → FamilyIs (family_found c w i family partners None (supported_value c w i)) (Ok (pos k)) family' partners'
     shown-some k e left family' partners' held a b =
-        let f = found_some (supported_value c w i) (sym found-value ∙ sym is ∙ e) in
+        let f : supported_value c w i ≡ Some k = sym found-value ∙ sym is ∙ e in
         let kept : k < c.d = (first-least (λ k. active c w i k 0 && not (refuted c w R i k)) c.d f).0 in
         let S : Family = largest_family c w R i k in
         let whole = held ∙ left-family k kept in

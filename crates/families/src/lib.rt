@@ -195,12 +195,6 @@ fn check_call(
 
 // ---- the call
 
-fn figure_of(value: u8) -> Result<i64, Refusal>
-    ensures { result ≡ Ok (pos value) }
-{
-    Ok(value as i64)
-}
-
 // The value of a case and a table that were checked.
 fn show_value(
     case: Case,
@@ -217,16 +211,15 @@ fn show_value(
     let mut sets = [0u8; VARIABLE_PLACES];
     let mut rows = [0u8; ROW_PLACES];
     let _ = tables::greatest_weights(case, table, &mut best);
-    arcs::active_marks(case, table, &best, &mut sets, &mut rows);
+    let _ = arcs::active_marks(case, table, &best, &mut sets, &mut rows);
     let found = lowest_supported(case, &rows, sets, variable);
-    let value = found.value;
-    match value {
+    match found.value {
         None => Err(Refusal::OutOfRange),
         Some(k) => {
             let left = found.sets;
             write_family(case, &left, family);
             write_partners(case, &rows, &left, partners);
-            figure_of(k)
+            Ok(i64::from(k))
         }
     }
 }

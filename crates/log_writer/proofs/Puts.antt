@@ -41,11 +41,11 @@ module _ (w : ℕ) (out : List ℕ) (at : ℕ) (l : Line) where
 
   refused-by : {x : Refusal} (o : Option Refusal) → Err x ≡ outcome_of o → Put-so (record { answer = Err x; at = at }) o
   refused-by (Some y) e = (ap (λ a. record { answer = a; at = at }) e, take-append-drop at out)
-  refused-by None e = let z : ◌≡◌ {A = ℕ} 0 1 = cc in absurd (omega arith)
+  refused-by None e = cc
 
   done-by : (o : Option Refusal) → Ok tt ≡ outcome_of o → Put-so (record { answer = Ok tt; at = at + line_length w }) o
   done-by None e = (refl, refl)
-  done-by (Some y) e = let z : ◌≡◌ {A = ℕ} 0 1 = cc in absurd (omega arith)
+  done-by (Some y) e = cc
 
   -- the rest as the code has it: so many bytes from the position on, and none after them
   abbrev pub rest : List ℕ
@@ -78,7 +78,7 @@ module _ (w : ℕ) (out : List ℕ) (at : ℕ) (l : Line) where
   -- a line that was written had room
   short-refused : (a b : Bool) → Ok tt ≡ outcome_of (first_refusal (WrongLength when a ∷ OutOfRange when b ∷ [])) → a ≡ false
   short-refused false b e = refl
-  short-refused true b e = let z : ◌≡◌ {A = ℕ} 0 1 = cc in absurd (omega arith)
+  short-refused true b e = cc
 
   pub done-room : at ≤ length out → Ok tt ≡ (write_line_at w rest l).answer → at + line_length w ≤ length out
   done-room h e =

@@ -34,7 +34,7 @@ use Rattle.marks.proofs.Laws.{mark-byte_of}
 use Rattle.arcs.specs.Active.{active_set, active_row}
 use Rattle.arcs.specs.Partners.{has_partner, is_partner}
 use Rattle.pair_choice.specs.declared.Asked.{Asked}
-use Rattle.pair_choice.specs.PairChoice.{shifted_of, tuple_passes, tuples_have, round_leaves, leaves_by, paired_of, has_choice, active_choice}
+use Rattle.pair_choice.specs.PairChoice.{shifted_of, tuple_passes, tuples_have, round_leaves, leaves_by, has_choice, active_choice}
 use Rattle.pair_choice.specs.PairChoice.{all_working, most_left, takes_round, takes_pair, lowest_pair_answer}
 
 -- what is shifted of a weight that a table may hold is in the range
@@ -225,8 +225,8 @@ module _ {c : Case} {w : List ℤ} (h : Handed (rules_of c) (working_weight (rul
           skipped true false n false f = refl
 
     pub lowest-pair-is : c.n ≤ length acts → 16 * c.m ≤ length rows
-        → lowest_pair_answer (rules_of c) c w best acts rows ≡ paired_of (lowest_pair (rules_of c) c w)
+        → lowest_pair_answer (rules_of c) c w best acts rows ≡ lowest_pair (rules_of c) c w
     unfolding lowest_pair_answer
     lowest-pair-is u v =
         rw (sized, le-ltb (length best) (scope_count c) b.enough, le-ltb (length acts) c.n u, le-ltb (length rows) (16 * c.m) v)
-        (ap (λ (l : List ℕ). paired_of (first l)) (those-same c.m takes-is))
+        (ap first (those-same c.m takes-is))

@@ -1,5 +1,5 @@
 -- Whether a pair's round leaves the working range, and the lowest pair whose round the engine makes, on all input. Assumes nothing.
-use Rattle.std.specs.Prelude.{◌≡◌, Bool, true, false, not, ◌&&◌, ◌||◌, List, ℕ, ◌+◌, ◌*◌, ◌≤◌, ◌<◌, ℤ, pos, ◌+ℤ◌, ◌-ℤ◌, ltb, length, get_or, if◌then◌else◌, Option, Some, None}
+use Rattle.std.specs.Prelude.{◌≡◌, Bool, true, false, not, ◌&&◌, ◌||◌, List, ℕ, ◌+◌, ◌*◌, ◌≤◌, ◌<◌, ℤ, pos, ◌+ℤ◌, ◌-ℤ◌, ltb, length, get_or, if◌then◌else◌, Option, None}
 use Rattle.std.specs.Int.Signed.{le_z}
 use Rattle.integers.specs.Words.{below, any, those, first}
 use Rattle.definitions.specs.declared.Case.{Case}
@@ -56,8 +56,7 @@ leaves_by r c w e = not (is_sized r c (length w)) || (not (ltb e c.m) || round_l
 -- ---- the pair
 
 abbrev pub paired_of : Option ℕ → Option ℕ
-paired_of None = None
-paired_of (Some e) = Some e
+paired_of o = o
 
 -- a value of `set` has a partner in `other`; the row of value k stands at place `at` + k
 unfoldable pub has_choice : List ℕ → ℕ → ℕ → ℕ → Bool
@@ -90,7 +89,7 @@ marks_short c acts rows = ltb acts c.n || ltb rows (16 * c.m)
 unfoldable pub lowest_pair_answer : Rules → Case → List ℤ → List ℤ → List ℕ → List ℕ → Option ℕ
 lowest_pair_answer r c w best acts rows =
     if is_sized r c (length w) && not (ltb (length best) (scope_count c) || marks_short c (length acts) (length rows))
-    then paired_of (first (those (takes_pair r c w best acts rows) (below c.m)))
+    then first (those (takes_pair r c w best acts rows) (below c.m))
     else None
 
 -- ---- the private functions, over places in the table

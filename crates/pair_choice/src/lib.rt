@@ -10,16 +10,16 @@ ghost use Rattle.definitions.specs.Case.{scope_count};
 ghost use Rattle.definitions.specs.Valid.{in_working, end_outside};
 ghost use Rattle.arcs.specs.Active.{Sized};
 ghost use Rattle.pair_choice.specs.PairChoice.{shifted_of, all_working, tuple_stays, tuple_passes, is_free, is_asked, row_has, rows_have, tuples_have};
-ghost use Rattle.pair_choice.specs.PairChoice.{round_leaves, leaves_by, paired_of, has_choice, less_one, most_left, takes_round, takes_pair};
+ghost use Rattle.pair_choice.specs.PairChoice.{round_leaves, leaves_by, has_choice, less_one, most_left, takes_round, takes_pair};
 ghost use Rattle.pair_choice.specs.PairChoice.{NextCandidate, marks_short, lowest_pair_answer};
 
-use definitions::{Case, Refusal, Rulebook};
+use definitions::{Case, Rulebook};
 
 // What is asked of a pair's tuples: does one pass the range or this number, is one a choice.
 #[derive(Clone, Copy)]
 enum Asked {
     Passes(i64),
-    Result<Choice, Refusal>,
+    Choice,
 }
 
 // ---- a tuple
@@ -285,8 +285,7 @@ fn takes_round(case: Case, table: &[i64], best: &[i64], edge: usize) -> bool
 // The table is looked at only for pairs that have no active choice.
 fn lowest_in(case: Case, table: &[i64], best: &[i64], acts: &[u8], rows: &[u8]) -> Option<usize>
     requires { Sized case table.now × (scope_count case ≤ length best.now) × (16 * case.m ≤ length rows.now) }
-    ensures { result ≡ paired_of (first (those (takes_pair (rules_of case) case table.now best.now acts.now
-        rows.now) (below case.m))) }
+    ensures { result ≡ first (those (takes_pair (rules_of case) case table.now best.now acts.now rows.now) (below case.m)) }
 {
     let m = case.m;
     let mut e = next_candidate(case, acts, rows, 0);
@@ -325,7 +324,13 @@ pub fn leaves_range(case: Case, table: &[i64], edge: usize) -> bool
 
 // The lowest pair that gains and is not passed over. `best` holds each scope's greatest weight, `acts` the active values of each variable, `rows`
 // sixteen bytes for each edge, as `arcs::active_marks` writes them. Nothing where 3 applies, or 4 to the table, or one of these is too short.
-pub fn lowest_pair(case: Case, table: &[i64], best: &[i64], acts: &[u8], rows: &[u8]) -> Option<usize>
+pub fn lowest_pair(
+    case: Case,
+    table: &[i64],
+    best: &[i64],
+    acts: &[u8],
+    rows: &[u8],
+) -> Option<usize>
     ensures { result ≡ lowest_pair_answer (rules_of case) case table.now best.now acts.now rows.now }
 {
     if !tables::is_sized(case, table.len()) {

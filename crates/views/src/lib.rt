@@ -7,7 +7,7 @@ ghost use Rattle.definitions.specs.declared.Rulebook.TheVariants.{Desk};
 ghost use Rattle.definitions.specs.Rules.{rules_in};
 ghost use Rattle.definitions.specs.Lines.{line_length, is_kind, has_part};
 ghost use Rattle.definitions.specs.declared.Refusal.TheVariants.{OutOfRange, CutShort};
-ghost use Rattle.definitions.specs.Answers.{span_says, line_named};
+ghost use Rattle.definitions.specs.Answers.{from_to, span_says, line_named};
 ghost use Rattle.definitions.specs.Views.{span_in, round_span, round_view};
 ghost use Rattle.lines.specs.AtWidth.{width_out, read_line_at};
 ghost use Rattle.views.specs.Steps.{ended_step, passed_step, round_span_at};

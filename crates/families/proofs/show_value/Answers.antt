@@ -1,3 +1,4 @@
+use Rattle.std.specs.Prelude.{Ok}
 use mathlib.Core.Path.{◌≡◌, sym, ap, subst, ◌∙◌}
 use mathlib.Core.List.{List}
 use Prim.Native.Nat.{ℕ, ◌+◌, ◌*◌, ◌≤◌}
@@ -53,11 +54,11 @@ lowest_supported-found-requires c =
       variable_lt_n = (c.requires.in-range, rw (k.sets-are c.args.variable c.requires.in-range) (byte_small _));
     }
 
-pub returns-in-Nothing : goal.returns-in-Nothing
-returns-in-Nothing c =
+pub returns-in-None : goal.returns-in-None
+returns-in-None c =
     let a = c.args in
-    shown-none a.case a.table.now c.requires.handed a.variable c.requires.in-range _ _ (marks-known (goal.at.returns-in-Nothing c).After-active_marks) a.family.now a.partners.now _
-    c.lowest_supported-found.ensures.0 c.in-Nothing.is
+    shown-none a.case a.table.now c.requires.handed a.variable c.requires.in-range _ _ (marks-known (goal.at.returns-in-None c).After-active_marks) a.family.now a.partners.now _
+    c.lowest_supported-found.ensures.0 c.in-None.is
 
 pub returns-in-Some : goal.returns-in-Some
 returns-in-Some c =
@@ -65,4 +66,4 @@ returns-in-Some c =
     let r = shown-some a.case a.table.now c.requires.handed a.variable c.requires.in-range _ _ (marks-known (goal.at.returns-in-Some c).After-active_marks) a.family.now a.partners.now _
     c.lowest_supported-found.ensures.0 _ c.in-Some.is _ _ _ (c.lowest_supported-found.ensures.1 _ c.in-Some.is)
     c.write_family.ensures c.write_partners.ensures in
-    (c.figure_of.ensures ∙ r.0, r.1, r.2)
+    (ap Ok (search rules) ∙ r.0, r.1, r.2)

@@ -1,7 +1,7 @@
-use mathlib.Core.Path.{◌≡◌, sym, ap, ◌∙◌}
+use mathlib.Core.Path.{◌≡◌, sym, ◌∙◌}
 use native.Mathlib.Omega.{arith}
 use Rattle.definitions.specs.Rules.{rules_of}
-use Rattle.pair_choice.specs.PairChoice.{paired_of, takes_pair}
+use Rattle.pair_choice.specs.PairChoice.{takes_pair}
 use Rattle.choice.proofs.Firsts.{first-is, first-nothing}
 use Rattle.pair_choice.proofs.Choices.{choice-passed, candidate-taken, passed_on}
 use Rattle.pair_choice.proofs.lowest_in.Goals as goal
@@ -18,8 +18,8 @@ told c =
 pub returns-then-takes_round : goal.returns-then-takes_round
 returns-then-takes_round c =
     let a = c.args in
-    sym (ap paired_of (first-is (takes_pair (rules_of a.case) a.case a.table.now a.best.now a.acts.now a.rows.now) a.case.m
-    c.loop-e.e c.loop-e-test.true (told (goal.at.returns-then-takes_round c).After-takes_round ∙ c.if-takes_round.true) c.loop-e.invariant.0))
+    sym (first-is (takes_pair (rules_of a.case) a.case a.table.now a.best.now a.acts.now a.rows.now) a.case.m
+    c.loop-e.e c.loop-e-test.true (told (goal.at.returns-then-takes_round c).After-takes_round ∙ c.if-takes_round.true) c.loop-e.invariant.0)
 
 pub loop-e-preserved : goal.loop-e-preserved
 loop-e-preserved c =
@@ -35,5 +35,5 @@ loop-e-preserved c =
 pub returns : goal.returns
 returns c =
     let a = c.args in
-    sym (ap paired_of (first-nothing (takes_pair (rules_of a.case) a.case a.table.now a.best.now a.acts.now a.rows.now) a.case.m
-    (λ e h. c.loop-e.invariant.0 e (omega (arith, c.loop-e-test.false)))))
+    sym (first-nothing (takes_pair (rules_of a.case) a.case a.table.now a.best.now a.acts.now a.rows.now) a.case.m
+    (λ e h. c.loop-e.invariant.0 e (omega (arith, c.loop-e-test.false))))

@@ -16,8 +16,7 @@ found : (c : After-round_span-span) {x : Result Span RefusedAt} → c.round_span
     c.args in x ≡ round_span (rules_in Desk) a.log.now a.round
 found c e = sym e ∙ c.round_span-span.ensures
 
-within : (c : In-Ok) → (c.in-Ok.from ≤ c.in-Ok.to)
-    × (c.in-Ok.to ≤ length c.args.log.now)
+within : (c : In-Ok) → (c.in-Ok.field-0.from ≤ c.in-Ok.field-0.to) × (c.in-Ok.field-0.to ≤ length c.args.log.now)
 within c =
     let a = c.args in
     part-inside (rules_in Desk).amount_width a.log.now a.round (sym (found (goal.at.In-Ok c).After-round_span-span c.in-Ok.is))
