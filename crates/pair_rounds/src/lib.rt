@@ -105,7 +105,7 @@ fn shift_by(
     ensures { Shifted case (shift edge end value amount ∷ []) table.old table.new best.new
         at result out.old out.new }
 {
-    changes::transfer(case, table, best, edge, end, value, amount);
+    let _ = changes::transfer(case, table, best, edge, end, value, amount);
     put_line(case, out, at, shift_line(edge, end, value, amount))
 }
 

@@ -15,6 +15,7 @@ use Rattle.theory.proofs.Validity.{Handed}
 use Rattle.tables.specs.Scopes.{BestOf}
 use Rattle.tables.proofs.Best.{best-sum-known}
 use Rattle.pair_rounds.proofs.Texts.{bound-fits}
+use borrow.Author.Rules.{rules}
 use Rattle.pair_rounds.proofs.put_bound.Goals as goal
 use Rattle.pair_rounds.proofs.put_bound.Goals.{After-bound_line, After-sum_of_best}
 
@@ -31,16 +32,16 @@ bound : (c : After-bound_line) → let a = c.args in
 bound c v h b =
     let e = summed (goal.at.After-bound_line c).After-sum_of_best c.in_ok-bound.was v h b in
     let d : c.in_ok-bound.bound ≡ upper_bound c.args.case v = cc in
-    read_back w64 c.in_ok-bound.bound c.in_ok-bound.known_told-in-Ok-1-own.given.0.1 ∙ d
+    read_back w64 c.in_ok-bound.bound (search rules) ∙ d
 
 pub put_line-bytes-requires : goal.put_line-bytes-requires
 put_line-bytes-requires c =
     let (v, h, b) = c.requires.held in
     (c.requires.case_in_bounds, rw (c.bound_line.ensures, bound c v h b) (bound-fits h))
 
-pub returns-in-Err : goal.returns-in-Err
-returns-in-Err c v h b =
-    let e = summed (goal.at.returns-in-Err c).After-sum_of_best c.in_err-bound.was v h b in
+pub returns-in_err-bound : goal.returns-in_err-bound
+returns-in_err-bound c v h b =
+    let e = summed (goal.at.returns-in_err-bound c).After-sum_of_best c.in_err-bound.was v h b in
     let z : ◌≡◌ {A = ℕ} 0 1 = cc in
     absurd (omega arith)
 
