@@ -32,14 +32,14 @@ use Rattle.engine.proofs.Raising.{raised-here, raised-elsewhere, refutes-alike, 
 
 -- ---- what was chosen
 
-pub chosen-in : (c : Case) (f : ℕ → Bool) (n : ℕ) → n ≡ c.n → ChosenIn c (chosen_of (first (those f (below n))))
+pub chosen-in : (c : Case) (f : ℕ → Bool) (n : ℕ) → n ≡ c.n → ChosenIn c (first (those f (below n)))
 chosen-in c f n e = by (first (those f (below n))) refl
   where
-    by : (o : Option ℕ) → first (those f (below n)) ≡ o → ChosenIn c (chosen_of o)
+    by : (o : Option ℕ) → first (those f (below n)) ≡ o → ChosenIn c o
     by None q = tt
     by (Some i) q = let h = (first-least f n q).0 in omega arith
 
-pub chosen-says : (c : Case) (w : List ℤ) (o : Option ℕ) → chosen c w ≡ o → ChosenIs c w (chosen_of o)
+pub chosen-says : (c : Case) (w : List ℤ) (o : Option ℕ) → chosen c w ≡ o → ChosenIs c w o
 chosen-says c w None e = e
 chosen-says c w (Some i) e = e
 

@@ -21,20 +21,9 @@ use Rattle.reach_theory.proofs.Next.{engine-next-nothing}
 use Rattle.reach_theory.proofs.Counts.{lowest-ready}
 use Rattle.engine_theory.proofs.Engine.{pair-leads}
 use Rattle.engine_theory.proofs.Calls.{taken-iff, call-taken}
-use Rattle.pair_choice.specs.PairChoice.{paired_of}
 use Rattle.pair_rounds.specs.PairCall.{pair_made, pair_call}
 use Rattle.pair_rounds.proofs.Rounds.{pair-call-taken}
 use Rattle.engine.specs.Rounds.{next_in, MadeRound}
-
--- ---- what was found
-
-pub found-pair : {e : ℕ} (o : Option ℕ) → Some e ≡ paired_of o → o ≡ Some e
-found-pair None d = cc
-found-pair (Some x) d = cc
-
-pub found_nothing : (o : Option ℕ) → None ≡ paired_of o → o ≡ None
-found_nothing None d = cc
-found_nothing (Some x) d = cc
 
 -- ---- what comes next
 

@@ -56,11 +56,14 @@ use Rattle.engine.specs.Rounds.{pressed_by, Found, Pressed, round_written, MadeR
 
 -- ---- which way a press went
 
-refused-way : {x : Refusal} (b : Bool) → Err x ≡ (if b then Err LeavesRange else Ok tt) → (b ≡ true) × (x ≡ LeavesRange)
+abbrev way : Bool → Result ⊤ Refusal
+way b = if b then Err LeavesRange else Ok tt
+
+refused-way : {x : Refusal} (b : Bool) → Err x ≡ way b → (b ≡ true) × (x ≡ LeavesRange)
 refused-way true e = (refl, cc)
 refused-way false e = differ (cc)
 
-done-way : (b : Bool) → Ok tt ≡ (if b then Err LeavesRange else Ok tt) → b ≡ false
+done-way : (b : Bool) → Ok tt ≡ way b → b ≡ false
 done-way true e = cc
 done-way false e = refl
 
@@ -261,7 +264,7 @@ module _ {c : Case} {w best : List ℤ} {raised : List ℕ} {i : ℕ} (f : Found
           let d : Ok bytes ≡ Ok (length text) = e ∙ ap (λ (q : WriteCall). q.answer) written_is in
           let n : bytes ≡ length text = cc in
           record {
-            answer = ap (Ok (Round.Void n)) ∙ sym (ap (λ (u : RoundCall). u.answer) void-call);
+            answer = ap (λ (k : ℕ). Ok (Round.Void k)) n ∙ sym (ap (λ (u : RoundCall). u.answer) void-call);
             table = sym (ap (λ (u : RoundCall). u.table) void-call);
             output = o ∙ ap (λ (q : WriteCall). q.out) written_is ∙ sym (ap (λ (u : RoundCall). u.out) void-call);
           }

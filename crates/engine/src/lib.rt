@@ -19,7 +19,6 @@ ghost use Rattle.tables.specs.Scopes.{BestOf};
 ghost use Rattle.gaps.specs.Gaps.{else_no_gap};
 ghost use Rattle.engine.specs.Search.{Prepared, AllRaised, FoundIs};
 ghost use Rattle.round_lines.specs.Press.{write_all_call};
-ghost use Rattle.pair_choice.specs.PairChoice.{paired_of};
 ghost use Rattle.engine.specs.Rounds.{Found, Pressed, PressMade, round_written, MadeRound, LimitIs, RunIs, stopped_run};
 
 use arcs::ROW_PLACES;
@@ -51,10 +50,10 @@ fn prepare(
 ) -> Option<usize>
     requires handed { Handed (rules_of case) (working_weight (rules_of case)) case table.now × BestOf case table.now best.now }
     requires n_in_bounds { (case.n ≤ length acts.old) × (16 * case.m ≤ length rows.old) }
-    ensures { (result ≡ paired_of (lowest_pair (rules_of case) case table.now))
+    ensures { (result ≡ lowest_pair (rules_of case) case table.now)
         × Prepared case table.now acts.new rows.new }
 {
-    arcs::active_marks(case, table, best, acts, rows);
+    let _ = arcs::active_marks(case, table, best, acts, rows);
     pair_choice::lowest_pair(case, table, best, acts, rows)
 }
 

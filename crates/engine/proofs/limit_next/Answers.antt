@@ -29,7 +29,7 @@ limit_press-requires c =
       c.requires.case_in_bounds,
     )
 
-pub returns-in-Nothing : goal.returns-in-Nothing
-returns-in-Nothing c =
+pub returns-in-None : goal.returns-in-None
+returns-in-None c =
     limit-settled c.requires.handed.0 c.requires.case_in_bounds
-    (next-settled c.args.case c.args.table.now c.requires.table_value (found-is (goal.at.returns-in-Nothing c).After-search-found c.in-Nothing.is))
+    (next-settled c.args.case c.args.table.now c.requires.table_value (found-is (goal.at.returns-in-None c).After-search-found c.in-None.is))

@@ -30,7 +30,7 @@ press_or_void-requires c =
       c.requires.case_in_bounds,
     )
 
-pub returns-in-Nothing : goal.returns-in-Nothing
-returns-in-Nothing c =
-    let e = found-is (goal.at.returns-in-Nothing c).After-search-found c.in-Nothing.is in
+pub returns-in-None : goal.returns-in-None
+returns-in-None c =
+    let e = found-is (goal.at.returns-in-None c).After-search-found c.in-None.is in
     (nothing-made c.requires.handed.0 c.requires.case_in_bounds (next-settled c.args.case c.args.table.now c.requires.table_value e), c.requires.handed.1)

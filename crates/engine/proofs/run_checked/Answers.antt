@@ -48,16 +48,16 @@ loop-done-init c =
 
 pub stop_run-requires : goal.stop_run-requires
 stop_run-requires c =
-    (still-settled c.loop-done.invariant.2 (room (goal.at.stop_run-requires c).At-loop-done) (did (goal.at.stop_run-requires c).After-round_checked-made c.in-Settled.is), c.round_checked-made.ensures.1)
+    (still-settled c.loop-done.invariant.2 (room (goal.at.stop_run-requires c).At-loop-done) (did (goal.at.stop_run-requires c).After-round_checked-made c.in-Ok-Settled.is), c.round_checked-made.ensures.1)
 
-pub returns-in-Settled : goal.returns-in-Settled
-returns-in-Settled c =
+pub returns-in-Ok-Settled : goal.returns-in-Ok-Settled
+returns-in-Ok-Settled c =
     let a = c.args in
     let l = c.loop-done in
     rw c.stop_run.ensures
-    (settled-run a.pairs a.case a.limit a.table.now a.out.now l.done l.table l.out l.invariant.2 (room (goal.at.returns-in-Settled c).At-loop-done) l.invariant.4
+    (settled-run a.pairs a.case a.limit a.table.now a.out.now l.done l.table l.out l.invariant.2 (room (goal.at.returns-in-Ok-Settled c).At-loop-done) l.invariant.4
     c.loop-done-test.true
-    (did (goal.at.returns-in-Settled c).After-round_checked-made c.in-Settled.is))
+    (did (goal.at.returns-in-Ok-Settled c).After-round_checked-made c.in-Ok-Settled.is))
 
 pub stop_run-requires-in-Err : goal.stop_run-requires-in-Err
 stop_run-requires-in-Err c =
@@ -72,24 +72,24 @@ returns-in-Err c =
     c.loop-done-test.true
     (did (goal.at.returns-in-Err c).After-round_checked-made c.in-Err.is))
 
-pub stop_run-requires-in-Void : goal.stop_run-requires-in-Void
-stop_run-requires-in-Void c =
-    (still-void c.loop-done.invariant.2 (room (goal.at.stop_run-requires-in-Void c).At-loop-done) (did (goal.at.stop_run-requires-in-Void c).After-round_checked-made c.in-Void.is), c.round_checked-made.ensures.1)
+pub stop_run-requires-in-Ok-Void : goal.stop_run-requires-in-Ok-Void
+stop_run-requires-in-Ok-Void c =
+    (still-void c.loop-done.invariant.2 (room (goal.at.stop_run-requires-in-Ok-Void c).At-loop-done) (did (goal.at.stop_run-requires-in-Ok-Void c).After-round_checked-made c.in-Ok-Void.is), c.round_checked-made.ensures.1)
 
-pub returns-in-Void : goal.returns-in-Void
-returns-in-Void c =
+pub returns-in-Ok-Void : goal.returns-in-Ok-Void
+returns-in-Ok-Void c =
     let a = c.args in
     let l = c.loop-done in
-    rw c.stop_run-in-Void.ensures
-    (void-run a.pairs a.case a.limit a.table.now a.out.now l.done l.table l.out l.invariant.2 (room (goal.at.returns-in-Void c).At-loop-done) l.invariant.4
+    rw c.stop_run-in-Ok-Void.ensures
+    (void-run a.pairs a.case a.limit a.table.now a.out.now l.done l.table l.out l.invariant.2 (room (goal.at.returns-in-Ok-Void c).At-loop-done) l.invariant.4
     c.loop-done-test.true
-    (did (goal.at.returns-in-Void c).After-round_checked-made c.in-Void.is))
+    (did (goal.at.returns-in-Ok-Void c).After-round_checked-made c.in-Ok-Void.is))
 
 pub loop-done-preserved : goal.loop-done-preserved
 loop-done-preserved c =
     let a = c.args in
     let l = c.loop-done in
-    let d = did (goal.at.loop-done-preserved c).After-round_checked-made c.in-Made.is in (
+    let d = did (goal.at.loop-done-preserved c).After-round_checked-made c.in-Ok-Made.is in (
       omega (arith, c.loop-done-test.true),
       same (goal.at.loop-done-preserved c).After-round_checked-made,
       still-made l.invariant.2 (room (goal.at.loop-done-preserved c).At-loop-done) d,

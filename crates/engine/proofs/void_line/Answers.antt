@@ -12,9 +12,9 @@ wrote : (c : After-write_void) {q : Result ℕ Refusal} → c.write_void.result 
     q ≡ (write_void_call (rules_of a.case) a.case a.out.now a.raised.now a.variable).answer
 wrote c e = sym e ∙ c.write_void.ensures.value
 
-pub returns-in-Err : goal.returns-in-Err
-returns-in-Err c w best f least =
-    absurd (void-unrefused f least c.args.out.now c.requires (wrote (goal.at.returns-in-Err c).After-write_void c.in_err-bytes.was))
+pub returns-in_err-bytes : goal.returns-in_err-bytes
+returns-in_err-bytes c w best f least =
+    absurd (void-unrefused f least c.args.out.now c.requires (wrote (goal.at.returns-in_err-bytes c).After-write_void c.in_err-bytes.was))
 
 pub returns : goal.returns
 returns c w best f least =

@@ -27,9 +27,9 @@ summed c e w after p =
     ∙ best-sum-known (done-handed p.handed p.which p.least p.no-pair a.raised.now p.kept a.out.now c.requires.1 p.pressed)
     p.pressed.greatest-kept
 
-pub returns-in-Err : goal.returns-in-Err
-returns-in-Err c w after p =
-    let e = summed (goal.at.returns-in-Err c).After-sum_of_best c.in_err-bound.was w after p in
+pub returns-in_err-bound : goal.returns-in_err-bound
+returns-in_err-bound c w after p =
+    let e = summed (goal.at.returns-in_err-bound c).After-sum_of_best c.in_err-bound.was w after p in
     let z : ◌≡◌ {A = ℕ} 0 1 = cc in
     absurd (omega arith)
 
