@@ -51,10 +51,8 @@ fn repeated<'a>(lower: &'a [u8; EDGE_PLACES], upper: &'a [u8; EDGE_PLACES], e: u
     ensures { result ≡ faulty (with_edges 0 lower.now upper.now) Fault.Repeated e }
 {
     let mut found = false;
-    let mut f: usize = 0;
-    while f < e {
+    for f in 0..e {
         found |= same_ends(lower, upper, e, f);
-        f += 1;
     }
     found
 }
@@ -92,14 +90,7 @@ fn some_faulty<'a>(
     requires { m ≤ edge_places }
     ensures { result ≡ any (faulty (with_edges n lower.now upper.now) fault) (below m) }
 {
-    let mut e: usize = 0;
-    while e < m {
-        if is_faulty(n, lower, upper, fault, e) {
-            return true;
-        }
-        e += 1;
-    }
-    false
+    (0..m).any(|e| is_faulty(n, lower, upper, fault, e))
 }
 
 fn are_limited(rulebook: Rulebook, n: usize, d: usize, m: usize) -> bool
@@ -139,27 +130,13 @@ fn is_holdable(weight: i64, low: i64, high: i64) -> bool
 fn all_within(weights: &[i64], low: i64, high: i64) -> bool
     ensures { result ≡ all (within_z low high) weights.now }
 {
-    let mut i: usize = 0;
-    while i < weights.len() {
-        if !is_within(weights[i], low, high) {
-            return false;
-        }
-        i += 1;
-    }
-    true
+    weights.iter().all(|weight| is_within(*weight, low, high))
 }
 
 pub fn all_holdable(weights: &[i64], low: i64, high: i64) -> bool
     ensures { result ≡ all (holdable low high) weights.now }
 {
-    let mut i: usize = 0;
-    while i < weights.len() {
-        if !is_holdable(weights[i], low, high) {
-            return false;
-        }
-        i += 1;
-    }
-    true
+    weights.iter().all(|weight| is_holdable(*weight, low, high))
 }
 
 fn scope_barred(case: Case, table: &[i64], x: usize) -> bool
@@ -176,31 +153,18 @@ fn some_scope_barred(case: Case, table: &[i64]) -> bool
     requires table_len { length table.now ≡ lent_length (rules_of case) case }
     ensures { result ≡ any (wholly_barred case table.now) (scopes case) }
 {
-    let scopes = scope_count(case);
-    let mut x: usize = 0;
-    while x < scopes {
-        if scope_barred(case, table, x) {
-            return true;
-        }
-        x += 1;
-    }
-    false
+    (0..scope_count(case)).any(|x| scope_barred(case, table, x))
 }
 
 // All bits are looked at, so that many weights are at once.
 pub fn all_zero(weights: &[i64]) -> bool
     ensures { result ≡ all (λ z. eq_z z (pos 0)) weights.now }
 {
-    let mut bits: i64 = 0;
-    let mut i: usize = 0;
-    while i < weights.len() {
-        bits |= weights[i];
-        i += 1;
+    let mut bits = 0;
+    for weight in weights {
+        bits |= *weight;
     }
-    if bits == 0 {
-        return true;
-    }
-    false
+    bits == 0
 }
 
 // Numbers 8 and 15 of the own places. Where all are in the range nothing applies, and no more is looked at.
@@ -390,12 +354,8 @@ fn write_greatest(case: Case, table: &[i64], best: &mut [i64])
     requires case_in_bounds { scope_count case ≤ length best.old }
     ensures { best.new ≡ written_over (map (greatest_weight case table.now) (scopes case)) best.old }
 {
-    let scopes = scope_count(case);
-    let mut x: usize = 0;
-    while x < scopes {
-        let weight = scope_greatest(case, table, x);
-        best[x] = weight;
-        x += 1;
+    for x in 0..scope_count(case) {
+        best[x] = scope_greatest(case, table, x);
     }
 }
 
@@ -411,14 +371,11 @@ fn sum_in_range(case: Case, best: &[i64]) -> Figure
         return Figure::Refused(Refusal::OutOfRange);
     }
     let mut sum: i64 = case.carry;
-    let mut x: usize = 0;
-    while x < scopes {
-        let weight = best[x];
-        if !is_working(rulebook, weight) {
+    for weight in &best[..scopes] {
+        if !is_working(rulebook, *weight) {
             return Figure::Refused(Refusal::WeightOutOfRange);
         }
-        sum += weight;
-        x += 1;
+        sum += *weight;
     }
     Figure::Value(sum)
 }
@@ -515,38 +472,14 @@ pub fn check_edges(case: Case, out: bool) -> Outcome
 pub fn greatest(weights: &[i64]) -> i64
     ensures { result ≡ greatest_of weights.now }
 {
-    if weights.len() == 0 {
-        return 0;
-    }
-    let mut best = weights[0];
-    let mut i: usize = 1;
-    while i < weights.len() {
-        let w = weights[i];
-        if best < w {
-            best = w;
-        }
-        i += 1;
-    }
-    best
+    weights.iter().copied().max().unwrap_or(0)
 }
 
 // 0 where there is none.
 pub fn least(weights: &[i64]) -> i64
     ensures { result ≡ smallest_of weights.now }
 {
-    if weights.len() == 0 {
-        return 0;
-    }
-    let mut lowest = weights[0];
-    let mut i: usize = 1;
-    while i < weights.len() {
-        let w = weights[i];
-        if w < lowest {
-            lowest = w;
-        }
-        i += 1;
-    }
-    lowest
+    weights.iter().copied().min().unwrap_or(0)
 }
 
 // Writes each scope's greatest weight to the first n + m places of `best`.
@@ -584,24 +517,15 @@ pub fn sum_of_best(case: Case, best: &[i64]) -> Figure
 pub fn all_barred(weights: &[i64]) -> bool
     ensures { result ≡ all is_barred weights.now }
 {
-    let mut i: usize = 0;
-    while i < weights.len() {
-        if !rules::is_barred(weights[i]) {
-            return false;
-        }
-        i += 1;
-    }
-    true
+    weights.iter().all(|weight| rules::is_barred(*weight))
 }
 
 // Writes 0 from place `from` on.
 pub fn zero_from(table: &mut [i64], from: usize)
     ensures { table.new ≡ zeroed_from from table.old }
 {
-    let mut i = from;
-    while i < table.len() {
-        table[i] = 0;
-        i += 1;
+    if from < table.len() {
+        table[from..].fill(0);
     }
 }
 
@@ -609,14 +533,7 @@ pub fn zero_from(table: &mut [i64], from: usize)
 pub fn some_beyond(values: &[u8], d: usize) -> bool
     ensures { result ≡ any (λ k. not (ltb k d)) values.now }
 {
-    let mut i: usize = 0;
-    while i < values.len() {
-        if d <= integers::wide_size(values[i]) {
-            return true;
-        }
-        i += 1;
-    }
-    false
+    values.iter().any(|value| d <= usize::from(*value))
 }
 
 // The sum of each scope's greatest weight and the carry; a weight outside the range of working weights is refused.

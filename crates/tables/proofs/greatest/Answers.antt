@@ -1,26 +1,15 @@
-use Prim.Native.Nat.{◌+◌}
-use mathlib.Core.Path.{◌≡◌}
-use native.Mathlib.Omega.{arith}
+use mathlib.Core.Path.{ap, ◌∙◌}
 use lib.IntN.{pos}
-use lib.ListN.{get_or, take}
 use mir.Syntax.{w64}
-use mir.Val.{to_z, of_z}
-use Rattle.integers.specs.Words.{max_z, greatest_of}
+use Rattle.std.specs.Option.{unwrap_or}
+use Rattle.std.proofs.lemmas.Iterator.{YieldsList-from_slice}
+use Rattle.std.proofs.lemmas.Iterator.Consumers.{reduce_from_yields_List, YieldsList-at, YieldsList-from_copied}
 use Rattle.integers.specs.Linear.{read_back}
-use Rattle.tables.proofs.Maxima.{next-greatest, takes, keeps}
+use Rattle.tables.proofs.Maxima.{greater, reduced-greatest}
 use Rattle.tables.proofs.greatest.Goals as goal
-use Rattle.tables.proofs.greatest.Goals.{then-best-w, else-best-w}
 
-pub loop-i-preserved : goal.loop-i-preserved
-loop-i-preserved c = let l = c.args.weights.now in
-    let x = get_or l c.loop-i.i (pos 0) in
-    let e : to_z w64 (of_z w64 x) ≡ x = read_back w64 x c.w-1.given in
-    let g : greatest_of (take (c.loop-i.i + 1) l) ≡ max_z (to_z w64 c.loop-i.best-bits) x =
-    rw c.loop-i.invariant.2 (next-greatest l c.loop-i.i (omega arith) (omega arith)) in (
-      omega arith,
-      omega arith,
-      elim c.if-best-w.branch [
-        | then-best-w w ↦ cc (takes (to_z w64 c.loop-i.best-bits) x _ g (rw e at w.if-best-w.true))
-        | else-best-w w ↦ cc (keeps (to_z w64 c.loop-i.best-bits) x _ g (rw e at w.if-best-w.false))
-      ],
-    )
+pub returns : goal.returns
+returns c =
+    let ws = c.args.weights.now in
+    let e = reduce_from_yields_List greater _ c.max.result c.max.ensures.ran (YieldsList-from_copied (YieldsList-at c.copied.ensures.source (YieldsList-from_slice ws cc))) in
+    read_back w64 c.unwrap_or.result c.unwrap_or.type_inv ∙ c.unwrap_or.ensures ∙ ap (λ o. unwrap_or o (pos 0)) e ∙ reduced-greatest ws
