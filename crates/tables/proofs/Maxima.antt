@@ -1,7 +1,6 @@
 -- The greatest and the least of a list, as `max` and `min` of an iterator choose them. Assumes nothing.
 use mathlib.Core.Path.{◌≡◌, refl, ap, ◌∙◌}
 use mathlib.Core.List.{List, [], ◌∷◌}
-use native.Mathlib.Omega.{arith}
 use lib.IntN.{ℤ, pos}
 use lib.Signed.{◌<ℤ◌}
 use Rattle.std.specs.Cmp.{int_ranks}

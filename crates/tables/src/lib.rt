@@ -8,22 +8,14 @@ ghost use Rattle.integers.specs.Words.{below, any, all, within, within_z, minus,
 ghost use Rattle.definitions.specs.Rules.{rules_in, rules_of, edge_places};
 ghost use Rattle.definitions.specs.Refusals.{first_refusal};
 ghost use Rattle.definitions.specs.Answers.{outcome_of};
-ghost use Rattle.definitions.specs.Case.{place, greatest as greatest_weight, scope_count, scopes, own_length, lent_length, barred_weight, is_barred, wholly_barred};
+ghost use Rattle.definitions.specs.Case.{lower_end, upper_end, place, greatest as greatest_weight, scope_count, scopes, own_length, lent_length, barred_weight, is_barred, wholly_barred};
 ghost use Rattle.definitions.specs.Valid.{in_working, starting_weight, working_weight, carry_out, within_limits, some_edge, end_outside, same_ends, limit_test, edge_tests, handed_over, both_handed_over};
 ghost use Rattle.definitions.specs.CaseFiles.{zeroed_from};
 ghost use Rattle.tables.specs.Scopes.{Limited, of_size, size_of, holdable, front_tests, own_tests, tuple_tests, scope_part, is_sized, scope_weights, best_at};
 ghost use Rattle.tables.specs.Scopes.{written_over, greatest_call, sum_in_range, greatest_sum, best_sum};
-ghost use Rattle.tables.specs.Edges.{faulty, with_edges};
+ghost use Rattle.tables.specs.Edges.{with_edges};
 
 use definitions::{Case, EDGE_PLACES, Figure, Outcome, Refusal, Rulebook, SCOPE_PLACES};
-
-// What can be wrong with an edge.
-#[derive(Clone, Copy)]
-enum Fault {
-    Outside,
-    NotAscending,
-    Repeated,
-}
 
 // ---- the check
 
@@ -48,7 +40,7 @@ fn same_ends<'a>(
 // An edge before e joins the same variables. All are looked at, so that many are at once.
 fn repeated<'a>(lower: &'a [u8; EDGE_PLACES], upper: &'a [u8; EDGE_PLACES], e: usize) -> bool
     requires { e < edge_places }
-    ensures { result ≡ faulty (with_edges 0 lower.now upper.now) Fault.Repeated e }
+    ensures { result ≡ any (same_ends (with_edges 0 lower.now upper.now) e) (below e) }
 {
     let mut found = false;
     for f in 0..e {
@@ -60,37 +52,7 @@ fn repeated<'a>(lower: &'a [u8; EDGE_PLACES], upper: &'a [u8; EDGE_PLACES], e: u
 fn both_below(i: u8, j: u8, n: usize) -> bool
     ensures { result ≡ (ltb i n && ltb j n) }
 {
-    (i as usize) < n && (j as usize) < n
-}
-
-fn is_faulty<'a>(
-    n: usize,
-    lower: &'a [u8; EDGE_PLACES],
-    upper: &'a [u8; EDGE_PLACES],
-    fault: Fault,
-    e: usize,
-) -> bool
-    requires { e < edge_places }
-    ensures { result ≡ faulty (with_edges n lower.now upper.now) fault e }
-{
-    match fault {
-        Fault::Outside => !both_below(lower[e], upper[e], n),
-        Fault::NotAscending => !(lower[e] < upper[e]),
-        Fault::Repeated => repeated(lower, upper, e),
-    }
-}
-
-fn some_faulty<'a>(
-    n: usize,
-    m: usize,
-    lower: &'a [u8; EDGE_PLACES],
-    upper: &'a [u8; EDGE_PLACES],
-    fault: Fault,
-) -> bool
-    requires { m ≤ edge_places }
-    ensures { result ≡ any (faulty (with_edges n lower.now upper.now) fault) (below m) }
-{
-    (0..m).any(|e| is_faulty(n, lower, upper, fault, e))
+    usize::from(i) < n && usize::from(j) < n
 }
 
 fn are_limited(rulebook: Rulebook, n: usize, d: usize, m: usize) -> bool
@@ -229,11 +191,25 @@ fn is_carried(rulebook: Rulebook, carry: i64) -> bool
     )
 }
 
-fn has_fault(case: Case, fault: Fault) -> bool
+fn some_end_outside(case: Case) -> bool
     requires { case.m ≤ edge_places }
-    ensures { result ≡ some_edge case (faulty case fault) }
+    ensures { result ≡ some_edge case (end_outside case) }
 {
-    some_faulty(case.n, case.m, &case.lower, &case.upper, fault)
+    (0..case.m).any(|e| !both_below(case.lower[e], case.upper[e], case.n))
+}
+
+fn some_not_ascending(case: Case) -> bool
+    requires { case.m ≤ edge_places }
+    ensures { result ≡ some_edge case (λ e. not (ltb (lower_end case e) (upper_end case e))) }
+{
+    (0..case.m).any(|e| case.upper[e] <= case.lower[e])
+}
+
+fn some_repeated(case: Case) -> bool
+    requires { case.m ≤ edge_places }
+    ensures { result ≡ some_edge case (λ e. any (same_ends case e) (below e)) }
+{
+    (0..case.m).any(|e| repeated(&case.lower, &case.upper, e))
 }
 
 // Number 5: an argument, the carry or the end of an edge is outside its range.
@@ -241,13 +217,7 @@ fn some_outside(case: Case, out: bool) -> bool
     requires { case.m ≤ edge_places }
     ensures { result ≡ (out || carry_out (rules_of case) case || some_edge case (end_outside case)) }
 {
-    if out {
-        return true;
-    }
-    if carry_out(case) {
-        return true;
-    }
-    has_fault(case, Fault::Outside)
+    out || carry_out(case) || some_end_outside(case)
 }
 
 fn edge_outcome(case: Case, out: bool) -> Outcome
@@ -257,10 +227,10 @@ fn edge_outcome(case: Case, out: bool) -> Outcome
     if some_outside(case, out) {
         return Outcome::Refused(Refusal::OutOfRange);
     }
-    if has_fault(case, Fault::NotAscending) {
+    if some_not_ascending(case) {
         return Outcome::Refused(Refusal::EndsNotAscending);
     }
-    if has_fault(case, Fault::Repeated) {
+    if some_repeated(case) {
         return Outcome::Refused(Refusal::EdgeRepeated);
     }
     Outcome::Done

@@ -11,7 +11,7 @@ use mir.Syntax.{w64}
 use mir.Val.{to_z, of_z}
 use borrow.Author.Count.{below_more}
 use Rattle.integers.specs.Words.{all, eq_z}
-use Rattle.integers.specs.Tests.{is_true, is_false}
+use Rattle.integers.specs.Tests.{is_false}
 use Rattle.integers.specs.Linear.{read_back, T-eq}
 use Rattle.integers.specs.Tables.{all_get_d}
 use Rattle.std.proofs.Math.Facts.{to_z_inj, Fits-of_z}

@@ -56,7 +56,7 @@ passed c = below_more _ _ c.loop-weight.invariant.0 (true-is _ (sym (asked (goal
 
 next : (c : Else-not-is_working) → let f = best_at c.args.best.now in
     to_z w64 c.loop-weight.sum-bits +ℤ to_z w64 (of_z w64 (get_or (take c.scope_count-scopes.result c.args.best.now) c.loop-weight.weight-index (pos 0)))
-        ≡ Σ f 0 (c.loop-weight.weight-index + 1) +ℤ to_z w64 (of_z w64 c.args.case.carry)
+    ≡ Σ f 0 (c.loop-weight.weight-index + 1) +ℤ to_z w64 (of_z w64 c.args.case.carry)
 next c =
     let f = best_at c.args.best.now in
     let d = (goal.at.Else-not-is_working c).After-is_working in
