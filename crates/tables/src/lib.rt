@@ -123,8 +123,8 @@ pub fn all_zero(weights: &[i64]) -> bool
     ensures { result ≡ all (λ z. eq_z z (pos 0)) weights.now }
 {
     let mut bits = 0;
-    for weight in weights {
-        bits |= *weight;
+    for &weight in weights {
+        bits |= weight;
     }
     bits == 0
 }
@@ -341,11 +341,11 @@ fn sum_in_range(case: Case, best: &[i64]) -> Figure
         return Figure::Refused(Refusal::OutOfRange);
     }
     let mut sum: i64 = case.carry;
-    for weight in &best[..scopes] {
-        if !is_working(rulebook, *weight) {
+    for &weight in &best[..scopes] {
+        if !is_working(rulebook, weight) {
             return Figure::Refused(Refusal::WeightOutOfRange);
         }
-        sum += *weight;
+        sum += weight;
     }
     Figure::Value(sum)
 }
@@ -442,14 +442,34 @@ pub fn check_edges(case: Case, out: bool) -> Outcome
 pub fn greatest(weights: &[i64]) -> i64
     ensures { result ≡ greatest_of weights.now }
 {
-    weights.iter().copied().max().unwrap_or(0)
+    let Some((first, rest)) = weights.split_first() else {
+        return 0;
+    };
+    // An if, which is quicker here than an iterator's max.
+    let mut best = *first;
+    for &weight in rest {
+        if best < weight {
+            best = weight;
+        }
+    }
+    best
 }
 
 // 0 where there is none.
 pub fn least(weights: &[i64]) -> i64
     ensures { result ≡ smallest_of weights.now }
 {
-    weights.iter().copied().min().unwrap_or(0)
+    let Some((first, rest)) = weights.split_first() else {
+        return 0;
+    };
+    // An if, as in `greatest`.
+    let mut lowest = *first;
+    for &weight in rest {
+        if weight < lowest {
+            lowest = weight;
+        }
+    }
+    lowest
 }
 
 // Writes each scope's greatest weight to the first n + m places of `best`.

@@ -37,12 +37,12 @@ loop-weight-preserved c =
     let i = l.weight-index in
     let z : ℤ = get_or c.args.weights.now i (pos 0) in
     let f = l.auto.bits-fits in
-    let g : Fits w64 (of_z w64 z) = Fits-of_z {z = z} (record { sfits = c.bits-1.given }) in
+    let g : Fits w64 (of_z w64 z) = Fits-of_z {z = z} (record { sfits = c.weight-1.given }) in
     let both = bits-none (bit_or l.bits-bits (of_z w64 z)) (record { fits = or_lt 64 l.bits-bits (of_z w64 z) f.fits g.fits }) in
     let before = bits-none l.bits-bits f in
     let none = or-none l.bits-bits (of_z w64 z) in (
       λ e. let (a, b) = none.0 (both.0 e) in
-          below_more _ _ (l.invariant.0 (before.1 a)) (sym (read_back w64 z c.bits-1.given) ∙ ap (to_z w64) b),
+          below_more _ _ (l.invariant.0 (before.1 a)) (sym (read_back w64 z c.weight-1.given) ∙ ap (to_z w64) b),
       λ h. both.1 (none.1 (before.0 (l.invariant.1 (λ k g. h k (omega arith))), ap (of_z w64) (h i (omega arith)))),
     )
 

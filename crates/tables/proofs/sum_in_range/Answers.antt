@@ -42,7 +42,7 @@ value c =
     (omega arith, get_or-take n b i (pos 0) h)
 
 asked : (c : After-is_working) → c.is_working.result ≡ in_working (rules_of c.args.case) (best_at c.args.best.now c.loop-weight.weight-index)
-asked c = rw (read_back w64 _ c.is_working-arg-1.given, (value c).1) at c.is_working.ensures
+asked c = rw (read_back w64 _ c.weight-1.given, (value c).1) at c.is_working.ensures
 
 pub returns-then-not-is_working : goal.returns-then-not-is_working
 returns-then-not-is_working c = let a = c.args in
@@ -61,7 +61,7 @@ next c =
     let f = best_at c.args.best.now in
     let d = (goal.at.Else-not-is_working c).After-is_working in
     sum_more f (to_z w64 (of_z w64 c.args.case.carry)) c.loop-weight.weight-index c.loop-weight.invariant.1
-    (read_back w64 _ d.is_working-arg-1.given ∙ (value d).1)
+    (read_back w64 _ d.weight-1.given ∙ (value d).1)
 
 pub overflow_add-sum : goal.overflow_add-sum
 overflow_add-sum c = let a = c.args in
