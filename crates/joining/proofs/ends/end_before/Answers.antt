@@ -8,7 +8,6 @@ use Rattle.joining.proofs.ends.end_before.Goals as goal
 
 pub loop-f-preserved : goal.loop-f-preserved
 loop-f-preserved c = let a = c.args in (
-  omega arith,
-  ap (λ x. x || eqb (get_or a.lower.now c.loop-f.f 0) a.i) c.loop-f.invariant.1
+  ap (λ x. x || eqb (get_or a.lower.now c.loop-f.f 0) a.i) c.loop-f.invariant
       ∙ sym (any_next (λ f. eqb (get_or a.lower.now f 0) a.i) c.loop-f.f),
 )
