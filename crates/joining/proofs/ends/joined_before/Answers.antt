@@ -7,7 +7,6 @@ use Rattle.tables.proofs.Search.{any_next}
 use Rattle.joining.proofs.ends.joined_before.Goals as goal
 
 pub loop-f-preserved : goal.loop-f-preserved
-loop-f-preserved c = let a = c.args in (
-  ap₂ (λ a b. a || b) c.loop-f.invariant c.has_ends-found.ensures
-      ∙ sym (any_next (λ f. eqb (get_or a.lower.now f 0) a.i && eqb (get_or a.upper.now f 0) a.j) c.loop-f.f),
-)
+loop-f-preserved c = let a = c.args in
+    ap₂ (λ a b. a || b) c.loop-f.invariant c.has_ends-found.ensures
+    ∙ sym (any_next (λ f. eqb (get_or a.lower.now f 0) a.i && eqb (get_or a.upper.now f 0) a.j) c.loop-f.f)
