@@ -63,8 +63,8 @@ fn end_before(lower: &[u8], e: usize, i: u8) -> bool
     ensures { result ≡ end_before lower.now e i }
 {
     let mut found = false;
-    for f in 0..e {
-        found |= lower[f] == i;
+    for &end in &lower[..e] {
+        found |= end == i;
     }
     found
 }

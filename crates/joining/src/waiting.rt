@@ -81,8 +81,8 @@ fn repeated_at(lower: &Ends, e: usize) -> bool
 {
     let end = lower[e];
     let mut found = false;
-    for f in 0..e {
-        found |= end == lower[f];
+    for &before in &lower[..e] {
+        found |= end == before;
     }
     found
 }

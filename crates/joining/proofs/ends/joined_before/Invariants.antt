@@ -1,4 +1,3 @@
-use Prim.Native.Nat.{◌≤◌, ◌-◌}
 use mathlib.Core.Path.{◌≡◌}
 use Rattle.joining.specs.Steps.{joined_before}
 use Rattle.joining.proofs.ends.joined_before.Given as goal
