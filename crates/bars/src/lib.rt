@@ -24,14 +24,7 @@ fn is_open(weight: i64, best: i64) -> bool
 fn some_open(weights: &[i64], best: i64) -> bool
     ensures { result ≡ any (is_open best) weights.now }
 {
-    let mut i: usize = 0;
-    while i < weights.len() {
-        if is_open(weights[i], best) {
-            return true;
-        }
-        i += 1;
-    }
-    false
+    weights.iter().any(|weight| is_open(*weight, best))
 }
 
 // A scope that is asked: the variable's own, or one raised.
@@ -59,14 +52,7 @@ fn rest_open(case: Case, table: &[i64], best: &[i64], raised: &[u8], variable: u
     ensures { result ≡ any (some_open (rules_of case) case table.now best.now raised.now variable) (scopes case) }
 {
     let scopes = case.n + case.m;
-    let mut x: usize = 0;
-    while x < scopes {
-        if open_in(case, table, x, best[x], variable, raised[x]) {
-            return true;
-        }
-        x += 1;
-    }
-    false
+    (0..scopes).any(|x| open_in(case, table, x, best[x], variable, raised[x]))
 }
 
 // In the scope of `variable` and in each scope x whose byte in `raised` is not 0, every weight that is not best[x] is barred. No where the limits or

@@ -68,14 +68,7 @@ fn spaced_stay(
     requires t { T (amount_within (rules_in rulebook) by) }
     ensures { result ≡ spaced_stay (rules_in rulebook) table.now start step count by }
 {
-    let mut j: usize = 0;
-    while j < count {
-        if !stays_with(rulebook, table[start + j * step], by) {
-            return false;
-        }
-        j += 1;
-    }
-    true
+    (0..count).all(|j| stays_with(rulebook, table[start + j * step], by))
 }
 
 fn spaced_add(table: &mut [i64], start: usize, step: usize, count: usize, by: i64)
@@ -83,12 +76,9 @@ fn spaced_add(table: &mut [i64], start: usize, step: usize, count: usize, by: i6
     requires sums_fit { SumsFit table.old start step count by × (0 < step) }
     ensures { table.new ≡ spaced_add table.old start step count by }
 {
-    let mut j: usize = 0;
-    while j < count {
+    for j in 0..count {
         let p = start + j * step;
-        let weight = weight_with(table[p], by);
-        table[p] = weight;
-        j += 1;
+        table[p] = weight_with(table[p], by);
     }
 }
 
@@ -182,10 +172,8 @@ fn values_with(table: &[i64], from: usize, count: usize, weight: i64) -> u8
     requires { from + count ≤ length table.now }
     ensures { result ≡ values_with table.now from count weight }
 {
-    let mut set: u8 = 0;
-    let mut j = count;
-    while j > 0 {
-        j -= 1;
+    let mut set = 0;
+    for j in (0..count).rev() {
         set = marks::push(set, same_weight(table[from + j], weight));
     }
     set
@@ -227,14 +215,7 @@ fn own_added(weight: i64, best: i64, rest: i64, values: u8, value: usize, amount
 fn all_within(part: &[i64], low: i64, high: i64) -> bool
     ensures { result ≡ all (within_z low high) part.now }
 {
-    let mut i: usize = 0;
-    while i < part.len() {
-        if !is_within(part[i], low, high) {
-            return false;
-        }
-        i += 1;
-    }
-    true
+    part.iter().all(|weight| is_within(*weight, low, high))
 }
 
 // The weights are in their range with and without `rest`: seldom false, and quicker to ask than which of them get it.
@@ -254,13 +235,10 @@ fn raised_stays(rulebook: Rulebook, part: &[i64], best: i64, rest: i64) -> bool
     requires { Amounts (rules_in rulebook) (raised_by best rest) }
     ensures { result ≡ part_stays (rules_in rulebook) (raised_by best rest) part.now }
 {
-    let mut i: usize = 0;
-    while i < part.len() {
-        let weight = part[i];
+    for &weight in part {
         if !stays_with(rulebook, weight, added(weight, best, rest)) {
             return false;
         }
-        i += 1;
     }
     true
 }
@@ -276,14 +254,11 @@ fn own_stays(
     requires { Amounts (rules_in rulebook) (lowered_by values amount best rest) }
     ensures { result ≡ part_stays (rules_in rulebook) (lowered_by values amount best rest) part.now }
 {
-    let mut i: usize = 0;
-    while i < part.len() {
-        let weight = part[i];
+    for (i, &weight) in part.iter().enumerate() {
         let by = own_added(weight, best, rest, values, i, amount);
         if !stays_with(rulebook, weight, by) {
             return false;
         }
-        i += 1;
     }
     true
 }
@@ -319,11 +294,8 @@ fn raise_part(part: &mut [i64], best: i64, rest: i64)
     requires { PartFits (raised_by best rest) part.old }
     ensures { part.new ≡ part_after (raised_by best rest) part.old }
 {
-    let mut at: usize = 0;
-    while at < part.len() {
-        let weight = raised_weight(part[at], best, rest);
-        part[at] = weight;
-        at += 1;
+    for weight in part.iter_mut() {
+        *weight = raised_weight(*weight, best, rest);
     }
 }
 
@@ -340,11 +312,8 @@ fn lower_part(part: &mut [i64], best: i64, rest: i64, values: u8, amount: i64)
     requires part_fits { PartFits (lowered_by values amount best rest) part.old }
     ensures { part.new ≡ part_after (lowered_by values amount best rest) part.old }
 {
-    let mut at: usize = 0;
-    while at < part.len() {
-        let weight = own_weight(part[at], best, rest, values, at, amount);
-        part[at] = weight;
-        at += 1;
+    for (value, weight) in part.iter_mut().enumerate() {
+        *weight = own_weight(*weight, best, rest, values, value, amount);
     }
 }
 
@@ -497,14 +466,9 @@ fn lowering_stays(
     ensures { result ≡ lowering_lets (rules_of case) case table.now best.now raised.now variable values amount }
 {
     let scopes = case.n + case.m;
-    let mut x: usize = 0;
-    while x < scopes {
-        if !scope_lets(case, table, x, best[x], raised[x], variable, values, amount) {
-            return false;
-        }
-        x += 1;
-    }
-    true
+    (0..scopes).all(|x| {
+        scope_lets(case, table, x, best[x], raised[x], variable, values, amount)
+    })
 }
 
 fn lower_scope(
@@ -551,13 +515,11 @@ fn lower_scopes(
         table.new best.new }
 {
     let scopes = case.n + case.m;
-    let mut x: usize = 0;
-    while x < scopes {
+    for x in 0..scopes {
         let held = best[x];
         lower_scope(
             case, table, best, x, held, raised[x], variable, values, amount,
         );
-        x += 1;
     }
 }
 
@@ -628,9 +590,9 @@ pub fn end_variable(case: Case, edge: usize, end: usize) -> usize
         return 0;
     }
     if end == 0 {
-        return integers::wide_size(case.lower[edge]);
+        return usize::from(case.lower[edge]);
     }
-    integers::wide_size(case.upper[edge])
+    usize::from(case.upper[edge])
 }
 
 // The edge, the end, the value or the amount is outside its range.

@@ -68,7 +68,7 @@ fn value_of(assignment: &[u8], i: usize) -> usize
     ensures { (result ≡ value_of assignment.now i) × (result < 256) }
 {
     if i < assignment.len() {
-        integers::wide_size(assignment[i])
+        usize::from(assignment[i])
     } else {
         0
     }
@@ -83,8 +83,8 @@ fn used_weight(case: Case, table: &[i64], assignment: &[u8], x: usize) -> i64
         return weight_at(case, table, x, value_of(assignment, x), 0);
     }
     let e = x - case.n;
-    let k = value_of(assignment, integers::wide_size(case.lower[e]));
-    let l = value_of(assignment, integers::wide_size(case.upper[e]));
+    let k = value_of(assignment, usize::from(case.lower[e]));
+    let l = value_of(assignment, usize::from(case.upper[e]));
     weight_at(case, table, x, k, l)
 }
 
@@ -94,14 +94,7 @@ fn uses_barred(case: Case, table: &[i64], assignment: &[u8]) -> bool
     ensures { result ≡ uses_barred case table.now assignment.now }
 {
     let scopes = case.n + case.m;
-    let mut x: usize = 0;
-    while x < scopes {
-        if rules::is_barred(used_weight(case, table, assignment, x)) {
-            return true;
-        }
-        x += 1;
-    }
-    false
+    (0..scopes).any(|x| rules::is_barred(used_weight(case, table, assignment, x)))
 }
 
 fn sum_of_used(case: Case, table: &[i64], assignment: &[u8]) -> i64
@@ -111,10 +104,8 @@ fn sum_of_used(case: Case, table: &[i64], assignment: &[u8]) -> i64
 {
     let scopes = case.n + case.m;
     let mut sum: i64 = 0;
-    let mut x: usize = 0;
-    while x < scopes {
+    for x in 0..scopes {
         sum += used_weight(case, table, assignment, x);
-        x += 1;
     }
     sum
 }

@@ -47,10 +47,8 @@ fn gap_in(part: &[i64], best: i64, limit: i64) -> i64
 {
     let barred = rules::barred();
     let mut floor = first_floor(best, limit);
-    let mut j: usize = 0;
-    while j < part.len() {
-        floor = higher_floor(part[j], best, floor);
-        j += 1;
+    for &weight in part {
+        floor = higher_floor(weight, best, floor);
     }
     if floor <= barred {
         return limit;
@@ -102,10 +100,8 @@ fn gap_of_scopes(case: Case, table: &[i64], best: &[i64], raised: &[u8], variabl
 {
     let scopes = case.n + case.m;
     let mut least = NO_GAP;
-    let mut x: usize = 0;
-    while x < scopes {
+    for x in 0..scopes {
         least = limited_gap(case, table, x, best[x], raised[x], variable, least);
-        x += 1;
     }
     least
 }

@@ -13,12 +13,7 @@ fn put_ends(ends: &[u8], all: &mut [u8], to: usize, count: usize)
     requires { (count ≤ length ends.now) × (to + count ≤ length all.old) }
     ensures { Written 0 all.old all.new to 0 count (λ i. get_or ends.now i 0) }
 {
-    let mut j = count;
-    while 0 < j {
-        j -= 1;
-        let end = ends[j];
-        all[to + j] = end;
-    }
+    all[to..to + count].copy_from_slice(&ends[..count]);
 }
 
 // The ends of the edges before, and behind them those of the new ones.

@@ -7,12 +7,7 @@ fn move_up(table: &mut [i64], from: usize, to: usize, count: usize)
     ensures { Written (pos 0) table.old table.new to 0 count
         (λ i. get_or table.old (from + i) (pos 0)) }
 {
-    let mut j = count;
-    while 0 < j {
-        j -= 1;
-        let weight = table[from + j];
-        table[to + j] = weight;
-    }
+    table.copy_within(from..from + count, to);
 }
 
 pub(crate) fn copy_part(source: &[i64], table: &mut [i64], from: usize, to: usize, count: usize)
@@ -20,12 +15,7 @@ pub(crate) fn copy_part(source: &[i64], table: &mut [i64], from: usize, to: usiz
     ensures { Written (pos 0) table.old table.new to 0 count
         (λ i. get_or source.now (from + i) (pos 0)) }
 {
-    let mut j = count;
-    while 0 < j {
-        j -= 1;
-        let weight = source[from + j];
-        table[to + j] = weight;
-    }
+    table[to..to + count].copy_from_slice(&source[from..from + count]);
 }
 
 // Moves `count` weights from place `first` on up, and puts `wide` weights of the source, from place `from` on, in there.

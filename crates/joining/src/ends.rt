@@ -51,10 +51,8 @@ fn joined_before<'a>(
     ensures { result ≡ joined_before lower.now upper.now m i j }
 {
     let mut found = false;
-    let mut f: usize = 0;
-    while f < m {
+    for f in 0..m {
         found |= has_ends(lower, upper, f, i, j);
-        f += 1;
     }
     found
 }
@@ -65,10 +63,8 @@ fn end_before(lower: &[u8], e: usize, i: u8) -> bool
     ensures { result ≡ end_before lower.now e i }
 {
     let mut found = false;
-    let mut f: usize = 0;
-    while f < e {
-        found |= lower[f] == i;
-        f += 1;
+    for &end in &lower[..e] {
+        found |= end == i;
     }
     found
 }

@@ -54,14 +54,7 @@ fn end_beyond(lower: &Ends, count: usize, n: usize) -> bool
     requires { count ≤ edge_places }
     ensures { result ≡ end_beyond lower.now count n }
 {
-    let mut e: usize = 0;
-    while e < count {
-        if n <= integers::wide_size(lower[e]) {
-            return true;
-        }
-        e += 1;
-    }
-    false
+    (0..count).any(|e| n <= usize::from(lower[e]))
 }
 
 // Number 5 of the record; `out` says that it applies already.
@@ -87,10 +80,8 @@ fn repeated_at(lower: &Ends, e: usize) -> bool
 {
     let end = lower[e];
     let mut found = false;
-    let mut f: usize = 0;
-    while f < e {
-        found |= end == lower[f];
-        f += 1;
+    for &before in &lower[..e] {
+        found |= end == before;
     }
     found
 }
@@ -99,14 +90,7 @@ fn some_repeated(lower: &Ends, count: usize) -> bool
     requires { count ≤ edge_places }
     ensures { result ≡ repeated_ends lower.now count }
 {
-    let mut e: usize = 0;
-    while e < count {
-        if repeated_at(lower, e) {
-            return true;
-        }
-        e += 1;
-    }
-    false
+    (0..count).any(|e| repeated_at(lower, e))
 }
 
 // ---- the weights
@@ -125,14 +109,7 @@ fn same_bars<'a>(starting: &'a [i64], table: &'a [i64], own: usize) -> bool
     requires { (own ≤ length starting.now) × (own ≤ length table.now) }
     ensures { result ≡ all (λ p. same_bar (get_or starting.now p (pos 0)) (get_or table.now p (pos 0))) (below own) }
 {
-    let mut p: usize = 0;
-    while p < own {
-        if !same_bar(starting[p], table[p]) {
-            return false;
-        }
-        p += 1;
-    }
-    true
+    (0..own).all(|p| same_bar(starting[p], table[p]))
 }
 
 // What number 8 asks of the starting weights and those that wait, with the working weights beside them.
@@ -195,14 +172,7 @@ fn some_barred(case: Case, starting: &[i64], edges: usize, count: usize) -> bool
     requires count_bound { count ≤ edges + 1 }
     ensures { result ≡ waiting_barred case starting.now edges count }
 {
-    let mut y: usize = 0;
-    while y < count {
-        if scope_barred(case, starting, edges, y) {
-            return true;
-        }
-        y += 1;
-    }
-    false
+    (0..count).any(|y| scope_barred(case, starting, edges, y))
 }
 
 // ---- in order

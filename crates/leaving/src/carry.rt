@@ -14,14 +14,7 @@ use definitions::Case;
 fn any_barred(weights: &[i64]) -> bool
     ensures { result ≡ any is_barred weights.now }
 {
-    let mut i: usize = 0;
-    while i < weights.len() {
-        if rules::is_barred(weights[i]) {
-            return true;
-        }
-        i += 1;
-    }
-    false
+    weights.iter().any(|weight| rules::is_barred(*weight))
 }
 
 fn scope_barred(case: Case, starting: &[i64], x: usize) -> bool
@@ -51,15 +44,7 @@ pub(crate) fn some_barred(case: Case, starting: &[i64], variable: usize) -> bool
     if scope_barred(case, starting, variable) {
         return true;
     }
-    let edges = case.m;
-    let mut e: usize = 0;
-    while e < edges {
-        if edge_barred(case, starting, variable, e) {
-            return true;
-        }
-        e += 1;
-    }
-    false
+    (0..case.m).any(|e| edge_barred(case, starting, variable, e))
 }
 
 fn scope_growth<'a>(case: Case, starting: &'a [i64], table: &'a [i64], x: usize) -> i64
@@ -100,11 +85,8 @@ pub(crate) fn carry_after<'a>(
     ensures { result ≡ carry_after case variable starting.now table.now }
 {
     let mut carry = case.carry + scope_growth(case, starting, table, variable);
-    let edges = case.m;
-    let mut e: usize = 0;
-    while e < edges {
+    for e in 0..case.m {
         carry += edge_growth(case, starting, table, variable, e);
-        e += 1;
     }
     carry
 }

@@ -12,14 +12,13 @@ pub(crate) fn has_end(case: Case, variable: usize, e: usize) -> bool
     requires { e < edge_places }
     ensures { result ≡ has_end case variable e }
 {
-    (integers::wide_size(case.lower[e]) == variable)
-        | (integers::wide_size(case.upper[e]) == variable)
+    (usize::from(case.lower[e]) == variable) | (usize::from(case.upper[e]) == variable)
 }
 
 fn moved_down(variable: usize, end: u8) -> u8
     ensures { result ≡ moved_down variable end }
 {
-    if variable < integers::wide_size(end) {
+    if variable < usize::from(end) {
         return end - 1;
     }
     end
@@ -59,12 +58,9 @@ fn put_edges(
     ensures { (result ≡ length (staying_edges case variable)) × (lower.new ≡ ends_left case (lower_end case) variable case.m)
         × (upper.new ≡ ends_left case (upper_end case) variable case.m) }
 {
-    let edges = case.m;
-    let mut q: usize = 0;
-    let mut e: usize = 0;
-    while e < edges {
+    let mut q = 0;
+    for e in 0..case.m {
         q = put_edge(case, variable, e, q, lower, upper);
-        e += 1;
     }
     q
 }

@@ -36,12 +36,7 @@ fn move_down(table: &mut [i64], from: usize, to: usize, count: usize)
     requires { (to ≤ from) × (from + count ≤ length table.old) }
     ensures { table.new ≡ paste table.old to (drop from table.old) count }
 {
-    let mut j: usize = 0;
-    while j < count {
-        let weight = table[from + j];
-        table[to + j] = weight;
-        j += 1;
-    }
+    table.copy_within(from..from + count, to);
 }
 
 // Moves a part down if it stays; the place after it.
@@ -64,15 +59,13 @@ fn keep_parts(case: Case, table: &mut [i64], variable: usize) -> usize
         × (take result table.new ≡ kept_to case variable table.old (scope_count case)) }
 {
     let scopes = case.n + case.m;
-    let mut from: usize = 0;
-    let mut to: usize = 0;
-    let mut x: usize = 0;
-    while x < scopes {
+    let mut from = 0;
+    let mut to = 0;
+    for x in 0..scopes {
         let size = size_of(case, x);
         let stay = stays(case, variable, x);
         to = keep_part(table, from, to, size, stay);
         from += size;
-        x += 1;
     }
     to
 }
@@ -91,10 +84,5 @@ pub(crate) fn copy(from: &[i64], to: &mut [i64])
     requires { length from.now ≡ length to.old }
     ensures { to.new ≡ from.now }
 {
-    let mut i: usize = 0;
-    while i < from.len() {
-        let weight = from[i];
-        to[i] = weight;
-        i += 1;
-    }
+    to.copy_from_slice(from);
 }

@@ -14,49 +14,27 @@ ghost use Rattle.moves.specs.Marks.{marked, says_yes, asked_of_raised, asked_of_
 
 use definitions::{Case, Refusal, SCOPE_PLACES};
 
-fn scope_at(scope: u16) -> usize
-    ensures { result ≡ scope }
-{
-    scope as usize
-}
-
 // ---- what a press is asked: numbers 5 and 9
 
 fn some_beyond(scopes: &[u16], count: usize) -> bool
     ensures { result ≡ any (λ x. not (ltb x count)) scopes.now }
 {
-    let mut j: usize = 0;
-    while j < scopes.len() {
-        if count <= scope_at(scopes[j]) {
-            return true;
-        }
-        j += 1;
-    }
-    false
+    scopes.iter().any(|scope| count <= usize::from(*scope))
 }
 
 fn holds(scopes: &[u16], x: usize) -> bool
     ensures { result ≡ is_in scopes.now x }
 {
-    let mut j: usize = 0;
-    while j < scopes.len() {
-        if scope_at(scopes[j]) == x {
-            return true;
-        }
-        j += 1;
-    }
-    false
+    scopes.iter().any(|scope| usize::from(*scope) == x)
 }
 
 fn is_rising(scopes: &[u16]) -> bool
     ensures { result ≡ is_rising scopes.now }
 {
-    let mut j: usize = 1;
-    while j < scopes.len() {
+    for j in 1..scopes.len() {
         if scopes[j] <= scopes[j - 1] {
             return false;
         }
-        j += 1;
     }
     true
 }
@@ -69,7 +47,7 @@ fn press_out(case: Case, variable: usize, raised: &[u16], amount: i64) -> bool
         return true;
     }
     let scopes = case.n + case.m;
-    if raised.len() == 0 {
+    if raised.is_empty() {
         return true;
     }
     if scopes <= raised.len() {
@@ -84,11 +62,8 @@ fn mark_scopes(marks: &mut [u8], raised: &[u16])
     requires { T (all (λ x. ltb x (length marks.old)) raised.now) }
     ensures { marks.new ≡ marked marks.old raised.now }
 {
-    let mut j: usize = 0;
-    while j < raised.len() {
-        let x = scope_at(raised[j]);
-        marks[x] = 1;
-        j += 1;
+    for scope in raised {
+        marks[usize::from(*scope)] = 1;
     }
 }
 

@@ -1,5 +1,6 @@
 -- Laws that the functions' proofs cite.
 pub mod Search
+pub mod Chains
 pub mod Maxima
 pub mod Order
 mod Ranges

@@ -27,14 +27,7 @@ fn all_paired<'a>(starting: &'a [i64], table: &'a [i64], own: usize, low: i64, h
     requires { (own ≤ length starting.now) × (own ≤ length table.now) }
     ensures { result ≡ all (paired_at low high starting.now table.now) (below own) }
 {
-    let mut p: usize = 0;
-    while p < own {
-        if !is_paired(starting[p], table[p], low, high) {
-            return false;
-        }
-        p += 1;
-    }
-    true
+    (0..own).all(|p| is_paired(starting[p], table[p], low, high))
 }
 
 // What number 8 asks of the starting weights, with the working weights beside them.

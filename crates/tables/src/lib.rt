@@ -8,22 +8,14 @@ ghost use Rattle.integers.specs.Words.{below, any, all, within, within_z, minus,
 ghost use Rattle.definitions.specs.Rules.{rules_in, rules_of, edge_places};
 ghost use Rattle.definitions.specs.Refusals.{first_refusal};
 ghost use Rattle.definitions.specs.Answers.{outcome_of};
-ghost use Rattle.definitions.specs.Case.{place, greatest as greatest_weight, scope_count, scopes, own_length, lent_length, barred_weight, is_barred, wholly_barred};
+ghost use Rattle.definitions.specs.Case.{lower_end, upper_end, place, greatest as greatest_weight, scope_count, scopes, own_length, lent_length, barred_weight, is_barred, wholly_barred};
 ghost use Rattle.definitions.specs.Valid.{in_working, starting_weight, working_weight, carry_out, within_limits, some_edge, end_outside, same_ends, limit_test, edge_tests, handed_over, both_handed_over};
 ghost use Rattle.definitions.specs.CaseFiles.{zeroed_from};
 ghost use Rattle.tables.specs.Scopes.{Limited, of_size, size_of, holdable, front_tests, own_tests, tuple_tests, scope_part, is_sized, scope_weights, best_at};
 ghost use Rattle.tables.specs.Scopes.{written_over, greatest_call, sum_in_range, greatest_sum, best_sum};
-ghost use Rattle.tables.specs.Edges.{faulty, with_edges};
+ghost use Rattle.tables.specs.Edges.{with_edges};
 
 use definitions::{Case, EDGE_PLACES, Refusal, Rulebook, SCOPE_PLACES};
-
-// What can be wrong with an edge.
-#[derive(Clone, Copy)]
-enum Fault {
-    Outside,
-    NotAscending,
-    Repeated,
-}
 
 // ---- the check
 
@@ -48,13 +40,11 @@ fn same_ends<'a>(
 // An edge before e joins the same variables. All are looked at, so that many are at once.
 fn repeated<'a>(lower: &'a [u8; EDGE_PLACES], upper: &'a [u8; EDGE_PLACES], e: usize) -> bool
     requires { e < edge_places }
-    ensures { result ≡ faulty (with_edges 0 lower.now upper.now) Fault.Repeated e }
+    ensures { result ≡ any (same_ends (with_edges 0 lower.now upper.now) e) (below e) }
 {
     let mut found = false;
-    let mut f: usize = 0;
-    while f < e {
+    for f in 0..e {
         found |= same_ends(lower, upper, e, f);
-        f += 1;
     }
     found
 }
@@ -62,44 +52,7 @@ fn repeated<'a>(lower: &'a [u8; EDGE_PLACES], upper: &'a [u8; EDGE_PLACES], e: u
 fn both_below(i: u8, j: u8, n: usize) -> bool
     ensures { result ≡ (ltb i n && ltb j n) }
 {
-    (i as usize) < n && (j as usize) < n
-}
-
-fn is_faulty<'a>(
-    n: usize,
-    lower: &'a [u8; EDGE_PLACES],
-    upper: &'a [u8; EDGE_PLACES],
-    fault: Fault,
-    e: usize,
-) -> bool
-    requires { e < edge_places }
-    ensures { result ≡ faulty (with_edges n lower.now upper.now) fault e }
-{
-    match fault {
-        Fault::Outside => !both_below(lower[e], upper[e], n),
-        Fault::NotAscending => !(lower[e] < upper[e]),
-        Fault::Repeated => repeated(lower, upper, e),
-    }
-}
-
-fn some_faulty<'a>(
-    n: usize,
-    m: usize,
-    lower: &'a [u8; EDGE_PLACES],
-    upper: &'a [u8; EDGE_PLACES],
-    fault: Fault,
-) -> bool
-    requires { m ≤ edge_places }
-    ensures { result ≡ any (faulty (with_edges n lower.now upper.now) fault) (below m) }
-{
-    let mut e: usize = 0;
-    while e < m {
-        if is_faulty(n, lower, upper, fault, e) {
-            return true;
-        }
-        e += 1;
-    }
-    false
+    usize::from(i) < n && usize::from(j) < n
 }
 
 fn are_limited(rulebook: Rulebook, n: usize, d: usize, m: usize) -> bool
@@ -139,27 +92,13 @@ fn is_holdable(weight: i64, low: i64, high: i64) -> bool
 fn all_within(weights: &[i64], low: i64, high: i64) -> bool
     ensures { result ≡ all (within_z low high) weights.now }
 {
-    let mut i: usize = 0;
-    while i < weights.len() {
-        if !is_within(weights[i], low, high) {
-            return false;
-        }
-        i += 1;
-    }
-    true
+    weights.iter().all(|weight| is_within(*weight, low, high))
 }
 
 pub fn all_holdable(weights: &[i64], low: i64, high: i64) -> bool
     ensures { result ≡ all (holdable low high) weights.now }
 {
-    let mut i: usize = 0;
-    while i < weights.len() {
-        if !is_holdable(weights[i], low, high) {
-            return false;
-        }
-        i += 1;
-    }
-    true
+    weights.iter().all(|weight| is_holdable(*weight, low, high))
 }
 
 fn scope_barred(case: Case, table: &[i64], x: usize) -> bool
@@ -176,31 +115,18 @@ fn some_scope_barred(case: Case, table: &[i64]) -> bool
     requires table_len { length table.now ≡ lent_length (rules_of case) case }
     ensures { result ≡ any (wholly_barred case table.now) (scopes case) }
 {
-    let scopes = scope_count(case);
-    let mut x: usize = 0;
-    while x < scopes {
-        if scope_barred(case, table, x) {
-            return true;
-        }
-        x += 1;
-    }
-    false
+    (0..scope_count(case)).any(|x| scope_barred(case, table, x))
 }
 
 // All bits are looked at, so that many weights are at once.
 pub fn all_zero(weights: &[i64]) -> bool
     ensures { result ≡ all (λ z. eq_z z (pos 0)) weights.now }
 {
-    let mut bits: i64 = 0;
-    let mut i: usize = 0;
-    while i < weights.len() {
-        bits |= weights[i];
-        i += 1;
+    let mut bits = 0;
+    for &weight in weights {
+        bits |= weight;
     }
-    if bits == 0 {
-        return true;
-    }
-    false
+    bits == 0
 }
 
 // Numbers 8 and 15 of the own places. Where all are in the range nothing applies, and no more is looked at.
@@ -271,11 +197,25 @@ fn is_carried(rulebook: Rulebook, carry: i64) -> bool
     )
 }
 
-fn has_fault(case: Case, fault: Fault) -> bool
+fn some_end_outside(case: Case) -> bool
     requires { case.m ≤ edge_places }
-    ensures { result ≡ some_edge case (faulty case fault) }
+    ensures { result ≡ some_edge case (end_outside case) }
 {
-    some_faulty(case.n, case.m, &case.lower, &case.upper, fault)
+    (0..case.m).any(|e| !both_below(case.lower[e], case.upper[e], case.n))
+}
+
+fn some_not_ascending(case: Case) -> bool
+    requires { case.m ≤ edge_places }
+    ensures { result ≡ some_edge case (λ e. not (ltb (lower_end case e) (upper_end case e))) }
+{
+    (0..case.m).any(|e| case.upper[e] <= case.lower[e])
+}
+
+fn some_repeated(case: Case) -> bool
+    requires { case.m ≤ edge_places }
+    ensures { result ≡ some_edge case (λ e. any (same_ends case e) (below e)) }
+{
+    (0..case.m).any(|e| repeated(&case.lower, &case.upper, e))
 }
 
 // Number 5: an argument, the carry or the end of an edge is outside its range.
@@ -283,13 +223,7 @@ fn some_outside(case: Case, out: bool) -> bool
     requires { case.m ≤ edge_places }
     ensures { result ≡ (out || carry_out (rules_of case) case || some_edge case (end_outside case)) }
 {
-    if out {
-        return true;
-    }
-    if carry_out(case) {
-        return true;
-    }
-    has_fault(case, Fault::Outside)
+    out || carry_out(case) || some_end_outside(case)
 }
 
 fn edge_outcome(case: Case, out: bool) -> Result<(), Refusal>
@@ -299,10 +233,10 @@ fn edge_outcome(case: Case, out: bool) -> Result<(), Refusal>
     if some_outside(case, out) {
         return Err(Refusal::OutOfRange);
     }
-    if has_fault(case, Fault::NotAscending) {
+    if some_not_ascending(case) {
         return Err(Refusal::EndsNotAscending);
     }
-    if has_fault(case, Fault::Repeated) {
+    if some_repeated(case) {
         return Err(Refusal::EdgeRepeated);
     }
     Ok(())
@@ -400,12 +334,8 @@ fn write_greatest(case: Case, table: &[i64], best: &mut [i64])
     requires case_in_bounds { scope_count case ≤ length best.old }
     ensures { best.new ≡ written_over (map (greatest_weight case table.now) (scopes case)) best.old }
 {
-    let scopes = scope_count(case);
-    let mut x: usize = 0;
-    while x < scopes {
-        let weight = scope_greatest(case, table, x);
-        best[x] = weight;
-        x += 1;
+    for x in 0..scope_count(case) {
+        best[x] = scope_greatest(case, table, x);
     }
 }
 
@@ -421,14 +351,11 @@ fn sum_in_range(case: Case, best: &[i64]) -> Result<i64, Refusal>
         return Err(Refusal::OutOfRange);
     }
     let mut sum: i64 = case.carry;
-    let mut x: usize = 0;
-    while x < scopes {
-        let weight = best[x];
+    for &weight in &best[..scopes] {
         if !is_working(rulebook, weight) {
             return Err(Refusal::WeightOutOfRange);
         }
         sum += weight;
-        x += 1;
     }
     Ok(sum)
 }
@@ -527,17 +454,15 @@ pub fn check_edges(case: Case, out: bool) -> Result<(), Refusal>
 pub fn greatest(weights: &[i64]) -> i64
     ensures { result ≡ greatest_of weights.now }
 {
-    if weights.len() == 0 {
+    let Some((first, rest)) = weights.split_first() else {
         return 0;
-    }
-    let mut best = weights[0];
-    let mut i: usize = 1;
-    while i < weights.len() {
-        let w = weights[i];
-        if best < w {
-            best = w;
+    };
+    // An if, which is quicker here than an iterator's max.
+    let mut best = *first;
+    for &weight in rest {
+        if best < weight {
+            best = weight;
         }
-        i += 1;
     }
     best
 }
@@ -546,17 +471,15 @@ pub fn greatest(weights: &[i64]) -> i64
 pub fn least(weights: &[i64]) -> i64
     ensures { result ≡ smallest_of weights.now }
 {
-    if weights.len() == 0 {
+    let Some((first, rest)) = weights.split_first() else {
         return 0;
-    }
-    let mut lowest = weights[0];
-    let mut i: usize = 1;
-    while i < weights.len() {
-        let w = weights[i];
-        if w < lowest {
-            lowest = w;
+    };
+    // An if, as in `greatest`.
+    let mut lowest = *first;
+    for &weight in rest {
+        if weight < lowest {
+            lowest = weight;
         }
-        i += 1;
     }
     lowest
 }
@@ -596,24 +519,15 @@ pub fn sum_of_best(case: Case, best: &[i64]) -> Result<i64, Refusal>
 pub fn all_barred(weights: &[i64]) -> bool
     ensures { result ≡ all is_barred weights.now }
 {
-    let mut i: usize = 0;
-    while i < weights.len() {
-        if !rules::is_barred(weights[i]) {
-            return false;
-        }
-        i += 1;
-    }
-    true
+    weights.iter().all(|weight| rules::is_barred(*weight))
 }
 
 // Writes 0 from place `from` on.
 pub fn zero_from(table: &mut [i64], from: usize)
     ensures { table.new ≡ zeroed_from from table.old }
 {
-    let mut i = from;
-    while i < table.len() {
-        table[i] = 0;
-        i += 1;
+    if from < table.len() {
+        table[from..].fill(0);
     }
 }
 
@@ -621,14 +535,7 @@ pub fn zero_from(table: &mut [i64], from: usize)
 pub fn some_beyond(values: &[u8], d: usize) -> bool
     ensures { result ≡ any (λ k. not (ltb k d)) values.now }
 {
-    let mut i: usize = 0;
-    while i < values.len() {
-        if d <= integers::wide_size(values[i]) {
-            return true;
-        }
-        i += 1;
-    }
-    false
+    values.iter().any(|value| d <= usize::from(*value))
 }
 
 // The sum of each scope's greatest weight and the carry; a weight outside the range of working weights is refused.

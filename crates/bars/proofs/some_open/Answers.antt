@@ -1,10 +1,9 @@
-use native.Mathlib.Omega.{arith}
-use lib.IntN.{pos}
-use mir.Facts.{to_z-of_z}
-use Rattle.tables.proofs.Search.{found_nowhere}
+use Rattle.std.proofs.Common.{rules}
+use borrow.Author.Tests.{tests}
 use Rattle.bars.specs.Bars.{is_open}
+use Rattle.tables.proofs.Chains.{any_over}
 use Rattle.bars.proofs.some_open.Goals as goal
 
 pub returns : goal.returns
-returns c = found_nowhere (is_open c.args.best) c.args.weights.now (pos 0)
-    (λ k h. simp (to_z-of_z c.ranges.best) at (c.loop-i.invariant.1 k (omega arith)))
+returns c = let a = c.args in
+    any_over (is_open a.best) a.weights.now _ _ _ c.any.ensures.ran (cc) (λ x b q k. search (rules, tests))

@@ -36,11 +36,9 @@ returns-then-not-stays_with c =
 
 pub loop-i-preserved : goal.loop-i-preserved
 loop-i-preserved c =
-    let f = c.ranges in (
-      omega arith,
-      below_more _ _ c.loop-i.invariant.1
-          (rw (to_z-of_z f.best, to_z-of_z f.rest, to_z-of_z f.amount) (sym (told (goal.at.loop-i-preserved c).After-stays_with) ∙ c.if-not-stays_with.false)),
-    )
+    let f = c.ranges in
+    below_more _ _ c.loop-i.invariant
+    (rw (to_z-of_z f.best, to_z-of_z f.rest, to_z-of_z f.amount) (sym (told (goal.at.loop-i-preserved c).After-stays_with) ∙ c.if-not-stays_with.false))
 
 pub returns : goal.returns
 returns c =
@@ -48,4 +46,4 @@ returns c =
     let f = c.ranges in
     all-passed (λ p. stays_with (rules_in a.rulebook) (weight_at a.part.now p)
     (lowered_by a.values a.amount a.best a.rest p (weight_at a.part.now p)))
-    (length a.part.now) (λ k h. rw (to_z-of_z f.best, to_z-of_z f.rest, to_z-of_z f.amount) at (c.loop-i.invariant.1 k (omega arith)))
+    (length a.part.now) (λ k h. rw (to_z-of_z f.best, to_z-of_z f.rest, to_z-of_z f.amount) at (c.loop-i.invariant k (omega arith)))

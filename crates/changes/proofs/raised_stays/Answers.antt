@@ -23,31 +23,31 @@ stays_with-requires c =
     let r = c.added in
     let e = read_back w64 r.result r.type_inv ∙ rw (to_z-of_z f.best, to_z-of_z f.rest) at r.ensures in
     subst (λ (z : ℤ). T (amount_within (rules_in a.rulebook) z)) (sym e)
-    (c.requires c.loop-i.i (to_z w64 (of_z w64 (get_or a.part.now c.loop-i.i (pos 0)))))
+    (c.requires c.loop-weight.weight-index (to_z w64 (of_z w64 (get_or a.part.now c.loop-weight.weight-index (pos 0)))))
 
 told : (c : After-stays_with) → let a = c.args in
     c.stays_with.result
-    ≡ stays_with (rules_in a.rulebook) (weight_at a.part.now c.loop-i.i)
-    (raised_by a.best a.rest c.loop-i.i (weight_at a.part.now c.loop-i.i))
+    ≡ stays_with (rules_in a.rulebook) (weight_at a.part.now c.loop-weight.weight-index)
+    (raised_by a.best a.rest c.loop-weight.weight-index (weight_at a.part.now c.loop-weight.weight-index))
 told c =
     let a = c.args in
     let f = c.ranges in
     let r = c.added in
-    let e = read_back w64 (get_or a.part.now c.loop-i.i (pos 0)) (search rules) in
+    let e = read_back w64 (get_or a.part.now c.loop-weight.weight-index (pos 0)) (search rules) in
     c.stays_with.ensures ∙ ap₂ (stays_with (rules_in a.rulebook)) e (read_back w64 r.result r.type_inv
-    ∙ rw (to_z-of_z f.best, to_z-of_z f.rest) at r.ensures ∙ ap (raised_by a.best a.rest c.loop-i.i) e)
+    ∙ rw (to_z-of_z f.best, to_z-of_z f.rest) at r.ensures ∙ ap (raised_by a.best a.rest c.loop-weight.weight-index) e)
 
 pub returns-then-not-stays_with : goal.returns-then-not-stays_with
 returns-then-not-stays_with c =
     let a = c.args in
     not-all (λ p. stays_with (rules_in a.rulebook) (weight_at a.part.now p) (raised_by a.best a.rest p (weight_at a.part.now p)))
     (length a.part.now)
-    c.loop-i.i (omega arith) (sym (told (goal.at.returns-then-not-stays_with c).After-stays_with) ∙ c.if-not-stays_with.true)
+    c.loop-weight.weight-index (omega arith) (sym (told (goal.at.returns-then-not-stays_with c).After-stays_with) ∙ c.if-not-stays_with.true)
 
-pub loop-i-preserved : goal.loop-i-preserved
-loop-i-preserved c =
+pub loop-weight-preserved : goal.loop-weight-preserved
+loop-weight-preserved c =
     let f = c.ranges in
-    (omega arith, below_more _ _ c.loop-i.invariant.1 (rw (to_z-of_z f.best, to_z-of_z f.rest) (sym (told (goal.at.loop-i-preserved c).After-stays_with) ∙ c.if-not-stays_with.false)))
+    below_more _ _ c.loop-weight.invariant (rw (to_z-of_z f.best, to_z-of_z f.rest) (sym (told (goal.at.loop-weight-preserved c).After-stays_with) ∙ c.if-not-stays_with.false))
 
 pub returns : goal.returns
 returns c =
@@ -55,4 +55,4 @@ returns c =
     let f = c.ranges in
     all-passed (λ p. stays_with (rules_in a.rulebook) (weight_at a.part.now p) (raised_by a.best a.rest p (weight_at a.part.now p)))
     (length a.part.now)
-    (λ k h. rw (to_z-of_z f.best, to_z-of_z f.rest) at (c.loop-i.invariant.1 k (omega arith)))
+    (λ k h. rw (to_z-of_z f.best, to_z-of_z f.rest) at (c.loop-weight.invariant k (omega arith)))

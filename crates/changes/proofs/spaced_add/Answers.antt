@@ -1,7 +1,6 @@
 use mathlib.Core.Path.{refl, ap, ◌∙◌}
 use Prim.Native.Nat.{◌+◌, ◌*◌}
 use native.Mathlib.Numerals.{add-one}
-use native.Mathlib.Omega.{arith}
 use lib.IntN.{ℤ}
 use lib.ListN.{set}
 use mir.Facts.{to_z-of_z}
@@ -15,14 +14,14 @@ use Rattle.changes.proofs.spaced_add.Goals as goal
 
 pub loop-j-init : goal.loop-j-init
 unfolding spaced_add
-loop-j-init c = (omega arith, refl)
+loop-j-init c = refl
 
-pub weight_with-weight-requires : goal.weight_with-weight-requires
-weight_with-weight-requires c =
+pub weight_with-requires : goal.weight_with-requires
+weight_with-requires c =
     let a = c.args in
     let p = a.start + c.loop-j.j * a.step in
     -- the weight there is as it was
-    let held = read_back w64 (weight_at c.loop-j.table p) (search rules) ∙ ap (λ t. weight_at t p) c.loop-j.invariant.1
+    let held = read_back w64 (weight_at c.loop-j.table p) (search rules) ∙ ap (λ t. weight_at t p) c.loop-j.invariant
     ∙ spaced-next a.table.now a.start a.step (to_z w64 (of_z w64 a.by)) c.requires.sums_fit.1 c.loop-j.j in
     rw (to_z-of_z c.ranges.by, held) (c.requires.sums_fit.0 c.loop-j.j c.loop-j-test.true)
 
@@ -31,9 +30,7 @@ unfolding spaced_add
 loop-j-preserved c =
     let a = c.args in
     let p = a.start + c.loop-j.j * a.step in
-    let r = c.weight_with-weight in
+    let r = c.weight_with in
     let e = read_back w64 r.result r.type_inv ∙ r.ensures
-    ∙ ap (λ (z : ℤ). weight_with z (to_z w64 (of_z w64 a.by))) (read_back w64 (weight_at c.loop-j.table p) (search rules)) in (
-      omega arith,
-      rw (e, add-one) (ap (λ t. set t p (weight_with (weight_at t p) (to_z w64 (of_z w64 a.by)))) c.loop-j.invariant.1),
-    )
+    ∙ ap (λ (z : ℤ). weight_with z (to_z w64 (of_z w64 a.by))) (read_back w64 (weight_at c.loop-j.table p) (search rules)) in
+    rw (e, add-one) (ap (λ t. set t p (weight_with (weight_at t p) (to_z w64 (of_z w64 a.by)))) c.loop-j.invariant)

@@ -20,7 +20,7 @@ use Rattle.changes.proofs.values_with.Goals as goal
 pub loop-j-init : goal.loop-j-init
 loop-j-init c =
     let a = c.args in
-    (omega arith, omega arith, best-values-none (λ v. eq_z (get_or a.table.now (a.from + v) (pos 0)) (to_z w64 (of_z w64 a.weight))) a.count)
+    (omega arith, best-values-none (λ v. eq_z (get_or a.table.now (a.from + v) (pos 0)) (to_z w64 (of_z w64 a.weight))) a.count)
 
 pub loop-j-preserved : goal.loop-j-preserved
 loop-j-preserved c =
@@ -28,10 +28,9 @@ loop-j-preserved c =
     let a = c.args in
     let f : ℕ → Bool = λ v. eq_z (get_or a.table.now (a.from + v) (pos 0)) (to_z w64 (of_z w64 a.weight)) in
     let read = read_back w64 (get_or a.table.now (a.from + (l.j - 1)) (pos 0)) (search rules) in (
-      omega arith,
       subst (λ (x : ℕ). x < 256) (sym c.push-set.ensures) (byte_small _),
       best-values-next f a.count l.j (l.j - 1) l.set c.push-set.result c.same_weight.result (omega (arith, c.loop-j-test.true))
-          (omega (arith, c.loop-j-test.true)) l.invariant.2
+          (omega (arith, c.loop-j-test.true)) l.invariant.1
           (c.same_weight.ensures ∙ ap (λ (z : ℤ). eq_z z (to_z w64 (of_z w64 a.weight))) read) c.push-set.ensures,
     )
 
@@ -41,6 +40,6 @@ returns c =
     let l = c.loop-j in
     let z : l.j ≡ 0 = omega (arith, c.loop-j-test.false) in
     let f : ℕ → Bool = λ v. eq_z (get_or a.table.now (a.from + v) (pos 0)) (to_z w64 (of_z w64 a.weight)) in
-    best-values-all f a.count l.set l.invariant.1 (subst (λ (j : ℕ). (v : ℕ) → v < 8 → mark l.set v ≡ (ltb (j + v) a.count && f (j + v))) z
-    l.invariant.2)
+    best-values-all f a.count l.set l.invariant.0 (subst (λ (j : ℕ). (v : ℕ) → v < 8 → mark l.set v ≡ (ltb (j + v) a.count && f (j + v))) z
+    l.invariant.1)
     ∙ ap (values_with a.table.now a.from a.count) (to_z-of_z c.ranges.weight)

@@ -20,7 +20,7 @@ next : (c : After-used_weight-sum) → let a = c.args in
     ≡ Σ (λ y. at_used a.case a.assignment.now y (weight a.case a.table.now y)) 0 (c.loop-x.x + 1) +ℤ pos 0
 next c =
     let a = c.args in
-    sum_more (λ y. at_used a.case a.assignment.now y (weight a.case a.table.now y)) (pos 0) c.loop-x.x c.loop-x.invariant.1
+    sum_more (λ y. at_used a.case a.assignment.now y (weight a.case a.table.now y)) (pos 0) c.loop-x.x c.loop-x.invariant
     (read_back w64 c.used_weight-sum.result c.used_weight-sum.type_inv ∙ c.used_weight-sum.ensures)
 
 pub overflow_add-sum : goal.overflow_add-sum
@@ -30,4 +30,4 @@ overflow_add-sum c = let a = c.args in
     (λ y l. used-working c.requires.handed a.assignment.now c.requires.t y (omega arith)) (pos 0) (simp flat (omega zs)))
 
 pub loop-x-preserved : goal.loop-x-preserved
-loop-x-preserved c = (omega arith, to_z-of_z (overflow_add-sum c) ∙ next c)
+loop-x-preserved c = to_z-of_z (overflow_add-sum c) ∙ next c

@@ -11,7 +11,7 @@ use Rattle.gaps.proofs.Lesser.{working-small, scopes-none, scopes-next, scopes-b
 use Rattle.gaps.proofs.gap_of_scopes.Goals as goal
 
 pub loop-x-init : goal.loop-x-init
-loop-x-init c = let a = c.args in (omega arith, scopes-none a.case a.table.now a.best.now a.raised.now a.variable)
+loop-x-init c = let a = c.args in scopes-none a.case a.table.now a.best.now a.raised.now a.variable
 
 pub limited_gap-least-requires : goal.limited_gap-least-requires
 limited_gap-least-requires c =
@@ -22,7 +22,7 @@ limited_gap-least-requires c =
       limited = (c.requires.limited.0, c.requires.limited.1, h);
       t = (
         rw (read_back w64 b (search rules)) (working-small (coherent a.case.rulebook) b (c.requires.all_working l.x h)),
-        rw l.invariant.1 (scopes-bounded a.case a.table.now a.best.now a.raised.now a.variable l.x),
+        rw l.invariant (scopes-bounded a.case a.table.now a.best.now a.raised.now a.variable l.x),
       );
     }
 
@@ -30,8 +30,6 @@ pub loop-x-preserved : goal.loop-x-preserved
 loop-x-preserved c =
     let l = c.loop-x in
     let a = c.args in
-    let r = c.limited_gap-least in (
-      omega arith,
-      scopes-next a.case a.table.now a.best.now a.raised.now a.variable l.x l.invariant.1
-          (read_back w64 r.result r.type_inv ∙ rw (read_back w64 (best_at a.best.now l.x) (search rules)) at r.ensures),
-    )
+    let r = c.limited_gap-least in
+    scopes-next a.case a.table.now a.best.now a.raised.now a.variable l.x l.invariant
+    (read_back w64 r.result r.type_inv ∙ rw (read_back w64 (best_at a.best.now l.x) (search rules)) at r.ensures)

@@ -14,4 +14,4 @@ returns-then-scopes-j c = let l = c.args.scopes.now in
 
 pub returns : goal.returns
 returns c = let l = c.args.scopes.now in
-    sym (is_true (is_rising l) ((rising-iff l).1 (λ k h. c.loop-j.invariant.1 k (omega arith))))
+    sym (is_true (is_rising l) ((rising-iff l).1 (λ k h. c.loop-j.invariant k (omega arith))))

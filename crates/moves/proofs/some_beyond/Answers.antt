@@ -1,9 +1,10 @@
+use Rattle.std.proofs.Common.{rules}
+use borrow.Author.Tests.{tests}
 use mathlib.Core.Bool.{not}
-use native.Mathlib.Omega.{arith}
 use lib.Dec.{ltb}
-use Rattle.tables.proofs.Search.{found_nowhere}
+use Rattle.tables.proofs.Chains.{any_over}
 use Rattle.moves.proofs.some_beyond.Goals as goal
 
 pub returns : goal.returns
 returns c = let a = c.args in
-    found_nowhere (λ y. not (ltb y a.count)) a.scopes.now 0 (λ k h. c.loop-j.invariant.1 k (omega arith))
+    any_over (λ y. not (ltb y a.count)) a.scopes.now _ _ _ c.any.ensures.ran (cc) (λ x b q k. search (rules, tests))

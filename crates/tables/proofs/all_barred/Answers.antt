@@ -1,8 +1,9 @@
-use native.Mathlib.Omega.{arith}
-use lib.IntN.{pos}
+use Rattle.std.proofs.Common.{rules}
+use borrow.Author.Tests.{tests}
 use Rattle.definitions.specs.Case.{is_barred}
-use Rattle.tables.proofs.Search.{search-passes}
+use Rattle.tables.proofs.Chains.{all_over}
 use Rattle.tables.proofs.all_barred.Goals as goal
 
 pub returns : goal.returns
-returns c = search-passes is_barred c.args.weights.now (pos 0) (λ k h. c.loop-i.invariant.1 k (omega arith))
+returns c = let a = c.args in
+    all_over is_barred a.weights.now _ _ _ c.all.ensures.ran (cc) (λ x b q k. search (rules, tests))

@@ -1,11 +1,8 @@
-use Prim.Native.Nat.{◌≤◌, ◌-◌}
 use mathlib.Core.Path.{◌≡◌}
-use lib.ListN.{length, take}
+use mathlib.Core.List.{◌∷◌}
+use lib.ListN.{take}
 use Rattle.integers.specs.Words.{greatest_of}
 use Rattle.tables.proofs.greatest.Given as goal
 
-abbrev pub invariant-loop-i : goal.invariant-loop-i
-invariant-loop-i l = (1 ≤ l.i) × (l.i ≤ length l.weights) × (l.best ≡ greatest_of (take l.i l.weights))
-
-abbrev pub decreases-loop-i : goal.decreases-loop-i
-decreases-loop-i l = length l.weights - l.i
+abbrev pub invariant-loop-weight : goal.invariant-loop-weight
+invariant-loop-weight l = l.best ≡ greatest_of (l.initial.best ∷ take l.weight-index l.rest)

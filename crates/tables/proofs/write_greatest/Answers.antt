@@ -6,5 +6,5 @@ use Rattle.tables.proofs.write_greatest.Goals as goal
 
 pub returns : goal.returns
 returns c = let a = c.args in
-    over-is (greatest a.case a.table.now) (a.case.n + a.case.m) a.best.now (omega arith) c.loop-x.best c.loop-x.invariant.1
-    (λ y h. c.loop-x.invariant.2 y (omega arith)) (λ y h. c.loop-x.invariant.3 y (omega arith))
+    over-is (greatest a.case a.table.now) (a.case.n + a.case.m) a.best.now (omega arith) c.loop-x.best c.loop-x.invariant.0
+    (λ y h. c.loop-x.invariant.1 y (omega arith)) (λ y h. c.loop-x.invariant.2 y (omega arith))

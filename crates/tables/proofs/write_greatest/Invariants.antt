@@ -1,5 +1,5 @@
 use mathlib.Core.Path.{◌≡◌}
-use Prim.Native.Nat.{ℕ, ◌-◌, ◌≤◌, ◌<◌}
+use Prim.Native.Nat.{ℕ, ◌≤◌, ◌<◌}
 use lib.ListN.{length}
 use Rattle.definitions.specs.Case.{greatest}
 use Rattle.tables.specs.Scopes.{best_at}
@@ -7,7 +7,6 @@ use Rattle.tables.proofs.write_greatest.Given as goal
 
 abbrev pub invariant-loop-x : goal.invariant-loop-x
 invariant-loop-x l =
-    (l.x ≤ l.scopes) × (length l.best ≡ length l.initial.best) × ((y : ℕ) → y < l.x → best_at l.best y ≡ greatest l.case l.table y) × ((y : ℕ) → l.x ≤ y → best_at l.best y ≡ best_at l.initial.best y)
-
-abbrev pub decreases-loop-x : goal.decreases-loop-x
-decreases-loop-x l = l.scopes - l.x
+    (length l.best ≡ length l.initial.best)
+    × ((y : ℕ) → y < l.x → best_at l.best y ≡ greatest l.case l.table y)
+    × ((y : ℕ) → l.x ≤ y → best_at l.best y ≡ best_at l.initial.best y)

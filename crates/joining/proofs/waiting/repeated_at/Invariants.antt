@@ -1,12 +1,8 @@
-use Prim.Native.Nat.{◌≤◌, ◌-◌}
 use mathlib.Core.Path.{◌≡◌}
 use lib.Dec.{eqb}
 use lib.ListN.{get_or}
 use Rattle.integers.specs.Words.{any, below}
 use Rattle.joining.proofs.waiting.repeated_at.Given as goal
 
-abbrev pub invariant-loop-f : goal.invariant-loop-f
-invariant-loop-f l = (l.f ≤ l.e) × (l.found ≡ any (λ g. eqb (get_or l.lower l.e 0) (get_or l.lower g 0)) (below l.f))
-
-abbrev pub decreases-loop-f : goal.decreases-loop-f
-decreases-loop-f l = l.e - l.f
+abbrev pub invariant-loop-before : goal.invariant-loop-before
+invariant-loop-before l = l.found ≡ any (λ g. eqb (get_or l.lower l.e 0) (get_or l.lower g 0)) (below l.before-index)

@@ -1,13 +1,9 @@
-use mathlib.Core.Path.{sym, ◌∙◌}
-use native.Mathlib.Omega.{arith}
-use Rattle.tables.proofs.Search.{found, not_found}
+use Rattle.std.proofs.Common.{rules}
+use borrow.Author.Tests.{tests}
 use Rattle.joining.specs.Steps.{repeated_at}
+use Rattle.tables.proofs.Chains.{any_below}
 use Rattle.joining.proofs.waiting.some_repeated.Goals as goal
-
-pub returns-then-repeated_at : goal.returns-then-repeated_at
-returns-then-repeated_at c = let a = c.args in
-    found (repeated_at a.lower.now) a.count c.loop-e.e (omega arith) (sym c.repeated_at.ensures ∙ c.if-repeated_at.true)
 
 pub returns : goal.returns
 returns c = let a = c.args in
-    not_found (repeated_at a.lower.now) a.count (λ k h. c.loop-e.invariant.1 k (omega arith))
+    any_below (repeated_at a.lower.now) a.count _ _ _ c.any.ensures.ran (cc) (λ x b q k. search (rules, tests))

@@ -1,8 +1,9 @@
-use native.Mathlib.Omega.{arith}
-use lib.IntN.{pos}
+use Rattle.std.proofs.Common.{rules}
+use borrow.Author.Tests.{tests}
 use Rattle.definitions.specs.Case.{is_barred}
-use Rattle.tables.proofs.Search.{found_nowhere}
+use Rattle.tables.proofs.Chains.{any_over}
 use Rattle.leaving.proofs.carry.any_barred.Goals as goal
 
 pub returns : goal.returns
-returns c = found_nowhere is_barred c.args.weights.now (pos 0) (λ k h. c.loop-i.invariant.1 k (omega arith))
+returns c = let a = c.args in
+    any_over is_barred a.weights.now _ _ _ c.any.ensures.ran (cc) (λ x b q k. search (rules, tests))

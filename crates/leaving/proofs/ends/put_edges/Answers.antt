@@ -21,13 +21,12 @@ loop-e-preserved c = let a = c.args in
     let l = c.loop-e in
     let p = c.requires.limited.edges_placed in
     let few : length (staying_to a.case a.variable l.e) < edge_places = omega (arith, few-stay a.case a.variable l.e) in (
-      omega arith,
-      c.put_edge-q.ensures.0 ∙ ap (λ (q : ℕ). if has_end a.case a.variable l.e then q else q + 1) l.invariant.1
+      c.put_edge-q.ensures.0 ∙ ap (λ (q : ℕ). if has_end a.case a.variable l.e then q else q + 1) l.invariant.0
           ∙ count_next a.case a.variable l.e,
       c.put_edge-q.ensures.1 ∙ ap₂ (λ (t : List ℕ) (q : ℕ).
-          if has_end a.case a.variable l.e then t else set t q (moved_down a.variable (lower_end a.case l.e))) l.invariant.2 l.invariant.1
+          if has_end a.case a.variable l.e then t else set t q (moved_down a.variable (lower_end a.case l.e))) l.invariant.1 l.invariant.0
           ∙ ends_next a.case a.variable l.e (lower_end a.case) few,
       c.put_edge-q.ensures.2 ∙ ap₂ (λ (t : List ℕ) (q : ℕ).
-          if has_end a.case a.variable l.e then t else set t q (moved_down a.variable (upper_end a.case l.e))) l.invariant.3 l.invariant.1
+          if has_end a.case a.variable l.e then t else set t q (moved_down a.variable (upper_end a.case l.e))) l.invariant.2 l.invariant.0
           ∙ ends_next a.case a.variable l.e (upper_end a.case) few,
     )
