@@ -69,10 +69,8 @@ fn supported(rows: &[u8], at: usize, set: u8, other: u8) -> u8
     ensures { result ≡ supported_values rows.now at set other }
 {
     let mut kept = set;
-    let mut k: usize = 0;
-    while k < 8 {
+    for k in 0..8 {
         kept = kept_with(kept, k as u8, lowest_partner(rows[at + k], other));
-        k += 1;
     }
     kept
 }
@@ -176,14 +174,12 @@ fn sweep(lower: &[u8], upper: &[u8], rows: &[u8], raised: &[u8], sets: &mut [u8]
         (λ f up. f < length raised.now) sets.old sets.new result }
 {
     let mut change = Change::Still;
-    let mut e: usize = 0;
-    while e < raised.len() {
+    for e in 0..raised.len() {
         let next = revise_edge(lower, upper, rows, raised, e, sets);
         if let Change::Emptied = next {
             return Change::Emptied;
         }
         change = both(change, next);
-        e += 1;
     }
     change
 }
@@ -209,14 +205,7 @@ fn settle(lower: &[u8], upper: &[u8], rows: &[u8], raised: &[u8], sets: &mut [u8
 fn has_empty(sets: &[u8]) -> bool
     ensures { result ≡ any (λ s. eqb s 0) sets.now }
 {
-    let mut j: usize = 0;
-    while j < sets.len() {
-        if sets[j] == 0 {
-            return true;
-        }
-        j += 1;
-    }
-    false
+    sets.contains(&0)
 }
 
 fn narrow(lower: &[u8], upper: &[u8], rows: &[u8], raised: &[u8], sets: &mut [u8]) -> bool
@@ -229,16 +218,6 @@ fn narrow(lower: &[u8], upper: &[u8], rows: &[u8], raised: &[u8], sets: &mut [u8
         return false;
     }
     settle(lower, upper, rows, raised, sets)
-}
-
-fn clear_sets(sets: &mut [u8])
-    ensures { sets.new ≡ replicate (length sets.old) 0 }
-{
-    let mut j: usize = 0;
-    while j < sets.len() {
-        sets[j] = 0;
-        j += 1;
-    }
 }
 
 fn end_outside(i: u8, j: u8, n: usize) -> bool
@@ -254,12 +233,10 @@ fn some_end_outside(lower: &[u8], upper: &[u8], edges: usize, n: usize) -> bool
     requires { (edges ≤ length lower.now) × (edges ≤ length upper.now) }
     ensures { result ≡ any (end_missing n lower.now upper.now) (below edges) }
 {
-    let mut e: usize = 0;
-    while e < edges {
+    for e in 0..edges {
         if end_outside(lower[e], upper[e], n) {
             return true;
         }
-        e += 1;
     }
     false
 }
@@ -282,17 +259,6 @@ fn is_malformed(lower: &[u8], upper: &[u8], rows: &[u8], raised: &[u8], n: usize
 
 // ---- values tried one by one
 
-fn copy_sets(sets: &[u8], work: &mut [u8])
-    requires { length work.old ≡ length sets.now }
-    ensures { work.new ≡ sets.now }
-{
-    let mut j: usize = 0;
-    while j < sets.len() {
-        work[j] = sets[j];
-        j += 1;
-    }
-}
-
 // Whether value k of `variable`, fixed alone, leaves a family. The sets are narrowed in `work`.
 fn has_family(
     lower: &[u8],
@@ -310,7 +276,7 @@ fn has_family(
     ensures { result ≡ has_family (network_of_bytes (length sets.now) lower.now upper.now rows.now
         raised.now) sets.now variable k }
 {
-    copy_sets(sets, work);
+    work.copy_from_slice(sets);
     work[variable] = marks::only(k);
     settle(lower, upper, rows, raised, work)
 }
@@ -366,7 +332,7 @@ fn none_has(
     if marks::is_single(left) {
         return none_alone(lower, upper, rows, raised, sets, variable, values, work);
     }
-    copy_sets(sets, near);
+    near.copy_from_slice(sets);
     near[variable] = left;
     if settle(lower, upper, rows, raised, near) {
         return none_alone(lower, upper, rows, raised, near, variable, values, work);
@@ -400,9 +366,7 @@ fn best_values(table: &[i64], from: usize, d: usize, best: i64) -> u8
     ensures { result ≡ best_marks table.now from d best }
 {
     let mut set: u8 = 0;
-    let mut j = d;
-    while j > 0 {
-        j -= 1;
+    for j in (0..d).rev() {
         let weight = table[from + j];
         set = marks::push(set, same(weight, best));
     }
@@ -439,12 +403,10 @@ fn edge_bytes(table: &[i64], first: usize, d: usize, best: i64) -> [u8; 16]
     ensures { Crossed (λ k. best_marks table.now (first + k * d) d best) d result }
 {
     let mut bytes = [0u8; 16];
-    let mut k: usize = 0;
-    while k < d {
+    for k in 0..d {
         let row = best_values(table, first + k * d, d, best);
         bytes[k] = row;
         add_below(&mut bytes, row, k as u8);
-        k += 1;
     }
     bytes
 }
@@ -453,11 +415,7 @@ fn put_bytes(bytes: &[u8; 16], rows: &mut [u8], at: usize)
     requires { at + 16 ≤ length rows.old }
     ensures { Written (λ p. get_or bytes.now p 0) at 16 rows.old rows.new }
 {
-    let mut p: usize = 0;
-    while p < 16 {
-        rows[at + p] = bytes[p];
-        p += 1;
-    }
+    rows[at..at + 16].copy_from_slice(bytes);
 }
 
 fn write_sets(case: Case, table: &[i64], best: &[i64], sets: &mut [u8])
@@ -466,10 +424,8 @@ fn write_sets(case: Case, table: &[i64], best: &[i64], sets: &mut [u8])
     ensures { sets.new ≡ overwritten (marked_sets case table.now best.now) sets.old }
 {
     let n = case.n;
-    let mut j: usize = 0;
-    while j < n {
+    for j in 0..n {
         sets[j] = set_with(case, table, j, best[j]);
-        j += 1;
     }
 }
 
@@ -491,10 +447,8 @@ fn write_rows(case: Case, table: &[i64], best: &[i64], rows: &mut [u8])
 {
     let n = case.n;
     let m = case.m;
-    let mut e: usize = 0;
-    while e < m {
+    for e in 0..m {
         write_edge(case, table, e, best[n + e], rows);
-        e += 1;
     }
 }
 
@@ -536,10 +490,8 @@ fn prepare_sets(case: Case, table: &[i64], best: &[i64], raised: &[u8], sets: &m
         sets.new }
 {
     let n = case.n;
-    let mut j: usize = 0;
-    while j < n {
+    for j in 0..n {
         sets[j] = allowed_set(case, table, best, raised, j);
-        j += 1;
     }
 }
 
@@ -565,10 +517,8 @@ fn prepare_rows(case: Case, table: &[i64], best: &[i64], raised: &[u8], rows: &m
         rows.old rows.new }
 {
     let m = case.m;
-    let mut e: usize = 0;
-    while e < m {
+    for e in 0..m {
         prepare_edge(case, table, best, raised, e, rows);
-        e += 1;
     }
 }
 
@@ -749,7 +699,7 @@ pub fn closure(lower: &[u8], upper: &[u8], rows: &[u8], raised: &[u8], sets: &mu
     if narrow(lower, upper, rows, raised, sets) {
         return Closed::Family;
     }
-    clear_sets(sets);
+    sets.fill(0);
     Closed::Empty
 }
 
