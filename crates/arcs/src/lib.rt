@@ -223,10 +223,7 @@ fn narrow(lower: &[u8], upper: &[u8], rows: &[u8], raised: &[u8], sets: &mut [u8
 fn end_outside(i: u8, j: u8, n: usize) -> bool
     ensures { result ≡ not (ltb i n && ltb j n) }
 {
-    if (i as usize) < n {
-        return !((j as usize) < n);
-    }
-    true
+    n <= usize::from(i) || n <= usize::from(j)
 }
 
 fn some_end_outside(lower: &[u8], upper: &[u8], edges: usize, n: usize) -> bool
@@ -298,6 +295,7 @@ fn none_alone(
         raised.now) sets.now variable) values }
 {
     let mut untried = marks::common(values, sets[variable]);
+    // Not a for: it runs over the values that a byte of marks holds.
     while untried != 0 {
         let k = marks::lowest(untried);
         if has_family(lower, upper, rows, raised, sets, variable, k, work) {
@@ -351,15 +349,6 @@ fn tried_of(unsupported: bool) -> Tried
 
 // ---- what is prepared once for a table
 
-fn same(a: i64, b: i64) -> bool
-    ensures { result ≡ eq_z a b }
-{
-    if a == b {
-        return true;
-    }
-    false
-}
-
 // The values below d whose weight is `best`. The weight of value j stands at table[from + j].
 fn best_values(table: &[i64], from: usize, d: usize, best: i64) -> u8
     requires { (d ≤ 8) × (from + d ≤ length table.now) }
@@ -367,8 +356,7 @@ fn best_values(table: &[i64], from: usize, d: usize, best: i64) -> u8
 {
     let mut set: u8 = 0;
     for j in (0..d).rev() {
-        let weight = table[from + j];
-        set = marks::push(set, same(weight, best));
+        set = marks::push(set, table[from + j] == best);
     }
     set
 }
@@ -389,6 +377,7 @@ fn add_below(bytes: &mut [u8; 16], row: u8, k: u8)
     ensures { AddedBelow row k bytes.old bytes.new }
 {
     let mut left = row;
+    // Not a for: it runs over the values that a byte of marks holds.
     while left != 0 {
         let l = marks::lowest(left);
         let at = 8 + l as usize;
@@ -455,19 +444,13 @@ fn write_rows(case: Case, table: &[i64], best: &[i64], rows: &mut [u8])
 fn too_few(case: Case, length: usize) -> bool
     ensures { result ≡ ltb length (scope_count case) }
 {
-    if length < case.n {
-        return true;
-    }
-    length - case.n < case.m
+    length < case.n || length - case.n < case.m
 }
 
 fn bytes_too_few(case: Case, sets: usize, rows: usize) -> bool
     ensures { result ≡ (ltb sets case.n || ltb rows (16 * case.m)) }
 {
-    if sets < case.n {
-        return true;
-    }
-    rows / 16 < case.m
+    sets < case.n || rows / 16 < case.m
 }
 
 // ---- values without a family, a number given for each scope
@@ -589,24 +572,12 @@ fn edge_outside(case: Case) -> bool
     some_end_outside(&lower, &upper, case.m, case.n)
 }
 
-fn either(a: bool, b: bool) -> bool
-    ensures { result ≡ (a || b) }
-{
-    if a {
-        return true;
-    }
-    b
-}
-
 // Number 5 of the variable and the edges' ends.
 fn argument_outside(case: Case, variable: usize) -> bool
     requires { Limited case }
     ensures { result ≡ (not (ltb variable case.n) || some_edge case (end_outside case)) }
 {
-    if case.n <= variable {
-        return true;
-    }
-    edge_outside(case)
+    case.n <= variable || edge_outside(case)
 }
 
 // Numbers 3, 4, and 5 of the variable and the edges' ends. The weights and `best` are not looked at.
@@ -619,7 +590,7 @@ fn check_arguments(
 ) -> Outcome
     ensures { result ≡ outcome_of (best_refusal (rules_of case) case table.now best.now raised.now variable) }
 {
-    let wrong = either(too_few(case, best.len()), too_few(case, raised.len()));
+    let wrong = too_few(case, best.len()) || too_few(case, raised.len());
     let checked = check_lengths(case, table, wrong);
     match checked {
         Outcome::Refused(refusal) => Outcome::Refused(refusal),
@@ -661,6 +632,7 @@ pub fn lowest_partners(rows: &[u8], set: u8, other: u8, partners: &mut [u8])
     ensures { partners.new ≡ lowest_partners rows.now set other partners.old }
 {
     let mut left = set;
+    // Not a for: both loops run over the values that a byte of marks holds.
     'values: while left != 0 {
         let k = marks::lowest(left);
         let at = k as usize;
@@ -757,10 +729,7 @@ pub fn active_marks(
     ensures { MarksAre (marks_call (rules_of case) case table.now best.now sets.old rows.old) result
         sets.new rows.new }
 {
-    let wrong = either(
-        too_few(case, best.len()),
-        bytes_too_few(case, sets.len(), rows.len()),
-    );
+    let wrong = too_few(case, best.len()) || bytes_too_few(case, sets.len(), rows.len());
     let checked = check_lengths(case, table, wrong);
     match checked {
         Outcome::Refused(refusal) => Outcome::Refused(refusal),

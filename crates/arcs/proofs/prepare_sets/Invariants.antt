@@ -1,4 +1,3 @@
-use Prim.Native.Nat.{◌-◌, ◌≤◌}
 use Rattle.arcs.specs.Active.{Written}
 use Rattle.arcs.specs.Best.{allowed_best}
 use Rattle.arcs.proofs.prepare_sets.Given as goal

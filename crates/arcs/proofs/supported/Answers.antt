@@ -16,9 +16,9 @@ loop-k-preserved c =
     let l = c.loop-k in
     let row = get_or a.rows.now (a.at + l.k) 0 in
     c.kept_with-kept.ensures
-          ∙ kept-one-more (λ v. has_partner (get_or a.rows.now (a.at + v) 0) a.other) a.set l.k l.kept l.invariant
-          (is_nothing c.lowest_partner.result)
-          (ap is_nothing c.lowest_partner.ensures ∙ nothing-found row a.other)
+    ∙ kept-one-more (λ v. has_partner (get_or a.rows.now (a.at + v) 0) a.other) a.set l.k l.kept l.invariant
+    (is_nothing c.lowest_partner.result)
+    (ap is_nothing c.lowest_partner.ensures ∙ nothing-found row a.other)
 
 pub returns : goal.returns
 unfolding supported_values

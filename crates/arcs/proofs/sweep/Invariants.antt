@@ -1,4 +1,4 @@
-use Prim.Native.Nat.{◌-◌, ◌≤◌, ◌<◌}
+use Prim.Native.Nat.{◌<◌}
 use lib.ListN.{length}
 use Rattle.arcs.specs.Closure.{network_of_bytes}
 use Rattle.arcs.specs.Sweeps.{Swept}

@@ -15,11 +15,11 @@ loop-e-preserved c =
     let a = c.args in
     let l = c.loop-e in
     edge-written (row_where a.case (has_best a.case a.table.now a.best.now)) _ _ (omega arith) _ _ _ l.invariant
-          (written_as _ _ _ _ _ _
-          (λ p h.
-          ap (λ (b : ℤ). row_where a.case (has_weight a.case a.table.now b) l.e p)
-          (read_back w64 (get_or a.best.now (a.case.n + l.e) (pos 0)) (search rules)))
-          c.write_edge.ensures)
+    (written_as _ _ _ _ _ _
+    (λ p h.
+    ap (λ (b : ℤ). row_where a.case (has_weight a.case a.table.now b) l.e p)
+    (read_back w64 (get_or a.best.now (a.case.n + l.e) (pos 0)) (search rules)))
+    c.write_edge.ensures)
 
 pub returns : goal.returns
 returns c =

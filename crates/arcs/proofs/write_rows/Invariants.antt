@@ -1,4 +1,4 @@
-use Prim.Native.Nat.{◌*◌, ◌-◌, ◌≤◌}
+use Prim.Native.Nat.{◌*◌}
 use lib.ListN.{get_or}
 use Rattle.arcs.specs.Active.{row_where, has_best, Written}
 use Rattle.arcs.proofs.Marked.{rows_of}

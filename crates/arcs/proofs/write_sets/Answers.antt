@@ -19,9 +19,9 @@ loop-j-preserved c =
     let a = c.args in
     let l = c.loop-j in
     written_next _ _ _ _ _ l.invariant (bounds-sets-j c)
-          (c.set_with.ensures
-          ∙ ap (λ (b : ℤ). set_where a.case (has_weight a.case a.table.now b) l.j)
-          (read_back w64 (get_or a.best.now l.j (pos 0)) (search rules)))
+    (c.set_with.ensures
+    ∙ ap (λ (b : ℤ). set_where a.case (has_weight a.case a.table.now b) l.j)
+    (read_back w64 (get_or a.best.now l.j (pos 0)) (search rules)))
 
 pub returns : goal.returns
 returns c =

@@ -1,4 +1,3 @@
-use Prim.Native.Nat.{◌-◌, ◌≤◌}
 use Rattle.arcs.specs.Active.{set_where, has_best, Written}
 use Rattle.arcs.proofs.write_sets.Given as goal
 
