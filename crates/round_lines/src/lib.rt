@@ -49,15 +49,7 @@ fn count_raised(raised: &[u8], scopes: usize) -> usize
     requires { scopes ≤ length raised.now }
     ensures { result ≡ length (raised_below raised.now scopes) }
 {
-    let mut count: usize = 0;
-    let mut x: usize = 0;
-    while x < scopes {
-        if raised[x] != 0 {
-            count += 1;
-        }
-        x += 1;
-    }
-    count
+    raised[..scopes].iter().filter(|&&mark| mark != 0).count()
 }
 
 fn raise_line(x: usize) -> Line
@@ -128,10 +120,8 @@ fn put_raises(out: &mut [u8], from: usize, raised: &[u8], scopes: usize, width: 
     ensures put { Put from (raise_texts width (raised_below raised.now scopes)) result out.old out.new }
 {
     let mut at = from;
-    let mut x: usize = 0;
-    while x < scopes {
+    for x in 0..scopes {
         at = put_raise(out, at, raised, x, width);
-        x += 1;
     }
     at
 }
