@@ -1,5 +1,4 @@
 use mathlib.Core.Path.{◌≡◌}
-use Prim.Native.Nat.{◌-◌, ◌≤◌}
 use lib.ListN.{length}
 use Rattle.pair_rounds.specs.Shifts.{Shifted}
 use Rattle.pair_rounds.proofs.Moves.{shifts_below}
