@@ -360,8 +360,7 @@ fn run_checked(
     requires case_in_bounds { round_bytes (rules_of case) case ≤ length out.old }
     ensures { RunIs pairs case limit table.old out.old table.new out.new result }
 {
-    let mut done: u64 = 0;
-    while done < limit {
+    for done in 0..limit {
         let made = round_checked(case, table, out, best, pairs);
         match made {
             Round::Settled => return stop_run(case, table, best, RunAnswer::Settled, done),
@@ -373,10 +372,9 @@ fn run_checked(
             }
             Round::Made { bytes: _, bound: _ } => {}
         }
-        done += 1;
     }
     let answer = at_limit(case, table, out, best, pairs);
-    stop_run(case, table, best, answer, done)
+    stop_run(case, table, best, answer, limit)
 }
 
 fn run_from(case: Case, table: &mut [i64], out: &mut [u8], limit: u64, pairs: bool) -> Run
