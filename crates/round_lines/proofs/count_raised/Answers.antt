@@ -1,4 +1,4 @@
-use mathlib.Core.Path.{◌≡◌, refl, ap, subst, ◌∙◌}
+use mathlib.Core.Path.{◌≡◌, refl, sym, ap, subst, ◌∙◌}
 use mathlib.Core.Bool.{Bool, true, false, not}
 use mathlib.Core.List.{List}
 use Prim.Native.Nat.{ℕ, zero, suc, ◌+◌, ◌≤◌, ◌<◌}
@@ -6,6 +6,7 @@ use native.Mathlib.Omega.{arith}
 use borrow.Author.Rules.{rules}
 use lib.Dec.{eqb}
 use lib.ListN.{length, take, length-append}
+use lib.Seq.{take_all}
 use Rattle.std.specs.List.{count_by}
 use Rattle.std.proofs.lemmas.List.Sums.{count_by_more_yes, count_by_more_no}
 use Rattle.calls.specs.Calls.{is_raised}
@@ -47,5 +48,5 @@ counted r (suc n) h =
 pub returns : goal.returns
 returns c =
     let r = c.args.raised.now in
-    let told : c.count.result ≡ count_by marked (take c.args.scopes r) = search rules in
-    told ∙ counted r c.args.scopes (omega arith)
+    let told : c.count.result ≡ count_by marked r = search rules in
+    told ∙ ap (count_by marked) (sym (take_all (length r) r (omega arith))) ∙ counted r (length r) (omega arith)

@@ -1,13 +1,14 @@
 use mathlib.Core.Path.{◌∙◌}
 use native.Mathlib.Omega.{arith}
+use lib.ListN.{length}
 use Rattle.round_lines.proofs.Texts.{puts-next, raise-room}
 use Rattle.round_lines.proofs.put_raises.Goals as goal
 
 pub put_raise-at-requires : goal.put_raise-at-requires
 put_raise-at-requires c =
-    let room = raise-room c.args.width c.args.raised.now c.loop-x.x c.args.scopes (omega arith) in record {
-      x_in_bounds = (omega (arith, c.requires), omega (arith, c.requires), c.requires.scopes_in_bounds.2);
-      x_in_bounds_2 = omega (arith, c.requires, c.loop-x.invariant, room);
+    let room = raise-room c.args.width c.args.raised.now c.loop-x.x (length c.args.raised.now) (omega arith) in record {
+      x_in_bounds = (omega arith, omega arith, c.requires.few.1);
+      x_in_bounds_2 = omega (arith, room);
     }
 
 pub loop-x-preserved : goal.loop-x-preserved
