@@ -16,7 +16,9 @@ fn keep_raised(raised: &[u8], enough: &mut [u8], n: usize)
     ensures { (y : ℕ) → y < n → get_or raised.now y 0 ≡ 0 → get_or enough.new y 0 ≡ 0 }
 {
     for j in 0..n {
-        enough[j] = if raised[j] == 0 { 0 } else { enough[j] };
+        // The byte is read either way, so that the loop has no branch.
+        let byte = enough[j];
+        enough[j] = if raised[j] == 0 { 0 } else { byte };
     }
 }
 
