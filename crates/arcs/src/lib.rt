@@ -63,10 +63,8 @@ fn supported(rows: &[u8], at: usize, set: u8, other: u8) -> u8
     ensures { result ≡ supported_values rows.now at set other }
 {
     let mut kept = set;
-    let mut k: usize = 0;
-    while k < 8 {
+    for k in 0..8 {
         kept = kept_with(kept, k as u8, lowest_partner(rows[at + k], other));
-        k += 1;
     }
     kept
 }
@@ -170,14 +168,12 @@ fn sweep(lower: &[u8], upper: &[u8], rows: &[u8], raised: &[u8], sets: &mut [u8]
         (λ f up. f < length raised.now) sets.old sets.new result }
 {
     let mut change = Change::Still;
-    let mut e: usize = 0;
-    while e < raised.len() {
+    for e in 0..raised.len() {
         let next = revise_edge(lower, upper, rows, raised, e, sets);
         if let Change::Emptied = next {
             return Change::Emptied;
         }
         change = both(change, next);
-        e += 1;
     }
     change
 }
@@ -203,14 +199,7 @@ fn settle(lower: &[u8], upper: &[u8], rows: &[u8], raised: &[u8], sets: &mut [u8
 fn has_empty(sets: &[u8]) -> bool
     ensures { result ≡ any (λ s. eqb s 0) sets.now }
 {
-    let mut j: usize = 0;
-    while j < sets.len() {
-        if sets[j] == 0 {
-            return true;
-        }
-        j += 1;
-    }
-    false
+    sets.contains(&0)
 }
 
 fn narrow(lower: &[u8], upper: &[u8], rows: &[u8], raised: &[u8], sets: &mut [u8]) -> bool
@@ -225,35 +214,20 @@ fn narrow(lower: &[u8], upper: &[u8], rows: &[u8], raised: &[u8], sets: &mut [u8
     settle(lower, upper, rows, raised, sets)
 }
 
-fn clear_sets(sets: &mut [u8])
-    ensures { sets.new ≡ replicate (length sets.old) 0 }
-{
-    let mut j: usize = 0;
-    while j < sets.len() {
-        sets[j] = 0;
-        j += 1;
-    }
-}
-
 fn end_outside(i: u8, j: u8, n: usize) -> bool
     ensures { result ≡ not (ltb i n && ltb j n) }
 {
-    if (i as usize) < n {
-        return !((j as usize) < n);
-    }
-    true
+    n <= usize::from(i) || n <= usize::from(j)
 }
 
 fn some_end_outside(lower: &[u8], upper: &[u8], edges: usize, n: usize) -> bool
     requires { (edges ≤ length lower.now) × (edges ≤ length upper.now) }
     ensures { result ≡ any (end_missing n lower.now upper.now) (below edges) }
 {
-    let mut e: usize = 0;
-    while e < edges {
+    for e in 0..edges {
         if end_outside(lower[e], upper[e], n) {
             return true;
         }
-        e += 1;
     }
     false
 }
@@ -276,17 +250,6 @@ fn is_malformed(lower: &[u8], upper: &[u8], rows: &[u8], raised: &[u8], n: usize
 
 // ---- values tried one by one
 
-fn copy_sets(sets: &[u8], work: &mut [u8])
-    requires { length work.old ≡ length sets.now }
-    ensures { work.new ≡ sets.now }
-{
-    let mut j: usize = 0;
-    while j < sets.len() {
-        work[j] = sets[j];
-        j += 1;
-    }
-}
-
 // Whether value k of `variable`, fixed alone, leaves a family. The sets are narrowed in `work`.
 fn has_family(
     lower: &[u8],
@@ -304,7 +267,7 @@ fn has_family(
     ensures { result ≡ has_family (network_of_bytes (length sets.now) lower.now upper.now rows.now
         raised.now) sets.now variable k }
 {
-    copy_sets(sets, work);
+    work.copy_from_slice(sets);
     work[variable] = marks::only(k);
     settle(lower, upper, rows, raised, work)
 }
@@ -326,6 +289,7 @@ fn none_alone(
         raised.now) sets.now variable) values }
 {
     let mut untried = marks::common(values, sets[variable]);
+    // Not a for: it runs over the values that a byte of marks holds.
     while untried != 0 {
         let k = marks::lowest(untried);
         if has_family(lower, upper, rows, raised, sets, variable, k, work) {
@@ -360,7 +324,7 @@ fn none_has(
     if marks::is_single(left) {
         return none_alone(lower, upper, rows, raised, sets, variable, values, work);
     }
-    copy_sets(sets, near);
+    near.copy_from_slice(sets);
     near[variable] = left;
     if settle(lower, upper, rows, raised, near) {
         return none_alone(lower, upper, rows, raised, near, variable, values, work);
@@ -379,26 +343,14 @@ fn tried_of(unsupported: bool) -> Tried
 
 // ---- what is prepared once for a table
 
-fn same(a: i64, b: i64) -> bool
-    ensures { result ≡ eq_z a b }
-{
-    if a == b {
-        return true;
-    }
-    false
-}
-
 // The values below d whose weight is `best`. The weight of value j stands at table[from + j].
 fn best_values(table: &[i64], from: usize, d: usize, best: i64) -> u8
     requires { (d ≤ 8) × (from + d ≤ length table.now) }
     ensures { result ≡ best_marks table.now from d best }
 {
     let mut set: u8 = 0;
-    let mut j = d;
-    while j > 0 {
-        j -= 1;
-        let weight = table[from + j];
-        set = marks::push(set, same(weight, best));
+    for j in (0..d).rev() {
+        set = marks::push(set, table[from + j] == best);
     }
     set
 }
@@ -419,6 +371,7 @@ fn add_below(bytes: &mut [u8; 16], row: u8, k: u8)
     ensures { AddedBelow row k bytes.old bytes.new }
 {
     let mut left = row;
+    // Not a for: it runs over the values that a byte of marks holds.
     while left != 0 {
         let l = marks::lowest(left);
         let at = 8 + l as usize;
@@ -433,12 +386,10 @@ fn edge_bytes(table: &[i64], first: usize, d: usize, best: i64) -> [u8; 16]
     ensures { Crossed (λ k. best_marks table.now (first + k * d) d best) d result }
 {
     let mut bytes = [0u8; 16];
-    let mut k: usize = 0;
-    while k < d {
+    for k in 0..d {
         let row = best_values(table, first + k * d, d, best);
         bytes[k] = row;
         add_below(&mut bytes, row, k as u8);
-        k += 1;
     }
     bytes
 }
@@ -447,11 +398,7 @@ fn put_bytes(bytes: &[u8; 16], rows: &mut [u8], at: usize)
     requires { at + 16 ≤ length rows.old }
     ensures { Written (λ p. get_or bytes.now p 0) at 16 rows.old rows.new }
 {
-    let mut p: usize = 0;
-    while p < 16 {
-        rows[at + p] = bytes[p];
-        p += 1;
-    }
+    rows[at..at + 16].copy_from_slice(bytes);
 }
 
 fn write_sets(case: Case, table: &[i64], best: &[i64], sets: &mut [u8])
@@ -460,10 +407,8 @@ fn write_sets(case: Case, table: &[i64], best: &[i64], sets: &mut [u8])
     ensures { sets.new ≡ overwritten (marked_sets case table.now best.now) sets.old }
 {
     let n = case.n;
-    let mut j: usize = 0;
-    while j < n {
+    for j in 0..n {
         sets[j] = set_with(case, table, j, best[j]);
-        j += 1;
     }
 }
 
@@ -485,29 +430,21 @@ fn write_rows(case: Case, table: &[i64], best: &[i64], rows: &mut [u8])
 {
     let n = case.n;
     let m = case.m;
-    let mut e: usize = 0;
-    while e < m {
+    for e in 0..m {
         write_edge(case, table, e, best[n + e], rows);
-        e += 1;
     }
 }
 
 fn too_few(case: Case, length: usize) -> bool
     ensures { result ≡ ltb length (scope_count case) }
 {
-    if length < case.n {
-        return true;
-    }
-    length - case.n < case.m
+    length < case.n || length - case.n < case.m
 }
 
 fn bytes_too_few(case: Case, sets: usize, rows: usize) -> bool
     ensures { result ≡ (ltb sets case.n || ltb rows (16 * case.m)) }
 {
-    if sets < case.n {
-        return true;
-    }
-    rows / 16 < case.m
+    sets < case.n || rows / 16 < case.m
 }
 
 // ---- values without a family, a number given for each scope
@@ -530,10 +467,8 @@ fn prepare_sets(case: Case, table: &[i64], best: &[i64], raised: &[u8], sets: &m
         sets.new }
 {
     let n = case.n;
-    let mut j: usize = 0;
-    while j < n {
+    for j in 0..n {
         sets[j] = allowed_set(case, table, best, raised, j);
-        j += 1;
     }
 }
 
@@ -559,10 +494,8 @@ fn prepare_rows(case: Case, table: &[i64], best: &[i64], raised: &[u8], rows: &m
         rows.old rows.new }
 {
     let m = case.m;
-    let mut e: usize = 0;
-    while e < m {
+    for e in 0..m {
         prepare_edge(case, table, best, raised, e, rows);
-        e += 1;
     }
 }
 
@@ -633,24 +566,12 @@ fn edge_outside(case: Case) -> bool
     some_end_outside(&lower, &upper, case.m, case.n)
 }
 
-fn either(a: bool, b: bool) -> bool
-    ensures { result ≡ (a || b) }
-{
-    if a {
-        return true;
-    }
-    b
-}
-
 // Number 5 of the variable and the edges' ends.
 fn argument_outside(case: Case, variable: usize) -> bool
     requires { Limited case }
     ensures { result ≡ (not (ltb variable case.n) || some_edge case (end_outside case)) }
 {
-    if case.n <= variable {
-        return true;
-    }
-    edge_outside(case)
+    case.n <= variable || edge_outside(case)
 }
 
 // Numbers 3, 4, and 5 of the variable and the edges' ends. The weights and `best` are not looked at.
@@ -663,7 +584,7 @@ fn check_arguments(
 ) -> Result<(), Refusal>
     ensures { result ≡ outcome_of (best_refusal (rules_of case) case table.now best.now raised.now variable) }
 {
-    let wrong = either(too_few(case, best.len()), too_few(case, raised.len()));
+    let wrong = too_few(case, best.len()) || too_few(case, raised.len());
     check_lengths(case, table, wrong)?;
     if argument_outside(case, variable) {
         return Err(Refusal::OutOfRange);
@@ -691,6 +612,7 @@ pub fn lowest_partners(rows: &[u8], set: u8, other: u8, partners: &mut [u8])
     ensures { partners.new ≡ lowest_partners rows.now set other partners.old }
 {
     let mut left = set;
+    // Not a for: both loops run over the values that a byte of marks holds.
     'values: while left != 0 {
         let k = marks::lowest(left);
         let at = k as usize;
@@ -729,7 +651,7 @@ pub fn closure(lower: &[u8], upper: &[u8], rows: &[u8], raised: &[u8], sets: &mu
     if narrow(lower, upper, rows, raised, sets) {
         return Closed::Family;
     }
-    clear_sets(sets);
+    sets.fill(0);
     Closed::Empty
 }
 
@@ -787,10 +709,7 @@ pub fn active_marks(
     ensures { MarksAre (marks_call (rules_of case) case table.now best.now sets.old rows.old) result
         sets.new rows.new }
 {
-    let wrong = either(
-        too_few(case, best.len()),
-        bytes_too_few(case, sets.len(), rows.len()),
-    );
+    let wrong = too_few(case, best.len()) || bytes_too_few(case, sets.len(), rows.len());
     check_lengths(case, table, wrong)?;
     write_sets(case, table, best, sets);
     write_rows(case, table, best, rows);

@@ -11,10 +11,7 @@ use arcs::Tried;
 fn byte_at(bytes: &[u8], i: usize) -> u8
     ensures { result ≡ get_or bytes.now i 0 }
 {
-    if bytes.len() <= i {
-        return 0;
-    }
-    bytes[i]
+    bytes.get(i).copied().unwrap_or(0)
 }
 
 fn lowest_in(
@@ -28,13 +25,11 @@ fn lowest_in(
     ensures { result ≡ lowest_unsupported lower.now upper.now acts.now rows.now edges.now
         sets.now }
 {
-    let mut i: usize = 0;
-    while i < sets.len() {
+    for i in 0..sets.len() {
         let tried = arcs::none_supported(lower, upper, rows, edges, sets, i, byte_at(acts, i));
         if is_unsupported(tried) {
             return Some(i);
         }
-        i += 1;
     }
     None
 }

@@ -12,35 +12,19 @@ use definitions::{Case, Refusal, SCOPE_PLACES};
 fn other_length(length: usize, n: usize, m: usize) -> bool
     ensures { result ≡ not (eqb length (n + m)) }
 {
-    if length < n {
-        return true;
-    }
-    length - n != m
+    length < n || length - n != m
 }
 
 fn has_other_mark(raised: &[u8]) -> bool
     ensures { result ≡ any (λ b. ltb 1 b) raised.now }
 {
-    let mut x: usize = 0;
-    while x < raised.len() {
-        if 1 < raised[x] {
-            return true;
-        }
-        x += 1;
-    }
-    false
+    raised.iter().any(|&mark| 1 < mark)
 }
 
 fn arguments_out(case: Case, raised: &[u8], variable: usize, value: usize) -> bool
     ensures { result ≡ arguments_out case raised.now variable value }
 {
-    if has_other_mark(raised) {
-        return true;
-    }
-    if case.n <= variable {
-        return true;
-    }
-    case.d <= value
+    has_other_mark(raised) || case.n <= variable || case.d <= value
 }
 
 // Whether a value of a variable is refuted; `raised` has a byte for each scope, 1 where it is raised and else 0.

@@ -7,24 +7,10 @@ ghost use Rattle.engine.specs.Search.{Prepared, refutes_in, AllRaised, ChosenIn,
 
 use definitions::{Case, VARIABLE_PLACES};
 
-pub(crate) fn copy_bytes(from: &[u8], to: &mut [u8], n: usize)
-    requires { (n ≤ length from.now) × (n ≤ length to.old) }
-    ensures { (j : ℕ) → j < n → get_or to.new j 0 ≡ get_or from.now j 0 }
-{
-    let mut j: usize = 0;
-    while j < n {
-        to[j] = from[j];
-        j += 1;
-    }
-}
-
 fn allowed_values(raised: u8, active: u8, full: u8) -> u8
     ensures { result ≡ (if not (eqb raised 0) then active else full) }
 {
-    if raised == 0 {
-        return full;
-    }
-    active
+    if raised == 0 { full } else { active }
 }
 
 // The allowed values of each variable: the active ones if its scope is raised, else all.
@@ -32,10 +18,8 @@ pub(crate) fn allow(acts: &[u8], raised: &[u8], full: u8, sets: &mut [u8], n: us
     requires { (n ≤ length acts.now) × (n ≤ length raised.now) × (n ≤ length sets.old) }
     ensures { (j : ℕ) → j < n → get_or sets.new j 0 ≡ (if is_raised raised.now j then get_or acts.now j 0 else full) }
 {
-    let mut j: usize = 0;
-    while j < n {
+    for j in 0..n {
         sets[j] = allowed_values(raised[j], acts[j], full);
-        j += 1;
     }
 }
 
@@ -73,7 +57,8 @@ pub(crate) fn choose(case: Case, acts: &[u8], rows: &[u8], raised: &[u8]) -> Opt
     let end = n + case.m;
     let lower = case.lower;
     let upper = case.upper;
-    let mut sets = [0u8; VARIABLE_PLACES];
-    copy_bytes(acts, &mut sets, n);
-    choice::lowest_unsupported(&lower, &upper, acts, rows, &raised[n..end], &mut sets[..n])
+    let mut places = [0u8; VARIABLE_PLACES];
+    let sets = &mut places[..n];
+    sets.copy_from_slice(&acts[..n]);
+    choice::lowest_unsupported(&lower, &upper, acts, rows, &raised[n..end], sets)
 }

@@ -9,25 +9,15 @@ use definitions::{Case, VARIABLE_PLACES};
 // The values of all variables.
 const VALUE_PLACES: usize = 8 * VARIABLE_PLACES;
 
-fn keep_value(kept: u8, k: usize, partners: u8) -> u8 {
-    if partners != 0 {
-        return kept;
-    }
-    if k < 8 {
-        return marks::strike(kept, k as u8);
-    }
-    kept
-}
-
 // The values of `own` that have a partner in `other`. The partners of value k stand at rows[at + k].
 fn with_partners(rows: &[u8], at: usize, own: u8, other: u8) -> u8
     requires { at + 8 ≤ length rows.now }
 {
     let mut kept = own;
-    let mut k: usize = 0;
-    while k < 8 {
-        kept = keep_value(kept, k, marks::common(rows[at + k], other));
-        k += 1;
+    for k in 0..8 {
+        if marks::common(rows[at + k], other) == 0 {
+            kept = marks::strike(kept, k as u8);
+        }
     }
     kept
 }
@@ -84,20 +74,14 @@ fn quiet_after(quiet: usize, before: usize, count: usize) -> usize
     requires { (quiet < edge_places) × (before ≤ count) }
     ensures { (result ≤ quiet + 1) × (quiet + 1 ≤ result + (edge_places + 1) * (count - before)) }
 {
-    if count == before {
-        return quiet + 1;
-    }
-    0
+    if count == before { quiet + 1 } else { 0 }
 }
 
 fn edge_after(e: usize, edges: usize) -> usize
     requires { e < edges }
     ensures { result < edges }
 {
-    if e + 1 < edges {
-        return e + 1;
-    }
-    0
+    if e + 1 < edges { e + 1 } else { 0 }
 }
 
 // How many strikes were noted, and the variable whose set ran empty, VARIABLE_PLACES if none did.
@@ -123,13 +107,11 @@ fn note_strikes(
     let mut count: usize = 0;
     let mut quiet: usize = 0;
     let mut e: usize = 0;
+    // Not a for: it goes round the edges until none of them strikes a value.
     while quiet < edges.len() {
-        let i = integers::wide_size(lower[e]);
-        let j = integers::wide_size(upper[e]);
-        if sets.len() <= i {
-            break;
-        }
-        if sets.len() <= j {
+        let i = usize::from(lower[e]);
+        let j = usize::from(upper[e]);
+        if sets.len() <= i || sets.len() <= j {
             break;
         }
         let next = note_edge(rows, edges[e], e, i, j, sets, noted, count);
@@ -157,16 +139,7 @@ fn note_strikes(
 
 // A strike in the set of `own` over scope x counts if that set does, and then the set of `other` does too.
 fn count_strike(own: usize, other: usize, x: usize, counts: &mut [u8], used: &mut [u8]) {
-    if counts.len() <= own {
-        return;
-    }
-    if counts.len() <= other {
-        return;
-    }
-    if used.len() <= x {
-        return;
-    }
-    if counts[own] == 0 {
+    if counts.len() <= own || counts.len() <= other || used.len() <= x || counts[own] == 0 {
         return;
     }
     counts[other] = 1;
@@ -177,21 +150,18 @@ fn count_strike(own: usize, other: usize, x: usize, counts: &mut [u8], used: &mu
 fn edge_of(arc: u16) -> usize
     ensures { result < 65536 }
 {
-    (arc / 2) as usize
+    usize::from(arc / 2)
 }
 
 fn count_arc(lower: &[u8], upper: &[u8], n: usize, arc: u16, counts: &mut [u8], used: &mut [u8])
     requires { n ≤ variable_places }
 {
     let e = edge_of(arc);
-    if lower.len() <= e {
+    if lower.len() <= e || upper.len() <= e {
         return;
     }
-    if upper.len() <= e {
-        return;
-    }
-    let i = integers::wide_size(lower[e]);
-    let j = integers::wide_size(upper[e]);
+    let i = usize::from(lower[e]);
+    let j = usize::from(upper[e]);
     if arc % 2 == 0 {
         count_strike(i, j, n + e, counts, used);
     } else {
@@ -210,31 +180,25 @@ fn count_back(
 )
     requires { n ≤ variable_places }
 {
-    let mut left = noted.len();
-    while 0 < left {
-        left -= 1;
-        count_arc(lower, upper, n, noted[left], counts, used);
+    for &arc in noted.iter().rev() {
+        count_arc(lower, upper, n, arc, counts, used);
     }
 }
 
 fn own_use(counts: u8, active: u8, full: u8, used: u8) -> u8 {
-    if counts == 0 {
-        return used;
+    if counts == 0 || active == full {
+        used
+    } else {
+        1
     }
-    if active == full {
-        return used;
-    }
-    1
 }
 
 // The variables' own scopes.
 fn use_variables(acts: &[u8], full: u8, counts: &[u8], used: &mut [u8], n: usize)
     requires { (n ≤ length acts.now) × (n ≤ length counts.now) × (n ≤ length used.old) }
 {
-    let mut j: usize = 0;
-    while j < n {
+    for j in 0..n {
         used[j] = own_use(counts[j], acts[j], full, used[j]);
-        j += 1;
     }
 }
 
@@ -304,10 +268,8 @@ fn explain_each(
     requires case_in_bounds { (scope_count case ≤ length raised.now) × (scope_count case ≤ length used.old) × (case.n ≤ length acts.now) × (case.d ≤ 8) }
     requires variable_lt_n { (variable < case.n) × (case.n ≤ variable_places) × (case.m ≤ edge_places) × (16 * case.m ≤ length rows.now) }
 {
-    let mut k: u8 = 0;
-    while k < 8 {
+    for k in 0..8 {
         explain_value(case, acts, rows, raised, used, variable, k);
-        k += 1;
     }
 }
 

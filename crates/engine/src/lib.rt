@@ -366,8 +366,7 @@ fn run_checked(
     requires case_in_bounds { round_bytes (rules_of case) case ≤ length out.old }
     ensures { RunIs pairs case limit table.old out.old table.new out.new result }
 {
-    let mut done: u64 = 0;
-    while done < limit {
+    for done in 0..limit {
         let made = round_checked(case, table, out, best, pairs);
         match made {
             Ok(Round::Settled) => return stop_run(case, table, best, Ok(RunAnswer::Settled), done),
@@ -379,10 +378,9 @@ fn run_checked(
             }
             Ok(Round::Made { bytes: _, bound: _ }) => {}
         }
-        done += 1;
     }
     let answer = at_limit(case, table, out, best, pairs);
-    stop_run(case, table, best, answer, done)
+    stop_run(case, table, best, answer, limit)
 }
 
 fn run_from(case: Case, table: &mut [i64], out: &mut [u8], limit: u64, pairs: bool) -> Run

@@ -9,24 +9,15 @@ ghost use Rattle.engine.specs.Search.{Prepared, refutes_in, AllRaised, OthersRai
 use crate::{choosing, guess};
 use definitions::{Case, SCOPE_PLACES};
 
-fn unless_lowered(raised: u8, byte: u8) -> u8
-    ensures { raised ≡ 0 → result ≡ 0 }
-{
-    if raised == 0 {
-        return 0;
-    }
-    byte
-}
-
 // Leaves out what is not raised.
 fn keep_raised(raised: &[u8], enough: &mut [u8], n: usize)
     requires { (n ≤ length raised.now) × (n ≤ length enough.old) }
     ensures { (y : ℕ) → y < n → get_or raised.now y 0 ≡ 0 → get_or enough.new y 0 ≡ 0 }
 {
-    let mut j: usize = 0;
-    while j < n {
-        enough[j] = unless_lowered(raised[j], enough[j]);
-        j += 1;
+    for j in 0..n {
+        // The byte is read either way, so that the loop has no branch.
+        let byte = enough[j];
+        enough[j] = if raised[j] == 0 { 0 } else { byte };
     }
 }
 
@@ -38,14 +29,13 @@ fn renew(case: Case, acts: &[u8], rows: &[u8], raised: &[u8], enough: &mut [u8],
         → Enough case w variable raised.now enough.new }
 {
     let scopes = case.n + case.m;
-    let none = [0u8; SCOPE_PLACES];
-    choosing::copy_bytes(&none, enough, scopes);
+    enough[..scopes].fill(0);
     guess::guess(case, acts, rows, raised, enough, variable);
     keep_raised(raised, enough, scopes);
     if choosing::refutes(case, acts, rows, enough, variable) {
         return;
     }
-    choosing::copy_bytes(raised, enough, scopes);
+    enough[..scopes].copy_from_slice(&raised[..scopes]);
 }
 
 // Drops scope x, unless the values are not refuted without it. With the scopes `enough` they are refuted.
@@ -90,11 +80,8 @@ fn drop_scopes(
         → Enough case w variable raised.old enough.old
         → raised_below raised.new (scope_count case) ≡ kept_scopes case w variable }
 {
-    let scopes = case.n + case.m;
-    let mut x: usize = 0;
-    while x < scopes {
+    for x in 0..case.n + case.m {
         drop_scope(case, acts, rows, raised, enough, variable, x);
-        x += 1;
     }
 }
 

@@ -75,6 +75,7 @@ fn lowest_supported(case: Case, rows: &[u8], sets: [u8; VARIABLE_PLACES], variab
         × ((k : ℕ) → result.value ≡ Some k → take case.n result.sets ≡ left_sets case rows.now sets variable k) }
 {
     let mut untried = sets[variable];
+    // Not a for: it runs over the values that a byte of marks holds.
     while untried != 0 {
         let k = marks::lowest(untried);
         let closing = try_value(case, rows, sets, variable, k);
@@ -99,22 +100,7 @@ fn write_family(case: Case, sets: &[u8; VARIABLE_PLACES], family: &mut [u8])
     ensures { family.new ≡ overwritten (take case.n sets.now) family.old }
 {
     let n = case.n;
-    let bytes: &[u8] = sets;
-    let mut j: usize = 0;
-    while j < n {
-        family[j] = bytes[j];
-        j += 1;
-    }
-}
-
-fn fill_outside(bytes: &mut [u8])
-    ensures { bytes.new ≡ replicate (length bytes.old) outside }
-{
-    let mut p: usize = 0;
-    while p < bytes.len() {
-        bytes[p] = NO_PARTNER;
-        p += 1;
-    }
+    family[..n].copy_from_slice(&sets[..n]);
 }
 
 // The partners of the d values at one end of an edge, whose rows stand from rows[row] on.
@@ -131,7 +117,7 @@ fn write_end(
     ensures { Written (partner_in rows.now row own other) from d partners.old partners.new }
 {
     let to = from + d;
-    fill_outside(&mut partners[from..to]);
+    partners[from..to].fill(NO_PARTNER);
     arcs::lowest_partners(&rows[row..], own, other, &mut partners[from..to]);
 }
 
@@ -156,11 +142,8 @@ fn write_partners(case: Case, rows: &[u8], sets: &[u8], partners: &mut [u8])
     requires m_in_bounds { (16 * case.m ≤ length rows.now) × (case.m * (2 * case.d) ≤ length partners.old) }
     ensures { partners.new ≡ overwritten (all_bytes case rows.now sets.now) partners.old }
 {
-    let m = case.m;
-    let mut e: usize = 0;
-    while e < m {
+    for e in 0..case.m {
         write_edge(case, rows, sets, e, partners);
-        e += 1;
     }
 }
 
@@ -170,10 +153,7 @@ fn too_short(case: Case, family: usize, partners: usize) -> bool
     requires { Limited case }
     ensures { result ≡ (ltb family case.n || ltb partners (case.m * (2 * case.d))) }
 {
-    if family < case.n {
-        return true;
-    }
-    partners < case.m * (2 * case.d)
+    family < case.n || partners < case.m * (2 * case.d)
 }
 
 fn check_call(

@@ -16,10 +16,8 @@ fn label_apart(labels: &mut [u8])
     requires { length labels.old ≤ 256 }
     ensures { labels.new ≡ below (length labels.old) }
 {
-    let mut i: usize = 0;
-    while i < labels.len() {
-        labels[i] = i as u8;
-        i += 1;
+    for (i, label) in labels.iter_mut().enumerate() {
+        *label = i as u8;
     }
 }
 
@@ -33,10 +31,8 @@ fn renamed(label: u8, from: u8, to: u8) -> u8
 fn relabel(labels: &mut [u8], from: u8, to: u8)
     ensures { labels.new ≡ map (label_renamed from to) labels.old }
 {
-    let mut i: usize = 0;
-    while i < labels.len() {
-        labels[i] = renamed(labels[i], from, to);
-        i += 1;
+    for label in labels.iter_mut() {
+        *label = renamed(*label, from, to);
     }
 }
 
@@ -48,16 +44,13 @@ fn join_edges(case: Case, labels: &mut [u8]) -> bool
     ensures { result ≡ is_acyclic case }
 {
     label_apart(labels);
-    let m = case.m;
-    let mut e: usize = 0;
-    while e < m {
+    for e in 0..case.m {
         let to = labels[case.lower[e] as usize];
         let from = labels[case.upper[e] as usize];
         if to == from {
             return false;
         }
         relabel(labels, from, to);
-        e += 1;
     }
     true
 }

@@ -1,5 +1,5 @@
 -- Whether a pair's round leaves the working range, and the lowest pair whose round the engine makes, on all input. Assumes nothing.
-use Rattle.std.specs.Prelude.{◌≡◌, Bool, true, false, not, ◌&&◌, ◌||◌, List, ℕ, ◌+◌, ◌*◌, ◌≤◌, ◌<◌, ℤ, pos, ◌+ℤ◌, ◌-ℤ◌, ltb, length, get_or, if◌then◌else◌, Option, None}
+use Rattle.std.specs.Prelude.{Bool, not, ◌&&◌, ◌||◌, List, ℕ, ◌+◌, ◌*◌, ℤ, pos, ◌+ℤ◌, ◌-ℤ◌, ltb, length, get_or, if◌then◌else◌, Option, None}
 use Rattle.std.specs.Int.Signed.{le_z}
 use Rattle.integers.specs.Words.{below, any, those, first}
 use Rattle.definitions.specs.declared.Case.{Case}
@@ -55,9 +55,6 @@ leaves_by r c w e = not (is_sized r c (length w)) || (not (ltb e c.m) || round_l
 
 -- ---- the pair
 
-abbrev pub paired_of : Option ℕ → Option ℕ
-paired_of o = o
-
 -- a value of `set` has a partner in `other`; the row of value k stands at place `at` + k
 unfoldable pub has_choice : List ℕ → ℕ → ℕ → ℕ → Bool
 has_choice rows at set other = any (λ k. mark set k && has_partner (get_or rows (at + k) 0) other) (below 8)
@@ -104,9 +101,3 @@ row_has r w asked own upper row d = any (λ l. is_asked r asked (at_place w own)
 -- for one of the d weights from `lower` on, with those from `upper` on; the d rows of their tuples stand from `at` on
 abbrev pub rows_have : Rules → List ℤ → Asked → ℕ → ℕ → ℕ → ℕ → Bool
 rows_have r w asked lower upper at d = any (λ k. row_has r w asked (lower + k) upper (at + k * d) d) (below d)
-
--- the lowest edge from `from` on that has no active choice, if there is one
-pub record NextCandidate (c : Case) (acts rows : List ℕ) (from e : ℕ) : Type 0 where
-  pub past : from ≤ e
-  pub passed : (j : ℕ) → j < e → from ≤ j → active_choice c acts rows j ≡ true
-  pub candidate : e < c.m → active_choice c acts rows e ≡ false

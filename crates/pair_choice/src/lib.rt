@@ -11,7 +11,7 @@ ghost use Rattle.definitions.specs.Valid.{in_working, end_outside};
 ghost use Rattle.arcs.specs.Active.{Sized};
 ghost use Rattle.pair_choice.specs.PairChoice.{shifted_of, all_working, tuple_stays, tuple_passes, is_free, is_asked, row_has, rows_have, tuples_have};
 ghost use Rattle.pair_choice.specs.PairChoice.{round_leaves, leaves_by, has_choice, less_one, most_left, takes_round, takes_pair};
-ghost use Rattle.pair_choice.specs.PairChoice.{NextCandidate, marks_short, lowest_pair_answer};
+ghost use Rattle.pair_choice.specs.PairChoice.{marks_short, lowest_pair_answer};
 
 use definitions::{Case, Rulebook};
 
@@ -44,22 +44,13 @@ fn is_working(rulebook: Rulebook, weight: i64) -> bool
 fn shifted(weight: i64) -> i64
     ensures { result ≡ shifted_of weight }
 {
-    if rules::is_barred(weight) {
-        return 0;
-    }
-    weight
+    if rules::is_barred(weight) { 0 } else { weight }
 }
 
 fn all_working(rulebook: Rulebook, own: i64, other: i64, weight: i64) -> bool
     ensures { result ≡ all_working (rules_in rulebook) own other weight }
 {
-    if !is_working(rulebook, own) {
-        return false;
-    }
-    if !is_working(rulebook, other) {
-        return false;
-    }
-    is_working(rulebook, weight)
+    is_working(rulebook, own) && is_working(rulebook, other) && is_working(rulebook, weight)
 }
 
 // Sums are formed only of weights in the range, so that they fit.
@@ -92,13 +83,7 @@ fn tuple_passes(rulebook: Rulebook, own: i64, other: i64, weight: i64, most: i64
 fn is_free(own: i64, other: i64, weight: i64) -> bool
     ensures { result ≡ is_free own other weight }
 {
-    if rules::is_barred(own) {
-        return false;
-    }
-    if rules::is_barred(other) {
-        return false;
-    }
-    !rules::is_barred(weight)
+    !rules::is_barred(own) && !rules::is_barred(other) && !rules::is_barred(weight)
 }
 
 fn is_asked(rulebook: Rulebook, asked: Asked, own: i64, other: i64, weight: i64) -> bool
@@ -125,8 +110,7 @@ fn row_has(
     requires { (own < length table.now) × (upper + d ≤ length table.now) × (row + d ≤ length table.now) }
     ensures { result ≡ row_has (rules_in rulebook) table.now asked own upper row d }
 {
-    let mut l: usize = 0;
-    while l < d {
+    for l in 0..d {
         if is_asked(
             rulebook,
             asked,
@@ -136,7 +120,6 @@ fn row_has(
         ) {
             return true;
         }
-        l += 1;
     }
     false
 }
@@ -153,12 +136,10 @@ fn rows_have(
     requires { (lower + d ≤ length table.now) × (upper + d ≤ length table.now) × (at + d * d ≤ length table.now) }
     ensures { result ≡ rows_have (rules_in rulebook) table.now asked lower upper at d }
 {
-    let mut k: usize = 0;
-    while k < d {
+    for k in 0..d {
         if row_has(rulebook, table, asked, lower + k, upper, at + k * d, d) {
             return true;
         }
-        k += 1;
     }
     false
 }
@@ -168,13 +149,7 @@ fn end_outside(case: Case, edge: usize) -> bool
     requires { edge < edge_places }
     ensures { result ≡ end_outside case edge }
 {
-    if case.n <= integers::wide_size(case.lower[edge]) {
-        return true;
-    }
-    if case.n <= integers::wide_size(case.upper[edge]) {
-        return true;
-    }
-    false
+    case.n <= usize::from(case.lower[edge]) || case.n <= usize::from(case.upper[edge])
 }
 
 fn tuples_have(case: Case, table: &[i64], asked: Asked, edge: usize) -> bool
@@ -183,8 +158,8 @@ fn tuples_have(case: Case, table: &[i64], asked: Asked, edge: usize) -> bool
 {
     let rulebook = case.rulebook;
     let d = case.d;
-    let lower = integers::wide_size(case.lower[edge]) * d;
-    let upper = integers::wide_size(case.upper[edge]) * d;
+    let lower = usize::from(case.lower[edge]) * d;
+    let upper = usize::from(case.upper[edge]) * d;
     let at = case.n * d + edge * (d * d);
     rows_have(rulebook, table, asked, lower, upper, at, d)
 }
@@ -207,10 +182,7 @@ fn round_leaves(case: Case, table: &[i64], edge: usize) -> bool
 fn byte_at(bytes: &[u8], i: usize) -> u8
     ensures { result ≡ get_or bytes.now i 0 }
 {
-    if bytes.len() <= i {
-        return 0;
-    }
-    bytes[i]
+    bytes.get(i).copied().unwrap_or(0)
 }
 
 // A value of `set` has a partner in `other`. The partners of value k stand at rows[at + k].
@@ -219,32 +191,15 @@ fn has_choice(rows: &[u8], at: usize, set: u8, other: u8) -> bool
     ensures { result ≡ has_choice rows.now at set other }
 {
     let mut left = set;
+    // Not a for: it runs over the values that a byte of marks holds.
     while left != 0 {
         let k = marks::lowest(left);
-        if marks::common(rows[at + integers::wide_size(k)], other) != 0 {
+        if marks::common(rows[at + usize::from(k)], other) != 0 {
             return true;
         }
         left = marks::strike(left, k);
     }
     false
-}
-
-// The lowest edge from `from` on that has no active choice: no active values of its ends make an active tuple.
-fn next_candidate(case: Case, acts: &[u8], rows: &[u8], from: usize) -> usize
-    requires { (case.m ≤ edge_places) × (16 * case.m ≤ length rows.now) }
-    ensures { NextCandidate case acts.now rows.now from result }
-{
-    let m = case.m;
-    let mut e = from;
-    while e < m {
-        let own = byte_at(acts, integers::wide_size(case.lower[e]));
-        let other = byte_at(acts, integers::wide_size(case.upper[e]));
-        if !has_choice(rows, 16 * e, own, other) {
-            return e;
-        }
-        e += 1;
-    }
-    e
 }
 
 // Sums are formed only of weights in the range, so that they fit.
@@ -263,8 +218,8 @@ fn most_left(case: Case, best: &[i64], edge: usize) -> i64
 {
     let rulebook = case.rulebook;
     let x = case.n + edge;
-    let lower = integers::wide_size(case.lower[edge]);
-    let upper = integers::wide_size(case.upper[edge]);
+    let lower = usize::from(case.lower[edge]);
+    let upper = usize::from(case.upper[edge]);
     less_one(rulebook, best[lower], best[upper], best[x])
 }
 
@@ -282,18 +237,17 @@ fn takes_round(case: Case, table: &[i64], best: &[i64], edge: usize) -> bool
     tuples_have(case, table, Asked::Choice, edge)
 }
 
-// The table is looked at only for pairs that have no active choice.
+// The table is looked at only for pairs that have no active choice: no active values of their ends make an active tuple.
 fn lowest_in(case: Case, table: &[i64], best: &[i64], acts: &[u8], rows: &[u8]) -> Option<usize>
     requires { Sized case table.now × (scope_count case ≤ length best.now) × (16 * case.m ≤ length rows.now) }
     ensures { result ≡ first (those (takes_pair (rules_of case) case table.now best.now acts.now rows.now) (below case.m)) }
 {
-    let m = case.m;
-    let mut e = next_candidate(case, acts, rows, 0);
-    while e < m {
-        if takes_round(case, table, best, e) {
+    for e in 0..case.m {
+        let own = byte_at(acts, usize::from(case.lower[e]));
+        let other = byte_at(acts, usize::from(case.upper[e]));
+        if !has_choice(rows, 16 * e, own, other) && takes_round(case, table, best, e) {
             return Some(e);
         }
-        e = next_candidate(case, acts, rows, e + 1);
     }
     None
 }
@@ -301,10 +255,7 @@ fn lowest_in(case: Case, table: &[i64], best: &[i64], acts: &[u8], rows: &[u8]) 
 fn marks_short(case: Case, acts: usize, rows: usize) -> bool
     ensures { result ≡ marks_short case acts rows }
 {
-    if acts < case.n {
-        return true;
-    }
-    rows / 16 < case.m
+    acts < case.n || rows / 16 < case.m
 }
 
 // ---- the calls

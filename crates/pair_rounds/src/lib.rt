@@ -79,13 +79,7 @@ fn weight_at(case: Case, table: &[i64], edge: usize, end: usize, value: usize) -
 fn left_out(weight: i64) -> bool
     ensures { result ≡ left_out weight }
 {
-    if rules::is_barred(weight) {
-        return true;
-    }
-    if weight == 0 {
-        return true;
-    }
-    false
+    rules::is_barred(weight) || weight == 0
 }
 
 // The shift, which is allowed, and its line.
@@ -150,10 +144,8 @@ fn shift_end(
         from result out.old out.new }
 {
     let mut at = from;
-    let mut value: usize = 0;
-    while value < case.d {
+    for value in 0..case.d {
         at = shift_value(case, table, best, out, at, edge, end, value);
-        value += 1;
     }
     at
 }

@@ -8,12 +8,13 @@ use native.Mathlib.Numerals.{add-one}
 use native.Mathlib.Omega.{arith}
 use borrow.Author.Tests.{le-ltb}
 use lib.IntN.{pos}
-use lib.Dec.{T, lit<}
+use lib.Dec.{T, eqb, lit<}
 use lib.ListN.{length, take, drop, length-append, drop_of_length-le}
+use lib.Seq.{length-take-le, get_or-take}
 use Rattle.std.specs.Prelude.{if◌then◌else◌}
 use Rattle.integers.specs.Words.{from, below, those, joined}
 use Rattle.integers.specs.Tests.{is_false, if-cases, not-or-iff}
-use Rattle.integers.specs.Lists.{joined-append, map-append, those-append, from_suc, from-split}
+use Rattle.integers.specs.Lists.{joined-append, map-append, those-append, those-same, from_suc, from-split}
 use Rattle.definitions.specs.declared.Line.{Line}
 use Rattle.definitions.specs.Lines.{line, line_length, line_text, line_too_wide, overwritten}
 use Rattle.definitions.proofs.ColumnLaws.{fits_iff, fits-digits}
@@ -85,6 +86,12 @@ module _ (raised : List ℕ) (x : ℕ) where
 
   pub raised-next : raised_below raised (x + 1) ≡ raised_below raised x ++ raised_from raised x 1
   raised-next = those-next (is_raised raised) x
+
+-- the scopes of a slice's first n bytes
+pub raised-taken : (raised : List ℕ) (n : ℕ) → n ≤ length raised → raised_below (take n raised) (length (take n raised)) ≡ raised_below raised n
+raised-taken raised n h =
+    ap (raised_below (take n raised)) (length-take-le n raised h)
+    ∙ those-same n (λ x l. ap (λ (b : ℕ). not (eqb b 0)) (get_or-take n raised x 0 l))
 
 pub texts-append : (width : ℕ) (xs ys : List ℕ) → raise_texts width (xs ++ ys) ≡ raise_texts width xs ++ raise_texts width ys
 texts-append width xs ys =

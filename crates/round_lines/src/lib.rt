@@ -45,19 +45,10 @@ fn put_line(out: &mut [u8], at: usize, line: Line, width: usize) -> usize
     to
 }
 
-fn count_raised(raised: &[u8], scopes: usize) -> usize
-    requires { scopes ≤ length raised.now }
-    ensures { result ≡ length (raised_below raised.now scopes) }
+fn count_raised(raised: &[u8]) -> usize
+    ensures { result ≡ length (raised_below raised.now (length raised.now)) }
 {
-    let mut count: usize = 0;
-    let mut x: usize = 0;
-    while x < scopes {
-        if raised[x] != 0 {
-            count += 1;
-        }
-        x += 1;
-    }
-    count
+    raised.iter().filter(|&&mark| mark != 0).count()
 }
 
 fn raise_line(x: usize) -> Line
@@ -121,17 +112,15 @@ fn put_raise(out: &mut [u8], at: usize, raised: &[u8], x: usize, width: usize) -
     put_line(out, at, raise_line(x), width)
 }
 
-fn put_raises(out: &mut [u8], from: usize, raised: &[u8], scopes: usize, width: usize) -> usize
-    requires scopes_in_bounds { (scopes ≤ length raised.now) × (scopes < 10 ^ 4) × T (not (width_out width)) }
-    requires scopes_in_bounds_2 { from + line_length width * length (raised_below raised.now scopes) ≤ length out.old }
-    ensures value { result ≡ from + line_length width * length (raised_below raised.now scopes) }
-    ensures put { Put from (raise_texts width (raised_below raised.now scopes)) result out.old out.new }
+fn put_raises(out: &mut [u8], from: usize, raised: &[u8], width: usize) -> usize
+    requires few { (length raised.now < 10 ^ 4) × T (not (width_out width)) }
+    requires in_bounds { from + line_length width * length (raised_below raised.now (length raised.now)) ≤ length out.old }
+    ensures value { result ≡ from + line_length width * length (raised_below raised.now (length raised.now)) }
+    ensures put { Put from (raise_texts width (raised_below raised.now (length raised.now))) result out.old out.new }
 {
     let mut at = from;
-    let mut x: usize = 0;
-    while x < scopes {
+    for x in 0..raised.len() {
         at = put_raise(out, at, raised, x, width);
-        x += 1;
     }
     at
 }
@@ -148,22 +137,15 @@ fn put_last(out: &mut [u8], at: usize, entry: Entry, width: usize) -> usize
 }
 
 // The lines from the first byte, and how many bytes they are.
-fn put_lines(
-    out: &mut [u8],
-    raised: &[u8],
-    scopes: usize,
-    first: Line,
-    entry: Entry,
-    width: usize,
-) -> usize
-    requires scopes_in_bounds { (scopes ≤ length raised.now) × (scopes < 10 ^ 4) }
-    requires in_bounds { line_length width * (length (raised_below raised.now scopes) + 1 + length (last_lines entry)) ≤ length out.old }
+fn put_lines(out: &mut [u8], raised: &[u8], first: Line, entry: Entry, width: usize) -> usize
+    requires few { length raised.now < 10 ^ 4 }
+    requires in_bounds { line_length width * (length (raised_below raised.now (length raised.now)) + 1 + length (last_lines entry)) ≤ length out.old }
     requires t { T (not (line_out width first)) × (any (line_too_wide width) (last_lines entry) ≡ false) }
-    ensures value { result ≡ length (put_text width first (last_lines entry) (raised_below raised.now scopes)) }
-    ensures out_after { out.new ≡ overwritten (put_text width first (last_lines entry) (raised_below raised.now scopes)) out.old }
+    ensures value { result ≡ length (put_text width first (last_lines entry) (raised_below raised.now (length raised.now))) }
+    ensures out_after { out.new ≡ overwritten (put_text width first (last_lines entry) (raised_below raised.now (length raised.now))) out.old }
 {
     let next = put_line(out, 0, first, width);
-    let end = put_raises(out, next, raised, scopes, width);
+    let end = put_raises(out, next, raised, width);
     put_last(out, end, entry, width)
 }
 
@@ -192,18 +174,11 @@ fn last_too_wide(entry: Entry, width: usize) -> bool
 }
 
 // The lines, where there is room for them, unless a number is too wide.
-fn write_lines(
-    out: &mut [u8],
-    raised: &[u8],
-    scopes: usize,
-    first: Line,
-    entry: Entry,
-    width: usize,
-) -> Result<usize, Refusal>
-    requires scopes_in_bounds { (scopes ≤ length raised.now) × (scopes < 10 ^ 4) × T (not (width_out width)) }
-    requires in_bounds { line_length width * (length (raised_below raised.now scopes) + 1 + length (last_lines entry)) ≤ length out.old }
-    ensures value { result ≡ (put_call width first (last_lines entry) (raised_below raised.now scopes) out.old).answer }
-    ensures out_after { out.new ≡ (put_call width first (last_lines entry) (raised_below raised.now scopes) out.old).out }
+fn write_lines(out: &mut [u8], raised: &[u8], first: Line, entry: Entry, width: usize) -> Result<usize, Refusal>
+    requires few { (length raised.now < 10 ^ 4) × T (not (width_out width)) }
+    requires in_bounds { line_length width * (length (raised_below raised.now (length raised.now)) + 1 + length (last_lines entry)) ≤ length out.old }
+    ensures value { result ≡ (put_call width first (last_lines entry) (raised_below raised.now (length raised.now)) out.old).answer }
+    ensures out_after { out.new ≡ (put_call width first (last_lines entry) (raised_below raised.now (length raised.now)) out.old).out }
 {
     if too_wide(first, width) {
         return Err(Refusal::OutOfRange);
@@ -211,7 +186,7 @@ fn write_lines(
     if last_too_wide(entry, width) {
         return Err(Refusal::OutOfRange);
     }
-    Ok(put_lines(out, raised, scopes, first, entry, width))
+    Ok(put_lines(out, raised, first, entry, width))
 }
 
 fn amount_width(case: Case) -> usize
@@ -257,8 +232,8 @@ fn write_checked(
     ensures out_after { out.new ≡ (checked_call (rules_of case) case out.old variable
         (entry_lines entry variable (raised_below raised.now (scope_count case)))).out }
 {
-    let scopes = case.n + case.m;
-    let count = count_raised(raised, scopes);
+    let scopes = &raised[..case.n + case.m];
+    let count = count_raised(scopes);
     if out.len() < lines_length(case, line_count(entry, count)) {
         return Err(Refusal::WrongLength);
     }
@@ -266,7 +241,7 @@ fn write_checked(
         return Err(Refusal::OutOfRange);
     }
     let first = first_line(entry, variable, count);
-    write_lines(out, raised, scopes, first, entry, amount_width(case))
+    write_lines(out, scopes, first, entry, amount_width(case))
 }
 
 fn write_entry(case: Case, out: &mut [u8], raised: &[u8], variable: usize, entry: Entry) -> Result<usize, Refusal>

@@ -1,25 +1,28 @@
 use Rattle.std.proofs.lemmas.Result.{err_from_is_err_and}
 use Rattle.std.specs.Prelude.{Ok}
-use mathlib.Core.Path.{◌≡◌, sym, ap, ap₂, ◌∙◌}
-use mathlib.Core.Bool.{Bool, ◌||◌}
+use mathlib.Core.Path.{◌≡◌, sym, ap, ◌∙◌}
+use mathlib.Core.Bool.{Bool}
+use borrow.Author.Rules.{rules}
 use Prim.Native.Nat.{◌*◌, ◌≤◌}
 use lib.ListN.{length}
 use Rattle.definitions.specs.Rules.{rules_of}
 use Rattle.definitions.specs.Answers.{outcome_of}
 use Rattle.definitions.specs.Case.{scope_count}
-use Rattle.arcs.specs.Active.{Sized, length_refusal, marks_refusal}
+use Rattle.arcs.specs.Active.{Sized, too_short, length_refusal, marks_refusal}
 use Rattle.arcs.proofs.Prepared.{marks-refused, marks-done, marks-asked}
 use Rattle.arcs.proofs.active_marks.Goals as goal
-use Rattle.arcs.proofs.active_marks.Goals.{After-check_lengths, In_ok-check_lengths}
+use Rattle.arcs.proofs.active_marks.Goals.{After-check_lengths, In_ok-check_lengths, then-too_few, else-too_few}
 
 -- what was asked
 asked : (c : After-check_lengths) → let a = c.args in
     c.check_lengths.result ≡ outcome_of (marks_refusal (rules_of a.case) a.case a.table.now a.best.now a.sets.now a.rows.now)
 asked c =
     let a = c.args in
+    let wrong : c.if-too_few.wrong ≡ too_short a.case a.best.now a.sets.now a.rows.now =
+    elim c.if-too_few.branch [ then-too_few w ↦ search rules | else-too_few w ↦ search rules ] in
     c.check_lengths.ensures
     ∙ ap (λ (b : Bool). outcome_of (length_refusal (rules_of a.case) a.case a.table.now b))
-    (c.either-wrong.ensures ∙ ap₂ ◌||◌ c.too_few.ensures c.bytes_too_few.ensures)
+    wrong
 
 done : (c : In_ok-check_lengths) → let a = c.args in
     Ok tt ≡ outcome_of (marks_refusal (rules_of a.case) a.case a.table.now a.best.now a.sets.now a.rows.now)

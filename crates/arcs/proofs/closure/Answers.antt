@@ -1,4 +1,6 @@
-use mathlib.Core.Path.{sym, ◌∙◌}
+use mathlib.Core.Path.{◌≡◌, sym, ◌∙◌}
+use lib.ListN.{length, replicate}
+use borrow.Author.Rules.{rules}
 use native.Mathlib.Omega.{arith}
 use Rattle.arcs.proofs.Results.{malformed-answer, well-formed, family-answer, empty-answer}
 use Rattle.arcs.proofs.closure.Goals as goal
@@ -29,6 +31,7 @@ returns-then-narrow c =
 pub returns : goal.returns
 returns c =
     let s = c.args in
+    let cleared : c.fill.new.self ≡ replicate (length c.narrow.new.sets) 0 = search rules in
     let h = empty-answer s.lower.now s.upper.now s.rows.now s.raised.now s.sets.now
     (sym c.is_malformed.ensures ∙ c.if-is_malformed.false) _ _ c.narrow.auto.sets _ c.if-narrow.false c.narrow.ensures
-    c.clear_sets.ensures in record { value = h.0; sets_after = h.1 }
+    cleared in record { value = h.0; sets_after = h.1 }

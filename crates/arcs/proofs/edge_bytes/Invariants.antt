@@ -1,11 +1,8 @@
 use mathlib.Core.Path.{◌≡◌}
-use Prim.Native.Nat.{◌+◌, ◌*◌, ◌-◌, ◌≤◌}
+use Prim.Native.Nat.{◌+◌, ◌*◌}
 use lib.ListN.{length}
 use Rattle.arcs.specs.Active.{best_marks, Crossed}
 use Rattle.arcs.proofs.edge_bytes.Given as goal
 
 abbrev pub invariant-loop-k : goal.invariant-loop-k
-invariant-loop-k l = (l.k ≤ l.d) × Crossed (λ j. best_marks l.table (l.first + j * l.d) l.d (l.best)) l.k l.bytes × (length l.bytes ≡ 16)
-
-abbrev pub decreases-loop-k : goal.decreases-loop-k
-decreases-loop-k l = l.d - l.k
+invariant-loop-k l = Crossed (λ j. best_marks l.table (l.first + j * l.d) l.d (l.best)) l.k l.bytes × (length l.bytes ≡ 16)

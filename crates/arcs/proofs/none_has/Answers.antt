@@ -20,13 +20,13 @@ none_alone-requires-then-settle c =
     let left = c.settle.new.sets in
     let in_range = c.requires.filled.1 in
     let left_length : length left ≡ length a.sets.now =
-    c.settle.auto.sets ∙ copy-length a.sets.now a.variable in_range _ _ c.copy_sets.ensures in
+    c.settle.auto.sets ∙ copy-length a.sets.now a.variable in_range _ _ c.copy_from_slice.ensures.after in
     record {
       well_formed = well-same _ _ _ _ a.sets.now left left_length c.requires.well_formed;
       filled = (
         near-filled a.lower.now a.upper.now a.rows.now a.raised.now a.sets.now a.variable in_range a.values left left_length
             (near-settled a.lower.now a.upper.now a.rows.now a.raised.now a.sets.now a.variable in_range a.values _ _
-            c.common-left.ensures c.copy_sets.ensures left _ true c.if-settle.true c.settle.ensures),
+            c.common-left.ensures c.copy_from_slice.ensures.after left _ true c.if-settle.true c.settle.ensures),
         omega (arith, left_length, in_range),
         c.requires.filled.3 ∙ sym left_length,
       );
@@ -38,11 +38,11 @@ returns-then-settle c =
     let left = c.settle.new.sets in
     let in_range = c.requires.filled.1 in
     let left_length : length left ≡ length a.sets.now =
-    c.settle.auto.sets ∙ copy-length a.sets.now a.variable in_range _ _ c.copy_sets.ensures in
+    c.settle.auto.sets ∙ copy-length a.sets.now a.variable in_range _ _ c.copy_from_slice.ensures.after in
     c.none_alone-then-settle.ensures
     ∙ near_same a.lower.now a.upper.now a.rows.now a.raised.now a.sets.now a.variable in_range a.values left left_length
     (near-settled a.lower.now a.upper.now a.rows.now a.raised.now a.sets.now a.variable in_range a.values _ _
-    c.common-left.ensures c.copy_sets.ensures left _ true c.if-settle.true c.settle.ensures) c.requires.well_formed.ends
+    c.common-left.ensures c.copy_from_slice.ensures.after left _ true c.if-settle.true c.settle.ensures) c.requires.well_formed.ends
 
 pub returns : goal.returns
 returns c =
@@ -51,4 +51,4 @@ returns c =
     let in_range = c.requires.filled.1 in
     near_none a.lower.now a.upper.now a.rows.now a.raised.now a.sets.now a.variable in_range a.values
     (near-settled a.lower.now a.upper.now a.rows.now a.raised.now a.sets.now a.variable in_range a.values _ _
-    c.common-left.ensures c.copy_sets.ensures left _ false c.if-settle.false c.settle.ensures)
+    c.common-left.ensures c.copy_from_slice.ensures.after left _ false c.if-settle.false c.settle.ensures)

@@ -9,17 +9,14 @@ use Rattle.arcs.proofs.prepare_rows.Goals as goal
 
 pub loop-e-preserved : goal.loop-e-preserved
 loop-e-preserved c =
-    let a = c.args in (
-      omega (arith, c.loop-e-test.true),
-      edge-written (partners_best a.case a.table.now a.best.now a.raised.now) _ _ c.loop-e-test.true _ _ _
-          c.loop-e.invariant.1 c.prepare_edge.ensures,
-    )
+    let a = c.args in
+    edge-written (partners_best a.case a.table.now a.best.now a.raised.now) _ _ (omega arith) _ _ _ c.loop-e.invariant c.prepare_edge.ensures
 
 pub returns : goal.returns
 unfolding best_rows
 returns c =
     let a = c.args in
     let l = c.loop-e in
-    let all : l.e ≡ a.case.m = omega (arith, c.loop-e-test.false, l.invariant.0) in
+    let all : l.e ≡ a.case.m = omega arith in
     subst (λ (m : ℕ). Written (λ q. get_or (rows_of (partners_best a.case a.table.now a.best.now a.raised.now) a.case.m) q 0) 0 (16 * m)
-    a.rows.now l.rows) all l.invariant.1
+    a.rows.now l.rows) all l.invariant

@@ -1,4 +1,4 @@
-use Prim.Native.Nat.{◌*◌, ◌-◌, ◌≤◌}
+use Prim.Native.Nat.{◌*◌}
 use lib.ListN.{get_or}
 use Rattle.arcs.specs.Active.{Written}
 use Rattle.arcs.specs.Best.{partners_best}
@@ -6,8 +6,5 @@ use Rattle.arcs.proofs.Marked.{rows_of}
 use Rattle.arcs.proofs.prepare_rows.Given as goal
 
 abbrev pub invariant-loop-e : goal.invariant-loop-e
-invariant-loop-e l = (l.e ≤ l.m) × Written (λ q. get_or (rows_of (partners_best l.case l.table l.best l.raised) l.case.m) q 0) 0 (16 * l.e)
+invariant-loop-e l = Written (λ q. get_or (rows_of (partners_best l.case l.table l.best l.raised) l.case.m) q 0) 0 (16 * l.e)
     l.initial.rows l.rows
-
-abbrev pub decreases-loop-e : goal.decreases-loop-e
-decreases-loop-e l = l.m - l.e

@@ -1,12 +1,9 @@
 use mathlib.Core.Path.{◌≡◌}
-use Prim.Native.Nat.{◌+◌, ◌-◌, ◌≤◌}
+use Prim.Native.Nat.{◌+◌}
 use lib.ListN.{get_or}
 use Rattle.arcs.specs.Partners.{has_partner}
 use Rattle.arcs.proofs.Search.{kept_below}
 use Rattle.arcs.proofs.supported.Given as goal
 
 abbrev pub invariant-loop-k : goal.invariant-loop-k
-invariant-loop-k l = (l.k ≤ 8) × (l.kept ≡ kept_below (λ v. has_partner (get_or l.rows (l.at + v) 0) l.other) l.set l.k)
-
-abbrev pub decreases-loop-k : goal.decreases-loop-k
-decreases-loop-k l = 8 - l.k
+invariant-loop-k l = l.kept ≡ kept_below (λ v. has_partner (get_or l.rows (l.at + v) 0) l.other) l.set l.k

@@ -1,4 +1,3 @@
-use native.Mathlib.Omega.{arith}
 use Rattle.arcs.proofs.Steps.{swept-more}
 use Rattle.arcs.proofs.sweep.Goals as goal
 use Rattle.arcs.proofs.sweep.Goals.{After-revise_edge-next}
@@ -6,8 +5,6 @@ use Rattle.arcs.proofs.sweep.Goals.{After-revise_edge-next}
 pub loop-e-preserved : goal.loop-e-preserved
 loop-e-preserved c =
     let a = c.args in
-    let l = c.loop-e in (
-      omega (arith, c.loop-e-test.true),
-      swept-more a.lower.now a.upper.now a.rows.now a.raised.now a.sets.now l.sets _ _ _ c.both-change.result _ l.invariant.1
-          c.revise_edge-next.ensures c.both-change.ensures,
-    )
+    let l = c.loop-e in
+    swept-more a.lower.now a.upper.now a.rows.now a.raised.now a.sets.now l.sets _ _ _ c.both-change.result _ l.invariant
+    c.revise_edge-next.ensures c.both-change.ensures

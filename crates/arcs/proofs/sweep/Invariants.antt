@@ -1,4 +1,4 @@
-use Prim.Native.Nat.{◌-◌, ◌≤◌, ◌<◌}
+use Prim.Native.Nat.{◌<◌}
 use lib.ListN.{length}
 use Rattle.arcs.specs.Closure.{network_of_bytes}
 use Rattle.arcs.specs.Sweeps.{Swept}
@@ -6,7 +6,4 @@ use Rattle.arcs.proofs.sweep.Given as goal
 
 abbrev pub invariant-loop-e : goal.invariant-loop-e
 invariant-loop-e l =
-    (l.e ≤ length l.raised) × Swept (network_of_bytes (length l.initial.sets) l.lower l.upper l.rows l.raised) (λ f up. f < l.e) l.initial.sets l.sets l.change
-
-abbrev pub decreases-loop-e : goal.decreases-loop-e
-decreases-loop-e l = length l.raised - l.e
+    Swept (network_of_bytes (length l.initial.sets) l.lower l.upper l.rows l.raised) (λ f up. f < l.e) l.initial.sets l.sets l.change

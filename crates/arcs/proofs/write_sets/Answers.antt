@@ -12,23 +12,21 @@ use Rattle.arcs.proofs.write_sets.Goals as goal
 
 pub bounds-sets-j : goal.bounds-sets-j
 bounds-sets-j c =
-    omega (arith, c.loop-j-test.true, c.loop-j.invariant.1.same_length, c.requires.case_in_bounds.1)
+    omega (arith, c.loop-j.invariant.same_length, c.requires.case_in_bounds.1)
 
 pub loop-j-preserved : goal.loop-j-preserved
 loop-j-preserved c =
     let a = c.args in
-    let l = c.loop-j in (
-      omega (arith, c.loop-j-test.true),
-      written_next _ _ _ _ _ l.invariant.1 (bounds-sets-j c)
-          (c.set_with.ensures
-          ∙ ap (λ (b : ℤ). set_where a.case (has_weight a.case a.table.now b) l.j)
-          (read_back w64 (get_or a.best.now l.j (pos 0)) (search rules))),
-    )
+    let l = c.loop-j in
+    written_next _ _ _ _ _ l.invariant (bounds-sets-j c)
+    (c.set_with.ensures
+    ∙ ap (λ (b : ℤ). set_where a.case (has_weight a.case a.table.now b) l.j)
+    (read_back w64 (get_or a.best.now l.j (pos 0)) (search rules)))
 
 pub returns : goal.returns
 returns c =
     let a = c.args in
     let l = c.loop-j in
-    let all : l.j ≡ a.case.n = omega (arith, c.loop-j-test.false, l.invariant.0) in
+    let all : l.j ≡ a.case.n = omega arith in
     sets-written _ _ _ _ _ c.requires.case_in_bounds.1
-    (subst (λ (n : ℕ). Written (set_where a.case (has_best a.case a.table.now a.best.now)) 0 n a.sets.now l.sets) all l.invariant.1)
+    (subst (λ (n : ℕ). Written (set_where a.case (has_best a.case a.table.now a.best.now)) 0 n a.sets.now l.sets) all l.invariant)

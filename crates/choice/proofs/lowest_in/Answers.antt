@@ -17,10 +17,10 @@ returns-then-is_unsupported c =
     ap says_unsupported (sym (c.none_supported-tried.ensures
     ∙ ap (λ (v : ℕ). tried_answer a.lower.now a.upper.now a.rows.now a.edges.now a.sets.now i v) c.byte_at.ensures))
     ∙ sym c.is_unsupported.ensures in
-    sym (first-is asks (length a.sets.now) i c.loop-i-test.true (asked ∙ c.if-is_unsupported.true) c.loop-i.invariant.1)
+    sym (first-is asks (length a.sets.now) i (omega arith) (asked ∙ c.if-is_unsupported.true) c.loop-i.invariant)
 
 pub returns : goal.returns
 returns c =
     let a = c.args in
     let asks : ℕ → Bool = unsupported_in a.lower.now a.upper.now a.acts.now a.rows.now a.edges.now a.sets.now in
-    sym (first-nothing asks (length a.sets.now) (λ j h. c.loop-i.invariant.1 j (omega (arith, c.loop-i-test.false))))
+    sym (first-nothing asks (length a.sets.now) (λ j h. c.loop-i.invariant j (omega arith)))

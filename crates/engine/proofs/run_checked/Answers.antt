@@ -1,13 +1,13 @@
 use Rattle.std.specs.Prelude.{Result}
 use Rattle.definitions.specs.declared.Refusal.{Refusal}
 use mathlib.Core.Path.{◌≡◌, refl, subst, ◌∙◌}
-use Prim.Native.Nat.{◌≤◌}
+use Prim.Native.Nat.{ℕ, ◌≤◌}
 use native.Mathlib.Omega.{arith}
 use lib.ListN.{length}
 use Rattle.definitions.specs.declared.Round.{Round}
 use Rattle.definitions.specs.Rules.{rules_of}
 use Rattle.definitions.specs.Engine.{round_bytes}
-use Rattle.engine.specs.Rounds.{MadeRound}
+use Rattle.engine.specs.Rounds.{MadeRound, RunIs, stopped_run}
 use Rattle.engine.proofs.Runs.{run-starts, run-goes-on, settled-run, void-run, run-leaves, run-limits}
 use Rattle.engine.proofs.Runs.{still-settled, still-void, still-refused, still-made}
 use Rattle.engine.proofs.run_checked.Goals as goal
@@ -16,7 +16,7 @@ use Rattle.engine.proofs.run_checked.Goals.{After-round_checked-made, At-loop-do
 
 -- there is room for a round
 room : (c : At-loop-done) → round_bytes (rules_of c.args.case) c.args.case ≤ length c.loop-done.out
-room c = omega (arith, c.requires.case_in_bounds, c.loop-done.invariant.1.outs)
+room c = omega (arith, c.requires.case_in_bounds, c.loop-done.invariant.0.outs)
 
 did : (c : After-round_checked-made) → {r : Result Round Refusal} → c.round_checked-made.result ≡ r
     → MadeRound c.args.pairs c.args.case c.loop-done.table c.loop-done.out c.round_checked-made.new.table
@@ -29,7 +29,7 @@ did c e =
 same : (c : After-round_checked-made) → let a = c.args in
     Same a.table.now c.round_checked-made.new.table a.out.now c.round_checked-made.new.out a.best.now
     c.round_checked-made.new.best
-same c = let k = c.round_checked-made.auto in let s = c.loop-done.invariant.1 in record {
+same c = let k = c.round_checked-made.auto in let s = c.loop-done.invariant.0 in record {
   tables = k.table ∙ s.tables;
   outs = k.out ∙ s.outs;
   bests = k.best ∙ s.bests;
@@ -38,7 +38,6 @@ same c = let k = c.round_checked-made.auto in let s = c.loop-done.invariant.1 in
 pub loop-done-init : goal.loop-done-init
 loop-done-init c =
     let a = c.args in (
-      omega arith,
       record { tables = refl; outs = refl; bests = refl },
       c.requires.handed.0,
       c.requires.handed.1,
@@ -48,41 +47,41 @@ loop-done-init c =
 
 pub stop_run-requires : goal.stop_run-requires
 stop_run-requires c =
-    (still-settled c.loop-done.invariant.2 (room (goal.at.stop_run-requires c).At-loop-done) (did (goal.at.stop_run-requires c).After-round_checked-made c.in-Ok-Settled.is), c.round_checked-made.ensures.1)
+    (still-settled c.loop-done.invariant.1 (room (goal.at.stop_run-requires c).At-loop-done) (did (goal.at.stop_run-requires c).After-round_checked-made c.in-Ok-Settled.is), c.round_checked-made.ensures.1)
 
 pub returns-in-Ok-Settled : goal.returns-in-Ok-Settled
 returns-in-Ok-Settled c =
     let a = c.args in
     let l = c.loop-done in
     rw c.stop_run.ensures
-    (settled-run a.pairs a.case a.limit a.table.now a.out.now l.done l.table l.out l.invariant.2 (room (goal.at.returns-in-Ok-Settled c).At-loop-done) l.invariant.4
-    c.loop-done-test.true
+    (settled-run a.pairs a.case a.limit a.table.now a.out.now l.done l.table l.out l.invariant.1 (room (goal.at.returns-in-Ok-Settled c).At-loop-done) l.invariant.3
+    (omega arith)
     (did (goal.at.returns-in-Ok-Settled c).After-round_checked-made c.in-Ok-Settled.is))
 
 pub stop_run-requires-in-Err : goal.stop_run-requires-in-Err
 stop_run-requires-in-Err c =
-    (still-refused c.loop-done.invariant.2 (room (goal.at.stop_run-requires-in-Err c).At-loop-done) (did (goal.at.stop_run-requires-in-Err c).After-round_checked-made c.in-Err.is), c.round_checked-made.ensures.1)
+    (still-refused c.loop-done.invariant.1 (room (goal.at.stop_run-requires-in-Err c).At-loop-done) (did (goal.at.stop_run-requires-in-Err c).After-round_checked-made c.in-Err.is), c.round_checked-made.ensures.1)
 
 pub returns-in-Err : goal.returns-in-Err
 returns-in-Err c =
     let a = c.args in
     let l = c.loop-done in
     rw c.stop_run-in-Err.ensures
-    (run-leaves a.pairs a.case a.limit a.table.now a.out.now l.done l.table l.out l.invariant.2 (room (goal.at.returns-in-Err c).At-loop-done) l.invariant.4
-    c.loop-done-test.true
+    (run-leaves a.pairs a.case a.limit a.table.now a.out.now l.done l.table l.out l.invariant.1 (room (goal.at.returns-in-Err c).At-loop-done) l.invariant.3
+    (omega arith)
     (did (goal.at.returns-in-Err c).After-round_checked-made c.in-Err.is))
 
 pub stop_run-requires-in-Ok-Void : goal.stop_run-requires-in-Ok-Void
 stop_run-requires-in-Ok-Void c =
-    (still-void c.loop-done.invariant.2 (room (goal.at.stop_run-requires-in-Ok-Void c).At-loop-done) (did (goal.at.stop_run-requires-in-Ok-Void c).After-round_checked-made c.in-Ok-Void.is), c.round_checked-made.ensures.1)
+    (still-void c.loop-done.invariant.1 (room (goal.at.stop_run-requires-in-Ok-Void c).At-loop-done) (did (goal.at.stop_run-requires-in-Ok-Void c).After-round_checked-made c.in-Ok-Void.is), c.round_checked-made.ensures.1)
 
 pub returns-in-Ok-Void : goal.returns-in-Ok-Void
 returns-in-Ok-Void c =
     let a = c.args in
     let l = c.loop-done in
     rw c.stop_run-in-Ok-Void.ensures
-    (void-run a.pairs a.case a.limit a.table.now a.out.now l.done l.table l.out l.invariant.2 (room (goal.at.returns-in-Ok-Void c).At-loop-done) l.invariant.4
-    c.loop-done-test.true
+    (void-run a.pairs a.case a.limit a.table.now a.out.now l.done l.table l.out l.invariant.1 (room (goal.at.returns-in-Ok-Void c).At-loop-done) l.invariant.3
+    (omega arith)
     (did (goal.at.returns-in-Ok-Void c).After-round_checked-made c.in-Ok-Void.is))
 
 pub loop-done-preserved : goal.loop-done-preserved
@@ -90,18 +89,19 @@ loop-done-preserved c =
     let a = c.args in
     let l = c.loop-done in
     let d = did (goal.at.loop-done-preserved c).After-round_checked-made c.in-Ok-Made.is in (
-      omega (arith, c.loop-done-test.true),
       same (goal.at.loop-done-preserved c).After-round_checked-made,
-      still-made l.invariant.2 (room (goal.at.loop-done-preserved c).At-loop-done) d,
+      still-made l.invariant.1 (room (goal.at.loop-done-preserved c).At-loop-done) d,
       c.round_checked-made.ensures.1,
-      run-goes-on a.pairs a.case a.limit a.table.now a.out.now l.done l.table l.out l.invariant.2 (room (goal.at.loop-done-preserved c).At-loop-done) l.invariant.4
-          c.loop-done-test.true d,
+      run-goes-on a.pairs a.case a.limit a.table.now a.out.now l.done l.table l.out l.invariant.1 (room (goal.at.loop-done-preserved c).At-loop-done) l.invariant.3
+          (omega arith) d,
     )
 
 pub returns : goal.returns
 returns c =
     let a = c.args in
     let l = c.loop-done in
+    let all : l.done ≡ a.limit = omega arith in
     rw c.stop_run-2.ensures
-    (run-limits a.pairs a.case a.limit a.table.now a.out.now l.done l.table l.out l.invariant.2 (room (goal.at.returns c).At-loop-done) l.invariant.4
-    c.loop-done-test.false c.at_limit-answer.ensures)
+    (subst (λ (n : ℕ). RunIs a.pairs a.case a.limit a.table.now a.out.now l.table c.at_limit-answer.new.out
+    (stopped_run a.case l.table c.at_limit-answer.result n)) all (run-limits a.pairs a.case a.limit a.table.now a.out.now l.done l.table l.out l.invariant.1 (room (goal.at.returns c).At-loop-done) l.invariant.3
+    (omega arith) c.at_limit-answer.ensures))

@@ -1,6 +1,6 @@
 use mathlib.Core.Path.{◌≡◌}
 use mathlib.Core.List.{List}
-use Prim.Native.Nat.{ℕ, ◌-◌, ◌≤◌}
+use Prim.Native.Nat.{ℕ}
 use lib.IntN.{ℤ}
 use lib.ListN.{length}
 use Rattle.definitions.specs.Rules.{rules_of}
@@ -17,8 +17,5 @@ pub record Same (table₀ table : List ℤ) (out₀ out : List ℕ) (best₀ bes
 
 abbrev pub invariant-loop-done : goal.invariant-loop-done
 invariant-loop-done l =
-    (l.done ≤ l.limit) × Same l.initial.table l.table l.initial.out l.out l.initial.best l.best × Handed (rules_of l.case) (working_weight (rules_of l.case)) l.case l.table × BestOf l.case l.table l.best
+    Same l.initial.table l.table l.initial.out l.out l.initial.best l.best × Handed (rules_of l.case) (working_weight (rules_of l.case)) l.case l.table × BestOf l.case l.table l.best
     × Going l.pairs l.case l.limit l.initial.table l.initial.out l.done l.table l.out
-
-abbrev pub decreases-loop-done : goal.decreases-loop-done
-decreases-loop-done l = l.limit - l.done

@@ -9,17 +9,14 @@ use Rattle.families.proofs.write_partners.Goals as goal
 
 pub loop-e-preserved : goal.loop-e-preserved
 loop-e-preserved c =
-    let a = c.args in (
-      omega (arith, c.loop-e-test.true),
-      edge-next a.case a.rows.now a.sets.now c.loop-e.e c.loop-e-test.true _ _ _ c.loop-e.invariant.1
-          c.write_edge.ensures,
-    )
+    let a = c.args in
+    edge-next a.case a.rows.now a.sets.now c.loop-e.e (omega arith) _ _ _ c.loop-e.invariant c.write_edge.ensures
 
 pub returns : goal.returns
 returns c =
     let a = c.args in
     let l = c.loop-e in
-    let all : l.e ≡ a.case.m = omega (arith, c.loop-e-test.false, l.invariant.0) in
+    let all : l.e ≡ a.case.m = omega arith in
     all-written a.case a.rows.now a.sets.now _ _ c.requires.m_in_bounds.1
     (subst (λ (m : ℕ). Written (λ q. get_or (all_bytes a.case a.rows.now a.sets.now) q 0) 0 (m * (2 * a.case.d)) a.partners.now l.partners)
-    all l.invariant.1)
+    all l.invariant)

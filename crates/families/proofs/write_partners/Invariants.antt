@@ -1,11 +1,8 @@
-use Prim.Native.Nat.{◌*◌, ◌-◌, ◌≤◌}
+use Prim.Native.Nat.{◌*◌}
 use lib.ListN.{get_or}
 use Rattle.arcs.specs.Active.{Written}
 use Rattle.families.specs.Closing.{all_bytes}
 use Rattle.families.proofs.write_partners.Given as goal
 
 abbrev pub invariant-loop-e : goal.invariant-loop-e
-invariant-loop-e l = (l.e ≤ l.m) × Written (λ q. get_or (all_bytes l.case l.rows l.sets) q 0) 0 (l.e * (2 * l.case.d)) l.initial.partners l.partners
-
-abbrev pub decreases-loop-e : goal.decreases-loop-e
-decreases-loop-e l = l.m - l.e
+invariant-loop-e l = Written (λ q. get_or (all_bytes l.case l.rows l.sets) q 0) 0 (l.e * (2 * l.case.d)) l.initial.partners l.partners

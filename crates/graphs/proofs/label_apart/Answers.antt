@@ -10,5 +10,5 @@ pub returns : goal.returns
 returns c =
     let l = c.loop-i in
     let S = c.args.labels.now in
-    let all : l.i ≡ length S = omega (arith, c.loop-i-test.false, l.invariant.0, l.invariant.1.same_length) in
-    own-written S l.labels (subst (λ (n : ℕ). Written (λ p. p) 0 n S l.labels) all l.invariant.1)
+    let all : l.i ≡ length S = omega (arith, l.invariant.same_length) in
+    own-written S l.labels (subst (λ (n : ℕ). Written (λ p. p) 0 n S l.labels) all l.invariant)

@@ -9,8 +9,8 @@ use Rattle.graphs.proofs.relabel.Goals as goal
 
 pub returns : goal.returns
 returns c =
-    let l = c.loop-i in
+    let l = c.loop-label in
     let a = c.args in
     let S = a.labels.now in
-    let all : l.i ≡ length S = omega (arith, c.loop-i-test.false, l.invariant.0, l.invariant.1.same_length) in
-    map-written S l.labels (renamed a.from a.to) (subst (λ (n : ℕ). Written (λ p. renamed a.from a.to (get_or S p 0)) 0 n S l.labels) all l.invariant.1)
+    let all : l.label-index ≡ length S = omega (arith, l.invariant.same_length) in
+    map-written S l.labels (renamed a.from a.to) (subst (λ (n : ℕ). Written (λ p. renamed a.from a.to (get_or S p 0)) 0 n S l.labels) all l.invariant)

@@ -1,11 +1,7 @@
-use Prim.Native.Nat.{◌-◌, ◌≤◌}
-use lib.ListN.{length, get_or}
+use lib.ListN.{get_or}
 use Rattle.definitions.specs.Graph.{renamed}
 use Rattle.arcs.specs.Active.{Written}
 use Rattle.graphs.proofs.relabel.Given as goal
 
-abbrev pub invariant-loop-i : goal.invariant-loop-i
-invariant-loop-i l = (l.i ≤ length l.initial.labels) × Written (λ p. renamed l.from l.to (get_or l.initial.labels p 0)) 0 l.i l.initial.labels l.labels
-
-abbrev pub decreases-loop-i : goal.decreases-loop-i
-decreases-loop-i l = length l.initial.labels - l.i
+abbrev pub invariant-loop-label : goal.invariant-loop-label
+invariant-loop-label l = Written (λ p. renamed l.from l.to (get_or l.initial.labels p 0)) 0 l.label-index l.initial.labels l.labels

@@ -8,23 +8,23 @@ use Rattle.arcs.proofs.Search.{lowest-struck}
 use Rattle.pair_choice.specs.PairChoice.{has_choice}
 use Rattle.pair_choice.proofs.Choices.{no-partner, a-partner, no-choice, choice-less, a-choice}
 use Rattle.pair_choice.proofs.has_choice.Goals as goal
-use Rattle.pair_choice.proofs.has_choice.Goals.{After-strike-left, After-wide_size}
+use Rattle.pair_choice.proofs.has_choice.Goals.{After-strike-left, After-from}
 
 -- the value that is looked at
-value-small : (c : After-wide_size) → c.wide_size.result < 8
+value-small : (c : After-from) → c.from.result < 8
 value-small c =
     let filled : 0 < c.loop-left.left = omega (arith, c.loop-left-test.true) in
-    omega (arith, c.wide_size.ensures.0, c.lowest-k.ensures, lowest-small c.loop-left.left c.loop-left.invariant.0 filled)
+    omega (arith, c.from.ensures, c.lowest-k.ensures, lowest-small c.loop-left.left c.loop-left.invariant.0 filled)
 
 pub bounds-rows-at : goal.bounds-rows-at
-bounds-rows-at c = omega (arith, value-small (goal.at.bounds-rows-at c).After-wide_size)
+bounds-rows-at c = omega (arith, value-small (goal.at.bounds-rows-at c).After-from)
 
 pub returns-then-common-ne0 : goal.returns-then-common-ne0
 returns-then-common-ne0 c =
     let a = c.args in
-    a-choice a.rows.now a.at a.other c.loop-left.left c.wide_size.result c.loop-left.invariant.0 c.loop-left-test.true
-    (c.wide_size.ensures.0 ∙ c.lowest-k.ensures)
-    (a-partner a.rows.now a.at a.other c.wide_size.result c.common.result c.common.ensures c.if-common-ne0.true)
+    a-choice a.rows.now a.at a.other c.loop-left.left c.from.result c.loop-left.invariant.0 c.loop-left-test.true
+    (c.from.ensures ∙ c.lowest-k.ensures)
+    (a-partner a.rows.now a.at a.other c.from.result c.common.result c.common.ensures c.if-common-ne0.true)
     ∙ c.loop-left.invariant.1
 
 -- the value is struck
@@ -44,7 +44,7 @@ loop-left-preserved c =
       ap (λ (s : ℕ). has_choice a.rows.now a.at s a.other) c.strike-left.ensures
           ∙ choice-less a.rows.now a.at a.other c.loop-left.left c.lowest-k.result
           (no-partner a.rows.now a.at a.other c.lowest-k.result c.common.result
-          (c.common.ensures ∙ ap (λ (i : ℕ). in_both (get_or a.rows.now (a.at + i) 0) a.other) c.wide_size.ensures.0) c.if-common-ne0.false)
+          (c.common.ensures ∙ ap (λ (i : ℕ). in_both (get_or a.rows.now (a.at + i) 0) a.other) c.from.ensures) c.if-common-ne0.false)
           ∙ c.loop-left.invariant.1,
     )
 

@@ -1,13 +1,10 @@
 use mathlib.Core.Path.{◌≡◌}
 use mathlib.Core.Bool.{false}
-use Prim.Native.Nat.{ℕ, ◌-◌, ◌<◌}
+use Prim.Native.Nat.{ℕ, ◌<◌}
 use Rattle.definitions.specs.Rules.{rules_of}
-use Rattle.pair_choice.specs.PairChoice.{active_choice, takes_pair}
+use Rattle.pair_choice.specs.PairChoice.{takes_pair}
 use Rattle.pair_choice.proofs.lowest_in.Given as goal
 
 abbrev pub invariant-loop-e : goal.invariant-loop-e
 invariant-loop-e l =
-    ((j : ℕ) → j < l.e → takes_pair (rules_of l.case) l.case l.table l.best l.acts l.rows j ≡ false) × (l.e < l.m → active_choice l.case l.acts l.rows l.e ≡ false)
-
-abbrev pub decreases-loop-e : goal.decreases-loop-e
-decreases-loop-e l = l.m - l.e
+    (j : ℕ) → j < l.e → takes_pair (rules_of l.case) l.case l.table l.best l.acts l.rows j ≡ false

@@ -32,4 +32,4 @@ pub returns : goal.returns
 returns c =
     let a = c.args in
     not_found (λ l. is_asked (rules_in a.rulebook) a.asked (at_place a.table.now a.own) (at_place a.table.now (a.upper + l))
-    (at_place a.table.now (a.row + l))) a.d (λ l h. c.loop-l.invariant.1 l (omega arith))
+    (at_place a.table.now (a.row + l))) a.d (λ l h. c.loop-l.invariant l (omega arith))

@@ -16,4 +16,4 @@ pub returns : goal.returns
 returns c =
     let a = c.args in
     not_found (λ k. row_has (rules_in a.rulebook) a.table.now a.asked (a.lower + k) a.upper (a.at + k * a.d) a.d) a.d
-    (λ k h. c.loop-k.invariant.1 k (omega arith))
+    (λ k h. c.loop-k.invariant k (omega arith))

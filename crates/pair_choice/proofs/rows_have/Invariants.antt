@@ -1,13 +1,10 @@
 use mathlib.Core.Path.{◌≡◌}
 use mathlib.Core.Bool.{false}
-use Prim.Native.Nat.{ℕ, ◌+◌, ◌*◌, ◌-◌, ◌≤◌, ◌<◌}
+use Prim.Native.Nat.{ℕ, ◌+◌, ◌*◌, ◌<◌}
 use Rattle.definitions.specs.Rules.{rules_in}
 use Rattle.pair_choice.specs.PairChoice.{row_has}
 use Rattle.pair_choice.proofs.rows_have.Given as goal
 
 abbrev pub invariant-loop-k : goal.invariant-loop-k
 invariant-loop-k l =
-    (l.k ≤ l.d) × ((j : ℕ) → j < l.k → row_has (rules_in l.rulebook) l.table l.asked (l.lower + j) l.upper (l.at + j * l.d) l.d ≡ false)
-
-abbrev pub decreases-loop-k : goal.decreases-loop-k
-decreases-loop-k l = l.d - l.k
+    ((j : ℕ) → j < l.k → row_has (rules_in l.rulebook) l.table l.asked (l.lower + j) l.upper (l.at + j * l.d) l.d ≡ false)

@@ -11,5 +11,5 @@ returns c =
     let at : ℕ = a.case.n * a.case.d + a.edge * (a.case.d * a.case.d) in
     c.rows_have.ensures
     ∙ ap₂ (λ (i j : ℕ). rows_have (rules_of a.case) a.table.now a.asked (i * a.case.d) (j * a.case.d) at a.case.d)
-    c.wide_size.ensures.0 c.wide_size-2.ensures.0
+    c.from.ensures c.from-2.ensures
     ∙ tuples-placed (rules_of a.case) a.case a.table.now a.asked a.edge c.requires.2

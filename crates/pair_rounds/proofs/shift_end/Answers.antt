@@ -6,7 +6,6 @@ use Rattle.pair_rounds.proofs.shift_end.Goals as goal
 
 pub loop-value-init : goal.loop-value-init
 loop-value-init c = (
-  omega arith,
   refl,
   refl,
   refl,
@@ -15,14 +14,13 @@ loop-value-init c = (
 
 pub shift_value-at-requires : goal.shift_value-at-requires
 shift_value-at-requires c =
-    let h = value-ready c.requires.ready c.args.end c.requires.allows c.requires.end_in_bounds c.loop-value-test.true c.loop-value.invariant.3 c.loop-value.invariant.4 in record { ready = h.0; allows = h.1.0; value_in_bounds = h.1.1 }
+    let h = value-ready c.requires.ready c.args.end c.requires.allows c.requires.end_in_bounds (omega arith) c.loop-value.invariant.2 c.loop-value.invariant.3 in record { ready = h.0; allows = h.1.0; value_in_bounds = h.1.1 }
 
 pub loop-value-preserved : goal.loop-value-preserved
 loop-value-preserved c =
     let k = c.shift_value-at.auto in (
-      omega (arith, c.loop-value-test.true),
-      k.table ∙ c.loop-value.invariant.1,
-      k.best ∙ c.loop-value.invariant.2,
-      k.out ∙ c.loop-value.invariant.3,
-      value-done c.requires.ready c.args.end c.requires.allows c.requires.end_in_bounds c.loop-value-test.true c.loop-value.invariant.3 c.loop-value.invariant.4 c.shift_value-at.ensures,
+      k.table ∙ c.loop-value.invariant.0,
+      k.best ∙ c.loop-value.invariant.1,
+      k.out ∙ c.loop-value.invariant.2,
+      value-done c.requires.ready c.args.end c.requires.allows c.requires.end_in_bounds (omega arith) c.loop-value.invariant.2 c.loop-value.invariant.3 c.shift_value-at.ensures,
     )

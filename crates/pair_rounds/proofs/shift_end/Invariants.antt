@@ -1,5 +1,4 @@
 use mathlib.Core.Path.{◌≡◌}
-use Prim.Native.Nat.{◌-◌, ◌≤◌}
 use lib.ListN.{length}
 use Rattle.pair_rounds.specs.Shifts.{Shifted}
 use Rattle.pair_rounds.proofs.Moves.{shifts_below}
@@ -7,8 +6,5 @@ use Rattle.pair_rounds.proofs.shift_end.Given as goal
 
 abbrev pub invariant-loop-value : goal.invariant-loop-value
 invariant-loop-value l =
-    (l.value ≤ l.case.d) × (length l.table ≡ length l.initial.table) × (length l.best ≡ length l.initial.best) × (length l.out ≡ length l.initial.out)
+    (length l.table ≡ length l.initial.table) × (length l.best ≡ length l.initial.best) × (length l.out ≡ length l.initial.out)
     × Shifted l.case (shifts_below l.case l.initial.table l.edge l.end l.value) l.initial.table l.table l.best l.from l.at l.initial.out l.out
-
-abbrev pub decreases-loop-value : goal.decreases-loop-value
-decreases-loop-value l = l.case.d - l.value

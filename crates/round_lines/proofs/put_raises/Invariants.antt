@@ -1,5 +1,5 @@
 use mathlib.Core.Path.{◌≡◌}
-use Prim.Native.Nat.{◌+◌, ◌*◌, ◌-◌, ◌≤◌}
+use Prim.Native.Nat.{◌+◌, ◌*◌}
 use lib.ListN.{length}
 use Rattle.definitions.specs.Lines.{line_length}
 use Rattle.round_lines.specs.Press.{raised_below}
@@ -8,9 +8,5 @@ use Rattle.round_lines.proofs.put_raises.Given as goal
 
 abbrev pub invariant-loop-x : goal.invariant-loop-x
 invariant-loop-x l =
-    (l.x ≤ l.scopes)
-    × (length l.out ≡ length l.initial.out)
+    (length l.out ≡ length l.initial.out)
     × ((l.at ≡ l.from + line_length l.width * length (raised_below l.raised l.x)) × PutRaises l.width l.from (raised_below l.raised l.x) l.at l.initial.out l.out)
-
-abbrev pub decreases-loop-x : goal.decreases-loop-x
-decreases-loop-x l = l.scopes - l.x

@@ -1,13 +1,10 @@
 use mathlib.Core.Path.{◌≡◌}
-use Prim.Native.Nat.{ℕ, ◌-◌, ◌≤◌, ◌<◌}
-use lib.ListN.{length, get_or}
+use Prim.Native.Nat.{ℕ, ◌<◌}
+use lib.ListN.{get_or}
 use Rattle.std.specs.Prelude.{if◌then◌else◌}
 use Rattle.calls.specs.Calls.{is_raised}
 use Rattle.engine.proofs.choosing.allow.Given as goal
 
 abbrev pub invariant-loop-j : goal.invariant-loop-j
 invariant-loop-j l =
-    (l.j ≤ l.n) × (length l.sets ≡ length l.initial.sets) × ((k : ℕ) → k < l.j → get_or l.sets k 0 ≡ (if is_raised l.raised k then get_or l.acts k 0 else l.full))
-
-abbrev pub decreases-loop-j : goal.decreases-loop-j
-decreases-loop-j l = l.n - l.j
+    (k : ℕ) → k < l.j → get_or l.sets k 0 ≡ (if is_raised l.raised k then get_or l.acts k 0 else l.full)

@@ -1,5 +1,6 @@
-use mathlib.Core.Path.{◌≡◌, sym, subst}
-use native.Mathlib.Omega.{arith}
+use mathlib.Core.Path.{◌≡◌, refl, sym, ap, subst, ◌∙◌}
+use mathlib.Core.List.{List}
+use Prim.Native.Nat.{ℕ}
 use lib.ListN.{length, get_or, take}
 use lib.Seq.{length-take-le}
 use Rattle.arcs.specs.Tried.{tried_answer}
@@ -10,15 +11,7 @@ use Rattle.engine.proofs.Choice.{chosen-in, chosen-says, lowest-chosen}
 use borrow.Author.Rules.{rules}
 use Rattle.definitions.specs.Rules.{edge_places}
 use Rattle.engine.proofs.choosing.choose.Goals as goal
-use Rattle.engine.proofs.choosing.choose.Goals.{After-copy_bytes, Start}
-
--- the sets of the variables
-prefix-length : (c : After-copy_bytes)
-    → length (take c.args.case.n c.copy_bytes.new.to)
-    ≡ c.args.case.n
-prefix-length c =
-    length-take-le c.args.case.n c.copy_bytes.new.to
-    (omega (arith, c.requires.2, c.copy_bytes.auto.to))
+use Rattle.engine.proofs.choosing.choose.Goals.{Start}
 
 ends : (c : Start) → (length c.args.case.lower ≡ edge_places) × (length c.args.case.upper ≡ edge_places)
 ends c = (search rules, search rules)
@@ -26,20 +19,16 @@ ends c = (search rules, search rules)
 pub returns : goal.returns
 returns c =
     let a = c.args in
-    let sets = c.copy_bytes.new.to in
-    let e = sym c.lowest_unsupported.ensures.value in (
+    let edges = edges_of a.case a.raised.now in
+    let sets = take a.case.n a.acts.now in
+    let e = sym (c.lowest_unsupported.ensures.value
+    ∙ ap (lowest_unsupported a.case.lower a.case.upper a.acts.now a.rows.now edges) c.copy_from_slice.ensures.after) in (
       subst (ChosenIn a.case) e
-          (chosen-in a.case (λ i. says_unsupported (tried_answer a.case.lower a.case.upper a.rows.now (edges_of a.case a.raised.now)
-          (take a.case.n sets) i (get_or a.acts.now i 0))) (length (take a.case.n sets))
-          (prefix-length (goal.at.returns c).After-copy_bytes)),
+          (chosen-in a.case (λ i. says_unsupported (tried_answer a.case.lower a.case.upper a.rows.now edges sets i (get_or a.acts.now i 0)))
+          (length sets) (length-take-le a.case.n a.acts.now c.requires.1)),
       λ w p all.
           subst (ChosenIs a.case w) e
-          (chosen-says a.case w (lowest_unsupported a.case.lower a.case.upper a.acts.now a.rows.now (edges_of a.case a.raised.now)
-          (take a.case.n sets))
-          (sym (lowest-chosen a.case w a.raised.now sets p all c.copy_bytes.ensures
-          (ends (goal.at.returns c).Start).0 (ends (goal.at.returns c).Start).1 c.requires.0 (omega (
-            arith,
-            c.requires.2,
-            c.copy_bytes.auto.to,
-          ))))),
+          (chosen-says a.case w (lowest_unsupported a.case.lower a.case.upper a.acts.now a.rows.now edges sets)
+          (sym (lowest-chosen a.case w a.raised.now a.acts.now p all (λ j h. refl) (ends (goal.at.returns c).Start).0 (ends (goal.at.returns c).Start).1
+          c.requires.0 c.requires.1))),
     )

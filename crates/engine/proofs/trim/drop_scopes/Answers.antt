@@ -6,20 +6,19 @@ use Rattle.engine.proofs.trim.drop_scopes.Goals as goal
 pub loop-x-init : goal.loop-x-init
 loop-x-init c =
     let a = c.args in
-    (omega arith, refl, refl, λ w p o q. (q, trim-first a.case w a.variable a.raised.now o))
+    (refl, refl, λ w p o q. (q, trim-first a.case w a.variable a.raised.now o))
 
 pub loop-x-preserved : goal.loop-x-preserved
 loop-x-preserved c =
     let a = c.args in
     let d = c.drop_scope in (
-      omega (arith, c.loop-x-test.true),
-      d.auto.raised ∙ c.loop-x.invariant.1,
-      d.auto.enough ∙ c.loop-x.invariant.2,
+      d.auto.raised ∙ c.loop-x.invariant.0,
+      d.auto.enough ∙ c.loop-x.invariant.1,
       λ w p o q.
-          let (b, e) = c.loop-x.invariant.3 w p o q in
+          let (b, e) = c.loop-x.invariant.2 w p o q in
           let (f, g) = d.ensures w p b in (
             f,
-            trim-next a.case w a.variable (omega (arith, c.loop-x-test.true))
-                (omega (arith, c.loop-x.invariant, c.requires, c.loop-x-test.true)) g ∙ e,
+            trim-next a.case w a.variable (omega arith)
+                (omega (arith, c.loop-x.invariant, c.requires)) g ∙ e,
           ),
     )
