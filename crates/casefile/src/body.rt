@@ -157,9 +157,8 @@ pub(crate) fn read_lines(
         (reading_of sizes lower.old upper.old table.old) 0 bytes.now }
 {
     let total = case_lines::lines_due(sizes);
-    let mut q: usize = 0;
     let mut due = case_lines::first_due(sizes);
-    while q < total {
+    for q in 0..total {
         let taken = take_at(bytes, sizes, q, due, lower, upper, table);
         match taken {
             Outcome::Refused(refusal) => {
@@ -168,11 +167,8 @@ pub(crate) fn read_lines(
                     line: q + 1,
                 };
             }
-            Outcome::Done => {
-                due = case_lines::next_due(sizes, due);
-                q += 1;
-            }
+            Outcome::Done => due = case_lines::next_due(sizes, due),
         }
     }
-    FileAnswer::Read { lines: q + 1 }
+    FileAnswer::Read { lines: total + 1 }
 }

@@ -15,12 +15,6 @@ const ROOM: usize = 64;
 // The greatest line and the greatest number of rounds that are written.
 const GREATEST: u64 = 9_223_372_036_854_775_807;
 
-fn whole(x: u8) -> i64
-    ensures { result ≡ pos x }
-{
-    x as i64
-}
-
 // Puts the bytes at byte `at`, and answers where they end.
 fn put(out: &mut [u8], at: usize, bytes: &[u8]) -> usize
     requires { at + length bytes.now ≤ length out.old }
@@ -93,7 +87,7 @@ pub fn write_refused(out: &mut [u8], refusal: Refusal, line: usize) -> Written
     if GREATEST < count {
         return Written::Refused(Refusal::OutOfRange);
     }
-    Written::Bytes(print(out, b"refused ", whole(number_of(refusal)), line as i64))
+    Written::Bytes(print(out, b"refused ", i64::from(number_of(refusal)), line as i64))
 }
 
 // `accepted`, the rounds and the upper bound.
