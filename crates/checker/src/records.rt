@@ -1,5 +1,5 @@
 // The next record, in parts and whole.
-ghost use Rattle.std.specs.Prelude.{◌≡◌, true, false, ◌+◌, ◌^◌, ◌<◌, length, replicate};
+ghost use Rattle.std.specs.Prelude.{◌≡◌, true, false, ◌+◌, ◌^◌, ◌<◌};
 ghost use Rattle.checker.specs.Taken.{standing_after, replay_of};
 
 use crate::{Due, Progress, Replay, Standing, Taken};
@@ -110,15 +110,5 @@ pub(crate) fn stands(answer: Outcome) -> Standing
     match answer {
         Outcome::Done => Standing::Good,
         Outcome::Refused(refusal) => Standing::Refused(refusal),
-    }
-}
-
-pub(crate) fn clear(raised: &mut [u8])
-    ensures { raised.new ≡ replicate (length raised.old) 0 }
-{
-    let mut x: usize = 0;
-    while x < raised.len() {
-        raised[x] = 0;
-        x += 1;
     }
 }

@@ -97,10 +97,9 @@ fn span_in(log: &[u8], round: u64, width: usize) -> Span
     ensures { result ≡ span_in width log.now round }
 {
     let whole = log.len() / (15 + width);
-    let mut at: usize = 0;
     let mut from: usize = 0;
     let mut left = round;
-    while at < whole {
+    for at in 0..whole {
         let step = step_at(log, width, at, from, left);
         match step {
             Step::Stop(span) => return span,
@@ -112,11 +111,10 @@ fn span_in(log: &[u8], round: u64, width: usize) -> Span
                 left = fewer;
             }
         }
-        at += 1;
     }
     Span::Refused {
         refusal: not_there(log, width),
-        line: at,
+        line: whole,
     }
 }
 
