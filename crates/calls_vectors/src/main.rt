@@ -406,7 +406,11 @@ fn shift(call: Call, case: Case, t: &mut [i64], shown: usize) {
 }
 
 fn scope_at(list: &[u8], i: usize) -> u16 {
-    if i < list.len() { u16::from(list[i]) } else { 0 }
+    if i < list.len() {
+        u16::from(list[i])
+    } else {
+        0
+    }
 }
 
 fn press_list(call: Call, case: Case, t: &mut [i64], shown: usize, list: &[u16]) {

@@ -3,23 +3,20 @@ use mathlib.Core.Path.{◌≡◌, refl, sym, ap, ap₂, ◌∙◌}
 use mathlib.Core.Bool.{Bool, true, false}
 use mathlib.Core.List.{List, [], ◌∷◌}
 use Prim.Native.Nat.{ℕ, zero, suc, ◌+◌, ◌*◌, ◌%◌, ◌<◌, ◌≤◌}
-use native.Mathlib.Nat.{add-zero}
 use native.Mathlib.Numerals.{add-one}
 use native.Mathlib.Omega.{arith}
 use borrow.Author.Tests.{lt-ltb, le-ltb}
-use lib.IntN.{ℤ, pos, negsuc, nat_abs}
-use lib.Signed.{lt_z}
+use lib.IntN.{ℤ, pos}
 use lib.ListN.{length, drop, get_or, set, drop_of_length-le}
 use lib.Seq.{drop-cons}
 use Rattle.std.proofs.lemmas.List.Sums.{sum_by-cons}
 use Rattle.std.specs.Prelude.{cond, not, count_by, if◌then◌else◌}
 use Rattle.integers.specs.Words.{eq_z}
-use Rattle.integers.specs.Linear.{zs}
 use Rattle.definitions.specs.declared.Case.{Case}
 use Rattle.definitions.specs.declared.Line.{Line}
 use Rattle.definitions.specs.Lines.{is_kind}
 use Rattle.definitions.specs.CaseFiles.{with_ends, zeroed_from}
-use Rattle.drivers.specs.Drivers.{count_or, digest_from}
+use Rattle.drivers.specs.Drivers.{digest_from}
 use Rattle.drivers.specs.declared.Held.{Held}
 use Rattle.drivers.specs.Taken.{headed_by, joined_by, places_after, taken_call, not_zero}
 

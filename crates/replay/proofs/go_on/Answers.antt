@@ -20,6 +20,9 @@ loop-preserved g c =
     let whole : c.fill-next.result.to - 0 ≡ c.fill-next.result.to = omega arith in
     let long : length read ≡ length c.args.buf.now = omega (arith, c.fill-next.auto) in
     let turned = rw whole at c.turn-state.ensures in
-    let full = rw long at (fill-full c.fill-next.ensures.fills fits goes.short) in
-    (search rules, search rules, goes-next goes (sym c.is_over.ensures ∙ c.if-is_over.false) (take c.fill-next.result.to read)
-    (fill-kept c.fill-next.ensures.fills fits) full turned)
+    let full = rw long at (fill-full c.fill-next.ensures.fills fits goes.short) in (
+      search rules,
+      search rules,
+      goes-next goes (sym c.is_over.ensures ∙ c.if-is_over.false) (take c.fill-next.result.to read)
+          (fill-kept c.fill-next.ensures.fills fits) full turned,
+    )
