@@ -25,7 +25,7 @@
 // The answers in `stdout` were worked out from document 01, those of barred tuples and of loops from document 02.
 #![tactic(auto)]
 
-ghost use Rattle.std.specs.Prelude.{◌≤◌, length};
+ghost use Rattle.std.specs.Prelude.{◌≤◌};
 
 use arcs::{Closed, Tried};
 use definitions::{Case, EDGE_PLACES, Line, Refusal, Rulebook, TABLE_PLACES};
@@ -42,28 +42,14 @@ struct Call {
 
 // ---- what is printed
 
-// How many bytes there are up to the last that is no space.
-fn kept(text: &[u8]) -> usize
-    ensures { result ≤ length text.now }
-{
-    let mut n = text.len();
-    while 0 < n {
-        if text[n - 1] != 32 {
-            return n;
-        }
-        n -= 1;
-    }
-    0
-}
-
-// False where there is no name.
+// The name without the spaces after it; false where there is no name.
 fn print_kept(name: &[u8]) -> bool {
-    let n = kept(name);
-    if n == 0 {
+    let kept = name.trim_ascii_end();
+    if kept.is_empty() {
         return false;
     }
     drivers::print(b"  ");
-    drivers::print(&name[0..n]);
+    drivers::print(kept);
     true
 }
 
@@ -106,10 +92,6 @@ fn print_name(kind: usize) -> bool {
 
 fn print(word: &[u8]) {
     drivers::print(word);
-}
-
-fn signed(x: u8) -> i64 {
-    x as i64
 }
 
 fn print_bytes(label: &[u8], bytes: &[u8]) {
@@ -189,7 +171,7 @@ fn tried(answer: Tried) {
 
 fn partner(answer: Option<u8>) {
     match answer {
-        Some(l) => value(signed(l)),
+        Some(l) => value(i64::from(l)),
         None => print(b" none\n"),
     }
 }
@@ -244,25 +226,19 @@ fn call_of(line: Line) -> Call {
 fn least(n: usize, most: usize) -> usize
     ensures { result ≤ most }
 {
-    if n < most { n } else { most }
+    n.min(most)
 }
 
-fn fill_weights(list: &mut [i64; TABLE_PLACES], from: usize, n: usize, value: i64) {
-    let mut i = least(from, TABLE_PLACES);
-    let to = i + least(n, TABLE_PLACES - i);
-    while i < to {
-        list[i] = value;
-        i += 1;
-    }
+fn fill_weights(list: &mut [i64], from: usize, n: usize, value: i64) {
+    let from = least(from, list.len());
+    let to = from + least(n, list.len() - from);
+    list[from..to].fill(value);
 }
 
-fn fill_bytes(list: &mut [u8; 160], from: usize, n: usize, value: u8) {
-    let mut i = least(from, 160);
-    let to = i + least(n, 160 - i);
-    while i < to {
-        list[i] = value;
-        i += 1;
-    }
+fn fill_bytes(list: &mut [u8], from: usize, n: usize, value: u8) {
+    let from = least(from, list.len());
+    let to = from + least(n, list.len() - from);
+    list[from..to].fill(value);
 }
 
 fn put_weights(call: Call, t: &mut [i64; TABLE_PLACES], best: &mut [i64; TABLE_PLACES]) {
@@ -382,7 +358,7 @@ fn values_unsupported(call: Call, case: Case, t: &[i64], best: &[i64], raised: &
 }
 
 fn best_values(call: Call, case: Case, t: &[i64], best: &[i64]) {
-    value(signed(changes::best_values(case, t, best, call.a)));
+    value(i64::from(changes::best_values(case, t, best, call.a)));
 }
 
 fn lowest_partner(call: Call) {
@@ -427,12 +403,12 @@ fn shift(call: Call, case: Case, t: &mut [i64], shown: usize) {
     print_table(t, shown);
 }
 
-fn wide(x: u8) -> u16 {
-    x as u16
-}
-
 fn scope_at(list: &[u8], i: usize) -> u16 {
-    if i < list.len() { wide(list[i]) } else { 0 }
+    if i < list.len() {
+        u16::from(list[i])
+    } else {
+        0
+    }
 }
 
 fn press_list(call: Call, case: Case, t: &mut [i64], shown: usize, list: &[u16]) {
@@ -685,10 +661,8 @@ fn vectors(input: &[u8]) {
     let mut sets = [0u8; 160];
     let mut rows = [0u8; 160];
     let mut case = no_case();
-    let mut at: usize = 0;
-    while 27 <= input.len() - at {
-        let to = at + 27;
-        let call = call_of(drivers::line_of(&input[at..to]));
+    for line in input.chunks_exact(27) {
+        let call = call_of(drivers::line_of(line));
         case = case_after(call, case);
         put_length(call, &mut lengths);
         put_weights(call, &mut t, &mut best);
@@ -697,7 +671,6 @@ fn vectors(input: &[u8]) {
         call_marks(
             call, case, &lengths, &mut t, &best, &bytes, &mut sets, &mut rows,
         );
-        at = to;
     }
 }
 

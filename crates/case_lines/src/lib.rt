@@ -103,11 +103,7 @@ pub fn next_due(sizes: Sizes, due: Awaited) -> Awaited
 {
     match due {
         Awaited::VariableWeight { variable, value } => after_variable(sizes, variable, value),
-        Awaited::EdgeEnds(edge) => Awaited::EdgeWeight {
-            edge: edge,
-            k: 0,
-            l: 0,
-        },
+        Awaited::EdgeEnds(edge) => Awaited::EdgeWeight { edge, k: 0, l: 0 },
         Awaited::EdgeWeight { edge, k, l } => after_tuple(sizes, edge, k, l),
     }
 }

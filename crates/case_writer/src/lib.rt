@@ -62,13 +62,7 @@ fn line_after<'a>(
         Awaited::VariableWeight { variable, value } => {
             weight_line(11, 14, variable, value, 0, table[place])
         }
-        Awaited::EdgeEnds(e) => make_line(
-            12,
-            e,
-            integers::wide_size(lower[e]),
-            integers::wide_size(upper[e]),
-            0,
-        ),
+        Awaited::EdgeEnds(e) => make_line(12, e, usize::from(lower[e]), usize::from(upper[e]), 0),
         Awaited::EdgeWeight { edge, k, l } => weight_line(13, 15, edge, k, l, table[place]),
     }
 }
@@ -99,13 +93,11 @@ fn put_lines<'a>(
     let long = rules::line_length(rulebook);
     let total = case_lines::lines_due(sizes);
     put_at(rulebook, out, 0, head_line(sizes));
-    let mut q: usize = 0;
     let mut due = case_lines::first_due(sizes);
-    while q < total {
+    for q in 0..total {
         let line = line_after(sizes, lower, upper, table, due);
         put_at(rulebook, out, long * (q + 1), line);
         due = case_lines::next_due(sizes, due);
-        q += 1;
     }
 }
 

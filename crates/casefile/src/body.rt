@@ -154,9 +154,8 @@ pub(crate) fn read_lines(
         (reading_of sizes lower.old upper.old table.old) 0 bytes.now }
 {
     let total = case_lines::lines_due(sizes);
-    let mut q: usize = 0;
     let mut due = case_lines::first_due(sizes);
-    while q < total {
+    for q in 0..total {
         let taken = take_at(bytes, sizes, q, due, lower, upper, table);
         match taken {
             Err(refusal) => {
@@ -165,11 +164,8 @@ pub(crate) fn read_lines(
                     line: q + 1,
                 });
             }
-            Ok(()) => {
-                due = case_lines::next_due(sizes, due);
-                q += 1;
-            }
+            Ok(()) => due = case_lines::next_due(sizes, due),
         }
     }
-    Ok(q + 1)
+    Ok(total + 1)
 }

@@ -67,10 +67,8 @@ fn joined_before<'a>(
     ensures { result ≡ joined_before lower.now upper.now e i j }
 {
     let mut found = false;
-    let mut f: usize = 0;
-    while f < e {
+    for f in 0..e {
         found |= has_ends(lower, upper, f, i, j);
-        f += 1;
     }
     found
 }

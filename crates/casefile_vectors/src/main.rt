@@ -18,14 +18,12 @@ use definitions::{Case, CaseRead, CaseSize, EDGE_PLACES, Line, RefusedAt, Rulebo
 
 // Where the numbers at the end that are all z begin.
 fn run_from(table: &[i64], z: i64) -> usize {
-    let mut from: usize = table.len();
-    while 0 < from {
-        if table[from - 1] != z {
-            return from;
+    for i in (0..table.len()).rev() {
+        if table[i] != z {
+            return i + 1;
         }
-        from -= 1;
     }
-    from
+    0
 }
 
 // The table, of which equal numbers at the end are counted.
@@ -159,12 +157,12 @@ fn two(n: usize, m: usize, line: Line, carry: i64) -> Case {
     lower[1] = byte(line.b);
     upper[1] = byte(line.c);
     Case {
-        n: n,
+        n,
         d: 1,
-        m: m,
-        lower: lower,
-        upper: upper,
-        carry: carry,
+        m,
+        lower,
+        upper,
+        carry,
         rulebook: Rulebook::Desk,
     }
 }
@@ -246,16 +244,14 @@ fn vector(input: &[u8]) -> usize {
 }
 
 fn vectors(input: &[u8]) {
-    let mut at: usize = 0;
-    while at < input.len() {
-        let used = vector(&input[at..]);
-        if used == 0 {
+    let mut rest = input;
+    // Not a for: a vector says how many bytes it has.
+    while !rest.is_empty() {
+        let used = vector(rest);
+        if used == 0 || rest.len() < used {
             return;
         }
-        if input.len() - at < used {
-            return;
-        }
-        at += used;
+        rest = &rest[used..];
     }
 }
 
@@ -270,11 +266,9 @@ fn weight(v: u64) -> i64
 
 fn fill(table: &mut [i64]) {
     let mut v: u64 = 0;
-    let mut i: usize = 0;
-    while i < table.len() {
-        table[i] = weight(v);
+    for place in table.iter_mut() {
+        *place = weight(v);
         v = (v + 777_777) % 2_000_001;
-        i += 1;
     }
 }
 
@@ -282,18 +276,16 @@ fn fill(table: &mut [i64]) {
 fn full() -> Case {
     let mut lower = [0u8; EDGE_PLACES];
     let mut upper = [0u8; EDGE_PLACES];
-    let mut e: usize = 0;
-    while e < 96 {
+    for e in 0..96 {
         lower[e] = (e / 24) as u8;
         upper[e] = (e % 24 + 4) as u8;
-        e += 1;
     }
     Case {
         n: 48,
         d: 8,
         m: 96,
-        lower: lower,
-        upper: upper,
+        lower,
+        upper,
         carry: 0,
         rulebook: Rulebook::Desk,
     }

@@ -87,6 +87,7 @@ pub(crate) fn good_lines(replay: Replay, case: Case, table: &mut [i64], bytes: &
     let mut progress = progress_of(replay);
     let mut from: usize = 0;
     let mut done: usize = 0;
+    // Not a for: how far a turn goes depends on the raise lines after the line.
     while line <= bytes.len() - from {
         let to = from + line;
         let taken = good_line(

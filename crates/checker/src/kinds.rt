@@ -13,7 +13,7 @@ ghost use Rattle.checker.specs.Taken.{good_replay, step_of, step_next};
 
 use crate::columns::index;
 use crate::presses::raise_line;
-use crate::records::{after_bound, after_move, clear, refused, with_due};
+use crate::records::{after_bound, after_move, refused, with_due};
 use crate::{Due, Progress, Replay, Taken, Target};
 use definitions::{Case, Line, Refusal};
 
@@ -64,7 +64,7 @@ fn begin_line(raised: &mut [u8], progress: Progress, target: Target, line: Line)
         → step_of result raised.new w
         ≡ step_next w (good_replay progress raised.old) (of_begin (rules_of c) c w (good_replay progress raised.old) target line) }
 {
-    clear(raised);
+    raised.fill(0);
     let variable = index(line.a);
     let left = index(line.b);
     with_due(

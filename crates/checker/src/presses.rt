@@ -16,7 +16,7 @@ ghost use Rattle.checker.specs.Checker.{none_raised, not_above_last, target_out,
 ghost use Rattle.checker.specs.Taken.{good_replay, step_of, step_taken, step_next, TargetTaken, whole_tests, last_step};
 
 use crate::columns::index;
-use crate::records::{after_move, clear, refused, with_due};
+use crate::records::{after_move, refused, with_due};
 use crate::{Due, Progress, Taken, Target};
 use definitions::{Case, Line, Refusal};
 
@@ -165,7 +165,7 @@ fn last_raise(
             refused(progress, refusal)
         }
         Ok(()) => {
-            clear(raised);
+            raised.fill(0);
             after_target(progress, target)
         }
     }

@@ -45,22 +45,15 @@ fn raise_lines(
     let mut more = left;
     let mut above = next;
     let mut at = from;
+    // Not a for: it runs until one raise line is left or a line is not in order.
     while 1 < more {
         if bytes.len() - at < line {
-            return Raises {
-                left: more,
-                next: above,
-                from: at,
-            };
+            break;
         }
         let to = at + line;
         let x = scope_or_none(&bytes[at..to], width);
         if !((x < scopes) & (above <= x) & (x != variable)) {
-            return Raises {
-                left: more,
-                next: above,
-                from: at,
-            };
+            break;
         }
         raised[x] = 1;
         more -= 1;

@@ -25,12 +25,10 @@ fn last_out(case: Case, last: Option<usize>) -> bool
 fn none_from(raised: &[u8], from: usize) -> bool
     ensures { result ≡ all (λ b. eqb b 0) (drop from raised.now) }
 {
-    let mut x = from;
-    while x < raised.len() {
+    for x in from..raised.len() {
         if raised[x] != 0 {
             return false;
         }
-        x += 1;
     }
     true
 }

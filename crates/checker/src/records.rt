@@ -1,5 +1,5 @@
 // The next record, in parts and whole.
-ghost use Rattle.std.specs.Prelude.{◌≡◌, true, false, ◌+◌, ◌^◌, ◌<◌, length, replicate, Ok, Err};
+ghost use Rattle.std.specs.Prelude.{◌≡◌, true, false, ◌+◌, ◌^◌, ◌<◌, Ok, Err};
 ghost use Rattle.checker.specs.Taken.{replay_of};
 
 use crate::{Due, Progress, Replay, Taken};
@@ -101,15 +101,5 @@ pub(crate) fn progress_of(replay: Replay) -> Progress
         start: replay.start,
         moved: replay.moved,
         due,
-    }
-}
-
-pub(crate) fn clear(raised: &mut [u8])
-    ensures { raised.new ≡ replicate (length raised.old) 0 }
-{
-    let mut x: usize = 0;
-    while x < raised.len() {
-        raised[x] = 0;
-        x += 1;
     }
 }

@@ -9,8 +9,6 @@
 // The file `stdout` was worked out from documents 01 and 02; the peer gives each log the same answer.
 #![tactic(auto)]
 
-ghost use Rattle.std.specs.Prelude.{◌≤◌, ◌<◌};
-
 use checker::{Due, Replay, Target};
 use definitions::{Case, Line, Refusal, RefusedAt, SCOPE_PLACES, TABLE_PLACES};
 
@@ -61,7 +59,7 @@ fn marks_of(scope: i64) -> [u8; SCOPE_PLACES] {
     raised
 }
 
-fn last_of(scope: i64) -> LastRaised {
+fn last_of(scope: i64) -> Option<usize> {
     if scope < 0 {
         return None;
     }
@@ -90,7 +88,7 @@ fn due_of(line: Line) -> Due {
     Due::MoveOrBound
 }
 
-fn standing_of(number: i64) -> Standing {
+fn standing_of(number: i64) -> Result<(), Refusal> {
     if number == 0 {
         return Ok(());
     }
@@ -161,10 +159,8 @@ fn print_mark(scope: usize, mark: u8) {
 }
 
 fn print_marks(raised: &[u8]) {
-    let mut x: usize = 0;
-    while x < raised.len() {
-        print_mark(x, raised[x]);
-        x += 1;
+    for (x, mark) in raised.iter().enumerate() {
+        print_mark(x, *mark);
     }
 }
 
@@ -212,25 +208,14 @@ fn print_given(given: &[u8], replay: Replay, case: Case) {
 
 // ---- a log
 
-// Where the line at byte `at` ends.
-fn line_end(at: usize, long: usize) -> usize
-    requires { at < long }
-    ensures { (at < result) × (result ≤ long) }
-{
-    if long - at < 27 { long } else { at + 27 }
-}
-
 // Each line by itself; what is left at the end is handed over as a line too.
 fn by_lines(replay: Replay, case: Case, table: &mut [i64], log: &[u8]) -> Replay {
     let mut after = replay;
-    let mut at: usize = 0;
-    while at < log.len() {
-        let to = line_end(at, log.len());
-        let stepped = after.step(case, table, &log[at..to]);
+    for line in log.chunks(27) {
+        let stepped = after.step(case, table, line);
         after = stepped.replay;
         let answer = stepped.answer;
         drivers::print_count(number(answer));
-        at = to;
     }
     after
 }
@@ -367,16 +352,14 @@ fn vector(input: &[u8]) -> usize {
 }
 
 fn vectors(input: &[u8]) {
-    let mut at: usize = 0;
-    while at < input.len() {
-        let used = vector(&input[at..]);
-        if used == 0 {
+    let mut rest = input;
+    // Not a for: a vector says how many bytes it has.
+    while !rest.is_empty() {
+        let used = vector(rest);
+        if used == 0 || rest.len() < used {
             return;
         }
-        if input.len() - at < used {
-            return;
-        }
-        at += used;
+        rest = &rest[used..];
     }
 }
 

@@ -1,34 +1,24 @@
 -- Counts, a checksum's next byte, and the lines of a case. Assumes nothing.
-use mathlib.Core.Path.{◌≡◌, refl, sym, ap}
+use mathlib.Core.Path.{◌≡◌, refl, sym, ap, ap₂, ◌∙◌}
 use mathlib.Core.Bool.{Bool, true, false}
 use mathlib.Core.List.{List, [], ◌∷◌}
 use Prim.Native.Nat.{ℕ, zero, suc, ◌+◌, ◌*◌, ◌%◌, ◌<◌, ◌≤◌}
-use native.Mathlib.Nat.{add-zero}
 use native.Mathlib.Numerals.{add-one}
 use native.Mathlib.Omega.{arith}
 use borrow.Author.Tests.{lt-ltb, le-ltb}
-use lib.IntN.{ℤ, pos, negsuc, nat_abs}
-use lib.Signed.{lt_z}
+use lib.IntN.{ℤ, pos}
 use lib.ListN.{length, drop, get_or, set, drop_of_length-le}
 use lib.Seq.{drop-cons}
-use Rattle.std.specs.Prelude.{if◌then◌else◌}
+use Rattle.std.proofs.lemmas.List.Sums.{sum_by-cons}
+use Rattle.std.specs.Prelude.{cond, not, count_by, if◌then◌else◌}
 use Rattle.integers.specs.Words.{eq_z}
-use Rattle.integers.specs.Linear.{zs}
 use Rattle.definitions.specs.declared.Case.{Case}
 use Rattle.definitions.specs.declared.Line.{Line}
 use Rattle.definitions.specs.Lines.{is_kind}
 use Rattle.definitions.specs.CaseFiles.{with_ends, zeroed_from}
-use Rattle.drivers.specs.Drivers.{count_or, digest_from}
+use Rattle.drivers.specs.Drivers.{digest_from}
 use Rattle.drivers.specs.declared.Held.{Held}
 use Rattle.drivers.specs.Taken.{headed_by, joined_by, places_after, taken_call, not_zero}
-
-pub count-below : (other : ℕ) (z : ℤ) → lt_z z (pos 0) ≡ true → count_or other z ≡ other
-count-below other (pos n) h = absurd (omega zs)
-count-below other (negsuc n) h = refl
-
-pub count-from : (other : ℕ) (z : ℤ) → lt_z z (pos 0) ≡ false → count_or other z ≡ nat_abs z
-count-from other (pos n) h = refl
-count-from other (negsuc n) h = absurd (omega zs)
 
 pub digest-next : (sum i : ℕ) (bytes : List ℕ) → i < length bytes
     → digest_from sum (drop i bytes) ≡ digest_from ((sum * 31 + get_or bytes i 0) % 1_000_000_007) (drop (i + 1) bytes)
@@ -58,22 +48,19 @@ ends-past c e i j low high = rw (set_past c.lower e i low, set_past c.upper e j 
 
 -- ---- weights that are not 0
 
-pub not-zero-next : (w : List ℤ) (i : ℕ) → i < length w → not_zero (drop i w) ≡ not_zero (get_or w i (pos 0) ∷ []) + not_zero (drop (i + 1) w)
+pub not-zero-count : (w : List ℤ) → count_by (λ z. not (eq_z z (pos 0))) w ≡ not_zero w
 unfolding not_zero
-not-zero-next w i h = rw (add-one, drop-cons w i (pos 0), add-zero)
+not-zero-count [] = refl
+not-zero-count (z ∷ w) =
+    sum_by-cons (λ z. cond (not (eq_z z (pos 0))) 1 0) z w ∙ ap₂ (λ a b. a + b) (one (eq_z z (pos 0))) (not-zero-count w)
+  where
+    one : (b : Bool) → ◌≡◌ {A = ℕ} (cond (not b) 1 0) (if b then 0 else 1)
+    one true = refl
+    one false = refl
 
 pub not-zero-ends : (w : List ℤ) (i : ℕ) → length w ≤ i → not_zero (drop i w) ≡ 0
 unfolding not_zero
 not-zero-ends w i h = rw (drop_of_length-le w {i = i} h)
-
-pub not-zero-few : (w : List ℤ) → not_zero w ≤ length w
-unfolding not_zero
-not-zero-few [] = omega arith
-not-zero-few (z ∷ w) = omega (arith, one-most (eq_z z (pos 0)), not-zero-few w)
-  where
-    one-most : (b : Bool) → (if b then 0 else 1) ≤ 1
-    one-most true = omega arith
-    one-most false = omega arith
 
 -- ---- a line taken, by its kind
 

@@ -128,24 +128,11 @@ fn places_of(n: usize, d: usize, m: usize) -> usize
     n * d + m * (d * d)
 }
 
-// 0 for 0, else 1.
-fn counted(weight: i64) -> usize
-    ensures { result ≡ not_zero (weight ∷ []) }
-{
-    if weight == 0 { 0 } else { 1 }
-}
-
 // How many are not 0.
 fn not_zero(weights: &[i64]) -> usize
     ensures { result ≡ not_zero weights.now }
 {
-    let mut n: usize = 0;
-    let mut i: usize = 0;
-    while i < weights.len() {
-        n += counted(weights[i]);
-        i += 1;
-    }
-    n
+    weights.iter().filter(|weight| **weight != 0).count()
 }
 
 // ---- the calls
@@ -154,7 +141,7 @@ fn not_zero(weights: &[i64]) -> usize
 pub fn number_of(refusal: Refusal) -> u64
     ensures { result ≡ number refusal }
 {
-    integers::wide(texts::number_of(refusal))
+    u64::from(texts::number_of(refusal))
 }
 
 // The line that the text is, or zeros; a text that is not in columns is a title and is printed.
@@ -172,14 +159,14 @@ pub fn line_of(text: &[u8]) -> Line
 pub fn count_or(z: i64, other: usize) -> usize
     ensures { result ≡ count_or other z }
 {
-    if z < 0 { other } else { z as usize }
+    usize::try_from(z).unwrap_or(other)
 }
 
 // At most 255.
 pub fn byte(n: usize) -> u8
     ensures { result ≡ min n 255 }
 {
-    if 255 < n { 255 } else { n as u8 }
+    u8::try_from(n).unwrap_or(255)
 }
 
 // No case yet.
@@ -249,10 +236,8 @@ pub fn digest(earlier: u64, bytes: &[u8]) -> u64
     ensures { result ≡ digest_from (earlier % 1_000_000_007) bytes.now }
 {
     let mut sum: u64 = earlier % 1_000_000_007;
-    let mut i: usize = 0;
-    while i < bytes.len() {
-        sum = (sum * 31 + integers::wide(bytes[i])) % 1_000_000_007;
-        i += 1;
+    for byte in bytes {
+        sum = (sum * 31 + u64::from(*byte)) % 1_000_000_007;
     }
     sum
 }
@@ -299,12 +284,10 @@ pub fn print_number(z: i64) -> i64
 pub fn print_numbers(numbers: &[i64]) -> usize
     ensures { result ≡ length numbers.now }
 {
-    let mut i: usize = 0;
-    while i < numbers.len() {
-        print_number(numbers[i]);
-        i += 1;
+    for number in numbers {
+        print_number(*number);
     }
-    i
+    numbers.len()
 }
 
 // Prints the first weights of a table; where weights past them are not 0, how many they are. Answers that.
@@ -328,12 +311,10 @@ pub fn print_table(table: &[i64], shown: usize) -> usize
 pub fn print_bytes(bytes: &[u8]) -> usize
     ensures { result ≡ length bytes.now }
 {
-    let mut i: usize = 0;
-    while i < bytes.len() {
-        print_count(integers::wide(bytes[i]));
-        i += 1;
+    for byte in bytes {
+        print_count(u64::from(*byte));
     }
-    i
+    bytes.len()
 }
 
 // Prints the word and the number of a refusal, and answers the number.

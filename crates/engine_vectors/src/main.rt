@@ -99,7 +99,7 @@ fn next(case: Case, table: &mut [i64], out: &mut [u8], log: Log) -> Log {
     match round {
         Ok(Round::Made { bytes, bound }) => Log {
             sum: sum_of_first(log.sum, out, bytes),
-            bound: bound,
+            bound,
         },
         Ok(Round::Settled) => log,
         Ok(Round::Void { bytes: _ }) => log,
@@ -117,10 +117,8 @@ fn rounds(case: Case, table: &mut [i64], out: &mut [u8], most: u64) {
     drivers::print(b"rounds");
     drivers::print_count(most);
     let mut log = Log { sum: 0, bound: 0 };
-    let mut left = most;
-    while left > 0 {
+    for _ in 0..most {
         log = next(case, table, out, log);
-        left -= 1;
     }
     print_log(log);
 }
@@ -198,11 +196,8 @@ fn step(held: Held, table: &mut [i64], line: Line) -> Held {
 
 fn vectors(input: &[u8], table: &mut [i64]) {
     let mut held = drivers::empty();
-    let mut at: usize = 0;
-    while 27 <= input.len() - at {
-        let to = at + 27;
-        held = step(held, table, drivers::line_of(&input[at..to]));
-        at = to;
+    for line in input.chunks_exact(27) {
+        held = step(held, table, drivers::line_of(line));
     }
 }
 

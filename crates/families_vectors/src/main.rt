@@ -98,11 +98,8 @@ fn step(held: Held, table: &mut [i64], line: Line) -> Held {
 
 fn vectors(input: &[u8], table: &mut [i64]) {
     let mut held = drivers::empty();
-    let mut at: usize = 0;
-    while 27 <= input.len() - at {
-        let to = at + 27;
-        held = step(held, table, drivers::line_of(&input[at..to]));
-        at = to;
+    for line in input.chunks_exact(27) {
+        held = step(held, table, drivers::line_of(line));
     }
 }
 

@@ -8,7 +8,7 @@
 // and 02.
 #![tactic(auto)]
 
-ghost use Rattle.std.specs.Prelude.{◌-◌, ◌≤◌, ◌<◌, length};
+ghost use Rattle.std.specs.Prelude.{◌≤◌, length};
 
 use definitions::{Judgement, Line, Refusal, RefusedAt, TABLE_PLACES};
 use judging::Judging;
@@ -59,29 +59,13 @@ fn case_end(answer: Result<usize, RefusedAt>, most: usize) -> usize
     }
 }
 
-// Where a block of so many bytes ends that begins at byte `at`.
-fn block_end(at: usize, long: usize, bytes: usize) -> usize
-    requires { (at ≤ long) × (27 ≤ long - at) }
-    ensures { (at < result) × (result ≤ long) }
-{
-    let left = long - at;
-    let whole = left - left % 27;
-    if bytes == 0 {
-        at + whole
-    } else if bytes < whole {
-        at + bytes
-    } else {
-        at + whole
-    }
-}
-
+// The whole lines of the log in blocks of so many bytes, or in one block where these are 0.
 fn judge_blocks(begun: Judging, table: &mut [i64], log: &[u8], bytes: usize) -> Judging {
+    let whole = log.len() - log.len() % 27;
+    let size = if bytes == 0 { usize::MAX } else { bytes };
     let mut judging = begun;
-    let mut at: usize = 0;
-    while 27 <= log.len() - at {
-        let to = block_end(at, log.len(), bytes);
-        judging = judging::block(judging, table, &log[at..to]);
-        at = to;
+    for block in log[..whole].chunks(size) {
+        judging = judging::block(judging, table, block);
     }
     judging
 }
@@ -129,20 +113,24 @@ fn print_tally(calls: u64, left: u64) {
 // Calls `next` until nothing more is due or a call is refused.
 fn press_on(first: Pressing, table: &mut [i64], out: &mut [u8]) -> Tally {
     let mut pressing = first;
-    let mut calls: u64 = 0;
-    while calls < 1000 {
+    for calls in 0..1000 {
         if pressing.left == 0 {
             return Tally { calls, pressing };
         }
         let pressed = pressing::next(pressing, table, out);
         pressing = pressed.pressing;
         let written = pressed.written;
-        calls += 1;
         if print_written(written, out) {
-            return Tally { calls, pressing };
+            return Tally {
+                calls: calls + 1,
+                pressing,
+            };
         }
     }
-    Tally { calls, pressing }
+    Tally {
+        calls: 1000,
+        pressing,
+    }
 }
 
 fn print_answer(written: Result<usize, Refusal>) {
@@ -220,11 +208,13 @@ fn execute(rest: &[u8], line: Line) -> usize
 }
 
 fn vectors(input: &[u8]) {
-    let mut at: usize = 0;
-    while 27 <= input.len() - at {
-        let to = at + 27;
-        let line = drivers::line_of(&input[at..to]);
-        at = to + execute(&input[to..], line);
+    let mut rest = input;
+    // Not a for: the line says how many bytes follow it.
+    while 27 <= rest.len() {
+        let line = drivers::line_of(&rest[..27]);
+        let after = &rest[27..];
+        let used = execute(after, line);
+        rest = &after[used..];
     }
 }
 

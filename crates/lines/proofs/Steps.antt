@@ -50,9 +50,6 @@ module _ (t : List ℕ) (i : ℕ) where
   pub positive-leading : i < length t → get_or t i 0 ≡ 48 → read_positive (drop i t) ≡ None
   positive-leading h e = rw at_drop (simp (eq-eqb _ _ e))
 
-  pub positive-first : i < length t → get_or t i 0 ≢ 48 → read_positive (drop i t) ≡ read_digits 0 (drop i t)
-  positive-first h n = rw at_drop (simp (ne_eqb _ _ n))
-
   module _ (v : ℕ) where
     pub digits-end : length t ≤ i → read_digits v (drop i t) ≡ Some v
     digits-end h = rw (drop_of_length-le t h)

@@ -5,7 +5,7 @@ use Prim.Native.Nat.{ℕ, suc, ◌+◌, ◌-◌, ◌/◌, ◌%◌, ◌≤◌, �
 use native.Mathlib.Numerals.{add-one}
 use native.Mathlib.Omega.{arith}
 use lib.ListN.{length, take, drop, set, get_or, replicate, length-append, length-drop, length-replicate, take-append-drop, replicate-append-replicate}
-use lib.Seq.{append_snoc, sets-eq, set_split, drop_at, take_at, drop-drop, set_at, drop-cons, length-take-le, take-set-le, take-suc-set, take-take}
+use lib.Seq.{append_snoc, sets-eq, set_split, drop_at, take_at, drop-drop, set_at, drop-cons, length-take-le, take-set-le, take-take}
 use Rattle.definitions.specs.Lines.{decimal, overwritten}
 use Rattle.definitions.proofs.ColumnLaws.{by-digit, decimal_digit, decimal-last}
 use Rattle.lines.specs.Digits.{four_digits}
@@ -38,11 +38,6 @@ stored-before o t l r v p h e =
     stored (set l (r - 1) v) o (v ∷ t) (r - 1) (kept-before l o r v f) (before l r v p m ∙ ap (λ t. v ∷ t) g)
 
 -- spaces
-pub spaces-next : (l : List ℕ) (i v : ℕ) → i < length l → take i l ≡ replicate i v → take (i + 1) (set l i v) ≡ replicate (i + 1) v
-spaces-next l i v h e =
-    let f : take (i + 1) (set l i v) ≡ take i l ++ (v ∷ []) = rw add-one (take-suc-set l i v h) in
-    f ∙ ap (λ t. t ++ (v ∷ [])) e ∙ replicate-append-replicate i 1 v
-
 pub take-spaces : (k n v : ℕ) → k ≤ n → take k (replicate n v) ≡ replicate k v
 take-spaces k n v h =
     let e : k + (n - k) ≡ n = omega arith in

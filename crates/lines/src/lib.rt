@@ -34,10 +34,10 @@ fn word(t: &[u8], i: usize) -> u64
     requires { i + 4 ≤ length t.now }
     ensures { Word t.now i result }
 {
-    let a = integers::wide(t[i]);
-    let b = integers::wide(t[i + 1]);
-    let c = integers::wide(t[i + 2]);
-    let d = integers::wide(t[i + 3]);
+    let a = u64::from(t[i]);
+    let b = u64::from(t[i + 1]);
+    let c = u64::from(t[i + 2]);
+    let d = u64::from(t[i + 3]);
     a + b * 256 + c * 65536 + d * 16777216
 }
 
@@ -46,6 +46,7 @@ fn blank_words(t: &[u8]) -> usize
     ensures { (result ≤ length t.now) × (read_column t.now ≡ read_column (drop result t.now)) }
 {
     let mut i: usize = 0;
+    // Not a for: it steps by four bytes.
     while 4 <= t.len() - i {
         if word(t, i) != BLANKS {
             return i;
@@ -59,39 +60,28 @@ fn blank_words(t: &[u8]) -> usize
 fn blanks(t: &[u8]) -> usize
     ensures { (result ≤ length t.now) × (read_column t.now ≡ read_number (drop result t.now)) }
 {
-    let mut i = blank_words(t);
-    while i < t.len() {
-        if t[i] != 32 {
+    for i in blank_words(t)..t.len() {
+        if t[i] != b' ' {
             return i;
         }
-        i += 1;
     }
-    i
+    t.len()
 }
 
-// The positive number from byte `from` to the end.
-fn positive(t: &[u8], from: usize) -> Option<u64>
-    requires { (from ≤ length t.now) × (length t.now ≤ 18) }
-    ensures { (digits_found result ≡ read_positive (drop from t.now)) × (digits_value result < 10 ^ 18) }
+// The positive number whose digits are t.
+fn positive(t: &[u8]) -> Option<u64>
+    requires { length t.now ≤ 18 }
+    ensures { (digits_found result ≡ read_positive t.now) × (digits_value result < 10 ^ 18) }
 {
-    if from == t.len() {
-        return None;
-    }
-    if t[from] == 48 {
+    if t.is_empty() || t[0] == b'0' {
         return None;
     }
     let mut v: u64 = 0;
-    let mut i = from;
-    while i < t.len() {
-        let b = t[i];
-        if b < 48 {
+    for b in t {
+        if *b < b'0' || b'9' < *b {
             return None;
         }
-        if 57 < b {
-            return None;
-        }
-        v = v * 10 + (integers::wide(b) - 48);
-        i += 1;
+        v = v * 10 + u64::from(*b - b'0');
     }
     Some(v)
 }
@@ -127,17 +117,16 @@ fn read_column(t: &[u8]) -> Option<i64>
     if i == t.len() {
         return None;
     }
-    let b = t[i];
-    if b == 45 {
-        return negative(positive(t, i + 1));
+    if t[i] == b'-' {
+        return negative(positive(&t[i + 1..]));
     }
-    if b == 48 {
+    if t[i] == b'0' {
         if i + 1 == t.len() {
             return Some(0);
         }
         return None;
     }
-    plain(positive(t, i))
+    plain(positive(&t[i..]))
 }
 
 fn read_column_at(bytes: &[u8], from: usize, width: usize) -> Option<i64>
@@ -159,8 +148,8 @@ fn read_pair(bytes: &[u8], from: usize) -> Option<i64>
     requires { from + 2 ≤ length bytes.now }
     ensures { column_found result ≡ column_at from 2 bytes.now }
 {
-    let c = integers::wide(bytes[from]);
-    let d = integers::wide(bytes[from + 1]);
+    let c = u64::from(bytes[from]);
+    let d = u64::from(bytes[from + 1]);
     if c == 32 && is_digit(d, 48) {
         return plain(Some(d - 48));
     }
@@ -231,6 +220,7 @@ fn no_amount(t: &[u8], end: usize) -> bool
     let last = end - 4;
     let mut blank = true;
     let mut i: usize = 14;
+    // Not a for: it steps by four bytes.
     while i < last {
         blank = blank & (word(t, i) == BLANKS);
         i += 4;
@@ -263,7 +253,7 @@ fn digit(b: u8) -> u64
     if 57 < b {
         return NONE;
     }
-    integers::wide(b) - 48
+    u64::from(b - b'0')
 }
 
 fn two_digits(b: u8, c: u8) -> u64
@@ -345,24 +335,12 @@ fn scope_of(read: Result<Line, Refusal>) -> Option<usize>
 
 // ---- writing
 
-// z without its sign.
-fn magnitude(z: i64) -> u64
-    ensures { result ≡ nat_abs z }
-{
-    if z < 0 {
-        let y = z + 1;
-        let m = 0 - y;
-        (m as u64) + 1
-    } else {
-        z as u64
-    }
-}
-
 fn digit_count(n: u64) -> usize
     ensures { result ≡ length (decimal n) }
 {
     let mut k: usize = 1;
     let mut rest = n;
+    // Not a for: it runs until one digit is left.
     while 10 <= rest {
         rest /= 10;
         k += 1;
@@ -373,7 +351,7 @@ fn digit_count(n: u64) -> usize
 fn text_length(z: i64) -> usize
     ensures { result ≡ length (number_text z) }
 {
-    let k = digit_count(magnitude(z));
+    let k = digit_count(z.unsigned_abs());
     if z < 0 { k + 1 } else { k }
 }
 
@@ -382,13 +360,7 @@ fn power(k: usize) -> u64
     requires { k ≤ 18 }
     ensures { result ≡ 10 ^ k }
 {
-    let mut p: u64 = 1;
-    let mut i: usize = 0;
-    while i < k {
-        p *= 10;
-        i += 1;
-    }
-    p
+    10_u64.pow(k as u32)
 }
 
 fn signed(n: u64) -> i64
@@ -446,6 +418,7 @@ fn put_few(out: &mut [u8], n: u64) -> usize
 {
     let mut i = out.len();
     let mut rest = n;
+    // Not a for: it runs until one digit is left.
     while 10 <= rest {
         i -= 1;
         out[i] = 48 + (rest % 10) as u8;
@@ -474,6 +447,7 @@ fn put_digits(out: &mut [u8], n: u64) -> usize
 {
     let mut i = out.len();
     let mut rest = n;
+    // Not a for: it steps by four digits, until at most four are left.
     while 10000 <= rest {
         i -= 4;
         put_four(out, i, rest % 10000);
@@ -489,24 +463,13 @@ fn sign(z: i64) -> u8
     if z < 0 { 45 } else { 32 }
 }
 
-// Fills out with spaces.
-fn clear(out: &mut [u8])
-    ensures { out.new ≡ replicate (length out.old) 32 }
-{
-    let mut i: usize = 0;
-    while i < out.len() {
-        out[i] = 32;
-        i += 1;
-    }
-}
-
 // Fills out with z, right-justified.
 fn put_column(out: &mut [u8], z: i64)
     requires { length (number_text z) ≤ length out.old }
     ensures { out.new ≡ column_text (length out.old) z }
 {
-    clear(out);
-    let i = put_digits(out, magnitude(z));
+    out.fill(b' ');
+    let i = put_digits(out, z.unsigned_abs());
     if 0 < i {
         let m = i - 1;
         out[m] = sign(z);

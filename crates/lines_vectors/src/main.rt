@@ -137,16 +137,14 @@ fn vector(input: &[u8]) -> usize {
 }
 
 fn vectors(input: &[u8]) {
-    let mut at: usize = 0;
-    while at < input.len() {
-        let used = vector(&input[at..]);
-        if used == 0 {
+    let mut rest = input;
+    // Not a for: a vector says how many bytes it has.
+    while !rest.is_empty() {
+        let used = vector(rest);
+        if used == 0 || rest.len() < used {
             return;
         }
-        if input.len() - at < used {
-            return;
-        }
-        at += used;
+        rest = &rest[used..];
     }
 }
 

@@ -59,7 +59,7 @@ pub fn put_line_at(out: &mut [u8], at: usize, line: Line) -> Put
 pub fn new<'a>(out: &'a mut [u8]) -> LogWriter<'a>
     ensures { (result.out ≡ out.entry) × (result.at ≡ 0) }
 {
-    LogWriter { out: out, at: 0 }
+    LogWriter { out, at: 0 }
 }
 
 // Puts the line at the writer's position, which moves on.
@@ -85,6 +85,6 @@ pub fn put_through(out: &mut [u8], at: usize, line: Line) -> Put
     ensures { (result ≡ put_of (put_line_call (rules_in Desk) out.old at line))
         × (out.new ≡ (put_line_call (rules_in Desk) out.old at line).out) }
 {
-    let mut w = LogWriter { out: out, at: at };
+    let mut w = LogWriter { out, at };
     put_line(&mut w, line)
 }

@@ -80,13 +80,11 @@ fn print_rounds(rt: &impl Print, first: State, table: &mut [i64], out: &mut [u8]
         out.new }
 {
     let mut state = first;
-    let mut calls = ROUNDS;
-    while calls > 0 {
+    for _ in 0..ROUNDS {
         if is_last(state) {
             return state;
         }
         state = print_next(rt, state, table, out);
-        calls -= 1;
     }
     state
 }

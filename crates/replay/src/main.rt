@@ -31,13 +31,8 @@ fn to_front(buf: &mut [u8], from: usize, to: usize) -> usize
     requires { (from ≤ to) × (to ≤ length buf.old) }
     ensures { (result ≡ to - from) × (take result buf.new ≡ take result (drop from buf.old)) }
 {
-    let n = to - from;
-    let mut i: usize = 0;
-    while i < n {
-        buf[i] = buf[from + i];
-        i += 1;
-    }
-    i
+    buf.copy_within(from..to, 0);
+    to - from
 }
 
 fn line_bytes() -> usize
@@ -101,8 +96,7 @@ fn go_on(input: &mut impl Read, first: Turned, table: &mut [i64], buf: &mut [u8]
         (take first.held buf.old) first.filled result table.new buf.new }
 {
     let mut state = first;
-    let mut turns = u64::MAX;
-    while turns > 0 {
+    for _ in 0..u64::MAX {
         let filled = state.filled;
         if streams::is_over(filled) {
             return state;
@@ -111,7 +105,6 @@ fn go_on(input: &mut impl Read, first: Turned, table: &mut [i64], buf: &mut [u8]
         let judging = state.judging;
         let next = streams::fill(input, buf, held);
         state = turn(judging, table, buf, 0, next);
-        turns -= 1;
     }
     state
 }

@@ -56,6 +56,7 @@ pub fn fill<R: Read>(input: &mut R, buf: &mut [u8], from: usize) -> Filled
     ensures ends { result.got ≡ pos 0 → IsAtEnd (R.remaining input.new) }
 {
     let mut filled = Filled { to: from, got: 1 };
+    // Not a for: how far a turn goes is what the read brought.
     while filled.to < buf.len() {
         let at = filled.to;
         filled = read_to(input, buf, at);

@@ -15,12 +15,6 @@ const ROOM: usize = 64;
 // The greatest line and the greatest number of rounds that are written.
 const GREATEST: u64 = 9_223_372_036_854_775_807;
 
-fn whole(x: u8) -> i64
-    ensures { result ≡ pos x }
-{
-    x as i64
-}
-
 // Puts the bytes at byte `at`, and answers where they end.
 fn put(out: &mut [u8], at: usize, bytes: &[u8]) -> usize
     requires { at + length bytes.now ≤ length out.old }
@@ -93,7 +87,7 @@ pub fn write_refused(out: &mut [u8], refusal: Refusal, line: usize) -> Result<us
     if GREATEST < count {
         return Err(Refusal::OutOfRange);
     }
-    Ok(print(out, b"refused ", whole(number_of(refusal)), line as i64))
+    Ok(print(out, b"refused ", i64::from(number_of(refusal)), line as i64))
 }
 
 // `accepted`, the rounds and the upper bound.
@@ -121,13 +115,13 @@ pub fn write_void(out: &mut [u8]) -> Result<usize, Refusal>
 }
 
 // The text of a judgement.
-pub fn write_judgement(out: &mut [u8], judgement: Result<Judgement, RefusedAt>) -> Result<usize, Refusal>
+pub fn write_judgement(out: &mut [u8], judgement: Result<Result<Judgement, RefusedAt>, RefusedAt>) -> Result<usize, Refusal>
     ensures { (result ≡ (write_judgement_call out.old judgement).answer)
         × (out.new ≡ (write_judgement_call out.old judgement).out) }
 {
     match judgement {
-        Ok(Judgement::Accepted { rounds, bound }) => write_accepted(out, rounds, bound),
-        Ok(Judgement::Void) => write_void(out),
+        Ok(Ok(Judgement::Accepted { rounds, bound })) => write_accepted(out, rounds, bound),
+        Ok(Ok(Judgement::Void)) => write_void(out),
         Err(RefusedAt { refusal, line }) => write_refused(out, refusal, line),
     }
 }

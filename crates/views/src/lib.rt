@@ -20,7 +20,7 @@ const BOUND: i64 = 4;
 // After a line: the answer, or the first line of the round in which the next one lies, and the rounds still to pass.
 #[derive(Clone, Copy)]
 enum Step {
-    Stop(Result<Span, RefusedAt>),
+    Stop(Result<Result<Span, RefusedAt>, RefusedAt>),
     On { from: usize, left: u64 },
 }
 
@@ -92,15 +92,14 @@ fn not_there(log: &[u8], width: usize) -> Refusal
     }
 }
 
-fn span_in(log: &[u8], round: u64, width: usize) -> Result<Span, RefusedAt>
+fn span_in(log: &[u8], round: u64, width: usize) -> Result<Result<Span, RefusedAt>, RefusedAt>
     requires { width_out width ≡ false }
     ensures { result ≡ span_in width log.now round }
 {
     let whole = log.len() / (15 + width);
-    let mut at: usize = 0;
     let mut from: usize = 0;
     let mut left = round;
-    while at < whole {
+    for at in 0..whole {
         let step = step_at(log, width, at, from, left);
         match step {
             Step::Stop(span) => return span,
@@ -112,18 +111,17 @@ fn span_in(log: &[u8], round: u64, width: usize) -> Result<Span, RefusedAt>
                 left = fewer;
             }
         }
-        at += 1;
     }
     Err(RefusedAt {
         refusal: not_there(log, width),
-        line: at,
-    })
+        line: whole,
+    }
 }
 
 // ---- the calls
 
 // Where the round's lines lie in the log, with an amount column of this width.
-pub fn round_span_in(log: &[u8], round: u64, width: usize) -> Result<Span, RefusedAt>
+pub fn round_span_in(log: &[u8], round: u64, width: usize) -> Result<Result<Span, RefusedAt>, RefusedAt>
     ensures { result ≡ round_span_at width log.now round }
 {
     if lines::width_out(width) {
@@ -136,7 +134,7 @@ pub fn round_span_in(log: &[u8], round: u64, width: usize) -> Result<Span, Refus
 }
 
 // The same at the desk's width.
-pub fn round_span(log: &[u8], round: u64) -> Result<Span, RefusedAt>
+pub fn round_span(log: &[u8], round: u64) -> Result<Result<Span, RefusedAt>, RefusedAt>
     ensures { result ≡ round_span (rules_in Desk) log.now round }
 {
     round_span_in(log, round, rules::amount_width(Rulebook::Desk))

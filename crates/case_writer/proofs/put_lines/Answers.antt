@@ -39,7 +39,7 @@ room c =
     let h : c.loop-q.q < lines_due s = omega (arith, total (goal.at.In-loop-q c).After-lines_due-total, c.loop-q-test.true) in (
       h,
       case-line-room (bytes_of_line s.rulebook) c.loop-q.q (lines_due s) (length c.loop-q.out) h
-          (omega (arith, c.loop-q.invariant.2, (first (goal.at.In-loop-q c).After-put_at).1, c.requires.sizes_in_bounds)),
+          (omega (arith, c.loop-q.invariant.1, (first (goal.at.In-loop-q c).After-put_at).1, c.requires.sizes_in_bounds)),
       omega (arith, h, lines-few s (limited-plain s (limited (goal.at.In-loop-q c).Start))),
     )
 
@@ -50,7 +50,7 @@ line-byte c = ap (λ n. n * (c.loop-q.q + 1)) c.line_length-long.ensures
 -- what is due at line q, and its line
 known : (c : In-loop-q) → let a = c.args in
     (due_awaited c.loop-q.due ≡ due_at a.sizes c.loop-q.q) × InCase a.sizes c.loop-q.due
-known c = due-known c.args.sizes c.loop-q.q c.loop-q.due (c.loop-q.invariant.4 (room c).0)
+known c = due-known c.args.sizes c.loop-q.q c.loop-q.due (c.loop-q.invariant.3 (room c).0)
 
 line-is : (c : After-line_after-line) → let a = c.args in
     c.line_after-line.result ≡ line_of (case_with a.sizes a.lower.now a.upper.now) a.table.now (due_at a.sizes c.loop-q.q)
@@ -71,7 +71,6 @@ loop-q-init c =
     let a = c.args in
     let t = case_written a.sizes a.lower.now a.upper.now a.table.now 0 in
     let (n, k, e) = first (goal.at.loop-q-init c).After-put_at in (
-      omega arith,
       n,
       refl,
       e ∙ sym (over-twice t t a.out.now (omega arith))
@@ -90,10 +89,10 @@ pub loop-q-preserved : goal.loop-q-preserved
 loop-q-preserved c =
     let (n, e, f) = put_next c.args.sizes c.args.lower.now c.args.upper.now c.args.table.now c.requires.valid c.put_at.new.out
     c.loop-q.out c.put_at-in-loop-q.new.out c.loop-q.q
-    (room (goal.at.loop-q-preserved c).In-loop-q).0 c.loop-q.invariant.1 c.loop-q.invariant.3 (room (goal.at.loop-q-preserved c).In-loop-q).1 (rw (line-is (goal.at.loop-q-preserved c).After-line_after-line, line-byte (goal.at.loop-q-preserved c).In-loop-q) at c.put_at-in-loop-q.ensures) in
+    (room (goal.at.loop-q-preserved c).In-loop-q).0 c.loop-q.invariant.0 c.loop-q.invariant.2 (room (goal.at.loop-q-preserved c).In-loop-q).1 (rw (line-is (goal.at.loop-q-preserved c).After-line_after-line, line-byte (goal.at.loop-q-preserved c).In-loop-q) at c.put_at-in-loop-q.ensures) in
     let due : c.loop-q.q + 1 < lines_due c.args.sizes → AtLine c.args.sizes (c.loop-q.q + 1) c.next_due-due.result = λ g. subst (AtLine c.args.sizes (c.loop-q.q + 1)) (sym c.next_due-due.ensures)
-    (next-at c.args.sizes (limited (goal.at.loop-q-preserved c).Start) c.loop-q.due c.loop-q.q (c.loop-q.invariant.4 (room (goal.at.loop-q-preserved c).In-loop-q).0) g) in
-    (omega (arith, (room (goal.at.loop-q-preserved c).In-loop-q).0), n, e ∙ c.loop-q.invariant.2, f, due)
+    (next-at c.args.sizes (limited (goal.at.loop-q-preserved c).Start) c.loop-q.due c.loop-q.q (c.loop-q.invariant.3 (room (goal.at.loop-q-preserved c).In-loop-q).0) g) in
+    (n, e ∙ c.loop-q.invariant.1, f, due)
 
 pub returns : goal.returns
 returns c =
@@ -101,5 +100,5 @@ returns c =
     let t = case_written a.sizes a.lower.now a.upper.now a.table.now 0 in
     let x = case_text (rules_in a.sizes.rulebook) (case_with a.sizes a.lower.now a.upper.now) a.table.now in
     let w : case_written a.sizes a.lower.now a.upper.now a.table.now c.loop-q.q ≡ x = lines-written-all a.sizes a.lower.now a.upper.now a.table.now c.loop-q.q (omega (arith, total (goal.at.returns c).After-lines_due-total, c.loop-q-test.false)) in
-    c.loop-q.invariant.3 ∙ ap (λ t. overwritten t c.put_at.new.out) w ∙ ap (overwritten x) (first (goal.at.returns c).After-put_at).2
-    ∙ over-twice t x a.out.now (omega (arith, (first (goal.at.returns c).After-put_at).0, ap length w, c.loop-q.invariant.1))
+    c.loop-q.invariant.2 ∙ ap (λ t. overwritten t c.put_at.new.out) w ∙ ap (overwritten x) (first (goal.at.returns c).After-put_at).2
+    ∙ over-twice t x a.out.now (omega (arith, (first (goal.at.returns c).After-put_at).0, ap length w, c.loop-q.invariant.0))

@@ -3,10 +3,10 @@ use native.Mathlib.Omega.{arith}
 use Rattle.drivers.proofs.Laws.{digest-next, digest-ends}
 use Rattle.drivers.proofs.digest.Goals as goal
 
-pub loop-i-preserved : goal.loop-i-preserved
-loop-i-preserved c =
-    let bytes = c.args.bytes.now in
-    (omega arith, omega arith, rw c.wide.ensures.0 (sym (digest-next c.loop-i.sum c.loop-i.i bytes (omega arith)) ∙ c.loop-i.invariant.2))
+pub loop-byte-preserved : goal.loop-byte-preserved
+loop-byte-preserved c =
+    let l = c.loop-byte in
+    (omega arith, rw c.from.ensures (sym (digest-next l.sum l.byte-index c.args.bytes.now (omega arith)) ∙ l.invariant.1))
 
 pub returns : goal.returns
-returns c = sym (digest-ends c.loop-i.sum c.loop-i.i c.args.bytes.now (omega arith)) ∙ c.loop-i.invariant.2
+returns c = let l = c.loop-byte in sym (digest-ends l.sum l.byte-index c.args.bytes.now (omega arith)) ∙ l.invariant.1

@@ -10,7 +10,7 @@ use Rattle.lines.proofs.text_length.Goals.{After-digit_count-k}
 -- The digits, and a minus. Assumes nothing.
 count-is : (c : After-digit_count-k) → c.digit_count-k.result ≡ length (decimal (nat_abs c.args.z))
 count-is c =
-    c.digit_count-k.ensures ∙ ap (λ n. length (decimal n)) (c.magnitude.ensures ∙ ap nat_abs (same c.args.z c.ranges.z))
+    c.digit_count-k.ensures ∙ ap (λ n. length (decimal n)) (c.unsigned_abs.ensures.value ∙ ap nat_abs (same c.args.z c.ranges.z))
 
 pub overflow_add-result : goal.overflow_add-result
 overflow_add-result c =

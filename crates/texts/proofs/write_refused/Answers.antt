@@ -28,7 +28,7 @@ pub returns : goal.returns
 unfolding write_refused_call
 returns c =
     let n = c.number_of in
-    let v = c.whole in
+    let v = c.from in
     let a = read_back w64 v.result v.type_inv ∙ v.ensures ∙ ap pos n.ensures in
     let b = to_z_pos w64 c.args.line (omega arith) in
     text-printed c.args.out.now c.args.line (refused_text c.args.refusal c.args.line) (omega arith) (omega arith)

@@ -1,6 +1,5 @@
 use mathlib.Core.Path.{◌≡◌, refl, sym, ap, ◌∙◌}
 use Prim.Native.Nat.{◌+◌, ◌*◌, ◌/◌}
-use native.Mathlib.Omega.{arith}
 use lib.ListN.{length, take, drop}
 use Rattle.definitions.specs.Lines.{line_length}
 use Rattle.definitions.specs.Views.{span_in}
@@ -19,7 +18,7 @@ stepped c =
     let log = a.log.now in
     let whole = length log / line_length a.width in
     ap (resumed (span_at a.width log whole (c.loop-at.at + 1))) c.step_at-step.ensures
-    ∙ at-step a.width c.requires log whole c.loop-at.at c.loop-at.from c.loop-at.left c.loop-at-test.true ∙ c.loop-at.invariant.3
+    ∙ at-step a.width c.requires log whole c.loop-at.at c.loop-at.from c.loop-at.left c.loop-at-test.true ∙ c.loop-at.invariant.2
 
 pub returns-in-Stop : goal.returns-in-Stop
 returns-in-Stop c =
@@ -33,10 +32,9 @@ loop-at-preserved c =
     let long = line_length a.width in
     let log = a.log.now in
     let e = c.in-On.is in (
-      omega arith,
       refl,
       on-inside a.width c.loop-at.at c.in-On.first c.in-On.fewer (sym c.step_at-step.ensures ∙ e)
-          (passed-inside a.width c.loop-at.at c.loop-at.from c.loop-at.invariant.2 (read_line_at a.width (take long (drop (c.loop-at.at * long) log)))
+          (passed-inside a.width c.loop-at.at c.loop-at.from c.loop-at.invariant.1 (read_line_at a.width (take long (drop (c.loop-at.at * long) log)))
           c.loop-at.left),
       ap (resumed (span_at a.width log (length log / long) (c.loop-at.at + 1))) (sym e) ∙ stepped (goal.at.loop-at-preserved c).After-step_at-step,
     )

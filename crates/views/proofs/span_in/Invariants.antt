@@ -1,5 +1,5 @@
 use mathlib.Core.Path.{◌≡◌}
-use Prim.Native.Nat.{◌/◌, ◌-◌, ◌≤◌}
+use Prim.Native.Nat.{◌/◌, ◌≤◌}
 use lib.ListN.{length}
 use Rattle.definitions.specs.Lines.{line_length}
 use Rattle.definitions.specs.Views.{span_in}
@@ -8,7 +8,4 @@ use Rattle.views.proofs.span_in.Given as goal
 
 abbrev pub invariant-loop-at : goal.invariant-loop-at
 invariant-loop-at l =
-    (l.at ≤ l.whole) × (l.whole ≡ length l.log / line_length l.width) × (l.from ≤ l.at) × (span_at l.width l.log l.whole l.at l.from l.left ≡ span_in l.width l.log l.round)
-
-abbrev pub decreases-loop-at : goal.decreases-loop-at
-decreases-loop-at l = l.whole - l.at
+    (l.whole ≡ length l.log / line_length l.width) × (l.from ≤ l.at) × (span_at l.width l.log l.whole l.at l.from l.left ≡ span_in l.width l.log l.round)

@@ -27,7 +27,7 @@ returns-in-Ok c = let a = c.args in
     let k = last_asked a.case w p a.variable a.target a.x in
     let (f, u) = change-done (first_refusal k.later) k.table w c.target_whole-made.ensures.value.0 c.target_whole-made.ensures.value.1
     c.in-Ok.is in
-    let n = cleared r a.x c.clear.new.raised c.requires.raised_len.0 c.clear.ensures in record {
+    let n = cleared r a.x c.fill.new.self c.requires.raised_len.0 (c.fill.ensures.after (λ y e. e)) in record {
       table_after = ap₂ (λ (l : List ℕ) (v : List ℤ). step_of c.after_target.result l v) n u ∙ c.after_target.ensures r k.table
           ∙ ap (step_by w p k) (sym f);
       best_of_2 = c.target_whole-made.ensures.best_of_2;
