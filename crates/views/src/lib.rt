@@ -115,7 +115,7 @@ fn span_in(log: &[u8], round: u64, width: usize) -> Result<Result<Span, RefusedA
     Err(RefusedAt {
         refusal: not_there(log, width),
         line: whole,
-    }
+    })
 }
 
 // ---- the calls
