@@ -161,10 +161,7 @@ fn is_shift_amount(rulebook: Rulebook, amount: i64) -> bool
 fn same_weight(a: i64, b: i64) -> bool
     ensures { result ≡ eq_z a b }
 {
-    if a == b {
-        return true;
-    }
-    false
+    a == b
 }
 
 // The values below `count` whose weight is `weight`; that of value j stands at table[from + j].

@@ -121,10 +121,7 @@ pub fn barred() -> i64
 pub fn is_barred(weight: i64) -> bool
     ensures { result ≡ is_barred weight }
 {
-    if weight == -2_000_000_000 {
-        return true;
-    }
-    false
+    weight == -2_000_000_000
 }
 
 // ---- lines

@@ -8,4 +8,5 @@ use Rattle.bars.proofs.rest_open.Goals as goal
 
 pub returns : goal.returns
 returns c = let a = c.args in
-    any_below (some_open (rules_of a.case) a.case a.table.now a.best.now a.raised.now a.variable) (a.case.n + a.case.m) _ _ _ c.any.ensures.ran (cc) (λ x b q k. search (rules, tests))
+    any_below (some_open (rules_of a.case) a.case a.table.now a.best.now a.raised.now a.variable)
+    (a.case.n + a.case.m) _ _ _ c.any.ensures.ran (cc) (λ x b q k. search (rules, tests))

@@ -10,4 +10,5 @@ use Rattle.changes.proofs.lowering_stays.Goals as goal
 
 pub returns : goal.returns
 returns c = let a = c.args in
-    all_below (λ x. scope_lets (rules_of a.case) a.case a.table.now a.variable a.values a.amount x (get_or a.raised.now x 0) (best_at a.best.now x)) (a.case.n + a.case.m) _ _ _ c.all.ensures.ran (cc) (λ x b q k. search (rules, tests))
+    all_below (λ x. scope_lets (rules_of a.case) a.case a.table.now a.variable a.values a.amount x (get_or a.raised.now x 0) (best_at a.best.now x))
+    (a.case.n + a.case.m) _ _ _ c.all.ensures.ran (cc) (λ x b q k. search (rules, tests))

@@ -9,4 +9,5 @@ use Rattle.figures.proofs.uses_barred.Goals as goal
 
 pub returns : goal.returns
 returns c = let a = c.args in
-    any_below (λ x. at_used a.case a.assignment.now x (barred a.case a.table.now x)) (a.case.n + a.case.m) _ _ _ c.any.ensures.ran (cc) (λ x b q k. search (rules, tests, used-barred, read_back))
+    any_below (λ x. at_used a.case a.assignment.now x (barred a.case a.table.now x))
+    (a.case.n + a.case.m) _ _ _ c.any.ensures.ran (cc) (λ x b q k. search (rules, tests, used-barred, read_back))
