@@ -10,15 +10,11 @@ use Rattle.arcs.proofs.Marked.{written_next, sets-written}
 use borrow.Author.Rules.{rules}
 use Rattle.arcs.proofs.write_sets.Goals as goal
 
-pub bounds-sets-j : goal.bounds-sets-j
-bounds-sets-j c =
-    omega (arith, c.loop-j.invariant.same_length, c.requires.case_in_bounds.1)
-
 pub loop-j-preserved : goal.loop-j-preserved
 loop-j-preserved c =
     let a = c.args in
     let l = c.loop-j in
-    written_next _ _ _ _ _ l.invariant (bounds-sets-j c)
+    written_next _ _ _ _ _ l.invariant (omega (arith, l.invariant.same_length, c.requires.case_in_bounds.1))
     (c.set_with.ensures
     ∙ ap (λ (b : ℤ). set_where a.case (has_weight a.case a.table.now b) l.j)
     (read_back w64 (get_or a.best.now l.j (pos 0)) (search rules)))
