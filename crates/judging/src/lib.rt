@@ -77,13 +77,7 @@ fn block_from(judging: Judging, table: &mut [i64], bytes: &[u8], passed: usize) 
 fn is_out(ended: Outcome) -> bool
     ensures { T result ↔ (ended ≡ Outcome.Refused Refusal.OutOfRange) }
 {
-    match ended {
-        Outcome::Done => false,
-        Outcome::Refused(refusal) => match refusal {
-            Refusal::OutOfRange => true,
-            _ => false,
-        },
-    }
+    matches!(ended, Outcome::Refused(Refusal::OutOfRange))
 }
 
 // A record that is good. The end asks 5 of the record, the carry and the edges, which are asked here again with the table.
@@ -116,16 +110,7 @@ fn finish_standing(case: Case, table: &[i64], replay: Replay, part: bool) -> Out
 fn is_over(due: Due) -> bool
     ensures { result ≡ is_void due }
 {
-    match due {
-        Due::MoveOrBound => false,
-        Due::Raise {
-            variable: _,
-            target: _,
-            left: _,
-            last: _,
-        } => false,
-        Due::Nothing => true,
-    }
+    matches!(due, Due::Nothing)
 }
 
 // The judgement where neither a line nor the end has a number.
