@@ -40,10 +40,7 @@ pub(crate) fn lent_answer(replay: Replay, case: Case, table: &[i64]) -> Result<(
 fn is_wrong_length(refusal: Refusal) -> bool
     ensures { T result ↔ (refusal ≡ Refusal.WrongLength) }
 {
-    match refusal {
-        Refusal::WrongLength => true,
-        _ => false,
-    }
+    matches!(refusal, Refusal::WrongLength)
 }
 
 // The number of a line in columns, where `lent` is the first of 3 to 8 without the line's own 5.

@@ -77,13 +77,7 @@ fn block_from(judging: Judging, table: &mut [i64], bytes: &[u8], passed: usize) 
 fn is_out(ended: Result<(), Refusal>) -> bool
     ensures { T result ↔ (ended ≡ Err Refusal.OutOfRange) }
 {
-    match ended {
-        Ok(()) => false,
-        Err(refusal) => match refusal {
-            Refusal::OutOfRange => true,
-            _ => false,
-        },
-    }
+    matches!(ended, Err(Refusal::OutOfRange))
 }
 
 // A record that is good. The end asks 5 of the record, the carry and the edges, which are asked here again with the table.
@@ -113,16 +107,7 @@ fn finish_standing(case: Case, table: &[i64], replay: Replay, part: bool) -> Res
 fn is_over(due: Due) -> bool
     ensures { result ≡ is_void due }
 {
-    match due {
-        Due::MoveOrBound => false,
-        Due::Raise {
-            variable: _,
-            target: _,
-            left: _,
-            last: _,
-        } => false,
-        Due::Nothing => true,
-    }
+    matches!(due, Due::Nothing)
 }
 
 // The judgement where neither a line nor the end has a number.
@@ -131,13 +116,13 @@ fn good_judgement(
     table: &[i64],
     replay: Replay,
     passed: usize,
-) -> Result<Judgement, RefusedAt>
+) -> Result<Result<Judgement, RefusedAt>, RefusedAt>
     requires { Handed (rules_of case) (working_weight (rules_of case)) case table.now }
     ensures { result ≡ good_in case replay table.now }
 {
     let due = replay.due;
     if is_over(due) {
-        return Ok(Judgement::Void);
+        return Ok(Ok(Judgement::Void));
     }
     let sum = tables::sum_of_greatest(case, table);
     match sum {
@@ -145,10 +130,10 @@ fn good_judgement(
             refusal,
             line: passed,
         }),
-        Ok(bound) => Ok(Judgement::Accepted {
+        Ok(bound) => Ok(Ok(Judgement::Accepted {
             rounds: replay.rounds,
             bound,
-        }),
+        })),
     }
 }
 
@@ -158,7 +143,7 @@ fn end_judgement(
     table: &[i64],
     part: bool,
     passed: usize,
-) -> Result<Judgement, RefusedAt>
+) -> Result<Result<Judgement, RefusedAt>, RefusedAt>
     ensures { result ≡ judgement_from (state_of judging table.now) part (Ok passed) }
 {
     let case = judging.case;
@@ -225,7 +210,7 @@ pub fn block(judging: Judging, table: &mut [i64], bytes: &[u8]) -> Judging
 }
 
 // The judgement where the input ends here; `part`: fewer bytes than a line are left.
-pub fn judge(judging: Judging, table: &[i64], part: bool) -> Result<Judgement, RefusedAt>
+pub fn judge(judging: Judging, table: &[i64], part: bool) -> Result<Result<Judgement, RefusedAt>, RefusedAt>
     ensures { result ≡ judgement_of (state_of judging table.now) part }
 {
     let answer = judging.answer;
