@@ -157,19 +157,14 @@ pub(crate) fn read_lines(
     let mut q: usize = 0;
     let mut due = case_lines::first_due(sizes);
     while q < total {
-        let taken = take_at(bytes, sizes, q, due, lower, upper, table);
-        match taken {
-            Err(refusal) => {
-                return Err(RefusedAt {
-                    refusal,
-                    line: q + 1,
-                });
-            }
-            Ok(()) => {
-                due = case_lines::next_due(sizes, due);
-                q += 1;
-            }
+        if let Err(refusal) = take_at(bytes, sizes, q, due, lower, upper, table) {
+            return Err(RefusedAt {
+                refusal,
+                line: q + 1,
+            });
         }
+        due = case_lines::next_due(sizes, due);
+        q += 1;
     }
     Ok(q + 1)
 }
