@@ -1,6 +1,5 @@
 -- The head of a case file, and then its lines. Assumes nothing.
 use Rattle.definitions.specs.declared.RefusedAt.{RefusedAt}
-use Rattle.definitions.specs.Answers.{refused_at}
 use Rattle.definitions.specs.Answers.{size_with}
 use mathlib.Core.Path.{◌≡◌, refl, sym, ap, ap₂, ◌∙◌}
 use mathlib.Core.Bool.{Bool, true, false, not, ◌&&◌}
@@ -40,7 +39,7 @@ use Rattle.casefile.proofs.Left.{left-first, dues-whole}
 -- ---- what is handed back of a call
 
 module _ (b : Rulebook) {call : CaseCall} {u : CaseRead} (r : Result ℕ RefusedAt) (g : Reading) (e : call_with b r g ≡ call) where
-  pub handed-refused : {x : Refusal} {at : ℕ} → r ≡ Err (refused_at x at) → u ≡ (case_refused b x at g.table).read → (u ≡ call.read)
+  pub handed-refused : {x : RefusedAt} → r ≡ Err x → u ≡ (case_refused b x.refusal x.line g.table).read → (u ≡ call.read)
       × (g.table ≡ call.table)
   handed-refused p q = let d = sym (ap (λ r. call_with b r g) p) ∙ e in (q ∙ ap (λ c. c.read) d, ap (λ c. c.table) d)
 
@@ -59,11 +58,11 @@ size_by b o c = elim o [
   | Some x ↦ Err x
 ]
 
-size_none : (b : Rulebook) (o : Option Refusal) (c : Case) {n d m long : ℕ} → size_by b o c ≡ Ok (size_with n d m long)
-    → (o ≡ None) × (c.n ≡ n) × (c.d ≡ d) × (c.m ≡ m) × (lent_length (rules_in b) c ≡ long)
+size_none : (b : Rulebook) (o : Option Refusal) (c : Case) {z : CaseSize} → size_by b o c ≡ Ok z
+    → (o ≡ None) × (size_with c.n c.d c.m (lent_length (rules_in b) c) ≡ z)
 unfolding size_by
-size_none b None c e = (refl, (cc), (cc), (cc), (cc))
-size_none b (Some x) c e = ((cc), (cc), (cc), (cc), (cc))
+size_none b None c e = (refl, (cc))
+size_none b (Some x) c e = ((cc), (cc))
 
 size-some : (b : Rulebook) (o : Option Refusal) (c : Case) {x : Refusal} → size_by b o c ≡ Err x → o ≡ Some x
 unfolding size_by
@@ -98,25 +97,27 @@ module _ (b : Rulebook) (t : List ℕ) (w : List ℤ) where
       let o : head_refusal (rules_in b) t ≡ Some x = size-some b (head_refusal (rules_in b) t) (headed b (first_line (rules_in b) t)) (sym size_is ∙ e) in
       case-is ∙ ap (λ o. case_by o (headed b (first_line (rules_in b) t))) o
 
-  module _ (n d m : ℕ) {long : ℕ} (e : case_size b t ≡ Ok (size_with n d m long)) where
+  module _ (z : CaseSize) (e : case_size b t ≡ Ok z) where
     abbrev s : Sizes
-    s = record { n = n; d = d; m = m; rulebook = b }
+    s = record { n = z.n; d = z.d; m = z.m; rulebook = b }
 
-    named : (head_refusal (rules_in b) t ≡ None) × (headed b (first_line (rules_in b) t) ≡ case_of b s.n s.d s.m) × (full_length (rules_in b) d ≡ long)
+    named : (head_refusal (rules_in b) t ≡ None) × (headed b (first_line (rules_in b) t) ≡ case_of b s.n s.d s.m) × (full_length (rules_in b) z.d ≡ z.table)
     named =
-        let (o, n, d, m, l) = size_none b (head_refusal (rules_in b) t) (headed b (first_line (rules_in b) t)) (sym size_is ∙ e) in
-        (o, headed-is b (first_line (rules_in b) t) ∙ cc, cc)
+        let (o, q) = size_none b (head_refusal (rules_in b) t) (headed b (first_line (rules_in b) t)) (sym size_is ∙ e) in
+        let h = headed-is b (first_line (rules_in b) t) in
+        let d = ap (λ (k : CaseSize). k.d) q in
+        (o, h ∙ ap (λ (k : CaseSize). case_of b k.n k.d k.m) q, sym (ap (full_length (rules_in b)) d) ∙ ap (λ (k : CaseSize). k.table) q)
 
     case-none : read_lines b t w ≡ case_by None (case_of b s.n s.d s.m)
     case-none = case-is ∙ ap₂ case_by named.0 named.1
 
-    pub case-wrong : length w ≢ long → read_lines b t w ≡ case_refused b WrongLength 0 w
+    pub case-wrong : length w ≢ z.table → read_lines b t w ≡ case_refused b WrongLength 0 w
     unfolding case_by
-    case-wrong h = case-none ∙ rw (ne_eqb (length w) (full_length (rules_in b) d) (λ q. h (q ∙ named.2)))
+    case-wrong h = case-none ∙ rw (ne_eqb (length w) (full_length (rules_in b) z.d) (λ q. h (q ∙ named.2)))
 
-    pub case-right : length w ≡ long → read_lines b t w ≡ left_from s (reading_of s no_ends no_ends w) 0 t
+    pub case-right : length w ≡ z.table → read_lines b t w ≡ left_from s (reading_of s no_ends no_ends w) 0 t
     unfolding case_by
-    case-right h = case-none ∙ rw (eq-eqb (length w) (full_length (rules_in b) d) (h ∙ sym named.2)) (sym (left-first s (reading_of s no_ends no_ends w) t))
+    case-right h = case-none ∙ rw (eq-eqb (length w) (full_length (rules_in b) z.d) (h ∙ sym named.2)) (sym (left-first s (reading_of s no_ends no_ends w) t))
 
     refusal-parts : (short : Bool) (o : Option Refusal) → (if short then Some CutShort else o) ≡ None → (short ≡ false) × (o ≡ None)
     refusal-parts true o p = ((cc), (cc))
@@ -126,14 +127,14 @@ module _ (b : Rulebook) (t : List ℕ) (w : List ℤ) where
     not-cut = refusal-parts (is_cut (rules_in b) t) (first_refusal (head_tests (rules_in b) (first_line (rules_in b) t))) named.0
 
     pub head-whole : bytes_of_line b ≤ length t
-    head-whole = ⊎_elim (λ u. let z : true ≡ false = sym (is_true (is_cut (rules_in b) t) u) ∙ not-cut.0 in let y : ◌≡◌ {A = ℕ} 0 1 = cc in omega arith)
+    head-whole = ⊎_elim (λ u. let k : true ≡ false = sym (is_true (is_cut (rules_in b) t) u) ∙ not-cut.0 in cc)
         (λ u. nltb→le (length t) (bytes_of_line b) u) (either (is_cut (rules_in b) t))
 
     pub sizes-limited : SizesLimited s
     sizes-limited = go (first_line (rules_in b) t) not-cut.1 named.1
       where
         go : (o : Option Line) → first_refusal (head_tests (rules_in b) o) ≡ None → headed b o ≡ case_of b s.n s.d s.m → SizesLimited s
-        go None p q = let z : ◌≡◌ {A = ℕ} 0 1 = cc in absurd (omega arith)
+        go None p q = cc
         go (Some l) p q =
             let limits = limits_z b l.a l.b l.c in
             let k = and_left (not (not limits)) true (and_right (not (not_due (rules_in b) (10 ∷ []) l)) (not (not limits) && true)
@@ -145,8 +146,8 @@ module _ (b : Rulebook) (t : List ℕ) (w : List ℤ) where
             (omega (arith, ap (λ c. c.d) q, d.2))
             (omega (arith, ap (λ c. c.m) q, m.2))
 
-    pub case-length : length w ≡ long → places_of s ≤ length w
-    case-length h = omega (arith, named.2, own-lent (rules_in b) (case_of b n d m) sizes-limited.variables sizes-limited.edges)
+    pub case-length : length w ≡ z.table → places_of s ≤ length w
+    case-length h = omega (arith, named.2, own-lent (rules_in b) (case_of b z.n z.d z.m) sizes-limited.variables sizes-limited.edges)
 
 -- ---- a case that was read has all its lines
 
@@ -155,14 +156,14 @@ module _ (b : Rulebook) (t : List ℕ) (w : List ℤ) {lines : ℕ} where
       → (if fits then read_dues b (record { case = c; table = w }) 1 (dues c)
       (after_first (rules_in b) t) else case_refused b WrongLength 0 w).read.answer ≡ Ok lines → lines * bytes_of_line b ≤ length t
   whole_length true c h e = omega (arith, dues-whole b (dues c) (record { case = c; table = w }) 1 (after_first (rules_in b) t) e, length-drop (bytes_of_line b) t)
-  whole_length false c h e = let z : ◌≡◌ {A = ℕ} 0 1 = cc in omega arith
+  whole_length false c h e = cc
 
   whole_by : (short : Bool) (o : Option Refusal) → is_cut (rules_in b) t ≡ short → (c : Case)
       → (case_by b t w (if short then Some CutShort else o) c).read.answer ≡ Ok lines → lines * bytes_of_line b ≤ length t
   unfolding case_by
-  whole_by true o d c e = let z : ◌≡◌ {A = ℕ} 0 1 = cc in omega arith
+  whole_by true o d c e = cc
   whole_by false None d c e = whole_length (eqb (length w) (lent_length (rules_in b) c)) c (nltb→le (length t) (bytes_of_line b) (false-is (is_cut (rules_in b) t) d)) e
-  whole_by false (Some x) d c e = let z : ◌≡◌ {A = ℕ} 0 1 = cc in omega arith
+  whole_by false (Some x) d c e = cc
 
   pub read_whole : (read_lines b t w).read.answer ≡ Ok lines → lines * bytes_of_line b ≤ length t
   read_whole e = whole_by (is_cut (rules_in b) t) (first_refusal (head_tests (rules_in b) (first_line (rules_in b) t))) refl (headed b (first_line (rules_in b) t))

@@ -27,7 +27,7 @@ use Rattle.case_theory.proofs.CaseTests.{case-kinds}
 use Rattle.case_lines.specs.declared.Sizes.{Sizes}
 use Rattle.case_lines.specs.Dues.{bytes_of_line, case_with, places_of}
 use Rattle.casefile.specs.Reads.{is_of_kind}
-use Rattle.casefile.specs.Steps.{is_done, plain_tests, bar_tests, others_barred, ends_tests, repeat_test, ends_refusal, reading_of, line_refusal, due_refusal}
+use Rattle.casefile.specs.Steps.{plain_tests, bar_tests, others_barred, ends_tests, repeat_test, ends_refusal, reading_of, line_refusal, due_refusal}
 use Rattle.casefile.specs.Steps.{Stepped, SteppedAt}
 use Rattle.casefile.proofs.Heads.{Front, cut, bad, good}
 use Rattle.casefile.proofs.Tests.{due-11, due-12, due-13, due-14, due-15, not-ends}
@@ -43,16 +43,6 @@ module _ {A : Type 0} (o : Option Refusal) (a b : A) where
 
   pub table-changed : o ≡ None → a ≡ unless_refused o a b
   table-changed e = rw e
-
--- what was checked, by whether it is done
-module _ {A : Type 0} (a b : A) where
-  pub if-done : (o : Option Refusal) → is_done (outcome_of o) ≡ true → a ≡ unless_refused o a b
-  if-done None e = refl
-  if-done (Some x) e = let z : ◌≡◌ {A = ℕ} 0 1 = cc in absurd (omega arith)
-
-  pub if-not-done : (o : Option Refusal) → is_done (outcome_of o) ≡ false → b ≡ unless_refused o a b
-  if-not-done None e = let z : ◌≡◌ {A = ℕ} 0 1 = cc in absurd (omega arith)
-  if-not-done (Some x) e = refl
 
 -- ---- the tests of each line
 

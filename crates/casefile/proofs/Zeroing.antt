@@ -1,7 +1,6 @@
 -- A case that was taken has few places, and 0 is written past them. Assumes nothing.
-use Rattle.std.specs.Prelude.{Result, Ok, Err}
+use Rattle.std.specs.Prelude.{Result, Ok, Err, is_ok}
 use Rattle.definitions.specs.declared.RefusedAt.{RefusedAt}
-use Rattle.definitions.specs.Answers.{refused_at}
 use mathlib.Core.Path.{◌≡◌, refl, sym, ap, ap₂, subst, ◌∙◌}
 use mathlib.Core.Bool.{true, false}
 use mathlib.Core.List.{List}
@@ -17,20 +16,20 @@ use Rattle.definitions.specs.CaseFiles.{CaseCall, read_lines, read_lines_alone, 
 use Rattle.theory.proofs.Validity.{valid-facts}
 use Rattle.case_theory.proofs.CaseReads.{zeroed_call, zeroed-read}
 use Rattle.case_theory.proofs.CaseTexts.{IsText, written_read, written-read-alone}
-use Rattle.casefile.specs.Past.{is_taken, FewPlaces, call_of}
+use Rattle.casefile.specs.Past.{FewPlaces, call_of}
 
 -- ---- by the answer
-taken-lines : (x : Result ℕ RefusedAt) → is_taken x ≡ true → (lines : ℕ) × (x ≡ Ok lines)
+taken-lines : (x : Result ℕ RefusedAt) → is_ok x ≡ true → (lines : ℕ) × (x ≡ Ok lines)
 taken-lines (Ok lines) e = (lines, refl)
-taken-lines (Err x) e = let z : ◌≡◌ {A = ℕ} 0 1 = cc in absurd (omega arith)
+taken-lines (Err x) e = cc
 
 module _ (call : CaseCall) where
-  pub past-taken : (x : Result ℕ RefusedAt) → is_taken x ≡ true → (zeroed_past call x).table ≡ zeroed_from (own_length call.read.case) call.table
+  pub past-taken : (x : Result ℕ RefusedAt) → is_ok x ≡ true → (zeroed_past call x).table ≡ zeroed_from (own_length call.read.case) call.table
   past-taken (Ok lines) e = refl
-  past-taken (Err x) e = let z : ◌≡◌ {A = ℕ} 0 1 = cc in absurd (omega arith)
+  past-taken (Err x) e = cc
 
-  pub past-refused : (x : Result ℕ RefusedAt) → is_taken x ≡ false → (zeroed_past call x).table ≡ call.table
-  past-refused (Ok lines) e = let z : ◌≡◌ {A = ℕ} 0 1 = cc in absurd (omega arith)
+  pub past-refused : (x : Result ℕ RefusedAt) → is_ok x ≡ false → (zeroed_past call x).table ≡ call.table
+  past-refused (Ok lines) e = cc
   past-refused (Err x) e = refl
 
   -- what is handed back
@@ -47,15 +46,15 @@ text-few c w h =
 
 module _ (call : CaseCall) {u : CaseRead} (e : u ≡ call.read) where
   few-by : ((lines : ℕ) → (zeroed_call call).read.answer ≡ Ok lines → FewPlaces (zeroed_call call).read.case)
-      → is_taken u.answer ≡ true → FewPlaces u.case
+      → is_ok u.answer ≡ true → FewPlaces u.case
   few-by few t =
       let same : (zeroed_call call).read ≡ u = zeroed-read call ∙ sym e in
       let (lines, p) = taken-lines u.answer t in
       subst (λ (x : CaseRead). FewPlaces x.case) same (few lines (ap (λ (x : CaseRead). x.answer) same ∙ p))
 
 module _ (b : Rulebook) (t : List ℕ) (w : List ℤ) {u : CaseRead} where
-  pub lines-few : u ≡ (read_lines b t w).read → is_taken u.answer ≡ true → FewPlaces u.case
+  pub lines-few : u ≡ (read_lines b t w).read → is_ok u.answer ≡ true → FewPlaces u.case
   lines-few e = few-by (read_lines b t w) e (λ lines p. text-few _ _ (written_read b t w p))
 
-  pub alone-few : u ≡ (read_lines_alone b t w).read → is_taken u.answer ≡ true → FewPlaces u.case
+  pub alone-few : u ≡ (read_lines_alone b t w).read → is_ok u.answer ≡ true → FewPlaces u.case
   alone-few e = few-by (read_lines_alone b t w) e (λ lines p. text-few _ _ (written-read-alone b t w p))

@@ -1,15 +1,9 @@
 -- The places of a case that was read, and the table past them. Assumes nothing.
-use Rattle.definitions.specs.declared.RefusedAt.{RefusedAt}
-use Rattle.definitions.specs.Answers.{refused_at}
-use Rattle.std.specs.Prelude.{Bool, true, false, List, ◌≤◌, ℤ, Result, Ok, Err, ℕ}
+use Rattle.std.specs.Prelude.{List, ◌≤◌, ℤ}
 use Rattle.definitions.specs.declared.Case.{Case}
 use Rattle.definitions.specs.declared.CaseRead.{CaseRead}
 use Rattle.definitions.specs.Rules.{edge_places}
 use Rattle.definitions.specs.CaseFiles.{CaseCall}
-
-abbrev pub is_taken : Result ℕ RefusedAt → Bool
-is_taken (Ok lines) = true
-is_taken (Err x) = false
 
 -- no number is above what the places of any rules hold
 abbrev pub FewPlaces : Case → Type 0

@@ -9,7 +9,7 @@ use Rattle.definitions.specs.declared.Refusal.{Refusal}
 use Rattle.definitions.specs.declared.Refusal.TheVariants.{NotDue, OutOfRange, EndsNotAscending, EdgeRepeated, WeightOutOfRange, CutShort, ScopeBarred}
 use Rattle.definitions.specs.Rules.{rules_in, edge_places}
 use Rattle.definitions.specs.Refusals.{Test, ◌when◌, first_refusal}
-use Rattle.definitions.specs.Answers.{outcome_of, unless_refused, refused_at}
+use Rattle.definitions.specs.Answers.{outcome_of, unless_refused}
 use Rattle.definitions.specs.Case.{is_barred}
 use Rattle.definitions.specs.Valid.{in_starting}
 use Rattle.definitions.specs.Lines.{outside}
@@ -20,10 +20,6 @@ use Rattle.case_lines.specs.Dues.{bytes_of_line, case_with}
 use Rattle.casefile.specs.Reads.{is_of_kind}
 
 -- ---- one line
-
-abbrev pub is_done : Result ⊤ Refusal → Bool
-is_done (Ok tt) = true
-is_done (Err x) = false
 
 -- a weight's line that does not bar
 abbrev pub plain_tests : Rulebook → Bool → ℕ → ℕ → ℕ → Line → List Test

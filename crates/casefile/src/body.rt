@@ -155,17 +155,15 @@ pub(crate) fn read_lines(
 {
     let total = case_lines::lines_due(sizes);
     let mut due = case_lines::first_due(sizes);
-    for q in 0..total {
-        let taken = take_at(bytes, sizes, q, due, lower, upper, table);
-        match taken {
-            Err(refusal) => {
-                return Err(RefusedAt {
-                    refusal,
-                    line: q + 1,
-                });
-            }
-            Ok(()) => due = case_lines::next_due(sizes, due),
+    while q < total {
+        if let Err(refusal) = take_at(bytes, sizes, q, due, lower, upper, table) {
+            return Err(RefusedAt {
+                refusal,
+                line: q + 1,
+            });
         }
+        due = case_lines::next_due(sizes, due);
+        q += 1;
     }
     Ok(total + 1)
 }

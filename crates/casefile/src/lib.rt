@@ -71,9 +71,8 @@ fn read_body(bytes: &[u8], sizes: Sizes, table: &mut [i64]) -> CaseRead
     let rulebook = sizes.rulebook;
     let mut lower = [0u8; EDGE_PLACES];
     let mut upper = [0u8; EDGE_PLACES];
-    let answer = body::read_lines(bytes, sizes, &mut lower, &mut upper, table);
-    match answer {
-        Err(RefusedAt { refusal, line }) => file_refused(rulebook, refusal, line),
+    match body::read_lines(bytes, sizes, &mut lower, &mut upper, table) {
+        Err(at) => file_refused(rulebook, at.refusal, at.line),
         Ok(lines) => file_accepted(lines, sizes, lower, upper),
     }
 }
@@ -106,21 +105,18 @@ fn read_lines_in(rulebook: Rulebook, bytes: &[u8], table: &mut [i64]) -> CaseRea
     ensures { (result ≡ (read_lines rulebook bytes.now table.old).read)
         × (table.new ≡ (read_lines rulebook bytes.now table.old).table) }
 {
-    let size = case_size_in(rulebook, bytes);
-    match size {
+    match case_size_in(rulebook, bytes) {
         Err(refusal) => file_refused(rulebook, refusal, 0),
-        Ok(
-            CaseSize {
-                n,
-                d,
-                m,
-                table: long,
-            },
-        ) => {
-            if table.len() != long {
+        Ok(size) => {
+            if table.len() != size.table {
                 return file_refused(rulebook, Refusal::WrongLength, 0);
             }
-            let sizes = Sizes { n, d, m, rulebook };
+            let sizes = Sizes {
+                n: size.n,
+                d: size.d,
+                m: size.m,
+                rulebook,
+            };
             read_body(bytes, sizes, table)
         }
     }
@@ -131,21 +127,12 @@ fn read_lines_alone_in(rulebook: Rulebook, bytes: &[u8], table: &mut [i64]) -> C
         × (table.new ≡ (read_lines_alone rulebook bytes.now table.old).table) }
 {
     let read = read_lines_in(rulebook, bytes, table);
-    let answer = read.answer;
-    match answer {
-        Err(
-            RefusedAt {
-                refusal: _,
-                line: _,
-            },
-        ) => read,
-        Ok(lines) => {
-            let rest = check_rest(rulebook, bytes, lines * rules::line_length(rulebook));
-            match rest {
-                Ok(()) => read,
-                Err(refusal) => file_refused(rulebook, refusal, lines),
-            }
-        }
+    let Ok(lines) = read.answer else {
+        return read;
+    };
+    match check_rest(rulebook, bytes, lines * rules::line_length(rulebook)) {
+        Ok(()) => read,
+        Err(refusal) => file_refused(rulebook, refusal, lines),
     }
 }
 

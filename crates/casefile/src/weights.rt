@@ -6,7 +6,7 @@ ghost use Rattle.definitions.specs.Case.{barred_weight};
 ghost use Rattle.definitions.specs.Valid.{in_starting};
 ghost use Rattle.definitions.specs.Answers.{outcome_of, unless_refused};
 ghost use Rattle.definitions.specs.CaseFiles.{names as names_place, bars as bars_tuple};
-ghost use Rattle.casefile.specs.Steps.{is_done, plain_tests, bar_tests, others_barred};
+ghost use Rattle.casefile.specs.Steps.{plain_tests, bar_tests, others_barred};
 
 use crate::columns;
 use definitions::{Line, Refusal, Rulebook};
@@ -52,15 +52,6 @@ fn weigh(
     Ok(())
 }
 
-fn is_done(checked: Result<(), Refusal>) -> bool
-    ensures { result ≡ is_done checked }
-{
-    match checked {
-        Ok(()) => true,
-        Err(_) => false,
-    }
-}
-
 // Puts the weight at its place, if nothing refuses the line.
 pub(crate) fn take_weight(
     rulebook: Rulebook,
@@ -78,12 +69,9 @@ pub(crate) fn take_weight(
         × (table.new ≡ unless_refused (first_refusal (plain_tests rulebook due a b c line)) (set table.old place line.amount)
         table.old) }
 {
-    let checked = weigh(rulebook, line, due, a, b, c);
-    if is_done(checked) {
-        let weight = line.amount;
-        table[place] = weight;
-    }
-    checked
+    weigh(rulebook, line, due, a, b, c)?;
+    table[place] = line.amount;
+    Ok(())
 }
 
 // ---- a line that bars

@@ -9,7 +9,7 @@ use lib.IntN.{ℤ}
 use lib.Dec.{T, eqb, ltb, eqb→eq, ltb→lt, lt→ltb}
 use lib.ListN.{length, get_or, set, replicate, length-set}
 use lib.Seq.{get_or-set_same, get_or-set_other}
-use Rattle.std.specs.Prelude.{if◌then◌else◌, Ok}
+use Rattle.std.specs.Prelude.{if◌then◌else◌}
 use Rattle.integers.specs.Words.{◌⇒◌, all, is_in}
 use Rattle.integers.specs.Tests.{either, is_true, is_false, and_left, and_right, not-eqb-iff}
 use Rattle.integers.specs.Lists.{all_in, all_same}
@@ -18,7 +18,7 @@ use Rattle.definitions.specs.Consistency.{all_refuted}
 use Rattle.definitions.specs.Moves.{active_values, active_refuted}
 use Rattle.definitions.proofs.Refutation.{refuted-same}
 use Rattle.calls.specs.Calls.{is_raised}
-use Rattle.moves.specs.Marks.{marked, says_yes}
+use Rattle.moves.specs.Marks.{marked}
 
 pub marked-long : (xs l : List ℕ) → length (marked l xs) ≡ length l
 unfolding marked
@@ -64,7 +64,3 @@ pub marks-refute : (c : Case) (w : List ℤ) (i : ℕ) (marks raised : List ℕ)
     → all_refuted c w (is_raised marks) i (active_values c w i) ≡ active_refuted c w i raised
 marks-refute c w i marks raised same = all_same c.d
     (λ k h. ap (λ (b : Bool). active_values c w i k ⇒ b) (refuted-same c w w (is_raised marks) (is_in raised) i k (λ p g. refl) (λ x g. same x)))
-
-pub says-yes : (b : Bool) → says_yes (Ok b) ≡ b
-says-yes true = refl
-says-yes false = refl

@@ -8,6 +8,7 @@ use lib.IntN.{ℤ, pos, neg_ℤ, ◌+ℤ◌}
 use lib.Dec.{T, T_not, not_T, eqb, ltb, ltb→lt}
 use lib.ListN.{length, get_or}
 use Rattle.std.specs.Prelude.{if◌then◌else◌, Result, Ok, Err, ⊤}
+use Rattle.std.specs.Result.{result_unwrap_or}
 use Rattle.integers.specs.Words.{all, any, is_in, within}
 use Rattle.integers.specs.Tests.{not-not-iff}
 use Rattle.integers.specs.Lists.{all_in, any-in}
@@ -20,7 +21,6 @@ use Rattle.definitions.specs.Answers.{outcome_of, unless_refused}
 use Rattle.definitions.specs.Case.{scope_count, active, barred}
 use Rattle.definitions.specs.Valid.{working_weight, within_limits, handed_over}
 use Rattle.definitions.specs.Moves.{spared, plus, only_where, press_by, active_values, active_press, moved, press_amount, active_refuted, leaves_range}
-use Rattle.definitions.specs.Consistency.{all_refuted}
 use Rattle.calls.specs.Calls.{is_rising, move_call, press_out, press_call, is_raised}
 use Rattle.theory.proofs.Places.{plus-cong}
 use Rattle.theory.proofs.Validity.{Handed}
@@ -31,9 +31,9 @@ use Rattle.arcs.proofs.Best.{values-unsupported-is-refuted}
 use Rattle.changes.specs.Kept.{MarksOf, lowering_out, best_values, lower_and_raise_call}
 use Rattle.changes.proofs.LoweringLaws.{lower-and-raise-is-press}
 use Rattle.changes.proofs.ValueLaws.{best-values-active}
-use Rattle.moves.specs.Marks.{marked, says_yes, asked_of_raised, asked_of_press}
+use Rattle.moves.specs.Marks.{marked, asked_of_raised, asked_of_press}
 use Rattle.moves.proofs.Answers.{refused-answer, refused-table, next-answer, next-table}
-use Rattle.moves.proofs.MarkLaws.{marked-long, raised_is, marks-inside, marks-refute, says-yes}
+use Rattle.moves.proofs.MarkLaws.{marked-long, raised_is, marks-inside, marks-refute}
 
 -- ---- the arguments, by what is asked of the variable and the amount first
 module _ (c : Case) (raised : List ℕ) (i : ℕ) (a : ℤ) where
@@ -149,11 +149,11 @@ module _ {c : Case} {w : List ℤ} (h : Handed (rules_of c) (working_weight (rul
 
       -- what the search for families answers
       pub press-refuted : c.m ≤ length c.lower → c.m ≤ length c.upper
-          → says_yes (values_unsupported_answer (rules_of c) c w best marks i values) ≡ active_refuted c w i raised
+          → result_unwrap_or (values_unsupported_answer (rules_of c) c w best marks i values) false ≡ active_refuted c w i raised
       press-refuted lowers uppers =
-          ap says_yes (values-unsupported-is-refuted c w h best best-made marks marks-long lowers uppers (is_raised marks) (λ x u. refl) i variable values
+          ap (λ (r : Result Bool Refusal). result_unwrap_or r false) (values-unsupported-is-refuted c w h best best-made marks marks-long lowers uppers (is_raised marks) (λ x u. refl) i variable values
           (active_values c w i) values-active)
-          ∙ says-yes (all_refuted c w (is_raised marks) i (active_values c w i)) ∙ marks-refute c w i marks raised marks-are
+          ∙ marks-refute c w i marks raised marks-are
 
       pub press-raised-is : active_refuted c w i raised ≡ true → {o : Result ⊤ Refusal} {t : List ℤ}
           → o ≡ (lower_and_raise_call (rules_of c) c w best marks i values a).answer → t ≡ (lower_and_raise_call (rules_of c) c w best marks i values a).table

@@ -1,6 +1,5 @@
 -- Raised scopes as marks, and what is asked of a press after the check. Assumes nothing.
-use Rattle.definitions.specs.declared.Refusal.{Refusal}
-use Rattle.std.specs.Prelude.{Bool, true, false, not, ◌||◌, List, [], ◌∷◌, ℕ, ℤ, set, Result, Ok, Err}
+use Rattle.std.specs.Prelude.{not, ◌||◌, List, [], ◌∷◌, ℕ, ℤ, set}
 use Rattle.integers.specs.Words.{is_in}
 use Rattle.definitions.specs.declared.Case.{Case}
 use Rattle.definitions.specs.declared.Refusal.TheVariants.{RaiseNotAscending, NotRefuted, LeavesRange}
@@ -13,11 +12,6 @@ use Rattle.calls.specs.Calls.{is_rising}
 unfoldable pub marked : List ℕ → List ℕ → List ℕ
 marked l [] = l
 marked l (x ∷ xs) = marked (set l x 1) xs
-
-abbrev pub says_yes : Result Bool Refusal → Bool
-says_yes (Ok true) = true
-says_yes (Ok false) = false
-says_yes (Err x) = false
 
 -- numbers 10 and 11
 abbrev pub asked_of_raised : Rules → Case → List ℤ → ℕ → List ℕ → ℤ → List Test

@@ -10,7 +10,7 @@ ghost use Rattle.definitions.specs.Moves.{active_press, press_amount};
 ghost use Rattle.calls.specs.Calls.{is_rising, move_call, shift_call, press_out, press_call};
 ghost use Rattle.theory.proofs.Validity.{Handed};
 ghost use Rattle.tables.specs.Scopes.{Limited};
-ghost use Rattle.moves.specs.Marks.{marked, says_yes, asked_of_raised, asked_of_press};
+ghost use Rattle.moves.specs.Marks.{marked, asked_of_raised, asked_of_press};
 
 use definitions::{Case, Refusal, SCOPE_PLACES};
 
@@ -67,16 +67,6 @@ fn mark_scopes(marks: &mut [u8], raised: &[u16])
     }
 }
 
-fn is_yes(verdict: Result<bool, Refusal>) -> bool
-    ensures { result ≡ says_yes verdict }
-{
-    match verdict {
-        Ok(true) => true,
-        Ok(false) => false,
-        Err(_) => false,
-    }
-}
-
 // ---- a press of raised scopes that rise
 
 // Numbers 10 and 11, and the press.
@@ -102,7 +92,8 @@ fn press_raised(
     let mut best = [0i64; SCOPE_PLACES];
     let _ = tables::greatest_weights(case, table, &mut best);
     let values = changes::best_values(case, table, &best, variable);
-    if !is_yes(arcs::values_unsupported(case, table, &best, &marks, variable, values)) {
+    let refuted = arcs::values_unsupported(case, table, &best, &marks, variable, values);
+    if !refuted.unwrap_or(false) {
         return Err(Refusal::NotRefuted);
     }
     changes::lower_and_raise(case, table, &mut best, &marks, variable, values, amount)

@@ -1,5 +1,5 @@
 -- The total of an assignment under starting weights, and what the check of two assignments says. Assumes nothing.
-use mathlib.Core.Path.{◌≡◌, refl, sym, ap}
+use mathlib.Core.Path.{◌≡◌, refl, sym, ap, ◌∙◌}
 use mathlib.Core.Bool.{Bool, true, false, not, ◌||◌}
 use mathlib.Core.Logic.{◌↔◌}
 use mathlib.Core.List.{List}
@@ -41,6 +41,10 @@ total-given {c} {w} h p a =
     total_of (first_refusal (handed_over (rules_of c) (working_weight (rules_of c)) c w (wrong_assignment c p) out)) (uses_barred c w p) (objective c w p)
     (λ n. (g.0 (f.0 n).2).1, λ u. f.1 (working-handed (coherent c.rulebook) h, s, g.1 (t, u)))
 
+chosen : (b : Bool) → ◌≡◌ {A = Result Choice Refusal} (Ok (if b then Choice.Second else Choice.First)) (if b then Ok Choice.Second else Ok Choice.First)
+chosen true = refl
+chosen false = refl
+
 module _ (c : Case) (w : List ℤ) (p q : List ℕ) where
   -- what is asked of two assignments
   abbrev pub scores_asked : Option Refusal
@@ -65,5 +69,5 @@ module _ (c : Case) (w : List ℤ) (p q : List ℕ) where
   choice-refused {x} e = let d : scores_asked ≡ Some x = outcome-refused e in sym (ap choice_of d)
 
   pub choice-made : Ok tt ≡ outcome_of scores_asked
-      → (if ranks_below (lawful_total c w p) (lawful_total c w q) then Ok Choice.Second else Ok Choice.First) ≡ better_of (rules_of c) c w p q
-  choice-made e = let d : scores_asked ≡ None = outcome-done e in sym (ap choice_of d)
+      → Ok (if ranks_below (lawful_total c w p) (lawful_total c w q) then Choice.Second else Choice.First) ≡ better_of (rules_of c) c w p q
+  choice-made e = let d : scores_asked ≡ None = outcome-done e in chosen (ranks_below (lawful_total c w p) (lawful_total c w q)) ∙ sym (ap choice_of d)

@@ -11,33 +11,33 @@ ghost use Rattle.plans.specs.Totals.{total_in};
 
 use definitions::{Case, Choice, Refusal};
 
-fn greater(first: i64, second: i64) -> Result<Choice, Refusal>
-    ensures { result ≡ (if lt_z first second then Ok Choice.Second else Ok Choice.First) }
+fn greater(first: i64, second: i64) -> Choice
+    ensures { result ≡ (if lt_z first second then Choice.Second else Choice.First) }
 {
     if first < second {
-        Ok(Choice::Second)
+        Choice::Second
     } else {
-        Ok(Choice::First)
+        Choice::First
     }
 }
 
 // The second has a total.
-fn against(first: Result<i64, Refusal>, second: i64) -> Result<Choice, Refusal>
-    ensures { result ≡ (if ranks_below (total_in first) (Some second) then Ok Choice.Second else Ok Choice.First) }
+fn against(first: Result<i64, Refusal>, second: i64) -> Choice
+    ensures { result ≡ (if ranks_below (total_in first) (Some second) then Choice.Second else Choice.First) }
 {
     match first {
         Ok(total) => greater(total, second),
-        Err(_) => Ok(Choice::Second),
+        Err(_) => Choice::Second,
     }
 }
 
 // By totals; a plan whose total is refused ranks below one that has a total.
-fn ranked(first: Result<i64, Refusal>, second: Result<i64, Refusal>) -> Result<Choice, Refusal>
-    ensures { result ≡ (if ranks_below (total_in first) (total_in second) then Ok Choice.Second else Ok Choice.First) }
+fn ranked(first: Result<i64, Refusal>, second: Result<i64, Refusal>) -> Choice
+    ensures { result ≡ (if ranks_below (total_in first) (total_in second) then Choice.Second else Choice.First) }
 {
     match second {
         Ok(total) => against(first, total),
-        Err(_) => Ok(Choice::First),
+        Err(_) => Choice::First,
     }
 }
 
@@ -50,10 +50,10 @@ pub fn better_of(case: Case, table: &[i64], first: &[u8], second: &[u8]) -> Resu
     let wrong = (first.len() != case.n) | (second.len() != case.n);
     let out = tables::some_beyond(first, case.d) | tables::some_beyond(second, case.d);
     tables::check_starting(case, table, wrong, out)?;
-    ranked(
+    Ok(ranked(
         figures::objective(case, table, first),
         figures::objective(case, table, second),
-    )
+    ))
 }
 
 // That one itself; an empty part where it is refused. The number (0 where none applies) is written to `number`.
@@ -69,8 +69,7 @@ pub fn better<'a>(
         × (better_of (rules_of case) case table.now first.now second.now ≡ (Ok Choice.Second) → result ≡ second.entry) }
     ensures number_after { number.new ≡ (choice_says (better_of (rules_of case) case table.now first.now second.now)).number }
 {
-    let choice = better_of(case, table, first, second);
-    match choice {
+    match better_of(case, table, first, second) {
         Ok(Choice::First) => {
             *number = 0;
             first

@@ -1,5 +1,5 @@
 -- What the calls answer and leave, by what was asked. Assumes nothing.
-use Rattle.std.specs.Prelude.{Result, Ok, Err, ⊤}
+use Rattle.std.specs.Prelude.{Result, Ok, Err, is_err, ⊤}
 use mathlib.Core.Path.{◌≡◌, refl, sym, ap, ap₂, ◌∙◌}
 use mathlib.Core.Bool.{Bool, true, false, not, ◌||◌}
 use mathlib.Core.List.Memᴰ
@@ -91,19 +91,12 @@ module _ (width : ℕ) (text : List ℕ) (l : Line) (t : T (not (width_out width
   tried-wide : line_too_wide width l ≡ true → tried ≡ Err OutOfRange
   tried-wide e = ap (λ (c : LineCall). c.answer) (write-wide width text l long (rw (is_false (width_out width) t, e)))
 
-  pub taken-narrow : Ok tt ≡ tried → false ≡ line_too_wide width l
-  taken-narrow d = go (line_too_wide width l) refl
+  pub tried-told : is_err tried ≡ line_too_wide width l
+  tried-told = go (line_too_wide width l) refl
     where
-      go : (b : Bool) → line_too_wide width l ≡ b → false ≡ b
-      go true e = let u = d ∙ tried-wide e in cc
-      go false e = refl
-
-  pub refused-wide : {x : Refusal} → Err x ≡ tried → true ≡ line_too_wide width l
-  refused-wide d = go (line_too_wide width l) refl
-    where
-      go : (b : Bool) → line_too_wide width l ≡ b → true ≡ b
-      go true e = refl
-      go false e = let u = d ∙ tried-narrow e in cc
+      go : (b : Bool) → line_too_wide width l ≡ b → is_err tried ≡ b
+      go true e = ap is_err (tried-wide e)
+      go false e = ap is_err (tried-narrow e)
 
 -- ---- the calls, by what was asked
 

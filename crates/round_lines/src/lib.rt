@@ -156,11 +156,7 @@ fn too_wide(line: Line, width: usize) -> bool
     ensures { result ≡ line_too_wide width line }
 {
     let mut text = [0u8; LINE_PLACES];
-    let tried = lines::write_line_in(&mut text, line, width);
-    match tried {
-        Ok(()) => false,
-        Err(_) => true,
-    }
+    lines::write_line_in(&mut text, line, width).is_err()
 }
 
 fn last_too_wide(entry: Entry, width: usize) -> bool
@@ -244,7 +240,13 @@ fn write_checked(
     write_lines(out, scopes, first, entry, amount_width(case))
 }
 
-fn write_entry(case: Case, out: &mut [u8], raised: &[u8], variable: usize, entry: Entry) -> Result<usize, Refusal>
+fn write_entry(
+    case: Case,
+    out: &mut [u8],
+    raised: &[u8],
+    variable: usize,
+    entry: Entry,
+) -> Result<usize, Refusal>
     ensures value { result ≡ (lines_call (rules_of case) case out.old variable
         (entry_lines entry variable (raised_below raised.now (scope_count case))) raised.now).answer }
     ensures out_after { out.new ≡ (lines_call (rules_of case) case out.old variable
@@ -297,7 +299,12 @@ pub fn write_all(
 }
 
 // As `write_all`, the lines of a void line of `variable`, which has no bound line.
-pub fn write_void(case: Case, out: &mut [u8], raised: &[u8], variable: usize) -> Result<usize, Refusal>
+pub fn write_void(
+    case: Case,
+    out: &mut [u8],
+    raised: &[u8],
+    variable: usize,
+) -> Result<usize, Refusal>
     ensures value { result ≡ (write_void_call (rules_of case) case out.old raised.now variable).answer }
     ensures out_after { out.new ≡ (write_void_call (rules_of case) case out.old raised.now variable).out }
 {

@@ -30,8 +30,8 @@ use Rattle.lines.specs.Found.{line_answer}
 use Rattle.lines.specs.AtWidth.{width_out, read_line_at}
 use Rattle.lines.proofs.AtRules.{width-in}
 use Rattle.views.specs.declared.Step.{Step}
-use Rattle.views.specs.declared.Step.TheVariants.{Stop, On}
-use Rattle.views.specs.Steps.{ended_step, passed_step, resumed, round_span_at}
+use Rattle.views.specs.declared.Step.TheVariants.{Found, On}
+use Rattle.views.specs.Steps.{ended_step, passed_step, resumed_step, resumed, round_span_at}
 
 -- ---- the code's tests
 
@@ -42,7 +42,7 @@ module _ (a b : ℤ) (p : mag a < 2 ^ hbits w64) (q : mag b < 2 ^ hbits w64) whe
       (λ t. (T-eq a b).1 (sym (read_back w64 a p) ∙ ap (to_z w64) (eqb→eq (of_z w64 a) (of_z w64 b) t) ∙ read_back w64 b q))
       (λ t. (eqb-iff (of_z w64 a) (of_z w64 b)).1 (ap (of_z w64) ((T-eq a b).0 t)))
 
-pub ended-now : (long at from left : ℕ) → left ≡ 0 → Stop (Ok (from_to (from * long) ((at + 1) * long))) ≡ ended_step long at from left
+pub ended-now : (long at from left : ℕ) → left ≡ 0 → Found (from_to (from * long) ((at + 1) * long)) ≡ ended_step long at from left
 ended-now long at from zero e = refl
 ended-now long at from (suc fewer) e = absurd (omega arith)
 
@@ -97,11 +97,11 @@ module _ (w : ℕ) where
       | Some l ↦ by_kind (is_kind 4 l) left
     ]
 
-    after-bound : (left : ℕ) → resumed rest (ended_step long at from left) ≡ by_left left
+    after-bound : (left : ℕ) → resumed_step rest (ended_step long at from left) ≡ by_left left
     after-bound zero = refl
     after-bound (suc fewer) = refl
 
-    after-kind : (bound : Bool) (left : ℕ) → resumed rest (if bound then ended_step long at from left else On from left) ≡ by_kind bound left
+    after-kind : (bound : Bool) (left : ℕ) → resumed_step rest (if bound then ended_step long at from left else On from left) ≡ by_kind bound left
     after-kind true left = after-bound left
     after-kind false left = refl
 
@@ -115,8 +115,12 @@ module _ (w : ℕ) where
 
   -- after line `at`
   abbrev StepInside : ℕ → Step → Type 0
-  StepInside at (Stop span) = Inside ((at + 1) * long) span
+  StepInside at (Found span) = Inside ((at + 1) * long) (Ok span)
   StepInside at (On from left) = from ≤ at + 1
+
+  abbrev PassedInside : ℕ → Result Step RefusedAt → Type 0
+  PassedInside at (Ok step) = StepInside at step
+  PassedInside at (Err x) = Unit
 
   module _ (at from : ℕ) (h : from ≤ at) where
     ended-inside : (left : ℕ) → StepInside at (ended_step long at from left)
@@ -127,17 +131,18 @@ module _ (w : ℕ) where
     kind-inside true left = ended-inside left
     kind-inside false left = omega arith
 
-    pub passed-inside : (r : Result Line Refusal) (left : ℕ) → StepInside at (passed_step r long at from left)
+    pub passed-inside : (r : Result Line Refusal) (left : ℕ) → PassedInside at (passed_step r long at from left)
     passed-inside (Ok l) left = kind-inside (is_kind 4 l) left
     passed-inside (Err x) left = tt
 
-  pub on-inside : (at from left : ℕ) {s : Step} → s ≡ On from left → StepInside at s → from ≤ at + 1
-  on-inside at from left e h = rw e at h
+  pub on-inside : (at from left : ℕ) {r : Result Step RefusedAt} {s : Step} → r ≡ Ok s → s ≡ On from left → PassedInside at r → from ≤ at + 1
+  on-inside at from left p e h = rw e at (rw p at h)
 
-  resumed-inside : (n at : ℕ) (rest : ℕ → ℕ → Result Span RefusedAt) → (at + 1) * long ≤ n → ((f l : ℕ) → f ≤ at + 1 → Inside n (rest f l)) → (s : Step) → StepInside at s
-      → Inside n (resumed rest s)
-  resumed-inside n at rest l h (Stop span) i = more-inside ((at + 1) * long) n l span i
-  resumed-inside n at rest l h (On from left) i = h from left i
+  resumed-inside : (n at : ℕ) (rest : ℕ → ℕ → Result Span RefusedAt) → (at + 1) * long ≤ n → ((f l : ℕ) → f ≤ at + 1 → Inside n (rest f l))
+      → (r : Result Step RefusedAt) → PassedInside at r → Inside n (resumed rest r)
+  resumed-inside n at rest l h (Ok (Found span)) i = more-inside ((at + 1) * long) n l (Ok span) i
+  resumed-inside n at rest l h (Ok (On from left)) i = h from left i
+  resumed-inside n at rest l h (Err x) i = tt
 
   from-inside : (part : Bool) (n : ℕ) (ts : List (List ℕ)) (at from left : ℕ) → from ≤ at → (at + length ts) * long ≤ n
       → Inside n (span_from w part at from left ts)

@@ -10,17 +10,17 @@ ghost use Rattle.definitions.specs.declared.Refusal.TheVariants.{OutOfRange, Cut
 ghost use Rattle.definitions.specs.Answers.{from_to, span_says, line_named};
 ghost use Rattle.definitions.specs.Views.{span_in, round_span, round_view};
 ghost use Rattle.lines.specs.AtWidth.{width_out, read_line_at};
-ghost use Rattle.views.specs.Steps.{ended_step, passed_step, round_span_at};
+ghost use Rattle.views.specs.Steps.{ended_step, line_step, passed_step, round_span_at};
 
 use definitions::{Line, Refusal, RefusedAt, Rulebook, Span};
 
 // The kind of a bound line.
 const BOUND: i64 = 4;
 
-// After a line: the answer, or the first line of the round in which the next one lies, and the rounds still to pass.
+// After a line: the round's lines, or the first line of the round in which the next one lies, and the rounds still to pass.
 #[derive(Clone, Copy)]
 enum Step {
-    Stop(Result<Result<Span, RefusedAt>, RefusedAt>),
+    Found(Result<Span, RefusedAt>),
     On { from: usize, left: u64 },
 }
 
@@ -30,10 +30,10 @@ fn round_ended(long: usize, at: usize, from: usize, left: u64) -> Step
     ensures { result ≡ ended_step long at from left }
 {
     if left == 0 {
-        return Step::Stop(Ok(Span {
+        return Step::Found(Span {
             from: from * long,
             to: (at + 1) * long,
-        }));
+        });
     }
     Step::On {
         from: at + 1,
@@ -47,23 +47,17 @@ fn is_bound(line: Line) -> bool
     line.kind == BOUND
 }
 
-fn passed(read: Result<Line, Refusal>, long: usize, at: usize, from: usize, left: u64) -> Step
+fn passed(line: Line, long: usize, at: usize, from: usize, left: u64) -> Step
     requires { (from ≤ at) × (at < 9_223_372_036_854_775_808) × ((at + 1) * long ≤ 9_223_372_036_854_775_808) }
-    ensures { result ≡ passed_step read long at from left }
+    ensures { result ≡ line_step line long at from left }
 {
-    let Ok(line) = read else {
-        return Step::Stop(Err(RefusedAt {
-            refusal: Refusal::NotInColumns,
-            line: at,
-        }));
-    };
     if is_bound(line) {
         return round_ended(long, at, from, left);
     }
     Step::On { from, left }
 }
 
-fn step_at(log: &[u8], width: usize, at: usize, from: usize, left: u64) -> Step
+fn step_at(log: &[u8], width: usize, at: usize, from: usize, left: u64) -> Result<Step, RefusedAt>
     requires { (from ≤ at) × ((at + 1) * line_length width ≤ length log.now) }
     ensures { result ≡ passed_step (read_line_at width (take (line_length width) (drop (at * line_length width) log.now)))
         (line_length width) at from left }
@@ -71,13 +65,13 @@ fn step_at(log: &[u8], width: usize, at: usize, from: usize, left: u64) -> Step
     let long = 15 + width;
     let start = at * long;
     let end = start + long;
-    passed(
-        lines::read_line_in(&log[start..end], width),
-        long,
-        at,
-        from,
-        left,
-    )
+    let Ok(line) = lines::read_line_in(&log[start..end], width) else {
+        return Err(RefusedAt {
+            refusal: Refusal::NotInColumns,
+            line: at,
+        });
+    };
+    Ok(passed(line, long, at, from, left))
 }
 
 // What is said of a round that is not there.
@@ -92,17 +86,17 @@ fn not_there(log: &[u8], width: usize) -> Refusal
     }
 }
 
-fn span_in(log: &[u8], round: u64, width: usize) -> Result<Result<Span, RefusedAt>, RefusedAt>
+fn span_in(log: &[u8], round: u64, width: usize) -> Result<Result<Result<Span, RefusedAt>, RefusedAt>, RefusedAt>
     requires { width_out width ≡ false }
     ensures { result ≡ span_in width log.now round }
 {
     let whole = log.len() / (15 + width);
     let mut from: usize = 0;
     let mut left = round;
-    for at in 0..whole {
-        let step = step_at(log, width, at, from, left);
+    while at < whole {
+        let step = step_at(log, width, at, from, left)?;
         match step {
-            Step::Stop(span) => return span,
+            Step::Found(span) => return Ok(span),
             Step::On {
                 from: first,
                 left: fewer,
@@ -121,7 +115,7 @@ fn span_in(log: &[u8], round: u64, width: usize) -> Result<Result<Span, RefusedA
 // ---- the calls
 
 // Where the round's lines lie in the log, with an amount column of this width.
-pub fn round_span_in(log: &[u8], round: u64, width: usize) -> Result<Result<Span, RefusedAt>, RefusedAt>
+pub fn round_span_in(log: &[u8], round: u64, width: usize) -> Result<Result<Result<Span, RefusedAt>, RefusedAt>, RefusedAt>
     ensures { result ≡ round_span_at width log.now round }
 {
     if lines::width_out(width) {
@@ -134,7 +128,7 @@ pub fn round_span_in(log: &[u8], round: u64, width: usize) -> Result<Result<Span
 }
 
 // The same at the desk's width.
-pub fn round_span(log: &[u8], round: u64) -> Result<Result<Span, RefusedAt>, RefusedAt>
+pub fn round_span(log: &[u8], round: u64) -> Result<Result<Result<Span, RefusedAt>, RefusedAt>, RefusedAt>
     ensures { result ≡ round_span (rules_in Desk) log.now round }
 {
     round_span_in(log, round, rules::amount_width(Rulebook::Desk))

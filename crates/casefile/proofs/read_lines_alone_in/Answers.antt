@@ -26,17 +26,17 @@ lines-here c =
 pub overflow_mul-lines : goal.overflow_mul-lines
 overflow_mul-lines c = omega (arith, lines-here c)
 
-pub check_rest-rest-requires : goal.check_rest-rest-requires
-check_rest-rest-requires c = omega (arith, lines-here c)
+pub check_rest-requires : goal.check_rest-requires
+check_rest-requires c = omega (arith, lines-here c)
 
-pub returns-in-Ok : goal.returns-in-Ok
-returns-in-Ok c =
+pub returns-in-Ok-check_rest : goal.returns-in-Ok-check_rest
+returns-in-Ok-check_rest c =
     let a = c.args in
-    handed-same (alone-good a.rulebook a.bytes.now a.table.now c.in-Ok.lines (read_here (goal.at.returns-in-Ok c).In-Ok)
-    (outcome-done (sym c.in-Ok.is ∙ (rw (lines-here (goal.at.returns-in-Ok c).After-line_length).0 at c.check_rest-rest.ensures)))) c.read_lines_in-read.ensures
+    handed-same (alone-good a.rulebook a.bytes.now a.table.now c.in-Ok.lines (read_here (goal.at.returns-in-Ok-check_rest c).In-Ok)
+    (outcome-done (sym c.in-Ok-check_rest.is ∙ (rw (lines-here (goal.at.returns-in-Ok-check_rest c).After-line_length).0 at c.check_rest.ensures)))) c.read_lines_in-read.ensures
 
-pub returns-in-Err-rest : goal.returns-in-Err-rest
-returns-in-Err-rest c =
+pub returns-in-Err : goal.returns-in-Err
+returns-in-Err c =
     let a = c.args in
-    handed-same (alone-more a.rulebook a.bytes.now a.table.now c.in-Ok.lines (read_here (goal.at.returns-in-Err-rest c).In-Ok)
-    (outcome-refused (sym c.in-Err-rest.is ∙ (rw (lines-here (goal.at.returns-in-Err-rest c).After-line_length).0 at c.check_rest-rest.ensures)))) (c.file_refused.ensures [], c.read_lines_in-read.ensures.1)
+    handed-same (alone-more a.rulebook a.bytes.now a.table.now c.in-Ok.lines (read_here (goal.at.returns-in-Err c).In-Ok)
+    (outcome-refused (sym c.in-Err.is ∙ (rw (lines-here (goal.at.returns-in-Err c).After-line_length).0 at c.check_rest.ensures)))) (c.file_refused.ensures [], c.read_lines_in-read.ensures.1)

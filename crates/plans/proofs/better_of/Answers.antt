@@ -35,8 +35,8 @@ pub returns : goal.returns
 returns c =
     let a = c.args in
     let (h, p, q) = passed (goal.at.returns c).In_ok-check_starting in
-    c.ranked.ensures
-    ∙ ap₂ (λ u v. if ranks_below u v then Ok Choice.Second else Ok Choice.First)
+    ap Ok (c.ranked.ensures
+    ∙ ap₂ (λ u v. if ranks_below u v then Choice.Second else Choice.First)
     (ap total_in c.objective.ensures ∙ total-given h a.first.now p)
-    (ap total_in c.objective-in-Ok.ensures ∙ total-given h a.second.now q)
+    (ap total_in c.objective-2.ensures ∙ total-given h a.second.now q))
     ∙ choice-made a.case a.table.now a.first.now a.second.now (sym c.in_ok-check_starting.was ∙ checked (goal.at.returns c).After-check_starting)

@@ -23,5 +23,5 @@ returns c =
     (sym c.in_ok-check_ends.was ∙ c.check_ends.ensures))
     (rw (
       c.end_of.ensures ∙ ap nat_abs (read_back w64 a.line.b (search rules)),
-      c.end_of-in-Ok.ensures ∙ ap nat_abs (read_back w64 a.line.c (search rules)),
+      c.end_of-2.ensures ∙ ap nat_abs (read_back w64 a.line.c (search rules)),
     ) at c.join.ensures)
