@@ -155,7 +155,7 @@ pub(crate) fn read_lines(
 {
     let total = case_lines::lines_due(sizes);
     let mut due = case_lines::first_due(sizes);
-    while q < total {
+    for q in 0..total {
         if let Err(refusal) = take_at(bytes, sizes, q, due, lower, upper, table) {
             return Err(RefusedAt {
                 refusal,
@@ -163,7 +163,6 @@ pub(crate) fn read_lines(
             });
         }
         due = case_lines::next_due(sizes, due);
-        q += 1;
     }
     Ok(total + 1)
 }

@@ -116,7 +116,7 @@ fn good_judgement(
     table: &[i64],
     replay: Replay,
     passed: usize,
-) -> Result<Result<Judgement, RefusedAt>, RefusedAt>
+) -> Result<Judgement, RefusedAt>
     requires { Handed (rules_of case) (working_weight (rules_of case)) case table.now }
     ensures { result ≡ good_in case replay table.now }
 {
@@ -143,7 +143,7 @@ fn end_judgement(
     table: &[i64],
     part: bool,
     passed: usize,
-) -> Result<Result<Judgement, RefusedAt>, RefusedAt>
+) -> Result<Judgement, RefusedAt>
     ensures { result ≡ judgement_from (state_of judging table.now) part (Ok passed) }
 {
     let case = judging.case;
@@ -210,7 +210,7 @@ pub fn block(judging: Judging, table: &mut [i64], bytes: &[u8]) -> Judging
 }
 
 // The judgement where the input ends here; `part`: fewer bytes than a line are left.
-pub fn judge(judging: Judging, table: &[i64], part: bool) -> Result<Result<Judgement, RefusedAt>, RefusedAt>
+pub fn judge(judging: Judging, table: &[i64], part: bool) -> Result<Judgement, RefusedAt>
     ensures { result ≡ judgement_of (state_of judging table.now) part }
 {
     let answer = judging.answer;

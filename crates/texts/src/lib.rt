@@ -115,7 +115,10 @@ pub fn write_void(out: &mut [u8]) -> Result<usize, Refusal>
 }
 
 // The text of a judgement.
-pub fn write_judgement(out: &mut [u8], judgement: Result<Result<Judgement, RefusedAt>, RefusedAt>) -> Result<usize, Refusal>
+pub fn write_judgement(
+    out: &mut [u8],
+    judgement: Result<Judgement, RefusedAt>,
+) -> Result<usize, Refusal>
     ensures { (result ≡ (write_judgement_call out.old judgement).answer)
         × (out.new ≡ (write_judgement_call out.old judgement).out) }
 {

@@ -20,7 +20,7 @@ const BOUND: i64 = 4;
 // After a line: the round's lines, or the first line of the round in which the next one lies, and the rounds still to pass.
 #[derive(Clone, Copy)]
 enum Step {
-    Found(Result<Span, RefusedAt>),
+    Found(Span),
     On { from: usize, left: u64 },
 }
 
@@ -86,14 +86,14 @@ fn not_there(log: &[u8], width: usize) -> Refusal
     }
 }
 
-fn span_in(log: &[u8], round: u64, width: usize) -> Result<Result<Result<Span, RefusedAt>, RefusedAt>, RefusedAt>
+fn span_in(log: &[u8], round: u64, width: usize) -> Result<Span, RefusedAt>
     requires { width_out width ≡ false }
     ensures { result ≡ span_in width log.now round }
 {
     let whole = log.len() / (15 + width);
     let mut from: usize = 0;
     let mut left = round;
-    while at < whole {
+    for at in 0..whole {
         let step = step_at(log, width, at, from, left)?;
         match step {
             Step::Found(span) => return Ok(span),
@@ -115,7 +115,7 @@ fn span_in(log: &[u8], round: u64, width: usize) -> Result<Result<Result<Span, R
 // ---- the calls
 
 // Where the round's lines lie in the log, with an amount column of this width.
-pub fn round_span_in(log: &[u8], round: u64, width: usize) -> Result<Result<Result<Span, RefusedAt>, RefusedAt>, RefusedAt>
+pub fn round_span_in(log: &[u8], round: u64, width: usize) -> Result<Span, RefusedAt>
     ensures { result ≡ round_span_at width log.now round }
 {
     if lines::width_out(width) {
@@ -128,7 +128,7 @@ pub fn round_span_in(log: &[u8], round: u64, width: usize) -> Result<Result<Resu
 }
 
 // The same at the desk's width.
-pub fn round_span(log: &[u8], round: u64) -> Result<Result<Result<Span, RefusedAt>, RefusedAt>, RefusedAt>
+pub fn round_span(log: &[u8], round: u64) -> Result<Span, RefusedAt>
     ensures { result ≡ round_span (rules_in Desk) log.now round }
 {
     round_span_in(log, round, rules::amount_width(Rulebook::Desk))

@@ -1,5 +1,5 @@
 use Rattle.std.proofs.lemmas.Result.{err_from_is_err_and}
-use Rattle.std.specs.Prelude.{Reply, Result}
+use Rattle.std.specs.Prelude.{Result}
 use Rattle.definitions.specs.declared.Span.{Span}
 use Rattle.definitions.specs.declared.RefusedAt.{RefusedAt}
 use mathlib.Core.Path.{◌≡◌, refl, sym, ap, ◌∙◌}
@@ -23,10 +23,10 @@ stepped c =
     let log = a.log.now in
     let whole = length log / line_length a.width in
     ap (resumed (span_at a.width log whole (c.loop-at.at + 1))) c.step_at.ensures
-    ∙ at-step a.width c.requires log whole c.loop-at.at c.loop-at.from c.loop-at.left c.loop-at-test.true ∙ c.loop-at.invariant.3
+    ∙ at-step a.width c.requires log whole c.loop-at.at c.loop-at.from c.loop-at.left c.loop-at-test.true ∙ c.loop-at.invariant.2
 
 -- the answer from the next line on
-abbrev rest : (c : After-step_at) → ℕ → ℕ → Reply (Result Span RefusedAt) RefusedAt
+abbrev rest : (c : After-step_at) → ℕ → ℕ → Result Span RefusedAt
 rest c = let a = c.args in span_at a.width a.log.now (length a.log.now / line_length a.width) (c.loop-at.at + 1)
 
 pub returns-in_err-step : goal.returns-in_err-step
@@ -47,7 +47,7 @@ loop-at-preserved c =
     let e = c.in-On.is in (
       refl,
       on-inside a.width c.loop-at.at c.in-On.first c.in-On.fewer (sym c.step_at.ensures ∙ c.in_ok-step.was) e
-          (passed-inside a.width c.loop-at.at c.loop-at.from c.loop-at.invariant.2
+          (passed-inside a.width c.loop-at.at c.loop-at.from c.loop-at.invariant.1
           (read_line_at a.width (take (line_length a.width) (drop (c.loop-at.at * line_length a.width) a.log.now))) c.loop-at.left),
       ap (resumed_step (rest k)) (sym e) ∙ ap (resumed (rest k)) (sym c.in_ok-step.was) ∙ stepped k,
     )

@@ -24,14 +24,14 @@ returns-in-Err c =
     let a = c.args in
     line_refused a.sizes c.loop-q.lower c.loop-q.upper c.loop-q.table c.loop-q.q a.bytes.now (due-here (goal.at.returns-in-Err c).In-loop-q)
     (same-due-at (known (goal.at.returns-in-Err c).In-loop-q).0 c.take_at.ensures) c.in-Err.is
-    ∙ c.loop-q.invariant.3
+    ∙ c.loop-q.invariant.2
 
 pub loop-q-preserved : goal.loop-q-preserved
 loop-q-preserved c =
     let a = c.args in
     let h = due-here (goal.at.loop-q-preserved c).In-loop-q in
     let (p, n, e) = line_taken a.sizes c.loop-q.lower c.loop-q.upper c.loop-q.table c.loop-q.q a.bytes.now h
-    (same-due-at (known (goal.at.loop-q-preserved c).In-loop-q).0 c.take_at.ensures) c.in_default.is c.loop-q.invariant.1 in
+    (same-due-at (known (goal.at.loop-q-preserved c).In-loop-q).0 c.take_at.ensures) c.in_default.is c.loop-q.invariant.0 in
     let due : c.loop-q.q + 1 < lines_due a.sizes → AtLine a.sizes (c.loop-q.q + 1) c.next_due-due.result =
     λ f. subst (AtLine a.sizes (c.loop-q.q + 1)) (sym c.next_due-due.ensures)
     (next-at a.sizes c.requires.sizes_limited c.loop-q.due c.loop-q.q (c.loop-q.invariant.3 h) f) in
