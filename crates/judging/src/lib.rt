@@ -122,7 +122,7 @@ fn good_judgement(
 {
     let due = replay.due;
     if is_over(due) {
-        return Ok(Ok(Judgement::Void));
+        return Ok(Judgement::Void);
     }
     let sum = tables::sum_of_greatest(case, table);
     match sum {
@@ -130,7 +130,7 @@ fn good_judgement(
             refusal,
             line: passed,
         }),
-        Ok(bound) => Ok(Ok(Judgement::Accepted {
+        Ok(bound) => Ok(Judgement::Accepted {
             rounds: replay.rounds,
             bound,
         })),

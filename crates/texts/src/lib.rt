@@ -123,8 +123,8 @@ pub fn write_judgement(
         × (out.new ≡ (write_judgement_call out.old judgement).out) }
 {
     match judgement {
-        Ok(Ok(Judgement::Accepted { rounds, bound })) => write_accepted(out, rounds, bound),
-        Ok(Ok(Judgement::Void)) => write_void(out),
+        Ok(Judgement::Accepted { rounds, bound }) => write_accepted(out, rounds, bound),
+        Ok(Judgement::Void) => write_void(out),
         Err(RefusedAt { refusal, line }) => write_refused(out, refusal, line),
     }
 }
