@@ -200,7 +200,7 @@ module _ {c : Case} {w : List ℤ} {i : ℕ} {a : ℤ} (h : Handed (rules_of c) 
               answer =
                   n ∙ ap (λ (z : ℤ). round_written (write_all_call (rules_of c) c out raised i a z).answer z) e
                   ∙ ap (λ (q : WriteCall). round_written q.answer (upper_bound c after)) u
-                  ∙ ap₂ (Ok (Round.Made (ap length text-made) (ap (upper_bound c) after_is))) ∙ sym (ap (λ (u : RoundCall). u.answer) d);
+                  ∙ ap₂ (λ (n : ℕ) (z : ℤ). Ok (Round.Made n z)) (ap length text-made) (ap (upper_bound c) after_is) ∙ sym (ap (λ (u : RoundCall). u.answer) d);
               table = after_is ∙ sym (ap (λ (u : RoundCall). u.table) d);
               output =
                   o ∙ ap (λ (z : ℤ). (write_all_call (rules_of c) c out raised i a z).out) e

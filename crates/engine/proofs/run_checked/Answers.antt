@@ -47,7 +47,7 @@ loop-done-init c =
 
 pub stop_run-requires : goal.stop_run-requires
 stop_run-requires c =
-    (still-settled c.loop-done.invariant.1 (room (goal.at.stop_run-requires c).At-loop-done) (did (goal.at.stop_run-requires c).After-round_checked-made c.in-Ok-Settled.is), c.round_checked-made.ensures.1)
+    (still-settled c.loop-done.invariant.1 (room (goal.at.stop_run-requires c).At-loop-done) (did (goal.at.stop_run-requires c).After-round_checked-made (rw c.in-Ok-Settled.field-0-is at c.in-Ok-Settled.is)), c.round_checked-made.ensures.1)
 
 pub returns-in-Ok-Settled : goal.returns-in-Ok-Settled
 returns-in-Ok-Settled c =
@@ -56,7 +56,7 @@ returns-in-Ok-Settled c =
     rw c.stop_run.ensures
     (settled-run a.pairs a.case a.limit a.table.now a.out.now l.done l.table l.out l.invariant.1 (room (goal.at.returns-in-Ok-Settled c).At-loop-done) l.invariant.3
     (omega arith)
-    (did (goal.at.returns-in-Ok-Settled c).After-round_checked-made c.in-Ok-Settled.is))
+    (did (goal.at.returns-in-Ok-Settled c).After-round_checked-made (rw c.in-Ok-Settled.field-0-is at c.in-Ok-Settled.is)))
 
 pub stop_run-requires-in-Err : goal.stop_run-requires-in-Err
 stop_run-requires-in-Err c =
@@ -73,7 +73,7 @@ returns-in-Err c =
 
 pub stop_run-requires-in-Ok-Void : goal.stop_run-requires-in-Ok-Void
 stop_run-requires-in-Ok-Void c =
-    (still-void c.loop-done.invariant.1 (room (goal.at.stop_run-requires-in-Ok-Void c).At-loop-done) (did (goal.at.stop_run-requires-in-Ok-Void c).After-round_checked-made c.in-Ok-Void.is), c.round_checked-made.ensures.1)
+    (still-void c.loop-done.invariant.1 (room (goal.at.stop_run-requires-in-Ok-Void c).At-loop-done) (did (goal.at.stop_run-requires-in-Ok-Void c).After-round_checked-made (rw c.in-Ok-Void.field-0-is at c.in-Ok-Void.is)), c.round_checked-made.ensures.1)
 
 pub returns-in-Ok-Void : goal.returns-in-Ok-Void
 returns-in-Ok-Void c =
@@ -82,13 +82,13 @@ returns-in-Ok-Void c =
     rw c.stop_run-in-Ok-Void.ensures
     (void-run a.pairs a.case a.limit a.table.now a.out.now l.done l.table l.out l.invariant.1 (room (goal.at.returns-in-Ok-Void c).At-loop-done) l.invariant.3
     (omega arith)
-    (did (goal.at.returns-in-Ok-Void c).After-round_checked-made c.in-Ok-Void.is))
+    (did (goal.at.returns-in-Ok-Void c).After-round_checked-made (rw c.in-Ok-Void.field-0-is at c.in-Ok-Void.is)))
 
 pub loop-done-preserved : goal.loop-done-preserved
 loop-done-preserved c =
     let a = c.args in
     let l = c.loop-done in
-    let d = did (goal.at.loop-done-preserved c).After-round_checked-made c.in-Ok-Made.is in (
+    let d = did (goal.at.loop-done-preserved c).After-round_checked-made (rw c.in-Ok-Made.field-0-is at c.in-Ok-Made.is) in (
       same (goal.at.loop-done-preserved c).After-round_checked-made,
       still-made l.invariant.1 (room (goal.at.loop-done-preserved c).At-loop-done) d,
       c.round_checked-made.ensures.1,
