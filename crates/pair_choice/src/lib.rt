@@ -207,10 +207,7 @@ fn round_leaves(case: Case, table: &[i64], edge: usize) -> bool
 fn byte_at(bytes: &[u8], i: usize) -> u8
     ensures { result ≡ get_or bytes.now i 0 }
 {
-    if bytes.len() <= i {
-        return 0;
-    }
-    bytes[i]
+    bytes.get(i).copied().unwrap_or(0)
 }
 
 // A value of `set` has a partner in `other`. The partners of value k stand at rows[at + k].
