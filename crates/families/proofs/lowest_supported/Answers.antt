@@ -22,7 +22,8 @@ answer c =
 
 pub returns-then-is_family : goal.returns-then-is_family
 returns-then-is_family c = (
-  sym (lowest-at _ _ _ _ c.loop-untried.invariant.0 c.loop-untried-test.true c.lowest-k.ensures (answer (goal.at.returns-then-is_family c).After-is_family) c.if-is_family.true ∙ c.loop-untried.invariant.1),
+  sym (lowest-at _ _ _ _ c.loop-untried.invariant.0 c.loop-untried-test.true c.lowest-k.ensures
+      (answer (goal.at.returns-then-is_family c).After-is_family) c.if-is_family.true ∙ c.loop-untried.invariant.1),
   c.try_value-closing.ensures.1,
 )
 
