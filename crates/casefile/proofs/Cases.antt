@@ -162,7 +162,8 @@ module _ (b : Rulebook) (t : List ℕ) (w : List ℤ) {lines : ℕ} where
       → (case_by b t w (if short then Some CutShort else o) c).read.answer ≡ Ok lines → lines * bytes_of_line b ≤ length t
   unfolding case_by
   whole_by true o d c e = cc
-  whole_by false None d c e = whole_length (eqb (length w) (lent_length (rules_in b) c)) c (nltb→le (length t) (bytes_of_line b) (false-is (is_cut (rules_in b) t) d)) e
+  whole_by false None d c e =
+      whole_length (eqb (length w) (lent_length (rules_in b) c)) c (nltb→le (length t) (bytes_of_line b) (false-is (is_cut (rules_in b) t) d)) e
   whole_by false (Some x) d c e = cc
 
   pub read_whole : (read_lines b t w).read.answer ≡ Ok lines → lines * bytes_of_line b ≤ length t

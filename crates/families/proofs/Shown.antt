@@ -221,18 +221,18 @@ module _ (c : Case) (w : List ℤ) (h : Handed (rules_of c) (working_weight (rul
     bytes_same = ap joined (map_same c.m (λ e a. ap joined (map_same 2 (λ end b. map_same c.d (λ v l. byte-same e end v a b l)))))
 
   -- the answers, by the value found
-  module _ (family partners : List ℕ) (value : Option ℕ) (is : value ≡ lowest_left c rows sets i) where
-    pub shown-none : value ≡ None
+  module _ (family partners : List ℕ) where
+    pub shown-none : lowest_left c rows sets i ≡ None
         → FamilyIs (family_found c w i family partners None (supported_value c w i)) (Err OutOfRange) family partners
     shown-none e =
-        let f : supported_value c w i ≡ None = sym found-value ∙ sym is ∙ e in
+        let f : supported_value c w i ≡ None = sym found-value ∙ e in
         subst (λ (o : Option ℕ). FamilyIs (family_found c w i family partners None o) (Err OutOfRange) family partners) (sym f) (refl, refl, refl)
 
-    pub shown-some : (k : ℕ) → value ≡ Some k → (left family' partners' : List ℕ) → take c.n left ≡ left_sets c rows sets i k
+    pub shown-some : (k : ℕ) → lowest_left c rows sets i ≡ Some k → (left family' partners' : List ℕ) → take c.n left ≡ left_sets c rows sets i k
         → family' ≡ overwritten (take c.n left) family → partners' ≡ overwritten (all_bytes c rows left) partners
         → FamilyIs (family_found c w i family partners None (supported_value c w i)) (Ok (pos k)) family' partners'
     shown-some k e left family' partners' held a b =
-        let f : supported_value c w i ≡ Some k = sym found-value ∙ sym is ∙ e in
+        let f : supported_value c w i ≡ Some k = sym found-value ∙ e in
         let kept : k < c.d = (first-least (λ k. active c w i k 0 && not (refuted c w R i k)) c.d f).0 in
         let S : Family = largest_family c w R i k in
         let whole = held ∙ left-family k kept in

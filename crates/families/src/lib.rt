@@ -2,7 +2,7 @@
 // value.
 #![tactic(auto)]
 
-ghost use Rattle.std.specs.Prelude.{◌≡◌, not, ◌||◌, ℕ, ◌+◌, ◌*◌, ◌≤◌, ◌<◌, pos, ltb, length, get_or, take, replicate, Ok, Some, None};
+ghost use Rattle.std.specs.Prelude.{◌≡◌, not, ◌||◌, ℕ, ◌+◌, ◌*◌, ◌≤◌, ◌<◌, pos, ltb, length, get_or, take, replicate, Ok, Some, None, MatchOption};
 ghost use Rattle.definitions.specs.Rules.{rules_of};
 ghost use Rattle.definitions.specs.Refusals.{first_refusal};
 ghost use Rattle.definitions.specs.Answers.{outcome_of};
@@ -27,7 +27,7 @@ struct Closing {
 // The lowest value with which a family is left, and that family.
 #[derive(Clone, Copy)]
 struct Found {
-    value: Option<u8>,
+    value: u8,
     sets: [u8; VARIABLE_PLACES],
 }
 
@@ -68,11 +68,16 @@ fn try_value(
 }
 
 // The values of the variable's set are tried from the lowest on.
-fn lowest_supported(case: Case, rows: &[u8], sets: [u8; VARIABLE_PLACES], variable: usize) -> Found
+fn lowest_supported(
+    case: Case,
+    rows: &[u8],
+    sets: [u8; VARIABLE_PLACES],
+    variable: usize,
+) -> Option<Found>
     requires limited { Limited case }
     requires variable_lt_n { (variable < case.n) × (get_or sets variable 0 < 256) }
-    ensures { (result.value ≡ lowest_left case rows.now sets variable)
-        × ((k : ℕ) → result.value ≡ Some k → take case.n result.sets ≡ left_sets case rows.now sets variable k) }
+    ensures { MatchOption result (lowest_left case rows.now sets variable ≡ None) (λ f. (lowest_left case rows.now sets variable ≡ Some f.value)
+        × (take case.n f.sets ≡ left_sets case rows.now sets variable f.value)) }
 {
     let mut untried = sets[variable];
     // Not a for: it runs over the values that a byte of marks holds.
@@ -82,14 +87,14 @@ fn lowest_supported(case: Case, rows: &[u8], sets: [u8; VARIABLE_PLACES], variab
         let closed = closing.closed;
         let left = closing.sets;
         if is_family(closed) {
-            return Found {
-                value: Some(k),
+            return Some(Found {
+                value: k,
                 sets: left,
-            };
+            });
         }
         untried = marks::strike(untried, k);
     }
-    Found { value: None, sets }
+    None
 }
 
 // ---- the bytes
@@ -192,16 +197,12 @@ fn show_value(
     let mut rows = [0u8; ROW_PLACES];
     let _ = tables::greatest_weights(case, table, &mut best);
     let _ = arcs::active_marks(case, table, &best, &mut sets, &mut rows);
-    let found = lowest_supported(case, &rows, sets, variable);
-    match found.value {
-        None => Err(Refusal::OutOfRange),
-        Some(k) => {
-            let left = found.sets;
-            write_family(case, &left, family);
-            write_partners(case, &rows, &left, partners);
-            Ok(i64::from(k))
-        }
-    }
+    let Some(found) = lowest_supported(case, &rows, sets, variable) else {
+        return Err(Refusal::OutOfRange);
+    };
+    write_family(case, &found.sets, family);
+    write_partners(case, &rows, &found.sets, partners);
+    Ok(i64::from(found.value))
 }
 
 // The lowest active value of a variable that is not refuted with all other scopes raised. Its largest family is written to `family`, a byte for

@@ -34,8 +34,7 @@ pub fn put_line_in(out: &mut [u8], at: usize, line: Line, width: usize) -> Put
             at,
         };
     }
-    let answer = lines::write_line_in(&mut out[at..], line, width);
-    match answer {
+    match lines::write_line_in(&mut out[at..], line, width) {
         Err(refusal) => Put {
             answer: Err(refusal),
             at,

@@ -151,7 +151,8 @@ module _ {c : Case} {w : List ℤ} (h : Handed (rules_of c) (working_weight (rul
       pub press-refuted : c.m ≤ length c.lower → c.m ≤ length c.upper
           → result_unwrap_or (values_unsupported_answer (rules_of c) c w best marks i values) false ≡ active_refuted c w i raised
       press-refuted lowers uppers =
-          ap (λ (r : Result Bool Refusal). result_unwrap_or r false) (values-unsupported-is-refuted c w h best best-made marks marks-long lowers uppers (is_raised marks) (λ x u. refl) i variable values
+          ap (λ (r : Result Bool Refusal). result_unwrap_or r false) (values-unsupported-is-refuted c w h best
+          best-made marks marks-long lowers uppers (is_raised marks) (λ x u. refl) i variable values
           (active_values c w i) values-active)
           ∙ marks-refute c w i marks raised marks-are
 

@@ -45,7 +45,8 @@ module _ (c : Case) (w : List ℤ) (e end v : ℕ) (a : ℤ) where
   -- the transfer with the greatest weights made for it
   pub shift-given : Ok tt ≡ outcome_of (first_refusal asked) → Handed (rules_of c) (working_weight (rules_of c)) c w → shift_out (rules_of c) c e end v a ≡ false
       → (out : List ℤ) → scope_count c ≤ length out → {best : List ℤ} → best ≡ (greatest_call (rules_of c) c w out).best
-      → {o : Result ⊤ Refusal} {t : List ℤ} → o ≡ (transfer_call (rules_of c) c w best e end v a).answer → t ≡ (transfer_call (rules_of c) c w best e end v a).table
+      → {o : Result ⊤ Refusal} {t : List ℤ}
+      → o ≡ (transfer_call (rules_of c) c w best e end v a).answer → t ≡ (transfer_call (rules_of c) c w best e end v a).table
       → (o ≡ (shift_call (rules_of c) c w e end v a).answer) × (t ≡ (shift_call (rules_of c) c w e end v a).table)
   shift-given d h inside out space g p q =
       let k = transfer-is-shift h (subst (λ (l : List ℤ). BestOf c w l) (sym g) (greatest-known out h space).1) e end v a inside in

@@ -182,7 +182,8 @@ module _ (w : ℕ) where
       rw i (step-next (has_part w log) (cut_lines long (whole - (at + 1)) (drop ((at + 1) * long) log)) at from (take long (drop (at * long) log)) left)
       ∙ ap (span_from w (has_part w log) at from left) (sym (lines_next log whole at h))
 
-  pub at-end : (log : List ℕ) (whole at from left : ℕ) → whole ≤ at → Err (refused_at (if has_part w log then CutShort else OutOfRange) at) ≡ span_at log whole at from left
+  pub at-end : (log : List ℕ) (whole at from left : ℕ) → whole ≤ at
+      → Err (refused_at (if has_part w log then CutShort else OutOfRange) at) ≡ span_at log whole at from left
   at-end log whole at from left h = let e : whole - at ≡ 0 = omega arith in rw e
 
 -- ---- the call on all input

@@ -27,15 +27,18 @@ returns-then-not-within_limits c =
 pub put_lines-requires : goal.put_lines-requires
 put_lines-requires c =
     let a = c.args in
-    let h = write-valid a.case a.table.now a.out.now (sym c.in_ok-check_starting.was ∙ told (goal.at.put_lines-requires c).After-check_starting) in record { valid = h.0; sizes_in_bounds = h.1 }
+    let h = write-valid a.case a.table.now a.out.now (sym c.in_ok-check_starting.was ∙ told (goal.at.put_lines-requires c).After-check_starting) in
+    record { valid = h.0; sizes_in_bounds = h.1 }
 
 pub returns-in_err-check_starting : goal.returns-in_err-check_starting
 returns-in_err-check_starting c =
     let a = c.args in
     let p = err_from_is_err_and c.from_residual.result c.from_residual.ensures.1 in
-    rw (p.1, p.2) (write-refused a.case a.table.now a.out.now (sym c.in_err-check_starting.was ∙ told (goal.at.returns-in_err-check_starting c).After-check_starting))
+    rw (p.1, p.2) (write-refused a.case a.table.now a.out.now
+    (sym c.in_err-check_starting.was ∙ told (goal.at.returns-in_err-check_starting c).After-check_starting))
 
 pub returns : goal.returns
 returns c =
     let a = c.args in
-    write-done-is a.case a.table.now a.out.now (sym c.in_ok-check_starting.was ∙ told (goal.at.returns c).After-check_starting) c.file_bytes-bytes.ensures c.put_lines.ensures
+    write-done-is a.case a.table.now a.out.now (sym c.in_ok-check_starting.was ∙ told (goal.at.returns c).After-check_starting)
+    c.file_bytes-bytes.ensures c.put_lines.ensures

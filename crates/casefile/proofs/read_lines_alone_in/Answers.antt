@@ -33,10 +33,12 @@ pub returns-in-Ok-check_rest : goal.returns-in-Ok-check_rest
 returns-in-Ok-check_rest c =
     let a = c.args in
     handed-same (alone-good a.rulebook a.bytes.now a.table.now c.in-Ok.lines (read_here (goal.at.returns-in-Ok-check_rest c).In-Ok)
-    (outcome-done (sym c.in-Ok-check_rest.is ∙ (rw (lines-here (goal.at.returns-in-Ok-check_rest c).After-line_length).0 at c.check_rest.ensures)))) c.read_lines_in-read.ensures
+    (outcome-done (sym c.in-Ok-check_rest.is ∙ (rw (lines-here (goal.at.returns-in-Ok-check_rest c).After-line_length).0 at c.check_rest.ensures))))
+    c.read_lines_in-read.ensures
 
 pub returns-in-Err : goal.returns-in-Err
 returns-in-Err c =
     let a = c.args in
     handed-same (alone-more a.rulebook a.bytes.now a.table.now c.in-Ok.lines (read_here (goal.at.returns-in-Err c).In-Ok)
-    (outcome-refused (sym c.in-Err.is ∙ (rw (lines-here (goal.at.returns-in-Err c).After-line_length).0 at c.check_rest.ensures)))) (c.file_refused.ensures [], c.read_lines_in-read.ensures.1)
+    (outcome-refused (sym c.in-Err.is ∙ (rw (lines-here (goal.at.returns-in-Err c).After-line_length).0 at c.check_rest.ensures))))
+    (c.file_refused.ensures [], c.read_lines_in-read.ensures.1)

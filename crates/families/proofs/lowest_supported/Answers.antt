@@ -1,14 +1,11 @@
-use Rattle.std.specs.Prelude.{is_none}
-use mathlib.Core.Path.{◌≡◌, sym, ap, subst, ◌∙◌}
-use mathlib.Core.Bool.{Bool}
+use mathlib.Core.Path.{◌≡◌, sym, ap, ◌∙◌}
 use Prim.Native.Nat.{ℕ, ◌<◌}
-use lib.Dec.{T}
 use Rattle.marks.specs.Marks.{mark, byte_of}
 use Rattle.marks.proofs.Laws.{mark-byte_of}
-use Rattle.arcs.specs.Partners.{lowest_in_both, byte_of_partner}
+use Rattle.arcs.specs.Partners.{lowest_in_both}
 use Rattle.arcs.proofs.Search.{lowest-struck, lowest_step, lowest-at, lowest-none}
 use Rattle.arcs.proofs.Places.{value-small}
-use Rattle.families.specs.Closing.{is_family, leaves, left_sets}
+use Rattle.families.specs.Closing.{is_family, leaves}
 use Rattle.families.proofs.lowest_supported.Goals as goal
 use Rattle.families.proofs.lowest_supported.Goals.{After-is_family, After-lowest-k, After-strike-untried}
 
@@ -24,11 +21,11 @@ answer c =
     ∙ sym (mark-byte_of (leaves a.case a.rows.now a.sets a.variable) c.lowest-k.result (small (goal.at.After-is_family c).After-lowest-k))
 
 pub returns-then-is_family : goal.returns-then-is_family
-returns-then-is_family c =
-    let a = c.args in (
-      lowest-at _ _ _ _ c.loop-untried.invariant.0 c.loop-untried-test.true c.lowest-k.ensures (answer (goal.at.returns-then-is_family c).After-is_family) c.if-is_family.true ∙ c.loop-untried.invariant.1,
-      λ k e. c.try_value-closing.ensures.1 ∙ ap (left_sets a.case a.rows.now a.sets a.variable) (ap byte_of_partner e),
-    )
+returns-then-is_family c = (
+  sym (lowest-at _ _ _ _ c.loop-untried.invariant.0 c.loop-untried-test.true c.lowest-k.ensures
+      (answer (goal.at.returns-then-is_family c).After-is_family) c.if-is_family.true ∙ c.loop-untried.invariant.1),
+  c.try_value-closing.ensures.1,
+)
 
 struck : (c : After-strike-untried) → (c.strike-untried.result < 256) × (c.strike-untried.result < c.loop-untried.untried)
 struck c =
@@ -44,7 +41,5 @@ loop-untried-preserved c =
 pub returns : goal.returns
 returns c =
     let a = c.args in
-    let other = byte_of (leaves a.case a.rows.now a.sets a.variable) in (
-      sym (lowest-none other) ∙ ap (λ (s : ℕ). lowest_in_both s other) (sym c.loop-untried-test.false) ∙ c.loop-untried.invariant.1,
-      λ k e. absurd (subst (λ (b : Bool). T b) (ap is_none e) tt),
-    )
+    let other = byte_of (leaves a.case a.rows.now a.sets a.variable) in
+    sym (sym (lowest-none other) ∙ ap (λ (s : ℕ). lowest_in_both s other) (sym c.loop-untried-test.false) ∙ c.loop-untried.invariant.1)

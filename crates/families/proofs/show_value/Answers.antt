@@ -46,24 +46,25 @@ marks-known c =
       rows_are = λ e p u v. ap (λ (x : List ℕ). get_or x (16 * e + p) 0) c.active_marks.ensures.2 ∙ marked-rows b c.requires.handed _ _ few wide e p u v;
     }
 
-pub lowest_supported-found-requires : goal.lowest_supported-found-requires
-lowest_supported-found-requires c =
-    let k = marks-known (goal.at.lowest_supported-found-requires c).After-active_marks in
+pub lowest_supported-requires : goal.lowest_supported-requires
+lowest_supported-requires c =
+    let k = marks-known (goal.at.lowest_supported-requires c).After-active_marks in
     record {
-      limited = limits (goal.at.lowest_supported-found-requires c).Start;
+      limited = limits (goal.at.lowest_supported-requires c).Start;
       variable_lt_n = (c.requires.in-range, rw (k.sets-are c.args.variable c.requires.in-range) (byte_small _));
     }
 
-pub returns-in-None : goal.returns-in-None
-returns-in-None c =
+pub returns-in_default : goal.returns-in_default
+returns-in_default c =
     let a = c.args in
-    shown-none a.case a.table.now c.requires.handed a.variable c.requires.in-range _ _ (marks-known (goal.at.returns-in-None c).After-active_marks) a.family.now a.partners.now _
-    c.lowest_supported-found.ensures.0 c.in-None.is
+    let k = (goal.at.returns-in_default c).After-active_marks in
+    shown-none a.case a.table.now c.requires.handed a.variable c.requires.in-range _ _ (marks-known k) a.family.now a.partners.now (c.in_default.ensures {u = tt})
 
-pub returns-in-Some : goal.returns-in-Some
-returns-in-Some c =
+pub returns : goal.returns
+returns c =
     let a = c.args in
-    let r = shown-some a.case a.table.now c.requires.handed a.variable c.requires.in-range _ _ (marks-known (goal.at.returns-in-Some c).After-active_marks) a.family.now a.partners.now _
-    c.lowest_supported-found.ensures.0 _ c.in-Some.is _ _ _ (c.lowest_supported-found.ensures.1 _ c.in-Some.is)
-    c.write_family.ensures c.write_partners.ensures in
+    let k = (goal.at.returns c).After-active_marks in
+    let f = c.in-Some.found in
+    let r = shown-some a.case a.table.now c.requires.handed a.variable c.requires.in-range _ _ (marks-known k) a.family.now a.partners.now
+    f.value c.in-Some.ensures.0 f.sets _ _ c.in-Some.ensures.1 c.write_family.ensures c.write_partners.ensures in
     (ap Ok (search rules) ∙ r.0, r.1, r.2)

@@ -19,7 +19,7 @@ room : (c : In-Ok) → let a =
     c.args in a.at + line_length a.width ≤ length a.out.now
 room c =
     let a = c.args in
-    done-room a.width a.out.now a.at a.line c.if-out-at.false (sym c.in-Ok.is ∙ c.write_line_in-answer.ensures.0)
+    done-room a.width a.out.now a.at a.line c.if-out-at.false (sym c.in-Ok.is ∙ c.write_line_in.ensures.0)
 
 pub overflow_add-result : goal.overflow_add-result
 overflow_add-result c = record { fits = omega (arith, room c) }
@@ -30,11 +30,11 @@ overflow_add-result-in-Ok c = record { fits = omega (arith, room c) }
 pub returns-in-Err : goal.returns-in-Err
 returns-in-Err c =
     let a = c.args in
-    put_refused a.width a.out.now a.at a.line c.if-out-at.false c.write_line_in-answer.new.out
-    (sym c.in-Err.is ∙ c.write_line_in-answer.ensures.0) c.write_line_in-answer.ensures.1
+    put_refused a.width a.out.now a.at a.line c.if-out-at.false c.write_line_in.new.out
+    (sym c.in-Err.is ∙ c.write_line_in.ensures.0) c.write_line_in.ensures.1
 
 pub returns-in-Ok : goal.returns-in-Ok
 returns-in-Ok c =
     let a = c.args in
-    put-done a.width a.out.now a.at a.line c.if-out-at.false c.write_line_in-answer.new.out
-    (sym c.in-Ok.is ∙ c.write_line_in-answer.ensures.0) c.write_line_in-answer.ensures.1
+    put-done a.width a.out.now a.at a.line c.if-out-at.false c.write_line_in.new.out
+    (sym c.in-Ok.is ∙ c.write_line_in.ensures.0) c.write_line_in.ensures.1

@@ -32,12 +32,16 @@ told c =
     let a = c.args in
     c.unwrap_or.ensures ∙ ap (λ (r : Result Bool Refusal). result_unwrap_or r false) c.values_unsupported-refuted.ensures
     ∙ press-refuted c.requires.handed a.variable a.raised.now a.amount c.requires.variable_lt_n.0 c.requires.variable_lt_n.1 c.requires.t
-    (replicate scope_places 0) (λ y. zeros scope_places y) (few (goal.at.After-unwrap_or c).Start) (replicate scope_places (pos 0)) (few (goal.at.After-unwrap_or c).Start)
+    (replicate scope_places 0) (λ y. zeros scope_places y) (few (goal.at.After-unwrap_or c).Start)
+    (replicate scope_places (pos 0)) (few (goal.at.After-unwrap_or c).Start)
     c.mark_scopes.ensures c.greatest_weights.ensures.1 c.best_values-values.ensures
-    (omega (arith, (ends (goal.at.After-unwrap_or c).Start).0, limits-known c.requires.handed)) (omega (arith, (ends (goal.at.After-unwrap_or c).Start).1, limits-known c.requires.handed))
+    (omega (arith, (ends (goal.at.After-unwrap_or c).Start).0, limits-known c.requires.handed))
+    (omega (arith, (ends (goal.at.After-unwrap_or c).Start).1, limits-known c.requires.handed))
 
 pub returns-then-not-unwrap_or : goal.returns-then-not-unwrap_or
-returns-then-not-unwrap_or c = let e = sym (told (goal.at.returns-then-not-unwrap_or c).After-unwrap_or) ∙ c.if-not-unwrap_or.true in record { value = rw e; table_after = rw e }
+returns-then-not-unwrap_or c =
+    let e = sym (told (goal.at.returns-then-not-unwrap_or c).After-unwrap_or) ∙ c.if-not-unwrap_or.true in
+    record { value = rw e; table_after = rw e }
 
 pub returns : goal.returns
 returns c =

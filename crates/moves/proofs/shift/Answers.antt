@@ -29,7 +29,8 @@ pub returns-in_err-check_working : goal.returns-in_err-check_working
 returns-in_err-check_working c =
     let a = c.args in
     let p = err_from_is_err_and c.from_residual.result c.from_residual.ensures.1 in
-    rw (p.1, p.2) (shift-refused a.case a.table.now a.edge a.end a.value a.amount (sym c.in_err-check_working.was ∙ asked (goal.at.returns-in_err-check_working c).After-check_working))
+    rw (p.1, p.2) (shift-refused a.case a.table.now a.edge a.end a.value a.amount
+    (sym c.in_err-check_working.was ∙ asked (goal.at.returns-in_err-check_working c).After-check_working))
 
 pub returns : goal.returns
 returns c =

@@ -29,7 +29,8 @@ pub returns-in_err-check_starting : goal.returns-in_err-check_starting
 returns-in_err-check_starting c =
     let a = c.args in
     let p = err_from_is_err_and c.from_residual.result c.from_residual.ensures.1 in
-    rw (p.1, p.2) (choice-refused a.case a.table.now a.first.now a.second.now (sym c.in_err-check_starting.was ∙ checked (goal.at.returns-in_err-check_starting c).After-check_starting))
+    rw (p.1, p.2) (choice-refused a.case a.table.now a.first.now a.second.now
+    (sym c.in_err-check_starting.was ∙ checked (goal.at.returns-in_err-check_starting c).After-check_starting))
 
 pub returns : goal.returns
 returns c =
