@@ -369,14 +369,14 @@ fn run_checked(
     for done in 0..limit {
         let made = round_checked(case, table, out, best, pairs);
         match made {
-            Ok(Round::Settled) => return stop_run(case, table, best, Ok(RunAnswer::Settled), done),
-            Err(refusal) => {
-                return stop_run(case, table, best, Err(refusal), done);
-            }
-            Ok(Round::Void { bytes: _ }) => {
-                return stop_run(case, table, best, Ok(RunAnswer::Void), done);
-            }
-            Ok(Round::Made { bytes: _, bound: _ }) => {}
+            Err(refusal) => return stop_run(case, table, best, Err(refusal), done),
+            Ok(round) => match round {
+                Round::Settled => return stop_run(case, table, best, Ok(RunAnswer::Settled), done),
+                Round::Void { bytes: _ } => {
+                    return stop_run(case, table, best, Ok(RunAnswer::Void), done);
+                }
+                Round::Made { bytes: _, bound: _ } => {}
+            },
         }
     }
     let answer = at_limit(case, table, out, best, pairs);

@@ -1,6 +1,6 @@
-use Rattle.std.specs.Prelude.{Result}
+use Rattle.std.specs.Prelude.{Result, Ok}
 use Rattle.definitions.specs.declared.Refusal.{Refusal}
-use mathlib.Core.Path.{◌≡◌, refl, subst, ◌∙◌}
+use mathlib.Core.Path.{◌≡◌, refl, ap, subst, ◌∙◌}
 use Prim.Native.Nat.{ℕ, ◌≤◌}
 use native.Mathlib.Omega.{arith}
 use lib.ListN.{length}
@@ -45,50 +45,50 @@ loop-done-init c =
           a.out.now,
     )
 
-pub stop_run-requires : goal.stop_run-requires
-stop_run-requires c =
-    (still-settled c.loop-done.invariant.1 (room (goal.at.stop_run-requires c).At-loop-done) (did (goal.at.stop_run-requires c).After-round_checked-made (rw c.in-Ok-Settled.field-0-is at c.in-Ok-Settled.is)), c.round_checked-made.ensures.1)
+pub stop_run-requires-in-Settled : goal.stop_run-requires-in-Settled
+stop_run-requires-in-Settled c =
+    (still-settled c.loop-done.invariant.1 (room (goal.at.stop_run-requires-in-Settled c).At-loop-done) (did (goal.at.stop_run-requires-in-Settled c).After-round_checked-made (c.in-Ok.is ∙ ap Ok c.in-Settled.is)), c.round_checked-made.ensures.1)
 
-pub returns-in-Ok-Settled : goal.returns-in-Ok-Settled
-returns-in-Ok-Settled c =
+pub returns-in-Settled : goal.returns-in-Settled
+returns-in-Settled c =
     let a = c.args in
     let l = c.loop-done in
-    rw c.stop_run.ensures
-    (settled-run a.pairs a.case a.limit a.table.now a.out.now l.done l.table l.out l.invariant.1 (room (goal.at.returns-in-Ok-Settled c).At-loop-done) l.invariant.3
+    rw c.stop_run-in-Settled.ensures
+    (settled-run a.pairs a.case a.limit a.table.now a.out.now l.done l.table l.out l.invariant.1 (room (goal.at.returns-in-Settled c).At-loop-done) l.invariant.3
     (omega arith)
-    (did (goal.at.returns-in-Ok-Settled c).After-round_checked-made (rw c.in-Ok-Settled.field-0-is at c.in-Ok-Settled.is)))
+    (did (goal.at.returns-in-Settled c).After-round_checked-made (c.in-Ok.is ∙ ap Ok c.in-Settled.is)))
 
-pub stop_run-requires-in-Err : goal.stop_run-requires-in-Err
-stop_run-requires-in-Err c =
-    (still-refused c.loop-done.invariant.1 (room (goal.at.stop_run-requires-in-Err c).At-loop-done) (did (goal.at.stop_run-requires-in-Err c).After-round_checked-made c.in-Err.is), c.round_checked-made.ensures.1)
+pub stop_run-requires : goal.stop_run-requires
+stop_run-requires c =
+    (still-refused c.loop-done.invariant.1 (room (goal.at.stop_run-requires c).At-loop-done) (did (goal.at.stop_run-requires c).After-round_checked-made c.in-Err.is), c.round_checked-made.ensures.1)
 
 pub returns-in-Err : goal.returns-in-Err
 returns-in-Err c =
     let a = c.args in
     let l = c.loop-done in
-    rw c.stop_run-in-Err.ensures
+    rw c.stop_run.ensures
     (run-leaves a.pairs a.case a.limit a.table.now a.out.now l.done l.table l.out l.invariant.1 (room (goal.at.returns-in-Err c).At-loop-done) l.invariant.3
     (omega arith)
     (did (goal.at.returns-in-Err c).After-round_checked-made c.in-Err.is))
 
-pub stop_run-requires-in-Ok-Void : goal.stop_run-requires-in-Ok-Void
-stop_run-requires-in-Ok-Void c =
-    (still-void c.loop-done.invariant.1 (room (goal.at.stop_run-requires-in-Ok-Void c).At-loop-done) (did (goal.at.stop_run-requires-in-Ok-Void c).After-round_checked-made (rw c.in-Ok-Void.field-0-is at c.in-Ok-Void.is)), c.round_checked-made.ensures.1)
+pub stop_run-requires-in-Void : goal.stop_run-requires-in-Void
+stop_run-requires-in-Void c =
+    (still-void c.loop-done.invariant.1 (room (goal.at.stop_run-requires-in-Void c).At-loop-done) (did (goal.at.stop_run-requires-in-Void c).After-round_checked-made (c.in-Ok.is ∙ ap Ok c.in-Void.is)), c.round_checked-made.ensures.1)
 
-pub returns-in-Ok-Void : goal.returns-in-Ok-Void
-returns-in-Ok-Void c =
+pub returns-in-Void : goal.returns-in-Void
+returns-in-Void c =
     let a = c.args in
     let l = c.loop-done in
-    rw c.stop_run-in-Ok-Void.ensures
-    (void-run a.pairs a.case a.limit a.table.now a.out.now l.done l.table l.out l.invariant.1 (room (goal.at.returns-in-Ok-Void c).At-loop-done) l.invariant.3
+    rw c.stop_run-in-Void.ensures
+    (void-run a.pairs a.case a.limit a.table.now a.out.now l.done l.table l.out l.invariant.1 (room (goal.at.returns-in-Void c).At-loop-done) l.invariant.3
     (omega arith)
-    (did (goal.at.returns-in-Ok-Void c).After-round_checked-made (rw c.in-Ok-Void.field-0-is at c.in-Ok-Void.is)))
+    (did (goal.at.returns-in-Void c).After-round_checked-made (c.in-Ok.is ∙ ap Ok c.in-Void.is)))
 
 pub loop-done-preserved : goal.loop-done-preserved
 loop-done-preserved c =
     let a = c.args in
     let l = c.loop-done in
-    let d = did (goal.at.loop-done-preserved c).After-round_checked-made (rw c.in-Ok-Made.field-0-is at c.in-Ok-Made.is) in (
+    let d = did (goal.at.loop-done-preserved c).After-round_checked-made (c.in-Ok.is ∙ ap Ok c.in-Made.is) in (
       same (goal.at.loop-done-preserved c).After-round_checked-made,
       still-made l.invariant.1 (room (goal.at.loop-done-preserved c).At-loop-done) d,
       c.round_checked-made.ensures.1,
