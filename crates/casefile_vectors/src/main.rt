@@ -55,8 +55,7 @@ fn print_bytes(bytes: &[u8]) {
 
 fn size(bytes: &[u8]) {
     drivers::print(b"  size");
-    let answer = casefile::case_size(bytes);
-    match answer {
+    match casefile::case_size(bytes) {
         Ok(CaseSize { n, d, m, table }) => {
             drivers::print_count(n as u64);
             drivers::print_count(d as u64);
@@ -71,8 +70,7 @@ fn size(bytes: &[u8]) {
 }
 
 fn answer(read: CaseRead) {
-    let answer = read.answer;
-    match answer {
+    match read.answer {
         Ok(lines) => {
             drivers::print(b" read");
             drivers::print_count(lines as u64);
@@ -92,8 +90,7 @@ fn front(bytes: &[u8], table: &mut [i64]) {
 
 // How many bytes are written, and all of the output after it.
 fn write(case: Case, table: &[i64], out: &mut [u8]) {
-    let written = case_writer::write_case(case, table, out);
-    match written {
+    match case_writer::write_case(case, table, out) {
         Ok(n) => {
             drivers::print(b" written");
             drivers::print_count(n as u64);

@@ -32,16 +32,13 @@ fn print_first(text: &[u8], n: usize) {
 fn told_line(read: Result<Line, Refusal>) -> Line
     ensures { result ≡ line_told read }
 {
-    match read {
-        Ok(line) => line,
-        Err(_) => Line {
-            kind: 0,
-            a: 0,
-            b: 0,
-            c: 0,
-            amount: 0,
-        },
-    }
+    read.unwrap_or(Line {
+        kind: 0,
+        a: 0,
+        b: 0,
+        c: 0,
+        amount: 0,
+    })
 }
 
 fn count(z: i64) -> usize
@@ -149,7 +146,7 @@ pub fn line_of(text: &[u8]) -> Line
     ensures { result ≡ line_told (read_line_answer (rules_in Desk) text.now) }
 {
     let read = lines::read_line(text);
-    if let Err(_) = read {
+    if read.is_err() {
         io::write_all(1, text);
     }
     told_line(read)
@@ -264,8 +261,7 @@ pub fn print_alone(z: i64) -> i64
     ensures { result ≡ z }
 {
     let mut text = [0u8; 20];
-    let written = lines::write_number(&mut text, z);
-    if let Ok(n) = written {
+    if let Ok(n) = lines::write_number(&mut text, z) {
         print_first(&text, n);
     }
     z

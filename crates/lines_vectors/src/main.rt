@@ -24,8 +24,7 @@ fn print_line(line: Line) {
 
 // The five numbers, or the refusal.
 fn read(text: &[u8]) {
-    let answer = lines::read_line(text);
-    match answer {
+    match lines::read_line(text) {
         Ok(line) => print_line(line),
         Err(refusal) => {
             drivers::print(b"refused");
