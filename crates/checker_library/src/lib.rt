@@ -99,7 +99,7 @@ pub struct CeilingVerdict {
 fn number_of(refusal: Refusal) -> u64
     ensures { result ≡ number refusal }
 {
-    integers::wide(texts::number_of(refusal))
+    u64::from(texts::number_of(refusal))
 }
 
 fn size_of(size: Result<CaseSize, Refusal>) -> CeilingSize
@@ -156,15 +156,6 @@ fn outcome_number(outcome: Result<(), Refusal>) -> u64
     }
 }
 
-fn standing_number(standing: Result<(), Refusal>) -> u64
-    ensures { result ≡ (outcome_says standing).number }
-{
-    match standing {
-        Ok(()) => 0,
-        Err(refusal) => number_of(refusal),
-    }
-}
-
 fn rounds_of(rounds: u64, over: bool, outcome: Result<(), Refusal>) -> CeilingRounds
     ensures { result ≡ rounds_of rounds over (outcome_says outcome) }
 {
@@ -174,20 +165,16 @@ fn rounds_of(rounds: u64, over: bool, outcome: Result<(), Refusal>) -> CeilingRo
             rounds: 0,
             void: 0,
         },
-        Ok(()) => {
-            if over {
-                return CeilingRounds {
-                    number: 0,
-                    rounds: 0,
-                    void: 1,
-                };
-            }
-            CeilingRounds {
-                number: 0,
-                rounds,
-                void: 0,
-            }
-        }
+        Ok(()) if over => CeilingRounds {
+            number: 0,
+            rounds: 0,
+            void: 1,
+        },
+        Ok(()) => CeilingRounds {
+            number: 0,
+            rounds,
+            void: 0,
+        },
     }
 }
 
@@ -264,13 +251,8 @@ fn verdict_of(verdict: Result<bool, Refusal>) -> CeilingVerdict
 fn keep_case(read: CaseRead, case: &mut CaseArray)
     ensures { case.new ≡ case_after read.answer read case.old }
 {
-    let answer = read.answer;
-    match answer {
-        Ok(_) => encoding::write_case_bytes(read.case, case),
-        Err(RefusedAt {
-            refusal: _,
-            line: _,
-        }) => {}
+    if read.answer.is_ok() {
+        encoding::write_case_bytes(read.case, case);
     }
 }
 
@@ -314,29 +296,17 @@ fn not_record_at_end(case: Case) -> u64
 fn is_over(due: Due) -> bool
     ensures { result ≡ is_void due }
 {
-    match due {
-        Due::MoveOrBound => false,
-        Due::Raise {
-            variable: _,
-            target: _,
-            left: _,
-            last: _,
-        } => false,
-        Due::Nothing => true,
-    }
+    matches!(due, Due::Nothing)
 }
 
 fn end_with(part: usize, end: Result<(), Refusal>) -> Result<(), Refusal>
     ensures { result ≡ end_with part end }
 {
-    match end {
-        Ok(()) => {
-            if part == 0 {
-                return Ok(());
-            }
-            Err(Refusal::CutShort)
-        }
-        Err(refusal) => Err(refusal),
+    end?;
+    if part == 0 {
+        Ok(())
+    } else {
+        Err(Refusal::CutShort)
     }
 }
 
@@ -447,7 +417,7 @@ pub extern "C" fn ceiling_replay_start(
     let replay = Replay::fresh(encoding::case_of(case), table);
     let standing = replay.standing;
     encoding::write_record(replay, state);
-    standing_number(standing)
+    outcome_number(standing)
 }
 
 // A block of whole lines; a part line at its end is not looked at.
