@@ -236,8 +236,10 @@ fn verdict_of(verdict: Result<bool, Refusal>) -> CeilingVerdict
     ensures { result ≡ ceiling_verdict_of (verdict_says verdict) }
 {
     match verdict {
-        Ok(true) => CeilingVerdict { number: 0, yes: 1 },
-        Ok(false) => CeilingVerdict { number: 0, yes: 0 },
+        Ok(yes) => CeilingVerdict {
+            number: 0,
+            yes: u64::from(yes),
+        },
         Err(refusal) => CeilingVerdict {
             number: number_of(refusal),
             yes: 0,
@@ -270,11 +272,9 @@ fn replay_block(
         × (table.new ≡ (block_replay (rules_of case) case table.old replay lines.now).table) }
 {
     let block = replay.lines(case, table, lines);
-    let after = block.replay;
-    let answer = block.answer;
-    encoding::write_record(after, state);
+    encoding::write_record(block.replay, state);
     CeilingLines {
-        number: outcome_number(answer),
+        number: outcome_number(block.answer),
         lines: block.lines,
     }
 }
@@ -399,9 +399,8 @@ pub extern "C" fn ceiling_read_case(
         × (table.new ≡ (read_call text.now case.old table.old).table) }
 {
     let read = casefile::read_case_alone(text, table);
-    let answer = read.answer;
     keep_case(read, case);
-    lines_of(answer)
+    lines_of(read.answer)
 }
 
 // A fresh record; refused, it stands so.
@@ -415,9 +414,8 @@ pub extern "C" fn ceiling_replay_start(
         × (state.new ≡ record_bytes (start_record case.now table.now)) }
 {
     let replay = Replay::fresh(encoding::case_of(case), table);
-    let standing = replay.standing;
     encoding::write_record(replay, state);
-    outcome_number(standing)
+    outcome_number(replay.standing)
 }
 
 // A block of whole lines; a part line at its end is not looked at.
@@ -454,9 +452,8 @@ pub extern "C" fn ceiling_replay_end(
 {
     if encoding::is_record(state) {
         let replay = encoding::record_of(state);
-        let due = replay.due;
         let end = replay.end(encoding::case_of(case));
-        rounds_of(replay.rounds, is_over(due), end_with(part, end))
+        rounds_of(replay.rounds, is_over(replay.due), end_with(part, end))
     } else {
         CeilingRounds {
             number: not_record_at_end(encoding::case_of(case)),
