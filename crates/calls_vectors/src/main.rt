@@ -242,8 +242,7 @@ fn fill_bytes(list: &mut [u8], from: usize, n: usize, value: u8) {
 }
 
 fn put_weights(call: Call, t: &mut [i64; TABLE_PLACES], best: &mut [i64; TABLE_PLACES]) {
-    let kind = call.kind;
-    match kind {
+    match call.kind {
         4 => fill_weights(t, call.a, call.b, call.amount),
         5 => fill_weights(best, call.a, call.b, call.amount),
         _ => {}
@@ -298,8 +297,7 @@ fn joined(call: Call, case: Case) -> Case {
 }
 
 fn case_after(call: Call, case: Case) -> Case {
-    let kind = call.kind;
-    match kind {
+    match call.kind {
         1 => sized(call, case),
         2 => joined(call, case),
         _ => case,
@@ -370,8 +368,7 @@ fn acyclic(case: Case) {
 }
 
 fn question(call: Call, case: Case, t: &[i64], best: &[i64], bytes: &[u8]) {
-    let kind = call.kind;
-    match kind {
+    match call.kind {
         10 => starting(call, case, t),
         11 => working(call, case, t),
         12 => edges(call, case),
@@ -451,8 +448,7 @@ fn lower_and_raise(
 }
 
 fn weighed(call: Call, case: Case, t: &mut [i64], shown: usize, best: &mut [i64], bytes: &[u8]) {
-    let kind = call.kind;
-    match kind {
+    match call.kind {
         18 => greatest_weights(case, t, best),
         30 => shift(call, case, t, shown),
         31 => press(call, case, t, shown, bytes),
@@ -632,8 +628,7 @@ fn call_marks(
     sets: &mut [u8; 160],
     rows: &mut [u8; 160],
 ) {
-    let kind = call.kind;
-    match kind {
+    match call.kind {
         23..=24 => close(call, case, lengths, bytes, sets, rows),
         25 => mark(case, lengths, t, best, sets, rows),
         28 => name_partners(call, lengths, rows, sets),

@@ -10,7 +10,7 @@
 #![tactic(auto)]
 
 use checker::{Due, Replay, Target};
-use definitions::{Case, Line, Refusal, RefusedAt, SCOPE_PLACES, TABLE_PLACES};
+use definitions::{Case, Line, Refusal, SCOPE_PLACES, TABLE_PLACES};
 
 // 0 where there is none.
 fn number(answer: Result<(), Refusal>) -> u64 {
@@ -60,10 +60,7 @@ fn marks_of(scope: i64) -> [u8; SCOPE_PLACES] {
 }
 
 fn last_of(scope: i64) -> Option<usize> {
-    if scope < 0 {
-        return None;
-    }
-    Some(count(scope))
+    usize::try_from(scope).ok()
 }
 
 fn raise_of(line: Line, target: Target) -> Due {
@@ -172,20 +169,12 @@ fn print_flag(flag: bool) {
     }
 }
 
-fn standing_number(standing: Result<(), Refusal>) -> u64 {
-    match standing {
-        Ok(()) => 0,
-        Err(refusal) => drivers::number_of(refusal),
-    }
-}
-
 fn print_record(given: &[u8], replay: Replay) {
     if given.len() < 54 {
         return;
     }
     let due = replay.due;
     let raised = replay.raised;
-    let standing = replay.standing;
     print(b"  record moved");
     print_flag(replay.moved);
     print(b" due");
@@ -193,7 +182,7 @@ fn print_record(given: &[u8], replay: Replay) {
     print(b" raised");
     print_marks(&raised);
     print(b" stands");
-    drivers::print_count(standing_number(standing));
+    drivers::print_count(number(replay.standing));
     print(b"\n");
 }
 
@@ -214,8 +203,7 @@ fn by_lines(replay: Replay, case: Case, table: &mut [i64], log: &[u8]) -> Replay
     for line in log.chunks(27) {
         let stepped = after.step(case, table, line);
         after = stepped.replay;
-        let answer = stepped.answer;
-        drivers::print_count(number(answer));
+        drivers::print_count(number(stepped.answer));
     }
     after
 }
@@ -244,8 +232,7 @@ fn whole(case: Case, table: &mut [i64], shown: usize, given: &[u8], log: &[u8]) 
     let before = begun(Replay::fresh(case, table), given);
     let block = before.lines(case, table, log);
     drivers::print_count(block.lines as u64);
-    let answer = block.answer;
-    drivers::print_count(number(answer));
+    drivers::print_count(number(block.answer));
     let after = block.replay;
     finish(given, after, case, table, shown);
 }
@@ -272,16 +259,6 @@ fn log_after(bytes: &[u8], used: usize) -> &[u8] {
     &bytes[0..0]
 }
 
-fn lines_of(answer: Result<usize, RefusedAt>) -> usize {
-    match answer {
-        Ok(lines) => lines,
-        Err(RefusedAt {
-            refusal: _,
-            line: _,
-        }) => 0,
-    }
-}
-
 // Bars the first two places.
 fn bar(table: &mut [i64], barred: bool) {
     if barred {
@@ -295,8 +272,7 @@ fn bar(table: &mut [i64], barred: bool) {
 fn line_by_line(bytes: &[u8], table: &mut [i64], shown: usize, told: usize, barred: bool) {
     let read = casefile::read_case(bytes, table);
     bar(table, barred);
-    let answer = read.answer;
-    let rest = log_after(bytes, lines_of(answer));
+    let rest = log_after(bytes, read.answer.unwrap_or(0));
     single(
         read.case,
         table,
@@ -309,8 +285,7 @@ fn line_by_line(bytes: &[u8], table: &mut [i64], shown: usize, told: usize, barr
 fn as_a_block(bytes: &[u8], table: &mut [i64], shown: usize, told: usize, barred: bool) {
     let read = casefile::read_case(bytes, table);
     bar(table, barred);
-    let answer = read.answer;
-    let rest = log_after(bytes, lines_of(answer));
+    let rest = log_after(bytes, read.answer.unwrap_or(0));
     whole(
         read.case,
         table,

@@ -10,10 +10,6 @@ fn print(text: &[u8]) {
     drivers::print(text);
 }
 
-fn wide(value: u8) -> i64 {
-    value as i64
-}
-
 fn print_refusal(refusal: Refusal) {
     print(b":");
     drivers::print_refusal(refusal);
@@ -22,8 +18,7 @@ fn print_refusal(refusal: Refusal) {
 // ---- the log writer
 
 fn show_put(put: Put) {
-    let answer = put.answer;
-    match answer {
+    match put.answer {
         Ok(()) => print(b": done"),
         Err(refusal) => print_refusal(refusal),
     }
@@ -111,7 +106,7 @@ fn print_span(span: Result<Span, RefusedAt>) {
 
 fn print_written(number: u8) {
     print(b" number");
-    drivers::print_number(wide(number));
+    drivers::print_number(i64::from(number));
 }
 
 fn view(log: &[u8], round: u64) {
@@ -232,8 +227,8 @@ fn print_choice(choice: Result<Choice, Refusal>) {
 
 fn print_plan(plan: &[u8]) {
     if plan.len() == 2 {
-        drivers::print_number(wide(plan[0]));
-        drivers::print_number(wide(plan[1]));
+        drivers::print_number(i64::from(plan[0]));
+        drivers::print_number(i64::from(plan[1]));
     } else {
         drivers::print_count(plan.len() as u64);
     }
@@ -267,8 +262,8 @@ fn score(weight: i64, a: u8, b: u8, c: u8, d: u8) {
 fn score_case(n: usize, lower: u8, upper: u8) {
     print(b"case");
     drivers::print_count(n as u64);
-    drivers::print_number(wide(lower));
-    drivers::print_number(wide(upper));
+    drivers::print_number(i64::from(lower));
+    drivers::print_number(i64::from(upper));
     score_in(n, lower, upper, 0, 0, 0, 0, 1);
 }
 
