@@ -7,6 +7,7 @@ use native.Mathlib.Omega.{arith}
 use lib.ListN.{length, take, drop, get_or, length-drop, drop_of_length-le}
 use lib.Seq.{get_or-drop, drop-drop, take-length, length-take-le}
 use Rattle.encoding.specs.Numbers.{lowest_first, value_of_bytes, number_bytes, number_at}
+use Rattle.std.specs.List.{slice_index}
 
 -- ---- read
 
@@ -33,6 +34,22 @@ module _ (l : List ℕ) (at : ℕ) where
   pub number_is : at + 8 ≤ length l → number_at l at ≡ value_of_bytes (take 4 (drop at l)) + value_of_bytes (take 4 (drop (at + 4) l)) * 4294967296
   unfolding number_at
   number_is h = value-8 (drop at l) (omega (arith, length-drop at l)) ∙ simp drop-drop
+
+-- the eight bytes by their places
+pub eight_is :
+    (l : List ℕ) → length l ≡ 8
+    → slice_index l 0 + slice_index l 1 * 256 + slice_index l 2 * 65536 + slice_index l 3 * 16777216 + slice_index l 4 * 4294967296
+    + slice_index l 5 * 1099511627776 + slice_index l 6 * 281474976710656 + slice_index l 7 * 72057594037927936 ≡ value_of_bytes l
+eight_is [] q = absurd (omega arith)
+eight_is (a ∷ []) q = absurd (omega arith)
+eight_is (a ∷ b ∷ []) q = absurd (omega arith)
+eight_is (a ∷ b ∷ c ∷ []) q = absurd (omega arith)
+eight_is (a ∷ b ∷ c ∷ d ∷ []) q = absurd (omega arith)
+eight_is (a ∷ b ∷ c ∷ d ∷ e ∷ []) q = absurd (omega arith)
+eight_is (a ∷ b ∷ c ∷ d ∷ e ∷ f ∷ []) q = absurd (omega arith)
+eight_is (a ∷ b ∷ c ∷ d ∷ e ∷ f ∷ g ∷ []) q = absurd (omega arith)
+eight_is (a ∷ b ∷ c ∷ d ∷ e ∷ f ∷ g ∷ h ∷ []) q = omega arith
+eight_is (a ∷ b ∷ c ∷ d ∷ e ∷ f ∷ g ∷ h ∷ i ∷ l) q = absurd (omega arith)
 
 -- ---- written
 

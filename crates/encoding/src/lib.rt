@@ -51,51 +51,19 @@ struct Begun {
 
 // ---- numbers
 
-fn low(x: u64) -> u8
-    ensures { result ≡ x % 256 }
-{
-    (x % 256) as u8
-}
-
-// The number of four bytes.
-fn half_at(bytes: &[u8], at: usize) -> u64
-    requires { at + 4 ≤ length bytes.now }
-    ensures { (result ≡ value_of_bytes (take 4 (drop at bytes.now))) × (result < 4294967296) }
-{
-    let a = u64::from(bytes[at]);
-    let b = u64::from(bytes[at + 1]);
-    let c = u64::from(bytes[at + 2]);
-    let d = u64::from(bytes[at + 3]);
-    a + b * 256 + c * 65536 + d * 16777216
-}
-
 fn number_at(bytes: &[u8], at: usize) -> u64
     requires { at + 8 ≤ length bytes.now }
     ensures { result ≡ number_at bytes.now at }
 {
-    half_at(bytes, at) + half_at(bytes, at + 4) * 4294967296
+    let mut word = [0u8; 8];
+    word.copy_from_slice(&bytes[at..at + 8]);
+    u64::from_le_bytes(word)
 }
 
 fn number_bytes(x: u64) -> [u8; 8]
     ensures { result ≡ number_bytes x }
 {
-    let b = x / 256;
-    let c = b / 256;
-    let d = c / 256;
-    let e = d / 256;
-    let f = e / 256;
-    let g = f / 256;
-    let h = g / 256;
-    [
-        low(x),
-        low(b),
-        low(c),
-        low(d),
-        low(e),
-        low(f),
-        low(g),
-        low(h),
-    ]
+    x.to_le_bytes()
 }
 
 fn bits_of(z: i64) -> u64

@@ -1,8 +1,14 @@
--- From its two halves. Assumes nothing.
-use native.Mathlib.Omega.{arith}
-use Rattle.encoding.proofs.Values.{number_is}
+-- The eight bytes are copied out. Assumes nothing.
+use mathlib.Core.Path.{◌≡◌, ap, ◌∙◌}
+use lib.ListN.{take, drop}
+use borrow.Author.Rules.{rules}
+use Rattle.encoding.specs.Numbers.{value_of_bytes, number_at}
+use Rattle.encoding.proofs.Values.{eight_is}
 use Rattle.encoding.proofs.number_at.Goals as goal
 
 pub returns : goal.returns
+unfolding number_at
 returns c =
-    omega (arith, number_is c.args.bytes.now c.args.at c.requires)
+    let word = c.copy_from_slice.new.self in
+    let e : word ≡ take 8 (drop c.args.at c.args.bytes.now) = search rules in
+    c.from_le_bytes.ensures ∙ eight_is word c.copy_from_slice.ensures.len ∙ ap value_of_bytes e
