@@ -1,5 +1,5 @@
 -- The search for partners: a row holds the marks of a value's partners. Assumes nothing.
-use Rattle.std.specs.Prelude.{Bool, true, false, ◌&&◌, List, map, ℕ, ◌+◌, ltb, length, get_or, if◌then◌else◌, Option, Some, None, unwrap_or}
+use Rattle.std.specs.Prelude.{Bool, ◌&&◌, List, map, ℕ, ◌+◌, ltb, length, get_or, if◌then◌else◌, Option, unwrap_or}
 use Rattle.integers.specs.Words.{below, any, those, first}
 use Rattle.marks.specs.Marks.{mark, byte_of}
 

@@ -8,7 +8,7 @@ use Rattle.definitions.specs.declared.CaseRead.{CaseRead}
 use Rattle.definitions.specs.declared.Refusal.TheVariants.{CutShort}
 use Rattle.definitions.specs.Rules.{rules_of}
 use Rattle.definitions.specs.Refusals.{first_refusal}
-use Rattle.definitions.specs.Answers.{outcome_says, figure_says, file_says, outcome_of, refused_at}
+use Rattle.definitions.specs.Answers.{outcome_says, figure_says, file_says, outcome_of}
 use Rattle.definitions.specs.Valid.{working_weight, limit_test, edge_tests, handed_over}
 use Rattle.definitions.specs.CaseFiles.{read_case_alone}
 use Rattle.calls.specs.Calls.{supported_value_call}

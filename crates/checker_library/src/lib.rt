@@ -99,7 +99,7 @@ pub struct CeilingVerdict {
 fn number_of(refusal: Refusal) -> u64
     ensures { result ≡ number refusal }
 {
-    integers::wide(texts::number_of(refusal))
+    u64::from(texts::number_of(refusal))
 }
 
 fn size_of(size: Result<CaseSize, Refusal>) -> CeilingSize
@@ -156,15 +156,6 @@ fn outcome_number(outcome: Result<(), Refusal>) -> u64
     }
 }
 
-fn standing_number(standing: Result<(), Refusal>) -> u64
-    ensures { result ≡ (outcome_says standing).number }
-{
-    match standing {
-        Ok(()) => 0,
-        Err(refusal) => number_of(refusal),
-    }
-}
-
 fn rounds_of(rounds: u64, over: bool, outcome: Result<(), Refusal>) -> CeilingRounds
     ensures { result ≡ rounds_of rounds over (outcome_says outcome) }
 {
@@ -174,20 +165,16 @@ fn rounds_of(rounds: u64, over: bool, outcome: Result<(), Refusal>) -> CeilingRo
             rounds: 0,
             void: 0,
         },
-        Ok(()) => {
-            if over {
-                return CeilingRounds {
-                    number: 0,
-                    rounds: 0,
-                    void: 1,
-                };
-            }
-            CeilingRounds {
-                number: 0,
-                rounds,
-                void: 0,
-            }
-        }
+        Ok(()) if over => CeilingRounds {
+            number: 0,
+            rounds: 0,
+            void: 1,
+        },
+        Ok(()) => CeilingRounds {
+            number: 0,
+            rounds,
+            void: 0,
+        },
     }
 }
 
@@ -249,8 +236,10 @@ fn verdict_of(verdict: Result<bool, Refusal>) -> CeilingVerdict
     ensures { result ≡ ceiling_verdict_of (verdict_says verdict) }
 {
     match verdict {
-        Ok(true) => CeilingVerdict { number: 0, yes: 1 },
-        Ok(false) => CeilingVerdict { number: 0, yes: 0 },
+        Ok(yes) => CeilingVerdict {
+            number: 0,
+            yes: u64::from(yes),
+        },
         Err(refusal) => CeilingVerdict {
             number: number_of(refusal),
             yes: 0,
@@ -264,13 +253,8 @@ fn verdict_of(verdict: Result<bool, Refusal>) -> CeilingVerdict
 fn keep_case(read: CaseRead, case: &mut CaseArray)
     ensures { case.new ≡ case_after read.answer read case.old }
 {
-    let answer = read.answer;
-    match answer {
-        Ok(_) => encoding::write_case_bytes(read.case, case),
-        Err(RefusedAt {
-            refusal: _,
-            line: _,
-        }) => {}
+    if read.answer.is_ok() {
+        encoding::write_case_bytes(read.case, case);
     }
 }
 
@@ -288,11 +272,9 @@ fn replay_block(
         × (table.new ≡ (block_replay (rules_of case) case table.old replay lines.now).table) }
 {
     let block = replay.lines(case, table, lines);
-    let after = block.replay;
-    let answer = block.answer;
-    encoding::write_record(after, state);
+    encoding::write_record(block.replay, state);
     CeilingLines {
-        number: outcome_number(answer),
+        number: outcome_number(block.answer),
         lines: block.lines,
     }
 }
@@ -314,29 +296,17 @@ fn not_record_at_end(case: Case) -> u64
 fn is_over(due: Due) -> bool
     ensures { result ≡ is_void due }
 {
-    match due {
-        Due::MoveOrBound => false,
-        Due::Raise {
-            variable: _,
-            target: _,
-            left: _,
-            last: _,
-        } => false,
-        Due::Nothing => true,
-    }
+    matches!(due, Due::Nothing)
 }
 
 fn end_with(part: usize, end: Result<(), Refusal>) -> Result<(), Refusal>
     ensures { result ≡ end_with part end }
 {
-    match end {
-        Ok(()) => {
-            if part == 0 {
-                return Ok(());
-            }
-            Err(Refusal::CutShort)
-        }
-        Err(refusal) => Err(refusal),
+    end?;
+    if part == 0 {
+        Ok(())
+    } else {
+        Err(Refusal::CutShort)
     }
 }
 
@@ -429,9 +399,8 @@ pub extern "C" fn ceiling_read_case(
         × (table.new ≡ (read_call text.now case.old table.old).table) }
 {
     let read = casefile::read_case_alone(text, table);
-    let answer = read.answer;
     keep_case(read, case);
-    lines_of(answer)
+    lines_of(read.answer)
 }
 
 // A fresh record; refused, it stands so.
@@ -445,9 +414,8 @@ pub extern "C" fn ceiling_replay_start(
         × (state.new ≡ record_bytes (start_record case.now table.now)) }
 {
     let replay = Replay::fresh(encoding::case_of(case), table);
-    let standing = replay.standing;
     encoding::write_record(replay, state);
-    standing_number(standing)
+    outcome_number(replay.standing)
 }
 
 // A block of whole lines; a part line at its end is not looked at.
@@ -484,9 +452,8 @@ pub extern "C" fn ceiling_replay_end(
 {
     if encoding::is_record(state) {
         let replay = encoding::record_of(state);
-        let due = replay.due;
         let end = replay.end(encoding::case_of(case));
-        rounds_of(replay.rounds, is_over(due), end_with(part, end))
+        rounds_of(replay.rounds, is_over(replay.due), end_with(part, end))
     } else {
         CeilingRounds {
             number: not_record_at_end(encoding::case_of(case)),

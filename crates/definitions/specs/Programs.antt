@@ -1,7 +1,6 @@
 -- Document 01: what the programs `press` and `replay` print; document 02, change 2: void lines. Assumes nothing.
 use Rattle.definitions.specs.declared.RefusedAt.{RefusedAt}
 use Rattle.definitions.specs.Answers.{refused_at}
-use Rattle.definitions.specs.Answers.{size_with}
 use Rattle.std.specs.Prelude.{Bool, List, [], ◌∷◌, ◌++◌, ℕ, ◌+◌, ◌*◌, ℤ, pos, drop, replicate, if◌then◌else◌, Result, Ok, Err, Option, Some, None}
 use Prim.Native.Char.{code}
 use Prim.Native.String.{String, [] as empty, ◌∷◌ as char-and}

@@ -62,10 +62,10 @@ fn half_at(bytes: &[u8], at: usize) -> u64
     requires { at + 4 ≤ length bytes.now }
     ensures { (result ≡ value_of_bytes (take 4 (drop at bytes.now))) × (result < 4294967296) }
 {
-    let a = integers::wide(bytes[at]);
-    let b = integers::wide(bytes[at + 1]);
-    let c = integers::wide(bytes[at + 2]);
-    let d = integers::wide(bytes[at + 3]);
+    let a = u64::from(bytes[at]);
+    let b = u64::from(bytes[at + 1]);
+    let c = u64::from(bytes[at + 2]);
+    let d = u64::from(bytes[at + 3]);
     a + b * 256 + c * 65536 + d * 16777216
 }
 
@@ -228,13 +228,12 @@ fn begun_of(due: Due) -> Begun
             left,
             last,
         } => {
-            let scope = last_recorded(last);
             Begun {
                 kind: kind_of(target),
                 variable,
                 amount: amount_of(target),
                 left,
-                last: scope,
+                last: last_recorded(last),
             }
         }
         Due::Nothing => none_begun(3),
@@ -244,30 +243,24 @@ fn begun_of(due: Due) -> Begun
 fn raised_of(last: Last) -> Option<usize>
     ensures { result ≡ raised_of last }
 {
-    if last.known == 1 {
-        Some(last.scope)
-    } else {
-        None
-    }
+    (last.known == 1).then_some(last.scope)
 }
 
 fn raise_of(begun: Begun, target: Target) -> Due
     ensures { result ≡ raise_recorded begun target }
 {
-    let last = begun.last;
     Due::Raise {
         variable: begun.variable,
         target,
         left: begun.left,
-        last: raised_of(last),
+        last: raised_of(begun.last),
     }
 }
 
 fn due_of(begun: Begun) -> Due
     ensures { result ≡ due_recorded begun }
 {
-    let kind = begun.kind;
-    match kind {
+    match begun.kind {
         1 => raise_of(begun, Target::Press(begun.amount)),
         2 => raise_of(begun, Target::Void),
         3 => Due::Nothing,
@@ -313,23 +306,21 @@ fn put_words(out: &mut [u8], rounds: u64, start: i64, begun: Begun)
     requires { 48 ≤ length out.old }
     ensures { out.new ≡ overwritten (record_numbers rounds start begun) out.old }
 {
-    let last = begun.last;
     put_word(out, 0, rounds);
     put_word(out, 8, bits_of(start));
     put_word(out, 16, begun.variable as u64);
     put_word(out, 24, bits_of(begun.amount));
     put_word(out, 32, begun.left as u64);
-    put_word(out, 40, last.scope as u64);
+    put_word(out, 40, begun.last.scope as u64);
 }
 
 fn tags_of(moved: bool, begun: Begun, standing: Result<(), Refusal>) -> [u8; 4]
     ensures { result ≡ record_tags moved begun standing }
 {
-    let last = begun.last;
     [
         moved as u8,
         begun.kind,
-        last.known,
+        begun.last.known,
         standing_number(standing),
     ]
 }
@@ -430,11 +421,9 @@ pub fn record_of(bytes: &RecordArray) -> Replay
 pub fn write_record(replay: Replay, out: &mut RecordArray)
     ensures { out.new ≡ record_bytes replay }
 {
-    let due = replay.due;
-    let standing = replay.standing;
-    let begun = begun_of(due);
+    let begun = begun_of(replay.due);
     put_words(out, replay.rounds, replay.start, begun);
-    put_tags(out, replay.moved, begun, standing);
+    put_tags(out, replay.moved, begun, replay.standing);
     put_marks(out, 52, &replay.raised);
 }
 

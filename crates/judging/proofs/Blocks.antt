@@ -129,7 +129,7 @@ module _ (c : Case) (w : List ℤ) (p : Replay) (at : ℕ) (x rest : List ℕ) (
         table = λ e. i.table (sym a ∙ e);
       })
 
-  never : {y : Refusal} → Err y ≡ Ok tt → ⊥
+  never : {y : Refusal} → ◌≡◌ {A = Result ⊤ Refusal} (Err y) (Ok tt) → ⊥
   never e = let z : ◌≡◌ {A = ℕ} 0 1 = cc in omega arith
 
   stand-refused : {y : Refusal} → first.block.answer ≡ Err y → Stands (next (Err y)) c at (fold_replay r c w p (x ++ rest))

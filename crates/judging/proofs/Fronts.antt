@@ -1,7 +1,6 @@
 -- The reader of a case looks only at the lines that are due, so a front that holds the longest case is read as the whole input is. The line of a
 -- case's refusal, and the lines used, are at most those of the longest case. Assumes nothing.
 use Rattle.definitions.specs.declared.RefusedAt.{RefusedAt}
-use Rattle.definitions.specs.Answers.{refused_at}
 use Rattle.definitions.specs.Answers.{size_with}
 use mathlib.Core.Path.{◌≡◌, refl, sym, ap, ap₂, ◌∙◌}
 use mathlib.Core.Bool.{Bool, true, false}

@@ -104,8 +104,8 @@ judged-written out (Err x) h g = text-done out x.line (judgement_text (Err x)) h
 log-count : (k at : ℕ) (answer end : Result ⊤ Refusal) (part : Bool) (good : Result Judgement RefusedAt) → at ≤ k → count_of good ≤ k → count_of (log_judged at answer end part good) ≤ k
 log-count k at (Err x) end part good p q = p
 log-count k at (Ok tt) (Err x) part good p q = p
-log-count k at (Ok tt) (Ok tt) true good p q = p
-log-count k at (Ok tt) (Ok tt) false good p q = q
+log-count k at (Ok _) (Ok _) true good p q = p
+log-count k at (Ok _) (Ok _) false good p q = q
 
 -- every case has few lines
 pub few-lines : {r : Rules} → Coherent r → longest_lines r ≤ greatest_count

@@ -17,7 +17,7 @@ ghost use Rattle.judging.specs.Judging.{lines_counted, answer_at, state_of, star
 ghost use Rattle.judging.specs.Judging.{judgement_from, judgement_of, finish_judging};
 
 use checker::{Due, Replay};
-use definitions::{Case, CaseSize, Judgement, Refusal, RefusedAt};
+use definitions::{Case, Judgement, Refusal, RefusedAt};
 
 // The greatest count of lines.
 const GREATEST: usize = 9_223_372_036_854_775_807;
@@ -82,14 +82,11 @@ fn is_out(ended: Result<(), Refusal>) -> bool
 
 // A record that is good. The end asks 5 of the record, the carry and the edges, which are asked here again with the table.
 fn finish_good(case: Case, table: &[i64], replay: Replay, part: bool) -> Result<(), Refusal>
-    requires { replay.standing ≡ (Ok tt) }
+    requires { replay.standing ≡ Ok tt }
     ensures { result ≡ outcome_of (first_refusal (finish_tests case table.now replay part)) }
 {
     let ended = replay.end(case);
-    let checked = tables::check_working(case, table, false, is_out(ended));
-    if let Err(refusal) = checked {
-        return Err(refusal);
-    }
+    tables::check_working(case, table, false, is_out(ended))?;
     if part {
         return Err(Refusal::CutShort);
     }
@@ -133,7 +130,7 @@ fn good_judgement(
         Ok(bound) => Ok(Judgement::Accepted {
             rounds: replay.rounds,
             bound,
-        })),
+        }),
     }
 }
 
@@ -164,17 +161,9 @@ fn end_judgement(
 pub fn table_length(front: &[u8]) -> usize
     ensures { (result ≡ length (table_for (case_size Desk front.now))) × (result ≤ table_places) }
 {
-    let size = casefile::case_size(front);
-    match size {
+    match casefile::case_size(front) {
+        Ok(size) => size.table,
         Err(_) => 0,
-        Ok(
-            CaseSize {
-                n: _,
-                d: _,
-                m: _,
-                table,
-            },
-        ) => table,
     }
 }
 
@@ -197,14 +186,8 @@ pub fn start(front: &[u8], table: &mut [i64]) -> Judging
 pub fn block(judging: Judging, table: &mut [i64], bytes: &[u8]) -> Judging
     ensures { state_of result table.new ≡ block_judging (state_of judging table.old) bytes.now }
 {
-    let answer = judging.answer;
-    match answer {
-        Err(
-            RefusedAt {
-                refusal: _,
-                line: _,
-            },
-        ) => judging,
+    match judging.answer {
+        Err(_) => judging,
         Ok(passed) => block_from(judging, table, bytes, passed),
     }
 }
@@ -213,11 +196,8 @@ pub fn block(judging: Judging, table: &mut [i64], bytes: &[u8]) -> Judging
 pub fn judge(judging: Judging, table: &[i64], part: bool) -> Result<Judgement, RefusedAt>
     ensures { result ≡ judgement_of (state_of judging table.now) part }
 {
-    let answer = judging.answer;
-    match answer {
-        Err(RefusedAt { refusal, line }) => Err(RefusedAt { refusal, line }),
-        Ok(passed) => end_judgement(judging, table, part, passed),
-    }
+    let passed = judging.answer?;
+    end_judgement(judging, table, part, passed)
 }
 
 // Writes what `replay` prints where the input ends here: the text of the judgement.

@@ -64,7 +64,7 @@ u kind a b c = t kind a b c (pos 0)
 -- each line's number, up to the first that is not 0
 abbrev asked : Reading → List CaseDue → List Line → List ℕ
 asked g [] xs = []
-asked g (due ∷ dues) [] = []
+asked g (due ∷ _) [] = []
 asked g (due ∷ dues) (x ∷ xs) =
     elim (first_refusal (join_line_tests standard g due x)) [
       | None ↦ 0 ∷ asked (took g due (Some x)) dues xs
@@ -142,7 +142,7 @@ barred-numbers = refl
 -- what is read after these lines, and what is there where they are all
 abbrev read_to : Reading → List CaseDue → List Line → Reading
 read_to g [] xs = g
-read_to g (due ∷ dues) [] = g
+read_to g (due ∷ _) [] = g
 read_to g (due ∷ dues) (x ∷ xs) = read_to (took g due (Some x)) dues xs
 
 abbrev grown_after : Input → List ℤ → ℕ → List Line → WeightedCase

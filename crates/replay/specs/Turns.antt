@@ -1,7 +1,6 @@
 -- What the loop of `replay` makes of its input: bytes are handed over as blocks of whole lines, and a part line is kept; and what is printed of it.
 -- That what is read, and the answers of the reads, are the system's, no contract can say. Assumes nothing.
 use Rattle.definitions.specs.declared.RefusedAt.{RefusedAt}
-use Rattle.definitions.specs.Answers.{refused_at}
 use Rattle.std.specs.Prelude.{◌≡◌, false, not, ◌⊎◌, List, [], ◌++◌, ℕ, ◌*◌, ◌-◌, ◌/◌, ◌≤◌, ◌<◌, ◌%◌, ℤ, T, eqb, leb, length, take, drop, if◌then◌else◌, Result, Ok, Err}
 use Rattle.integers.specs.Words.{joined}
 use Rattle.integers.specs.Lists.{◌∈◌}

@@ -81,11 +81,8 @@ fn case_bytes(answer: Result<usize, RefusedAt>, most: usize) -> usize
     ensures { (result ≡ case_end answer most) × (result ≤ most) }
 {
     match answer {
-        Err(RefusedAt {
-            refusal: _,
-            line: _,
-        }) => most,
         Ok(lines) => lines_bytes(lines, most),
+        Err(_) => most,
     }
 }
 

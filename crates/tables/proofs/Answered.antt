@@ -8,7 +8,7 @@ use lib.IntN.{ℤ, pos}
 use lib.Dec.{T}
 use lib.ListN.{length}
 use borrow.Author.Tests.{eq-eqb, lt-ltb}
-use Rattle.std.specs.Prelude.{if◌then◌else◌, Ok, Err, Option, Some, None}
+use Rattle.std.specs.Prelude.{Ok, Err, Option, None}
 use Rattle.integers.specs.Words.{within_z, minus}
 use Rattle.integers.specs.Tests.{tests, is_true}
 use Rattle.definitions.specs.declared.Case.{Case}

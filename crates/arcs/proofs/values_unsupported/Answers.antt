@@ -1,9 +1,8 @@
 use Rattle.std.proofs.lemmas.Result.{err_from_is_err_and}
 use mathlib.Core.Path.{◌≡◌, sym, ap, ◌∙◌}
-use mathlib.Core.Bool.{Bool}
 use Prim.Native.Nat.{◌≤◌, ◌<◌}
 use lib.ListN.{length}
-use Rattle.std.specs.Prelude.{if◌then◌else◌, Ok, true, false}
+use Rattle.std.specs.Prelude.{Ok}
 use Rattle.definitions.specs.Rules.{rules_of}
 use Rattle.definitions.specs.Answers.{outcome_of}
 use Rattle.definitions.specs.Case.{scope_count}

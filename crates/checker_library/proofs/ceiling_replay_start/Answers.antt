@@ -13,4 +13,4 @@ pub returns : goal.returns
 unfolding start_record
 returns c =
     let e = c.fresh-replay.ensures ∙ ap (λ (x : Case). fresh_replay (rules_of x) x c.args.table.now) c.case_of.ensures in
-    (c.standing_number.ensures ∙ ap (λ (p : Replay). (outcome_says p.standing).number) e, c.write_record.ensures ∙ ap record_bytes e)
+    (c.outcome_number.ensures ∙ ap (λ (p : Replay). (outcome_says p.standing).number) e, c.write_record.ensures ∙ ap record_bytes e)

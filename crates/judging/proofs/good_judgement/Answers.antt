@@ -3,6 +3,7 @@ use mathlib.Core.Path.{◌≡◌, sym, ap, ◌∙◌}
 use mathlib.Core.Bool.{Bool}
 use Prim.Native.Nat.{ℕ}
 use native.Mathlib.Omega.{arith}
+use borrow.Author.Rules.{rules}
 use mir.Syntax.{w64}
 use Rattle.integers.specs.Linear.{read_back}
 use Rattle.std.specs.Prelude.{if◌then◌else◌, Result, Ok, ℤ}
@@ -29,5 +30,5 @@ returns-in-Ok c =
     let z = c.in-Ok.bound in
     let f = summed (goal.at.returns-in-Ok c).After-sum_of_greatest-sum c.in-Ok.is in
     let d : z ≡ bound = cc in
-    ap (Judgement.Accepted a.replay.rounds) (read_back w64 z c.in-Ok.known_told-in-Ok-1-own.given.0.1 ∙ d)
+    ap (λ (b : ℤ). Ok (Judgement.Accepted a.replay.rounds b)) (read_back w64 z (search rules) ∙ d)
     ∙ ap (λ (over : Bool). if over then Ok Judgement.Void else Ok (Judgement.Accepted a.replay.rounds bound)) (sym c.if-is_over.false ∙ c.is_over.ensures)

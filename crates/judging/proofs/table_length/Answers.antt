@@ -6,5 +6,5 @@ use Rattle.judging.proofs.table_length.Goals as goal
 
 pub returns-in-Ok : goal.returns-in-Ok
 returns-in-Ok c =
-    let e = size-given (sym c.case_size-size.ensures ∙ c.in-Ok.is) in
+    let e = size-given (sym c.case_size.ensures ∙ c.in-Ok.is) in
     (e, omega (arith, e, table-most Desk c.args.front.now))

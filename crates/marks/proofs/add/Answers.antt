@@ -1,5 +1,4 @@
 use Rattle.marks.proofs.Laws.{add_is, add_none}
-use borrow.Author.Rules.{rules}
 use Rattle.marks.proofs.add.Goals as goal
 
 -- `marks::add` meets its contract. Assumes nothing.

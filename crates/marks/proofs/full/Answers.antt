@@ -1,6 +1,4 @@
-use native.Mathlib.Omega.{arith}
-use Rattle.marks.proofs.Laws.{full_is, full-most, power_small}
-use borrow.Author.Rules.{rules}
+use Rattle.marks.proofs.Laws.{full_is, full-most}
 use Rattle.marks.proofs.full.Goals as goal
 
 -- `marks::full` meets its contract. Assumes nothing.

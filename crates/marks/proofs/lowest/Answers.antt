@@ -1,5 +1,3 @@
-use native.Mathlib.Omega.{arith}
-use lib.Count.{trailing_le, leading_le}
 use Rattle.marks.proofs.Laws.{lowest-is}
 use Rattle.marks.proofs.lowest.Goals as goal
 

@@ -1,5 +1,4 @@
 use Rattle.marks.proofs.Laws.{only-is, only_none}
-use borrow.Author.Rules.{rules}
 use Rattle.marks.proofs.only.Goals as goal
 
 -- `marks::only` meets its contract. Assumes nothing.

@@ -1,5 +1,4 @@
 use Rattle.marks.proofs.Laws.{strike-is, strike-none}
-use borrow.Author.Rules.{rules}
 use Rattle.marks.proofs.strike.Goals as goal
 
 -- `marks::strike` meets its contract. Assumes nothing.
