@@ -22,8 +22,7 @@ struct Log {
 // ---- the calls
 
 fn print_run(run: Run) {
-    let answer = run.answer;
-    match answer {
+    match run.answer {
         Ok(RunAnswer::Settled) => {
             drivers::print(b" settled");
         }
@@ -95,15 +94,12 @@ fn sum_of_first(earlier: u64, text: &[u8], n: usize) -> u64 {
 }
 
 fn next(case: Case, table: &mut [i64], out: &mut [u8], log: Log) -> Log {
-    let round = engine::round(case, table, out);
-    match round {
+    match engine::round(case, table, out) {
         Ok(Round::Made { bytes, bound }) => Log {
             sum: sum_of_first(log.sum, out, bytes),
             bound,
         },
-        Ok(Round::Settled) => log,
-        Ok(Round::Void { bytes: _ }) => log,
-        Err(_) => log,
+        _ => log,
     }
 }
 
@@ -142,7 +138,7 @@ fn call(case: Case, table: &mut [i64], out: &mut [u8], line: Line) {
     if line.kind == 20 {
         run(case, table, out, most);
     } else if line.kind == 21 {
-        let _ = round(case, table, out);
+        round(case, table, out);
     } else if line.kind == 24 {
         run_pairs(case, table, out, most);
     } else {
