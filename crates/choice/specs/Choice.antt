@@ -1,5 +1,5 @@
 -- The lowest variable whose values have no supported family, over value sets as bytes. Assumes nothing.
-use Rattle.std.specs.Prelude.{Bool, true, false, List, ℕ, length, get_or, Option, Some, None}
+use Rattle.std.specs.Prelude.{Bool, true, false, List, ℕ, length, get_or, Option}
 use Rattle.integers.specs.Words.{below, those, first}
 use Rattle.arcs.specs.Tried.{tried_answer}
 use Rattle.arcs.specs.declared.Tried.{Tried}

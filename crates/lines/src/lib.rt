@@ -183,7 +183,13 @@ fn read_wide(t: &[u8]) -> Option<i64>
 }
 
 // The line of five columns, if each is a number.
-fn line_of(kind: Option<i64>, a: Option<i64>, b: Option<i64>, c: Option<i64>, amount: Option<i64>) -> Result<Line, Refusal>
+fn line_of(
+    kind: Option<i64>,
+    a: Option<i64>,
+    b: Option<i64>,
+    c: Option<i64>,
+    amount: Option<i64>,
+) -> Result<Line, Refusal>
     ensures { result ≡ line_answer (line_found (column_found kind) (column_found a) (column_found b) (column_found c) (column_found amount)) }
 {
     let Some(kind) = kind else {

@@ -170,7 +170,13 @@ fn last_too_wide(entry: Entry, width: usize) -> bool
 }
 
 // The lines, where there is room for them, unless a number is too wide.
-fn write_lines(out: &mut [u8], raised: &[u8], first: Line, entry: Entry, width: usize) -> Result<usize, Refusal>
+fn write_lines(
+    out: &mut [u8],
+    raised: &[u8],
+    first: Line,
+    entry: Entry,
+    width: usize,
+) -> Result<usize, Refusal>
     requires few { (length raised.now < 10 ^ 4) × T (not (width_out width)) }
     requires in_bounds { line_length width * (length (raised_below raised.now (length raised.now)) + 1 + length (last_lines entry)) ≤ length out.old }
     ensures value { result ≡ (put_call width first (last_lines entry) (raised_below raised.now (length raised.now)) out.old).answer }

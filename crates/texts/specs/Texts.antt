@@ -5,7 +5,7 @@ use Rattle.definitions.specs.declared.Judgement.{Judgement}
 use Rattle.definitions.specs.declared.Refusal.{Refusal}
 use Rattle.definitions.specs.declared.Refusal.TheVariants.{WrongLength, OutOfRange}
 use Rattle.definitions.specs.Refusals.{◌when◌, first_refusal}
-use Rattle.definitions.specs.Answers.{unless_refused, refused_at, answer_of}
+use Rattle.definitions.specs.Answers.{unless_refused, answer_of}
 use Rattle.definitions.specs.Lines.{number_text, overwritten}
 use Rattle.calls.specs.Calls.{WriteCall}
 use Rattle.definitions.specs.Programs.{bytes_of, refused_text, accepted_text, judgement_text}

@@ -1,6 +1,4 @@
 use mathlib.Core.Path.{ap, ◌∙◌}
-use mathlib.Core.List.{List}
-use Prim.Native.Nat.{ℕ}
 use Rattle.choice.specs.Choice.{lowest_unsupported}
 use Rattle.choice.proofs.Firsts.{lowest-narrowed}
 use Rattle.choice.proofs.lowest_unsupported.Goals as goal
