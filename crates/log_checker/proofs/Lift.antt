@@ -1,6 +1,7 @@
 -- Where nothing handed over is refused and no join is begun, a line that changes no links is the stretch's: the step is that of the stretch, and
 -- what it leaves is good again. Lines that change links are never due in a stretch. Assumes nothing.
-use Rattle.std.specs.Prelude.{Result, Ok, Err, Option, Some, None, ⊤}
+use Rattle.log_checker.specs.declared.JoinBegun.{JoinBegun}
+use Rattle.std.specs.Prelude.{Result, Ok, Err, Option, Some, None, ⊤, None}
 use mathlib.Core.Path.{◌≡◌, refl, sym, ap, subst, ◌∙◌}
 use mathlib.Core.Logic.{◌≢◌, ⊎_elim}
 use mathlib.Core.Bool.{Bool, true, false, not, ◌&&◌, ◌||◌}
@@ -29,7 +30,6 @@ use Rattle.checker.specs.Checker.{StepCall as StretchCall, step_refused as refus
 use Rattle.checker.specs.Checker.{step_standing as stretch_standing, step_replay as step_stretch}
 use Rattle.checker.proofs.Front.{good-out, good-next, good-not-due}
 use Rattle.checker.proofs.Leaves.{step-leaves}
-use Rattle.log_checker.specs.declared.Joining.{Joining}
 use Rattle.log_checker.specs.Checker.{Between, LineAsked, is_between, lent_tests, lent_number, of_move, of_line, step_by, step_line}
 use Rattle.log_checker.specs.Checker.{step_standing, step_replay}
 use Rattle.log_checker.specs.Taken.{Settled, changes_links, step_refused, lifted}
@@ -64,21 +64,21 @@ module _ (r : Rules) (t : Line) where
 
 module _ (b : Between) where
   -- of both tables and the record, by whether a number applies
-  pub lent_both : b.replay.joining ≡ Joining.Nothing → lent_number (rules_of b.case) b ≡ None
+  pub lent_both : b.replay.joining ≡ None → lent_number (rules_of b.case) b ≡ None
       → BothHanded (rules_of b.case) b.case b.starting b.table × T (not (record_out (rules_of b.case) b.case b.replay.stretch))
   lent_both j e =
       let r = rules_of b.case in
       let out = record_out r b.case b.replay.stretch in
       (both-handed r b.case b.starting b.table out).0
       ((none-iff (first_refusal (both_handed_over r b.case b.starting b.table out))).1
-      (ap (λ (k : Joining). first_refusal (lent_tests r b k)) (sym j) ∙ e))
+      (ap (λ (k : Option JoinBegun). first_refusal (lent_tests r b k)) (sym j) ∙ e))
 
-  pub both-lent : b.replay.joining ≡ Joining.Nothing → BothHanded (rules_of b.case) b.case b.starting b.table
+  pub both-lent : b.replay.joining ≡ None → BothHanded (rules_of b.case) b.case b.starting b.table
       → T (not (record_out (rules_of b.case) b.case b.replay.stretch)) → lent_number (rules_of b.case) b ≡ None
   both-lent j h o =
       let r = rules_of b.case in
       let out = record_out r b.case b.replay.stretch in
-      ap (λ (k : Joining). first_refusal (lent_tests r b k)) j
+      ap (λ (k : Option JoinBegun). first_refusal (lent_tests r b k)) j
       ∙ (none-iff (first_refusal (both_handed_over r b.case b.starting b.table out))).0 ((both-handed r b.case b.starting b.table out).1 (h, o))
 
   module _ (s : Settled b) where
@@ -127,7 +127,7 @@ module _ (b : Between) (s : Settled b) where
         → step_line r b (Some t) ≡ lifted b (stretch_line r b.case b.table p (Some t))
     unfolding number
     lift-line d e =
-        let f : of_line r b b.replay.joining t ≡ of_move r b asked t = ap (λ (j : Joining). of_line r b j t) s.unjoined ∙ rw (d, e) in
+        let f : of_line r b b.replay.joining t ≡ of_move r b asked t = ap (λ (j : Option JoinBegun). of_line r b j t) s.unjoined ∙ rw (d, e) in
         ap (λ (a : LineAsked). step_by r b a (sooner (lent_number r b) (first_refusal a.tests))) f
         ∙ ap (λ (o : Option Refusal). step_by r b (of_move r b asked t) (sooner o number)) s.lent.unrefused
         ∙ by_number number ∙ ap (lifted b) (sym same_number)

@@ -1,5 +1,6 @@
 -- The replay's calls on all input: a fresh record, a step on one line of any bytes, the end, and a block of lines. They go by the record and the
 -- tables that are handed over, whatever these hold, and take nothing from the plain replay. Assumes nothing.
+use Rattle.log_checker.specs.declared.JoinBegun.{JoinBegun}
 use Rattle.definitions.specs.declared.RefusedAt.{RefusedAt}
 use Rattle.std.specs.Prelude.{Bool, true, false, not, ◌&&◌, ◌||◌, List, [], ◌∷◌, ℕ, ℤ, nat_abs, eqb, replicate, if◌then◌else◌, Result, Ok, Err, Option, Some, None, ⊤}
 use Rattle.definitions.specs.declared.Case.{Case}
@@ -11,7 +12,6 @@ use Rattle.case_lines.specs.declared.Awaited.{Awaited}
 use Rattle.case_lines.specs.declared.Sizes.{Sizes}
 use Rattle.checker.specs.declared.Due.{Due}
 use Rattle.checker.specs.declared.Replay.{Replay as Stretch}
-use Rattle.log_checker.specs.declared.Joining.{Joining}
 use Rattle.log_checker.specs.declared.LogRecord.{LogRecord}
 use Rattle.definitions.specs.Rules.{Rules, edge_places}
 use Rattle.definitions.specs.Refusals.{Test, ◌when◌, first_refusal, sooner}
@@ -57,10 +57,13 @@ abbrev pub no_ends : List ℕ
 no_ends = replicate edge_places 0
 
 abbrev pub without_join : Stretch → List ℕ → LogRecord
-without_join p lower = record { stretch = p; joining = Joining.Nothing; lower = lower }
+without_join p lower = record { stretch = p; joining = None; lower = lower }
+
+abbrev pub join_begun : ℕ → Awaited → JoinBegun
+join_begun edges due = record { edges = edges; due = due }
 
 abbrev pub in_join : LogRecord → ℕ → Awaited → List ℕ → LogRecord
-in_join p edges due lower = record { stretch = p.stretch; joining = Joining.Lines edges due; lower = lower }
+in_join p edges due lower = record { stretch = p.stretch; joining = Some (join_begun edges due); lower = lower }
 
 abbrev pub with_stretch : LogRecord → Stretch → LogRecord
 with_stretch p s = record { stretch = s; joining = p.joining; lower = p.lower }
@@ -97,9 +100,9 @@ abbrev pub join_sizes : Case → ℕ → Sizes
 join_sizes c p = record { n = 1; d = c.d; m = p; rulebook = c.rulebook }
 
 -- "a refused line or end sets them to 0": the weights that wait
-abbrev pub waiting_at : Case → List ℤ → Joining → List ℤ
-waiting_at c w₀ Joining.Nothing = w₀
-waiting_at c w₀ (Joining.Lines p due) = zeroed_from (own_length c) w₀
+abbrev pub waiting_at : Case → List ℤ → Option JoinBegun → List ℤ
+waiting_at c w₀ None = w₀
+waiting_at c w₀ (Some j) = zeroed_from (own_length c) w₀
 
 -- the judgement of a log with no number, by what stands after it
 abbrev pub good_in : Between → Result Judgement RefusedAt
@@ -115,10 +118,10 @@ module _ (r : Rules) where
 
   -- ---- what is asked of everything handed over, but for the line: 3 to 8 and 15
 
-  abbrev pub lent_tests : Between → Joining → List Test
-  lent_tests b Joining.Nothing = both_handed_over r b.case b.starting b.table (record_out r b.case b.replay.stretch)
-  lent_tests b (Joining.Lines p due) =
-      waiting_tests r b.case b.starting b.table p (due_awaited due) b.replay.lower
+  abbrev pub lent_tests : Between → Option JoinBegun → List Test
+  lent_tests b None = both_handed_over r b.case b.starting b.table (record_out r b.case b.replay.stretch)
+  lent_tests b (Some j) =
+      waiting_tests r b.case b.starting b.table j.edges (due_awaited j.due) b.replay.lower
       (record_out r b.case b.replay.stretch || not (is_between b.replay.stretch))
 
   abbrev pub lent_number : Between → Option Refusal
@@ -174,9 +177,9 @@ module _ (r : Rules) where
     };
   }
 
-  abbrev pub of_line : Between → Joining → Line → LineAsked
-  of_line b (Joining.Lines p due) t = of_join_line b p due t
-  of_line b Joining.Nothing t =
+  abbrev pub of_line : Between → Option JoinBegun → Line → LineAsked
+  of_line b (Some j) t = of_join_line b j.edges j.due t
+  of_line b None t =
       if is_between b.replay.stretch && is_kind 7 t then of_leave b t
       else if is_between b.replay.stretch && is_kind 8 t then of_join b t
       else of_move b (of_due r b.case b.table b.replay.stretch b.replay.stretch.due t) t
@@ -219,9 +222,9 @@ module _ (r : Rules) where
   -- ---- end: the number that stands, else 3 to 8 and 15 of what was handed over, else 14 if a press, a void line or a join is begun or a move has no
   -- bound line after it; after a whole void line there is no 14
 
-  abbrev pub is_cut_short : LogRecord → Joining → Bool
-  is_cut_short p Joining.Nothing = is_short p.stretch.due p.stretch.moved
-  is_cut_short p (Joining.Lines edges due) = true
+  abbrev pub is_cut_short : LogRecord → Option JoinBegun → Bool
+  is_cut_short p None = is_short p.stretch.due p.stretch.moved
+  is_cut_short p (Some j) = true
 
   abbrev pub end_lent : Between → Option Refusal → EndCall
   end_lent b (Some x) = record { answer = Err x; starting = b.starting }

@@ -1,6 +1,7 @@
 -- Samples of the replay's calls on all input, with links that leave and join (document 02, change 5), in tables as those of Borders. Assumes
 -- nothing.
-use Rattle.std.specs.Prelude.{refl, Bool, true, false, ◌&&◌, List, [], ◌∷◌, ◌++◌, map, ℕ, ◌+◌, ◌-◌, ℤ, pos, eqb, length, take, replicate, if◌then◌else◌, Ok, None}
+use Rattle.log_checker.specs.declared.JoinBegun.{JoinBegun}
+use Rattle.std.specs.Prelude.{refl, Bool, true, false, ◌&&◌, List, [], ◌∷◌, ◌++◌, map, ℕ, ◌+◌, ◌-◌, ℤ, pos, eqb, length, take, replicate, if◌then◌else◌, Ok, None, Option, Some, None}
 use Rattle.integers.specs.Words.{joined, minus}
 use Rattle.definitions.specs.Rules.{standard}
 use Rattle.definitions.specs.Answers.{outcome_says}
@@ -16,8 +17,7 @@ use Rattle.checker.specs.declared.Target.{Target}
 use Rattle.checker.specs.declared.Due.{Due}
 use Rattle.checker.specs.declared.Replay.{Replay as Stretch}
 use Rattle.checker.specs.Checker.{none_raised, fresh_replay as fresh_stretch}
-use Rattle.log_checker.specs.declared.Joining.{Joining}
-use Rattle.log_checker.specs.Checker.{Between, fresh_replay, step_replay, end_replay, after_lines, block_replay, fold_replay}
+use Rattle.log_checker.specs.Checker.{Between, fresh_replay, step_replay, end_replay, after_lines, block_replay, fold_replay, join_begun}
 
 -- ---- what is handed over
 
@@ -32,7 +32,7 @@ abbrev places : List ℕ → List ℕ
 places ends = ends ++ replicate (96 - length ends) 0
 
 -- a case and its starting table, its working table, and a record
-abbrev handing : Input → Input → Stretch → Joining → List ℕ → Between
+abbrev handing : Input → Input → Stretch → Option JoinBegun → List ℕ → Between
 handing i v s joining lower = record {
   case = i.case;
   starting = i.weights;
@@ -46,7 +46,7 @@ waiting zs = with_table small (full 1 (pos 1 ∷ pos 2 ∷ pos 3 ∷ zs))
 
 -- in the middle of a join of p pairs to it
 abbrev middle : ℕ → Awaited → List ℕ → List ℤ → Between
-middle p due lower zs = handing (waiting zs) small quiet (Joining.Lines p due) lower
+middle p due lower zs = handing (waiting zs) small quiet (Some (join_begun p due)) lower
 
 -- the number of what is handed over: that of a block of no lines
 abbrev lent : Between → ℕ
@@ -76,10 +76,10 @@ pub records :
     -- 3: the join past the limits, whatever else is wrong; 5: a count above n
     ∷ lent (middle 95 link [] []) is 5 ∷ lent (middle 96 link [] []) is 3 ∷ lent (middle 3 link [] []) is 5
     ∷ lent (middle 96 (pair 9) (9 ∷ []) (tens 3)) is 3
-    ∷ lent (handing (crowd 1) (crowd 1) quiet (Joining.Lines 0 link) []) is 3
+    ∷ lent (handing (crowd 1) (crowd 1) quiet (Some (join_begun 0 link)) []) is 3
     -- 4 of either table, before 5
-    ∷ lent (handing (with_table small (zeros 143)) small quiet (Joining.Lines 3 link) []) is 4
-    ∷ lent (handing small (with_table small (zeros 145)) quiet (Joining.Lines 3 link) []) is 4
+    ∷ lent (handing (with_table small (zeros 143)) small quiet (Some (join_begun 3 link)) []) is 4
+    ∷ lent (handing small (with_table small (zeros 145)) quiet (Some (join_begun 3 link)) []) is 4
     -- 5: a line that is none of the join's
     ∷ lent (middle 2 (Awaited.VariableWeight 1 0) [] []) is 5 ∷ lent (middle 2 (Awaited.VariableWeight 0 1) [] []) is 5
     ∷ lent (middle 0 (ends 0) [] (tens 1)) is 5 ∷ lent (middle 2 (ends 2) (0 ∷ 1 ∷ []) (tens 3)) is 5
@@ -90,26 +90,26 @@ pub records :
     ∷ lent (middle 2 (pair 1) (0 ∷ 2 ∷ []) (tens 2)) is 5
     ∷ lent (middle 2 (ends 0) (255 ∷ []) (tens 1)) is 0 ∷ lent (middle 2 (ends 1) (0 ∷ 255 ∷ []) (tens 2)) is 0
     -- 5: a stretch that is not between rounds, too many rounds, a carry
-    ∷ lent (handing small small (stretch_at 0 true Due.MoveOrBound) (Joining.Lines 2 link) []) is 5
-    ∷ lent (handing small small (stretch_at 0 false (Due.Raise 0 (Target.Press (pos 1)) 1 None)) (Joining.Lines 2 link) []) is 5
-    ∷ lent (handing small small (stretch_at 0 false Due.Nothing) (Joining.Lines 2 link) []) is 5
-    ∷ lent (handing small small (stretch_at 999_999_999_999_999_999 false Due.MoveOrBound) (Joining.Lines 2 link) []) is 0
-    ∷ lent (handing small small (stretch_at 1_000_000_000_000_000_000 false Due.MoveOrBound) (Joining.Lines 2 link) []) is 5
-    ∷ lent (handing (carrying (pos C1) small) small quiet (Joining.Lines 2 link) []) is 5
+    ∷ lent (handing small small (stretch_at 0 true Due.MoveOrBound) (Some (join_begun 2 link)) []) is 5
+    ∷ lent (handing small small (stretch_at 0 false (Due.Raise 0 (Target.Press (pos 1)) 1 None)) (Some (join_begun 2 link)) []) is 5
+    ∷ lent (handing small small (stretch_at 0 false Due.Nothing) (Some (join_begun 2 link)) []) is 5
+    ∷ lent (handing small small (stretch_at 999_999_999_999_999_999 false Due.MoveOrBound) (Some (join_begun 2 link)) []) is 0
+    ∷ lent (handing small small (stretch_at 1_000_000_000_000_000_000 false Due.MoveOrBound) (Some (join_begun 2 link)) []) is 5
+    ∷ lent (handing (carrying (pos C1) small) small quiet (Some (join_begun 2 link)) []) is 5
     -- 6 of the case; 7: a lower link twice, before 8
-    ∷ lent (handing (edges 1 1 0 []) (edges 1 1 0 []) quiet (Joining.Lines 2 link) []) is 6
+    ∷ lent (handing (edges 1 1 0 []) (edges 1 1 0 []) quiet (Some (join_begun 2 link)) []) is 6
     ∷ lent (middle 2 (pair 1) (1 ∷ 1 ∷ []) (tens 2)) is 7 ∷ lent (middle 2 (pair 1) (1 ∷ 1 ∷ []) (tens 3)) is 7
     ∷ lent (middle 2 (ends 1) (1 ∷ 1 ∷ []) (tens 2)) is 0
     -- 8: a weight that waits is outside its range, or none waits there
     ∷ lent (middle 2 (ends 0) [] (pos 1_000_000 ∷ [])) is 0 ∷ lent (middle 2 (ends 0) [] (pos 1_000_001 ∷ [])) is 8
     ∷ lent (middle 2 (ends 0) [] (minus 1_000_001 ∷ [])) is 8 ∷ lent (middle 2 link [] (tens 1)) is 8 ∷ lent (middle 2 (ends 0) [] (tens 2)) is 8
     ∷ lent (middle 2 (pair 0) (0 ∷ []) (tens 2)) is 8 ∷ lent (middle 2 (ends 0) [] (pos 10 ∷ B ∷ [])) is 8
-    ∷ lent (handing (put_at 143 (pos 1) small) small quiet (Joining.Lines 2 link) []) is 8
+    ∷ lent (handing (put_at 143 (pos 1) small) small quiet (Some (join_begun 2 link)) []) is 8
     -- 8: the working table past the own places, barred in one table only; 15: a whole scope is barred, of the case or of those that wait
-    ∷ lent (handing (waiting (tens 1)) (waiting (tens 1)) quiet (Joining.Lines 2 (ends 0)) []) is 8
-    ∷ lent (handing (put_at 0 B small) small quiet (Joining.Lines 2 link) []) is 8
-    ∷ lent (handing small (put_at 0 B small) quiet (Joining.Lines 2 link) []) is 8
-    ∷ lent (handing (put_at 0 B small) (put_at 0 B small) quiet (Joining.Lines 2 link) []) is 15
+    ∷ lent (handing (waiting (tens 1)) (waiting (tens 1)) quiet (Some (join_begun 2 (ends 0))) []) is 8
+    ∷ lent (handing (put_at 0 B small) small quiet (Some (join_begun 2 link)) []) is 8
+    ∷ lent (handing small (put_at 0 B small) quiet (Some (join_begun 2 link)) []) is 8
+    ∷ lent (handing (put_at 0 B small) (put_at 0 B small) quiet (Some (join_begun 2 link)) []) is 15
     ∷ lent (middle 2 (ends 0) [] (B ∷ [])) is 15 ∷ lent (middle 2 (ends 1) (0 ∷ []) (pos 10 ∷ B ∷ [])) is 15
     ∷ lent (middle 2 (ends 1) (0 ∷ []) (B ∷ pos 1_000_001 ∷ [])) is 8
     ∷ [])
@@ -119,7 +119,7 @@ records = refl
 -- D 2: a scope of which some weights wait is not whole
 pub halves :
     let half : Awaited → List ℤ → ℕ = λ due zs.
-    lent (handing (with_table clash (full 2 (take 8 clash.weights ++ zs))) clash quiet (Joining.Lines 1 due) (1 ∷ []))
+    lent (handing (with_table clash (full 2 (take 8 clash.weights ++ zs))) clash quiet (Some (join_begun 1 due)) (1 ∷ []))
     in
     Hold
     (half (Awaited.VariableWeight 0 1) (B ∷ []) is 0 ∷ half (Awaited.EdgeEnds 0) (B ∷ pos 5 ∷ []) is 0 ∷ half (Awaited.EdgeEnds 0) (B ∷ B ∷ []) is 15
@@ -140,7 +140,7 @@ fill zs = zs ++ zeros (8 - length zs)
 
 -- the number that stands, the join, the first three lower links; both tables; the case
 abbrev Told : Type 0
-Told = (ℕ × Joining × List ℕ) × (List ℤ × List ℤ) × ToldCase
+Told = (ℕ × (Option JoinBegun) × List ℕ) × (List ℤ × List ℤ) × ToldCase
 
 abbrev told : Between → Told
 told b = (
@@ -154,24 +154,24 @@ abbrev step : Between → List ℕ → ℕ × Told
 step b t = ((outcome_says (step_replay standard b t).answer).number, told (step_replay standard b t).after)
 
 -- what is left of the small case: nothing but the number, the join, the lower links and the weights that wait
-abbrev leaves : ℕ → Joining → List ℕ → List ℤ → ℕ × Told
+abbrev leaves : ℕ → Option JoinBegun → List ℕ → List ℤ → ℕ × Told
 leaves number joining lower zs =
     let own : List ℤ = map pos (1 ∷ 2 ∷ 3 ∷ []) in
     (number, ((number, joining, take 3 (places lower)), (fill (own ++ zs), fill own), told_case small.case))
 
 pub steps :
-    let begun : Between = handing small small quiet Joining.Nothing (7 ∷ 8 ∷ 9 ∷ []) in
+    let begun : Between = handing small small quiet None (7 ∷ 8 ∷ 9 ∷ []) in
     Hold
     ( -- a join is begun; its lines, each of which leaves the next one due; what was in the places for lower links stays until it is read
-    step begun (l 8 2 0 0 0) is leaves 0 (Joining.Lines 2 link) (7 ∷ 8 ∷ 9 ∷ []) []
-    ∷ step (middle 2 link (7 ∷ 8 ∷ 9 ∷ []) []) (l 11 2 0 0 10) is leaves 0 (Joining.Lines 2 (ends 0)) (7 ∷ 8 ∷ 9 ∷ []) (tens 1)
-    ∷ step (middle 2 (ends 0) (7 ∷ 8 ∷ 9 ∷ []) (tens 1)) (l 12 1 0 2 0) is leaves 0 (Joining.Lines 2 (pair 0)) (0 ∷ 8 ∷ 9 ∷ []) (tens 1)
-    ∷ step (middle 2 (pair 0) (0 ∷ 8 ∷ 9 ∷ []) (tens 1)) (l 13 1 0 0 20) is leaves 0 (Joining.Lines 2 (ends 1)) (0 ∷ 8 ∷ 9 ∷ []) (tens 2)
-    ∷ step (middle 2 (ends 1) (0 ∷ 8 ∷ 9 ∷ []) (tens 2)) (l 12 2 1 2 0) is leaves 0 (Joining.Lines 2 (pair 1)) (0 ∷ 1 ∷ 9 ∷ []) (tens 2)
+    step begun (l 8 2 0 0 0) is leaves 0 (Some (join_begun 2 link)) (7 ∷ 8 ∷ 9 ∷ []) []
+    ∷ step (middle 2 link (7 ∷ 8 ∷ 9 ∷ []) []) (l 11 2 0 0 10) is leaves 0 (Some (join_begun 2 (ends 0))) (7 ∷ 8 ∷ 9 ∷ []) (tens 1)
+    ∷ step (middle 2 (ends 0) (7 ∷ 8 ∷ 9 ∷ []) (tens 1)) (l 12 1 0 2 0) is leaves 0 (Some (join_begun 2 (pair 0))) (0 ∷ 8 ∷ 9 ∷ []) (tens 1)
+    ∷ step (middle 2 (pair 0) (0 ∷ 8 ∷ 9 ∷ []) (tens 1)) (l 13 1 0 0 20) is leaves 0 (Some (join_begun 2 (ends 1))) (0 ∷ 8 ∷ 9 ∷ []) (tens 2)
+    ∷ step (middle 2 (ends 1) (0 ∷ 8 ∷ 9 ∷ []) (tens 2)) (l 12 2 1 2 0) is leaves 0 (Some (join_begun 2 (pair 1))) (0 ∷ 1 ∷ 9 ∷ []) (tens 2)
     ∷ step (middle 2 (pair 1) (0 ∷ 1 ∷ 9 ∷ []) (tens 2)) (l 13 2 0 0 30) is (
       0,
       (
-        (0, Joining.Nothing, 0 ∷ 1 ∷ 9 ∷ []),
+        (0, None, 0 ∷ 1 ∷ 9 ∷ []),
         (fill (map pos (1 ∷ 2 ∷ 10 ∷ 3 ∷ 20 ∷ 30 ∷ [])), fill (map pos (1 ∷ 2 ∷ 10 ∷ 3 ∷ 20 ∷ 30 ∷ []))),
         paired 3 1 (0 ∷ 0 ∷ 1 ∷ []) (1 ∷ 2 ∷ 2 ∷ []) (pos 0),
       ),
@@ -180,14 +180,14 @@ pub steps :
     ∷ step (middle 0 link [] []) (l 11 2 0 0 10) is (
       0,
       (
-        (0, Joining.Nothing, 0 ∷ 0 ∷ 0 ∷ []),
+        (0, None, 0 ∷ 0 ∷ 0 ∷ []),
         (fill (map pos (1 ∷ 2 ∷ 10 ∷ 3 ∷ [])), fill (map pos (1 ∷ 2 ∷ 10 ∷ 3 ∷ []))),
         paired 3 1 (0 ∷ []) (1 ∷ []) (pos 0),
       ),
     )
     ∷ step begun (l 7 0 0 0 0) is (
       0,
-      ((0, Joining.Nothing, 7 ∷ 8 ∷ 9 ∷ []), (fill (pos 2 ∷ []), fill (pos 2 ∷ [])), paired 1 1 [] [] (pos 0)),
+      ((0, None, 7 ∷ 8 ∷ 9 ∷ []), (fill (pos 2 ∷ []), fill (pos 2 ∷ [])), paired 1 1 [] [] (pos 0)),
     )
     ∷ [])
 unfolding step_replay
@@ -197,35 +197,35 @@ steps = refl
 
 pub refusals :
     let at : Between = middle 2 (ends 1) (0 ∷ []) (tens 2) in
-    let zeroed : ℕ → ℕ × Told = λ number. leaves number (Joining.Lines 2 (ends 1)) (0 ∷ []) [] in
+    let zeroed : ℕ → ℕ × Told = λ number. leaves number (Some (join_begun 2 (ends 1))) (0 ∷ []) [] in
     let last : Between = middle 2 (pair 1) (0 ∷ 1 ∷ []) (tens 2) in
-    let zeroed_last : ℕ → ℕ × Told = λ number. leaves number (Joining.Lines 2 (pair 1)) (0 ∷ 1 ∷ []) [] in
+    let zeroed_last : ℕ → ℕ × Told = λ number. leaves number (Some (join_begun 2 (pair 1))) (0 ∷ 1 ∷ []) [] in
     Hold
     ( -- a line: 1, 2, 5, 6, 7, and 8, 15 of the last one
     step at [] is zeroed 1 ∷ step at (l 13 2 0 0 30) is zeroed 2 ∷ step at (l 7 0 0 0 0) is zeroed 2 ∷ step at (l 12 2 1 2 1) is zeroed 2
     ∷ step at (l 12 1 1 2 0) is zeroed 5 ∷ step at (l 12 2 1 1 0) is zeroed 5 ∷ step at (l 12 2 2 2 0) is zeroed 6 ∷ step at (l 12 2 0 2 0) is zeroed 7
     ∷ step last (l 13 2 0 0 1_000_001) is zeroed_last 8 ∷ step last (l 15 2 0 0 0) is zeroed_last 15 ∷ step last (l 13 2 0 1 30) is zeroed_last 5
-    ∷ step (middle 2 link [] []) (l 14 2 0 0 0) is leaves 15 (Joining.Lines 2 link) [] []
+    ∷ step (middle 2 link [] []) (l 14 2 0 0 0) is leaves 15 (Some (join_begun 2 link)) [] []
     -- a record: a count above n, a line that is none of the join's, a lower link twice; weights that wait
-    ∷ step (middle 3 (ends 1) (0 ∷ []) (tens 2)) (l 12 2 1 2 0) is leaves 5 (Joining.Lines 3 (ends 1)) (0 ∷ []) (tens 2)
-    ∷ step (middle 2 (ends 2) (0 ∷ []) (tens 2)) (l 12 3 1 2 0) is leaves 5 (Joining.Lines 2 (ends 2)) (0 ∷ []) (tens 2)
-    ∷ step (middle 2 (pair 1) (1 ∷ 1 ∷ []) (tens 2)) (l 13 2 0 0 30) is leaves 7 (Joining.Lines 2 (pair 1)) (1 ∷ 1 ∷ []) (tens 2)
-    ∷ step (middle 2 (ends 1) (0 ∷ []) (tens 3)) (l 12 2 1 2 0) is leaves 8 (Joining.Lines 2 (ends 1)) (0 ∷ []) (tens 3)
-    ∷ step (middle 2 (ends 1) (0 ∷ []) (pos 10 ∷ B ∷ [])) (l 12 2 1 2 0) is leaves 15 (Joining.Lines 2 (ends 1)) (0 ∷ []) (pos 10 ∷ B ∷ [])
+    ∷ step (middle 3 (ends 1) (0 ∷ []) (tens 2)) (l 12 2 1 2 0) is leaves 5 (Some (join_begun 3 (ends 1))) (0 ∷ []) (tens 2)
+    ∷ step (middle 2 (ends 2) (0 ∷ []) (tens 2)) (l 12 3 1 2 0) is leaves 5 (Some (join_begun 2 (ends 2))) (0 ∷ []) (tens 2)
+    ∷ step (middle 2 (pair 1) (1 ∷ 1 ∷ []) (tens 2)) (l 13 2 0 0 30) is leaves 7 (Some (join_begun 2 (pair 1))) (1 ∷ 1 ∷ []) (tens 2)
+    ∷ step (middle 2 (ends 1) (0 ∷ []) (tens 3)) (l 12 2 1 2 0) is leaves 8 (Some (join_begun 2 (ends 1))) (0 ∷ []) (tens 3)
+    ∷ step (middle 2 (ends 1) (0 ∷ []) (pos 10 ∷ B ∷ [])) (l 12 2 1 2 0) is leaves 15 (Some (join_begun 2 (ends 1))) (0 ∷ []) (pos 10 ∷ B ∷ [])
     -- a line and a record: the line's number, which comes first, and nothing is set to 0
-    ∷ step (middle 3 (ends 1) (0 ∷ []) (tens 2)) (l 7 0 0 0 0) is leaves 2 (Joining.Lines 3 (ends 1)) (0 ∷ []) (tens 2)
-    ∷ step (middle 2 (ends 1) (0 ∷ []) (tens 3)) (l 12 2 2 2 0) is leaves 6 (Joining.Lines 2 (ends 1)) (0 ∷ []) (tens 3)
+    ∷ step (middle 3 (ends 1) (0 ∷ []) (tens 2)) (l 7 0 0 0 0) is leaves 2 (Some (join_begun 3 (ends 1))) (0 ∷ []) (tens 2)
+    ∷ step (middle 2 (ends 1) (0 ∷ []) (tens 3)) (l 12 2 2 2 0) is leaves 6 (Some (join_begun 2 (ends 1))) (0 ∷ []) (tens 3)
     -- nothing waits: a refused leave, and a refused join
-    ∷ step (handing small small quiet Joining.Nothing []) (l 7 2 0 0 0) is leaves 5 Joining.Nothing [] []
-    ∷ step (handing small small quiet Joining.Nothing []) (l 8 3 0 0 0) is leaves 5 Joining.Nothing [] []
+    ∷ step (handing small small quiet None []) (l 7 2 0 0 0) is leaves 5 None [] []
+    ∷ step (handing small small quiet None []) (l 8 3 0 0 0) is leaves 5 None [] []
     ∷ [])
 unfolding step_replay
 refusals = refl
 
 -- a working table that is refused, and what stands: nothing changes any more, not even weights that wait
 pub kept :
-    let out : Between = handing (waiting (tens 2)) (put_at 0 (pos (W + 1)) small) quiet (Joining.Lines 2 (ends 1)) (0 ∷ []) in
-    let short : Between = handing (waiting (tens 2)) (with_table small (zeros 143)) quiet (Joining.Lines 2 (ends 1)) (0 ∷ []) in
+    let out : Between = handing (waiting (tens 2)) (put_at 0 (pos (W + 1)) small) quiet (Some (join_begun 2 (ends 1))) (0 ∷ []) in
+    let short : Between = handing (waiting (tens 2)) (with_table small (zeros 143)) quiet (Some (join_begun 2 (ends 1))) (0 ∷ []) in
     let after : Between → List (List ℕ) → ℕ × List ℤ = λ b ts.
     let q = after_lines standard b ts in
     ((outcome_says q.replay.stretch.standing).number, eight q.starting)
@@ -241,12 +241,12 @@ pub kept :
     ∷ ended (after_lines standard out (l 12 2 1 2 0 ∷ [])) is waits 8 2
     ∷ ended (after_lines standard (middle 2 (ends 1) (0 ∷ []) (tens 2)) ([] ∷ [])) is waits 1 0
     -- no join: between rounds, after a move, in a press, after a void line; 4, 5, 8 and 15 before 14
-    ∷ ended (handing small small quiet Joining.Nothing []) is waits 0 0
-    ∷ ended (handing small small (stretch_at 0 true Due.MoveOrBound) Joining.Nothing []) is waits 14 0
-    ∷ ended (handing small small (stretch_at 0 false (Due.Raise 0 (Target.Press (pos 1)) 1 None)) Joining.Nothing []) is waits 14 0
-    ∷ ended (handing small small (stretch_at 0 true Due.Nothing) Joining.Nothing []) is waits 0 0
-    ∷ ended (handing (waiting (tens 1)) small (stretch_at 0 true Due.MoveOrBound) Joining.Nothing []) is waits 8 1
-    ∷ ended (handing small (with_table small []) (stretch_at 0 true Due.MoveOrBound) Joining.Nothing []) is waits 4 0
+    ∷ ended (handing small small quiet None []) is waits 0 0
+    ∷ ended (handing small small (stretch_at 0 true Due.MoveOrBound) None []) is waits 14 0
+    ∷ ended (handing small small (stretch_at 0 false (Due.Raise 0 (Target.Press (pos 1)) 1 None)) None []) is waits 14 0
+    ∷ ended (handing small small (stretch_at 0 true Due.Nothing) None []) is waits 0 0
+    ∷ ended (handing (waiting (tens 1)) small (stretch_at 0 true Due.MoveOrBound) None []) is waits 8 1
+    ∷ ended (handing small (with_table small []) (stretch_at 0 true Due.MoveOrBound) None []) is waits 4 0
     ∷ [])
 unfolding step_replay end_replay
 kept = refl
@@ -255,12 +255,12 @@ kept = refl
 
 pub orders :
     let number : Between → List ℕ → ℕ = λ b t. (outcome_says (step_replay standard b t).answer).number in
-    let none : Input → Input → Between = λ i v. handing i v quiet Joining.Nothing [] in
+    let none : Input → Input → Between = λ i v. handing i v quiet None [] in
     let wide : Input = with_table small (zeros 145) in
     let past : Input = put_at 3 (pos 1) small in
     let barred : Input = put_at 0 B small in
     let in_press : Input → Between =
-    λ i. handing i i (stretch_at 0 true (Due.Raise 0 (Target.Press (pos 1)) 1 None)) Joining.Nothing [] in
+    λ i. handing i i (stretch_at 0 true (Due.Raise 0 (Target.Press (pos 1)) 1 None)) None [] in
     Hold
     ( -- a line's 1 and 2 before all; 3 of the line before 4, after 3; 5 of the line after 4, before 8
     number (none wide small) [] is 1 ∷ number (none (given 49 1 0 [] [] []) small) (l 7 0 0 0 1) is 2
@@ -298,18 +298,18 @@ pub blocks :
     let count : ℕ → ℕ × Told → ℕ × ℕ × Told = λ n q. (n, q.0, q.1) in
     -- so many lines and a number; both tables hold the same, and no join is begun
     let done : ℕ → ℕ → List ℤ → ToldCase → ℕ × ℕ × Told =
-    λ n number zs c. (n, number, ((number, Joining.Nothing, 0 ∷ 0 ∷ 0 ∷ []), (fill zs, fill zs), c))
+    λ n number zs c. (n, number, ((number, None, 0 ∷ 0 ∷ 0 ∷ []), (fill zs, fill zs), c))
     in
     Hold
     ( -- no line: in a fresh record, in the middle of a join, and refused there
-    by (start small) [] is count 0 (leaves 0 Joining.Nothing [] [])
-    ∷ by (middle 2 (ends 0) [] (tens 1)) [] is count 0 (leaves 0 (Joining.Lines 2 (ends 0)) [] (tens 1))
-    ∷ by (middle 3 (ends 0) [] (tens 1)) [] is count 0 (leaves 5 (Joining.Lines 3 (ends 0)) [] (tens 1))
+    by (start small) [] is count 0 (leaves 0 None [] [])
+    ∷ by (middle 2 (ends 0) [] (tens 1)) [] is count 0 (leaves 0 (Some (join_begun 2 (ends 0))) [] (tens 1))
+    ∷ by (middle 3 (ends 0) [] (tens 1)) [] is count 0 (leaves 5 (Some (join_begun 3 (ends 0))) [] (tens 1))
     -- a join up to some line, with a part line, with a refused line and one after it; whole, and a leave after it
-    ∷ by (start small) (take 1 begun) is count 1 (leaves 0 (Joining.Lines 1 link) [] [])
-    ∷ by (start small) (take 2 begun) is count 2 (leaves 0 (Joining.Lines 1 (ends 0)) [] (tens 1))
-    ∷ by (start small) (begun ++ (take 9 (l 13 1 0 0 20) ∷ [])) is count 3 (leaves 0 (Joining.Lines 1 (pair 0)) [] (tens 1))
-    ∷ by (start small) (begun ++ (l 13 1 0 1 20 ∷ l 13 1 0 0 20 ∷ [])) is count 3 (leaves 5 (Joining.Lines 1 (pair 0)) [] [])
+    ∷ by (start small) (take 1 begun) is count 1 (leaves 0 (Some (join_begun 1 link)) [] [])
+    ∷ by (start small) (take 2 begun) is count 2 (leaves 0 (Some (join_begun 1 (ends 0))) [] (tens 1))
+    ∷ by (start small) (begun ++ (take 9 (l 13 1 0 0 20) ∷ [])) is count 3 (leaves 0 (Some (join_begun 1 (pair 0))) [] (tens 1))
+    ∷ by (start small) (begun ++ (l 13 1 0 1 20 ∷ l 13 1 0 0 20 ∷ [])) is count 3 (leaves 5 (Some (join_begun 1 (pair 0))) [] [])
     ∷ by (start small) (begun ++ (l 13 1 0 0 20 ∷ l 7 2 0 0 0 ∷ [])) is done 5 0 (map pos (1 ∷ 2 ∷ 3 ∷ [])) (paired 2 1 (0 ∷ []) (1 ∷ []) (pos 0))
     -- 13: a round is compared with the ceiling after a leave, 2, and after a join, 1, not with the 6 before
     ∷ by (start small) (l 7 0 0 0 0 ∷ l 4 0 0 0 2 ∷ []) is done 1 13 (pos 2 ∷ []) (paired 1 1 [] [] (pos 0))

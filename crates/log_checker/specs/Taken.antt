@@ -1,12 +1,11 @@
 -- What the private functions answer: a step of the stretch with the rest as it was, and a block with lines before it. Assumes nothing.
-use Rattle.std.specs.Prelude.{◌≡◌, Bool, ◌||◌, ℕ, ◌+◌, Ok, Err, Option, None}
+use Rattle.std.specs.Prelude.{◌≡◌, Bool, ◌||◌, ℕ, ◌+◌, Ok, Err, Option, None, None}
 use Rattle.definitions.specs.declared.Line.{Line}
 use Rattle.definitions.specs.declared.Refusal.{Refusal}
 use Rattle.definitions.specs.Rules.{rules_of}
 use Rattle.definitions.specs.Lines.{has_kind}
 use Rattle.checker.specs.declared.Replay.{Replay as Stretch}
 use Rattle.checker.specs.Checker.{StepCall as StretchCall, BlockCall as StretchLines}
-use Rattle.log_checker.specs.declared.Joining.{Joining}
 use Rattle.log_checker.specs.Checker.{Between, StepCall, BlockCall, with_stretch, refused_replay, lent_number}
 
 -- no number stands, and none applies to what was handed over
@@ -17,7 +16,7 @@ pub record Lent (b : Between) : Type 0 where
 -- and no join is begun
 pub record Settled (b : Between) : Type 0 where
   pub lent : Lent b
-  pub unjoined : b.replay.joining ≡ Joining.Nothing
+  pub unjoined : b.replay.joining ≡ None
 
 -- the same record while it stands good
 abbrev pub standing_good : Stretch → Stretch

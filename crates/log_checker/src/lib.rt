@@ -6,18 +6,18 @@ use case_lines::Awaited;
 use checker::Replay;
 use definitions::{Case, EDGE_PLACES, Refusal};
 
-// The join begun: how many edges it has, and the line of it that is due.
+// A join begun: how many edges it has, and the line of it that is due.
 #[derive(Clone, Copy)]
-pub enum Joining {
-    Nothing,
-    Lines { edges: usize, due: Awaited },
+pub struct JoinBegun {
+    pub edges: usize,
+    pub due: Awaited,
 }
 
-// The replay's record: that of the stretch, the join begun, and the lower ends of its edges, as far as they were read.
+// The replay's record: that of the stretch, the join begun, if there is one, and the lower ends of its edges, as far as they were read.
 #[derive(Clone, Copy)]
 pub struct LogRecord {
     pub stretch: Replay,
-    pub joining: Joining,
+    pub joining: Option<JoinBegun>,
     pub lower: [u8; EDGE_PLACES],
 }
 

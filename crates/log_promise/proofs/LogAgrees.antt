@@ -1,5 +1,6 @@
 -- The plain replay of a log beside what stands between the lines of the library's replay: within a stretch they agree as Agrees says, and a join
 -- begun is held as its lines and weights so far. Assumes nothing.
+use Rattle.log_checker.specs.declared.JoinBegun.{JoinBegun}
 use mathlib.Core.Path.{◌≡◌, refl, sym, ap, ap₂, subst, ◌∙◌}
 use mathlib.Core.Bool.{Bool, true, false, not, ◌&&◌, ◌||◌}
 use mathlib.Core.Logic.{◌↔◌, ⊎_elim}
@@ -10,7 +11,7 @@ use native.Mathlib.Omega.{arith}
 use lib.IntN.{ℤ, pos, nat_abs}
 use lib.Dec.{T}
 use lib.ListN.{length, drop, length-drop, length-replicate}
-use Rattle.std.specs.Prelude.{if◌then◌else◌, Ok, Err, Option, Some, None, is_some}
+use Rattle.std.specs.Prelude.{if◌then◌else◌, Ok, Err, Option, Some, None, is_some, None}
 use Rattle.integers.specs.Words.{eq_z}
 use Rattle.integers.specs.Linear.{T-eq}
 use Rattle.integers.specs.Tests.{is_true, is_false, either, and_left, and_right}
@@ -40,8 +41,7 @@ use Rattle.checker.specs.declared.Replay.{Replay as Stretch}
 use Rattle.checker.specs.Checker.{none_raised, fresh_replay as fresh_stretch}
 use Rattle.checker.specs.Checker.{StepCall as StretchCall, Asked, due_kinds, is_short, is_void, record_out, of_due, step_tests}
 use Rattle.checker.specs.Checker.{step_by as stretch_by, step_line as stretch_line}
-use Rattle.log_checker.specs.declared.Joining.{Joining}
-use Rattle.log_checker.specs.Checker.{EndCall, no_ends, begun_with, join_sizes, fresh_replay, of_join, of_join_line, after_lines, line_answers}
+use Rattle.log_checker.specs.Checker.{EndCall, no_ends, begun_with, join_sizes, fresh_replay, of_join, of_join_line, after_lines, line_answers, join_begun}
 use Rattle.log_checker.specs.Checker.{Between, StepCall, LineAsked, is_between, waiting_at, with_stretch, lent_number, of_move, of_leave}
 use Rattle.log_checker.specs.Checker.{refused_by, step_by, step_line, step_standing, step_replay, is_cut_short, end_lent, end_standing, end_replay}
 use Rattle.theory.proofs.Validity.{BothHanded, both-handed, valid-facts}
@@ -60,7 +60,7 @@ use Rattle.log_promise.specs.Lists.{begun}
 
 -- ---- what stands between the lines: the state's, with these bytes for the raised scopes, this starting table, and this for a join
 
-abbrev pub log_between : LogState → List ℕ → List ℤ → Joining → List ℕ → Between
+abbrev pub log_between : LogState → List ℕ → List ℤ → Option JoinBegun → List ℕ → Between
 log_between s bytes w₀ join lower = record {
   case = s.stretch.case;
   starting = w₀;
@@ -75,13 +75,13 @@ pub record JoinAt (c : Case) (w₀ : List ℤ) (edges : ℕ) (x : CaseDue) (lowe
   pub dues : j.dues ≡ drop (rank 1 c.d edges x) (join_dues c edges)
   pub reading : j.reading ≡ read_so_far c w₀ edges x lower
 
-abbrev pub JoinSame : State → List ℤ → Joining → List ℕ → Option PlainJoin → Type 0
-JoinSame s w₀ join lower None = (join ≡ Joining.Nothing) × (w₀ ≡ s.starting)
+abbrev pub JoinSame : State → List ℤ → Option JoinBegun → List ℕ → Option PlainJoin → Type 0
+JoinSame s w₀ join lower None = (join ≡ None) × (w₀ ≡ s.starting)
 JoinSame s w₀ join lower (Some j) =
-    (edges : ℕ) × (due : Awaited) × (join ≡ Joining.Lines edges due) × JoinAt s.case w₀ edges (due_awaited due) lower j
+    (edges : ℕ) × (due : Awaited) × (join ≡ (Some (join_begun edges due))) × JoinAt s.case w₀ edges (due_awaited due) lower j
 
 -- the parts agree with the state; a refused line leaves nothing to be asked
-pub record Parts (r : Rules) (s : LogState) (bytes : List ℕ) (w₀ : List ℤ) (join : Joining) (lower : List ℕ) : Type 0 where
+pub record Parts (r : Rules) (s : LogState) (bytes : List ℕ) (w₀ : List ℤ) (join : Option JoinBegun) (lower : List ℕ) : Type 0 where
   pub marked : MarkedIn r s.stretch bytes
   pub long : length w₀ ≡ lent_length r s.stretch.case
   pub many : length lower ≡ edge_places
@@ -93,7 +93,7 @@ pub record Parts (r : Rules) (s : LogState) (bytes : List ℕ) (w₀ : List ℤ)
 pub record AgreesLog (r : Rules) (s : LogState) (b : Between) : Type 0 where
   pub bytes : List ℕ
   pub waiting : List ℤ
-  pub join : Joining
+  pub join : Option JoinBegun
   pub lower : List ℕ
   pub same : b ≡ log_between s bytes waiting join lower
   pub parts : Parts r s bytes waiting join lower
@@ -104,7 +104,7 @@ pub record AgreesLog (r : Rules) (s : LogState) (b : Between) : Type 0 where
 abbrev Reaches : Rules → StepCall → LogState → Type 0
 Reaches r call u =
     (call.answer ≡ outcome_of u.stretch.refusal)
-    × ((bytes : List ℕ) × (w₀ : List ℤ) × (join : Joining) × (lower : List ℕ) × (call.after ≡ log_between u bytes w₀ join lower)
+    × ((bytes : List ℕ) × (w₀ : List ℤ) × (join : Option JoinBegun) × (lower : List ℕ) × (call.after ≡ log_between u bytes w₀ join lower)
     × Parts r u bytes w₀ join lower)
 
 -- ---- what is due, in the record and in the state
@@ -130,7 +130,7 @@ lifted b call = record {
 
 module _ (r : Rules) (c : Case) (w₀ w : List ℤ) (p : Stretch) (lower : List ℕ) where
   abbrev at : Between
-  at = record { case = c; starting = w₀; table = w; replay = record { stretch = p; joining = Joining.Nothing; lower = lower } }
+  at = record { case = c; starting = w₀; table = w; replay = record { stretch = p; joining = None; lower = lower } }
 
   -- nothing applies to what is handed over
   both-lent : lent_number r at ≡ None ↔ BothHanded r c w₀ w × T (not (record_out r c p))
@@ -185,25 +185,25 @@ zeroed-again : (p : ℕ) (w : List ℤ) → zeroed_from p (zeroed_from p w) ≡ 
 zeroed-again p w = zeroed-self p (zeroed_from p w) (zeroed-zeros p w)
 
 -- what waits goes, and the case's own weights are left
-waiting-goes : (s : State) (w₀ : List ℤ) (lower : List ℕ) → zeroed_from (own_length s.case) w₀ ≡ s.starting → (join : Joining) (o : Option PlainJoin)
+waiting-goes : (s : State) (w₀ : List ℤ) (lower : List ℕ) → zeroed_from (own_length s.case) w₀ ≡ s.starting → (join : Option JoinBegun) (o : Option PlainJoin)
     → JoinSame s w₀ join lower o → waiting_at s.case w₀ join ≡ s.starting
-waiting-goes s w₀ lower e Joining.Nothing None (f, g) = g
-waiting-goes s w₀ lower e Joining.Nothing (Some j) (edges, due, f, g) = let z : ◌≡◌ {A = ℕ} 0 1 = cc in absurd (omega arith)
-waiting-goes s w₀ lower e (Joining.Lines p due) o m = e
+waiting-goes s w₀ lower e None None (f, g) = g
+waiting-goes s w₀ lower e None (Some j) (edges, due, f, g) = let z : ◌≡◌ {A = ℕ} 0 1 = cc in absurd (omega arith)
+waiting-goes s w₀ lower e (Some j) o m = e
 
-module _ {r : Rules} {s : LogState} {bytes : List ℕ} {w₀ : List ℤ} {join : Joining} {lower : List ℕ} (k : Parts r s bytes w₀ join lower)
+module _ {r : Rules} {s : LogState} {bytes : List ℕ} {w₀ : List ℤ} {join : Option JoinBegun} {lower : List ℕ} (k : Parts r s bytes w₀ join lower)
     (unrefused : s.stretch.refusal ≡ None) where
   abbrev here : Between
   here = log_between s bytes w₀ join lower
 
   -- the weights that wait go, and those of the case stay
-  own-stays : (join : Joining) → zeroed_from (own_length s.stretch.case) (waiting_at s.stretch.case w₀ join) ≡ s.stretch.starting
-  own-stays Joining.Nothing = k.starting
-  own-stays (Joining.Lines p due) = zeroed-again (own_length s.stretch.case) w₀ ∙ k.starting
+  own-stays : (join : Option JoinBegun) → zeroed_from (own_length s.stretch.case) (waiting_at s.stretch.case w₀ join) ≡ s.stretch.starting
+  own-stays None = k.starting
+  own-stays (Some j) = zeroed-again (own_length s.stretch.case) w₀ ∙ k.starting
 
-  own-long : (join : Joining) → length (waiting_at s.stretch.case w₀ join) ≡ lent_length r s.stretch.case
-  own-long Joining.Nothing = k.long
-  own-long (Joining.Lines p due) = zeroed-length (own_length s.stretch.case) w₀ ∙ k.long
+  own-long : (join : Option JoinBegun) → length (waiting_at s.stretch.case w₀ join) ≡ lent_length r s.stretch.case
+  own-long None = k.long
+  own-long (Some j) = zeroed-length (own_length s.stretch.case) w₀ ∙ k.long
 
   refused-reaches : (x : Refusal) → Reaches r (refused_by r here x (lent_number r here)) (refused_log s x)
   refused-reaches x = (
@@ -241,12 +241,12 @@ line-same-as r s l n = go (between_rounds s) (is_kind 7 l) (is_kind 8 l) _ _ _ n
 module _ {r : Rules} (placed : scopes_at_most r ≤ scope_places) where
   -- no number applies to what is handed over
   nothing_lent : {u : State} {bytes : List ℕ} → SoundLog r (in_stretch u) → MarkedIn r u bytes → (lower : List ℕ)
-      → lent_number r (log_between (in_stretch u) bytes u.starting Joining.Nothing lower) ≡ None
+      → lent_number r (log_between (in_stretch u) bytes u.starting None lower) ≡ None
   nothing_lent {u} {bytes} v m lower = (both-lent r u.case u.starting u.weights (record_of u bytes) lower).1
       (v.both, record-in placed v.sound v.both.now m)
 
   -- a stretch begins
-  new-reaches : (s : State) (bytes : List ℕ) (join : Joining) (lower : List ℕ) → length lower ≡ edge_places → (v : WeightedCase) → SoundLog r (new_stretch s v)
+  new-reaches : (s : State) (bytes : List ℕ) (join : Option JoinBegun) (lower : List ℕ) → length lower ≡ edge_places → (v : WeightedCase) → SoundLog r (new_stretch s v)
       → Reaches r (record { answer = Ok tt; after = begun_with (record { stretch = record_of s bytes; joining = join; lower = lower }) v }) (new_stretch s v)
   new-reaches s bytes join lower many v sound =
       let m : MarkedIn r (new_stretch s v).stretch bytes = λ h e. absurd (none-some e) in (
@@ -254,7 +254,7 @@ module _ {r : Rules} (placed : scopes_at_most r ≤ scope_places) where
         (
           bytes,
           v.starting,
-          Joining.Nothing,
+          None,
           lower,
           refl,
           record {
@@ -270,13 +270,13 @@ module _ {r : Rules} (placed : scopes_at_most r ≤ scope_places) where
       )
 
   module _ {s : State} {bytes : List ℕ} {lower : List ℕ} (sound : SoundLog r (in_stretch s)) (unrefused : s.refusal ≡ None)
-      (k : Parts r (in_stretch s) bytes s.starting Joining.Nothing lower) where
+      (k : Parts r (in_stretch s) bytes s.starting None lower) where
     abbrev now : Between
-    now = log_between (in_stretch s) bytes s.starting Joining.Nothing lower
+    now = log_between (in_stretch s) bytes s.starting None lower
 
     leave-reaches : (t : Line) (o : Option Refusal) → SoundLog r (unless_number r (in_stretch s) (after_leave r s t) o)
         → Reaches r (step_by r now (of_leave r now t) o) (unless_number r (in_stretch s) (after_leave r s t) o)
-    leave-reaches t None v = new-reaches s bytes Joining.Nothing lower k.many (left_by r s.case (nat_abs t.a) s.starting s.weights) v
+    leave-reaches t None v = new-reaches s bytes None lower k.many (left_by r s.case (nat_abs t.a) s.starting s.weights) v
     leave-reaches t (Some x) v = refused-reaches k unrefused x
 
     -- a line of the stretch
@@ -293,13 +293,13 @@ module _ {r : Rules} (placed : scopes_at_most r ≤ scope_places) where
           (
             marks,
             s.starting,
-            Joining.Nothing,
+            None,
             lower,
             ap (λ (x : StepCall). x.after) d ∙ ap (λ (c : Case). record {
               case = c;
               starting = s.starting;
               table = u.weights;
-              replay = record { stretch = record_of u marks; joining = Joining.Nothing; lower = lower };
+              replay = record { stretch = record_of u marks; joining = None; lower = lower };
             }) (sym c),
             record {
               marked = m;
@@ -307,7 +307,7 @@ module _ {r : Rules} (placed : scopes_at_most r ≤ scope_places) where
               many = k.many;
               starting = ap (λ (c : Case). zeroed_from (own_length c) s.starting) c ∙ k.starting ∙ sym w;
               cleared = λ x e. sym w;
-              lent = λ f. subst (λ (w₀ : List ℤ). lent_number r (log_between (in_stretch u) marks w₀ Joining.Nothing lower) ≡ None) w (nothing_lent v m lower);
+              lent = λ f. subst (λ (w₀ : List ℤ). lent_number r (log_between (in_stretch u) marks w₀ None lower) ≡ None) w (nothing_lent v m lower);
               joins = λ f. (refl, sym w);
             },
           ),
@@ -370,7 +370,7 @@ module _ {r : Rules} (placed : scopes_at_most r ≤ scope_places) where
   joining-parts : {s : LogState} {j : PlainJoin} {bytes : List ℕ} (w₀ : List ℤ) (edges : ℕ) (due : Awaited) (lower : List ℕ) → SoundLog r s
       → s.stretch.refusal ≡ None → s.joining ≡ Some j → MarkedIn r s.stretch bytes → length w₀ ≡ lent_length r s.stretch.case → length lower ≡ edge_places
       → zeroed_from (own_length s.stretch.case) w₀ ≡ s.stretch.starting → JoinAt s.stretch.case w₀ edges (due_awaited due) lower j
-      → Parts r s bytes w₀ (Joining.Lines edges due) lower
+      → Parts r s bytes w₀ (Some (join_begun edges due)) lower
   joining-parts {s} {j} {bytes} w₀ edges due lower v free e m long many own at = record {
     marked = m;
     long = long;
@@ -387,9 +387,9 @@ module _ {r : Rules} (placed : scopes_at_most r ≤ scope_places) where
 
   -- kind 8: no line of it is read yet
   begin-reaches : {s : State} {bytes : List ℕ} {lower : List ℕ} → SoundLog r (in_stretch s) → s.refusal ≡ None
-      → (k : Parts r (in_stretch s) bytes s.starting Joining.Nothing lower) → (t : Line) (o : Option Refusal)
+      → (k : Parts r (in_stretch s) bytes s.starting None lower) → (t : Line) (o : Option Refusal)
       → SoundLog r (unless_number r (in_stretch s) (after_join s t) o)
-      → let now = log_between (in_stretch s) bytes s.starting Joining.Nothing lower in
+      → let now = log_between (in_stretch s) bytes s.starting None lower in
       Reaches r (step_by r now (of_join r now t) o) (unless_number r (in_stretch s) (after_join s t) o)
   begin-reaches {s} {bytes} {lower} sound unrefused k t None v =
       let p = nat_abs t.a in
@@ -399,7 +399,7 @@ module _ {r : Rules} (placed : scopes_at_most r ≤ scope_places) where
         (
           bytes,
           s.starting,
-          Joining.Lines p due,
+          (Some (join_begun p due)),
           lower,
           refl,
           joining-parts s.starting p due lower v unrefused refl k.marked k.long k.many k.starting (record {
@@ -414,7 +414,7 @@ module _ {r : Rules} (placed : scopes_at_most r ≤ scope_places) where
 
   -- a case line of the join
   module _ {s : LogState} {j : PlainJoin} {bytes : List ℕ} {w₀ : List ℤ} {edges : ℕ} {due : Awaited} {lower : List ℕ} (sound : SoundLog r s)
-      (begun : s.joining ≡ Some j) (unrefused : s.stretch.refusal ≡ None) (k : Parts r s bytes w₀ (Joining.Lines edges due) lower)
+      (begun : s.joining ≡ Some j) (unrefused : s.stretch.refusal ≡ None) (k : Parts r s bytes w₀ (Some (join_begun edges due)) lower)
       (at : JoinAt s.stretch.case w₀ edges (due_awaited due) lower j) (t : Line) where
     abbrev c : Case
     c = s.stretch.case
@@ -423,7 +423,7 @@ module _ {r : Rules} (placed : scopes_at_most r ≤ scope_places) where
     x = due_awaited due
 
     abbrev mid : Between
-    mid = log_between s bytes w₀ (Joining.Lines edges due) lower
+    mid = log_between s bytes w₀ (Some (join_begun edges due)) lower
 
     abbrev g : Reading
     g = read_so_far c w₀ edges x lower
@@ -483,7 +483,7 @@ module _ {r : Rules} (placed : scopes_at_most r ≤ scope_places) where
             (
               bytes,
               weight_waits c w₀ edges x t,
-              Joining.Lines edges later,
+              (Some (join_begun edges later)),
               lower_kept x t lower,
               refl,
               joining-parts {j = j'} (weight_waits c w₀ edges x t) edges later (lower_kept x t lower) (rw d at v) unrefused refl k.marked (waits-long c w₀ edges t x ∙ k.long)
@@ -502,7 +502,7 @@ module _ {r : Rules} (placed : scopes_at_most r ≤ scope_places) where
           let n : suc (rank 1 c.d edges x) ≡ join_lines c edges = (last-due c edges limited.some-value x at.in-join).0 last in
           let none_left : rest ≡ [] = drop_all (suc (rank 1 c.d edges x)) (join_dues c edges) (omega (arith, join-length c edges)) in
           rw (last, none_left)
-          (new-reaches placed s.stretch bytes (Joining.Lines edges due) lower k.many (grown_by c s.stretch.weights after) (rw none_left at v))
+          (new-reaches placed s.stretch bytes (Some (join_begun edges due)) lower k.many (grown_by c s.stretch.weights after) (rw none_left at v))
 
     line_joins : (o : Option Refusal) → first_refusal (join_line_tests r g (renumbered c x) t) ≡ o
         → SoundLog r (unless_number r s (joined_by s.stretch after rest) o)
@@ -520,19 +520,19 @@ module _ {r : Rules} (placed : scopes_at_most r ≤ scope_places) where
 
   -- ---- every line
 
-  module _ {s : LogState} (sound : SoundLog r s) {bytes : List ℕ} {w₀ : List ℤ} {join : Joining} {lower : List ℕ} (k : Parts r s bytes w₀ join lower)
+  module _ {s : LogState} (sound : SoundLog r s) {bytes : List ℕ} {w₀ : List ℤ} {join : Option JoinBegun} {lower : List ℕ} (k : Parts r s bytes w₀ join lower)
       (unrefused : s.stretch.refusal ≡ None) (t : List ℕ) where
     abbrev alone : LogState
     alone = in_stretch s.stretch
 
     -- no join is begun
-    alone-reaches : SoundLog r alone → Parts r alone bytes s.stretch.starting Joining.Nothing lower → (l : Line) → read_line r.amount_width t ≡ Some l
+    alone-reaches : SoundLog r alone → Parts r alone bytes s.stretch.starting None lower → (l : Line) → read_line r.amount_width t ≡ Some l
         → SoundLog r (line_between r s.stretch l)
-        → Reaches r (step_line r (log_between alone bytes s.stretch.starting Joining.Nothing lower) (Some l)) (line_between r s.stretch l)
+        → Reaches r (step_line r (log_between alone bytes s.stretch.starting None lower) (Some l)) (line_between r s.stretch l)
     alone-reaches sound' k' l q v = ⊎_elim
         (λ b. special-reaches placed sound' unrefused k' l (λ o f. begin-reaches sound' unrefused k' l o) b v)
         (λ n. let f = line-same-as r s.stretch l n in
-        subst (Reaches r (step_line r (log_between alone bytes s.stretch.starting Joining.Nothing lower) (Some l))) (sym f)
+        subst (Reaches r (step_line r (log_between alone bytes s.stretch.starting None lower) (Some l))) (sym f)
         (move-reaches placed sound' unrefused k' t (Some l) q n (subst (SoundLog r) f v)))
         (either (between_rounds s.stretch && moves_link (Some l)))
 
@@ -540,15 +540,15 @@ module _ {r : Rules} (placed : scopes_at_most r ≤ scope_places) where
         → SoundLog r (line_by r s o l) → Reaches r (step_line r (log_between s bytes w₀ join lower) (Some l)) (line_by r s o l)
     by-join l q None e (none-begun, same) v =
         let d : s ≡ alone = ap (λ (o : Option PlainJoin). record { stretch = s.stretch; joining = o }) e in
-        let k' : Parts r alone bytes s.stretch.starting Joining.Nothing lower =
-        subst (λ (w : List ℤ). Parts r alone bytes w Joining.Nothing lower) same
-        (subst (λ (x : Joining). Parts r alone bytes w₀ x lower) none-begun (subst (λ (u : LogState). Parts r u bytes w₀ join lower) d k)) in
-        subst (λ (x : Joining). Reaches r (step_line r (log_between s bytes w₀ x lower) (Some l)) (line_between r s.stretch l)) (sym none-begun)
-        (subst (λ (w : List ℤ). Reaches r (step_line r (log_between s bytes w Joining.Nothing lower) (Some l)) (line_between r s.stretch l)) (sym same)
+        let k' : Parts r alone bytes s.stretch.starting None lower =
+        subst (λ (w : List ℤ). Parts r alone bytes w None lower) same
+        (subst (λ (x : Option JoinBegun). Parts r alone bytes w₀ x lower) none-begun (subst (λ (u : LogState). Parts r u bytes w₀ join lower) d k)) in
+        subst (λ (x : Option JoinBegun). Reaches r (step_line r (log_between s bytes w₀ x lower) (Some l)) (line_between r s.stretch l)) (sym none-begun)
+        (subst (λ (w : List ℤ). Reaches r (step_line r (log_between s bytes w None lower) (Some l)) (line_between r s.stretch l)) (sym same)
         (alone-reaches (subst (SoundLog r) d sound) k' l q v))
     by-join l q (Some j) e (edges, due, held, mark) v =
-        subst (λ (x : Joining). Reaches r (step_line r (log_between s bytes w₀ x lower) (Some l)) (line_of_join r s j.reading j.dues l)) (sym held)
-        (join-reaches sound e unrefused (subst (λ (x : Joining). Parts r s bytes w₀ x lower) held k) mark l v)
+        subst (λ (x : Option JoinBegun). Reaches r (step_line r (log_between s bytes w₀ x lower) (Some l)) (line_of_join r s j.reading j.dues l)) (sym held)
+        (join-reaches sound e unrefused (subst (λ (x : Option JoinBegun). Parts r s bytes w₀ x lower) held k) mark l v)
 
     read-reaches : (l : Option Line) → read_line r.amount_width t ≡ l → SoundLog r (line_read r s l)
         → Reaches r (step_line r (log_between s bytes w₀ join lower) l) (line_read r s l)
@@ -596,13 +596,13 @@ module _ {r : Rules} {s : LogState} {b : Between} (a : AgreesLog r s b) where
       cut true u v = refl
       cut false u v = refl
 
-      short : (join : Joining) (o : Option PlainJoin) → JoinSame s.stretch a.waiting join a.lower o → s.stretch.refusal ≡ None
+      short : (join : Option JoinBegun) (o : Option PlainJoin) → JoinSame s.stretch a.waiting join a.lower o → s.stretch.refusal ≡ None
           → outcome_of (if is_cut_short r standing.replay join then Some CutShort else None)
           ≡ outcome_of (if is_some o then Some CutShort else at_end s.stretch)
       short join None (f, w) e =
-          ap (λ (x : Joining). outcome_of (if is_cut_short r standing.replay x then Some CutShort else None)) f
+          ap (λ (x : Option JoinBegun). outcome_of (if is_cut_short r standing.replay x then Some CutShort else None)) f
           ∙ rw (e, short-alike s.stretch.void s.stretch.held s.stretch.moving)
-      short join (Some j) (edges, due, f, mark) e = ap (λ (x : Joining). outcome_of (if is_cut_short r standing.replay x then Some CutShort else None)) f
+      short join (Some j) (edges, due, f, mark) e = ap (λ (x : Option JoinBegun). outcome_of (if is_cut_short r standing.replay x then Some CutShort else None)) f
 
       go : (x : Option Refusal) → s.stretch.refusal ≡ x
           → (end_standing r standing (outcome_of x)).answer ≡ outcome_of (if is_some x then x else if is_some s.joining then Some CutShort else at_end s.stretch)
@@ -617,18 +617,18 @@ module _ {r : Rules} {s : LogState} {b : Between} (a : AgreesLog r s b) where
   unfolding end_replay
   end-starting = ap (λ (d : Between). (end_replay r d).starting) a.same ∙ go s.stretch.refusal refl
     where
-      left : (join : Joining) (o : Option PlainJoin) → JoinSame s.stretch a.waiting join a.lower o
+      left : (join : Option JoinBegun) (o : Option PlainJoin) → JoinSame s.stretch a.waiting join a.lower o
           → (if◌then◌else◌ {A = EndCall} (is_cut_short r standing.replay join)
           (record { answer = Err CutShort; starting = waiting_at s.stretch.case a.waiting join })
           (record { answer = Ok tt; starting = a.waiting })).starting ≡ s.stretch.starting
-      left Joining.Nothing o m = same (is_cut_short r standing.replay Joining.Nothing)
-          ∙ waiting-goes s.stretch a.waiting a.lower a.parts.starting Joining.Nothing o m
+      left None o m = same (is_cut_short r standing.replay None)
+          ∙ waiting-goes s.stretch a.waiting a.lower a.parts.starting None o m
         where
           same : (b : Bool) → (if◌then◌else◌ {A = EndCall} b (record { answer = Err CutShort; starting = a.waiting })
               (record { answer = Ok tt; starting = a.waiting })).starting ≡ a.waiting
           same true = refl
           same false = refl
-      left (Joining.Lines p due) o m = a.parts.starting
+      left (Some j) o m = a.parts.starting
 
       go : (x : Option Refusal) → s.stretch.refusal ≡ x → (end_standing r standing (outcome_of x)).starting ≡ s.stretch.starting
       go None e = ap (λ (o : Option Refusal). (end_lent r standing o).starting) (a.parts.lent e) ∙ left a.join s.joining (a.parts.joins e)
@@ -654,7 +654,7 @@ module _ (c : Case) (w : List ℤ) (t : T (valid (rules_of c) c w)) where
       record {
         bytes = none_raised;
         waiting = w;
-        join = Joining.Nothing;
+        join = None;
         lower = no_ends;
         same = rw (handed-unrefused (valid-facts (rules_of c) c w t));
         parts = record {
