@@ -27,11 +27,6 @@ const UPPER: usize = 24 + EDGE_PLACES;
 
 const CARRY: usize = UPPER + EDGE_PLACES;
 
-// The greatest number of eight bytes, and the least that says a number below 0.
-const GREATEST: u64 = 18_446_744_073_709_551_615;
-
-const BELOW: u64 = 9_223_372_036_854_775_808;
-
 // The last scope that a press or a void line has raised, if any, as numbers.
 #[derive(Clone, Copy)]
 struct Last {
@@ -69,24 +64,13 @@ fn number_bytes(x: u64) -> [u8; 8]
 fn bits_of(z: i64) -> u64
     ensures { result ≡ word_of z }
 {
-    if z < 0 {
-        let y = z + 1;
-        let m = 0 - y;
-        GREATEST - (m as u64)
-    } else {
-        z as u64
-    }
+    z.cast_unsigned()
 }
 
 fn signed_of(x: u64) -> i64
     ensures { result ≡ signed_of x }
 {
-    if x < BELOW {
-        x as i64
-    } else {
-        let m = (GREATEST - x) as i64;
-        0 - m - 1
-    }
+    x.cast_signed()
 }
 
 // ---- parts of the bytes

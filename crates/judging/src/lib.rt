@@ -117,8 +117,7 @@ fn good_judgement(
     requires { Handed (rules_of case) (working_weight (rules_of case)) case table.now }
     ensures { result ≡ good_in case replay table.now }
 {
-    let due = replay.due;
-    if is_over(due) {
+    if is_over(replay.due) {
         return Ok(Judgement::Void);
     }
     let sum = tables::sum_of_greatest(case, table);
@@ -145,14 +144,11 @@ fn end_judgement(
 {
     let case = judging.case;
     let replay = judging.replay;
-    let ended = finish_standing(case, table, replay, part);
-    match ended {
-        Err(refusal) => Err(RefusedAt {
-            refusal,
-            line: passed,
-        }),
-        Ok(()) => good_judgement(case, table, replay, passed),
-    }
+    finish_standing(case, table, replay, part).map_err(|refusal| RefusedAt {
+        refusal,
+        line: passed,
+    })?;
+    good_judgement(case, table, replay, passed)
 }
 
 // ---- the calls
