@@ -401,11 +401,7 @@ fn shift(call: Call, case: Case, t: &mut [i64], shown: usize) {
 }
 
 fn scope_at(list: &[u8], i: usize) -> u16 {
-    if i < list.len() {
-        u16::from(list[i])
-    } else {
-        0
-    }
+    u16::from(list.get(i).copied().unwrap_or(0))
 }
 
 fn press_list(call: Call, case: Case, t: &mut [i64], shown: usize, list: &[u16]) {

@@ -51,11 +51,8 @@ fn case_end(answer: Result<usize, RefusedAt>, most: usize) -> usize
     ensures { result ≤ most }
 {
     match answer {
-        Err(RefusedAt {
-            refusal: _,
-            line: _,
-        }) => most,
-        Ok(lines) => { if lines <= most / 27 { lines * 27 } else { most } }
+        Ok(lines) if lines <= most / 27 => lines * 27,
+        _ => most,
     }
 }
 
@@ -89,14 +86,12 @@ fn print_judgement(judgement: Result<Judgement, RefusedAt>) {
 
 fn judge(input: &[u8], table: &mut [i64], out: &mut [u8], bytes: usize, text: bool) {
     let begun = judging::start(input, table);
-    let answer = begun.answer;
-    let from = case_end(answer, input.len());
+    let from = case_end(begun.answer, input.len());
     let log = &input[from..];
     let judging = judge_blocks(begun, table, log, bytes);
     let part = log.len() % 27 != 0;
     if text {
-        let written = judging::finish(judging, table, part, out);
-        print_written(written, out);
+        print_written(judging::finish(judging, table, part, out), out);
     } else {
         print_judgement(judging::judge(judging, table, part));
     }
@@ -119,8 +114,7 @@ fn press_on(first: Pressing, table: &mut [i64], out: &mut [u8]) -> Tally {
         }
         let pressed = pressing::next(pressing, table, out);
         pressing = pressed.pressing;
-        let written = pressed.written;
-        if print_written(written, out) {
+        if print_written(pressed.written, out) {
             return Tally {
                 calls: calls + 1,
                 pressing,
@@ -148,17 +142,14 @@ fn print_answer(written: Result<usize, Refusal>) {
 fn call_again(pressing: Pressing, table: &mut [i64], out: &mut [u8], room: usize) {
     if room <= out.len() {
         let pressed = pressing::next(pressing, table, &mut out[0..room]);
-        let written = pressed.written;
-        print_answer(written);
+        print_answer(pressed.written);
     }
 }
 
 fn press(input: &[u8], table: &mut [i64], out: &mut [u8], room: usize) {
     let begun = pressing::start(input, table, out);
-    let written = begun.written;
-    print_written(written, out);
-    let first = begun.pressing;
-    let tally = press_on(first, table, out);
+    print_written(begun.written, out);
+    let tally = press_on(begun.pressing, table, out);
     let pressing = tally.pressing;
     print_tally(tally.calls, pressing.left);
     if room != 0 {
