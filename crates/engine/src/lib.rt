@@ -16,7 +16,6 @@ ghost use Rattle.definitions.specs.Engine.{chosen, least_gap, round_bytes, engin
 ghost use Rattle.calls.specs.EngineCalls.{round_call, run_call};
 ghost use Rattle.theory.proofs.Validity.{Handed};
 ghost use Rattle.tables.specs.Scopes.{BestOf};
-ghost use Rattle.gaps.specs.Gaps.{else_no_gap};
 ghost use Rattle.engine.specs.Search.{Prepared, AllRaised, FoundIs};
 ghost use Rattle.round_lines.specs.Press.{write_all_call};
 ghost use Rattle.engine.specs.Rounds.{Found, Pressed, PressMade, round_written, MadeRound, LimitIs, RunIs, stopped_run};
@@ -26,15 +25,20 @@ use definitions::{Case, Refusal, Round, Run, RunAnswer, SCOPE_PLACES, VARIABLE_P
 
 // ---- the amount
 
-// The least gap, gaps::NO_GAP where neither the kept scopes nor the variable's own scope set one.
-fn least_gap(case: Case, table: &[i64], best: &[i64], raised: &[u8], variable: usize) -> i64
+// The least gap, if the kept scopes or the variable's own scope set one.
+fn least_gap(case: Case, table: &[i64], best: &[i64], raised: &[u8], variable: usize) -> Option<i64>
     requires { Found case table.now best.now raised.now variable }
-    ensures { result ≡ else_no_gap (least_gap case table.now variable) }
+    ensures { result ≡ least_gap case table.now variable }
 {
     let gap = gaps::least_gap(case, table, best, raised, variable);
     match gap {
-        Ok(amount) => amount,
-        Err(_) => 0,
+        Ok(amount) => {
+            if amount == gaps::NO_GAP {
+                return None;
+            }
+            Some(amount)
+        }
+        Err(_) => None,
     }
 }
 
@@ -148,11 +152,11 @@ fn press_or_void(
     ensures { MadeRound false case table.old out.old table.new out.new result
         × BestOf case table.new best.new }
 {
-    let amount = least_gap(case, table, best, raised, variable);
-    if amount == gaps::NO_GAP {
-        return void_line(case, out, raised, variable);
+    let least = least_gap(case, table, best, raised, variable);
+    match least {
+        None => void_line(case, out, raised, variable),
+        Some(amount) => press_round(case, table, out, best, raised, variable, amount),
     }
-    press_round(case, table, out, best, raised, variable, amount)
 }
 
 // The variable to press, and the scopes to raise.
@@ -275,7 +279,8 @@ fn limit_press(
     requires { Found case table.now best.now raised.now variable × (round_bytes (rules_of case) case ≤ length out.old) }
     ensures { LimitIs false case table.now out.old out.new result }
 {
-    if least_gap(case, table, best, raised, variable) != gaps::NO_GAP {
+    let least = least_gap(case, table, best, raised, variable);
+    if let Some(_) = least {
         return Ok(RunAnswer::Limit);
     }
     let _ = void_line(case, out, raised, variable);
