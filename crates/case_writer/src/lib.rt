@@ -74,6 +74,7 @@ fn put_at(rulebook: Rulebook, out: &mut [u8], from: usize, line: Line)
         out.old) }
 {
     let to = from + rules::line_length(rulebook);
+    // There is room, and the numbers fit: nothing is refused.
     let _ = lines::write_line_in(&mut out[from..to], line, rules::amount_width(rulebook));
 }
 

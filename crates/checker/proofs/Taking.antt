@@ -1,6 +1,6 @@
 -- A line taken with the record in parts is the step of the whole record: refused, and done. Assumes nothing.
 use mathlib.Core.Path.{◌≡◌, refl, sym, ap, ◌∙◌}
-use mathlib.Core.Bool.{Bool, true, false, not}
+use mathlib.Core.Bool.{true, false, not}
 use mathlib.Core.List.{List, [], ◌∷◌}
 use Prim.Native.Nat.{ℕ, zero, suc, ◌-◌}
 use lib.IntN.{ℤ, pos, nat_abs}
@@ -8,7 +8,7 @@ use lib.Dec.{T, eqb}
 use borrow.Author.Tests.{lt-ltb}
 use lib.Signed.{le_z, lt_z}
 use lib.ListN.{length, get_or, set, replicate, length-set}
-use Rattle.std.specs.Prelude.{if◌then◌else◌, Result, Ok, Err, Option, Some, None, ⊤}
+use Rattle.std.specs.Prelude.{Result, Ok, Err, Option, Some, None, ⊤}
 use Rattle.integers.specs.Words.{eq_z, within_z}
 use Rattle.integers.specs.Tests.{is_true, is_false, not-or-iff, not-not-iff}
 use Rattle.integers.specs.Linear.{flat, zs}

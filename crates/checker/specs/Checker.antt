@@ -25,8 +25,8 @@ use Rattle.checker.specs.declared.Replay.{Replay}
 use Rattle.checker.specs.declared.Stepped.{Stepped}
 use Rattle.checker.specs.declared.Block.{Block}
 use Rattle.definitions.specs.Rules.{Rules, scope_places}
-use Rattle.definitions.specs.Refusals.{number, Test, ◌when◌, first_refusal}
-use Rattle.definitions.specs.Answers.{Says, outcome_of}
+use Rattle.definitions.specs.Refusals.{Test, ◌when◌, first_refusal}
+use Rattle.definitions.specs.Answers.{outcome_of}
 use Rattle.definitions.specs.Case.{scope_count, upper_bound}
 use Rattle.definitions.specs.Valid.{starting_weight, working_weight, limit_test, edge_tests, handed_over}
 use Rattle.definitions.specs.Consistency.{all_refuted}

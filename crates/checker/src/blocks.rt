@@ -21,6 +21,7 @@ fn prepare(case: Case, table: &[i64], best: &mut [i64])
     requires best_len { length best.old ≡ scope_places }
     ensures { BestOf case table.now best.new }
 {
+    // The table was checked: nothing is refused.
     let _ = tables::greatest_weights(case, table, best);
 }
 

@@ -41,6 +41,7 @@ pub fn refuted(
     let out = arguments_out(case, raised, variable, value);
     tables::check_working(case, table, wrong, out)?;
     let mut best = [0i64; SCOPE_PLACES];
+    // The table was checked: nothing is refused.
     let _ = tables::greatest_weights(case, table, &mut best);
     arcs::values_unsupported(
         case,

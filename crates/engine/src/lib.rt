@@ -57,6 +57,7 @@ fn prepare(
     ensures { (result ≡ lowest_pair (rules_of case) case table.now)
         × Prepared case table.now acts.new rows.new }
 {
+    // The table was checked, and the lengths fit: nothing is refused.
     let _ = arcs::active_marks(case, table, best, acts, rows);
     pair_choice::lowest_pair(case, table, best, acts, rows)
 }
@@ -205,6 +206,7 @@ fn greatest_of(case: Case, table: &[i64], best: &mut [i64])
     requires { Handed (rules_of case) (working_weight (rules_of case)) case table.now × (scope_count case ≤ length best.old) }
     ensures { BestOf case table.now best.new }
 {
+    // The table was checked: nothing is refused.
     let _ = tables::greatest_weights(case, table, best);
 }
 
@@ -280,11 +282,14 @@ fn limit_press(
     ensures { LimitIs false case table.now out.old out.new result }
 {
     let least = least_gap(case, table, best, raised, variable);
-    if let Some(_) = least {
-        return Ok(RunAnswer::Limit);
+    match least {
+        Some(_) => Ok(RunAnswer::Limit),
+        None => {
+            // There is room for the lines: nothing is refused.
+            let _ = void_line(case, out, raised, variable);
+            Ok(RunAnswer::Void)
+        }
     }
-    let _ = void_line(case, out, raised, variable);
-    Ok(RunAnswer::Void)
 }
 
 fn limit_next(

@@ -195,6 +195,7 @@ fn show_value(
     let mut best = [0i64; SCOPE_PLACES];
     let mut sets = [0u8; VARIABLE_PLACES];
     let mut rows = [0u8; ROW_PLACES];
+    // The table was checked: nothing is refused.
     let _ = tables::greatest_weights(case, table, &mut best);
     let _ = arcs::active_marks(case, table, &best, &mut sets, &mut rows);
     let Some(found) = lowest_supported(case, &rows, sets, variable) else {

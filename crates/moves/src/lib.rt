@@ -90,6 +90,7 @@ fn press_raised(
     let mut marks = [0u8; SCOPE_PLACES];
     mark_scopes(&mut marks, raised);
     let mut best = [0i64; SCOPE_PLACES];
+    // The table was checked: nothing is refused.
     let _ = tables::greatest_weights(case, table, &mut best);
     let values = changes::best_values(case, table, &best, variable);
     let refuted = arcs::values_unsupported(case, table, &best, &marks, variable, values);
@@ -142,6 +143,7 @@ pub fn shift(
     let out = changes::transfer_out(case, edge, end, value, amount);
     tables::check_working(case, table, false, out)?;
     let mut best = [0i64; SCOPE_PLACES];
+    // The table was checked: nothing is refused.
     let _ = tables::greatest_weights(case, table, &mut best);
     changes::transfer(case, table, &mut best, edge, end, value, amount)
 }

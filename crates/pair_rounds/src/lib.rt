@@ -99,6 +99,7 @@ fn shift_by(
     ensures { Shifted case (shift edge end value amount ∷ []) table.old table.new best.new
         at result out.old out.new }
 {
+    // The shift is allowed: nothing is refused.
     let _ = changes::transfer(case, table, best, edge, end, value, amount);
     put_line(case, out, at, shift_line(edge, end, value, amount))
 }
@@ -201,6 +202,7 @@ fn pair_round(case: Case, table: &mut [i64], out: &mut [u8], edge: usize) -> Res
         return Err(Refusal::LeavesRange);
     }
     let mut best = [0i64; SCOPE_PLACES];
+    // The table was checked: nothing is refused.
     let _ = tables::greatest_weights(case, table, &mut best);
     shift_pair(case, table, out, &mut best, edge)
 }

@@ -41,6 +41,7 @@ fn put_line(out: &mut [u8], at: usize, line: Line, width: usize) -> usize
     ensures { (result ≡ at + line_length width) × Put at (line_text width line) (at + line_length width) out.old out.new }
 {
     let to = at + 15 + width;
+    // There is room, and the numbers fit: nothing is refused.
     let _ = lines::write_line_in(&mut out[at..to], line, width);
     to
 }

@@ -8,8 +8,8 @@ returns-in-Some c =
     let f = c.requires.0 in
     limit-round f.handed c.requires.1 (next-pressed f (sym (sym c.in-Some.is ∙ c.least_gap-least.ensures)))
 
-pub returns : goal.returns
-returns c =
+pub returns-in-None : goal.returns-in-None
+returns-in-None c =
     let f = c.requires.0 in
-    let least = sym (sym c.in_default.is ∙ c.least_gap-least.ensures) in
+    let least = sym (sym c.in-None.is ∙ c.least_gap-least.ensures) in
     limit-void f.handed c.requires.1 (next-voids f least) (c.void_line.ensures c.args.table.now c.args.best.now f least).output

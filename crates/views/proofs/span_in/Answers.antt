@@ -4,7 +4,6 @@ use Rattle.definitions.specs.declared.Span.{Span}
 use Rattle.definitions.specs.declared.RefusedAt.{RefusedAt}
 use mathlib.Core.Path.{◌≡◌, refl, sym, ap, ◌∙◌}
 use Prim.Native.Nat.{ℕ, ◌+◌, ◌*◌, ◌/◌}
-use native.Mathlib.Omega.{arith}
 use lib.ListN.{length, take, drop}
 use Rattle.definitions.specs.Lines.{line_length}
 use Rattle.definitions.specs.Views.{span_in}
