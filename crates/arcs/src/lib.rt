@@ -186,6 +186,7 @@ fn settle(lower: &[u8], upper: &[u8], rows: &[u8], raised: &[u8], sets: &mut [u8
         raised.now)
         (sets_of sets.old) sets.new result }
 {
+    // Not a for: it runs until nothing changes.
     loop {
         let change = sweep(lower, upper, rows, raised, sets);
         match change {
@@ -624,6 +625,7 @@ pub fn lowest_partners(rows: &[u8], set: u8, other: u8, partners: &mut [u8])
         }
         left = marks::strike(left, k);
         let mut rest = rows[at];
+        // Not a for: it runs over the partners that are left, and answers one.
         let found = 'partners: loop {
             if rest == 0 {
                 break 'partners None;

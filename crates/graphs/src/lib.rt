@@ -55,7 +55,7 @@ fn join_edges(case: Case, labels: &mut [u8]) -> bool
     true
 }
 
-// Yes if the edges form no cycle.
+// True if the edges form no cycle.
 pub fn is_acyclic(case: Case) -> Result<bool, Refusal>
     ensures { result ≡ is_acyclic_answer (rules_of case) case }
 {

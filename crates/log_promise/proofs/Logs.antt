@@ -1,27 +1,22 @@
 -- A log from a fresh record, as one fold (`log_fold`), beside the plain replay of its lines: the table, the rounds, the first refusal and its
 -- line, the end's answer, and so the judgement that the program `replay` prints. With Blocks the same holds of a log cut into blocks. Assumes
 -- nothing.
-use Rattle.definitions.specs.declared.RefusedAt.{RefusedAt}
 use mathlib.Core.Path.{◌≡◌, sym, ap, ap₂, ◌∙◌}
 use mathlib.Core.Bool.{Bool}
-use mathlib.Core.List.{List, [], ◌∷◌, map}
+use mathlib.Core.List.{List, map}
 use Prim.Native.Nat.{ℕ, ◌+◌}
-use native.Mathlib.Nat.{add-zero}
-use native.Mathlib.Omega.{arith}
 use lib.IntN.{ℤ}
 use lib.Dec.{T}
-use Rattle.std.specs.Prelude.{if◌then◌else◌, Result, Ok, Err, Option, Some, None, ⊤}
+use Rattle.std.specs.Prelude.{if◌then◌else◌, Result, Ok, ⊤}
 use Rattle.definitions.specs.declared.Case.{Case}
 use Rattle.definitions.specs.declared.Refusal.{Refusal}
-use Rattle.definitions.specs.declared.Refusal.TheVariants.{CutShort}
 use Rattle.definitions.specs.declared.Judgement.{Judgement}
 use Rattle.definitions.specs.Rules.{Rules, rules_of}
-use Rattle.definitions.specs.Answers.{outcome_of, refused_at}
+use Rattle.definitions.specs.Answers.{outcome_of}
 use Rattle.definitions.specs.Case.{upper_bound}
 use Rattle.definitions.specs.Valid.{valid}
 use Rattle.definitions.specs.Lines.{lines_in, has_part}
 use Rattle.logs.specs.Logs.{LogState, fresh_log, after_log, log_answers, log_end}
-use Rattle.definitions.specs.Programs.{first_number}
 use Rattle.log_promise.specs.Judged.{good_log, judged_log}
 use Rattle.checker.specs.Checker.{taken_lines, first_refused}
 use Rattle.checker_promise.proofs.Logs.{log_judged, number-judged}

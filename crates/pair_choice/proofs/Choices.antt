@@ -2,14 +2,16 @@
 use Rattle.std.specs.Prelude.{is_none}
 use mathlib.Core.Path.{◌≡◌, refl, sym, ap, ap₂, ◌∙◌}
 use mathlib.Core.Bool.{Bool, true, false, not, ◌&&◌}
+use mathlib.Core.Logic.{⊎_elim}
 use mathlib.Core.List.{List}
-use Prim.Native.Nat.{ℕ, ◌+◌, ◌<◌}
+use Prim.Native.Nat.{ℕ, ◌+◌, ◌≤◌, ◌<◌}
 use native.Mathlib.Omega.{arith}
 use lib.IntN.{ℤ}
-use lib.Dec.{eqb}
+use lib.Dec.{ltb, eqb, ltb→lt, nltb→le}
 use lib.ListN.{get_or}
+use borrow.Author.Count.{below_more}
 use borrow.Author.Tests.{eqb-true, not-true, not-false}
-use Rattle.integers.specs.Tests.{is_true}
+use Rattle.integers.specs.Tests.{is_true, either}
 use Rattle.integers.specs.Lists.{any_same}
 use Rattle.definitions.specs.declared.Case.{Case}
 use Rattle.definitions.specs.Rules.{Rules}
@@ -69,3 +71,9 @@ module _ (r : Rules) (c : Case) (w best : List ℤ) (acts rows : List ℕ) where
 
   pub candidate-taken : (e : ℕ) (takes : Bool) → takes ≡ takes_round r c w best e → active_choice c acts rows e ≡ false → takes_pair r c w best acts rows e ≡ takes
   candidate-taken e takes o n = ap₂ (λ (a b : Bool). not a && b) n (sym o)
+
+-- passed below e, at e, and from there on
+pub passed_on : (f : ℕ → Bool) (e n : ℕ) → ((j : ℕ) → j < e → f j ≡ false) → f e ≡ false → ((j : ℕ) → j < n → e + 1 ≤ j → f j ≡ false)
+    → (j : ℕ) → j < n → f j ≡ false
+passed_on f e n less here more j h =
+    ⊎_elim (λ t. below_more _ _ less here j (ltb→lt j (e + 1) t)) (λ t. more j h (nltb→le j (e + 1) t)) (either (ltb j (e + 1)))

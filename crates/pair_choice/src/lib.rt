@@ -274,7 +274,7 @@ pub fn leaves_range(case: Case, table: &[i64], edge: usize) -> bool
 }
 
 // The lowest pair that gains and is not passed over. `best` holds each scope's greatest weight, `acts` the active values of each variable, `rows`
-// sixteen bytes for each edge, as `arcs::active_marks` writes them. Nothing where 3 applies, or 4 to the table, or one of these is too short.
+// sixteen bytes for each edge, as `arcs::active_marks` writes them. None where 3 applies, or 4 to the table, or one of these is too short.
 pub fn lowest_pair(
     case: Case,
     table: &[i64],
