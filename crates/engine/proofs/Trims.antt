@@ -5,12 +5,11 @@ use mathlib.Core.Bool.{Bool, true, false, not, ◌&&◌}
 use mathlib.Core.Logic.{◌≢◌, ⊎_elim}
 use mathlib.Core.List.Memᴰ
 use mathlib.Core.List.{List, [], ◌∷◌, ◌++◌, append-nil}
-use Prim.Native.Nat.{ℕ, suc, ◌+◌, ◌-◌, ◌≤◌, ◌<◌}
+use Prim.Native.Nat.{ℕ, suc, ◌+◌, ◌-◌, ◌<◌}
 use native.Mathlib.Omega.{arith}
 use lib.IntN.{ℤ}
 use lib.Dec.{T, eqb, ltb, ltb→lt, nltb→le, eqb→eq}
-use lib.ListN.{length, get_or, set, take, drop, length-set, get_or-append}
-use lib.Seq.{length-take-le, get_or-take}
+use lib.ListN.{length, get_or, set, length-set}
 use Rattle.std.specs.Prelude.{if◌then◌else◌}
 use Rattle.integers.specs.Words.{from, below, those, is_in}
 use Rattle.integers.specs.Tests.{either, is_true, true-is, same_test, not-eqb-iff}
@@ -25,11 +24,6 @@ use Rattle.engine.specs.Search.{refutes_in, OthersRaised, Enough, Dropped}
 use Rattle.round_lines.specs.Press.{raised_below}
 use Rattle.round_lines.proofs.Texts.{those-next}
 use Rattle.engine.proofs.Raising.{raised-here, raised-elsewhere, refutes-alike}
-
--- the first n bytes are those of another list
-pub copied : (n : ℕ) (to bytes part : List ℕ) → n ≤ length bytes → part ≡ take n bytes → (j : ℕ) → j < n → get_or (part ++ drop n to) j 0 ≡ get_or bytes j 0
-copied n to bytes part h e j l =
-    get_or-append part (drop n to) 0 j (omega (arith, ap length e, length-take-le n bytes h)) ∙ ap (λ (s : List ℕ). get_or s j 0) e ∙ get_or-take n bytes j 0 l
 
 -- ---- one scope tried
 module _ (c : Case) (w : List ℤ) (i : ℕ) where

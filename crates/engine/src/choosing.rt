@@ -7,6 +7,16 @@ ghost use Rattle.engine.specs.Search.{Prepared, refutes_in, AllRaised, ChosenIn,
 
 use definitions::{Case, VARIABLE_PLACES};
 
+// A loop, and not `copy_from_slice`: by that the library for C would need memmove too.
+pub(crate) fn copy_bytes(from: &[u8], to: &mut [u8], n: usize)
+    requires { (n ≤ length from.now) × (n ≤ length to.old) }
+    ensures { (j : ℕ) → j < n → get_or to.new j 0 ≡ get_or from.now j 0 }
+{
+    for j in 0..n {
+        to[j] = from[j];
+    }
+}
+
 fn allowed_values(raised: u8, active: u8, full: u8) -> u8
     ensures { result ≡ (if not (eqb raised 0) then active else full) }
 {

@@ -35,7 +35,7 @@ fn renew(case: Case, acts: &[u8], rows: &[u8], raised: &[u8], enough: &mut [u8],
     if choosing::refutes(case, acts, rows, enough, variable) {
         return;
     }
-    enough[..scopes].copy_from_slice(&raised[..scopes]);
+    choosing::copy_bytes(raised, enough, scopes);
 }
 
 // Drops scope x, unless the values are not refuted without it. With the scopes `enough` they are refuted.

@@ -3,9 +3,7 @@ use Rattle.definitions.specs.declared.Refusal.{Refusal}
 use mathlib.Core.Path.{◌≡◌, sym, ◌∙◌}
 use Prim.Native.Nat.{ℕ}
 use native.Mathlib.Omega.{arith}
-use mir.Syntax.{w64}
 use borrow.Author.Rules.{rules}
-use Rattle.integers.specs.Linear.{read_back}
 use Rattle.definitions.specs.Engine.{least_gap}
 use Rattle.gaps.specs.Gaps.{else_no_gap}
 use Rattle.gaps.proofs.Amounts.{gap-answer}
